@@ -1,0 +1,9 @@
+-- What contracts of this crate, and of those above it, cite.
+pub mod Answer
+pub mod ErrorText
+pub mod MarkText
+pub mod PlainEvent
+pub mod PlainFault
+pub mod Position
+pub mod Stream
+pub mod Tree

@@ -1,0 +1,94 @@
+//! What a parser says of input that it can't read.
+
+ghost use Rattle.std.specs.Prelude.{◌≡◌, string_bytes};
+ghost use Rattle.std.specs.Option.{option_map};
+
+use crate::mark::Mark;
+use std::marker::Model;
+
+/// Which part of a parser or an emitter failed.
+#[derive(Clone, Copy, PartialEq, Eq)]
+pub enum FaultKind {
+    /// Memory ran out.
+    Memory,
+    /// The bytes could not be read.
+    Reader,
+    /// The bytes are no tokens.
+    Scanner,
+    /// The tokens are no events.
+    Parser,
+    /// The events are no document.
+    Composer,
+    /// The output could not be written.
+    Writer,
+    /// The events can't be emitted.
+    Emitter,
+    /// Anything else.
+    Other,
+}
+
+/// A fault of the parser.
+#[derive(Drop)]
+pub struct ParserFault {
+    kind: FaultKind,
+    problem: String,
+    offset: u64,
+    mark: Mark,
+    context: Option<String>,
+    context_mark: Mark,
+}
+
+impl Model for ParserFault {
+    ghost use Rattle.std.specs.Prelude.{string_bytes};
+    ghost use Rattle.std.specs.Option.{option_map};
+    ghost use Rattle.yaml_base.specs.PlainFault.{PlainFault};
+
+    ghost Value = { PlainFault };
+
+    ghost view = { λ f. record {
+      kind = f.kind;
+      problem = string_bytes f.problem;
+      offset = f.offset;
+      mark = f.mark;
+      context = option_map string_bytes f.context;
+      context_mark = f.context_mark;
+    } };
+}
+
+impl ParserFault {
+    /// The fault with this problem, found at the byte `offset` and the mark, while doing what `context` says, which began
+    /// at `context_mark`. Takes no memory.
+    pub fn new(
+        kind: FaultKind,
+        problem: String,
+        offset: u64,
+        mark: Mark,
+        context: Option<String>,
+        context_mark: Mark,
+    ) -> ParserFault
+        ensures { result ≡ (record {
+          kind = kind;
+          problem = string_bytes problem;
+          offset = offset;
+          mark = mark;
+          context = option_map string_bytes context;
+          context_mark = context_mark;
+        }) }
+    {
+        ParserFault {
+            kind,
+            problem,
+            offset,
+            mark,
+            context,
+            context_mark,
+        }
+    }
+
+    /// Where the problem is.
+    pub fn mark(&self) -> Mark
+        ensures { result ≡ self.now.mark }
+    {
+        self.mark
+    }
+}

@@ -1,0 +1,16 @@
+//! What every layer of the YAML data crates speaks of: marks, tags, events and faults, and the grammar of streams.
+#![tactic(auto)]
+
+mod error;
+mod event;
+mod fault;
+mod mark;
+mod tag;
+mod words;
+
+pub use error::{Cause, Error, Place, Result};
+pub use event::{Event, MappingStart, Scalar, ScalarStyle, SequenceStart};
+pub use fault::{FaultKind, ParserFault};
+pub use mark::Mark;
+pub use tag::{Anchor, Tag};
+pub use words::Words;
