@@ -1,13 +1,14 @@
-// A library with one function.
+//! Schemas of shapes, and the data that is read by them.
 #![tactic(auto)]
 
-ghost use Rattle.std.specs.Prelude.{◌≡◌};
-ghost use Rattle.yaml_shape.specs.Echo.{echo_of};
+mod data;
+mod fault;
+mod schema;
+mod shape;
+mod text;
 
-// The `ensures` clause is the contract: what `echo` returns is `echo_of` of its argument, a definition
-// in `specs/Echo.antt`, which a caller's clause can cite too.
-pub fn echo(x: usize) -> usize
-    ensures { result ≡ echo_of x }
-{
-    x
-}
+pub use data::{Data, Entry};
+pub use fault::SchemaFault;
+pub use schema::Schema;
+pub use shape::{Shape, ShapeId};
+pub use text::Text;
