@@ -5,7 +5,7 @@ use Rattle.std.specs.Str.{bytes_eq}
 use Rattle.yaml_base.specs.Position.{Position}
 use Rattle.yaml_base.specs.MarkText.{is_start, mark_text}
 use Rattle.yaml_base.specs.declared.error.Cause.{Cause}
-use Rattle.yaml_base.specs.declared.error.Cause.TheVariants.{Memory, RecursionLimitExceeded, Custom}
+use Rattle.yaml_base.specs.declared.error.Cause.TheVariants.{Memory, EndOfStream, RecursionLimitExceeded, RepetitionLimitExceeded, Custom}
 use Rattle.yaml_base.specs.declared.error.Place.{Place}
 
 -- the place of a fault that has one
@@ -21,7 +21,9 @@ cause_mark cause = option_map (λ p. p.mark) (cause_place cause)
 -- what the fault says
 abbrev pub message_text : Cause → List ℕ
 message_text Memory = codes "out of memory"
+message_text EndOfStream = codes "EOF while parsing a value"
 message_text (RecursionLimitExceeded mark) = codes "recursion limit exceeded"
+message_text RepetitionLimitExceeded = codes "repetition limit exceeded"
 message_text (Custom text place) = text
 
 -- the path and a colon, unless the path is the root's

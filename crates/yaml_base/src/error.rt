@@ -28,8 +28,12 @@ pub struct Place {
 pub enum Cause {
     /// Memory ran out.
     Memory,
+    /// The events end where a node is due.
+    EndOfStream,
     /// Collections are nested deeper than the limit allows. The mark is that of the first one too many.
     RecursionLimitExceeded(Mark),
+    /// More aliases are followed than the limit allows.
+    RepetitionLimitExceeded,
     /// A fault with a text of its own.
     Custom {
         /// The text.
@@ -46,7 +50,10 @@ impl Cause {
     {
         match self {
             Cause::Custom { place, .. } => place.as_ref(),
-            Cause::Memory | Cause::RecursionLimitExceeded(_) => None,
+            Cause::Memory
+            | Cause::EndOfStream
+            | Cause::RecursionLimitExceeded(_)
+            | Cause::RepetitionLimitExceeded => None,
         }
     }
 
@@ -56,7 +63,10 @@ impl Cause {
     {
         match self {
             Cause::RecursionLimitExceeded(mark) => Some(*mark),
-            Cause::Memory | Cause::Custom { .. } => {
+            Cause::Memory
+            | Cause::EndOfStream
+            | Cause::RepetitionLimitExceeded
+            | Cause::Custom { .. } => {
                 let place = self.place()?;
                 Some(place.mark)
             }
@@ -70,7 +80,9 @@ impl fmt::Display for Cause {
     fn fmt<W: fmt::Write>(&self, f: &mut fmt::Formatter<W>) -> fmt::Result {
         match self {
             Cause::Memory => f.write_str("out of memory"),
+            Cause::EndOfStream => f.write_str("EOF while parsing a value"),
             Cause::RecursionLimitExceeded(_) => f.write_str("recursion limit exceeded"),
+            Cause::RepetitionLimitExceeded => f.write_str("repetition limit exceeded"),
             Cause::Custom { text, .. } => f.write_str(text.as_str()),
         }
     }

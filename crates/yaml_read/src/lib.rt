@@ -1,9 +1,12 @@
 //! From events to documents, and from documents to data by shapes.
 #![tactic(auto)]
 
+mod de;
 mod doc_event;
 mod document;
 mod loader;
+mod tally;
+mod walk;
 
 pub use doc_event::DocEvent;
 pub use document::Document;

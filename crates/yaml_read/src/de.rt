@@ -1,0 +1,4 @@
+//! From a document to data, by a shape.
+
+mod node;
+mod scalar;
