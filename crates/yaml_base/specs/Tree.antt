@@ -1,5 +1,5 @@
 -- The tree of one document, its events, and the target of an alias.
-use Rattle.std.specs.Prelude.{ℕ, List, ◌∷◌, Option}
+use Rattle.std.specs.Prelude.{ℕ, suc, ◌+◌, List, [], ◌∷◌, ◌++◌, length, Option, None, Some}
 use Rattle.yaml_base.specs.PlainEvent.{PlainScalar, PlainEvent, alias, scalar, sequence_start, sequence_end, mapping_start, mapping_end}
 
 -- a node is an alias, a scalar, a list of nodes, or pairs of nodes
