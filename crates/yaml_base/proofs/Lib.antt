@@ -1,1 +1,4 @@
 -- Lemmas of this crate.
+pub mod BorrowableLaws
+pub mod DigitLaws
+pub mod RangeLaws

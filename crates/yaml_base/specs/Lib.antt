@@ -1,9 +1,13 @@
 -- What contracts of this crate, and of those above it, cite.
 pub mod Answer
+pub mod Borrowable
 pub mod ErrorText
+pub mod Integers
 pub mod MarkText
 pub mod PlainEvent
 pub mod PlainFault
+pub mod PlainWords
 pub mod Position
+pub mod Signs
 pub mod Stream
 pub mod Tree

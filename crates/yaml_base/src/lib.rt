@@ -1,16 +1,24 @@
 //! What every layer of the YAML data crates speaks of: marks, tags, events and faults, and the grammar of streams.
 #![tactic(auto)]
 
+mod borrowed;
+mod emitter;
 mod error;
 mod event;
 mod fault;
 mod mark;
+mod resolve;
 mod tag;
 mod words;
 
+pub use borrowed::parse_borrowed_str;
+pub use emitter::AskedStyle;
 pub use error::{Cause, Error, Place, Result};
 pub use event::{Event, MappingStart, Scalar, ScalarStyle, SequenceStart};
 pub use fault::{FaultKind, ParserFault};
 pub use mark::Mark;
+pub use resolve::{
+    parse_bool, parse_negative_int, parse_null, parse_signed_int, parse_unsigned_int,
+};
 pub use tag::{Anchor, Tag};
 pub use words::Words;
