@@ -1,3 +1,7 @@
 -- Lemmas of this crate.
 mod Before
+mod Meanings
+mod Outcomes
+mod Shown
+mod Sounds
 mod Turns

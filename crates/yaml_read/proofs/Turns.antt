@@ -79,21 +79,21 @@ module _ (fuel : ℕ) (schema : List PlainShape) (events : Events) (size : ℕ) 
   pub node_shapeless : 0 < fuel → None ≡ shape_at schema id → node_at fuel schema events size id nest taken at ≡ Err no_meaning
   unfolding node_at
   node_shapeless = elim fuel as (λ f. 0 < f → None ≡ shape_at schema id → node_at f schema events size id nest taken at ≡ Err no_meaning) [
-      zero ↦ λ lt s. absurd (omega arith)
+    | zero ↦ λ lt s. absurd (omega arith)
     | suc f ↦ λ lt s. rw (← s)
   ]
 
   pub node_ended : (s : PlainShape) → 0 < fuel → Some s ≡ shape_at schema id → None ≡ events at.place → node_at fuel schema events size id nest taken at ≡ Err EndOfStream
   unfolding node_at
   node_ended shape lt s e = elim fuel as (λ f. 0 < f → node_at f schema events size id nest taken at ≡ Err EndOfStream) [
-      zero ↦ λ lt. absurd (omega arith)
+    | zero ↦ λ lt. absurd (omega arith)
     | suc f ↦ λ lt. rw (← s, ← e)
   ] lt
 
   pub node_event : (s : PlainShape) (ev ev' : DocEvent) (m : Position) → 0 < fuel → Some s ≡ shape_at schema id → Some (doc_event_of ev, m) ≡ events at.place → ev ≡ ev' → node_at fuel schema events size id nest taken at ≡ event_at (node_at (fuel - 1) schema events size) events size id s nest taken at (doc_event_of ev') m
   unfolding node_at
   node_event shape ev ev' m lt s e is = elim fuel as (λ f. 0 < f → node_at f schema events size id nest taken at ≡ event_at (node_at (f - 1) schema events size) events size id shape nest taken at (doc_event_of ev') m) [
-      zero ↦ λ lt. absurd (omega arith)
+    | zero ↦ λ lt. absurd (omega arith)
     | suc f ↦ λ lt. rw (← s, ← e, enough f, is)
   ] lt
 

@@ -7,5 +7,4 @@ pub mod PlainDocument
 pub mod Reader
 pub mod Reads
 pub mod Scalars
-pub mod Texts
 pub mod Walks

@@ -47,27 +47,27 @@ read_node-returns-in-Err-clause-gives t c = λ fuel lt fault.
 pub read_node-returns-in-Scalar-clause-gives : goal.read_node-returns-in-Scalar-clause-gives
 read_node-returns-in-Scalar-clause-gives t c = λ fuel lt.
     rw (node_event fuel c.args.schema.now (slice_get (marked_events_of c.args.events.now)) (length c.args.events.now) c.args.id.0 c.args.nest c.args.taken (spot_of c.args.walk.now) _ _ _ _ (omega arith) c.in-Some.ensures.found c.in-Some-event_here.ensures.found c.in-Scalar.is)
-      (gives_ending_at data_of _ _ c.read_scalar.result _ (same_spot (spot_of c.step.new.self) (after (spot_of c.args.walk.now)) c.step.ensures.place c.step.ensures.left) c.read_scalar.ensures)
+    (gives_ending_at data_of _ _ c.read_scalar.result _ (same_spot (spot_of c.step.new.self) (after (spot_of c.args.walk.now)) c.step.ensures.place c.step.ensures.left) c.read_scalar.ensures)
 
 pub read_node-returns-in-Void-clause-gives : goal.read_node-returns-in-Void-clause-gives
 read_node-returns-in-Void-clause-gives t c = λ fuel lt.
     rw (node_event fuel c.args.schema.now (slice_get (marked_events_of c.args.events.now)) (length c.args.events.now) c.args.id.0 c.args.nest c.args.taken (spot_of c.args.walk.now) _ _ _ _ (omega arith) c.in-Some.ensures.found c.in-Some-event_here.ensures.found c.in-Void.is)
-      (gives_ending_at data_of _ _ c.read_void.result _ (same_spot (spot_of c.step.new.self) (after (spot_of c.args.walk.now)) c.step.ensures.place c.step.ensures.left) c.read_void.ensures)
+    (gives_ending_at data_of _ _ c.read_void.result _ (same_spot (spot_of c.step.new.self) (after (spot_of c.args.walk.now)) c.step.ensures.place c.step.ensures.left) c.read_void.ensures)
 
 pub read_node-returns-in-SequenceStart-clause-gives : goal.read_node-returns-in-SequenceStart-clause-gives
 read_node-returns-in-SequenceStart-clause-gives t c = λ fuel lt.
     rw (node_event fuel c.args.schema.now (slice_get (marked_events_of c.args.events.now)) (length c.args.events.now) c.args.id.0 c.args.nest c.args.taken (spot_of c.args.walk.now) _ _ _ _ (omega arith) c.in-Some.ensures.found c.in-Some-event_here.ensures.found c.in-SequenceStart.is, ← (same_spot (spot_of c.step.new.self) (after (spot_of c.args.walk.now)) c.step.ensures.place c.step.ensures.left))
-      (c.read_sequence.ensures.gives (fuel - 1) (omega (arith, c.step.ensures.left)))
+    (c.read_sequence.ensures.gives (fuel - 1) (omega (arith, c.step.ensures.left)))
 
 pub read_node-returns-in-MappingStart-clause-gives : goal.read_node-returns-in-MappingStart-clause-gives
 read_node-returns-in-MappingStart-clause-gives t c = λ fuel lt.
     rw (node_event fuel c.args.schema.now (slice_get (marked_events_of c.args.events.now)) (length c.args.events.now) c.args.id.0 c.args.nest c.args.taken (spot_of c.args.walk.now) _ _ _ _ (omega arith) c.in-Some.ensures.found c.in-Some-event_here.ensures.found c.in-MappingStart.is, ← (same_spot (spot_of c.step.new.self) (after (spot_of c.args.walk.now)) c.step.ensures.place c.step.ensures.left))
-      (c.read_mapping.ensures.gives (fuel - 1) (omega (arith, c.step.ensures.left)))
+    (c.read_mapping.ensures.gives (fuel - 1) (omega (arith, c.step.ensures.left)))
 
 pub read_node-returns-in-SequenceEnd-clause-gives : goal.read_node-returns-in-SequenceEnd-clause-gives
 read_node-returns-in-SequenceEnd-clause-gives t c = λ fuel lt fault.
     elim c.in-SequenceEnd.is [
-        inl is ↦ node_event fuel c.args.schema.now (slice_get (marked_events_of c.args.events.now)) (length c.args.events.now) c.args.id.0 c.args.nest c.args.taken (spot_of c.args.walk.now) _ _ _ _ (omega arith) c.in-Some.ensures.found c.in-Some-event_here.ensures.found is ∙ ap Err (sym c.new-in-SequenceEnd.ensures)
+      | inl is ↦ node_event fuel c.args.schema.now (slice_get (marked_events_of c.args.events.now)) (length c.args.events.now) c.args.id.0 c.args.nest c.args.taken (spot_of c.args.walk.now) _ _ _ _ (omega arith) c.in-Some.ensures.found c.in-Some-event_here.ensures.found is ∙ ap Err (sym c.new-in-SequenceEnd.ensures)
       | inr is ↦ node_event fuel c.args.schema.now (slice_get (marked_events_of c.args.events.now)) (length c.args.events.now) c.args.id.0 c.args.nest c.args.taken (spot_of c.args.walk.now) _ _ _ _ (omega arith) c.in-Some.ensures.found c.in-Some-event_here.ensures.found is ∙ ap Err (sym c.new-in-SequenceEnd.ensures)
     ]
 
@@ -113,21 +113,21 @@ read_items-returns-in-SequenceEnd-clause-gives t c = λ fuel turns lt big.
     ∙ ap (λ (s : Spot). Ok (items_view l.items.items, s)) (sym (same_spot (spot_of c.step.new.self) (after (spot_of l.walk)) c.step.ensures.place c.step.ensures.left))
 
 pub read_items-returns-in-Err : goal.read_items-returns-in-Err
-read_items-returns-in-Err t c = 
+read_items-returns-in-Err t c =
     let l = c.loop-event in
     record {
       gives = λ fuel turns lt big fault.
-        let n = turns - length l.items.items - 1 in
-        let split : turns ≡ suc n + length l.items.items = omega (arith, l.invariant.turned, l.invariant.within, c.in-Some.ensures.within) in
-        ap (λ (m : ℕ). items_at (node_at fuel c.args.schema.now (slice_get (marked_events_of c.args.events.now)) (length c.args.events.now) c.args.element.0 c.args.nest false) (slice_get (marked_events_of c.args.events.now)) m (spot_of c.args.walk.now)) split
-    ∙ l.invariant.rest fuel (suc n) lt
-    ∙ ap (items_before l.items.items) (items_fail (node_at fuel c.args.schema.now (slice_get (marked_events_of c.args.events.now)) (length c.args.events.now) c.args.element.0 c.args.nest false) (slice_get (marked_events_of c.args.events.now)) n (spot_of l.walk) _ _ (sym c.in-Some.ensures.found) (not_sequence_end _ c.in_default-event.not-SequenceEnd) (c.in-Err.ensures.gives fuel (omega (arith, l.invariant.left)) fault));
+          let n = turns - length l.items.items - 1 in
+          let split : turns ≡ suc n + length l.items.items = omega (arith, l.invariant.turned, l.invariant.within, c.in-Some.ensures.within) in
+          ap (λ (m : ℕ). items_at (node_at fuel c.args.schema.now (slice_get (marked_events_of c.args.events.now)) (length c.args.events.now) c.args.element.0 c.args.nest false) (slice_get (marked_events_of c.args.events.now)) m (spot_of c.args.walk.now)) split
+          ∙ l.invariant.rest fuel (suc n) lt
+          ∙ ap (items_before l.items.items) (items_fail (node_at fuel c.args.schema.now (slice_get (marked_events_of c.args.events.now)) (length c.args.events.now) c.args.element.0 c.args.nest false) (slice_get (marked_events_of c.args.events.now)) n (spot_of l.walk) _ _ (sym c.in-Some.ensures.found) (not_sequence_end _ c.in_default-event.not-SequenceEnd) (c.in-Err.ensures.gives fuel (omega (arith, l.invariant.left)) fault));
       moves = tt;
       cost = omega (arith, l.invariant.cost, c.in-Err.ensures.cost);
     }
 
 pub read_items-loop-event-preserved : goal.read_items-loop-event-preserved
-read_items-loop-event-preserved t c = 
+read_items-loop-event-preserved t c =
     let l = c.loop-event in
     let one : c.push.new.self.items ≡ l.items.items ++ c.in-Ok.item ∷ [] = search rules in
     let longer : length c.push.new.self.items ≡ length l.items.items + 1 = rw one (length-append l.items.items (c.in-Ok.item ∷ [])) in
@@ -139,12 +139,12 @@ read_items-loop-event-preserved t c =
       counted = omega (arith, moves, l.invariant.counted);
       cost = omega (arith, moves, l.invariant.cost);
       rest = λ fuel n lt.
-        let split : n + length c.push.new.self.items ≡ suc n + length l.items.items = omega (arith, longer) in
-        ap (λ (m : ℕ). items_at (node_at fuel c.args.schema.now (slice_get (marked_events_of c.args.events.now)) (length c.args.events.now) c.args.element.0 c.args.nest false) (slice_get (marked_events_of c.args.events.now)) m (spot_of c.args.walk.now)) split
-    ∙ l.invariant.rest fuel (suc n) lt
-    ∙ ap (items_before l.items.items) (items_more (node_at fuel c.args.schema.now (slice_get (marked_events_of c.args.events.now)) (length c.args.events.now) c.args.element.0 c.args.nest false) (slice_get (marked_events_of c.args.events.now)) n (spot_of l.walk) _ _ _ (sym c.in-Some.ensures.found) (not_sequence_end _ c.in_default-event.not-SequenceEnd) (c.in-Ok.ensures.gives fuel (omega (arith, l.invariant.left))))
-        ∙ items_before_one l.items.items c.in-Ok.item _
-        ∙ ap (λ xs. items_before xs (items_at (node_at fuel c.args.schema.now (slice_get (marked_events_of c.args.events.now)) (length c.args.events.now) c.args.element.0 c.args.nest false) (slice_get (marked_events_of c.args.events.now)) n (spot_of c.read_node.new.walk))) (sym one);
+          let split : n + length c.push.new.self.items ≡ suc n + length l.items.items = omega (arith, longer) in
+          ap (λ (m : ℕ). items_at (node_at fuel c.args.schema.now (slice_get (marked_events_of c.args.events.now)) (length c.args.events.now) c.args.element.0 c.args.nest false) (slice_get (marked_events_of c.args.events.now)) m (spot_of c.args.walk.now)) split
+          ∙ l.invariant.rest fuel (suc n) lt
+          ∙ ap (items_before l.items.items) (items_more (node_at fuel c.args.schema.now (slice_get (marked_events_of c.args.events.now)) (length c.args.events.now) c.args.element.0 c.args.nest false) (slice_get (marked_events_of c.args.events.now)) n (spot_of l.walk) _ _ _ (sym c.in-Some.ensures.found) (not_sequence_end _ c.in_default-event.not-SequenceEnd) (c.in-Ok.ensures.gives fuel (omega (arith, l.invariant.left))))
+          ∙ items_before_one l.items.items c.in-Ok.item _
+          ∙ ap (λ xs. items_before xs (items_at (node_at fuel c.args.schema.now (slice_get (marked_events_of c.args.events.now)) (length c.args.events.now) c.args.element.0 c.args.nest false) (slice_get (marked_events_of c.args.events.now)) n (spot_of c.read_node.new.walk))) (sym one);
     }
 
 pub read_entries-returns-in_default-clause-gives : goal.read_entries-returns-in_default-clause-gives
@@ -169,36 +169,36 @@ read_entries-returns-in-MappingEnd-clause-gives t c = λ fuel turns lt big.
     ∙ ap (λ (s : Spot). Ok (entries_view l.entries.items, s)) (sym (same_spot (spot_of c.step.new.self) (after (spot_of l.walk)) c.step.ensures.place c.step.ensures.left))
 
 pub read_entries-returns-in-Err : goal.read_entries-returns-in-Err
-read_entries-returns-in-Err t c = 
+read_entries-returns-in-Err t c =
     let l = c.loop-event in
     record {
       gives = λ fuel turns lt big fault.
-        let n = turns - length l.entries.items - 1 in
-        let split : turns ≡ suc n + length l.entries.items = omega (arith, l.invariant.turned, l.invariant.within, c.in-Some.ensures.within) in
-        ap (λ (m : ℕ). entries_at (node_at fuel c.args.schema.now (slice_get (marked_events_of c.args.events.now)) (length c.args.events.now) c.args.key.0 c.args.nest false) (node_at fuel c.args.schema.now (slice_get (marked_events_of c.args.events.now)) (length c.args.events.now) c.args.value.0 c.args.nest false) (slice_get (marked_events_of c.args.events.now)) m (spot_of c.args.walk.now)) split
-    ∙ l.invariant.rest fuel (suc n) lt
-    ∙ ap (entries_before l.entries.items) (entries_no_key (node_at fuel c.args.schema.now (slice_get (marked_events_of c.args.events.now)) (length c.args.events.now) c.args.key.0 c.args.nest false) (node_at fuel c.args.schema.now (slice_get (marked_events_of c.args.events.now)) (length c.args.events.now) c.args.value.0 c.args.nest false) (slice_get (marked_events_of c.args.events.now)) n (spot_of l.walk) _ _ (sym c.in-Some.ensures.found) (not_mapping_end _ c.in_default-event.not-MappingEnd) (c.in-Err.ensures.gives fuel (omega (arith, l.invariant.left)) fault));
+          let n = turns - length l.entries.items - 1 in
+          let split : turns ≡ suc n + length l.entries.items = omega (arith, l.invariant.turned, l.invariant.within, c.in-Some.ensures.within) in
+          ap (λ (m : ℕ). entries_at (node_at fuel c.args.schema.now (slice_get (marked_events_of c.args.events.now)) (length c.args.events.now) c.args.key.0 c.args.nest false) (node_at fuel c.args.schema.now (slice_get (marked_events_of c.args.events.now)) (length c.args.events.now) c.args.value.0 c.args.nest false) (slice_get (marked_events_of c.args.events.now)) m (spot_of c.args.walk.now)) split
+          ∙ l.invariant.rest fuel (suc n) lt
+          ∙ ap (entries_before l.entries.items) (entries_no_key (node_at fuel c.args.schema.now (slice_get (marked_events_of c.args.events.now)) (length c.args.events.now) c.args.key.0 c.args.nest false) (node_at fuel c.args.schema.now (slice_get (marked_events_of c.args.events.now)) (length c.args.events.now) c.args.value.0 c.args.nest false) (slice_get (marked_events_of c.args.events.now)) n (spot_of l.walk) _ _ (sym c.in-Some.ensures.found) (not_mapping_end _ c.in_default-event.not-MappingEnd) (c.in-Err.ensures.gives fuel (omega (arith, l.invariant.left)) fault));
       moves = tt;
       cost = omega (arith, l.invariant.cost, c.in-Err.ensures.cost);
     }
 
 pub read_entries-returns-in-Err-read_node : goal.read_entries-returns-in-Err-read_node
-read_entries-returns-in-Err-read_node t c = 
+read_entries-returns-in-Err-read_node t c =
     let l = c.loop-event in
     let moves = c.in-Ok.ensures.moves in
     record {
       gives = λ fuel turns lt big fault.
-        let n = turns - length l.entries.items - 1 in
-        let split : turns ≡ suc n + length l.entries.items = omega (arith, l.invariant.turned, l.invariant.within, c.in-Some.ensures.within) in
-        ap (λ (m : ℕ). entries_at (node_at fuel c.args.schema.now (slice_get (marked_events_of c.args.events.now)) (length c.args.events.now) c.args.key.0 c.args.nest false) (node_at fuel c.args.schema.now (slice_get (marked_events_of c.args.events.now)) (length c.args.events.now) c.args.value.0 c.args.nest false) (slice_get (marked_events_of c.args.events.now)) m (spot_of c.args.walk.now)) split
-    ∙ l.invariant.rest fuel (suc n) lt
-    ∙ ap (entries_before l.entries.items) (entries_no_value (node_at fuel c.args.schema.now (slice_get (marked_events_of c.args.events.now)) (length c.args.events.now) c.args.key.0 c.args.nest false) (node_at fuel c.args.schema.now (slice_get (marked_events_of c.args.events.now)) (length c.args.events.now) c.args.value.0 c.args.nest false) (slice_get (marked_events_of c.args.events.now)) n (spot_of l.walk) _ _ _ _ (sym c.in-Some.ensures.found) (not_mapping_end _ c.in_default-event.not-MappingEnd) (c.in-Ok.ensures.gives fuel (omega (arith, l.invariant.left))) (c.in-Err-read_node.ensures.gives fuel (omega (arith, l.invariant.left, moves)) fault));
+          let n = turns - length l.entries.items - 1 in
+          let split : turns ≡ suc n + length l.entries.items = omega (arith, l.invariant.turned, l.invariant.within, c.in-Some.ensures.within) in
+          ap (λ (m : ℕ). entries_at (node_at fuel c.args.schema.now (slice_get (marked_events_of c.args.events.now)) (length c.args.events.now) c.args.key.0 c.args.nest false) (node_at fuel c.args.schema.now (slice_get (marked_events_of c.args.events.now)) (length c.args.events.now) c.args.value.0 c.args.nest false) (slice_get (marked_events_of c.args.events.now)) m (spot_of c.args.walk.now)) split
+          ∙ l.invariant.rest fuel (suc n) lt
+          ∙ ap (entries_before l.entries.items) (entries_no_value (node_at fuel c.args.schema.now (slice_get (marked_events_of c.args.events.now)) (length c.args.events.now) c.args.key.0 c.args.nest false) (node_at fuel c.args.schema.now (slice_get (marked_events_of c.args.events.now)) (length c.args.events.now) c.args.value.0 c.args.nest false) (slice_get (marked_events_of c.args.events.now)) n (spot_of l.walk) _ _ _ _ (sym c.in-Some.ensures.found) (not_mapping_end _ c.in_default-event.not-MappingEnd) (c.in-Ok.ensures.gives fuel (omega (arith, l.invariant.left))) (c.in-Err-read_node.ensures.gives fuel (omega (arith, l.invariant.left, moves)) fault));
       moves = tt;
       cost = omega (arith, l.invariant.cost, moves, c.in-Err-read_node.ensures.cost);
     }
 
 pub read_entries-loop-event-preserved : goal.read_entries-loop-event-preserved
-read_entries-loop-event-preserved t c = 
+read_entries-loop-event-preserved t c =
     let l = c.loop-event in
     let new : Entry = record { key = c.in-Ok.name; value = c.in-Ok-read_node.content } in
     let one : c.push.new.self.items ≡ l.entries.items ++ new ∷ [] = search rules in
@@ -212,12 +212,11 @@ read_entries-loop-event-preserved t c =
       counted = omega (arith, moves, moves', l.invariant.counted);
       cost = omega (arith, moves, moves', l.invariant.cost);
       rest = λ fuel n lt.
-        let split : n + length c.push.new.self.items ≡ suc n + length l.entries.items = omega (arith, longer) in
-        ap (λ (m : ℕ). entries_at (node_at fuel c.args.schema.now (slice_get (marked_events_of c.args.events.now)) (length c.args.events.now) c.args.key.0 c.args.nest false) (node_at fuel c.args.schema.now (slice_get (marked_events_of c.args.events.now)) (length c.args.events.now) c.args.value.0 c.args.nest false) (slice_get (marked_events_of c.args.events.now)) m (spot_of c.args.walk.now)) split
-    ∙ l.invariant.rest fuel (suc n) lt
-    ∙ ap (entries_before l.entries.items) (entries_more (node_at fuel c.args.schema.now (slice_get (marked_events_of c.args.events.now)) (length c.args.events.now) c.args.key.0 c.args.nest false) (node_at fuel c.args.schema.now (slice_get (marked_events_of c.args.events.now)) (length c.args.events.now) c.args.value.0 c.args.nest false) (slice_get (marked_events_of c.args.events.now)) n (spot_of l.walk) _ _ _ _ _ (sym c.in-Some.ensures.found) (not_mapping_end _ c.in_default-event.not-MappingEnd) (c.in-Ok.ensures.gives fuel (omega (arith, l.invariant.left))) (c.in-Ok-read_node.ensures.gives fuel (omega (arith, l.invariant.left, moves))))
-        ∙ ap (λ (p : PlainData × PlainData). entries_before l.entries.items (entries_at (node_at fuel c.args.schema.now (slice_get (marked_events_of c.args.events.now)) (length c.args.events.now) c.args.key.0 c.args.nest false) (node_at fuel c.args.schema.now (slice_get (marked_events_of c.args.events.now)) (length c.args.events.now) c.args.value.0 c.args.nest false) (slice_get (marked_events_of c.args.events.now)) n (spot_of c.read_node-in-loop-event.new.walk) >>= λ vs. Ok (entry p.0 p.1 vs.0, vs.1))) (sym (entry_is new))
-        ∙ entries_before_one l.entries.items new _
-        ∙ ap (λ xs. entries_before xs (entries_at (node_at fuel c.args.schema.now (slice_get (marked_events_of c.args.events.now)) (length c.args.events.now) c.args.key.0 c.args.nest false) (node_at fuel c.args.schema.now (slice_get (marked_events_of c.args.events.now)) (length c.args.events.now) c.args.value.0 c.args.nest false) (slice_get (marked_events_of c.args.events.now)) n (spot_of c.read_node-in-loop-event.new.walk))) (sym one);
+          let split : n + length c.push.new.self.items ≡ suc n + length l.entries.items = omega (arith, longer) in
+          ap (λ (m : ℕ). entries_at (node_at fuel c.args.schema.now (slice_get (marked_events_of c.args.events.now)) (length c.args.events.now) c.args.key.0 c.args.nest false) (node_at fuel c.args.schema.now (slice_get (marked_events_of c.args.events.now)) (length c.args.events.now) c.args.value.0 c.args.nest false) (slice_get (marked_events_of c.args.events.now)) m (spot_of c.args.walk.now)) split
+          ∙ l.invariant.rest fuel (suc n) lt
+          ∙ ap (entries_before l.entries.items) (entries_more (node_at fuel c.args.schema.now (slice_get (marked_events_of c.args.events.now)) (length c.args.events.now) c.args.key.0 c.args.nest false) (node_at fuel c.args.schema.now (slice_get (marked_events_of c.args.events.now)) (length c.args.events.now) c.args.value.0 c.args.nest false) (slice_get (marked_events_of c.args.events.now)) n (spot_of l.walk) _ _ _ _ _ (sym c.in-Some.ensures.found) (not_mapping_end _ c.in_default-event.not-MappingEnd) (c.in-Ok.ensures.gives fuel (omega (arith, l.invariant.left))) (c.in-Ok-read_node.ensures.gives fuel (omega (arith, l.invariant.left, moves))))
+          ∙ ap (λ (p : PlainData × PlainData). entries_before l.entries.items (entries_at (node_at fuel c.args.schema.now (slice_get (marked_events_of c.args.events.now)) (length c.args.events.now) c.args.key.0 c.args.nest false) (node_at fuel c.args.schema.now (slice_get (marked_events_of c.args.events.now)) (length c.args.events.now) c.args.value.0 c.args.nest false) (slice_get (marked_events_of c.args.events.now)) n (spot_of c.read_node-in-loop-event.new.walk) >>= λ vs. Ok (entry p.0 p.1 vs.0, vs.1))) (sym (entry_is new))
+          ∙ entries_before_one l.entries.items new _
+          ∙ ap (λ xs. entries_before xs (entries_at (node_at fuel c.args.schema.now (slice_get (marked_events_of c.args.events.now)) (length c.args.events.now) c.args.key.0 c.args.nest false) (node_at fuel c.args.schema.now (slice_get (marked_events_of c.args.events.now)) (length c.args.events.now) c.args.value.0 c.args.nest false) (slice_get (marked_events_of c.args.events.now)) n (spot_of c.read_node-in-loop-event.new.walk))) (sym one);
     }
-

@@ -30,8 +30,8 @@ invariant-read_items-loop-event l = record {
   counted : l.fn.walk.steps.count + l.walk.place ≤ l.walk.steps.count + l.fn.walk.place;
   cost : l.walk.steps.count + potential (length l.events) l.walk ≤ l.fn.walk.steps.count + potential (length l.events) l.fn.walk;
   rest : (fuel n : ℕ) → l.fn.walk.left + l.nest < fuel →
-    items_at (node_at fuel l.schema (slice_get (marked_events_of l.events)) (length l.events) l.element.0 l.nest false) (slice_get (marked_events_of l.events)) (n + length l.items.items) (spot_of l.fn.walk)
-    ≡ items_before l.items.items (items_at (node_at fuel l.schema (slice_get (marked_events_of l.events)) (length l.events) l.element.0 l.nest false) (slice_get (marked_events_of l.events)) n (spot_of l.walk));
+      items_at (node_at fuel l.schema (slice_get (marked_events_of l.events)) (length l.events) l.element.0 l.nest false) (slice_get (marked_events_of l.events)) (n + length l.items.items) (spot_of l.fn.walk)
+      ≡ items_before l.items.items (items_at (node_at fuel l.schema (slice_get (marked_events_of l.events)) (length l.events) l.element.0 l.nest false) (slice_get (marked_events_of l.events)) n (spot_of l.walk));
 }
 
 abbrev pub decreases-read_items-loop-event : goal.decreases-read_items-loop-event
@@ -45,8 +45,8 @@ invariant-read_entries-loop-event l = record {
   counted : l.fn.walk.steps.count + l.walk.place ≤ l.walk.steps.count + l.fn.walk.place;
   cost : l.walk.steps.count + potential (length l.events) l.walk ≤ l.fn.walk.steps.count + potential (length l.events) l.fn.walk;
   rest : (fuel n : ℕ) → l.fn.walk.left + l.nest < fuel →
-    entries_at (node_at fuel l.schema (slice_get (marked_events_of l.events)) (length l.events) l.key.0 l.nest false) (node_at fuel l.schema (slice_get (marked_events_of l.events)) (length l.events) l.value.0 l.nest false) (slice_get (marked_events_of l.events)) (n + length l.entries.items) (spot_of l.fn.walk)
-    ≡ entries_before l.entries.items (entries_at (node_at fuel l.schema (slice_get (marked_events_of l.events)) (length l.events) l.key.0 l.nest false) (node_at fuel l.schema (slice_get (marked_events_of l.events)) (length l.events) l.value.0 l.nest false) (slice_get (marked_events_of l.events)) n (spot_of l.walk));
+      entries_at (node_at fuel l.schema (slice_get (marked_events_of l.events)) (length l.events) l.key.0 l.nest false) (node_at fuel l.schema (slice_get (marked_events_of l.events)) (length l.events) l.value.0 l.nest false) (slice_get (marked_events_of l.events)) (n + length l.entries.items) (spot_of l.fn.walk)
+      ≡ entries_before l.entries.items (entries_at (node_at fuel l.schema (slice_get (marked_events_of l.events)) (length l.events) l.key.0 l.nest false) (node_at fuel l.schema (slice_get (marked_events_of l.events)) (length l.events) l.value.0 l.nest false) (slice_get (marked_events_of l.events)) n (spot_of l.walk));
 }
 
 abbrev pub decreases-read_entries-loop-event : goal.decreases-read_entries-loop-event
