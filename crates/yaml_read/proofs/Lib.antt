@@ -2,6 +2,8 @@
 mod Before
 mod Meanings
 mod Outcomes
+mod Refusals
 mod Shown
 mod Sounds
 mod Turns
+mod Whole

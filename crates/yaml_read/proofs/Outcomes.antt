@@ -18,7 +18,8 @@ pub data Outcome {A : Type 0} (r : Reading A) (v : A) (end nest follows d k : �
   deep : (m : Position) → nest < d → r ≡ Err (RecursionLimitExceeded m) → Outcome r v end nest follows d k
   many : follows < k → r ≡ Err RepetitionLimitExceeded → Outcome r v end nest follows d k
 
-wide : (n : DocNode) → 0 < length (events_of n)
+-- a node has an event
+pub wide : (n : DocNode) → 0 < length (events_of n)
 wide nothing = omega arith
 wide (reference j) = omega arith
 wide (word w) = omega arith

@@ -28,7 +28,7 @@ ended_ok a next v (Some w) h =
     (ap (λ (x : PlainData × Spot). Some x.0) same, ap (λ (x : PlainData × Spot). x.1) same)
 
 pursue_ok : (read : Spot → Reading PlainData) (j p n : ℕ) (v : PlainData) (next : Spot) → pursue read j p n ≡ Ok (v, next)
-  → (m : ℕ) × (n ≡ suc m) × (found : Spot) × (read (record { place = j; left = m }) ≡ Ok (v, found)) × (record { place = p + 1; left = found.left } ≡ next)
+    → (m : ℕ) × (n ≡ suc m) × (found : Spot) × (read (record { place = j; left = m }) ≡ Ok (v, found)) × (record { place = p + 1; left = found.left } ≡ next)
 pursue_ok read j p zero v next h = absurd cc
 pursue_ok read j p (suc m) v next h =
     let b = bind_ok (read (record { place = j; left = m })) _ (v, next) h in
@@ -40,7 +40,7 @@ enter_ok zero mark go y h = absurd cc
 enter_ok (suc n) mark go y h = (n, refl, h)
 
 sequence_ok : (read : Reader) (events : Events) (size : ℕ) (s : PlainShape) (nest : ℕ) (mark : Position) (at next : Spot) (v : PlainData) → sequence_at read events size s nest mark at ≡ Ok (v, next)
-  → (e : ℕ) × (n : ℕ) × (vs : PlainItems) × (s ≡ seq_shape e) × (nest ≡ suc n) × (items_at (read e n false) events size at ≡ Ok (vs, next)) × (seq_data vs ≡ v)
+    → (e : ℕ) × (n : ℕ) × (vs : PlainItems) × (s ≡ seq_shape e) × (nest ≡ suc n) × (items_at (read e n false) events size at ≡ Ok (vs, next)) × (seq_data vs ≡ v)
 sequence_ok read events size bool_shape nest mark at next v h = absurd cc
 sequence_ok read events size (integer_shape width) nest mark at next v h = absurd cc
 sequence_ok read events size str_shape nest mark at next v h = absurd cc
@@ -52,7 +52,7 @@ sequence_ok read events size (seq_shape e) nest mark at next v h =
     (e, g.0, b.0.0, refl, g.1, b.1 ∙ ap (λ p. Ok (b.0.0, p)) (ap (λ x. x.1) same), ap (λ x. x.0) same)
 
 mapping_ok : (read : Reader) (events : Events) (size : ℕ) (s : PlainShape) (nest : ℕ) (mark : Position) (at next : Spot) (v : PlainData) → mapping_at read events size s nest mark at ≡ Ok (v, next)
-  → (a : ℕ) × (b : ℕ) × (n : ℕ) × (vs : PlainEntries) × (s ≡ map_shape a b) × (nest ≡ suc n) × (entries_at (read a n false) (read b n false) events size at ≡ Ok (vs, next)) × (map_data vs ≡ v)
+    → (a : ℕ) × (b : ℕ) × (n : ℕ) × (vs : PlainEntries) × (s ≡ map_shape a b) × (nest ≡ suc n) × (entries_at (read a n false) (read b n false) events size at ≡ Ok (vs, next)) × (map_data vs ≡ v)
 mapping_ok read events size bool_shape nest mark at next v h = absurd cc
 mapping_ok read events size (integer_shape width) nest mark at next v h = absurd cc
 mapping_ok read events size str_shape nest mark at next v h = absurd cc

@@ -4,6 +4,7 @@
 mod de;
 mod doc_event;
 mod document;
+pub mod laws;
 mod loader;
 mod tally;
 mod walk;
