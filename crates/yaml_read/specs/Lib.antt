@@ -3,3 +3,5 @@ pub mod DocEventView
 pub mod DocTree
 pub mod PlainDocEvent
 pub mod PlainDocument
+pub mod StreamMachine
+pub mod WrongPlace

@@ -4,6 +4,7 @@
 mod doc_event;
 mod document;
 mod loader;
+mod stream;
 
 pub use doc_event::DocEvent;
 pub use document::Document;
