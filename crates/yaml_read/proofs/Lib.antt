@@ -1,3 +1,4 @@
 -- Lemmas of this crate.
 pub mod StreamMachineLaws
 pub mod WrongPlaces
+pub mod BareStreams

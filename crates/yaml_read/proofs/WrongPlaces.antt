@@ -10,7 +10,8 @@ use Rattle.yaml_read.specs.declared.stream.Open.{Open}
 use Rattle.yaml_read.specs.declared.stream.Phase.{Phase}
 use Rattle.yaml_read.specs.declared.stream.Phase.TheVariants.{Before, Between, Root, Within, After}
 use Rattle.yaml_read.specs.StreamMachine.{State, before_stream, after_stream, next_state, run, state_of}
-use Rattle.yaml_read.specs.WrongPlace.{IsWrongAt, plain_events}
+use Rattle.yaml_read.specs.MarkedEvents.{plain_events}
+use Rattle.yaml_read.specs.WrongPlace.{IsWrongAt}
 use Rattle.yaml_read.proofs.StreamMachineLaws.{whole_run, goes_on_run, run_append}
 
 pub run_more : (es : List PlainEvent) (i : ℕ) (d : PlainEvent) (s : State) → i < length es → run (Some before_stream) (take i es) ≡ Some s

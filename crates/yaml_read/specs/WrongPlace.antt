@@ -1,13 +1,7 @@
 -- Where a list of events stops to be a stream.
-use Rattle.std.specs.Prelude.{ℕ, ◌≡◌, ◌+◌, ◌<◌, List, take, length, Bool, ◌⊎◌, map}
-use Rattle.yaml_base.specs.Position.{Position}
-use Rattle.yaml_base.specs.PlainEvent.{PlainEvent, event_of}
+use Rattle.std.specs.Prelude.{ℕ, ◌≡◌, ◌+◌, ◌<◌, List, take, length, Bool, ◌⊎◌}
+use Rattle.yaml_base.specs.PlainEvent.{PlainEvent}
 use Rattle.yaml_base.specs.Stream.{IsBeginning, IsWellFormed}
-use Rattle.yaml_base.specs.declared.event.Event.{Event}
-
--- the plain events of events with marks
-abbrev pub plain_events : List (Event × Position) → List PlainEvent
-plain_events events = map (λ e. event_of e.0) events
 
 -- the least place at which no whole stream goes on so, or the length where every event is right and the end is wrong
 abbrev pub IsWrongAt : Bool → List PlainEvent → ℕ → Type 0

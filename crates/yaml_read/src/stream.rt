@@ -4,7 +4,8 @@ ghost use Rattle.std.specs.Prelude.{IfOk, IfSome, IfNone};
 ghost use Rattle.yaml_base.specs.PlainEvent.{event_of};
 ghost use Rattle.yaml_base.specs.Stream.{IsWellFormed};
 ghost use Rattle.yaml_read.specs.StreamMachine.{Begins, IsClean, Moves};
-ghost use Rattle.yaml_read.specs.WrongPlace.{IsWrongAt, plain_events};
+ghost use Rattle.yaml_read.specs.MarkedEvents.{plain_events};
+ghost use Rattle.yaml_read.specs.WrongPlace.{IsWrongAt};
 
 use std::alloc::{AllocError, Global};
 use yaml_base::{Event, Mark};

@@ -2,7 +2,7 @@
 use Rattle.std.proofs.Common.{sym, subst, arith, ◌∙◌, inr}
 use Rattle.yaml_base.specs.Stream.{IsWellFormed}
 use Rattle.yaml_read.specs.StreamMachine.{state_of}
-use Rattle.yaml_read.specs.WrongPlace.{plain_events}
+use Rattle.yaml_read.specs.MarkedEvents.{plain_events}
 use Rattle.yaml_read.proofs.StreamMachineLaws.{goes_on_run}
 use Rattle.yaml_read.proofs.WrongPlaces.{run_plain, wrong_plain, length-plain_events, ran_all}
 use Rattle.yaml_read.proofs.WrongPlaces.{done_phase, state_not_done, whole_at_end, cut_at_end, wrong_whole, wrong_cut}
