@@ -2,7 +2,8 @@
 use Rattle.std.specs.Prelude.{ℕ, suc, ◌+◌, List, [], ◌∷◌, ◌++◌, length, Option, None, Some, nat_lt, ◌&&◌, if◌then◌else◌}
 use Rattle.std.specs.Option.{option_or}
 use Rattle.std.specs.Str.{bytes_eq}
-use Rattle.yaml_base.specs.PlainEvent.{PlainScalar, PlainEvent, alias, scalar, sequence_start, sequence_end, mapping_start, mapping_end}
+use Rattle.yaml_base.specs.PlainEvent.{PlainScalar, PlainEvent, alias, scalar}
+use Rattle.yaml_base.specs.PlainEvent.{sequence_start, sequence_end, mapping_start, mapping_end}
 
 -- a node is an alias, a scalar, a list of nodes, or pairs of nodes
 mutual
@@ -25,8 +26,10 @@ abbrev mutual
   pub node_events : Node → List PlainEvent → List PlainEvent
   node_events (alias_node anchor) rest = alias anchor ∷ rest
   node_events (scalar_node s) rest = scalar s ∷ rest
-  node_events (sequence_node anchor tag nodes) rest = sequence_start anchor tag ∷ nodes_events nodes (sequence_end ∷ rest)
-  node_events (mapping_node anchor tag pairs) rest = mapping_start anchor tag ∷ pairs_events pairs (mapping_end ∷ rest)
+  node_events (sequence_node anchor tag nodes) rest =
+      sequence_start anchor tag ∷ nodes_events nodes (sequence_end ∷ rest)
+  node_events (mapping_node anchor tag pairs) rest =
+      mapping_start anchor tag ∷ pairs_events pairs (mapping_end ∷ rest)
 
   pub nodes_events : Nodes → List PlainEvent → List PlainEvent
   nodes_events no_nodes rest = rest
@@ -45,7 +48,7 @@ abbrev pub anchor_at : ℕ → Option (List ℕ) → List (ℕ × List ℕ)
 anchor_at number None = []
 anchor_at number (Some anchor) = (number, anchor) ∷ []
 
--- The anchors of a tree, in order, each beside the number of its node, where the tree's first node has the given number.
+-- The anchors of a tree, in order, each beside the number of its node, where the first node has the given number.
 -- A node's number is the place of its first event.
 abbrev mutual
   pub anchors_of : Node → ℕ → List (ℕ × List ℕ)
@@ -70,6 +73,6 @@ last_below number anchor [] = None
 last_below number anchor (x ∷ xs) =
     option_or (last_below number anchor xs) (if nat_lt x.0 number && bytes_eq x.1 anchor then Some x.0 else None)
 
--- the target of an alias with this anchor and number: the greatest number below it of a node of the tree with the anchor
+-- the target of an alias with this anchor and number: the greatest number below it of a node with the anchor
 abbrev pub target : Node → List ℕ → ℕ → Option ℕ
 target root anchor number = last_below number anchor (anchors_of root 0)

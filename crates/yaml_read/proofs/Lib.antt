@@ -2,3 +2,5 @@
 pub mod StreamMachineLaws
 pub mod WrongPlaces
 pub mod BareStreams
+pub mod TreeLaws
+pub mod BareDocuments

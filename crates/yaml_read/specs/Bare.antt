@@ -1,10 +1,9 @@
 -- The streams that are read so far: one document of one node without alias, anchor or tag.
-use Rattle.std.specs.Prelude.{ℕ, ◌≡◌, List, [], ◌∷◌, drop, Bool, true, false, Option, Some, None, codes, is_none, ◌&&◌}
-use Rattle.std.specs.Prelude.{count_by, ◌==◌}
-use Rattle.std.specs.List.{zip, list_all}
+use Rattle.std.specs.Prelude.{◌≡◌, List, [], ◌∷◌, drop, Bool, true, false, Option, Some, None, codes, is_none, ◌&&◌}
+use Rattle.std.specs.List.{zip}
 use Rattle.std.specs.Option.{option_map}
 use Rattle.yaml_base.specs.Position.{Position}
-use Rattle.yaml_base.specs.PlainEvent.{PlainEvent, stream_start, stream_end, document_start, document_end, alias, scalar}
+use Rattle.yaml_base.specs.PlainEvent.{PlainEvent, document_start, alias, scalar}
 use Rattle.yaml_base.specs.PlainEvent.{sequence_start, sequence_end, mapping_start, mapping_end}
 use Rattle.yaml_base.specs.Tree.{Node, alias_node, scalar_node, sequence_node, mapping_node, Nodes, no_nodes, node}
 use Rattle.yaml_base.specs.Tree.{Pairs, no_pairs, pair}
@@ -38,16 +37,21 @@ abbrev mutual
 abbrev pub IsBareStream : Node → List PlainEvent → Type 0
 IsBareStream root events = IsBare root × (events ≡ stream_events (root ∷ []))
 
+-- some bare node is the stream's
+abbrev pub HasBareRoot : List PlainEvent → Type 0
+HasBareRoot events = (root : Node) × IsBareStream root events
+
 -- the document holds the events of the tree with resolved aliases, each with its mark, and is whole
 abbrev pub HoldsDocument : Node → List Position → PlainDocument → Type 0
 HoldsDocument root marks document =
-    (tree : DocNode) × (resolved root ≡ Some tree) × (document ≡ record { events = zip (events_of tree) marks; ending = None })
+    (tree : DocNode) × (resolved root ≡ Some tree)
+      × (document ≡ record { events = zip (events_of tree) marks; ending = None })
 
 -- the one document of a bare stream; its first event is the third of the stream
 abbrev pub HoldsBareStream : List (PlainEvent × Position) → List PlainDocument → Type 0
 HoldsBareStream input documents =
     (root : Node) × (document : PlainDocument) × IsBareStream root (events_in input) × (documents ≡ document ∷ [])
-      × HoldsDocument root (drop 2 (marks_in input)) document
+    × HoldsDocument root (drop 2 (marks_in input)) document
 
 -- the fault of what is not read yet
 abbrev pub not_built_yet : Cause

@@ -41,7 +41,7 @@ abbrev mutual
   resolved_pairs find no_pairs number = Some tree.no_pairs
   resolved_pairs find (pair key value pairs) number =
       pairs_of (resolved_from find key number) (resolved_from find value (number + size_of key))
-        (resolved_pairs find pairs (number + size_of key + size_of value))
+      (resolved_pairs find pairs (number + size_of key + size_of value))
 
 -- the document's tree, unless an alias in it has no target
 abbrev pub resolved : Node → Option DocNode

@@ -1,12 +1,12 @@
 //! The documents of a stream, one after another.
 
-ghost use Rattle.std.specs.Prelude.{◌≡◌, ◌++◌, ◌==◌, ◌&&◌, [], IfNone, IfOk, IfErr, None, false, option_to_list, count_by};
+ghost use Rattle.std.specs.Prelude.{◌≡◌, ◌++◌, ◌==◌, ◌&&◌, [], IfNone, IfOk, IfErr, None};
+ghost use Rattle.std.specs.Prelude.{true, false, option_to_list, count_by};
 ghost use Rattle.std.specs.List.{filter_map, list_all};
 ghost use Rattle.std.specs.Option.{option_map};
 ghost use Rattle.yaml_base.specs.Answer.{is_memory};
 ghost use Rattle.yaml_base.specs.PlainEvent.{event_of};
-ghost use Rattle.yaml_base.specs.Tree.{Node};
-ghost use Rattle.yaml_read.specs.Bare.{HoldsBareStream, IsBareStream, is_bare_event, is_document_start};
+ghost use Rattle.yaml_read.specs.Bare.{HoldsBareStream, HasBareRoot, is_bare_event, is_document_start};
 ghost use Rattle.yaml_read.specs.Bare.{marked_node_event, node_event, not_built_yet};
 ghost use Rattle.yaml_read.specs.DocEventView.{doc_event_of, marked_events_of};
 ghost use Rattle.yaml_read.specs.MarkedEvents.{plain_events, plain_marked};
@@ -117,6 +117,25 @@ fn gather<'de>(
     Ok(gathered)
 }
 
+// Whether the events are a stream, without a fault, of one document whose node is bare.
+fn is_bare_stream(
+    alloc: Global,
+    events: &[(Event<'_>, Mark)],
+    faulted: bool,
+) -> Result<bool, AllocError>
+    ensures yes { IfOk result (λ found. found ≡ true → (faulted ≡ false) × HasBareRoot (plain_events events.now)) }
+    ensures no { IfOk result (λ found.
+        found ≡ false → faulted ≡ false → HasBareRoot (plain_events events.now) → ⊥) }
+{
+    if faulted {
+        return Ok(false);
+    }
+    match wrong_place(alloc, events, faulted)? {
+        Some(_) => Ok(false),
+        None => Ok(is_one_bare_document(events)),
+    }
+}
+
 // The fault of a stream that is not read yet.
 fn refusal(alloc: Global) -> Error
     ensures { is_memory result ≡ false → result ≡ not_built_yet }
@@ -137,12 +156,9 @@ impl<'de> Loader<'de> {
         ensures ok { IfOk result (λ documents.
             (fault ≡ None) × HoldsBareStream (plain_marked events.entry.items) documents) }
         ensures err { IfErr result (λ cause. is_memory cause ≡ false → (cause ≡ not_built_yet)
-            × ((root : Node) → fault ≡ None → IsBareStream root (plain_events events.entry.items) → ⊥)) }
+            × (fault ≡ None → HasBareRoot (plain_events events.entry.items) → ⊥)) }
     {
-        if fault.is_some() || wrong_place(alloc, &events, false)?.is_some() {
-            return Err(refusal(alloc));
-        }
-        if !is_one_bare_document(&events) {
+        if !is_bare_stream(alloc, &events, fault.is_some())? {
             return Err(refusal(alloc));
         }
         let gathered = gather(alloc, events)?;

@@ -122,19 +122,7 @@ pub(crate) fn wrong_place(
         place += 1;
     }
     match phase {
-        Phase::After => {
-            if faulted {
-                Ok(Some(place))
-            } else {
-                Ok(None)
-            }
-        }
-        _ => {
-            if faulted {
-                Ok(None)
-            } else {
-                Ok(Some(place))
-            }
-        }
+        Phase::After => { if faulted { Ok(Some(place)) } else { Ok(None) } }
+        _ => { if faulted { Ok(None) } else { Ok(Some(place)) } }
     }
 }

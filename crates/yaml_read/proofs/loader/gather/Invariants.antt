@@ -10,7 +10,7 @@ use Rattle.yaml_read.proofs.loader.gather.Given as goal
 abbrev pub invariant-events : goal.invariant-events
 invariant-events l =
     marked_events_of l.gathered.items ++ filter_map marked_node_event (plain_marked (into_iter_items l.rest))
-      ≡ filter_map marked_node_event (plain_marked (into_iter_items l.initial.rest))
+    ≡ filter_map marked_node_event (plain_marked (into_iter_items l.initial.rest))
 
 abbrev pub decreases-events : goal.decreases-events
 decreases-events l = length (into_iter_items l.rest)

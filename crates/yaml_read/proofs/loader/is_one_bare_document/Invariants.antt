@@ -1,5 +1,5 @@
 -- The events so far are bare, and the documents that began are counted.
-use Rattle.std.proofs.Common.{◌≡◌, ◌≤◌, length, take, count_by, true}
+use Rattle.std.proofs.Common.{◌≡◌, ◌≤◌, take, count_by, true}
 use Rattle.std.specs.List.{list_all}
 use Rattle.yaml_read.specs.Bare.{is_bare_event, is_document_start}
 use Rattle.yaml_read.specs.MarkedEvents.{plain_events}
