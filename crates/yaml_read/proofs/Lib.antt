@@ -7,3 +7,8 @@ mod Shown
 mod Sounds
 mod Turns
 mod Whole
+pub mod BareDocuments
+pub mod BareStreams
+pub mod StreamMachineLaws
+pub mod TreeLaws
+pub mod WrongPlaces

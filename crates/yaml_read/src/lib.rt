@@ -6,6 +6,7 @@ mod doc_event;
 mod document;
 pub mod laws;
 mod loader;
+mod stream;
 mod tally;
 mod walk;
 
