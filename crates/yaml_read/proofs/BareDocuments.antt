@@ -1,10 +1,10 @@
 -- The one document of a bare stream: its tree resolves, and its events are those of the stream that are part of its node.
 use Rattle.std.proofs.Common.{◌≡◌, ℕ, ◌+◌, suc, List, [], ◌∷◌, ◌++◌, drop, Option, Some, None, Bool, true, false}
 use Rattle.std.proofs.Common.{refl, sym, ◌∙◌, ap, append_assoc, append-nil, is_some, ◌&&◌, option_map}
-use Rattle.std.proofs.Common.{◌-◌, length, slice_range, take_all, arith}
+use Rattle.std.proofs.Common.{zero, subst, map, slice_get, ◌-◌, length, slice_range, take_all, arith}
 use Rattle.std.specs.List.{filter_map, cons_option, list_all, zip}
 use Rattle.yaml_base.specs.Position.{Position}
-use Rattle.yaml_base.specs.PlainEvent.{PlainEvent, stream_start, stream_end, document_start, document_end}
+use Rattle.yaml_base.specs.PlainEvent.{PlainEvent, alias, scalar, sequence_start, mapping_start, stream_start, stream_end, document_start, document_end}
 use Rattle.yaml_base.specs.PlainEvent.{sequence_end, mapping_end}
 use Rattle.yaml_base.specs.Tree.{Node, alias_node, scalar_node, sequence_node, mapping_node, Nodes, no_nodes, node}
 use Rattle.yaml_base.specs.Tree.{Pairs, no_pairs, pair, node_events, nodes_events, pairs_events, size_of, target}
@@ -19,30 +19,31 @@ use Rattle.yaml_read.specs.PlainDocument.{PlainDocument}
 use Rattle.yaml_read.specs.DocTree.{DocNode, word, list, mapping, DocNodes, DocPairs, events_of, events_of_nodes, events_of_pairs}
 use Rattle.yaml_read.specs.DocTree as tree
 use Rattle.yaml_read.specs.MarkedEvents.{events_in, marks_in, plain_events, plain_marked}
-use Rattle.yaml_read.specs.PlainDocEvent.{PlainDocEvent, sequence_begins, sequence_ends, mapping_begins, mapping_ends}
+use Rattle.yaml_read.specs.PlainDocEvent.{PlainDocEvent, alias_to, a_scalar, sequence_begins, sequence_ends, mapping_begins, mapping_ends}
 use Rattle.yaml_read.specs.Resolved.{without_anchor, nodes_of, pairs_of, resolved_from, resolved_nodes, resolved_pairs, resolved}
+use Rattle.yaml_read.specs.Reads.{IsTreeOf}
 use Rattle.yaml_read.proofs.TreeLaws.{node_events_first}
 
-abbrev Finds : Type 0
+abbrev pub Finds : Type 0
 Finds = List ℕ → ℕ → Option ℕ
 
 -- the tree of a bare node, whose events are those of the node
-abbrev Resolves : Finds → Node → ℕ → Type 0
+abbrev pub Resolves : Finds → Node → ℕ → Type 0
 Resolves find n i = (t : DocNode) × (resolved_from find n i ≡ Some t)
     × ((rest : List PlainEvent) → filter_map node_event (node_events n rest) ≡ events_of t ++ filter_map node_event rest)
 
-abbrev ResolvesNodes : Finds → Nodes → ℕ → Type 0
+abbrev pub ResolvesNodes : Finds → Nodes → ℕ → Type 0
 ResolvesNodes find ns i = (t : DocNodes) × (resolved_nodes find ns i ≡ Some t)
     × ((rest : List PlainEvent)
     → filter_map node_event (nodes_events ns rest) ≡ events_of_nodes t ++ filter_map node_event rest)
 
-abbrev ResolvesPairs : Finds → Pairs → ℕ → Type 0
+abbrev pub ResolvesPairs : Finds → Pairs → ℕ → Type 0
 ResolvesPairs find ps i = (t : DocPairs) × (resolved_pairs find ps i ≡ Some t)
     × ((rest : List PlainEvent)
     → filter_map node_event (pairs_events ps rest) ≡ events_of_pairs t ++ filter_map node_event rest)
 
 mutual
-  resolves : (find : Finds) (n : Node) (i : ℕ) → IsBare n → Resolves find n i
+  pub resolves : (find : Finds) (n : Node) (i : ℕ) → IsBare n → Resolves find n i
   resolves find (alias_node a) i b = absurd b
   resolves find (scalar_node s) i b = (word (without_anchor s), refl, λ rest. refl)
   resolves find (sequence_node a g ns) i b =
@@ -165,6 +166,59 @@ pub events_in-plain_marked : (events : List (Event × Position)) → events_in (
 events_in-plain_marked [] = refl
 events_in-plain_marked (e ∷ events) = ap (λ es. event_of e.0 ∷ es) (events_in-plain_marked events)
 
+-- the events of the document, without their marks
+parts_in : (input : List (PlainEvent × Position)) → map (λ e. e.0) (filter_map marked_node_event input) ≡ filter_map node_event (events_in input)
+parts_in [] = refl
+parts_in (x ∷ input) = part_in (node_event x.0) x.1 (filter_map marked_node_event input) ∙ ap (λ es. cons_option (node_event x.0) es) (parts_in input)
+  where
+    part_in : (o : Option PlainDocEvent) (m : Position) (rest : List (PlainDocEvent × Position)) → map (λ (e : PlainDocEvent × Position). e.0) (cons_option (option_map (λ d. (d, m)) o) rest) ≡ cons_option o (map (λ (e : PlainDocEvent × Position). e.0) rest)
+    part_in None m rest = refl
+    part_in (Some d) m rest = refl
+
+same_event : (x y : PlainDocEvent × Position) → ◌≡◌ {A = Option (PlainDocEvent × Position)} (Some x) (Some y) → x.0 ≡ y.0
+same_event x y h = let same : x ≡ y = cc in ap (λ (e : PlainDocEvent × Position). e.0) same
+
+-- an event in front of others, none of which is an alias
+in_front : (d : PlainDocEvent) (m : Position) (rest : List (PlainDocEvent × Position)) (p j : ℕ) (mark : Position) → (d ≡ alias_to j → ⊥)
+    → ((q : ℕ) → slice_get rest q ≡ Some (alias_to j, mark) → ⊥) → slice_get ((d, m) ∷ rest) p ≡ Some (alias_to j, mark) → ⊥
+in_front d m rest zero j mark other none h = other (same_event (d, m) (alias_to j, mark) h)
+in_front d m rest (suc p) j mark other none h = none p h
+
+part_no_alias : (e : PlainEvent) (m : Position) (rest : List (PlainDocEvent × Position)) (p j : ℕ) (mark : Position)
+    → ((q : ℕ) → slice_get rest q ≡ Some (alias_to j, mark) → ⊥)
+    → slice_get (cons_option (option_map (λ d. (d, m)) (node_event e)) rest) p ≡ Some (alias_to j, mark) → ⊥
+part_no_alias stream_start m rest p j mark none h = none p h
+part_no_alias stream_end m rest p j mark none h = none p h
+part_no_alias document_start m rest p j mark none h = none p h
+part_no_alias document_end m rest p j mark none h = none p h
+part_no_alias (alias a) m rest p j mark none h = none p h
+part_no_alias (scalar s) m rest p j mark none h = in_front (a_scalar (without_anchor s)) m rest p j mark (λ e. cc) none h
+part_no_alias (sequence_start a g) m rest p j mark none h = in_front (sequence_begins g) m rest p j mark (λ e. cc) none h
+part_no_alias sequence_end m rest p j mark none h = in_front sequence_ends m rest p j mark (λ e. cc) none h
+part_no_alias (mapping_start a g) m rest p j mark none h = in_front (mapping_begins g) m rest p j mark (λ e. cc) none h
+part_no_alias mapping_end m rest p j mark none h = in_front mapping_ends m rest p j mark (λ e. cc) none h
+
+-- no event of the document is an alias
+no_alias : (input : List (PlainEvent × Position)) (p j : ℕ) (mark : Position) → slice_get (filter_map marked_node_event input) p ≡ Some (alias_to j, mark) → ⊥
+no_alias [] p j mark h = absurd cc
+no_alias (x ∷ input) p j mark h = part_no_alias x.0 x.1 (filter_map marked_node_event input) p j mark (λ q. no_alias input q j mark) h
+
+-- the document is that of the tree
+bare_tree : (input : List (PlainEvent × Position)) (root : Node) → IsBareStream root (events_in input) → (t : DocNode) → resolved root ≡ Some t
+    → (events : List (PlainDocEvent × Position)) → events ≡ filter_map marked_node_event input → IsTreeOf (record { events = events; ending = None }) t
+bare_tree input root h t is events parts =
+    let r = resolves (target root) root 0 h.0 in
+    let same : r.0 ≡ t = some_is (sym r.1 ∙ is) in
+    let flat = r.2 (document_end ∷ stream_end ∷ []) ∙ append-nil (events_of r.0) ∙ ap events_of same in
+    record {
+      whole = refl;
+      events = ap (map (λ (e : PlainDocEvent × Position). e.0)) parts ∙ parts_in input ∙ ap (filter_map node_event) h.1 ∙ flat;
+      known = λ p j mark found. absurd (no_alias input p j mark (subst (λ es. slice_get es p ≡ Some (alias_to j, mark)) parts found));
+    }
+  where
+    some_is : {x y : DocNode} → Some x ≡ Some y → x ≡ y
+    some_is e = cc
+
 -- what was gathered is the one document
 pub holds_bare : (events : List (Event × Position)) (gathered : List (DocEvent × Position)) (to : ℕ)
     (documents : List PlainDocument) → HasBareRoot (plain_events events)
@@ -174,17 +228,13 @@ pub holds_bare : (events : List (Event × Position)) (gathered : List (DocEvent 
 holds_bare events gathered to documents root found long is =
     let whole : slice_range gathered 0 to ≡ gathered = take_all (to - 0) gathered (omega (arith, long)) in
     let stream : IsBareStream root.0 (events_in (plain_marked events)) = (root.1.0, events_in-plain_marked events ∙ root.1.1) in
-    let document = bare_document (plain_marked events) root.0 stream in (
+    let document = bare_document (plain_marked events) root.0 stream in
+    let parts = ap marked_events_of whole ∙ found in (
       root.0,
       record { events = marked_events_of (slice_range gathered 0 to); ending = None },
       stream,
       is,
-      (
-        document.0,
-        document.1,
-        ap (λ (es : List (PlainDocEvent × Position)). record { events = es; ending = None })
-            (ap marked_events_of whole ∙ found ∙ document.2),
-      ),
+      (document.0, document.1, parts ∙ document.2, bare_tree (plain_marked events) root.0 stream document.0 document.1 _ parts),
     )
 
 -- nothing is there

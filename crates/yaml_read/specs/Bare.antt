@@ -15,6 +15,7 @@ use Rattle.yaml_read.specs.MarkedEvents.{events_in, marks_in}
 use Rattle.yaml_read.specs.PlainDocument.{PlainDocument}
 use Rattle.yaml_read.specs.PlainDocEvent.{PlainDocEvent, a_scalar, sequence_begins, sequence_ends}
 use Rattle.yaml_read.specs.PlainDocEvent.{mapping_begins, mapping_ends}
+use Rattle.yaml_read.specs.Reads.{IsTreeOf}
 use Rattle.yaml_read.specs.Resolved.{resolved, without_anchor}
 
 -- no alias, anchor or tag
@@ -41,11 +42,10 @@ IsBareStream root events = IsBare root × (events ≡ stream_events (root ∷ []
 abbrev pub HasBareRoot : List PlainEvent → Type 0
 HasBareRoot events = (root : Node) × IsBareStream root events
 
--- the document holds the events of the tree with resolved aliases, each with its mark, and is whole
+-- the document is whole and holds the events of the tree with resolved aliases, each with its mark
 abbrev pub HoldsDocument : Node → List Position → PlainDocument → Type 0
 HoldsDocument root marks document =
-    (tree : DocNode) × (resolved root ≡ Some tree)
-      × (document ≡ record { events = zip (events_of tree) marks; ending = None })
+    (tree : DocNode) × (resolved root ≡ Some tree) × (document.events ≡ zip (events_of tree) marks) × IsTreeOf document tree
 
 -- the one document of a bare stream; its first event is the third of the stream
 abbrev pub HoldsBareStream : List (PlainEvent × Position) → List PlainDocument → Type 0
