@@ -158,21 +158,21 @@ module _ (schema : List PlainShape) (events : Events) (size : ℕ) (root : DocNo
       let h' = rw s.0.1 at h in
       let target = known at.place j s.0.0 s.0.1 in
       elim (pursue_err (node_at fuel schema events size id nest false) j at.place at.left y h') [
-        | inl is ↦ subst (IsReadingFault events) is too_often
+        | inl is ↦ subst (IsReadingFault events) is (too_often at.place j s.0.0 s.0.1)
         | inr m ↦ faulty target.0 id nest false (record { place = j; left = m.0 }) y (target_shown events root j target.0 root_shown target.1) (omega (arith, m.1)) m.2
       ]
   a_node fuel faulty (Some sh) (list tag ns) id nest taken at y s lt h =
       let h' = rw s.0.1 at h in
       elim (sequence_err (node_at fuel schema events size) events size sh nest s.0.0 (after at) y h') [
         | no_such is ↦ subst (IsReadingFault events) is meaningless
-        | deep is ↦ subst (IsReadingFault events) is (too_deep at.place _ s.0.0 s.0.1)
+        | deep is ↦ subst (IsReadingFault events) is (too_deep at.place _ s.0.0 s.0.1 refl)
         | within_parts n is f ↦ faulty_each fuel faulty size ns f.0 n (after at) y (subst (λ q. Shows events q (events_of_nodes ns ++ sequence_ends ∷ [])) (omega arith) s.1) (omega (arith, is)) (omega arith) f.1
       ]
   a_node fuel faulty (Some sh) (mapping tag ps) id nest taken at y s lt h =
       let h' = rw s.0.1 at h in
       elim (mapping_err (node_at fuel schema events size) events size sh nest s.0.0 (after at) y h') [
         | no_such is ↦ subst (IsReadingFault events) is meaningless
-        | deep is ↦ subst (IsReadingFault events) is (too_deep at.place _ s.0.0 s.0.1)
+        | deep is ↦ subst (IsReadingFault events) is (too_deep at.place _ s.0.0 s.0.1 refl)
         | within_parts n is f ↦ faulty_pairs fuel faulty size ps f.0 f.1 n (after at) y (subst (λ q. Shows events q (events_of_pairs ps ++ mapping_ends ∷ [])) (omega arith) s.1) (omega (arith, is)) (omega arith) f.2
       ]
 

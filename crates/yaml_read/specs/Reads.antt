@@ -1,11 +1,11 @@
 -- What a document gives, within limits, and how it may be refused where it has a meaning.
-use Rattle.std.specs.Prelude.{◌≡◌, ℕ, ◌*◌, ◌<◌, ◌≤◌, List, map, length, Option, Some, None, false, slice_get}
+use Rattle.std.specs.Prelude.{◌≡◌, ℕ, ◌*◌, ◌<◌, ◌≤◌, List, map, length, Option, Some, None, Bool, true, false, slice_get}
 use Rattle.yaml_base.specs.Position.{Position}
 use Rattle.yaml_base.specs.declared.error.Cause.{Cause}
 use Rattle.yaml_base.specs.declared.error.Cause.TheVariants.{Memory, RecursionLimitExceeded, RepetitionLimitExceeded}
 use Rattle.yaml_shape.specs.PlainShape.{PlainShape}
 use Rattle.yaml_shape.specs.PlainData.{PlainData}
-use Rattle.yaml_read.specs.PlainDocEvent.{PlainDocEvent, alias_to}
+use Rattle.yaml_read.specs.PlainDocEvent.{PlainDocEvent, alias_to, sequence_begins, mapping_begins}
 use Rattle.yaml_read.specs.PlainDocument.{PlainDocument}
 use Rattle.yaml_read.specs.DocTree.{DocNode, events_of, node_of}
 use Rattle.yaml_read.specs.Meaning.{Means}
@@ -41,9 +41,16 @@ IsRefusal limits n nestings followed (RecursionLimitExceeded mark) = limits.nest
 IsRefusal limits n nestings followed RepetitionLimitExceeded = limits.follows * n < followed
 IsRefusal limits n nestings followed _ = ⊥
 
+-- a sequence or a mapping begins
+abbrev pub begins_collection : PlainDocEvent → Bool
+begins_collection (sequence_begins tag) = true
+begins_collection (mapping_begins tag) = true
+begins_collection _ = false
+
 -- What a reading of a whole document may be refused by, beside want of memory: a collection of the document that is nested
--- too deep, too many follows, or a node without a meaning.
+-- too deep, too many follows of its aliases, or a node without a meaning.
 pub data IsReadingFault (events : ℕ → Option (PlainDocEvent × Position)) : Cause → Type 0 where
-  too_deep : (place : ℕ) (event : PlainDocEvent) (mark : Position) → events place ≡ Some (event, mark) → IsReadingFault events (RecursionLimitExceeded mark)
-  too_often : IsReadingFault events RepetitionLimitExceeded
+  too_deep : (place : ℕ) (event : PlainDocEvent) (mark : Position) → events place ≡ Some (event, mark) → begins_collection event ≡ true
+    → IsReadingFault events (RecursionLimitExceeded mark)
+  too_often : (place target : ℕ) (mark : Position) → events place ≡ Some (alias_to target, mark) → IsReadingFault events RepetitionLimitExceeded
   meaningless : IsReadingFault events no_meaning
