@@ -1,4 +1,6 @@
 //! Values of a document.
+mod equal;
+
 use crate::mapping::Mapping;
 use crate::number::Number;
 use crate::sequence::Sequence;
