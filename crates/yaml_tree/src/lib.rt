@@ -9,7 +9,7 @@ mod tag;
 mod value;
 
 pub use fault::TreeFault;
-pub use mapping::Mapping;
+pub use mapping::{Iter, Mapping};
 pub use number::Number;
 pub use sequence::Sequence;
 pub use tag::Tag;

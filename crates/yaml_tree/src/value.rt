@@ -1,5 +1,5 @@
 //! Values of a document.
-mod equal;
+pub(crate) mod equal;
 
 use crate::mapping::Mapping;
 use crate::number::Number;
