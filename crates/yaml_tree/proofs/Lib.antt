@@ -1,3 +1,4 @@
 pub mod Lookups
 pub mod EqualTests
 pub mod Views
+pub mod Copies

@@ -2,9 +2,10 @@
 use Rattle.std.specs.Prelude.{◌≡◌, ℕ, zero, suc, ◌+◌, ◌<◌, List, [], ◌∷◌, ◌++◌, length, refl, true, false, Bool}
 use Rattle.std.specs.Prelude.{Option, Some, None, option_map, if◌then◌else◌, ◌||◌, ◌&&◌, not}
 use Rattle.std.proofs.Common.{ap, arith, sym, ◌∙◌, get_or, set, subst, true≢false}
+use Rattle.yaml_tree.specs.Entries.{with_value, new_entry}
 use Rattle.yaml_tree.specs.Equal.{tree_eq}
 use Rattle.yaml_tree.specs.EqualLaws.{tree_eq-symm, tree_eq-congr}
-use Rattle.yaml_tree.specs.Lookup.{place_of, has_pair, with_value, new_entry}
+use Rattle.yaml_tree.specs.Lookup.{place_of, has_pair}
 use Rattle.yaml_tree.specs.Mapping.{has_key, keys_distinct, value_at, with_pair}
 use Rattle.yaml_tree.specs.TakeOut.{from_false, and_left, and_right}
 use Rattle.yaml_tree.specs.Tree.{Tree, Pairs, pair, no_pairs}

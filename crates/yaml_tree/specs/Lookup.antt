@@ -2,8 +2,6 @@
 use Rattle.std.specs.Prelude.{ℕ, suc, Bool, true, false, ◌&&◌, ◌||◌, Option, Some, None, option_map, if◌then◌else◌}
 use Rattle.yaml_tree.specs.Tree.{Tree, Pairs, no_pairs, pair}
 use Rattle.yaml_tree.specs.Equal.{tree_eq}
-use Rattle.yaml_tree.specs.declared.mapping.Entry.{Entry}
-use Rattle.yaml_tree.specs.declared.value.Value.{Value}
 
 -- the place of the first pair with this key
 abbrev pub place_of : Tree → Pairs → Option ℕ
@@ -19,11 +17,3 @@ has_pair k v (pair l w ps) = (tree_eq k l && tree_eq v w) || has_pair k v ps
 abbrev pub has_all_pairs : Pairs → Pairs → Bool
 has_all_pairs no_pairs qs = true
 has_all_pairs (pair k v ps) qs = has_pair k v qs && has_all_pairs ps qs
-
--- an entry with another value
-abbrev pub with_value : Entry → Value → Entry
-with_value e v = record { key = e.key; value = v }
-
--- an entry of a key and a value
-abbrev pub new_entry : Value → Value → Entry
-new_entry k v = record { key = k; value = v }

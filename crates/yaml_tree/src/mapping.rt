@@ -1,7 +1,7 @@
 //! Mappings of values to values.
 ghost use Rattle.std.specs.Prelude.{◌≡◌, ◌<◌, ◌++◌, ◌∷◌, [], None, length};
 ghost use Rattle.std.specs.Prelude.{option_map, slice_index_or, slice_set, IfErr, IfOk, OnErr, OnOk};
-ghost use Rattle.yaml_tree.specs.Lookup.{new_entry, with_value};
+ghost use Rattle.yaml_tree.specs.Entries.{new_entry, with_value};
 ghost use Rattle.yaml_tree.specs.Mapping.{value_at, with_pair};
 ghost use Rattle.yaml_tree.specs.View.{entry_pairs, tree_of};
 
@@ -31,7 +31,7 @@ impl Model for Mapping {
     ghost use Rattle.std.specs.Prelude.{◌≡◌, true};
     ghost use Rattle.yaml_tree.specs.Mapping.{keys_distinct};
     ghost use Rattle.yaml_tree.specs.Tree.{pairs_size};
-    ghost use Rattle.yaml_tree.specs.Valid.{ValuePairs, value_pairs_code, value_pairs, pairs_of-value_pairs};
+    ghost use Rattle.yaml_tree.specs.Valid.{ValuePairs, pairs_of, value_pairs, value_pairs_code, pairs_of-value_pairs};
 
     ghost Value = { ValuePairs };
 
@@ -43,7 +43,7 @@ impl Model for Mapping {
 
     ghost invariant = { λ m. keys_distinct (entry_pairs m.entries.items) ≡ true };
 
-    ghost size = { λ m. pairs_size m.0 };
+    ghost size = { λ m. pairs_size (pairs_of m) };
 
     ghost use Rattle.std.proofs.Common.{arith};
     ghost use Rattle.yaml_tree.specs.Falls.{most-Entry_le};

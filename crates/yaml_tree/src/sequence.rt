@@ -15,7 +15,7 @@ pub struct Sequence {
 
 impl Model for Sequence {
     ghost use Rattle.yaml_tree.specs.Tree.{trees_size};
-    ghost use Rattle.yaml_tree.specs.Valid.{ValueTrees, value_trees_code};
+    ghost use Rattle.yaml_tree.specs.Valid.{ValueTrees, items_of, value_trees_code};
 
     ghost Value = { ValueTrees };
 
@@ -25,7 +25,7 @@ impl Model for Sequence {
 
     ghost view = { λ s. (trees_of s.items.items, are_values-trees_of s.items.items) };
 
-    ghost size = { λ s. trees_size s.0 };
+    ghost size = { λ s. trees_size (items_of s) };
 
     ghost use Rattle.std.proofs.Common.{arith};
     ghost use Rattle.yaml_tree.specs.Falls.{most-Value_le};

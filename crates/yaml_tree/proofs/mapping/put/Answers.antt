@@ -1,6 +1,6 @@
 -- The place of the key says what a new value there makes of the pairs.
 use Rattle.std.proofs.Common.{ap, sym, ◌∙◌, refl, Some, None}
-use Rattle.yaml_tree.specs.Lookup.{new_entry}
+use Rattle.yaml_tree.specs.Entries.{new_entry}
 use Rattle.yaml_tree.specs.View.{tree_of, entry_pairs}
 use Rattle.yaml_tree.proofs.Lookups.{HoldsAt, HoldsNot, holds_at_found}
 use Rattle.yaml_tree.proofs.mapping.put.Goals as goal
