@@ -5,5 +5,6 @@ pub mod MarkText
 pub mod PlainEvent
 pub mod PlainFault
 pub mod Position
+pub mod Quoted
 pub mod Stream
 pub mod Tree

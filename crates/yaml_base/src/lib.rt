@@ -5,6 +5,7 @@ mod error;
 mod event;
 mod fault;
 mod mark;
+mod quoted;
 mod tag;
 mod words;
 
@@ -12,5 +13,6 @@ pub use error::{Cause, Error, Place, Result};
 pub use event::{Event, MappingStart, Scalar, ScalarStyle, SequenceStart};
 pub use fault::{FaultKind, ParserFault};
 pub use mark::Mark;
+pub use quoted::{Quoted, QuotedBytes};
 pub use tag::{Anchor, Tag};
 pub use words::Words;
