@@ -2,9 +2,11 @@
 pub mod Answer
 pub mod ErrorText
 pub mod MarkText
+pub mod PathText
 pub mod PlainEvent
 pub mod PlainFault
 pub mod Position
 pub mod Quoted
+pub mod ScalarText
 pub mod Stream
 pub mod Tree

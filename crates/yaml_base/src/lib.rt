@@ -1,10 +1,13 @@
 //! What every layer of the YAML data crates speaks of: marks, tags, events and faults, and the grammar of streams.
 #![tactic(auto)]
 
+pub mod emitter;
 mod error;
 mod event;
 mod fault;
+mod location;
 mod mark;
+mod path;
 mod quoted;
 mod tag;
 mod words;
@@ -12,7 +15,9 @@ mod words;
 pub use error::{Cause, Error, Place, Result};
 pub use event::{Event, MappingStart, Scalar, ScalarStyle, SequenceStart};
 pub use fault::{FaultKind, ParserFault};
+pub use location::Location;
 pub use mark::Mark;
+pub use path::Path;
 pub use quoted::{Quoted, QuotedBytes};
 pub use tag::{Anchor, Tag};
 pub use words::Words;
