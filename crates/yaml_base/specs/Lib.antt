@@ -1,6 +1,7 @@
 -- What contracts of this crate, and of those above it, cite.
 pub mod Answer
 pub mod ErrorText
+pub mod FaultText
 pub mod MarkText
 pub mod PathText
 pub mod PlainEvent
