@@ -1,7 +1,10 @@
 -- What contracts of this crate, and of those above it, cite.
 pub mod Answer
+pub mod CausePlace
+pub mod CauseText
 pub mod ErrorText
 pub mod FaultText
+pub mod FoundText
 pub mod MarkText
 pub mod PathText
 pub mod PlainEvent

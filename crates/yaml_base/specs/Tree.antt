@@ -1,6 +1,7 @@
 -- The tree of one document, its events, and the target of an alias.
-use Rattle.std.specs.Prelude.{ℕ, suc, ◌+◌, List, [], ◌∷◌, ◌++◌, length, Option, None, Some}
-use Rattle.yaml_base.specs.PlainEvent.{PlainScalar, PlainEvent, alias, scalar, sequence_start, sequence_end, mapping_start, mapping_end}
+use Rattle.std.specs.Prelude.{ℕ, List, ◌∷◌, Option}
+use Rattle.yaml_base.specs.PlainEvent.{PlainScalar, PlainEvent, alias, scalar, sequence_start, sequence_end}
+use Rattle.yaml_base.specs.PlainEvent.{mapping_start, mapping_end}
 
 -- a node is an alias, a scalar, a list of nodes, or pairs of nodes
 mutual
@@ -24,7 +25,8 @@ abbrev mutual
   node_events (alias_node anchor) rest = alias anchor ∷ rest
   node_events (scalar_node s) rest = scalar s ∷ rest
   node_events (sequence_node anchor tag nodes) rest = sequence_start anchor tag ∷ nodes_events nodes (sequence_end ∷ rest)
-  node_events (mapping_node anchor tag pairs) rest = mapping_start anchor tag ∷ pairs_events pairs (mapping_end ∷ rest)
+  node_events (mapping_node anchor tag pairs) rest =
+      mapping_start anchor tag ∷ pairs_events pairs (mapping_end ∷ rest)
 
   pub nodes_events : Nodes → List PlainEvent → List PlainEvent
   nodes_events no_nodes rest = rest
