@@ -24,7 +24,8 @@ abbrev mutual
   pub node_events : Node → List PlainEvent → List PlainEvent
   node_events (alias_node anchor) rest = alias anchor ∷ rest
   node_events (scalar_node s) rest = scalar s ∷ rest
-  node_events (sequence_node anchor tag nodes) rest = sequence_start anchor tag ∷ nodes_events nodes (sequence_end ∷ rest)
+  node_events (sequence_node anchor tag nodes) rest =
+      sequence_start anchor tag ∷ nodes_events nodes (sequence_end ∷ rest)
   node_events (mapping_node anchor tag pairs) rest =
       mapping_start anchor tag ∷ pairs_events pairs (mapping_end ∷ rest)
 
