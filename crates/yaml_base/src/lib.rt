@@ -25,3 +25,6 @@ pub use path::Path;
 pub use quoted::{Quoted, QuotedBytes};
 pub use tag::{Anchor, Tag};
 pub use words::{WordList, Words};
+
+#[cfg(test)]
+mod tests;
