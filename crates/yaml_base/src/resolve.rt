@@ -4,5 +4,5 @@ mod integer;
 mod sign;
 mod word;
 
-pub use integer::{parse_negative_int, parse_signed_int, parse_unsigned_int};
+pub use integer::{integers_have_their_grammar, parse_negative_int, parse_signed_int, parse_unsigned_int};
 pub use word::{parse_bool, parse_null};

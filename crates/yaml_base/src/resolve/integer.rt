@@ -1,6 +1,6 @@
 //! Integer text: an optional sign, then digits of one of four bases.
 
-ghost use Rattle.std.specs.Prelude.{◌≡◌, ◌^◌, ◌-◌, ◌≤◌, ℕ, ℤ, pos, neg_ℤ, ◌≤ℤ◌, Some, if◌then◌else◌};
+ghost use Rattle.std.specs.Prelude.{◌≡◌, ◌^◌, ◌-◌, ◌≤◌, ℕ, ℤ, pos, neg_ℤ, ◌≤ℤ◌, ◌↔◌, List, MatchOption, Some, if◌then◌else◌};
 ghost use Rattle.yaml_base.specs.Integers.{number_in, number_of, digits_number, decimal as decimal_base, integer_of, unsigned_of, negative_of};
 ghost use Rattle.yaml_base.specs.Integers.{in_range, up_to, IsIntegerText, IsUnsignedText, IsNegativeText};
 
@@ -67,6 +67,33 @@ pub(super) fn integer(text: &str) -> Option<i128>
     under_sign(negative, size)
 }
 
+// The number that text without a minus writes, if it fits.
+pub(super) fn unsigned(text: &str) -> Option<u128>
+    ensures { result ≡ up_to (2 ^ 128 - 1) (unsigned_of text.now) }
+{
+    let (negative, body) = split_sign(text);
+    if negative { None } else { number(body) }
+}
+
+// The integer that decimal text writes, or text in another base with a minus, if it fits.
+fn negative(text: &str) -> Option<i128>
+    ensures { result ≡ in_range (neg_ℤ (pos (2 ^ 127))) (pos (2 ^ 127 - 1)) (negative_of text.now) }
+{
+    let (negative, body) = split_sign(text);
+    if negative {
+        return integer(text);
+    }
+    let size = decimal(body)?;
+    under_sign(negative, size)
+}
+
+// The number, where it is not above `max`.
+fn at_most(value: Option<u128>, max: u128) -> Option<u128>
+    ensures { result ≡ up_to max value }
+{
+    value.filter(|value| *value <= max)
+}
+
 // The integer, where it lies in the range.
 fn within(value: Option<i128>, min: i128, max: i128) -> Option<i128>
     ensures { result ≡ in_range min max value }
@@ -77,18 +104,17 @@ fn within(value: Option<i128>, min: i128, max: i128) -> Option<i128>
 /// The number that the text writes, where it is integer text without a minus and the number is not above `max`.
 pub fn parse_unsigned_int(scalar: &str, max: u128) -> Option<u128>
     ensures value { result ≡ up_to max (unsigned_of scalar.now) }
+    ensures exact { MatchOption result ((n : ℕ) → n ≤ max → ¬ (IsUnsignedText scalar.now n))
+        (λ n. IsUnsignedText scalar.now n × (n ≤ max)) }
 {
-    let (negative, body) = split_sign(scalar);
-    if negative {
-        return None;
-    }
-    let size = number(body)?;
-    if size <= max { Some(size) } else { None }
+    at_most(unsigned(scalar), max)
 }
 
 /// The integer that the text writes, where it is integer text and the integer lies from `min` to `max`.
 pub fn parse_signed_int(scalar: &str, min: i128, max: i128) -> Option<i128>
     ensures value { result ≡ in_range min max (integer_of scalar.now) }
+    ensures exact { MatchOption result ((z : ℤ) → min ≤ℤ z → z ≤ℤ max → ¬ (IsIntegerText scalar.now z))
+        (λ z. IsIntegerText scalar.now z × (min ≤ℤ z) × (z ≤ℤ max)) }
 {
     within(integer(scalar), min, max)
 }
@@ -96,11 +122,16 @@ pub fn parse_signed_int(scalar: &str, min: i128, max: i128) -> Option<i128>
 /// The same of decimal text with any sign, and of text with a prefix where a minus stands in front.
 pub fn parse_negative_int(scalar: &str, min: i128, max: i128) -> Option<i128>
     ensures value { result ≡ in_range min max (negative_of scalar.now) }
+    ensures exact { MatchOption result ((z : ℤ) → min ≤ℤ z → z ≤ℤ max → ¬ (IsNegativeText scalar.now z))
+        (λ z. IsNegativeText scalar.now z × (min ≤ℤ z) × (z ≤ℤ max)) }
 {
-    let (negative, body) = split_sign(scalar);
-    if negative {
-        return parse_signed_int(scalar, min, max);
-    }
-    let size = decimal(body)?;
-    within(under_sign(negative, size), min, max)
+    within(negative(scalar), min, max)
+}
+
+/// A law, and nothing to be run: what is computed of a text is what the grammar of integer text says.
+pub fn integers_have_their_grammar()
+    ensures any_sign { (text : List ℕ) (z : ℤ) → (integer_of text ≡ Some z) ↔ IsIntegerText text z }
+    ensures no_minus { (text : List ℕ) (n : ℕ) → (unsigned_of text ≡ Some n) ↔ IsUnsignedText text n }
+    ensures decimal_or_minus { (text : List ℕ) (z : ℤ) → (negative_of text ≡ Some z) ↔ IsNegativeText text z }
+{
 }
