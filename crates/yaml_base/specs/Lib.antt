@@ -2,6 +2,7 @@
 pub mod Answer
 pub mod Borrowable
 pub mod ErrorText
+pub mod Floats
 pub mod Integers
 pub mod MarkText
 pub mod PlainEvent

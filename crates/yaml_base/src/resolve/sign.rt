@@ -24,3 +24,13 @@ pub(super) fn split_sign(text: &str) -> (bool, &str)
         None => (false, text),
     }
 }
+
+// The bytes behind their sign.
+pub(super) fn after_sign(text: &[u8]) -> &[u8]
+    ensures { result.now ≡ unsigned_part text.now }
+{
+    match text.split_first() {
+        Some((sign, rest)) if *sign == b'+' || *sign == b'-' => rest,
+        _ => text,
+    }
+}
