@@ -11,6 +11,7 @@ use Rattle.std.proofs.lemmas.Bool.Decides.{Decides-eqb, Decides-ltb, Decides-and
 use Rattle.std.proofs.lemmas.Option.{same_Some, none-some}
 use Rattle.std.proofs.lemmas.Slice.Eq.{starts_is}
 use Rattle.yaml_base.proofs.RangeLaws.{signed-is}
+use Rattle.yaml_base.proofs.SignLaws.{sign-split, unproved, sign_of-other, behind-sign}
 use Rattle.yaml_base.proofs.DigitLaws.{numeral-Decides}
 use Rattle.yaml_base.specs.Integers.{Base, decimal, hexadecimal, octal, binary, radix, prefix_of, place_value, HasLeadingZeroAlone, IsNumber, IsInteger, IsIntegerText, IsUnsignedText, IsNegativeText, digits_number, has_zero_in_front, number_in, number_of, integer_of, unsigned_of, negative_of}
 use Rattle.yaml_base.specs.Signs.{Sign, unsigned, plus, minus, sign_text, signed, is_minus, sign_of, unsigned_part}
@@ -30,10 +31,6 @@ digits_number-some base ds p a = rw ((numeral-Decides base ds).1 (p, a)) refl
 -- a leading zero
 zero-Decides : (ds : List ℕ) → Decides (slice_index ds 0 == 48 && nat_lt 1 (length ds)) ((slice_index ds 0 ≡ 48) × (1 < length ds))
 zero-Decides ds = Decides-and _ _ (Decides-eqb (slice_index ds 0) 48) (Decides-ltb 1 (length ds))
-
-unproved : (t : Bool) (P : Type 0) → Decides t P → ¬ P → t ≡ false
-unproved true P d n = absurd (n (d.0 refl))
-unproved false P d n = refl
 
 -- text in a base writes its number
 spelled_in : (base : Base) (ds : List ℕ) → 0 < length ds → AllDigits (radix base) ds → HasLeadingZeroAlone base ds
@@ -114,24 +111,11 @@ number_of-sound text n e = elim (either _ _ n e) [
         ]
     ]
 
--- a text is its sign, and what follows
-sign-split : (text : List ℕ) → text ≡ sign_text (sign_of text) ++ unsigned_part text
-sign-split [] = refl
-sign-split (c ∷ cs) = by (c == 43) (c == 45) (Decides-eqb c 43) (Decides-eqb c 45)
-  where
-    by : (p m : Bool) → Decides p (c ≡ 43) → Decides m (c ≡ 45)
-        → c ∷ cs ≡ sign_text (if p then plus else (if m then minus else unsigned))
-            ++ drop (length (sign_text (if p then plus else (if m then minus else unsigned)))) (c ∷ cs)
-    by true m p e = ap (λ x. x ∷ cs) (p.0 refl)
-    by false true p e = ap (λ x. x ∷ cs) (e.0 refl)
-    by false false p e = refl
-
 -- a number begins with no sign
 digit_unsigned : (c : ℕ) (cs : List ℕ) → digit_value c < 10 → sign_of (c ∷ cs) ≡ unsigned
-digit_unsigned c cs d =
-    let p = unproved _ _ (Decides-eqb c 43) (λ e. let h : digit_value c ≡ 36 = ap digit_value e in omega (arith, d, h)) in
-    let m = unproved _ _ (Decides-eqb c 45) (λ e. let h : digit_value c ≡ 36 = ap digit_value e in omega (arith, d, h)) in
-    rw (p, m) refl
+digit_unsigned c cs d = sign_of-other c cs
+    (λ e. let h : digit_value c ≡ 36 = ap digit_value e in omega (arith, d, h))
+    (λ e. let h : digit_value c ≡ 36 = ap digit_value e in omega (arith, d, h))
 
 number-unsigned : (base : Base) (text : List ℕ) (n : ℕ) → IsNumber base text n → sign_of text ≡ unsigned
 number-unsigned decimal text n i = rw i.spelled (digits_unsigned i.digits i.present i.all_digits)
@@ -146,11 +130,9 @@ number-unsigned binary text n i = rw i.spelled refl
 -- a number behind a sign has that sign
 pub signed-number : (s : Sign) (base : Base) (body : List ℕ) (n : ℕ) → IsNumber base body n
     → (sign_of (sign_text s ++ body) ≡ s) × (unsigned_part (sign_text s ++ body) ≡ body)
-signed-number unsigned base body n i = let u = number-unsigned base body n i in (u, rw u refl)
-signed-number plus base body n i = (refl, refl)
-signed-number minus base body n i = (refl, refl)
+signed-number s base body n i = behind-sign s body (number-unsigned base body n i)
 
-mapped : (s : Sign) (o : Option ℕ) (z : ℤ) → option_map (signed s) o ≡ Some z → (n : ℕ) × (o ≡ Some n) × (z ≡ signed s n)
+pub mapped : (s : Sign) (o : Option ℕ) (z : ℤ) → option_map (signed s) o ≡ Some z → (n : ℕ) × (o ≡ Some n) × (z ≡ signed s n)
 mapped s None z e = absurd (none-some z e)
 mapped s (Some n) z e = (n, refl, sym (same_Some _ _ e))
 
@@ -173,7 +155,7 @@ pub integer_of-complete : (text : List ℕ) (z : ℤ) → IsIntegerText text z �
 integer_of-complete text z h = integer_of-spelled h.0 h.1 text z h.2
 
 -- no minus
-free : (s : Sign) → is_minus s ≡ false → s ≢ minus
+pub free : (s : Sign) → is_minus s ≡ false → s ≢ minus
 free s f m = true≢false (sym (ap is_minus m) ∙ f)
 
 not_minus : (s : Sign) → s ≢ minus → is_minus s ≡ false
@@ -181,7 +163,7 @@ not_minus unsigned h = refl
 not_minus plus h = refl
 not_minus minus h = absurd (h refl)
 
-a_minus : (s : Sign) → is_minus s ≡ true → s ≡ minus
+pub a_minus : (s : Sign) → is_minus s ≡ true → s ≡ minus
 a_minus unsigned e = absurd (true≢false (sym e))
 a_minus plus e = absurd (true≢false (sym e))
 a_minus minus e = refl
@@ -190,7 +172,7 @@ unguarded : {A : Type 0} (t : Bool) (o : Option A) (x : A) → (if t then None e
 unguarded true o x e = absurd (none-some x e)
 unguarded false o x e = (refl, e)
 
-positive : (s : Sign) (n : ℕ) → is_minus s ≡ false → pos n ≡ signed s n
+pub positive : (s : Sign) (n : ℕ) → is_minus s ≡ false → pos n ≡ signed s n
 positive s n f = rw (signed-is s n, f) refl
 
 pub unsigned_of-sound : (text : List ℕ) (n : ℕ) → unsigned_of text ≡ Some n → IsUnsignedText text n

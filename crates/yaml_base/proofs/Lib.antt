@@ -1,5 +1,8 @@
 -- Lemmas of this crate.
 pub mod BorrowableLaws
 pub mod DigitLaws
+pub mod FloatLaws
 pub mod IntegerLaws
+pub mod KindLaws
 pub mod RangeLaws
+pub mod SignLaws

@@ -16,7 +16,7 @@ int_le-Decides a b = by (int_le a b) refl
     by true e = ((λ _. omega (arith, ints)), (λ _. refl))
     by false e = ((λ f. cc), (λ h. absurd (omega (arith, ints, h))))
 
-le-Decides : (a b : ℕ) → Decides (nat_le a b) (a ≤ b)
+pub le-Decides : (a b : ℕ) → Decides (nat_le a b) (a ≤ b)
 le-Decides a b = by (nat_le a b) refl
   where
     by : (t : Bool) → nat_le a b ≡ t → Decides t (a ≤ b)
@@ -52,7 +52,7 @@ pub in_range-found : (low high : ℤ) (o : Option ℤ) (z : ℤ) → in_range lo
 in_range-found low high None z e = absurd (none-some z e)
 in_range-found low high (Some x) z e = ap Some (kept _ _ x z (within-Decides low high x) e).1
 
-in_range-within : (low high : ℤ) (o : Option ℤ) (z : ℤ) → in_range low high o ≡ Some z → (low ≤ℤ z) × (z ≤ℤ high)
+pub in_range-within : (low high : ℤ) (o : Option ℤ) (z : ℤ) → in_range low high o ≡ Some z → (low ≤ℤ z) × (z ≤ℤ high)
 in_range-within low high None z e = absurd (none-some z e)
 in_range-within low high (Some x) z e = let k = kept _ _ x z (within-Decides low high x) e in rw (← k.1) k.0
 
@@ -64,11 +64,14 @@ in_range-narrow low high least most (Some z) l h e =
     let out = refused _ _ z (within-Decides low high z) e in
     in_range-outside least most z (λ p. out (omega (arith, ints, l, p.0), omega (arith, ints, h, p.1)))
 
+pub up_to-inside : (most n : ℕ) → n ≤ most → up_to most (Some n) ≡ Some n
+up_to-inside most n l = picked _ _ n (le-Decides n most) l
+
 pub up_to-found : (most : ℕ) (o : Option ℕ) (n : ℕ) → up_to most o ≡ Some n → o ≡ Some n
 up_to-found most None n e = absurd (none-some n e)
 up_to-found most (Some x) n e = ap Some (kept _ _ x n (le-Decides x most) e).1
 
-up_to-below : (most : ℕ) (o : Option ℕ) (n : ℕ) → up_to most o ≡ Some n → n ≤ most
+pub up_to-below : (most : ℕ) (o : Option ℕ) (n : ℕ) → up_to most o ≡ Some n → n ≤ most
 up_to-below most None n e = absurd (none-some n e)
 up_to-below most (Some x) n e = let k = kept _ _ x n (le-Decides x most) e in rw (← k.1) k.0
 

@@ -4,6 +4,7 @@ pub mod Borrowable
 pub mod ErrorText
 pub mod Floats
 pub mod Integers
+pub mod Kinds
 pub mod MarkText
 pub mod PlainEvent
 pub mod PlainFault

@@ -7,7 +7,7 @@ mod error;
 mod event;
 mod fault;
 mod mark;
-mod resolve;
+mod resolver;
 mod tag;
 mod words;
 
@@ -17,8 +17,9 @@ pub use error::{Cause, Error, Place, Result};
 pub use event::{Event, MappingStart, Scalar, ScalarStyle, SequenceStart};
 pub use fault::{FaultKind, ParserFault};
 pub use mark::Mark;
-pub use resolve::{
-    parse_bool, parse_negative_int, parse_null, parse_signed_int, parse_unsigned_int,
+pub use resolver::{
+    digits_but_not_number, each_text_has_one_kind, integers_have_their_grammar, is_float_text,
+    parse_bool, parse_negative_int, parse_null, parse_signed_int, parse_unsigned_int, resolve, Kind,
 };
 pub use tag::{Anchor, Tag};
 pub use words::Words;

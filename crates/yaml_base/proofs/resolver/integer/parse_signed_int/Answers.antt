@@ -4,7 +4,7 @@ use Rattle.std.specs.Int.{w128}
 use Rattle.yaml_base.proofs.IntegerLaws.{integer_of-sound, integer_of-complete}
 use Rattle.yaml_base.specs.Integers.{IsIntegerText, integer_of, in_range}
 use Rattle.yaml_base.proofs.RangeLaws.{in_range-twice, in_range-exact}
-use Rattle.yaml_base.proofs.resolve.integer.parse_signed_int.Goals as goal
+use Rattle.yaml_base.proofs.resolver.integer.parse_signed_int.Goals as goal
 
 pub returns : goal.returns
 returns c =

@@ -2,7 +2,7 @@ use Rattle.std.proofs.Common.{◌≡◌, ◌^◌, ◌-◌, arith}
 use Rattle.yaml_base.proofs.IntegerLaws.{unsigned_of-sound, unsigned_of-complete}
 use Rattle.yaml_base.specs.Integers.{IsUnsignedText, unsigned_of, up_to}
 use Rattle.yaml_base.proofs.RangeLaws.{up_to-twice, up_to-exact}
-use Rattle.yaml_base.proofs.resolve.integer.parse_unsigned_int.Goals as goal
+use Rattle.yaml_base.proofs.resolver.integer.parse_unsigned_int.Goals as goal
 
 pub returns : goal.returns
 returns c =

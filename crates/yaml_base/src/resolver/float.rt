@@ -78,6 +78,7 @@ fn is_nan_word(text: &[u8]) -> bool
 /// Whether the text is float text: a decimal float or `.inf` behind an optional sign, or `.nan`.
 pub fn is_float_text(scalar: &str) -> bool
     ensures value { result ≡ is_float scalar.now }
+    ensures exact { IsTrue result ↔ IsFloatText scalar.now }
 {
     let text = scalar.as_bytes();
     let body = after_sign(text);
@@ -87,6 +88,7 @@ pub fn is_float_text(scalar: &str) -> bool
 /// Whether the text is two decimal digits or more behind an optional sign, of which the first is zero.
 pub fn digits_but_not_number(scalar: &str) -> bool
     ensures value { result ≡ has_leading_zero scalar.now }
+    ensures exact { IsTrue result ↔ HasLeadingZero scalar.now }
 {
     let body = after_sign(scalar.as_bytes());
     body.len() > 1 && body[0] == b'0' && has_only_digits(body)

@@ -1,6 +1,6 @@
 use Rattle.std.proofs.Common.{◌^◌, ◌-◌, pos, neg_ℤ}
 use Rattle.yaml_base.proofs.RangeLaws.{negative_of-decimal}
-use Rattle.yaml_base.proofs.resolve.integer.negative.Goals as goal
+use Rattle.yaml_base.proofs.resolver.integer.negative.Goals as goal
 
 pub returns : goal.returns
 returns c = negative_of-decimal (neg_ℤ (pos (2 ^ 127))) (pos (2 ^ 127 - 1)) _ c.args.text.now _ _ _ _

@@ -1,6 +1,6 @@
 use Rattle.std.proofs.Common.{◌∙◌, ◌^◌, ◌-◌, pos, neg_ℤ}
 use Rattle.yaml_base.proofs.RangeLaws.{integer_of-none, integer_of-some}
-use Rattle.yaml_base.proofs.resolve.integer.integer.Goals as goal
+use Rattle.yaml_base.proofs.resolver.integer.integer.Goals as goal
 
 pub returns-in_err-size : goal.returns-in_err-size
 returns-in_err-size c = c.from_residual.ensures

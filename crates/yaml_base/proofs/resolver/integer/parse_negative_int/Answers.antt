@@ -4,7 +4,7 @@ use Rattle.std.specs.Int.{w128}
 use Rattle.yaml_base.proofs.IntegerLaws.{negative_of-sound, negative_of-complete}
 use Rattle.yaml_base.specs.Integers.{IsNegativeText, negative_of, in_range}
 use Rattle.yaml_base.proofs.RangeLaws.{in_range-twice, in_range-exact}
-use Rattle.yaml_base.proofs.resolve.integer.parse_negative_int.Goals as goal
+use Rattle.yaml_base.proofs.resolver.integer.parse_negative_int.Goals as goal
 
 pub returns : goal.returns
 returns c =

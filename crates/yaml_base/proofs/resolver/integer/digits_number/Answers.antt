@@ -1,7 +1,7 @@
 use Rattle.std.proofs.Common.{◌≢◌, ◌≡◌, ◌^◌, ◌-◌, arith, get_or, true}
 use Rattle.std.proofs.lemmas.Str.Pattern.{starts_char}
 use Rattle.yaml_base.proofs.DigitLaws.{digits_number-parsed, digits_number-plus}
-use Rattle.yaml_base.proofs.resolve.integer.digits_number.Goals as goal
+use Rattle.yaml_base.proofs.resolver.integer.digits_number.Goals as goal
 
 pub returns-then-starts_with : goal.returns-then-starts_with
 returns-then-starts_with c =

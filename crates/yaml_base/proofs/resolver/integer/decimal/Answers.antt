@@ -1,7 +1,7 @@
 use Rattle.std.proofs.Common.{◌≡◌, ◌<◌, length, arith, get_or}
 use Rattle.std.proofs.lemmas.Str.Pattern.{starts_char}
 use Rattle.yaml_base.proofs.DigitLaws.{number_in-zero}
-use Rattle.yaml_base.proofs.resolve.integer.decimal.Goals as goal
+use Rattle.yaml_base.proofs.resolver.integer.decimal.Goals as goal
 
 pub returns-then-starts_with : goal.returns-then-starts_with
 returns-then-starts_with c =
