@@ -4,5 +4,6 @@ pub mod DigitLaws
 pub mod FloatLaws
 pub mod IntegerLaws
 pub mod KindLaws
+pub mod LocalNameLaws
 pub mod RangeLaws
 pub mod SignLaws

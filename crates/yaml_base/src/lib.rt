@@ -6,8 +6,10 @@ mod emitter;
 mod error;
 mod event;
 mod fault;
+mod local_tag;
 mod mark;
 mod resolver;
+mod style;
 mod tag;
 mod words;
 
@@ -16,10 +18,12 @@ pub use emitter::AskedStyle;
 pub use error::{Cause, Error, Place, Result};
 pub use event::{Event, MappingStart, Scalar, ScalarStyle, SequenceStart};
 pub use fault::{FaultKind, ParserFault};
+pub use local_tag::parse_tag;
 pub use mark::Mark;
 pub use resolver::{
     digits_but_not_number, each_text_has_one_kind, integers_have_their_grammar, is_float_text,
     parse_bool, parse_negative_int, parse_null, parse_signed_int, parse_unsigned_int, resolve, Kind,
 };
+pub use style::infer_style;
 pub use tag::{Anchor, Tag};
 pub use words::Words;
