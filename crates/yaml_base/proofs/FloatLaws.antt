@@ -1,12 +1,14 @@
 -- The tests for float text say what its grammar says.
 use mathlib.Core.Bool.{true≢false}
 use mathlib.Core.List.{append-nil}
-use Rattle.std.specs.Prelude.{Option, None, Some, Bool, true, false, not, nat_lt, nat_le, ◌==◌, ◌&&◌, ◌||◌, slice_index, position, count_by, is_some, codes, bytes_eq}
+use Rattle.std.specs.Prelude.{Option, None, Some, Bool, true, false, not, nat_lt, nat_le, ◌==◌, ◌&&◌, ◌||◌, slice_index}
+use Rattle.std.specs.Prelude.{position, count_by, is_some, codes, bytes_eq}
 use Rattle.std.specs.Bool.{Decides}
 use Rattle.std.specs.Char.{is_ascii_digit}
 use Rattle.std.specs.Option.{option_map_or}
 use Rattle.std.specs.List.{list_all, list_any, position_or_len}
-use Rattle.std.proofs.Common.{◌≡◌, ◌≢◌, ◌⊎◌, ℕ, zero, suc, ◌+◌, ◌<◌, ◌≤◌, cond, List, [], ◌∷◌, ◌++◌, length, take, drop, get_or, refl, sym, ap, ◌∙◌, arith, subst, inl, inr, length-append}
+use Rattle.std.proofs.Common.{◌≡◌, ◌≢◌, ◌⊎◌, ℕ, zero, suc, ◌+◌, ◌<◌, ◌≤◌, cond, List, [], ◌∷◌, ◌++◌, length, take, drop}
+use Rattle.std.proofs.Common.{get_or, refl, sym, ap, ◌∙◌, arith, subst, inl, inr, length-append}
 use Rattle.std.proofs.lemmas.Bool.Decides.{Decides-eqb, Decides-ltb, Decides-and, Decides-or, Decides-like, nat_tests}
 use Rattle.std.proofs.lemmas.List.Folds.{list_all-append, list_any-append}
 use Rattle.std.proofs.lemmas.List.Sums.{sum_by-cons, sum_by-append, split_at_first, passes_at_first}
@@ -14,7 +16,9 @@ use Rattle.std.proofs.Math.Seq.{take-append_seam, drop-append-add}
 use Rattle.std.proofs.lemmas.Slice.Eq.{bytes_eq-Decides}
 use Rattle.yaml_base.proofs.RangeLaws.{le-Decides}
 use Rattle.yaml_base.proofs.SignLaws.{sign-split, unproved, sign_of-other, behind-sign}
-use Rattle.yaml_base.specs.Floats.{AllDecimal, IsMantissa, IsExponent, IsDecimalFloat, IsFloatText, HasLeadingZero, is_numeral, is_mantissa, is_exponent_mark, is_decimal_float, is_float, has_leading_zero, is_infinity_word, is_nan_word}
+use Rattle.yaml_base.specs.Floats.{AllDecimal, IsMantissa, IsExponent, IsDecimalFloat, IsFloatText, HasLeadingZero}
+use Rattle.yaml_base.specs.Floats.{is_numeral, is_mantissa, is_exponent_mark, is_decimal_float, is_float}
+use Rattle.yaml_base.specs.Floats.{has_leading_zero, is_infinity_word, is_nan_word}
 use Rattle.yaml_base.specs.Floats.IsMantissa.{whole, pointed}
 use Rattle.yaml_base.specs.Floats.IsExponent.{absent, present}
 use Rattle.yaml_base.specs.Floats.IsFloatText.{decimal, infinity, nan}
@@ -45,10 +49,12 @@ in_mantissa text = list_all (λ c. is_ascii_digit c || c == 46) text
 
 -- digits round a point
 abbrev IsPointed : List ℕ → Type 0
-IsPointed text = (before : List ℕ) × (after : List ℕ) × (text ≡ before ++ 46 ∷ after) × AllDecimal before × AllDecimal after
+IsPointed text =
+    (before : List ℕ) × (after : List ℕ) × (text ≡ before ++ 46 ∷ after) × AllDecimal before × AllDecimal after
 
 -- text of digits and points, by the number of its points
-parts : (text : List ℕ) → in_mantissa text ≡ true → (points text ≡ 0 → AllDecimal text) × (points text ≡ 1 → IsPointed text)
+parts : (text : List ℕ) → in_mantissa text ≡ true
+    → (points text ≡ 0 → AllDecimal text) × (points text ≡ 1 → IsPointed text)
 parts [] h = ((λ e. tt), (λ e. absurd (omega (arith, e))))
 parts (c ∷ cs) h =
     let t = (Decides-and _ _ (Decides-or _ _ (digit-Decides c) (Decides-eqb c 46)) (itself (in_mantissa cs))).0 h in
@@ -108,7 +114,8 @@ some (c ∷ cs) e = omega arith
 
 mantissa-sound : (text : List ℕ) → is_mantissa text ≡ true → IsMantissa text
 mantissa-sound text e =
-    let t = (Decides-and _ _ (itself (in_mantissa text)) (Decides-and _ _ (le-Decides (points text) 1) (itself (list_any is_ascii_digit text)))).0 e in
+    let t = (Decides-and _ _ (itself (in_mantissa text))
+        (Decides-and _ _ (le-Decides (points text) 1) (itself (list_any is_ascii_digit text)))).0 e in
     let m = parts text t.0 in
     by (points text) t.1.0 m t.1.1
   where
@@ -126,7 +133,8 @@ mantissa-sound text e =
 -- digits and points, with a digit among them
 of_mantissa : (m : List ℕ) → is_mantissa m ≡ true → (in_mantissa m ≡ true) × (list_any is_ascii_digit m ≡ true)
 of_mantissa m e =
-    let t = (Decides-and _ _ (itself (in_mantissa m)) (Decides-and _ _ (le-Decides (points m) 1) (itself (list_any is_ascii_digit m)))).0 e in
+    let t = (Decides-and _ _ (itself (in_mantissa m))
+        (Decides-and _ _ (le-Decides (points m) 1) (itself (list_any is_ascii_digit m)))).0 e in
     (t.0, t.1.1)
 
 mark-Decides : (c : ℕ) → Decides (is_exponent_mark c) ((c ≡ 101) ⊎ (c ≡ 69))
@@ -137,11 +145,13 @@ exponent_from : (mark : ℕ) (rest : List ℕ) → is_exponent_mark mark ≡ tru
     → IsExponent (mark ∷ rest)
 exponent_from mark rest m e =
     let n = (numeral-Decides (unsigned_part rest)).0 e in
-    present mark (sign_of rest) (unsigned_part rest) (ap (λ l. mark ∷ l) (sign-split rest)) ((mark-Decides mark).0 m) n.0 n.1
+    present mark (sign_of rest) (unsigned_part rest) (ap (λ l. mark ∷ l) (sign-split rest))
+        ((mark-Decides mark).0 m) n.0 n.1
 
 decimal_float-sound : (text : List ℕ) → is_decimal_float text ≡ true → IsDecimalFloat text
 decimal_float-sound text e =
-    by (nat_lt (position_or_len is_exponent_mark text) (length text)) (Decides-ltb (position_or_len is_exponent_mark text) (length text)) e
+    by (nat_lt (position_or_len is_exponent_mark text) (length text))
+        (Decides-ltb (position_or_len is_exponent_mark text) (length text)) e
   where
     by : (t : Bool) → Decides t (position_or_len is_exponent_mark text < length text)
         → option_map_or (λ place. is_mantissa (take place text) && is_numeral (unsigned_part (drop (place + 1) text)))
@@ -149,7 +159,8 @@ decimal_float-sound text e =
         → IsDecimalFloat text
     by true d h =
         let place = position_or_len is_exponent_mark text in
-        let t = (Decides-and _ _ (itself (is_mantissa (take place text))) (itself (is_numeral (unsigned_part (drop (place + 1) text))))).0 h in
+        let t = (Decides-and _ _ (itself (is_mantissa (take place text)))
+            (itself (is_numeral (unsigned_part (drop (place + 1) text))))).0 h in
         record {
           mantissa = take place text;
           exponent = get_or text place 0 ∷ drop (place + 1) text;
@@ -253,12 +264,14 @@ is_float-Decides text = (sound, complete)
     sound : is_float text ≡ true → IsFloatText text
     sound e =
       let d = Decides-or _ _ (itself (is_nan_word text))
-          (Decides-or _ _ (itself (is_infinity_word (unsigned_part text))) (itself (is_decimal_float (unsigned_part text)))) in
+          (Decides-or _ _ (itself (is_infinity_word (unsigned_part text)))
+              (itself (is_decimal_float (unsigned_part text)))) in
       elim (d.0 e) [
       inl w ↦ nan w
       | inr k ↦ elim k [
         inl w ↦ infinity (sign_of text) (unsigned_part text) (sign-split text) w
-        | inr d ↦ decimal (sign_of text) (unsigned_part text) (sign-split text) (decimal_float-sound (unsigned_part text) d)
+        | inr d ↦
+            decimal (sign_of text) (unsigned_part text) (sign-split text) (decimal_float-sound (unsigned_part text) d)
         ]
       ]
     complete : IsFloatText text → is_float text ≡ true
@@ -266,7 +279,8 @@ is_float-Decides text = (sound, complete)
     complete (infinity s body e w) =
         let u : unsigned_part text ≡ body = rw e (behind-sign s body (infinity-unsigned body w)).1 in
         let i : is_infinity_word (unsigned_part text) ≡ true = rw u w in
-        or_true (is_nan_word text) (is_infinity_word (unsigned_part text) || is_decimal_float (unsigned_part text)) (rw i refl)
+        or_true (is_nan_word text) (is_infinity_word (unsigned_part text) || is_decimal_float (unsigned_part text))
+            (rw i refl)
     complete (decimal s body e f) =
         let u : unsigned_part text ≡ body = rw e (behind-sign s body (decimal_float-unsigned body f)).1 in
         let d : is_decimal_float (unsigned_part text) ≡ true = rw u (decimal_float-complete body f) in
@@ -276,9 +290,11 @@ is_float-Decides text = (sound, complete)
 pub leading_zero-Decides : (text : List ℕ) → Decides (has_leading_zero text) (HasLeadingZero text)
 leading_zero-Decides text = Decides-like _ from back
     (Decides-and _ _ (Decides-ltb 1 (length (unsigned_part text)))
-        (Decides-and _ _ (Decides-eqb (slice_index (unsigned_part text) 0) 48) (all_decimal-Decides (unsigned_part text))))
+        (Decides-and _ _ (Decides-eqb (slice_index (unsigned_part text) 0) 48)
+            (all_decimal-Decides (unsigned_part text))))
   where
-    from : (1 < length (unsigned_part text)) × ((slice_index (unsigned_part text) 0 ≡ 48) × AllDecimal (unsigned_part text))
+    from : (1 < length (unsigned_part text))
+        × ((slice_index (unsigned_part text) 0 ≡ 48) × AllDecimal (unsigned_part text))
         → HasLeadingZero text
     from h = record {
       sign = sign_of text;
@@ -289,7 +305,9 @@ leading_zero-Decides text = Decides-like _ from back
       zero = h.1.0;
     }
     back : HasLeadingZero text
-        → (1 < length (unsigned_part text)) × ((slice_index (unsigned_part text) 0 ≡ 48) × AllDecimal (unsigned_part text))
+        → (1 < length (unsigned_part text))
+            × ((slice_index (unsigned_part text) 0 ≡ 48) × AllDecimal (unsigned_part text))
     back z =
-        let u : unsigned_part text ≡ z.digits = rw z.spelled (behind-sign z.sign z.digits (digits-unsigned z.digits z.all_digits)).1 in
+        let u : unsigned_part text ≡ z.digits =
+            rw z.spelled (behind-sign z.sign z.digits (digits-unsigned z.digits z.all_digits)).1 in
         rw u (z.several, (z.zero, z.all_digits))

@@ -1,19 +1,24 @@
 -- The functions that compute an integer's text give what its grammar says.
 use mathlib.Core.Bool.{true≢false}
-use Rattle.std.specs.Prelude.{Option, None, Some, Bool, true, false, not, nat_eq, nat_lt, ◌==◌, ◌&&◌, if◌then◌else◌, codes, slice_index, ℤ, pos, neg_ℤ}
+use Rattle.std.specs.Prelude.{Option, None, Some, Bool, true, false, not, nat_eq, nat_lt, ◌==◌, ◌&&◌, if◌then◌else◌}
+use Rattle.std.specs.Prelude.{codes, slice_index, ℤ, pos, neg_ℤ}
 use Rattle.std.specs.Bool.{Decides}
 use Rattle.std.specs.Char.{digit_value}
 use Rattle.std.specs.List.{starts_with, list_all}
 use Rattle.std.specs.Option.{option_map, option_or}
 use Rattle.std.specs.Str.Parse.{AllDigits}
-use Rattle.std.proofs.Common.{◌≡◌, ◌≢◌, ◌⊎◌, ℕ, ◌+◌, ◌<◌, ◌≤◌, List, [], ◌∷◌, ◌++◌, length, drop, get_or, refl, sym, ap, ◌∙◌, arith, subst, inl, inr}
+use Rattle.std.proofs.Common.{◌≡◌, ◌≢◌, ◌⊎◌, ℕ, ◌+◌, ◌<◌, ◌≤◌, List, [], ◌∷◌, ◌++◌, length, drop, get_or, refl, sym, ap}
+use Rattle.std.proofs.Common.{◌∙◌, arith, subst, inl, inr}
 use Rattle.std.proofs.lemmas.Bool.Decides.{Decides-eqb, Decides-ltb, Decides-and, not_from_Decides, nat_tests}
 use Rattle.std.proofs.lemmas.Option.{same_Some, none-some}
 use Rattle.std.proofs.lemmas.Slice.Eq.{starts_is}
 use Rattle.yaml_base.proofs.RangeLaws.{signed-is}
 use Rattle.yaml_base.proofs.SignLaws.{sign-split, unproved, sign_of-other, behind-sign}
 use Rattle.yaml_base.proofs.DigitLaws.{numeral-Decides}
-use Rattle.yaml_base.specs.Integers.{Base, decimal, hexadecimal, octal, binary, radix, prefix_of, place_value, HasLeadingZeroAlone, IsNumber, IsInteger, IsIntegerText, IsUnsignedText, IsNegativeText, digits_number, has_zero_in_front, number_in, number_of, integer_of, unsigned_of, negative_of}
+use Rattle.yaml_base.specs.Integers.{Base, decimal, hexadecimal, octal, binary, radix, prefix_of, place_value}
+use Rattle.yaml_base.specs.Integers.{HasLeadingZeroAlone, IsNumber, IsInteger, IsIntegerText, IsUnsignedText}
+use Rattle.yaml_base.specs.Integers.{IsNegativeText, digits_number, has_zero_in_front, number_in, number_of, integer_of}
+use Rattle.yaml_base.specs.Integers.{unsigned_of, negative_of}
 use Rattle.yaml_base.specs.Signs.{Sign, unsigned, plus, minus, sign_text, signed, is_minus, sign_of, unsigned_part}
 
 -- what a test lets through was there
@@ -25,11 +30,13 @@ both : (a b : Bool) → a && b ≡ true → (a ≡ true) × (b ≡ true)
 both true b e = (refl, e)
 both false b e = absurd (true≢false (sym e))
 
-digits_number-some : (base : ℕ) (ds : List ℕ) → 0 < length ds → AllDigits base ds → digits_number base ds ≡ Some (place_value base ds)
+digits_number-some : (base : ℕ) (ds : List ℕ) → 0 < length ds → AllDigits base ds
+    → digits_number base ds ≡ Some (place_value base ds)
 digits_number-some base ds p a = rw ((numeral-Decides base ds).1 (p, a)) refl
 
 -- a leading zero
-zero-Decides : (ds : List ℕ) → Decides (slice_index ds 0 == 48 && nat_lt 1 (length ds)) ((slice_index ds 0 ≡ 48) × (1 < length ds))
+zero-Decides : (ds : List ℕ)
+    → Decides (slice_index ds 0 == 48 && nat_lt 1 (length ds)) ((slice_index ds 0 ≡ 48) × (1 < length ds))
 zero-Decides ds = Decides-and _ _ (Decides-eqb (slice_index ds 0) 48) (Decides-ltb 1 (length ds))
 
 -- text in a base writes its number
@@ -42,13 +49,16 @@ spelled_in octal ds p a z = digits_number-some 8 ds p a
 spelled_in binary ds p a z = digits_number-some 2 ds p a
 
 pub number_in-complete : (base : Base) (text : List ℕ) (n : ℕ) → IsNumber base text n → number_in base text ≡ Some n
-number_in-complete base text n i = rw (i.spelled, i.value) (spelled_in base i.digits i.present i.all_digits i.zero_alone)
+number_in-complete base text n i =
+    rw (i.spelled, i.value) (spelled_in base i.digits i.present i.all_digits i.zero_alone)
 
-alone : (base : Base) (text : List ℕ) → not (has_zero_in_front base text) ≡ true → 0 < length (drop (length (prefix_of base)) text)
+alone : (base : Base) (text : List ℕ) → not (has_zero_in_front base text) ≡ true
+    → 0 < length (drop (length (prefix_of base)) text)
     → HasLeadingZeroAlone base (drop (length (prefix_of base)) text)
 alone decimal text e p = λ zero. omega (arith, p, single text e zero)
   where
-    single : (text : List ℕ) → not (has_zero_in_front decimal text) ≡ true → slice_index text 0 ≡ 48 → ¬ (1 < length text)
+    single : (text : List ℕ) → not (has_zero_in_front decimal text) ≡ true → slice_index text 0 ≡ 48
+        → ¬ (1 < length text)
     single text e zero long = let t = (zero-Decides text).1 (zero, long) in true≢false (sym e ∙ ap not t)
 alone hexadecimal text e p = tt
 alone octal text e p = tt
@@ -70,7 +80,8 @@ number_in-sound base text n e =
     }
 
 -- decimal digits begin with no prefix
-no_prefix : (base : Base) (x : ℕ) (text : List ℕ) → prefix_of base ≡ 48 ∷ x ∷ [] → 10 ≤ digit_value x → AllDigits 10 text → number_in base text ≡ None
+no_prefix : (base : Base) (x : ℕ) (text : List ℕ) → prefix_of base ≡ 48 ∷ x ∷ [] → 10 ≤ digit_value x
+    → AllDigits 10 text → number_in base text ≡ None
 no_prefix base x text p big a = refused _ _ _ (λ t. begun _ ((starts_is Decides-eqb text (prefix_of base) _ refl).0 t))
   where
     begun : (rest : List ℕ) → text ≡ prefix_of base ++ rest → ⊥
@@ -132,12 +143,14 @@ pub signed-number : (s : Sign) (base : Base) (body : List ℕ) (n : ℕ) → IsN
     → (sign_of (sign_text s ++ body) ≡ s) × (unsigned_part (sign_text s ++ body) ≡ body)
 signed-number s base body n i = behind-sign s body (number-unsigned base body n i)
 
-pub mapped : (s : Sign) (o : Option ℕ) (z : ℤ) → option_map (signed s) o ≡ Some z → (n : ℕ) × (o ≡ Some n) × (z ≡ signed s n)
+pub mapped : (s : Sign) (o : Option ℕ) (z : ℤ) → option_map (signed s) o ≡ Some z
+    → (n : ℕ) × (o ≡ Some n) × (z ≡ signed s n)
 mapped s None z e = absurd (none-some z e)
 mapped s (Some n) z e = (n, refl, sym (same_Some _ _ e))
 
 -- the sign that a text begins with is the one of its integer
-pub integer_of-signed : (text : List ℕ) (z : ℤ) → integer_of text ≡ Some z → (base : Base) × IsInteger (sign_of text) base text z
+pub integer_of-signed : (text : List ℕ) (z : ℤ) → integer_of text ≡ Some z
+    → (base : Base) × IsInteger (sign_of text) base text z
 integer_of-signed text z e =
     let m = mapped _ _ z e in
     let b = number_of-sound _ _ m.1 in
@@ -146,7 +159,8 @@ integer_of-signed text z e =
 pub integer_of-sound : (text : List ℕ) (z : ℤ) → integer_of text ≡ Some z → IsIntegerText text z
 integer_of-sound text z e = let i = integer_of-signed text z e in (sign_of text, i.0, i.1)
 
-integer_of-spelled : (s : Sign) (base : Base) (text : List ℕ) (z : ℤ) → IsInteger s base text z → integer_of text ≡ Some z
+integer_of-spelled : (s : Sign) (base : Base) (text : List ℕ) (z : ℤ) → IsInteger s base text z
+    → integer_of text ≡ Some z
 integer_of-spelled s base text z i =
     let p = signed-number s base i.body i.size i.number in
     rw (i.spelled, p.1, p.0, number_of-complete base i.body i.size i.number, i.value) refl
@@ -168,7 +182,8 @@ a_minus unsigned e = absurd (true≢false (sym e))
 a_minus plus e = absurd (true≢false (sym e))
 a_minus minus e = refl
 
-unguarded : {A : Type 0} (t : Bool) (o : Option A) (x : A) → (if t then None else o) ≡ Some x → (t ≡ false) × (o ≡ Some x)
+unguarded : {A : Type 0} (t : Bool) (o : Option A) (x : A) → (if t then None else o) ≡ Some x
+    → (t ≡ false) × (o ≡ Some x)
 unguarded true o x e = absurd (none-some x e)
 unguarded false o x e = (refl, e)
 
@@ -202,7 +217,8 @@ pub negative_of-sound : (text : List ℕ) (z : ℤ) → negative_of text ≡ Som
 negative_of-sound text z e = by (is_minus (sign_of text)) refl e
   where
     by : (t : Bool) → is_minus (sign_of text) ≡ t
-        → (if t then integer_of text else option_map pos (number_in decimal (unsigned_part text))) ≡ Some z → IsNegativeText text z
+        → (if t then integer_of text else option_map pos (number_in decimal (unsigned_part text))) ≡ Some z
+        → IsNegativeText text z
     by true m h = let i = integer_of-signed text z h in (sign_of text, i.0, inr (a_minus _ m), i.1)
     by false m h =
         let n = mapped unsigned _ z h in
@@ -228,7 +244,8 @@ negative_of-complete text z h = by (is_minus h.0) refl
             let s : is_minus (sign_of text) ≡ false = rw (h.3.spelled, p.0) m in
             let rest : unsigned_part text ≡ h.3.body = rw h.3.spelled p.1 in
             let n : number_in decimal h.3.body ≡ Some h.3.size =
-                subst (λ b. number_in b h.3.body ≡ Some h.3.size) d (number_in-complete h.1 h.3.body h.3.size h.3.number) in
+                subst (λ b. number_in b h.3.body ≡ Some h.3.size) d
+                    (number_in-complete h.1 h.3.body h.3.size h.3.number) in
             rw (s, rest, n, h.3.value, ← positive h.0 h.3.size m) refl
         | inr t ↦ absurd (free h.0 m t)
         ]

@@ -1,19 +1,24 @@
 -- Each text has one kind.
 use mathlib.Core.Bool.{true≢false}
-use Rattle.std.specs.Prelude.{Option, None, Some, Bool, true, false, IsTrue, not, nat_lt, ◌==◌, ◌&&◌, ◌||◌, if◌then◌else◌, codes, bytes_eq, ℤ, pos, neg_ℤ, ◌≤ℤ◌}
+use Rattle.std.specs.Prelude.{Option, None, Some, Bool, true, false, IsTrue, not, nat_lt, ◌==◌, ◌&&◌, ◌||◌}
+use Rattle.std.specs.Prelude.{if◌then◌else◌, codes, bytes_eq, ℤ, pos, neg_ℤ, ◌≤ℤ◌}
 use Rattle.std.specs.Bool.{Decides}
 use Rattle.std.specs.Option.{option_map_or}
-use Rattle.std.proofs.Common.{◌≡◌, ◌≢◌, ◌⊎◌, ℕ, ◌+◌, ◌-◌, ◌^◌, ◌<◌, ◌≤◌, List, [], ◌∷◌, length, refl, sym, ap, ◌∙◌, arith, subst, inl, inr}
+use Rattle.std.proofs.Common.{◌≡◌, ◌≢◌, ◌⊎◌, ℕ, ◌+◌, ◌-◌, ◌^◌, ◌<◌, ◌≤◌, List, [], ◌∷◌, length, refl, sym, ap, ◌∙◌}
+use Rattle.std.proofs.Common.{arith, subst, inl, inr}
 use Rattle.std.proofs.lemmas.Bool.Decides.{Decides-or, Decides-and, Decides-not, Decides-eqb}
 use Rattle.std.proofs.lemmas.Int.{ints}
 use Rattle.std.proofs.lemmas.Option.{same_Some, none-some}
 use Rattle.std.proofs.lemmas.Slice.Eq.{bytes_eq-Decides}
 use Rattle.yaml_base.proofs.FloatLaws.{is_float-Decides, leading_zero-Decides}
-use Rattle.yaml_base.proofs.IntegerLaws.{integer_of-signed, integer_of-sound, integer_of-complete, free, positive, mapped, a_minus, unsigned_of-sound, unsigned_of-complete}
-use Rattle.yaml_base.proofs.RangeLaws.{in_range-inside, in_range-found, in_range-within, up_to-found, up_to-below, up_to-inside}
+use Rattle.yaml_base.proofs.IntegerLaws.{integer_of-signed, integer_of-sound, integer_of-complete, free, positive}
+use Rattle.yaml_base.proofs.IntegerLaws.{mapped, a_minus, unsigned_of-sound, unsigned_of-complete}
+use Rattle.yaml_base.proofs.RangeLaws.{in_range-inside, in_range-found, in_range-within, up_to-found, up_to-below}
+use Rattle.yaml_base.proofs.RangeLaws.{up_to-inside}
 use Rattle.yaml_base.proofs.SignLaws.{unproved}
 use Rattle.yaml_base.specs.Floats.{IsFloatText, HasLeadingZero, is_float, has_leading_zero}
-use Rattle.yaml_base.specs.Integers.{Base, IsInteger, IsIntegerText, IsUnsignedText, integer_of, unsigned_of, in_range, up_to}
+use Rattle.yaml_base.specs.Integers.{Base, IsInteger, IsIntegerText, IsUnsignedText, integer_of, unsigned_of, in_range}
+use Rattle.yaml_base.specs.Integers.{up_to}
 use Rattle.yaml_base.specs.Kinds.{is_null_text, IsOther, HasKind, kind_of}
 use Rattle.yaml_base.specs.PlainWords.{is_null_word, is_true_word, is_false_word, boolean_of}
 use Rattle.yaml_base.specs.Signs.{Sign, unsigned, plus, minus, signed, is_minus, sign_of}
@@ -34,7 +39,8 @@ null_words text e =
     empty (c ∷ cs) z = absurd (omega (arith, z))
 
 -- a text of which a function of texts says the same as of each word for null
-at_null : {A : Type 0} (f : List ℕ → A) (x : A) (text : List ℕ) → f [] ≡ x → f (codes "null") ≡ x → f (codes "Null") ≡ x → f (codes "NULL") ≡ x
+at_null : {A : Type 0} (f : List ℕ → A) (x : A) (text : List ℕ) → f [] ≡ x → f (codes "null") ≡ x
+    → f (codes "Null") ≡ x → f (codes "NULL") ≡ x
     → f (codes "~") ≡ x → is_null_text text ≡ true → f text ≡ x
 at_null f x text p q r s t e = elim (null_words text e) [
     inl k ↦ ap f k ∙ p
@@ -58,12 +64,14 @@ null_unsigned : (text : List ℕ) → is_null_text text ≡ true → unsigned_of
 null_unsigned text e = at_null unsigned_of None text refl refl refl refl refl e
 
 -- a boolean is no integer
-true_words : (text : List ℕ) → is_true_word text ≡ true → (text ≡ codes "true") ⊎ ((text ≡ codes "True") ⊎ (text ≡ codes "TRUE"))
+true_words : (text : List ℕ) → is_true_word text ≡ true
+    → (text ≡ codes "true") ⊎ ((text ≡ codes "True") ⊎ (text ≡ codes "TRUE"))
 true_words text e =
     (Decides-or _ _ (bytes_eq-Decides text (codes "true"))
         (Decides-or _ _ (bytes_eq-Decides text (codes "True")) (bytes_eq-Decides text (codes "TRUE")))).0 e
 
-false_words : (text : List ℕ) → is_false_word text ≡ true → (text ≡ codes "false") ⊎ ((text ≡ codes "False") ⊎ (text ≡ codes "FALSE"))
+false_words : (text : List ℕ) → is_false_word text ≡ true
+    → (text ≡ codes "false") ⊎ ((text ≡ codes "False") ⊎ (text ≡ codes "FALSE"))
 false_words text e =
     (Decides-or _ _ (bytes_eq-Decides text (codes "false"))
         (Decides-or _ _ (bytes_eq-Decides text (codes "False")) (bytes_eq-Decides text (codes "FALSE")))).0 e
@@ -92,8 +100,10 @@ boolean_unsigned : (text : List ℕ) (value : Bool) → boolean_of text ≡ Some
 boolean_unsigned text value e = at_boolean unsigned_of None text value e refl refl refl refl refl refl
 
 -- floats that are no digits behind a zero
-float-Decides : (text : List ℕ) → Decides (is_float text && not (has_leading_zero text)) (IsFloatText text × ¬ (HasLeadingZero text))
-float-Decides text = Decides-and _ _ (is_float-Decides text) (Decides-not (has_leading_zero text) (leading_zero-Decides text))
+float-Decides : (text : List ℕ)
+    → Decides (is_float text && not (has_leading_zero text)) (IsFloatText text × ¬ (HasLeadingZero text))
+float-Decides text =
+    Decides-and _ _ (is_float-Decides text) (Decides-not (has_leading_zero text) (leading_zero-Decides text))
 
 has_float : (text : List ℕ) → IsOther text → (t : Bool) → Decides t (IsFloatText text × ¬ (HasLeadingZero text))
     → HasKind text (if t then Float else Str)
@@ -121,14 +131,17 @@ is_signed : (text : List ℕ) (z : ℤ) → number_kind text ≡ None → intege
     → ((base : Base) × IsInteger minus base text z) × (neg_ℤ (pos (2 ^ 127)) ≤ℤ z)
 is_signed text z n i = by (is_minus (sign_of text)) refl
   where
-    by : (t : Bool) → is_minus (sign_of text) ≡ t → ((base : Base) × IsInteger minus base text z) × (neg_ℤ (pos (2 ^ 127)) ≤ℤ z)
+    by : (t : Bool) → is_minus (sign_of text) ≡ t
+        → ((base : Base) × IsInteger minus base text z) × (neg_ℤ (pos (2 ^ 127)) ≤ℤ z)
     by true m =
         let w = in_range-within (neg_ℤ (pos (2 ^ 127))) (pos (2 ^ 127 - 1)) (integer_of text) z i in
-        let s = integer_of-signed text z (in_range-found (neg_ℤ (pos (2 ^ 127))) (pos (2 ^ 127 - 1)) (integer_of text) z i) in
+        let s = integer_of-signed text z
+            (in_range-found (neg_ℤ (pos (2 ^ 127))) (pos (2 ^ 127 - 1)) (integer_of text) z i) in
         ((s.0, subst (λ s'. IsInteger s' s.0 text z) (a_minus _ m) s.1), w.0)
     by false m =
         let w = in_range-within (neg_ℤ (pos (2 ^ 127))) (pos (2 ^ 127 - 1)) (integer_of text) z i in
-        let u = unsigned_of-integer text z (in_range-found (neg_ℤ (pos (2 ^ 127))) (pos (2 ^ 127 - 1)) (integer_of text) z i) m in
+        let u = unsigned_of-integer text z
+            (in_range-found (neg_ℤ (pos (2 ^ 127))) (pos (2 ^ 127 - 1)) (integer_of text) z i) m in
         absurd (small_number text u.0 n u.1 (omega (arith, ints, w.1, u.2)))
 
 -- no integer
@@ -152,7 +165,8 @@ has_number : (text : List ℕ) → is_null_text text ≡ false → boolean_of te
     → HasKind text (option_map_or (λ n. Unsigned n) o (option_map_or (λ z. Signed z) p
         (if is_float text && not (has_leading_zero text) then Float else Str)))
 has_number text null boolean (Some n) p e f =
-    let l = up_to-below _ (unsigned_of text) n e in (unsigned_of-sound text n (up_to-found _ (unsigned_of text) n e), omega (arith, l))
+    let l = up_to-below _ (unsigned_of text) n e in
+        (unsigned_of-sound text n (up_to-found _ (unsigned_of text) n e), omega (arith, l))
 has_number text null boolean None (Some z) e f = is_signed text z e f
 has_number text null boolean None None e f =
     has_float text (record {
@@ -209,7 +223,8 @@ other_integer text o = by (integer_kind text) refl
     by None e = refl
     by (Some z) e =
         let w = in_range-within (neg_ℤ (pos (2 ^ 127))) (pos (2 ^ 127 - 1)) (integer_of text) z e in
-        let h = integer_of-sound text z (in_range-found (neg_ℤ (pos (2 ^ 127))) (pos (2 ^ 127 - 1)) (integer_of text) z e) in
+        let h = integer_of-sound text z
+            (in_range-found (neg_ℤ (pos (2 ^ 127))) (pos (2 ^ 127 - 1)) (integer_of text) z e) in
         absurd (o.no_integer z w.0 (omega (arith, ints, w.1)) h)
 
 pub kind_of-only : (text : List ℕ) (kind : Kind) → HasKind text kind → kind ≡ kind_of text
@@ -235,7 +250,8 @@ kind_of-only text (Signed z) h =
     rw (null, boolean, number, integer) refl
 kind_of-only text Float h =
     let o = h.0 in
-    rw (not_null text o.no_null, other_boolean text o, other_number text o, other_integer text o, (float-Decides text).1 h.1) refl
+    rw (not_null text o.no_null, other_boolean text o, other_number text o, other_integer text o,
+        (float-Decides text).1 h.1) refl
 kind_of-only text Str h =
     let o = h.0 in
     let f = unproved (is_float text && not (has_leading_zero text)) _ (float-Decides text) h.1 in

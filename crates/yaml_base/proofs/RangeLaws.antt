@@ -1,5 +1,6 @@
 -- An integer within a range, and one outside.
-use Rattle.std.specs.Prelude.{MatchOption, Option, None, Some, Bool, true, false, nat_le, int_le, ◌&&◌, if◌then◌else◌, ℤ, pos, neg_ℤ, ◌≤ℤ◌, ◌<ℤ◌}
+use Rattle.std.specs.Prelude.{MatchOption, Option, None, Some, Bool, true, false, nat_le, int_le, ◌&&◌, if◌then◌else◌}
+use Rattle.std.specs.Prelude.{ℤ, pos, neg_ℤ, ◌≤ℤ◌, ◌<ℤ◌}
 use mathlib.Core.Bool.{true≢false}
 use Rattle.std.specs.Bool.{Decides}
 use Rattle.std.proofs.Common.{◌≡◌, ℕ, ◌-◌, ◌^◌, ◌<◌, ◌≤◌, List, refl, sym, ap, ◌∙◌, arith, ◌⊎◌, inl, inr}
@@ -40,7 +41,8 @@ pub in_range-outside : (low high z : ℤ) → ¬ ((low ≤ℤ z) × (z ≤ℤ hi
 in_range-outside low high z n = dropped _ _ z (within-Decides low high z) n
 
 -- what passes the test was there
-kept : {A : Type 0} (t : Bool) (P : Type 0) (x y : A) → Decides t P → (if t then Some x else None) ≡ Some y → P × (x ≡ y)
+kept : {A : Type 0} (t : Bool) (P : Type 0) (x y : A) → Decides t P → (if t then Some x else None) ≡ Some y
+    → P × (x ≡ y)
 kept true P x y d e = (d.0 refl, same_Some x y e)
 kept false P x y d e = absurd (none-some y e)
 
@@ -94,8 +96,11 @@ too_large false low high n h p = omega (arith, ints, h.0, p.1)
 large : (n : ℕ) → 2 ^ 128 - 1 < n → (pos (2 ^ 127 - 1) <ℤ pos n) × (neg_ℤ (pos n) <ℤ neg_ℤ (pos (2 ^ 127)))
 large n h = (omega (arith, ints, h), omega (arith, ints, h))
 
-under_sign-none : (s : Sign) (n : ℕ) → 2 ^ 128 - 1 < n → in_range (neg_ℤ (pos (2 ^ 127))) (pos (2 ^ 127 - 1)) (Some (signed s n)) ≡ None
-under_sign-none s n h = rw (signed-is s n) (in_range-outside (neg_ℤ (pos (2 ^ 127))) (pos (2 ^ 127 - 1)) _ (too_large (is_minus s) _ _ n (large n h)))
+under_sign-none : (s : Sign) (n : ℕ) → 2 ^ 128 - 1 < n
+    → in_range (neg_ℤ (pos (2 ^ 127))) (pos (2 ^ 127 - 1)) (Some (signed s n)) ≡ None
+under_sign-none s n h =
+    rw (signed-is s n)
+        (in_range-outside (neg_ℤ (pos (2 ^ 127))) (pos (2 ^ 127 - 1)) _ (too_large (is_minus s) _ _ n (large n h)))
 
 -- the integer of a text whose number is too large, or is none
 pub integer_of-none : (text body : List ℕ) → body ≡ unsigned_part text → None ≡ up_to (2 ^ 128 - 1) (number_of body)
@@ -107,17 +112,21 @@ integer_of-none text body b e = elim (up_to-above (2 ^ 128 - 1) (number_of body)
 
 pub integer_of-some : (low high : ℤ) (most : ℕ) (text body : List ℕ) (negative : Bool) (size : ℕ) (r : Option ℤ)
     → body ≡ unsigned_part text → negative ≡ is_minus (sign_of text) → Some size ≡ up_to most (number_of body)
-    → r ≡ in_range low high (Some (if negative then neg_ℤ (pos size) else pos size)) → r ≡ in_range low high (integer_of text)
+    → r ≡ in_range low high (Some (if negative then neg_ℤ (pos size) else pos size))
+    → r ≡ in_range low high (integer_of text)
 integer_of-some low high most text body negative size r b s e h =
     rw (← b, up_to-found most (number_of body) size (sym e), signed-is (sign_of text) size, ← s) h
 
 pub negative_of-decimal : (low high : ℤ) (most : ℕ) (text body : List ℕ) (negative : Bool) (size : ℕ) (r : Option ℤ)
-    → body ≡ unsigned_part text → negative ≡ is_minus (sign_of text) → negative ≡ false → Some size ≡ up_to most (number_in decimal body)
-    → r ≡ in_range low high (Some (if negative then neg_ℤ (pos size) else pos size)) → r ≡ in_range low high (negative_of text)
+    → body ≡ unsigned_part text → negative ≡ is_minus (sign_of text) → negative ≡ false
+    → Some size ≡ up_to most (number_in decimal body)
+    → r ≡ in_range low high (Some (if negative then neg_ℤ (pos size) else pos size))
+    → r ≡ in_range low high (negative_of text)
 negative_of-decimal low high most text body negative size r b s n e h =
     rw (sym s ∙ n, ← b, up_to-found most (number_in decimal body) size (sym e)) (rw n at h)
 
-pub up_to-twice : (high most : ℕ) (o v r : Option ℕ) → most ≤ high → v ≡ up_to high o → r ≡ up_to most v → r ≡ up_to most o
+pub up_to-twice : (high most : ℕ) (o v r : Option ℕ) → most ≤ high → v ≡ up_to high o → r ≡ up_to most v
+    → r ≡ up_to most o
 up_to-twice high most o (Some n) r h e f = rw (up_to-found high o n (sym e)) f
 up_to-twice high most o None r h e f = elim (up_to-above high o (sym e)) [
     inl none ↦ rw none f
@@ -131,7 +140,8 @@ in_range-twice low high least most o None r l h e f = f ∙ sym (in_range-narrow
 in_range-twice low high least most o (Some z) r l h e f = rw (in_range-found low high o z (sym e)) f
 
 -- what a range keeps of a value with a meaning
-pub in_range-exact : (P : ℤ → Type 0) (low high : ℤ) (o r : Option ℤ) → ((z : ℤ) → (o ≡ Some z → P z) × (P z → o ≡ Some z))
+pub in_range-exact : (P : ℤ → Type 0) (low high : ℤ) (o r : Option ℤ)
+    → ((z : ℤ) → (o ≡ Some z → P z) × (P z → o ≡ Some z))
     → r ≡ in_range low high o
     → MatchOption r ((z : ℤ) → low ≤ℤ z → z ≤ℤ high → ¬ (P z)) (λ z. P z × (low ≤ℤ z) × (z ≤ℤ high))
 in_range-exact P low high o (Some z) h e = let f = in_range-found low high o z (sym e) in

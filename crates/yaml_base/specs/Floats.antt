@@ -1,5 +1,6 @@
 -- Float text: digits with an optional point and an optional exponent, or a word; and digits behind a zero.
-use Rattle.std.specs.Prelude.{◌≡◌, ◌⊎◌, ℕ, ◌+◌, ◌<◌, ◌≤◌, Bool, true, false, ◌==◌, ◌&&◌, ◌||◌, nat_lt, nat_le, bytes_eq, List, [], ◌∷◌, ◌++◌, length, take, drop, slice_index, codes, position, count_by}
+use Rattle.std.specs.Prelude.{◌≡◌, ◌⊎◌, ℕ, ◌+◌, ◌<◌, ◌≤◌, Bool, true, false, ◌==◌, ◌&&◌, ◌||◌, nat_lt, nat_le, bytes_eq}
+use Rattle.std.specs.Prelude.{List, [], ◌∷◌, ◌++◌, length, take, drop, slice_index, codes, position, count_by}
 use Rattle.std.specs.Char.{is_ascii_digit}
 use Rattle.std.specs.List.{list_all, list_any}
 use Rattle.std.specs.Option.{option_map_or}
@@ -41,7 +42,8 @@ is_nan_word text = bytes_eq text (codes ".nan") || (bytes_eq text (codes ".NaN")
 -- a decimal float or a word for infinity behind an optional sign, or a word for no number
 pub data IsFloatText (text : List ℕ) : Type 0 where
   decimal : (sign : Sign) (body : List ℕ) → text ≡ sign_text sign ++ body → IsDecimalFloat body → IsFloatText text
-  infinity : (sign : Sign) (body : List ℕ) → text ≡ sign_text sign ++ body → is_infinity_word body ≡ true → IsFloatText text
+  infinity : (sign : Sign) (body : List ℕ) → text ≡ sign_text sign ++ body → is_infinity_word body ≡ true
+      → IsFloatText text
   nan : is_nan_word text ≡ true → IsFloatText text
 
 -- behind an optional sign two decimal digits or more, of which the first is zero

@@ -11,4 +11,6 @@ pub data HasLocalName (tag name : List ℕ) : Type 0 where
 abbrev pub local_name : List ℕ → Option (List ℕ)
 local_name [] = None
 local_name (c ∷ rest) =
-    if c == 33 then (if length rest == 0 then Some (codes "!") else (if is_utf8 rest then Some rest else None)) else None
+    if c == 33
+    then (if length rest == 0 then Some (codes "!") else (if is_utf8 rest then Some rest else None))
+    else None

@@ -1,7 +1,9 @@
 //! Integer text: an optional sign, then digits of one of four bases.
 
-ghost use Rattle.std.specs.Prelude.{◌≡◌, ◌^◌, ◌-◌, ◌≤◌, ℕ, ℤ, pos, neg_ℤ, ◌≤ℤ◌, ◌↔◌, List, MatchOption, Some, if◌then◌else◌};
-ghost use Rattle.yaml_base.specs.Integers.{number_in, number_of, digits_number, decimal as decimal_base, integer_of, unsigned_of, negative_of};
+ghost use Rattle.std.specs.Prelude.{◌≡◌, ◌^◌, ◌-◌, ◌≤◌, ℕ, ℤ, pos, neg_ℤ, ◌≤ℤ◌, ◌↔◌, List, MatchOption, Some};
+ghost use Rattle.std.specs.Prelude.{if◌then◌else◌};
+ghost use Rattle.yaml_base.specs.Integers.{number_in, number_of, digits_number, decimal as decimal_base, integer_of};
+ghost use Rattle.yaml_base.specs.Integers.{unsigned_of, negative_of};
 ghost use Rattle.yaml_base.specs.Integers.{in_range, up_to, IsIntegerText, IsUnsignedText, IsNegativeText};
 
 use super::sign::{after_prefix, split_sign};
@@ -104,7 +106,8 @@ fn within(value: Option<i128>, min: i128, max: i128) -> Option<i128>
 /// The number that the text writes, where it is integer text without a minus and the number is not above `max`.
 pub fn parse_unsigned_int(scalar: &str, max: u128) -> Option<u128>
     ensures value { result ≡ up_to max (unsigned_of scalar.now) }
-    ensures exact { MatchOption result ((n : ℕ) → n ≤ max → ¬ (IsUnsignedText scalar.now n))
+    ensures exact { MatchOption result
+        ((n : ℕ) → n ≤ max → ¬ (IsUnsignedText scalar.now n))
         (λ n. IsUnsignedText scalar.now n × (n ≤ max)) }
 {
     at_most(unsigned(scalar), max)
@@ -113,16 +116,18 @@ pub fn parse_unsigned_int(scalar: &str, max: u128) -> Option<u128>
 /// The integer that the text writes, where it is integer text and the integer lies from `min` to `max`.
 pub fn parse_signed_int(scalar: &str, min: i128, max: i128) -> Option<i128>
     ensures value { result ≡ in_range min max (integer_of scalar.now) }
-    ensures exact { MatchOption result ((z : ℤ) → min ≤ℤ z → z ≤ℤ max → ¬ (IsIntegerText scalar.now z))
+    ensures exact { MatchOption result
+        ((z : ℤ) → min ≤ℤ z → z ≤ℤ max → ¬ (IsIntegerText scalar.now z))
         (λ z. IsIntegerText scalar.now z × (min ≤ℤ z) × (z ≤ℤ max)) }
 {
     within(integer(scalar), min, max)
 }
 
-/// The same of decimal text with any sign, and of text with a prefix where a minus stands in front.
+/// The integer that the text writes, where it is decimal, or has a minus before its prefix, and lies from `min` to `max`.
 pub fn parse_negative_int(scalar: &str, min: i128, max: i128) -> Option<i128>
     ensures value { result ≡ in_range min max (negative_of scalar.now) }
-    ensures exact { MatchOption result ((z : ℤ) → min ≤ℤ z → z ≤ℤ max → ¬ (IsNegativeText scalar.now z))
+    ensures exact { MatchOption result
+        ((z : ℤ) → min ≤ℤ z → z ≤ℤ max → ¬ (IsNegativeText scalar.now z))
         (λ z. IsNegativeText scalar.now z × (min ≤ℤ z) × (z ≤ℤ max)) }
 {
     within(negative(scalar), min, max)
@@ -132,6 +137,7 @@ pub fn parse_negative_int(scalar: &str, min: i128, max: i128) -> Option<i128>
 pub fn integers_have_their_grammar()
     ensures any_sign { (text : List ℕ) (z : ℤ) → (integer_of text ≡ Some z) ↔ IsIntegerText text z }
     ensures no_minus { (text : List ℕ) (n : ℕ) → (unsigned_of text ≡ Some n) ↔ IsUnsignedText text n }
-    ensures decimal_or_minus { (text : List ℕ) (z : ℤ) → (negative_of text ≡ Some z) ↔ IsNegativeText text z }
+    ensures decimal_or_minus { (text : List ℕ) (z : ℤ)
+        → (negative_of text ≡ Some z) ↔ IsNegativeText text z }
 {
 }

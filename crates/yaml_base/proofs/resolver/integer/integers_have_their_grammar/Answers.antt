@@ -1,4 +1,5 @@
-use Rattle.yaml_base.proofs.IntegerLaws.{integer_of-sound, integer_of-complete, unsigned_of-sound, unsigned_of-complete, negative_of-sound, negative_of-complete}
+use Rattle.yaml_base.proofs.IntegerLaws.{integer_of-sound, integer_of-complete, unsigned_of-sound, unsigned_of-complete}
+use Rattle.yaml_base.proofs.IntegerLaws.{negative_of-sound, negative_of-complete}
 use Rattle.yaml_base.proofs.resolver.integer.integers_have_their_grammar.Goals as goal
 
 pub returns : goal.returns
