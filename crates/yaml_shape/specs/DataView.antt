@@ -5,7 +5,6 @@ use Rattle.yaml_shape.specs.declared.text.Text.{Text}
 use Rattle.yaml_shape.specs.declared.text.Text.TheVariants.{Borrowed, Owned}
 use Rattle.yaml_shape.specs.declared.data.Data.{Data, fold-Data}
 use Rattle.yaml_shape.specs.declared.data.Data.TheOpen.{Data-F, Entry-F}
-use Rattle.yaml_shape.specs.declared.data.Entry.{Entry}
 
 -- the plain data of a text
 abbrev pub text_of : Text → PlainData

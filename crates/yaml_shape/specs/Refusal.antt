@@ -1,5 +1,5 @@
 -- Why a table of shapes is refused.
-use Rattle.std.specs.Prelude.{ℕ, ◌<◌, ◌≤◌, ◌≡◌, List, length, take, Some, IfSome, slice_get}
+use Rattle.std.specs.Prelude.{ℕ, ◌<◌, ◌≤◌, List, length, take, IfSome}
 use Rattle.yaml_shape.specs.PlainShape.{PlainShape, shape_at}
 use Rattle.yaml_shape.specs.Validity.{NamesWithin, AllNameWithin}
 use Rattle.yaml_shape.specs.declared.fault.SchemaFault.{SchemaFault}
