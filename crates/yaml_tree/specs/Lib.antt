@@ -1,0 +1,11 @@
+pub mod Tree
+pub mod Integer
+pub mod Number
+pub mod Tag
+pub mod Equal
+pub mod Mapping
+pub mod Code
+pub mod Valid
+pub mod TagView
+pub mod View
+pub mod Falls
