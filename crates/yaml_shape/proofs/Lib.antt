@@ -1,1 +1,4 @@
 -- Lemmas of this crate.
+pub mod NumberLaws
+pub mod FirstLaws
+pub mod DistinctLaws

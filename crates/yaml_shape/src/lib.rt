@@ -3,6 +3,8 @@
 
 mod data;
 mod fault;
+mod names;
+mod numbers;
 mod schema;
 mod shape;
 mod text;
@@ -10,5 +12,5 @@ mod text;
 pub use data::{Data, Entry};
 pub use fault::SchemaFault;
 pub use schema::Schema;
-pub use shape::{Shape, ShapeId};
+pub use shape::{Shape, ShapeId, VariantShape};
 pub use text::Text;

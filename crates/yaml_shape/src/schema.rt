@@ -1,15 +1,12 @@
 //! Tables of shapes that name only each other.
 
-ghost use Rattle.std.specs.Prelude.{◌≡◌, ◌<◌, ◌↔◌, map, length, IsTrue, IsNone, IfSome, IfOk, IfErr};
+ghost use Rattle.std.specs.Prelude.{◌≡◌, ◌<◌, ◌↔◌, length, IsTrue};
 ghost use Rattle.std.specs.Option.{option_map};
 ghost use Rattle.yaml_shape.specs.PlainShape.{shape_at};
 ghost use Rattle.yaml_shape.specs.ShapeView.{shape_of};
-ghost use Rattle.yaml_shape.specs.Validity.{IsValidSchema, NamesWithin, AllNameWithin};
-ghost use Rattle.yaml_shape.specs.Refusal.{IsFirstOutside, IsRefused};
+ghost use Rattle.yaml_shape.specs.Validity.{IsValidSchema};
 
-use crate::fault::SchemaFault;
 use crate::shape::{Shape, ShapeId};
-use std::alloc::Global;
 use std::marker::Model;
 
 /// The most shapes that a schema has.
@@ -35,47 +32,7 @@ impl Model for Schema {
     ghost invariant = { λ s. IsValidSchema (map shape_of s.shapes.items) };
 }
 
-// Whether each number that the shape names is below the size.
-fn names_within(shape: &Shape, size: usize) -> bool
-    ensures { IsTrue result ↔ NamesWithin size (shape_of shape.now) }
-{
-    let within = |id: ShapeId| (id.0 as usize) < size;
-    match shape {
-        Shape::Bool | Shape::I64 | Shape::Str => true,
-        Shape::Seq(element) => within(*element),
-        Shape::Map(key, value) => within(*key) && within(*value),
-    }
-}
-
-// The first shape that names a number outside the table, if there is one.
-fn first_outside(shapes: &[Shape]) -> Option<usize>
-    ensures none { IsNone result → AllNameWithin (length shapes.now) (map shape_of shapes.now) }
-    ensures first { IfSome result (IsFirstOutside (map shape_of shapes.now)) }
-{
-    for number in 0..shapes.len() {
-        if !names_within(&shapes[number], shapes.len()) {
-            return Some(number);
-        }
-    }
-    None
-}
-
 impl Schema {
-    /// The schema of these shapes, each named by its place. Of several faults the first of `S4`, `S1`, `S3`, `S2` is answered;
-    /// `S5` may be answered in place of any. The shapes are dropped on refusal.
-    pub fn new(_alloc: Global, shapes: Vec<Shape>) -> Result<Schema, SchemaFault>
-        ensures ok { IfOk result (λ schema. (schema ≡ map shape_of shapes.items) × IsValidSchema schema) }
-        ensures refused { IfErr result (IsRefused (map shape_of shapes.items)) }
-    {
-        if shapes.len() > SHAPES {
-            return Err(SchemaFault::S4);
-        }
-        match first_outside(&shapes) {
-            Some(number) => Err(SchemaFault::S1(number as u32)),
-            None => Ok(Schema { shapes }),
-        }
-    }
-
     /// Does nothing. A proof that calls it learns that this schema is valid, as each is from its making on.
     pub fn is_valid(&self)
         ensures { IsValidSchema self.now }

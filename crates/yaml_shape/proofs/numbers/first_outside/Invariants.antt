@@ -2,7 +2,7 @@
 use Rattle.std.specs.Prelude.{length, take, All}
 use Rattle.yaml_shape.specs.ShapeView.{shape_of}
 use Rattle.yaml_shape.specs.Validity.{NamesWithin}
-use Rattle.yaml_shape.proofs.schema.first_outside.Given as goal
+use Rattle.yaml_shape.proofs.numbers.first_outside.Given as goal
 
 -- each shape before this one names only numbers in the table
 abbrev pub invariant-loop-number : goal.invariant-loop-number
