@@ -2,3 +2,6 @@
 pub mod NumberLaws
 pub mod FirstLaws
 pub mod DistinctLaws
+mod Pigeons
+pub mod WalkLaws
+pub mod StepLaws

@@ -8,6 +8,7 @@ mod numbers;
 mod schema;
 mod shape;
 mod text;
+mod walks;
 
 pub use data::{Data, Entry};
 pub use fault::SchemaFault;
