@@ -5,3 +5,4 @@ pub mod DistinctLaws
 mod Pigeons
 pub mod WalkLaws
 pub mod StepLaws
+pub mod Ranks

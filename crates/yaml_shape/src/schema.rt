@@ -1,12 +1,19 @@
 //! Tables of shapes that name only each other.
 
-ghost use Rattle.std.specs.Prelude.{◌≡◌, ◌<◌, ◌↔◌, length, IsTrue};
+ghost use Rattle.std.specs.Prelude.{◌≡◌, ◌<◌, ◌≤◌, ◌↔◌, ℕ, map, length, Some, IsTrue, IfOk, IfErr};
 ghost use Rattle.std.specs.Option.{option_map};
-ghost use Rattle.yaml_shape.specs.PlainShape.{shape_at};
+ghost use Rattle.yaml_shape.specs.PlainShape.{option_shape, shape_at};
 ghost use Rattle.yaml_shape.specs.ShapeView.{shape_of};
 ghost use Rattle.yaml_shape.specs.Validity.{IsValidSchema};
+ghost use Rattle.yaml_shape.specs.Refusal.{IsRefused};
+ghost use Rattle.yaml_shape.specs.Walks.{rank};
 
+use crate::fault::SchemaFault;
+use crate::names::first_repeated;
+use crate::numbers::first_outside;
 use crate::shape::{Shape, ShapeId};
+use crate::walks::first_cycle;
+use std::alloc::Global;
 use std::marker::Model;
 
 /// The most shapes that a schema has.
@@ -33,11 +40,41 @@ impl Model for Schema {
 }
 
 impl Schema {
+    /// The schema of these shapes, each named by its place. Of several faults the first of `S4`, `S1`, `S3`, `S2` is answered, with
+    /// the least shape concerned; `S5` may be answered in place of any. The shapes are dropped on refusal.
+    pub fn new(alloc: Global, shapes: Vec<Shape>) -> Result<Schema, SchemaFault>
+        ensures ok { IfOk result (λ schema. (schema ≡ map shape_of shapes.items) × IsValidSchema schema) }
+        ensures refused { IfErr result (IsRefused (map shape_of shapes.items)) }
+    {
+        if shapes.len() > SHAPES {
+            return Err(SchemaFault::S4);
+        }
+        if let Some(number) = first_outside(&shapes) {
+            return Err(SchemaFault::S1(number as u32));
+        }
+        if let Some(number) = first_repeated(alloc, &shapes)? {
+            return Err(SchemaFault::S3(number as u32));
+        }
+        if let Some(number) = first_cycle(alloc, &shapes)? {
+            return Err(SchemaFault::S2(number as u32));
+        }
+        Ok(Schema { shapes })
+    }
+
     /// Does nothing. A proof that calls it learns that this schema is valid, as each is from its making on.
     pub fn is_valid(&self)
         ensures { IsValidSchema self.now }
     {
         let _shapes = &self.shapes;
+    }
+
+    /// Does nothing. A proof that calls it learns that ranks fall along optionals, so that each walk through optionals ends.
+    pub fn optionals_end(&self)
+        ensures small { (id : ℕ) → rank self.now id ≤ 4096 }
+        ensures falls { (id content : ℕ) → shape_at self.now id ≡ Some (option_shape content)
+            → rank self.now content < rank self.now id }
+    {
+        self.is_valid();
     }
 
     /// Whether the number names a shape of this schema.
