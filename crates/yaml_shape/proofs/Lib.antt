@@ -6,3 +6,4 @@ mod Pigeons
 pub mod WalkLaws
 pub mod StepLaws
 pub mod Ranks
+pub mod DataLaws

@@ -3,6 +3,7 @@
 
 mod data;
 mod fault;
+mod has_shape;
 mod names;
 mod numbers;
 mod schema;
