@@ -9,6 +9,7 @@ mod numbers;
 mod schema;
 mod shape;
 mod text;
+mod typed;
 mod walks;
 
 pub use data::{Data, Entry};
@@ -16,3 +17,4 @@ pub use fault::SchemaFault;
 pub use schema::Schema;
 pub use shape::{Shape, ShapeId, VariantShape};
 pub use text::Text;
+pub use typed::Typed;
