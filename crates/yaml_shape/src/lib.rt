@@ -2,6 +2,7 @@
 #![tactic(auto)]
 
 mod data;
+mod expected;
 mod fault;
 mod has_shape;
 mod names;
@@ -13,6 +14,9 @@ mod typed;
 mod walks;
 
 pub use data::{Data, Entry};
+pub use expected::{
+    sequence_of, struct_variant, tuple_struct_with, tuple_variant, tuple_variant_with,
+};
 pub use fault::SchemaFault;
 pub use schema::Schema;
 pub use shape::{Shape, ShapeId, VariantShape};

@@ -84,6 +84,14 @@ impl Schema {
         (id.0 as usize) < self.shapes.len()
     }
 
+    // The shape with this number.
+    pub(crate) fn at(&self, id: ShapeId) -> &Shape
+        requires { id.0 < length self.now }
+        ensures { shape_at self.now id.0 ≡ Some (shape_of result.now) }
+    {
+        &self.shapes[id.0 as usize]
+    }
+
     /// The shape with this number, or `None` where there is none.
     pub fn shape(&self, id: ShapeId) -> Option<&Shape>
         ensures found { option_map (λ s. shape_of s.now) result ≡ shape_at self.now id.0 }
