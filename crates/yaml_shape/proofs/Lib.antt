@@ -7,3 +7,4 @@ pub mod WalkLaws
 pub mod StepLaws
 pub mod Ranks
 pub mod DataLaws
+pub mod RaiseLaws

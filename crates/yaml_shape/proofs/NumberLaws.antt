@@ -60,3 +60,13 @@ pub tests_variants : (size : ℕ) (variants : List (String Global × VariantShap
     → (IsTrue b ↔ All (λ v. All (λ id. id < size) (named_in (content_of v.1))) variants)
     → (IsTrue b ↔ All (λ id. id < size) (flat_map (λ v. named_in v.1) (variants_of variants)))
 tests_variants size variants b h = tests_flat (λ id. id < size) (λ v. named_in v.1) variant_of variants b h
+
+-- what is so of each number that fields name
+pub All-from_fields : (P : ℕ → Type 0) (fields : List (String Global × ShapeId)) → All P (numbers_of (fields_of fields)) → All (λ f. P f.1.0) fields
+All-from_fields P fields h = All-from_map (λ f. P f.1) field_of fields (All-from_map P (λ f. f.1) (fields_of fields) h)
+
+-- what is so of each number that variants name
+pub All-from_variants : (P : ℕ → Type 0) (variants : List (String Global × VariantShape))
+    → All P (flat_map (λ v. named_in v.1) (variants_of variants)) → All (λ v. All P (named_in (content_of v.1))) variants
+All-from_variants P variants h =
+    All-from_map (λ v. All P (named_in v.1)) variant_of variants (All-from_flat_map P (λ v. named_in v.1) (variants_of variants) h)

@@ -7,6 +7,7 @@ mod fault;
 mod has_shape;
 mod names;
 mod numbers;
+mod raise;
 mod schema;
 mod shape;
 mod text;
