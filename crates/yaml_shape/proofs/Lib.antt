@@ -8,3 +8,5 @@ pub mod StepLaws
 pub mod Ranks
 pub mod DataLaws
 pub mod RaiseLaws
+pub mod JoinLaws
+pub mod JoinWalks
