@@ -35,5 +35,5 @@ pub returns-in-Some-clause-faults : goal.returns-in-Some-clause-faults
 returns-in-Some-clause-faults c =
     IfErr-weaker c.deserialize.result _ _ (λ fault faults document tree h other.
     let same = same_first c.in-Some.document document _ (sym c.in-Some.ensures.items ∙ c.self.view_is ∙ h.0) in
-    subst (λ (d : PlainDocument). IsReadingFault (slice_get d.events) fault) same (faults tree (subst (λ d. IsTreeOf d tree) (sym same) h.1) other))
+    subst (λ (d : PlainDocument). IsReadingFault c.args.schema.now (slice_get d.events) fault) same (faults tree (subst (λ d. IsTreeOf d tree) (sym same) h.1) other))
     c.deserialize.ensures.faults
