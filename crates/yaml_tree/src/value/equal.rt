@@ -124,12 +124,12 @@ fn same_items(a: &Sequence, b: &Sequence) -> bool
 fn same_pairs(a: &Mapping, b: &Mapping) -> bool
     ensures { result ≡ pairs_eq (pairs_of a.now) (pairs_of b.now) }
 {
-    let x = a.entries.as_slice();
-    let y = b.entries.as_slice();
-    if x.len() != y.len() {
+    let wanted = a.entries.as_slice();
+    let entries = b.entries.as_slice();
+    if wanted.len() != entries.len() {
         return false;
     }
-    has_all_entries(x, y)
+    has_all_entries(wanted, entries)
 }
 
 // Whether each of these entries is among the others, whose keys are distinct.

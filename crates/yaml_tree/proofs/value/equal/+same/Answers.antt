@@ -36,16 +36,16 @@ same_items-returns-then-x-y t c =
     let right = ap trees_of c.as_slice-y.ensures.value ∙ items_of-view _ _ c.b.view_is in
     sym (trees_eq-lengths _ _ c.if-x-y.true) ∙ (λ i. trees_eq (left i) (right i))
 
-pub same_pairs-returns-then-x-y : goal.same_pairs-returns-then-x-y
-same_pairs-returns-then-x-y t c =
-    let left = ap entry_pairs c.as_slice-x.ensures.value ∙ pairs_of-view _ _ c.a.view_is c.a.invariant in
-    let right = ap entry_pairs c.as_slice-y.ensures.value ∙ pairs_of-view _ _ c.b.view_is c.b.invariant in
-    sym (pairs_eq-lengths _ _ c.if-x-y.true) ∙ (λ i. pairs_eq (left i) (right i))
+pub same_pairs-returns-then-wanted-entries : goal.same_pairs-returns-then-wanted-entries
+same_pairs-returns-then-wanted-entries t c =
+    let left = ap entry_pairs c.as_slice-wanted.ensures.value ∙ pairs_of-view _ _ c.a.view_is c.a.invariant in
+    let right = ap entry_pairs c.as_slice-entries.ensures.value ∙ pairs_of-view _ _ c.b.view_is c.b.invariant in
+    sym (pairs_eq-lengths _ _ c.if-wanted-entries.true) ∙ (λ i. pairs_eq (left i) (right i))
 
 pub same_pairs-returns : goal.same_pairs-returns
 same_pairs-returns t c =
-    let left = ap entry_pairs c.as_slice-x.ensures.value ∙ pairs_of-view _ _ c.a.view_is c.a.invariant in
-    let right = ap entry_pairs c.as_slice-y.ensures.value ∙ pairs_of-view _ _ c.b.view_is c.b.invariant in
-    let distinct = ap (λ es. keys_distinct (entry_pairs es)) c.as_slice-x.ensures.value ∙ c.a.invariant in
+    let left = ap entry_pairs c.as_slice-wanted.ensures.value ∙ pairs_of-view _ _ c.a.view_is c.a.invariant in
+    let right = ap entry_pairs c.as_slice-entries.ensures.value ∙ pairs_of-view _ _ c.b.view_is c.b.invariant in
+    let distinct = ap (λ es. keys_distinct (entry_pairs es)) c.as_slice-wanted.ensures.value ∙ c.a.invariant in
     c.has_all_entries.ensures
-    ∙ (sym (pairs_eq-entries _ _ distinct c.if-x-y.false) ∙ (λ i. pairs_eq (left i) (right i)))
+    ∙ (sym (pairs_eq-entries _ _ distinct c.if-wanted-entries.false) ∙ (λ i. pairs_eq (left i) (right i)))
