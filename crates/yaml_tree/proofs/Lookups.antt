@@ -53,7 +53,8 @@ HoldsAt k es i =
 abbrev pub HoldsNot : Tree → List Entry → Type 0
 HoldsNot k es =
     (value_at k (entry_pairs es) ≡ None)
-    × ((c v : Value) → k ≡ tree_of c → with_pair k (tree_of v) (entry_pairs es) ≡ entry_pairs (es ++ new_entry c v ∷ []))
+    × ((c v : Value) → k ≡ tree_of c
+      → with_pair k (tree_of v) (entry_pairs es) ≡ entry_pairs (es ++ new_entry c v ∷ []))
 
 -- what a place or none says
 abbrev pub Holds : Tree → List Entry → Option ℕ → Type 0

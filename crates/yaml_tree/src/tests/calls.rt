@@ -62,7 +62,12 @@ fn tags(rt: HostRuntime) -> Result<(), Fail> {
 }
 
 // Whether the value at a key is this.
-fn is_at(alloc: Global, mapping: &Mapping, key: &Plain, wanted: &Option<Plain>) -> Result<bool, Fail> {
+fn is_at(
+    alloc: Global,
+    mapping: &Mapping,
+    key: &Plain,
+    wanted: &Option<Plain>,
+) -> Result<bool, Fail> {
     let key = value(alloc, key)?;
     match (mapping.get(&key), wanted) {
         (Some(found), Some(wanted)) => Ok(*found == value(alloc, wanted)?),

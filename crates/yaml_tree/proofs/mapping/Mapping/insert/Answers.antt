@@ -12,16 +12,16 @@ use Rattle.yaml_tree.proofs.Lookups.{keys_distinct-with_pair}
 use Rattle.yaml_tree.proofs.Views.{pairs_of-view}
 use Rattle.yaml_tree.proofs.mapping.Mapping.insert.Goals as goal
 
-distinct : (r : Result (Option Value) TreeFault) (old new : List Entry) (k v : Tree) → keys_distinct (entry_pairs old) ≡ true
-    → OnOk r (entry_pairs new ≡ with_pair k v (entry_pairs old)) → OnErr r (new ≡ old)
+distinct : (r : Result (Option Value) TreeFault) (old new : List Entry) (k v : Tree)
+    → keys_distinct (entry_pairs old) ≡ true → OnOk r (entry_pairs new ≡ with_pair k v (entry_pairs old)) → OnErr r (new ≡ old)
     → keys_distinct (entry_pairs new) ≡ true
 distinct (Ok o) old new k v d ok err = ap keys_distinct ok ∙ keys_distinct-with_pair k v (entry_pairs old) d
 distinct (Err f) old new k v d ok err = ap (λ es. keys_distinct (entry_pairs es)) err ∙ d
 
 pub invariant_of-self : goal.invariant_of-self
 invariant_of-self c =
-    distinct c.put.result c.self.inside.entries.items c.put.new.entries.items (tree_of c.args.key) (tree_of c.args.value)
-      c.self.invariant c.put.ensures.ok c.put.ensures.err
+    distinct c.put.result c.self.inside.entries.items c.put.new.entries.items
+      (tree_of c.args.key) (tree_of c.args.value) c.self.invariant c.put.ensures.ok c.put.ensures.err
 
 pub returns-clause-ok : goal.returns-clause-ok
 returns-clause-ok c =

@@ -10,8 +10,8 @@ use Rattle.yaml_tree.proofs.value.equal.+same.Goals as goal
 pub find_near-returns-then-same_value-clause-place : goal.find_near-returns-then-same_value-clause-place
 find_near-returns-then-same_value-clause-place t c =
     let k = tree_of c.args.key.now in
-    sym (place_of-guess k c.args.entries.now c.args.guess c.index-entries-guess.result c.requires c.if-guess-entries.true
-      (sym c.same_value.ensures ∙ c.if-same_value.true))
+    sym (place_of-guess k c.args.entries.now c.args.guess c.index-entries-guess.result
+      c.requires c.if-guess-entries.true (sym c.same_value.ensures ∙ c.if-same_value.true))
 
 pub is_among-returns-in-Some : goal.is_among-returns-in-Some
 is_among-returns-in-Some t c =
