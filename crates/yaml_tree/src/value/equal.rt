@@ -1,5 +1,6 @@
 //! Equality of values.
 ghost use Rattle.std.specs.Prelude.{◌≡◌, true, ◌<◌, length, IfSome};
+ghost use Rattle.yaml_tree.specs.Entries.{IsOtherKey};
 ghost use Rattle.yaml_tree.specs.Equal.{pairs_eq, tree_eq, trees_eq};
 ghost use Rattle.yaml_tree.specs.Lookup.{has_all_pairs, has_pair, place_of};
 ghost use Rattle.yaml_tree.specs.Mapping.{keys_distinct};
@@ -129,13 +130,13 @@ fn same_tagged(a: &TaggedValue, b: &TaggedValue) -> bool
 fn same_items(a: &Sequence, b: &Sequence) -> bool
     ensures { result ≡ trees_eq (items_of a.now) (items_of b.now) }
 {
-    let x = a.items.as_slice();
-    let y = b.items.as_slice();
-    if x.len() != y.len() {
+    let left = a.items.as_slice();
+    let right = b.items.as_slice();
+    if left.len() != right.len() {
         return false;
     }
-    for i in 0..x.len() {
-        if !same_value(&x[i], &y[i]) {
+    for i in 0..left.len() {
+        if !same_value(&left[i], &right[i]) {
             return false;
         }
     }
@@ -183,29 +184,42 @@ fn is_among(wanted: &Entry, entries: &[Entry], guess: usize) -> bool
     }
 }
 
-// The place of a key among entries with distinct keys. It is looked for at the guess first.
+// The place of a key among entries with distinct keys. It is looked for at the guess first, and no
+// key is compared twice, since a comparison of deep keys makes such comparisons again.
 #[cycle(same)]
 fn find_near(key: &Value, entries: &[Entry], guess: usize) -> Option<usize>
     requires { keys_distinct (entry_pairs entries.now) ≡ true }
     ensures place { result ≡ place_of (tree_of key.now) (entry_pairs entries.now) }
     ensures within { IfSome result (λ i. i < length entries.now) }
 {
-    if guess < entries.len() && same_value(key, &entries[guess].key) {
+    if guess >= entries.len() {
+        return find_besides(key, entries, guess);
+    }
+    if same_value(key, &entries[guess].key) {
         return Some(guess);
     }
-    find(key, entries)
+    find_besides(key, entries, guess)
 }
 
-/// The place of the first entry with this key.
+// The place of the first entry with this key, where the entry at one place has another key.
 #[cycle(same)]
-pub(crate) fn find(key: &Value, entries: &[Entry]) -> Option<usize>
+fn find_besides(key: &Value, entries: &[Entry], other: usize) -> Option<usize>
+    requires { IsOtherKey (tree_of key.now) entries.now other }
     ensures place { result ≡ place_of (tree_of key.now) (entry_pairs entries.now) }
     ensures within { IfSome result (λ i. i < length entries.now) }
 {
     for (i, entry) in entries.iter().enumerate() {
-        if same_value(key, &entry.key) {
+        if i != other && same_value(key, &entry.key) {
             return Some(i);
         }
     }
     None
+}
+
+/// The place of the first entry with this key.
+pub(crate) fn find(key: &Value, entries: &[Entry]) -> Option<usize>
+    ensures place { result ≡ place_of (tree_of key.now) (entry_pairs entries.now) }
+    ensures within { IfSome result (λ i. i < length entries.now) }
+{
+    find_besides(key, entries, entries.len())
 }

@@ -11,7 +11,7 @@ pub find_near-returns-then-same_value-clause-place : goal.find_near-returns-then
 find_near-returns-then-same_value-clause-place t c =
     let k = tree_of c.args.key.now in
     sym (place_of-guess k c.args.entries.now c.args.guess c.index-entries-guess.result
-      c.requires c.if-guess-entries.true (sym c.same_value.ensures ∙ c.if-same_value.true))
+      c.requires c.if-guess-entries.false (sym c.same_value.ensures ∙ c.if-same_value.true))
 
 pub is_among-returns-in-Some : goal.is_among-returns-in-Some
 is_among-returns-in-Some t c =
@@ -30,11 +30,11 @@ is_among-returns-in-None t c =
     let held = holds_at_found k es es None refl c.in-None.ensures.place in
     sym (has_pair-value_at k v (entry_pairs es) c.requires ∙ ap (is_value_equal v) held.0)
 
-pub same_items-returns-then-x-y : goal.same_items-returns-then-x-y
-same_items-returns-then-x-y t c =
-    let left = ap trees_of c.as_slice-x.ensures.value ∙ items_of-view _ _ c.a.view_is in
-    let right = ap trees_of c.as_slice-y.ensures.value ∙ items_of-view _ _ c.b.view_is in
-    sym (trees_eq-lengths _ _ c.if-x-y.true) ∙ (λ i. trees_eq (left i) (right i))
+pub same_items-returns-then-left-right : goal.same_items-returns-then-left-right
+same_items-returns-then-left-right t c =
+    let left = ap trees_of c.as_slice-left.ensures.value ∙ items_of-view _ _ c.a.view_is in
+    let right = ap trees_of c.as_slice-right.ensures.value ∙ items_of-view _ _ c.b.view_is in
+    sym (trees_eq-lengths _ _ c.if-left-right.true) ∙ (λ i. trees_eq (left i) (right i))
 
 pub same_pairs-returns-then-wanted-entries : goal.same_pairs-returns-then-wanted-entries
 same_pairs-returns-then-wanted-entries t c =
