@@ -13,8 +13,8 @@ use Rattle.yaml_tree.proofs.Views.{pairs_of-view}
 use Rattle.yaml_tree.proofs.mapping.Mapping.insert.Goals as goal
 
 distinct : (r : Result (Option Value) TreeFault) (old new : List Entry) (k v : Tree)
-    → keys_distinct (entry_pairs old) ≡ true → OnOk r (entry_pairs new ≡ with_pair k v (entry_pairs old)) → OnErr r (new ≡ old)
-    → keys_distinct (entry_pairs new) ≡ true
+    → keys_distinct (entry_pairs old) ≡ true → OnOk r (entry_pairs new ≡ with_pair k v (entry_pairs old))
+    → OnErr r (new ≡ old) → keys_distinct (entry_pairs new) ≡ true
 distinct (Ok o) old new k v d ok err = ap keys_distinct ok ∙ keys_distinct-with_pair k v (entry_pairs old) d
 distinct (Err f) old new k v d ok err = ap (λ es. keys_distinct (entry_pairs es)) err ∙ d
 
