@@ -57,5 +57,6 @@ pair_list-with_last no_pairs k v = refl
 pair_list-with_last (pair l w ps) k v = ap (λ qs. (l, w) ∷ qs) (pair_list-with_last ps k v)
 
 -- the keys of a value's mapping are distinct, and its keys and values are values
-pub keys_distinct-value : (ps : Pairs) → is_value (mapping ps) ≡ true → (keys_distinct ps ≡ true) × (are_pairs ps ≡ true)
+pub keys_distinct-value : (ps : Pairs) → is_value (mapping ps) ≡ true
+    → (keys_distinct ps ≡ true) × (are_pairs ps ≡ true)
 keys_distinct-value ps h = (and_left _ _ h, and_right (keys_distinct ps) _ h)

@@ -1,12 +1,12 @@
 -- What the views of sequences and mappings say of the values in them.
-use Rattle.std.specs.Prelude.{◌≡◌, ℕ, zero, suc, ◌+◌, ◌<◌, ◌≤◌, ◌++◌, ◌↔◌, List, [], ◌∷◌, length, refl}
-use Rattle.std.specs.Prelude.{Bool, true, false, IsTrue, Option, Some, None, nat_eq}
+use Rattle.std.specs.Prelude.{◌≡◌, ℕ, zero, suc, ◌<◌, ◌≤◌, ◌++◌, ◌↔◌, List, [], ◌∷◌, length, refl}
+use Rattle.std.specs.Prelude.{Bool, true, false, IsTrue, Some, None, nat_eq}
 use Rattle.std.proofs.Common.{ap, arith, sym, ◌∙◌, get_or}
 use Rattle.std.proofs.lemmas.Bool.Decides.{nat_tests}
 use Rattle.yaml_tree.specs.Equal.{trees_eq, pairs_eq}
 use Rattle.yaml_tree.specs.Lookup.{has_all_pairs}
 use Rattle.yaml_tree.specs.Mapping.{keys_distinct}
-use Rattle.yaml_tree.specs.Tree.{Tree, Trees, no_trees, tree, Pairs, no_pairs, pair, tree_count, pair_count}
+use Rattle.yaml_tree.specs.Tree.{Trees, no_trees, tree, Pairs, no_pairs, pair, tree_count, pair_count}
 use Rattle.yaml_tree.specs.Tree.{tree_at, with_tree}
 use Rattle.yaml_tree.specs.Valid.{ValueTrees, ValuePairs, items_of, pairs_of, value_pairs, pairs_of-value_pairs}
 use Rattle.yaml_tree.specs.View.{tree_of, trees_of, are_values-trees_of, entry_pairs, are_pairs-entry_pairs}

@@ -82,7 +82,7 @@ value_trees_code = coded_sub trees_code (λ ts. are_values ts ≡ true) (λ ts. 
 abbrev pub value_pairs_code : Coded ValuePairs
 value_pairs_code =
     coded_sub pairs_code (λ ps. (keys_distinct ps && are_pairs ps) ≡ true)
-      (λ ps. Coded-set coded_bool (keys_distinct ps && are_pairs ps) true)
+    (λ ps. Coded-set coded_bool (keys_distinct ps && are_pairs ps) true)
 
 -- so is the text of a tag
 abbrev pub tag_text_code : Coded TagText
@@ -102,6 +102,7 @@ pairs_by false ps d h = (no_pairs, refl)
 abbrev pub value_pairs : (ps : Pairs) → are_pairs ps ≡ true → ValuePairs
 value_pairs ps h = pairs_by (keys_distinct ps) ps refl h
 
+-- the pairs of a mapping, where the test of their keys has passed
 pairs_of-pairs_by : (distinct : Bool) (ps : Pairs) (d : keys_distinct ps ≡ distinct) (h : are_pairs ps ≡ true)
     → distinct ≡ true → pairs_of (pairs_by distinct ps d h) ≡ ps
 pairs_of-pairs_by true ps d h e = refl

@@ -55,7 +55,7 @@ impl Model for Mapping {
     ghost size_decreases = { λ m h.
         let es = m.entries.items in
         rw (pairs_of-value_pairs (entry_pairs es) (are_pairs-entry_pairs es) h)
-          (omega (arith, most-Entry_le es)) };
+        (omega (arith, most-Entry_le es)) };
 }
 
 impl Mapping {
@@ -91,10 +91,8 @@ impl Mapping {
 
     /// The value at a key.
     pub fn get(&self, key: &Value) -> Option<&Value>
-        ensures {
-            option_map (λ v. tree_of v.now) result
-            ≡ value_at (tree_of key.now) (pairs_of self.now)
-        }
+        ensures { option_map (λ v. tree_of v.now) result
+            ≡ value_at (tree_of key.now) (pairs_of self.now) }
     {
         let entries = self.entries.as_slice();
         match find(key, entries) {
@@ -107,14 +105,10 @@ impl Mapping {
     /// is there keeps its place, and then no memory is taken. On refusal the key and the value are
     /// dropped.
     pub fn insert(&mut self, key: Value, value: Value) -> Result<Option<Value>, TreeFault>
-        ensures ok {
-            let old = pairs_of self.old in
-            OnOk result (pairs_of self.new ≡ with_pair (tree_of key) (tree_of value) old)
-        }
-        ensures replaced {
-            let found = value_at (tree_of key) (pairs_of self.old) in
-            IfOk result (λ replaced. option_map tree_of replaced ≡ found)
-        }
+        ensures ok { let old = pairs_of self.old in
+            OnOk result (pairs_of self.new ≡ with_pair (tree_of key) (tree_of value) old) }
+        ensures replaced { let found = value_at (tree_of key) (pairs_of self.old) in
+            IfOk result (λ replaced. option_map tree_of replaced ≡ found) }
 
         ensures memory { IfErr result (λ e. e ≡ TreeFault.Memory) }
         // A key that is there is never refused.
@@ -135,18 +129,13 @@ impl Mapping {
 }
 
 fn put(entries: &mut Vec<Entry>, key: Value, value: Value) -> Result<Option<Value>, TreeFault>
-    ensures ok {
-        let old = entry_pairs entries.old.items in
-        OnOk result (entry_pairs entries.new.items ≡ with_pair (tree_of key) (tree_of value) old)
-    }
-    ensures replaced {
-        let found = value_at (tree_of key) (entry_pairs entries.old.items) in
-        IfOk result (λ replaced. option_map tree_of replaced ≡ found)
-    }
+    ensures ok { let old = entry_pairs entries.old.items in
+        OnOk result (entry_pairs entries.new.items ≡ with_pair (tree_of key) (tree_of value) old) }
+    ensures replaced { let found = value_at (tree_of key) (entry_pairs entries.old.items) in
+        IfOk result (λ replaced. option_map tree_of replaced ≡ found) }
     ensures memory { IfErr result (λ e. e ≡ TreeFault.Memory) }
-    ensures only_new {
-        OnErr result (value_at (tree_of key) (entry_pairs entries.old.items) ≡ None)
-    }
+    ensures only_new { let found = value_at (tree_of key) (entry_pairs entries.old.items) in
+        OnErr result (found ≡ None) }
     ensures err { OnErr result (entries.new.items ≡ entries.old.items) }
 {
     match find(&key, entries.as_slice()) {
@@ -163,10 +152,8 @@ fn put(entries: &mut Vec<Entry>, key: Value, value: Value) -> Result<Option<Valu
 
 fn replace_value(entries: &mut Vec<Entry>, i: usize, value: Value) -> Value
     requires { i < length entries.old.items }
-    ensures after {
-        (d : _) → entries.new.items
-          ≡ slice_set entries.old.items i (with_value (slice_index_or entries.old.items i d) value)
-    }
+    ensures after { (d : _) → entries.new.items
+        ≡ slice_set entries.old.items i (with_value (slice_index_or entries.old.items i d) value) }
     ensures answer { (d : _) → result ≡ (slice_index_or entries.old.items i d).value }
 {
     let entry = &mut entries[i];

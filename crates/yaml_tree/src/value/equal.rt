@@ -173,10 +173,8 @@ fn has_all_entries(wanted: &[Entry], entries: &[Entry]) -> bool
 #[cycle(same)]
 fn is_among(wanted: &Entry, entries: &[Entry], guess: usize) -> bool
     requires { keys_distinct (entry_pairs entries.now) ≡ true }
-    ensures {
-        let key = tree_of wanted.now.key in
-        result ≡ has_pair key (tree_of wanted.now.value) (entry_pairs entries.now)
-    }
+    ensures { let key = tree_of wanted.now.key in
+        result ≡ has_pair key (tree_of wanted.now.value) (entry_pairs entries.now) }
 {
     match find_near(&wanted.key, entries, guess) {
         Some(i) => same_value(&wanted.value, &entries[i].value),

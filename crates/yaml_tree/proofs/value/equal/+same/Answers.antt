@@ -1,6 +1,6 @@
 -- Comparing by lengths, by places of keys, and by what the views say.
 use Rattle.std.proofs.Common.{ap, sym, ◌∙◌, refl, Some, None}
-use Rattle.yaml_tree.specs.Equal.{tree_eq, trees_eq, pairs_eq}
+use Rattle.yaml_tree.specs.Equal.{trees_eq, pairs_eq}
 use Rattle.yaml_tree.specs.Mapping.{keys_distinct}
 use Rattle.yaml_tree.specs.View.{tree_of, trees_of, entry_pairs}
 use Rattle.yaml_tree.proofs.Lookups.{holds_at_found, is_value_equal, has_pair-value_at, place_of-guess}
@@ -11,7 +11,7 @@ pub find_near-returns-then-same_value-clause-place : goal.find_near-returns-then
 find_near-returns-then-same_value-clause-place t c =
     let k = tree_of c.args.key.now in
     sym (place_of-guess k c.args.entries.now c.args.guess c.index-entries-guess.result
-      c.requires c.if-guess-entries.false (sym c.same_value.ensures ∙ c.if-same_value.true))
+    c.requires c.if-guess-entries.false (sym c.same_value.ensures ∙ c.if-same_value.true))
 
 pub is_among-returns-in-Some : goal.is_among-returns-in-Some
 is_among-returns-in-Some t c =
