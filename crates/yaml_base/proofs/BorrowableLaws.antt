@@ -24,7 +24,7 @@ pub part-text : (s t : List ℕ) → ends_with nat_eq s t ≡ true
     → take (length s - (length s - length t)) (drop (length s - length t) s) ≡ t
 part-text s t e =
     range_to_end s (length s - length t)
-        ∙ sym ((slice_eq-Decides Decides-eqb t (drop (length s - length t) s) _ refl).0 e)
+    ∙ sym ((slice_eq-Decides Decides-eqb t (drop (length s - length t) s) _ refl).0 e)
 
 pub ends_with-Decides : (s t : List ℕ) → Decides (ends_with nat_eq s t) (EndsIn s t)
 ends_with-Decides s t = let d = ends_is Decides-eqb s t (ends_with nat_eq s t) refl in

@@ -1,15 +1,15 @@
 -- The tests for float text say what its grammar says.
 use mathlib.Core.Bool.{true≢false}
 use mathlib.Core.List.{append-nil}
-use Rattle.std.specs.Prelude.{Option, None, Some, Bool, true, false, not, nat_lt, nat_le, ◌==◌, ◌&&◌, ◌||◌, slice_index}
-use Rattle.std.specs.Prelude.{position, count_by, is_some, codes, bytes_eq}
+use Rattle.std.specs.Prelude.{None, Some, Bool, true, false, nat_lt, ◌==◌, ◌&&◌, ◌||◌, slice_index}
+use Rattle.std.specs.Prelude.{count_by, codes}
 use Rattle.std.specs.Bool.{Decides}
 use Rattle.std.specs.Char.{is_ascii_digit}
 use Rattle.std.specs.Option.{option_map_or}
 use Rattle.std.specs.List.{list_all, list_any, position_or_len}
-use Rattle.std.proofs.Common.{◌≡◌, ◌≢◌, ◌⊎◌, ℕ, zero, suc, ◌+◌, ◌<◌, ◌≤◌, cond, List, [], ◌∷◌, ◌++◌, length, take, drop}
-use Rattle.std.proofs.Common.{get_or, refl, sym, ap, ◌∙◌, arith, subst, inl, inr, length-append}
-use Rattle.std.proofs.lemmas.Bool.Decides.{Decides-eqb, Decides-ltb, Decides-and, Decides-or, Decides-like, nat_tests}
+use Rattle.std.proofs.Common.{◌≡◌, ◌⊎◌, ℕ, zero, suc, ◌+◌, ◌<◌, ◌≤◌, cond, List, [], ◌∷◌, ◌++◌, length, take, drop}
+use Rattle.std.proofs.Common.{get_or, refl, sym, ap, ◌∙◌, arith, inl, inr, length-append}
+use Rattle.std.proofs.lemmas.Bool.Decides.{Decides-eqb, Decides-ltb, Decides-and, Decides-or, Decides-like}
 use Rattle.std.proofs.lemmas.List.Folds.{list_all-append, list_any-append}
 use Rattle.std.proofs.lemmas.List.Sums.{sum_by-cons, sum_by-append, split_at_first, passes_at_first}
 use Rattle.std.proofs.Math.Seq.{take-append_seam, drop-append-add}
@@ -22,7 +22,7 @@ use Rattle.yaml_base.specs.Floats.{has_leading_zero, is_infinity_word, is_nan_wo
 use Rattle.yaml_base.specs.Floats.IsMantissa.{whole, pointed}
 use Rattle.yaml_base.specs.Floats.IsExponent.{absent, present}
 use Rattle.yaml_base.specs.Floats.IsFloatText.{decimal, infinity, nan}
-use Rattle.yaml_base.specs.Signs.{Sign, unsigned, plus, minus, sign_text, sign_of, unsigned_part}
+use Rattle.yaml_base.specs.Signs.{unsigned, sign_text, sign_of, unsigned_part}
 
 digit-Decides : (c : ℕ) → Decides (is_ascii_digit c) ((48 ≤ c) × (c ≤ 57))
 digit-Decides c = Decides-and _ _ (le-Decides 48 c) (le-Decides c 57)
@@ -63,13 +63,15 @@ parts (c ∷ cs) h =
     by : (d p : Bool) → Decides d ((48 ≤ c) × (c ≤ 57)) → Decides p (c ≡ 46) → points (c ∷ cs) ≡ cond p 1 0 + points cs
         → (points cs ≡ 0 → AllDecimal cs) × (points cs ≡ 1 → IsPointed cs) → ((48 ≤ c) × (c ≤ 57)) ⊎ (c ≡ 46)
         → (points (c ∷ cs) ≡ 0 → AllDecimal (c ∷ cs)) × (points (c ∷ cs) ≡ 1 → IsPointed (c ∷ cs))
-    by d true e q n more k =
-        ((λ z. absurd (omega (arith, z, n))),
-        (λ o. ([], cs, ap (λ x. x ∷ cs) (q.0 refl), tt, more.0 (omega (arith, o, n)))))
+    by d true e q n more k = (
+      (λ z. absurd (omega (arith, z, n))),
+      (λ o. ([], cs, ap (λ x. x ∷ cs) (q.0 refl), tt, more.0 (omega (arith, o, n)))),
+    )
     by d false e q n more (inr k) = absurd (true≢false (sym (q.1 k)))
-    by d false e q n more (inl k) =
-        ((λ z. (k, more.0 (omega (arith, z, n)))),
-        (λ o. let s = more.1 (omega (arith, o, n)) in (c ∷ s.0, s.1, ap (λ x. c ∷ x) s.2, (k, s.3), s.4)))
+    by d false e q n more (inl k) = (
+      (λ z. (k, more.0 (omega (arith, z, n)))),
+      (λ o. let s = more.1 (omega (arith, o, n)) in (c ∷ s.0, s.1, ap (λ x. c ∷ x) s.2, (k, s.3), s.4)),
+    )
 
 -- decimal digits hold no point, and are part of a mantissa
 pointless : (ds : List ℕ) → AllDecimal ds → (in_mantissa ds ≡ true) × (points ds ≡ 0)
@@ -96,11 +98,11 @@ mantissa-complete text (pointed before after e a b p) =
     let m = pointless before a in
     let k = pointless after b in
     let all : in_mantissa (before ++ 46 ∷ after) ≡ true =
-        list_all-append (λ c. is_ascii_digit c || c == 46) before (46 ∷ after) ∙ rw (m.0, k.0) refl in
+    list_all-append (λ c. is_ascii_digit c || c == 46) before (46 ∷ after) ∙ rw (m.0, k.0) refl in
     let one : points (before ++ 46 ∷ after) ≡ 1 =
-        sum_by-append (λ c. cond (c == 46) 1 0) before (46 ∷ after) ∙ rw (m.1, points-cons 46 after, k.1) refl in
+    sum_by-append (λ c. cond (c == 46) 1 0) before (46 ∷ after) ∙ rw (m.1, points-cons 46 after, k.1) refl in
     let digit : list_any is_ascii_digit (before ++ 46 ∷ after) ≡ true =
-        list_any-append is_ascii_digit before (46 ∷ after) ∙ digit_round before after a b p in
+    list_any-append is_ascii_digit before (46 ∷ after) ∙ digit_round before after a b p in
     rw (e, all, one, digit) refl
   where
     digit_round : (before after : List ℕ) → AllDecimal before → AllDecimal after → 0 < length before + length after
@@ -115,7 +117,7 @@ some (c ∷ cs) e = omega arith
 mantissa-sound : (text : List ℕ) → is_mantissa text ≡ true → IsMantissa text
 mantissa-sound text e =
     let t = (Decides-and _ _ (itself (in_mantissa text))
-        (Decides-and _ _ (le-Decides (points text) 1) (itself (list_any is_ascii_digit text)))).0 e in
+    (Decides-and _ _ (le-Decides (points text) 1) (itself (list_any is_ascii_digit text)))).0 e in
     let m = parts text t.0 in
     by (points text) t.1.0 m t.1.1
   where
@@ -124,6 +126,7 @@ mantissa-sound text e =
     round text [] [] e d = absurd (true≢false (sym (rw e at d)))
     round text [] (x ∷ xs) e d = omega arith
     round text (x ∷ xs) after e d = omega arith
+
     by : (n : ℕ) → n ≤ 1 → (n ≡ 0 → AllDecimal text) × (n ≡ 1 → IsPointed text) → list_any is_ascii_digit text ≡ true
         → IsMantissa text
     by zero l m digit = whole (some text digit) (m.0 refl)
@@ -134,7 +137,7 @@ mantissa-sound text e =
 of_mantissa : (m : List ℕ) → is_mantissa m ≡ true → (in_mantissa m ≡ true) × (list_any is_ascii_digit m ≡ true)
 of_mantissa m e =
     let t = (Decides-and _ _ (itself (in_mantissa m))
-        (Decides-and _ _ (le-Decides (points m) 1) (itself (list_any is_ascii_digit m)))).0 e in
+    (Decides-and _ _ (le-Decides (points m) 1) (itself (list_any is_ascii_digit m)))).0 e in
     (t.0, t.1.1)
 
 mark-Decides : (c : ℕ) → Decides (is_exponent_mark c) ((c ≡ 101) ⊎ (c ≡ 69))
@@ -146,21 +149,21 @@ exponent_from : (mark : ℕ) (rest : List ℕ) → is_exponent_mark mark ≡ tru
 exponent_from mark rest m e =
     let n = (numeral-Decides (unsigned_part rest)).0 e in
     present mark (sign_of rest) (unsigned_part rest) (ap (λ l. mark ∷ l) (sign-split rest))
-        ((mark-Decides mark).0 m) n.0 n.1
+    ((mark-Decides mark).0 m) n.0 n.1
 
 decimal_float-sound : (text : List ℕ) → is_decimal_float text ≡ true → IsDecimalFloat text
 decimal_float-sound text e =
     by (nat_lt (position_or_len is_exponent_mark text) (length text))
-        (Decides-ltb (position_or_len is_exponent_mark text) (length text)) e
+    (Decides-ltb (position_or_len is_exponent_mark text) (length text)) e
   where
     by : (t : Bool) → Decides t (position_or_len is_exponent_mark text < length text)
         → option_map_or (λ place. is_mantissa (take place text) && is_numeral (unsigned_part (drop (place + 1) text)))
-            (cond t (Some (position_or_len is_exponent_mark text)) None) (is_mantissa text) ≡ true
+        (cond t (Some (position_or_len is_exponent_mark text)) None) (is_mantissa text) ≡ true
         → IsDecimalFloat text
     by true d h =
         let place = position_or_len is_exponent_mark text in
         let t = (Decides-and _ _ (itself (is_mantissa (take place text)))
-            (itself (is_numeral (unsigned_part (drop (place + 1) text))))).0 h in
+        (itself (is_numeral (unsigned_part (drop (place + 1) text))))).0 h in
         record {
           mantissa = take place text;
           exponent = get_or text place 0 ∷ drop (place + 1) text;
@@ -213,7 +216,7 @@ marked m mark rest e h n =
     let before = take-append_seam m (mark ∷ rest) in
     let after : drop (length m + 1) (m ++ mark ∷ rest) ≡ rest = drop-append-add m (mark ∷ rest) 1 in
     let long : nat_lt (length m) (length (m ++ mark ∷ rest)) ≡ true =
-        (Decides-ltb (length m) (length (m ++ mark ∷ rest))).1 (omega (arith, length-append m (mark ∷ rest))) in
+    (Decides-ltb (length m) (length (m ++ mark ∷ rest))).1 (omega (arith, length-append m (mark ∷ rest))) in
     rw (place, long, before, after, e, n) refl
 
 digits-unsigned : (ds : List ℕ) → AllDecimal ds → sign_of ds ≡ unsigned
@@ -222,16 +225,16 @@ digits-unsigned (c ∷ cs) a = sign_of-other c cs (λ e. omega (arith, e, a.0.0)
 
 decimal_float-complete : (text : List ℕ) → IsDecimalFloat text → is_decimal_float text ≡ true
 decimal_float-complete text f = elim f.is_exponent [
-    absent e ↦
-        let same : text ≡ f.mantissa = f.split ∙ rw e (append-nil f.mantissa) in
-        rw same (alone f.mantissa (mantissa-complete f.mantissa f.is_mantissa))
-    | present mark sign digits e letter p a ↦
-        let n : is_numeral (unsigned_part (sign_text sign ++ digits)) ≡ true =
-            rw (behind-sign sign digits (digits-unsigned digits a)).1 ((numeral-Decides digits).1 (p, a)) in
-        let same : text ≡ f.mantissa ++ mark ∷ (sign_text sign ++ digits) = f.split ∙ ap (λ l. f.mantissa ++ l) e in
-        rw same (marked f.mantissa mark (sign_text sign ++ digits) (mantissa-complete f.mantissa f.is_mantissa)
-            ((mark-Decides mark).1 letter) n)
-    ]
+  | absent e ↦
+      let same : text ≡ f.mantissa = f.split ∙ rw e (append-nil f.mantissa) in
+      rw same (alone f.mantissa (mantissa-complete f.mantissa f.is_mantissa))
+  | present mark sign digits e letter p a ↦
+      let n : is_numeral (unsigned_part (sign_text sign ++ digits)) ≡ true =
+      rw (behind-sign sign digits (digits-unsigned digits a)).1 ((numeral-Decides digits).1 (p, a)) in
+      let same : text ≡ f.mantissa ++ mark ∷ (sign_text sign ++ digits) = f.split ∙ ap (λ l. f.mantissa ++ l) e in
+      rw same (marked f.mantissa mark (sign_text sign ++ digits) (mantissa-complete f.mantissa f.is_mantissa)
+      ((mark-Decides mark).1 letter) n)
+]
 
 -- a decimal float begins with no sign
 decimal_float-unsigned : (text : List ℕ) → IsDecimalFloat text → sign_of text ≡ unsigned
@@ -248,11 +251,11 @@ decimal_float-unsigned text f =
 infinity-unsigned : (text : List ℕ) → is_infinity_word text ≡ true → sign_of text ≡ unsigned
 infinity-unsigned text h =
     let d = Decides-or _ _ (bytes_eq-Decides text (codes ".inf"))
-        (Decides-or _ _ (bytes_eq-Decides text (codes ".Inf")) (bytes_eq-Decides text (codes ".INF"))) in
+    (Decides-or _ _ (bytes_eq-Decides text (codes ".Inf")) (bytes_eq-Decides text (codes ".INF"))) in
     elim (d.0 h) [
-      inl e ↦ rw e refl
+      | inl e ↦ rw e refl
       | inr k ↦ elim k [ inl e ↦ rw e refl | inr e ↦ rw e refl ]
-      ]
+    ]
 
 or_true : (a b : Bool) → b ≡ true → a || b ≡ true
 or_true true b e = refl
@@ -263,35 +266,36 @@ is_float-Decides text = (sound, complete)
   where
     sound : is_float text ≡ true → IsFloatText text
     sound e =
-      let d = Decides-or _ _ (itself (is_nan_word text))
-          (Decides-or _ _ (itself (is_infinity_word (unsigned_part text)))
-              (itself (is_decimal_float (unsigned_part text)))) in
-      elim (d.0 e) [
-      inl w ↦ nan w
-      | inr k ↦ elim k [
-        inl w ↦ infinity (sign_of text) (unsigned_part text) (sign-split text) w
-        | inr d ↦
-            decimal (sign_of text) (unsigned_part text) (sign-split text) (decimal_float-sound (unsigned_part text) d)
+        let d = Decides-or _ _ (itself (is_nan_word text))
+        (Decides-or _ _ (itself (is_infinity_word (unsigned_part text)))
+        (itself (is_decimal_float (unsigned_part text)))) in
+        elim (d.0 e) [
+          | inl w ↦ nan w
+          | inr k ↦ elim k [
+            | inl w ↦ infinity (sign_of text) (unsigned_part text) (sign-split text) w
+            | inr d ↦
+                decimal (sign_of text) (unsigned_part text) (sign-split text) (decimal_float-sound (unsigned_part text) d)
+          ]
         ]
-      ]
+
     complete : IsFloatText text → is_float text ≡ true
     complete (nan w) = rw w refl
     complete (infinity s body e w) =
         let u : unsigned_part text ≡ body = rw e (behind-sign s body (infinity-unsigned body w)).1 in
         let i : is_infinity_word (unsigned_part text) ≡ true = rw u w in
         or_true (is_nan_word text) (is_infinity_word (unsigned_part text) || is_decimal_float (unsigned_part text))
-            (rw i refl)
+        (rw i refl)
     complete (decimal s body e f) =
         let u : unsigned_part text ≡ body = rw e (behind-sign s body (decimal_float-unsigned body f)).1 in
         let d : is_decimal_float (unsigned_part text) ≡ true = rw u (decimal_float-complete body f) in
         or_true (is_nan_word text) (is_infinity_word (unsigned_part text) || is_decimal_float (unsigned_part text))
-            (or_true (is_infinity_word (unsigned_part text)) (is_decimal_float (unsigned_part text)) d)
+        (or_true (is_infinity_word (unsigned_part text)) (is_decimal_float (unsigned_part text)) d)
 
 pub leading_zero-Decides : (text : List ℕ) → Decides (has_leading_zero text) (HasLeadingZero text)
 leading_zero-Decides text = Decides-like _ from back
     (Decides-and _ _ (Decides-ltb 1 (length (unsigned_part text)))
-        (Decides-and _ _ (Decides-eqb (slice_index (unsigned_part text) 0) 48)
-            (all_decimal-Decides (unsigned_part text))))
+    (Decides-and _ _ (Decides-eqb (slice_index (unsigned_part text) 0) 48)
+    (all_decimal-Decides (unsigned_part text))))
   where
     from : (1 < length (unsigned_part text))
         × ((slice_index (unsigned_part text) 0 ≡ 48) × AllDecimal (unsigned_part text))
@@ -304,10 +308,11 @@ leading_zero-Decides text = Decides-like _ from back
       all_digits = h.1.1;
       zero = h.1.0;
     }
+
     back : HasLeadingZero text
         → (1 < length (unsigned_part text))
-            × ((slice_index (unsigned_part text) 0 ≡ 48) × AllDecimal (unsigned_part text))
+        × ((slice_index (unsigned_part text) 0 ≡ 48) × AllDecimal (unsigned_part text))
     back z =
         let u : unsigned_part text ≡ z.digits =
-            rw z.spelled (behind-sign z.sign z.digits (digits-unsigned z.digits z.all_digits)).1 in
+        rw z.spelled (behind-sign z.sign z.digits (digits-unsigned z.digits z.all_digits)).1 in
         rw u (z.several, (z.zero, z.all_digits))

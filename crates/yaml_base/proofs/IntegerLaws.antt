@@ -1,15 +1,14 @@
 -- The functions that compute an integer's text give what its grammar says.
 use mathlib.Core.Bool.{true≢false}
-use Rattle.std.specs.Prelude.{Option, None, Some, Bool, true, false, not, nat_eq, nat_lt, ◌==◌, ◌&&◌, if◌then◌else◌}
-use Rattle.std.specs.Prelude.{codes, slice_index, ℤ, pos, neg_ℤ}
+use Rattle.std.specs.Prelude.{Option, None, Some, Bool, true, false, not, nat_lt, ◌==◌, ◌&&◌, if◌then◌else◌}
+use Rattle.std.specs.Prelude.{slice_index, ℤ, pos}
 use Rattle.std.specs.Bool.{Decides}
 use Rattle.std.specs.Char.{digit_value}
-use Rattle.std.specs.List.{starts_with, list_all}
 use Rattle.std.specs.Option.{option_map, option_or}
 use Rattle.std.specs.Str.Parse.{AllDigits}
-use Rattle.std.proofs.Common.{◌≡◌, ◌≢◌, ◌⊎◌, ℕ, ◌+◌, ◌<◌, ◌≤◌, List, [], ◌∷◌, ◌++◌, length, drop, get_or, refl, sym, ap}
+use Rattle.std.proofs.Common.{◌≡◌, ◌≢◌, ◌⊎◌, ℕ, ◌<◌, ◌≤◌, List, [], ◌∷◌, ◌++◌, length, drop, refl, sym, ap}
 use Rattle.std.proofs.Common.{◌∙◌, arith, subst, inl, inr}
-use Rattle.std.proofs.lemmas.Bool.Decides.{Decides-eqb, Decides-ltb, Decides-and, not_from_Decides, nat_tests}
+use Rattle.std.proofs.lemmas.Bool.Decides.{Decides-eqb, Decides-ltb, Decides-and}
 use Rattle.std.proofs.lemmas.Option.{same_Some, none-some}
 use Rattle.std.proofs.lemmas.Slice.Eq.{starts_is}
 use Rattle.yaml_base.proofs.RangeLaws.{signed-is}
@@ -86,6 +85,7 @@ no_prefix base x text p big a = refused _ _ _ (λ t. begun _ ((starts_is Decides
   where
     begun : (rest : List ℕ) → text ≡ prefix_of base ++ rest → ⊥
     begun rest e = let all = rw (e, p) at a in omega (arith, all.1.0, big)
+
     refused : (t u : Bool) (o : Option ℕ) → (t ≡ true → ⊥) → (if t && u then o else None) ≡ None
     refused true u o n = absurd (n refl)
     refused false u o n = refl
@@ -112,15 +112,15 @@ either (Some x) p n e = inl e
 
 pub number_of-sound : (text : List ℕ) (n : ℕ) → number_of text ≡ Some n → (base : Base) × IsNumber base text n
 number_of-sound text n e = elim (either _ _ n e) [
-    inl h ↦ (hexadecimal, number_in-sound _ _ _ h)
-    | inr r ↦ elim (either _ _ n r) [
-        inl h ↦ (octal, number_in-sound _ _ _ h)
-        | inr s ↦ elim (either _ _ n s) [
-            inl h ↦ (binary, number_in-sound _ _ _ h)
-            | inr h ↦ (decimal, number_in-sound _ _ _ h)
-            ]
-        ]
+  | inl h ↦ (hexadecimal, number_in-sound _ _ _ h)
+  | inr r ↦ elim (either _ _ n r) [
+    | inl h ↦ (octal, number_in-sound _ _ _ h)
+    | inr s ↦ elim (either _ _ n s) [
+      | inl h ↦ (binary, number_in-sound _ _ _ h)
+      | inr h ↦ (decimal, number_in-sound _ _ _ h)
     ]
+  ]
+]
 
 -- a number begins with no sign
 digit_unsigned : (c : ℕ) (cs : List ℕ) → digit_value c < 10 → sign_of (c ∷ cs) ≡ unsigned
@@ -193,14 +193,18 @@ positive s n f = rw (signed-is s n, f) refl
 pub unsigned_of-sound : (text : List ℕ) (n : ℕ) → unsigned_of text ≡ Some n → IsUnsignedText text n
 unsigned_of-sound text n e =
     let g = unguarded _ _ n e in
-    let b = number_of-sound _ n g.1 in
-    (sign_of text, b.0, free _ g.0, record {
-      body = unsigned_part text;
-      size = n;
-      spelled = sign-split text;
-      number = b.1;
-      value = positive _ n g.0;
-    })
+    let b = number_of-sound _ n g.1 in (
+      sign_of text,
+      b.0,
+      free _ g.0,
+      record {
+        body = unsigned_part text;
+        size = n;
+        spelled = sign-split text;
+        number = b.1;
+        value = positive _ n g.0;
+      },
+    )
 
 pub unsigned_of-complete : (text : List ℕ) (n : ℕ) → IsUnsignedText text n → unsigned_of text ≡ Some n
 unsigned_of-complete text n h =
@@ -221,14 +225,18 @@ negative_of-sound text z e = by (is_minus (sign_of text)) refl e
         → IsNegativeText text z
     by true m h = let i = integer_of-signed text z h in (sign_of text, i.0, inr (a_minus _ m), i.1)
     by false m h =
-        let n = mapped unsigned _ z h in
-        (sign_of text, decimal, inl refl, record {
-          body = unsigned_part text;
-          size = n.0;
-          spelled = sign-split text;
-          number = number_in-sound decimal _ n.0 n.1;
-          value = n.2 ∙ positive _ n.0 m;
-        })
+        let n = mapped unsigned _ z h in (
+          sign_of text,
+          decimal,
+          inl refl,
+          record {
+            body = unsigned_part text;
+            size = n.0;
+            spelled = sign-split text;
+            number = number_in-sound decimal _ n.0 n.1;
+            value = n.2 ∙ positive _ n.0 m;
+          },
+        )
 
 pub negative_of-complete : (text : List ℕ) (z : ℤ) → IsNegativeText text z → negative_of text ≡ Some z
 negative_of-complete text z h = by (is_minus h.0) refl
@@ -239,13 +247,13 @@ negative_of-complete text z h = by (is_minus h.0) refl
         let s : is_minus (sign_of text) ≡ true = rw (h.3.spelled, p.0) m in
         rw s (integer_of-spelled h.0 h.1 text z h.3)
     by false m = elim h.2 [
-        inl d ↦
-            let p = signed-number h.0 h.1 h.3.body h.3.size h.3.number in
-            let s : is_minus (sign_of text) ≡ false = rw (h.3.spelled, p.0) m in
-            let rest : unsigned_part text ≡ h.3.body = rw h.3.spelled p.1 in
-            let n : number_in decimal h.3.body ≡ Some h.3.size =
-                subst (λ b. number_in b h.3.body ≡ Some h.3.size) d
-                    (number_in-complete h.1 h.3.body h.3.size h.3.number) in
-            rw (s, rest, n, h.3.value, ← positive h.0 h.3.size m) refl
-        | inr t ↦ absurd (free h.0 m t)
-        ]
+      | inl d ↦
+          let p = signed-number h.0 h.1 h.3.body h.3.size h.3.number in
+          let s : is_minus (sign_of text) ≡ false = rw (h.3.spelled, p.0) m in
+          let rest : unsigned_part text ≡ h.3.body = rw h.3.spelled p.1 in
+          let n : number_in decimal h.3.body ≡ Some h.3.size =
+          subst (λ b. number_in b h.3.body ≡ Some h.3.size) d
+          (number_in-complete h.1 h.3.body h.3.size h.3.number) in
+          rw (s, rest, n, h.3.value, ← positive h.0 h.3.size m) refl
+      | inr t ↦ absurd (free h.0 m t)
+    ]

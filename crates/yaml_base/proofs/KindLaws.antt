@@ -1,27 +1,27 @@
 -- Each text has one kind.
 use mathlib.Core.Bool.{true≢false}
-use Rattle.std.specs.Prelude.{Option, None, Some, Bool, true, false, IsTrue, not, nat_lt, ◌==◌, ◌&&◌, ◌||◌}
-use Rattle.std.specs.Prelude.{if◌then◌else◌, codes, bytes_eq, ℤ, pos, neg_ℤ, ◌≤ℤ◌}
+use Rattle.std.specs.Prelude.{Option, None, Some, Bool, true, false, IsTrue, not, ◌&&◌}
+use Rattle.std.specs.Prelude.{if◌then◌else◌, codes, ℤ, pos, neg_ℤ, ◌≤ℤ◌}
 use Rattle.std.specs.Bool.{Decides}
 use Rattle.std.specs.Option.{option_map_or}
-use Rattle.std.proofs.Common.{◌≡◌, ◌≢◌, ◌⊎◌, ℕ, ◌+◌, ◌-◌, ◌^◌, ◌<◌, ◌≤◌, List, [], ◌∷◌, length, refl, sym, ap, ◌∙◌}
+use Rattle.std.proofs.Common.{◌≡◌, ◌≢◌, ◌⊎◌, ℕ, ◌-◌, ◌^◌, ◌≤◌, List, [], ◌∷◌, length, refl, sym, ap, ◌∙◌}
 use Rattle.std.proofs.Common.{arith, subst, inl, inr}
 use Rattle.std.proofs.lemmas.Bool.Decides.{Decides-or, Decides-and, Decides-not, Decides-eqb}
 use Rattle.std.proofs.lemmas.Int.{ints}
-use Rattle.std.proofs.lemmas.Option.{same_Some, none-some}
+use Rattle.std.proofs.lemmas.Option.{none-some}
 use Rattle.std.proofs.lemmas.Slice.Eq.{bytes_eq-Decides}
 use Rattle.yaml_base.proofs.FloatLaws.{is_float-Decides, leading_zero-Decides}
-use Rattle.yaml_base.proofs.IntegerLaws.{integer_of-signed, integer_of-sound, integer_of-complete, free, positive}
+use Rattle.yaml_base.proofs.IntegerLaws.{integer_of-signed, integer_of-sound, integer_of-complete, positive}
 use Rattle.yaml_base.proofs.IntegerLaws.{mapped, a_minus, unsigned_of-sound, unsigned_of-complete}
 use Rattle.yaml_base.proofs.RangeLaws.{in_range-inside, in_range-found, in_range-within, up_to-found, up_to-below}
 use Rattle.yaml_base.proofs.RangeLaws.{up_to-inside}
 use Rattle.yaml_base.proofs.SignLaws.{unproved}
 use Rattle.yaml_base.specs.Floats.{IsFloatText, HasLeadingZero, is_float, has_leading_zero}
-use Rattle.yaml_base.specs.Integers.{Base, IsInteger, IsIntegerText, IsUnsignedText, integer_of, unsigned_of, in_range}
+use Rattle.yaml_base.specs.Integers.{Base, IsInteger, IsIntegerText, integer_of, unsigned_of, in_range}
 use Rattle.yaml_base.specs.Integers.{up_to}
 use Rattle.yaml_base.specs.Kinds.{is_null_text, IsOther, HasKind, kind_of}
-use Rattle.yaml_base.specs.PlainWords.{is_null_word, is_true_word, is_false_word, boolean_of}
-use Rattle.yaml_base.specs.Signs.{Sign, unsigned, plus, minus, signed, is_minus, sign_of}
+use Rattle.yaml_base.specs.PlainWords.{is_true_word, is_false_word, boolean_of}
+use Rattle.yaml_base.specs.Signs.{minus, signed, is_minus, sign_of}
 use Rattle.yaml_base.specs.declared.resolver.kind.Kind.{Kind}
 use Rattle.yaml_base.specs.declared.resolver.kind.Kind.TheVariants.{Null, Bool as Boolean, Unsigned, Signed, Float, Str}
 
@@ -30,8 +30,8 @@ null_words : (text : List ℕ) → is_null_text text ≡ true
     → (text ≡ []) ⊎ ((text ≡ codes "null") ⊎ ((text ≡ codes "Null") ⊎ ((text ≡ codes "NULL") ⊎ (text ≡ codes "~"))))
 null_words text e =
     let d = Decides-or _ _ (Decides-eqb (length text) 0)
-        (Decides-or _ _ (bytes_eq-Decides text (codes "null")) (Decides-or _ _ (bytes_eq-Decides text (codes "Null"))
-        (Decides-or _ _ (bytes_eq-Decides text (codes "NULL")) (bytes_eq-Decides text (codes "~"))))) in
+    (Decides-or _ _ (bytes_eq-Decides text (codes "null")) (Decides-or _ _ (bytes_eq-Decides text (codes "Null"))
+    (Decides-or _ _ (bytes_eq-Decides text (codes "NULL")) (bytes_eq-Decides text (codes "~"))))) in
     elim (d.0 e) [ inl z ↦ inl (empty text z) | inr w ↦ inr w ]
   where
     empty : (text : List ℕ) → length text ≡ 0 → text ≡ []
@@ -43,15 +43,15 @@ at_null : {A : Type 0} (f : List ℕ → A) (x : A) (text : List ℕ) → f [] �
     → f (codes "Null") ≡ x → f (codes "NULL") ≡ x
     → f (codes "~") ≡ x → is_null_text text ≡ true → f text ≡ x
 at_null f x text p q r s t e = elim (null_words text e) [
-    inl k ↦ ap f k ∙ p
+  | inl k ↦ ap f k ∙ p
+  | inr m ↦ elim m [
+    | inl k ↦ ap f k ∙ q
     | inr m ↦ elim m [
-      inl k ↦ ap f k ∙ q
-      | inr m ↦ elim m [
-        inl k ↦ ap f k ∙ r
-        | inr m ↦ elim m [ inl k ↦ ap f k ∙ s | inr k ↦ ap f k ∙ t ]
-        ]
-      ]
+      | inl k ↦ ap f k ∙ r
+      | inr m ↦ elim m [ inl k ↦ ap f k ∙ s | inr k ↦ ap f k ∙ t ]
     ]
+  ]
+]
 
 -- null is no boolean and no integer
 null_boolean : (text : List ℕ) → is_null_text text ≡ true → boolean_of text ≡ None
@@ -68,13 +68,13 @@ true_words : (text : List ℕ) → is_true_word text ≡ true
     → (text ≡ codes "true") ⊎ ((text ≡ codes "True") ⊎ (text ≡ codes "TRUE"))
 true_words text e =
     (Decides-or _ _ (bytes_eq-Decides text (codes "true"))
-        (Decides-or _ _ (bytes_eq-Decides text (codes "True")) (bytes_eq-Decides text (codes "TRUE")))).0 e
+    (Decides-or _ _ (bytes_eq-Decides text (codes "True")) (bytes_eq-Decides text (codes "TRUE")))).0 e
 
 false_words : (text : List ℕ) → is_false_word text ≡ true
     → (text ≡ codes "false") ⊎ ((text ≡ codes "False") ⊎ (text ≡ codes "FALSE"))
 false_words text e =
     (Decides-or _ _ (bytes_eq-Decides text (codes "false"))
-        (Decides-or _ _ (bytes_eq-Decides text (codes "False")) (bytes_eq-Decides text (codes "FALSE")))).0 e
+    (Decides-or _ _ (bytes_eq-Decides text (codes "False")) (bytes_eq-Decides text (codes "FALSE")))).0 e
 
 at_three : {A : Type 0} (f : List ℕ → A) (x : A) (text a b c : List ℕ) → f a ≡ x → f b ≡ x → f c ≡ x
     → (text ≡ a) ⊎ ((text ≡ b) ⊎ (text ≡ c)) → f text ≡ x
@@ -136,12 +136,12 @@ is_signed text z n i = by (is_minus (sign_of text)) refl
     by true m =
         let w = in_range-within (neg_ℤ (pos (2 ^ 127))) (pos (2 ^ 127 - 1)) (integer_of text) z i in
         let s = integer_of-signed text z
-            (in_range-found (neg_ℤ (pos (2 ^ 127))) (pos (2 ^ 127 - 1)) (integer_of text) z i) in
+        (in_range-found (neg_ℤ (pos (2 ^ 127))) (pos (2 ^ 127 - 1)) (integer_of text) z i) in
         ((s.0, subst (λ s'. IsInteger s' s.0 text z) (a_minus _ m) s.1), w.0)
     by false m =
         let w = in_range-within (neg_ℤ (pos (2 ^ 127))) (pos (2 ^ 127 - 1)) (integer_of text) z i in
         let u = unsigned_of-integer text z
-            (in_range-found (neg_ℤ (pos (2 ^ 127))) (pos (2 ^ 127 - 1)) (integer_of text) z i) m in
+        (in_range-found (neg_ℤ (pos (2 ^ 127))) (pos (2 ^ 127 - 1)) (integer_of text) z i) m in
         absurd (small_number text u.0 n u.1 (omega (arith, ints, w.1, u.2)))
 
 -- no integer
@@ -163,10 +163,10 @@ no_integer text n i z low high h = by (is_minus (sign_of text)) refl
 has_number : (text : List ℕ) → is_null_text text ≡ false → boolean_of text ≡ None → (o : Option ℕ) (p : Option ℤ)
     → number_kind text ≡ o → integer_kind text ≡ p
     → HasKind text (option_map_or (λ n. Unsigned n) o (option_map_or (λ z. Signed z) p
-        (if is_float text && not (has_leading_zero text) then Float else Str)))
+    (if is_float text && not (has_leading_zero text) then Float else Str)))
 has_number text null boolean (Some n) p e f =
     let l = up_to-below _ (unsigned_of text) n e in
-        (unsigned_of-sound text n (up_to-found _ (unsigned_of text) n e), omega (arith, l))
+    (unsigned_of-sound text n (up_to-found _ (unsigned_of text) n e), omega (arith, l))
 has_number text null boolean None (Some z) e f = is_signed text z e f
 has_number text null boolean None None e f =
     has_float text (record {
@@ -177,8 +177,8 @@ has_number text null boolean None None e f =
 
 has_word : (text : List ℕ) → is_null_text text ≡ false → (o : Option Bool) → boolean_of text ≡ o
     → HasKind text (option_map_or (λ value. Boolean value) o
-        (option_map_or (λ n. Unsigned n) (number_kind text) (option_map_or (λ z. Signed z) (integer_kind text)
-        (if is_float text && not (has_leading_zero text) then Float else Str))))
+    (option_map_or (λ n. Unsigned n) (number_kind text) (option_map_or (λ z. Signed z) (integer_kind text)
+    (if is_float text && not (has_leading_zero text) then Float else Str))))
 has_word text null (Some value) e = e
 has_word text null None e = has_number text null e _ _ refl refl
 
@@ -187,8 +187,8 @@ kind_of-has text = by (is_null_text text) refl
   where
     by : (t : Bool) → is_null_text text ≡ t
         → HasKind text (if t then Null else option_map_or (λ value. Boolean value) (boolean_of text)
-            (option_map_or (λ n. Unsigned n) (number_kind text) (option_map_or (λ z. Signed z) (integer_kind text)
-            (if is_float text && not (has_leading_zero text) then Float else Str))))
+        (option_map_or (λ n. Unsigned n) (number_kind text) (option_map_or (λ z. Signed z) (integer_kind text)
+        (if is_float text && not (has_leading_zero text) then Float else Str))))
     by true e = e
     by false e = has_word text e _ refl
 
@@ -224,7 +224,7 @@ other_integer text o = by (integer_kind text) refl
     by (Some z) e =
         let w = in_range-within (neg_ℤ (pos (2 ^ 127))) (pos (2 ^ 127 - 1)) (integer_of text) z e in
         let h = integer_of-sound text z
-            (in_range-found (neg_ℤ (pos (2 ^ 127))) (pos (2 ^ 127 - 1)) (integer_of text) z e) in
+        (in_range-found (neg_ℤ (pos (2 ^ 127))) (pos (2 ^ 127 - 1)) (integer_of text) z e) in
         absurd (o.no_integer z w.0 (omega (arith, ints, w.1)) h)
 
 pub kind_of-only : (text : List ℕ) (kind : Kind) → HasKind text kind → kind ≡ kind_of text
@@ -250,8 +250,13 @@ kind_of-only text (Signed z) h =
     rw (null, boolean, number, integer) refl
 kind_of-only text Float h =
     let o = h.0 in
-    rw (not_null text o.no_null, other_boolean text o, other_number text o, other_integer text o,
-        (float-Decides text).1 h.1) refl
+    rw (
+      not_null text o.no_null,
+      other_boolean text o,
+      other_number text o,
+      other_integer text o,
+      (float-Decides text).1 h.1,
+    ) refl
 kind_of-only text Str h =
     let o = h.0 in
     let f = unproved (is_float text && not (has_leading_zero text)) _ (float-Decides text) h.1 in

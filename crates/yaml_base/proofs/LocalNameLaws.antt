@@ -6,7 +6,7 @@ use Rattle.std.specs.Bool.{Decides}
 use Rattle.std.specs.Option.{option_copied, option_and_then}
 use Rattle.std.specs.Result.{result_ok}
 use Rattle.std.specs.Str.{IsUtf8, is_utf8}
-use Rattle.std.proofs.Common.{◌≡◌, ◌≢◌, ℕ, ◌<◌, List, [], ◌∷◌, ◌++◌, length, drop, Bor, refl, sym, ap, ◌∙◌, arith}
+use Rattle.std.proofs.Common.{◌≡◌, ◌≢◌, ℕ, List, [], ◌∷◌, length, Bor, refl, sym, ap, ◌∙◌, arith}
 use Rattle.std.proofs.Common.{subst}
 use Rattle.std.proofs.lemmas.Bool.Decides.{Decides-eqb}
 use Rattle.std.proofs.lemmas.Option.{same_Some, none-some}
@@ -37,11 +37,12 @@ local_name-sound : (tag name : List ℕ) → local_name tag ≡ Some name → Ha
 local_name-sound [] name e = absurd (none-some name e)
 local_name-sound (c ∷ rest) name e =
     by (c == 33) (Decides-eqb c 33) (length rest == 0) (Decides-eqb (length rest) 0) (is_utf8 rest)
-        (utf8-Decides rest) e
+    (utf8-Decides rest) e
   where
     empty : (l : List ℕ) → length l ≡ 0 → l ≡ []
     empty [] z = refl
     empty (x ∷ xs) z = absurd (omega (arith, z))
+
     by : (b : Bool) → Decides b (c ≡ 33) → (z : Bool) → Decides z (length rest ≡ 0) → (u : Bool)
         → Decides u (IsUtf8 rest)
         → (if b then (if z then Some (codes "!") else (if u then Some rest else None)) else None) ≡ Some name
@@ -54,7 +55,7 @@ local_name-sound (c ∷ rest) name e =
         let n : rest ≡ name = same_Some _ _ h in
         let long : length rest ≢ 0 = λ q. true≢false (sym (d.1 q)) in
         named (ap (λ x. x ∷ rest) (b.0 refl)
-            ∙ ap (λ l. 33 ∷ l) n) (omega (arith, long, ap length n)) (subst IsUtf8 n (k.0 refl))
+        ∙ ap (λ l. 33 ∷ l) n) (omega (arith, long, ap length n)) (subst IsUtf8 n (k.0 refl))
 
 -- what is read of a tag is its name
 pub local_name-exact : (tag : Option (List ℕ)) (result : Option (Bor (List ℕ)))

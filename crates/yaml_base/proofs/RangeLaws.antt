@@ -100,7 +100,7 @@ under_sign-none : (s : Sign) (n : ℕ) → 2 ^ 128 - 1 < n
     → in_range (neg_ℤ (pos (2 ^ 127))) (pos (2 ^ 127 - 1)) (Some (signed s n)) ≡ None
 under_sign-none s n h =
     rw (signed-is s n)
-        (in_range-outside (neg_ℤ (pos (2 ^ 127))) (pos (2 ^ 127 - 1)) _ (too_large (is_minus s) _ _ n (large n h)))
+    (in_range-outside (neg_ℤ (pos (2 ^ 127))) (pos (2 ^ 127 - 1)) _ (too_large (is_minus s) _ _ n (large n h)))
 
 -- the integer of a text whose number is too large, or is none
 pub integer_of-none : (text body : List ℕ) → body ≡ unsigned_part text → None ≡ up_to (2 ^ 128 - 1) (number_of body)
@@ -129,9 +129,9 @@ pub up_to-twice : (high most : ℕ) (o v r : Option ℕ) → most ≤ high → v
     → r ≡ up_to most o
 up_to-twice high most o (Some n) r h e f = rw (up_to-found high o n (sym e)) f
 up_to-twice high most o None r h e f = elim (up_to-above high o (sym e)) [
-    inl none ↦ rw none f
-    | inr g ↦ f ∙ rw g.1 (sym (dropped _ _ g.0 (le-Decides g.0 most) (λ l. omega (arith, l, g.2, h))))
-    ]
+  | inl none ↦ rw none f
+  | inr g ↦ f ∙ rw g.1 (sym (dropped _ _ g.0 (le-Decides g.0 most) (λ l. omega (arith, l, g.2, h))))
+]
 
 -- a range within a range
 pub in_range-twice : (low high least most : ℤ) (o v r : Option ℤ) → low ≤ℤ least → most ≤ℤ high

@@ -11,7 +11,7 @@ sign-split (c ∷ cs) = by (c == 43) (c == 45) (Decides-eqb c 43) (Decides-eqb c
   where
     by : (p m : Bool) → Decides p (c ≡ 43) → Decides m (c ≡ 45)
         → c ∷ cs ≡ sign_text (if p then plus else (if m then minus else unsigned))
-            ++ drop (length (sign_text (if p then plus else (if m then minus else unsigned)))) (c ∷ cs)
+        ++ drop (length (sign_text (if p then plus else (if m then minus else unsigned)))) (c ∷ cs)
     by true m p e = ap (λ x. x ∷ cs) (p.0 refl)
     by false true p e = ap (λ x. x ∷ cs) (e.0 refl)
     by false false p e = refl

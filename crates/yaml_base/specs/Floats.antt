@@ -1,5 +1,5 @@
 -- Float text: digits with an optional point and an optional exponent, or a word; and digits behind a zero.
-use Rattle.std.specs.Prelude.{◌≡◌, ◌⊎◌, ℕ, ◌+◌, ◌<◌, ◌≤◌, Bool, true, false, ◌==◌, ◌&&◌, ◌||◌, nat_lt, nat_le, bytes_eq}
+use Rattle.std.specs.Prelude.{◌≡◌, ◌⊎◌, ℕ, ◌+◌, ◌<◌, ◌≤◌, Bool, true, ◌==◌, ◌&&◌, ◌||◌, nat_lt, nat_le, bytes_eq}
 use Rattle.std.specs.Prelude.{List, [], ◌∷◌, ◌++◌, length, take, drop, slice_index, codes, position, count_by}
 use Rattle.std.specs.Char.{is_ascii_digit}
 use Rattle.std.specs.List.{list_all, list_any}
@@ -15,13 +15,13 @@ AllDecimal (c ∷ cs) = ((48 ≤ c) × (c ≤ 57)) × AllDecimal cs
 pub data IsMantissa (text : List ℕ) : Type 0 where
   whole : 0 < length text → AllDecimal text → IsMantissa text
   pointed : (before after : List ℕ) → text ≡ before ++ 46 ∷ after → AllDecimal before → AllDecimal after
-    → 0 < length before + length after → IsMantissa text
+      → 0 < length before + length after → IsMantissa text
 
 -- nothing, or `e` or `E`, an optional sign and digits
 pub data IsExponent (text : List ℕ) : Type 0 where
   absent : text ≡ [] → IsExponent text
   present : (mark : ℕ) (sign : Sign) (digits : List ℕ) → text ≡ mark ∷ (sign_text sign ++ digits)
-    → (mark ≡ 101) ⊎ (mark ≡ 69) → 0 < length digits → AllDecimal digits → IsExponent text
+      → (mark ≡ 101) ⊎ (mark ≡ 69) → 0 < length digits → AllDecimal digits → IsExponent text
 
 -- a mantissa and its exponent
 pub record IsDecimalFloat (text : List ℕ) : Type 0 where
@@ -75,7 +75,7 @@ is_exponent_mark c = c == 101 || c == 69
 abbrev pub is_decimal_float : List ℕ → Bool
 is_decimal_float text =
     option_map_or (λ place. is_mantissa (take place text) && is_numeral (unsigned_part (drop (place + 1) text)))
-      (position is_exponent_mark text) (is_mantissa text)
+    (position is_exponent_mark text) (is_mantissa text)
 
 -- float text
 abbrev pub is_float : List ℕ → Bool

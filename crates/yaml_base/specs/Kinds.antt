@@ -1,6 +1,6 @@
 -- What a plain text is: null, a boolean, an integer, a float or a string.
-use Rattle.std.specs.Prelude.{◌≡◌, ◌≢◌, ℕ, ◌-◌, ◌^◌, ◌<◌, Bool, true, false, IsTrue, not, ◌==◌, ◌&&◌, ◌||◌}
-use Rattle.std.specs.Prelude.{if◌then◌else◌, List, length, Option, Some, None, ℤ, pos, neg_ℤ, ◌≤ℤ◌}
+use Rattle.std.specs.Prelude.{◌≡◌, ◌≢◌, ℕ, ◌-◌, ◌^◌, ◌<◌, Bool, IsTrue, not, ◌==◌, ◌&&◌, ◌||◌}
+use Rattle.std.specs.Prelude.{if◌then◌else◌, List, length, Some, ℤ, pos, neg_ℤ, ◌≤ℤ◌}
 use Rattle.std.specs.Option.{option_map_or}
 use Rattle.yaml_base.specs.Floats.{IsFloatText, HasLeadingZero, is_float, has_leading_zero}
 use Rattle.yaml_base.specs.Integers.{Base, IsInteger, IsIntegerText, IsUnsignedText, integer_of, unsigned_of, in_range}

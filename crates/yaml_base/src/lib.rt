@@ -32,8 +32,9 @@ pub use mark::Mark;
 pub use path::Path;
 pub use quoted::{Quoted, QuotedBytes};
 pub use resolver::{
-    digits_but_not_number, each_text_has_one_kind, integers_have_their_grammar, is_float_text,
-    parse_bool, parse_negative_int, parse_null, parse_signed_int, parse_unsigned_int, resolve, Kind,
+    Kind, digits_but_not_number, each_text_has_one_kind, integers_have_their_grammar,
+    is_float_text, parse_bool, parse_negative_int, parse_null, parse_signed_int,
+    parse_unsigned_int, resolve,
 };
 pub use style::infer_style;
 pub use tag::{Anchor, Tag};

@@ -12,5 +12,5 @@ pub use float::{digits_but_not_number, is_float_text};
 pub use integer::{
     integers_have_their_grammar, parse_negative_int, parse_signed_int, parse_unsigned_int,
 };
-pub use kind::{each_text_has_one_kind, resolve, Kind};
+pub use kind::{Kind, each_text_has_one_kind, resolve};
 pub use word::{parse_bool, parse_null};

@@ -4,7 +4,7 @@ ghost use Rattle.std.specs.Prelude.{◌≡◌};
 ghost use Rattle.yaml_base.specs.AskedStyles.{asked_style};
 
 use crate::emitter::AskedStyle;
-use crate::resolver::{digits_but_not_number, resolve, Kind};
+use crate::resolver::{Kind, digits_but_not_number, resolve};
 
 /// The style to ask for the string, so that it reads back as a string: a literal block where it has a line feed, single
 /// quotes where it would be read as something else when plain, and otherwise any.

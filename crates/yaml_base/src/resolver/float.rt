@@ -18,7 +18,8 @@ fn has_only_digits(text: &[u8]) -> bool
 fn has_only_digits_and_points(text: &[u8]) -> bool
     ensures { result ≡ list_all (λ c. is_ascii_digit c || c == 46) text.now }
 {
-    text.iter().all(|byte| byte.is_ascii_digit() || *byte == b'.')
+    text.iter()
+        .all(|byte| byte.is_ascii_digit() || *byte == b'.')
 }
 
 fn has_digit(text: &[u8]) -> bool

@@ -139,5 +139,4 @@ pub fn integers_have_their_grammar()
     ensures no_minus { (text : List ℕ) (n : ℕ) → (unsigned_of text ≡ Some n) ↔ IsUnsignedText text n }
     ensures decimal_or_minus { (text : List ℕ) (z : ℤ)
         → (negative_of text ≡ Some z) ↔ IsNegativeText text z }
-{
-}
+{}

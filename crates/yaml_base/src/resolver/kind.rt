@@ -53,5 +53,4 @@ pub fn resolve(scalar: &str) -> Kind
 pub fn each_text_has_one_kind()
     ensures one { (text : List ℕ) → HasKind text (kind_of text) }
     ensures only { (text : List ℕ) (kind : PlainKind) → HasKind text kind → kind ≡ kind_of text }
-{
-}
+{}

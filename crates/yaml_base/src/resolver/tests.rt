@@ -5,8 +5,9 @@ use crate::emitter::AskedStyle;
 use crate::event::ScalarStyle;
 use crate::local_tag::parse_tag;
 use crate::resolver::{
-    digits_but_not_number, each_text_has_one_kind, integers_have_their_grammar, is_float_text,
-    parse_bool, parse_negative_int, parse_null, parse_signed_int, parse_unsigned_int, resolve, Kind,
+    Kind, digits_but_not_number, each_text_has_one_kind, integers_have_their_grammar,
+    is_float_text, parse_bool, parse_negative_int, parse_null, parse_signed_int,
+    parse_unsigned_int, resolve,
 };
 use crate::style::infer_style;
 use crate::tag::Tag;
@@ -30,8 +31,18 @@ fn reads_integers_in_four_bases(rt: HostRuntime) {
         ("0x10", Some(16), Some(16), None),
         ("-0x10", Some(-16), None, Some(-16)),
         ("+0xfF", Some(255), Some(255), None),
-        ("18446744073709551616", Some(1 << 64), Some(1 << 64), Some(1 << 64)),
-        ("-0o1000000000000000000001", Some(-9223372036854775809), None, Some(-9223372036854775809)),
+        (
+            "18446744073709551616",
+            Some(1 << 64),
+            Some(1 << 64),
+            Some(1 << 64),
+        ),
+        (
+            "-0o1000000000000000000001",
+            Some(-9223372036854775809),
+            None,
+            Some(-9223372036854775809),
+        ),
         ("", None, None, None),
         ("-", None, None, None),
         ("0x", None, None, None),
@@ -54,9 +65,21 @@ fn reads_integers_in_four_bases(rt: HostRuntime) {
         ("1_000", None, None, None),
         (" 1", None, None, None),
     ] {
-        assert_eq!(rt; parse_signed_int(text, i128::MIN, i128::MAX), signed, "{text} with any sign");
-        assert_eq!(rt; parse_unsigned_int(text, u128::MAX), unsigned, "{text} without a minus");
-        assert_eq!(rt; parse_negative_int(text, i128::MIN, i128::MAX), negative, "{text} as a negative");
+        assert_eq!(rt;
+            parse_signed_int(text, i128::MIN, i128::MAX),
+            signed,
+            "{text} with any sign"
+        );
+        assert_eq!(rt;
+            parse_unsigned_int(text, u128::MAX),
+            unsigned,
+            "{text} without a minus"
+        );
+        assert_eq!(rt;
+            parse_negative_int(text, i128::MIN, i128::MAX),
+            negative,
+            "{text} as a negative"
+        );
     }
     integers_have_their_grammar();
 }
@@ -67,9 +90,17 @@ fn keeps_integers_in_their_range(rt: HostRuntime) {
         ("255", 255, Some(255)),
         ("256", 255, None),
         ("-0", 255, None),
-        ("340282366920938463463374607431768211455", u128::MAX, Some(u128::MAX)),
+        (
+            "340282366920938463463374607431768211455",
+            u128::MAX,
+            Some(u128::MAX),
+        ),
         ("340282366920938463463374607431768211456", u128::MAX, None),
-        ("0xffffffffffffffffffffffffffffffff", u128::MAX, Some(u128::MAX)),
+        (
+            "0xffffffffffffffffffffffffffffffff",
+            u128::MAX,
+            Some(u128::MAX),
+        ),
         ("0x100000000000000000000000000000000", u128::MAX, None),
     ] {
         assert_eq!(rt; parse_unsigned_int(text, max), want, "{text}");
@@ -80,17 +111,44 @@ fn keeps_integers_in_their_range(rt: HostRuntime) {
         ("-128", -128, 127, Some(-128)),
         ("-129", -128, 127, None),
         ("-0", -128, 127, Some(0)),
-        ("-170141183460469231731687303715884105728", i128::MIN, i128::MAX, Some(i128::MIN)),
-        ("-170141183460469231731687303715884105729", i128::MIN, i128::MAX, None),
-        ("-0o2000000000000000000000000000000000000000000", i128::MIN, i128::MAX, Some(i128::MIN)),
-        ("-0o2000000000000000000000000000000000000000001", i128::MIN, i128::MAX, None),
+        (
+            "-170141183460469231731687303715884105728",
+            i128::MIN,
+            i128::MAX,
+            Some(i128::MIN),
+        ),
+        (
+            "-170141183460469231731687303715884105729",
+            i128::MIN,
+            i128::MAX,
+            None,
+        ),
+        (
+            "-0o2000000000000000000000000000000000000000000",
+            i128::MIN,
+            i128::MAX,
+            Some(i128::MIN),
+        ),
+        (
+            "-0o2000000000000000000000000000000000000000001",
+            i128::MIN,
+            i128::MAX,
+            None,
+        ),
     ] {
         assert_eq!(rt; parse_signed_int(text, min, max), want, "{text}");
         assert_eq!(rt; parse_negative_int(text, min, max), want, "{text}");
     }
     assert_eq!(rt; parse_negative_int("-0x10", -128, 127), Some(-16));
     assert_eq!(rt; parse_negative_int("0x10", -128, 127), None);
-    assert_eq!(rt; parse_signed_int("170141183460469231731687303715884105728", i128::MIN, i128::MAX), None);
+    assert_eq!(rt;
+        parse_signed_int(
+            "170141183460469231731687303715884105728",
+            i128::MIN,
+            i128::MAX
+        ),
+        None
+    );
 }
 
 #[test]
@@ -118,9 +176,15 @@ fn tells_the_kind_of_a_text(rt: HostRuntime) {
         ("-0", Kind::Signed(0)),
         ("-0xF0", Kind::Signed(-240)),
         ("18446744073709551616", Kind::Unsigned(18446744073709551616)),
-        ("340282366920938463463374607431768211455", Kind::Unsigned(u128::MAX)),
+        (
+            "340282366920938463463374607431768211455",
+            Kind::Unsigned(u128::MAX),
+        ),
         ("340282366920938463463374607431768211456", Kind::Float),
-        ("-170141183460469231731687303715884105728", Kind::Signed(i128::MIN)),
+        (
+            "-170141183460469231731687303715884105728",
+            Kind::Signed(i128::MIN),
+        ),
         ("-170141183460469231731687303715884105729", Kind::Float),
         ("0x100000000000000000000000000000000", Kind::Str),
         ("1e999", Kind::Float),
@@ -145,9 +209,17 @@ fn tells_the_kind_of_a_text(rt: HostRuntime) {
         ("a", Kind::Str),
     ] {
         assert_eq!(rt; resolve(text), want, "{text}");
-        assert_eq!(rt; parse_bool(text).is_some(), matches!(want, Kind::Bool(_)), "{text} as a boolean");
+        assert_eq!(rt;
+            parse_bool(text).is_some(),
+            matches!(want, Kind::Bool(_)),
+            "{text} as a boolean"
+        );
         let is_word = parse_null(text.as_bytes()).is_some();
-        assert_eq!(rt; is_word, want == Kind::Null && !text.is_empty(), "{text} as a word for null");
+        assert_eq!(rt;
+            is_word,
+            want == Kind::Null && !text.is_empty(),
+            "{text} as a word for null"
+        );
     }
     each_text_has_one_kind();
 }
@@ -213,7 +285,10 @@ fn lends_texts_that_end_their_source(rt: HostRuntime) {
         let lent = parse_borrowed_str(text, Some(source.as_bytes()), style);
         assert_eq!(rt; lent.is_some(), is_lent, "{text} in {source}");
         assert!(rt; lent.is_none() || lent == Some(text), "{text} in {source}");
-        assert!(rt; parse_borrowed_str(text, None, style).is_none(), "{text} without a source");
+        assert!(rt;
+            parse_borrowed_str(text, None, style).is_none(),
+            "{text} without a source"
+        );
     }
 }
 

@@ -11,10 +11,10 @@ returns c =
     let h : c.within.result ≡ in_range c.args.min c.args.max c.integer.result =
     rw (to_z-of_z w128 _ c.ranges.min, to_z-of_z w128 _ c.ranges.max) at c.within.ensures in
     let e : c.within.result ≡ in_range c.args.min c.args.max (integer_of c.args.scalar.now) =
-        in_range-twice (neg_ℤ (pos (2 ^ 127))) (pos (2 ^ 127 - 1)) _ _ _ _ _
-          (omega (arith, ints, c.ranges.min)) (omega (arith, ints, c.ranges.max)) c.integer.ensures h in
+    in_range-twice (neg_ℤ (pos (2 ^ 127))) (pos (2 ^ 127 - 1)) _ _ _ _ _
+    (omega (arith, ints, c.ranges.min)) (omega (arith, ints, c.ranges.max)) c.integer.ensures h in
     record {
       value = e;
       exact = in_range-exact (IsIntegerText c.args.scalar.now) c.args.min c.args.max _ _
-        (λ z. (integer_of-sound c.args.scalar.now z, integer_of-complete c.args.scalar.now z)) e;
+          (λ z. (integer_of-sound c.args.scalar.now z, integer_of-complete c.args.scalar.now z)) e;
     }
