@@ -1,6 +1,7 @@
 //! What every layer of the YAML data crates speaks of: marks, tags, events and faults, and the grammar of streams.
 #![tactic(auto)]
 
+mod borrowed;
 pub mod emitter;
 mod entry_key;
 mod error;
@@ -11,9 +12,13 @@ mod location;
 mod mark;
 mod path;
 mod quoted;
+mod resolve;
 mod tag;
+#[cfg(test)]
+mod tests;
 mod words;
 
+pub use borrowed::parse_borrowed_str;
 pub use entry_key::EntryKey;
 pub use error::{Cause, Error, Place, Result};
 pub use event::{Event, MappingStart, Scalar, ScalarStyle, SequenceStart};
@@ -23,8 +28,8 @@ pub use location::Location;
 pub use mark::Mark;
 pub use path::Path;
 pub use quoted::{Quoted, QuotedBytes};
+pub use resolve::{
+    parse_bool, parse_negative_int, parse_null, parse_signed_int, parse_unsigned_int,
+};
 pub use tag::{Anchor, Tag};
 pub use words::{WordList, Words};
-
-#[cfg(test)]
-mod tests;

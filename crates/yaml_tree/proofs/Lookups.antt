@@ -1,7 +1,8 @@
 -- What the place of a key says of the value there, of the pairs with a new value, and of the keys.
 use Rattle.std.specs.Prelude.{◌≡◌, ℕ, zero, suc, ◌+◌, ◌<◌, List, [], ◌∷◌, ◌++◌, length, refl, true, false, Bool}
 use Rattle.std.specs.Prelude.{Option, Some, None, option_map, if◌then◌else◌, ◌||◌, ◌&&◌, not}
-use Rattle.std.proofs.Common.{ap, arith, sym, ◌∙◌, get_or, set, true≢false}
+use Rattle.std.proofs.Common.{ap, arith, sym, ◌∙◌, get_or, set, subst, true≢false}
+use Rattle.yaml_tree.specs.Entries.{with_value, new_entry}
 use Rattle.yaml_tree.specs.Equal.{tree_eq}
 use Rattle.yaml_tree.specs.EqualLaws.{tree_eq-symm, tree_eq-congr}
 use Rattle.yaml_tree.specs.Lookup.{place_of, has_pair}
@@ -42,14 +43,6 @@ pub other_keys : (l w : Tree) (ps : Pairs) → keys_distinct (pair l w ps) ≡ t
 other_keys l w ps d = and_right (not (has_key l ps)) _ d
 
 -- ---- the value at a place
--- an entry with another value
-abbrev pub with_value : Entry → Value → Entry
-with_value e v = record { key = e.key; value = v }
-
--- an entry of a key and a value
-abbrev pub new_entry : Value → Value → Entry
-new_entry k v = record { key = k; value = v }
-
 -- what a place says of the value there, and of the pairs once there is another value
 abbrev pub HoldsAt : Tree → List Entry → ℕ → Type 0
 HoldsAt k es i =
@@ -93,6 +86,12 @@ pub holds_at_place : (k : Tree) (es : List Entry) → Holds k es (place_of k (en
 holds_at_place k [] = (refl, λ c v p. ap (λ t. pair t (tree_of v) no_pairs) p)
 holds_at_place k (e ∷ es) =
     holds_by (tree_eq k (tree_of e.key)) k e es (place_of k (entry_pairs es)) refl (holds_at_place k es)
+
+-- so does what is the place of a key among these entries
+pub holds_at_found : (k : Tree) (xs es : List Entry) (o : Option ℕ) → xs ≡ es → o ≡ place_of k (entry_pairs xs)
+    → Holds k es o
+holds_at_found k xs es o same found =
+    subst (λ ys. Holds k ys o) same (subst (Holds k xs) (sym found) (holds_at_place k xs))
 
 -- ---- a place that was guessed
 other_key : (l : Tree) (es : List Entry) (i : ℕ) (d : Entry) → has_key l (entry_pairs es) ≡ false → i < length es

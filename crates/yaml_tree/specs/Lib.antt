@@ -10,5 +10,6 @@ pub mod Code
 pub mod Valid
 pub mod TagView
 pub mod View
+pub mod Entries
 pub mod Lookup
 pub mod Falls

@@ -65,3 +65,8 @@ abbrev mutual
   pub pairs_size : Pairs → ℕ
   pairs_size no_pairs = 0
   pairs_size (pair k v ps) = tree_size k + tree_size v + pairs_size ps + 1
+
+-- how large the pairs are that are left of a mapping
+abbrev pub pair_list_size : List (Tree × Tree) → ℕ
+pair_list_size [] = 0
+pair_list_size (p ∷ ps) = tree_size p.0 + tree_size p.1 + pair_list_size ps + 1

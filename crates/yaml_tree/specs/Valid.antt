@@ -1,6 +1,6 @@
 -- The trees that values stand for: distinct keys in each mapping, tags that aren't empty, texts, and numbers in range.
 use Rattle.std.specs.Prelude.{◌≡◌, ℕ, List, Bool, true, false, ◌&&◌, refl}
-use Rattle.std.specs.Coded.{Coded, Coded-set, coded_bool, coded_ℕ, coded_list}
+use Rattle.std.specs.Coded.{Coded, Coded-set, coded_bool, coded_ℕ, coded_list, coded×}
 use Rattle.std.specs.Str.{is_utf8}
 use base.Stored.{coded_sub}
 use Rattle.yaml_tree.specs.Code.{tree_code, trees_code, pairs_code}
@@ -46,6 +46,10 @@ ValuePairs = (ps : Pairs) × ((keys_distinct ps && are_pairs ps) ≡ true)
 abbrev pub TagText : Type 0
 TagText = (s : List ℕ) × (is_tag s ≡ true)
 
+-- what a tagged value is seen as: its tag, and the value under it
+abbrev pub TaggedTree : Type 0
+TaggedTree = TagText × ValueTree
+
 -- a sequence's values
 abbrev pub items_of : ValueTrees → Trees
 items_of s = s.0
@@ -53,6 +57,14 @@ items_of s = s.0
 -- a mapping's pairs
 abbrev pub pairs_of : ValuePairs → Pairs
 pairs_of m = m.0
+
+-- the text of a tagged value's tag
+abbrev pub tag_of : TaggedTree → List ℕ
+tag_of t = t.0.0
+
+-- the value under a tagged value's tag
+abbrev pub content_of : TaggedTree → Tree
+content_of t = t.1.0
 
 -- a tree is told from others by itself
 abbrev pub value_tree_code : Coded ValueTree
@@ -72,6 +84,10 @@ value_pairs_code =
 abbrev pub tag_text_code : Coded TagText
 tag_text_code =
     coded_sub (coded_list coded_ℕ) (λ s. is_tag s ≡ true) (λ s. Coded-set coded_bool (is_tag s) true)
+
+-- so are the two parts of a tagged value
+abbrev pub tagged_tree_code : Coded TaggedTree
+tagged_tree_code = coded× tag_text_code value_tree_code
 
 -- these pairs, or none where two keys are equal (`distinct` says which of the two holds)
 abbrev pub pairs_by : (distinct : Bool) (ps : Pairs) → keys_distinct ps ≡ distinct → are_pairs ps ≡ true → ValuePairs

@@ -9,8 +9,11 @@ mod tag;
 mod value;
 
 pub use fault::TreeFault;
-pub use mapping::Mapping;
+pub use mapping::{Iter, Mapping};
 pub use number::Number;
 pub use sequence::Sequence;
 pub use tag::Tag;
 pub use value::{TaggedValue, Value};
+
+#[cfg(test)]
+mod tests;

@@ -3,7 +3,7 @@ ghost use Rattle.std.specs.Prelude.{◌≡◌, true, string_bytes};
 ghost use Rattle.yaml_tree.specs.Tag.{is_filled, tag_name};
 
 use crate::fault::TreeFault;
-use std::alloc::Global;
+use std::alloc::{AllocError, Global};
 
 /// A tag: a text that isn't empty.
 #[derive(Drop)]
@@ -28,6 +28,15 @@ impl Tag {
             Ok(text) => Ok(Tag { text }),
             Err(_) => Err(TreeFault::Memory),
         }
+    }
+
+    // A tag with the same text.
+    pub(crate) fn copy(&self) -> Result<Tag, AllocError>
+        ensures { IfOk result (λ tag. tag_text tag ≡ tag_text self.now) }
+    {
+        Ok(Tag {
+            text: self.text.clone()?,
+        })
     }
 
     /// The text that the tag was made of.

@@ -1,5 +1,6 @@
 //! Values of a document.
-mod equal;
+mod copy;
+pub(crate) mod equal;
 
 use crate::mapping::Mapping;
 use crate::number::Number;
@@ -38,20 +39,19 @@ pub struct TaggedValue {
 }
 
 impl Model for TaggedValue {
-    ghost use Rattle.std.specs.Coded.{coded×};
     ghost use Rattle.yaml_tree.specs.Tree.{tree_size};
-    ghost use Rattle.yaml_tree.specs.Valid.{TagText, ValueTree, tag_text_code, value_tree_code};
+    ghost use Rattle.yaml_tree.specs.Valid.{TaggedTree, content_of, tagged_tree_code};
 
-    ghost Value = { TagText × ValueTree };
+    ghost Value = { TaggedTree };
 
-    ghost coded = { coded× tag_text_code value_tree_code };
+    ghost coded = { tagged_tree_code };
 
     ghost use Rattle.yaml_tree.specs.TagView.{text_of_tag};
     ghost use Rattle.yaml_tree.specs.View.{tree_of, is_value-tree_of};
 
     ghost view = { λ t. (text_of_tag t.tag, (tree_of t.value, is_value-tree_of t.value)) };
 
-    ghost size = { λ t. tree_size t.1.0 };
+    ghost size = { λ t. tree_size (content_of t) };
 
     ghost use Rattle.std.proofs.Common.{arith};
     ghost use Rattle.yaml_tree.specs.Falls.{deep-Value_le};

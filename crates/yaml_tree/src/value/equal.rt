@@ -4,7 +4,7 @@ ghost use Rattle.yaml_tree.specs.Equal.{pairs_eq, tree_eq, trees_eq};
 ghost use Rattle.yaml_tree.specs.Lookup.{has_all_pairs, has_pair, place_of};
 ghost use Rattle.yaml_tree.specs.Mapping.{keys_distinct};
 ghost use Rattle.yaml_tree.specs.Tag.{tag_eq};
-ghost use Rattle.yaml_tree.specs.Valid.{items_of, pairs_of};
+ghost use Rattle.yaml_tree.specs.Valid.{content_of, items_of, pairs_of, tag_of};
 ghost use Rattle.yaml_tree.specs.View.{entry_pairs, tree_of};
 
 use crate::mapping::{Entry, Mapping};
@@ -98,7 +98,7 @@ fn same_value(a: &Value, b: &Value) -> bool
 
 #[cycle(same)]
 fn same_tagged(a: &TaggedValue, b: &TaggedValue) -> bool
-    ensures { result ≡ (tag_eq a.now.0.0 b.now.0.0 && tree_eq a.now.1.0 b.now.1.0) }
+    ensures { result ≡ (tag_eq (tag_of a.now) (tag_of b.now) && tree_eq (content_of a.now) (content_of b.now)) }
 {
     a.tag == b.tag && same_value(&a.value, &b.value)
 }

@@ -1,9 +1,9 @@
 -- Comparing by lengths, by places of keys, and by what the views say.
-use Rattle.std.proofs.Common.{◌≡◌, ap, sym, ◌∙◌, subst, Some, None}
+use Rattle.std.proofs.Common.{ap, sym, ◌∙◌, refl, Some, None}
 use Rattle.yaml_tree.specs.Equal.{tree_eq, trees_eq, pairs_eq}
 use Rattle.yaml_tree.specs.Mapping.{keys_distinct}
 use Rattle.yaml_tree.specs.View.{tree_of, trees_of, entry_pairs}
-use Rattle.yaml_tree.proofs.Lookups.{Holds, holds_at_place, is_value_equal, has_pair-value_at, place_of-guess}
+use Rattle.yaml_tree.proofs.Lookups.{holds_at_found, is_value_equal, has_pair-value_at, place_of-guess}
 use Rattle.yaml_tree.proofs.Views.{items_of-view, pairs_of-view, trees_eq-lengths, pairs_eq-lengths, pairs_eq-entries}
 use Rattle.yaml_tree.proofs.value.equal.+same.Goals as goal
 
@@ -18,7 +18,7 @@ is_among-returns-in-Some t c =
     let k = tree_of c.args.wanted.now.key in
     let v = tree_of c.args.wanted.now.value in
     let es = c.args.entries.now in
-    let held : Holds k es (Some c.in-Some.i) = subst (Holds k es) (sym c.in-Some.ensures.place) (holds_at_place k es) in
+    let held = holds_at_found k es es (Some c.in-Some.i) refl c.in-Some.ensures.place in
     c.same_value.ensures
     ∙ sym (has_pair-value_at k v (entry_pairs es) c.requires ∙ ap (is_value_equal v) (held c.index-entries-i.result).0)
 
@@ -27,7 +27,7 @@ is_among-returns-in-None t c =
     let k = tree_of c.args.wanted.now.key in
     let v = tree_of c.args.wanted.now.value in
     let es = c.args.entries.now in
-    let held : Holds k es None = subst (Holds k es) (sym c.in-None.ensures.place) (holds_at_place k es) in
+    let held = holds_at_found k es es None refl c.in-None.ensures.place in
     sym (has_pair-value_at k v (entry_pairs es) c.requires ∙ ap (is_value_equal v) held.0)
 
 pub same_items-returns-then-x-y : goal.same_items-returns-then-x-y
