@@ -1,6 +1,7 @@
 //! Marks, paths, and the places of faults.
 
 use crate::tests::build::{mark, words};
+use crate::tests::causes::custom;
 use crate::{Cause, Error, Mark, Path, Quoted, QuotedBytes};
 use std::alloc::{AllocError, Global};
 use std::test::Fail;
@@ -9,19 +10,17 @@ use std::test::Fail;
 fn marks_count_from_one(rt: HostRuntime) -> Result<(), Fail> {
     let alloc = rt.alloc();
     let marks = [
-        (mark(0, 0), "position 0", "Mark { index: 0 }"),
-        (mark(0, 4), "line 1 column 5", "Mark { line: 1, column: 5 }"),
-        (mark(3, 0), "line 4 column 1", "Mark { line: 4, column: 1 }"),
+        (mark(0, 0), "position 0 Mark { index: 0 }"),
+        (mark(0, 4), "line 1 column 5 Mark { line: 1, column: 5 }"),
+        (mark(3, 0), "line 4 column 1 Mark { line: 4, column: 1 }"),
         (
             Mark::new(7, 0, 0).ok_or("mark")?,
-            "position 7",
-            "Mark { index: 7 }",
+            "position 7 Mark { index: 7 }",
         ),
     ];
-    for (mark, text, debug) in marks {
-        let printed = format!(in alloc; "{mark}; {mark:?}")?;
-        let expected = format!(in alloc; "{text}; {debug}")?;
-        assert_eq!(rt; printed.as_str(), expected.as_str());
+    for (mark, expected) in marks {
+        let printed = format!(in alloc; "{mark} {mark:?}")?;
+        assert_eq!(rt; printed.as_str(), expected);
     }
     let last = u64::MAX - 1;
     let mark = Mark::new(u64::MAX, last, last).ok_or("mark")?;
@@ -95,39 +94,44 @@ fn paths_leave_aliases_out(rt: HostRuntime) -> Result<(), Fail> {
     Ok(())
 }
 
+// What a fault says once it was given this mark and this key of the root.
+fn said_at(alloc: Global, error: Error, mark: Mark, key: &str) -> Result<String, Error> {
+    let path = Path::Map {
+        parent: &Path::Root,
+        key,
+    };
+    let fixed = error.fix_mark(alloc, mark, &path)?;
+    Ok(fixed.to_string(alloc)?)
+}
+
 #[test]
-fn only_the_first_place_stays(rt: HostRuntime) -> Result<(), Fail> {
+fn a_fault_is_given_a_place(rt: HostRuntime) -> Result<(), Fail> {
     let alloc = rt.alloc();
-    let error = Error::custom(String::from_str(alloc, "no")?);
-    assert!(rt; error.location().is_none());
-    let dot = Path::Map {
-        parent: &Path::Root,
-        key: ".",
-    };
-    let unnamed = error.copy(alloc)?.fix_mark(alloc, mark(1, 0), &dot)?;
-    assert_eq!(rt; unnamed.to_string(alloc)?.as_str(), "no at line 2 column 1");
-    let key = Path::Map {
-        parent: &Path::Root,
-        key: "k",
-    };
-    let placed = error.fix_mark(alloc, mark(0, 3), &key)?;
-    assert_eq!(rt;
-        placed.to_string(alloc)?.as_str(),
-        "k: no at line 1 column 4"
-    );
-    let kept = placed.fix_mark(alloc, mark(9, 9), &dot)?;
-    assert_eq!(rt; kept.to_string(alloc)?.as_str(), "k: no at line 1 column 4");
-    let location = kept.location().ok_or("no location")?;
+    let rows = [
+        ("k", "k: no at line 2 column 1"),
+        (".", "no at line 2 column 1"),
+    ];
+    for (key, expected) in rows {
+        let error = Error::new(custom(alloc, "no")?);
+        let text = said_at(alloc, error, mark(1, 0), key)?;
+        assert_eq!(rt; text.as_str(), expected);
+    }
+    let whole = said_at(alloc, Error::new(Cause::EndOfStream), mark(9, 9), "k")?;
+    assert_eq!(rt; whole.as_str(), "EOF while parsing a value");
+    Ok(())
+}
+
+#[test]
+fn a_place_stays(rt: HostRuntime) -> Result<(), Fail> {
+    let alloc = rt.alloc();
+    let placed = Error::new(custom(alloc, "no")?).fix_mark(alloc, mark(0, 3), &Path::Root)?;
+    let location = placed.location().ok_or("no location")?;
     assert_eq!(rt;
         (location.index(), location.line(), location.column()),
         (3, 1, 4)
     );
-    let whole = Error::new(Cause::EndOfStream).fix_mark(alloc, mark(9, 9), &key)?;
-    assert_eq!(rt;
-        whole.to_string(alloc)?.as_str(),
-        "EOF while parsing a value"
-    );
-    assert!(rt; whole.location().is_none());
+    let kept = said_at(alloc, placed, mark(9, 9), "k")?;
+    assert_eq!(rt; kept.as_str(), "no at line 1 column 4");
     Ok(())
 }
 
@@ -141,5 +145,7 @@ fn texts_are_quoted_byte_by_byte(rt: HostRuntime) -> Result<(), Fail> {
         printed.as_str(),
         "\"a\\\"\\\\ ~\\x7f\\x09\\xc3\\xa9\" \"\\x00\\x1f \\xff\""
     );
+    let error = Error::custom(String::from_str(alloc, "own")?);
+    assert!(rt; matches!(error.cause(), Cause::Custom { .. }));
     Ok(())
 }
