@@ -1,10 +1,12 @@
 -- A text at the end of a source: the test says what the definition says.
-use Rattle.std.specs.Prelude.{Option, Some, None, Result, Ok, Err, MatchResult, is_some, is_ok, IsSome, IfSome, Bool, true, nat_eq, nat_lt, ◌&&◌}
+use Rattle.std.specs.Prelude.{Option, Some, None, Result, Ok, Err, MatchResult, is_some, is_ok, IsSome, IfSome, Bool}
+use Rattle.std.specs.Prelude.{true, nat_eq, nat_lt, ◌&&◌}
 use Rattle.std.specs.Bool.{Decides}
 use Rattle.std.specs.List.{ends_with}
 use Rattle.std.specs.Result.{result_ok}
 use Rattle.std.specs.Str.{IsUtf8}
-use Rattle.std.proofs.Common.{◌≡◌, ℕ, ◌+◌, ◌-◌, ◌<◌, List, [], ◌∷◌, ◌++◌, length, take, drop, refl, sym, ap, ◌∙◌, arith, length-append, length-drop, Bor}
+use Rattle.std.proofs.Common.{◌≡◌, ℕ, ◌+◌, ◌-◌, ◌<◌, List, [], ◌∷◌, ◌++◌, length, take, drop, refl, sym, ap, ◌∙◌, arith}
+use Rattle.std.proofs.Common.{length-append, length-drop, Bor}
 use Rattle.std.proofs.lemmas.Bool.Decides.{Decides-eqb, Decides-ltb, nat_tests}
 use Rattle.std.proofs.lemmas.List.{take-append-drop}
 use Rattle.std.proofs.lemmas.Slice.Eq.{slice_eq-Decides, ends_is}
@@ -18,11 +20,15 @@ range_to_end : (s : List ℕ) (k : ℕ) → take (length s - k) (drop k s) ≡ d
 range_to_end s k = rw (← length-drop k s) (take-length (drop k s))
 
 -- the part of the source that is cut off is the text
-pub part-text : (s t : List ℕ) → ends_with nat_eq s t ≡ true → take (length s - (length s - length t)) (drop (length s - length t) s) ≡ t
-part-text s t e = range_to_end s (length s - length t) ∙ sym ((slice_eq-Decides Decides-eqb t (drop (length s - length t) s) _ refl).0 e)
+pub part-text : (s t : List ℕ) → ends_with nat_eq s t ≡ true
+    → take (length s - (length s - length t)) (drop (length s - length t) s) ≡ t
+part-text s t e =
+    range_to_end s (length s - length t)
+    ∙ sym ((slice_eq-Decides Decides-eqb t (drop (length s - length t) s) _ refl).0 e)
 
 pub ends_with-Decides : (s t : List ℕ) → Decides (ends_with nat_eq s t) (EndsIn s t)
-ends_with-Decides s t = let d = ends_is Decides-eqb s t (ends_with nat_eq s t) refl in ((λ e. (_, d.0 e)), (λ h. d.1 h.0 h.1))
+ends_with-Decides s t = let d = ends_is Decides-eqb s t (ends_with nat_eq s t) refl in
+    ((λ e. (_, d.0 e)), (λ h. d.1 h.0 h.1))
 
 -- a list of one element
 alone : (xs : List ℕ) → length xs ≡ 1 → (x : ℕ) × (xs ≡ x ∷ [])
@@ -37,7 +43,8 @@ when : {n : ℕ} → 0 < n → nat_lt 0 n ≡ true
 when {n} h = (Decides-ltb 0 n).1 h
 
 -- the text before the closing byte of a source
-quoted-Decides : (s t : List ℕ) → Decides (nat_lt 0 (length s) && ends_with nat_eq (take (length s - 1) s) t) (EndsInQuoted s t)
+quoted-Decides : (s t : List ℕ)
+    → Decides (nat_lt 0 (length s) && ends_with nat_eq (take (length s - 1) s) t) (EndsInQuoted s t)
 quoted-Decides s t = (
   (λ e.
       let some : 0 < length s = grind (arith, nat_tests) in
@@ -77,7 +84,8 @@ text-is_some P Q bs text (Ok a) o h e same u = e
 text-is_some P Q bs text (Err e') o h e same u = absurd (h.0 (rw same u))
 
 -- what is lent out of bytes that equal a text is the text
-pub text-part : {E : Type 0} (bs text : List ℕ) (F : E → Type 0) (r : Result (Bor (List ℕ)) E) (o : Option (Bor (List ℕ)))
+pub text-part : {E : Type 0} (bs text : List ℕ) (F : E → Type 0) (r : Result (Bor (List ℕ)) E)
+    (o : Option (Bor (List ℕ)))
     → MatchResult r (λ s. (s.now ≡ bs) × IsUtf8 bs) F → o ≡ result_ok r → bs ≡ text → IfSome o (λ part. part.now ≡ text)
 text-part bs text F (Ok a) o h e same = rw e (h.0 ∙ same)
 text-part bs text F (Err e') o h e same = rw e tt

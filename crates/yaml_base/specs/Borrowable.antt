@@ -1,5 +1,6 @@
 -- When a scalar's text can be lent out of the slice of the source that it was read from.
-use Rattle.std.specs.Prelude.{◌≡◌, ℕ, nat_eq, Bool, false, ◌&&◌, nat_lt, List, [], ◌∷◌, ◌++◌, length, take, ◌-◌, Option, None, Some}
+use Rattle.std.specs.Prelude.{◌≡◌, ℕ, nat_eq, Bool, false, ◌&&◌, nat_lt, List, [], ◌∷◌, ◌++◌, length, take, ◌-◌, Option}
+use Rattle.std.specs.Prelude.{None, Some}
 use Rattle.std.specs.List.{ends_with}
 use Rattle.yaml_base.specs.declared.event.ScalarStyle.{ScalarStyle}
 use Rattle.yaml_base.specs.declared.event.ScalarStyle.TheVariants.{Plain, SingleQuoted, DoubleQuoted, Literal, Folded}
@@ -29,7 +30,9 @@ IsBorrowable text (Some source) style = StandsIn style source text
 abbrev pub is_borrowable : List ℕ → Option (List ℕ) → ScalarStyle → Bool
 is_borrowable text None style = false
 is_borrowable text (Some source) Plain = ends_with nat_eq source text
-is_borrowable text (Some source) SingleQuoted = nat_lt 0 (length source) && ends_with nat_eq (take (length source - 1) source) text
-is_borrowable text (Some source) DoubleQuoted = nat_lt 0 (length source) && ends_with nat_eq (take (length source - 1) source) text
+is_borrowable text (Some source) SingleQuoted =
+    nat_lt 0 (length source) && ends_with nat_eq (take (length source - 1) source) text
+is_borrowable text (Some source) DoubleQuoted =
+    nat_lt 0 (length source) && ends_with nat_eq (take (length source - 1) source) text
 is_borrowable text (Some source) Literal = false
 is_borrowable text (Some source) Folded = false

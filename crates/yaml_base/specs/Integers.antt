@@ -1,5 +1,7 @@
 -- Integer text: an optional sign, then digits of one of four bases; and the integer that it writes.
-use Rattle.std.specs.Prelude.{◌≡◌, ◌≢◌, ◌⊎◌, ℕ, ◌+◌, ◌*◌, ◌^◌, ◌<◌, Bool, false, ◌&&◌, ◌==◌, nat_eq, nat_lt, if◌then◌else◌, List, [], ◌∷◌, ◌++◌, length, drop, slice_index, codes, ℤ, pos, int_le, nat_le, not, Option, Some, None}
+use Rattle.std.specs.Prelude.{◌≡◌, ◌≢◌, ◌⊎◌, ℕ, ◌+◌, ◌*◌, ◌^◌, ◌<◌, Bool, false, ◌&&◌, ◌==◌, nat_eq, nat_lt}
+use Rattle.std.specs.Prelude.{if◌then◌else◌, List, [], ◌∷◌, ◌++◌, length, drop, slice_index, codes, ℤ, pos, int_le}
+use Rattle.std.specs.Prelude.{nat_le, not, Option, Some, None}
 use Rattle.std.specs.Char.{digit_value}
 use Rattle.std.specs.List.{starts_with, list_all}
 use Rattle.std.specs.Option.{option_map, option_or}
@@ -71,7 +73,8 @@ IsNegativeText text z = (sign : Sign) × (base : Base) × ((base ≡ decimal) �
 -- the number that one digit of the base or more write
 abbrev pub digits_number : ℕ → List ℕ → Option ℕ
 digits_number base digits =
-    if nat_lt 0 (length digits) && list_all (λ c. nat_lt (digit_value c) base) digits then Some (place_value base digits) else None
+    if nat_lt 0 (length digits) && list_all (λ c. nat_lt (digit_value c) base) digits
+    then Some (place_value base digits) else None
 
 -- decimal text begins with a zero that does not stand alone
 abbrev pub has_zero_in_front : Base → List ℕ → Bool

@@ -1,12 +1,16 @@
 -- What contracts of this crate, and of those above it, cite.
 pub mod Answer
+pub mod AskedStyles
 pub mod Borrowable
 pub mod CausePlace
 pub mod CauseText
 pub mod ErrorText
 pub mod FaultText
+pub mod Floats
 pub mod FoundText
 pub mod Integers
+pub mod Kinds
+pub mod LocalName
 pub mod MarkText
 pub mod PathText
 pub mod PlainEvent

@@ -4,7 +4,8 @@ use Rattle.std.specs.Prelude.{ℕ, Bool, true, false, ◌||◌, if◌then◌else
 -- the text is a word for null
 abbrev pub is_null_word : List ℕ → Bool
 is_null_word text =
-    bytes_eq text (codes "null") || (bytes_eq text (codes "Null") || (bytes_eq text (codes "NULL") || bytes_eq text (codes "~")))
+    bytes_eq text (codes "null")
+    || (bytes_eq text (codes "Null") || (bytes_eq text (codes "NULL") || bytes_eq text (codes "~")))
 
 -- the text is a word for true
 abbrev pub is_true_word : List ℕ → Bool

@@ -1,5 +1,6 @@
 -- The optional sign of a number.
-use Rattle.std.specs.Prelude.{ℕ, Bool, true, false, ◌==◌, if◌then◌else◌, List, [], ◌∷◌, length, drop, codes, ℤ, pos, neg_ℤ}
+use Rattle.std.specs.Prelude.{ℕ, Bool, true, false, ◌==◌, if◌then◌else◌, List, [], ◌∷◌, length, drop, codes, ℤ, pos}
+use Rattle.std.specs.Prelude.{neg_ℤ}
 
 -- no sign, or one of the two
 pub data Sign : Type 0 where

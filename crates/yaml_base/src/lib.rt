@@ -8,11 +8,13 @@ mod error;
 mod event;
 mod fault;
 mod found;
+mod local_tag;
 mod location;
 mod mark;
 mod path;
 mod quoted;
-mod resolve;
+mod resolver;
+mod style;
 mod tag;
 #[cfg(test)]
 mod tests;
@@ -24,12 +26,16 @@ pub use error::{Cause, Error, Place, Result};
 pub use event::{Event, MappingStart, Scalar, ScalarStyle, SequenceStart};
 pub use fault::{FaultKind, ParserFault};
 pub use found::Found;
+pub use local_tag::parse_tag;
 pub use location::Location;
 pub use mark::Mark;
 pub use path::Path;
 pub use quoted::{Quoted, QuotedBytes};
-pub use resolve::{
-    parse_bool, parse_negative_int, parse_null, parse_signed_int, parse_unsigned_int,
+pub use resolver::{
+    Kind, digits_but_not_number, each_text_has_one_kind, integers_have_their_grammar,
+    is_float_text, parse_bool, parse_negative_int, parse_null, parse_signed_int,
+    parse_unsigned_int, resolve,
 };
+pub use style::infer_style;
 pub use tag::{Anchor, Tag};
 pub use words::{WordList, Words};

@@ -54,7 +54,7 @@ impl<'de> Document<'de> {
         ensures refused { IfErr result (λ fault. (root : DocNode) (v : PlainData) (d k : ℕ) → IsTreeOf self.now root
             → Means schema.now root id.0 root false v d k → IsRefusal default_limits (length self.now.events) d k fault) }
         ensures faults { IfErr result (λ fault. (root : DocNode) → IsTreeOf self.now root → is_memory fault ≡ false
-            → IsReadingFault (slice_get self.now.events) fault) }
+            → IsReadingFault schema.now (slice_get self.now.events) fault) }
     {
         let events = self.events();
         let mut walk = Walk {
