@@ -1,6 +1,4 @@
 -- Lemmas of this crate.
 pub mod StreamMachineLaws
-pub mod WrongPlaces
-pub mod BareStreams
 pub mod TreeLaws
-pub mod BareDocuments
+pub mod WrongPlaces

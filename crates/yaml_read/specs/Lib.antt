@@ -1,7 +1,9 @@
 -- What contracts of this crate, and of those above it, cite.
-pub mod Bare
+pub mod Bodies
 pub mod DocEventView
 pub mod DocTree
+pub mod Documents
+pub mod Ends
 pub mod MarkedEvents
 pub mod PlainDocEvent
 pub mod PlainDocument
