@@ -2,3 +2,4 @@
 pub mod StreamMachineLaws
 pub mod TreeLaws
 pub mod WrongPlaces
+pub mod AnchorSearch
