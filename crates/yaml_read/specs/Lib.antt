@@ -4,6 +4,7 @@ pub mod DocEventView
 pub mod DocTree
 pub mod Documents
 pub mod Ends
+pub mod Gathering
 pub mod MarkedEvents
 pub mod PlainDocEvent
 pub mod PlainDocument

@@ -1,6 +1,6 @@
 //! The events of one document, from its start on.
 
-ghost use Rattle.std.specs.Prelude.{◌≡◌, ◌++◌, IfOk};
+ghost use Rattle.std.specs.Prelude.{◌≡◌, IfOk};
 ghost use Rattle.std.specs.Option.{option_map};
 ghost use Rattle.std.specs.Vec.Iter.{into_iter_items};
 ghost use Rattle.yaml_base.specs.PlainEvent.{event_of};
@@ -126,25 +126,26 @@ fn doc_event<'de>(event: Event<'de>, place: usize, anchors: &Anchors) -> Option<
     }
 }
 
-// Adds what the events become, up to the first unknown alias, whose mark is answered.
+// What the events become, up to the first unknown alias, and the mark of that one.
 pub(crate) fn resolve<'de>(
+    alloc: Global,
     events: Vec<(Event<'de>, Mark)>,
     anchors: &Anchors,
-    gathered: &mut Vec<(DocEvent<'de>, Mark)>,
-) -> Result<Option<Mark>, AllocError>
-    ensures added { IfOk result (λ _. marked_events_of gathered.new.items
-        ≡ marked_events_of gathered.old.items ++ known_events (find_in anchors.now) 0 (plain_marked events.entry.items)) }
-    ensures unknown { IfOk result (λ mark.
-        mark ≡ unknown_mark (find_in anchors.now) 0 (plain_marked events.entry.items)) }
+) -> Result<(Vec<(DocEvent<'de>, Mark)>, Option<Mark>), AllocError>
+    ensures known { IfOk result (λ found. marked_events_of found.0.items
+        ≡ known_events (find_in anchors.now) 0 (plain_marked events.entry.items)) }
+    ensures unknown { IfOk result (λ found.
+        found.1 ≡ unknown_mark (find_in anchors.now) 0 (plain_marked events.entry.items)) }
 {
+    let mut found = Vec::new(alloc);
     let mut place = 0;
     let mut rest = events.into_iter();
     'events: while let Some((event, mark)) = rest.next() {
         match doc_event(event, place, anchors) {
-            Some(event) => gathered.push((event, mark))?,
-            None => return Ok(Some(mark)),
+            Some(event) => found.push((event, mark))?,
+            None => return Ok((found, Some(mark))),
         }
         place += 1;
     }
-    Ok(None)
+    Ok((found, None))
 }

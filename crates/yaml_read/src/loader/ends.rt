@@ -1,8 +1,9 @@
 //! Where the collections of one document end.
 
-ghost use Rattle.std.specs.Prelude.{◌≡◌, IfOk, map, reverse};
+ghost use Rattle.std.specs.Prelude.{◌≡◌, IfOk};
 ghost use Rattle.yaml_read.specs.DocEventView.{doc_event_of};
-ghost use Rattle.yaml_read.specs.Ends.{ends_of, is_closing, is_opening};
+ghost use Rattle.yaml_read.specs.Ends.{ends_of as numbers_of, is_closing, is_opening};
+ghost use Rattle.yaml_read.specs.Gathering.{plain_doc_events};
 
 use crate::doc_event::DocEvent;
 use std::alloc::{AllocError, Global};
@@ -22,13 +23,13 @@ fn closes(event: &DocEvent<'_>) -> bool
     matches!(event, DocEvent::SequenceEnd | DocEvent::MappingEnd)
 }
 
-// The number of each event, from the last on: where the collection that begins there ends, or the length where it is cut
-// off, and for any other event its own place.
-pub(crate) fn ends_backwards(
+// The number of each event: where the collection that begins there ends, or the length where it is cut off, and for any
+// other event its own place.
+pub(crate) fn ends_of(
     alloc: Global,
     events: &[(DocEvent<'_>, Mark)],
 ) -> Result<Vec<usize>, AllocError>
-    ensures { IfOk result (λ found. reverse found.items ≡ ends_of (map (λ e. doc_event_of e.0) events.now)) }
+    ensures { IfOk result (λ found. found.items ≡ numbers_of (plain_doc_events events.now)) }
 {
     let mut found = Vec::new(alloc);
     let mut unmatched = Vec::new(alloc);
@@ -44,5 +45,6 @@ pub(crate) fn ends_backwards(
         }
         found.push(end)?;
     }
+    found.reverse();
     Ok(found)
 }

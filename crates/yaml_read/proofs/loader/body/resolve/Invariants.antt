@@ -12,9 +12,9 @@ invariant-events l =
     let left = plain_marked (into_iter_items l.rest) in
     record {
       counted : l.place + length (into_iter_items l.rest) ≡ length (into_iter_items l.initial.rest);
-      added :
-        marked_events_of l.gathered.items ++ known_events (find_in l.anchors) l.place left
-          ≡ marked_events_of l.initial.gathered.items ++ known_events (find_in l.anchors) 0 input;
+      known :
+        marked_events_of l.found.items ++ known_events (find_in l.anchors) l.place left
+          ≡ known_events (find_in l.anchors) 0 input;
       unknown : unknown_mark (find_in l.anchors) l.place left ≡ unknown_mark (find_in l.anchors) 0 input;
     }
 
