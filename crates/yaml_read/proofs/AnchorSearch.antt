@@ -1,6 +1,6 @@
 -- In a list of anchors in order, the last one below an alias tells the target.
 use Rattle.std.proofs.Common.{◌≡◌, ℕ, zero, suc, ◌+◌, ◌-◌, ◌<◌, ◌≤◌, List, [], ◌∷◌, length, get_or, Bool, true, false, cond}
-use Rattle.std.proofs.Common.{refl, sym, ◌∙◌, ap, subst, arith, ◌&&◌, Option, Some, None, ◌⊎◌, inl, inr, max, nat_lt, ◌==◌}
+use Rattle.std.proofs.Common.{refl, sym, ◌∙◌, ap, subst, arith, ◌&&◌, Option, Some, None, ◌⊎◌, inl, inr, max, nat_lt, ◌==◌, All}
 use Rattle.std.specs.Cmp.{IsTotalOrder, IsStrictWeakOrder, then_total, on_total, nat_cmp_total}
 use Rattle.std.specs.Cmp.Lexicographic.{slice_cmp, bytes_decides, nat_list_cmp_total}
 use Rattle.std.specs.Ordering.{is_lt, is_eq, nat_cmp, ordering_then}
@@ -9,9 +9,11 @@ use Rattle.std.specs.declared.cmp.Ordering.TheVariants.{Less, Equal, Greater}
 use Rattle.std.specs.List.Sorted.{IsSorted, IsPartitionedBy, IsPartitionPoint, IsPermutation}
 use Rattle.std.specs.Str.{bytes_eq}
 use Rattle.std.proofs.lemmas.Bool.{cases_Bool, ltb-true, ltb-false}
-use Rattle.std.proofs.lemmas.List.Sorted.{sorted_far, ranks_by, IsPermutation-keeps}
+use Rattle.std.proofs.lemmas.List.Sorted.{sorted_far, ranks_by, All-permutation, IsPermutation-sym}
+use Rattle.std.proofs.Math.Path.{fun_ext}
 use Rattle.std.proofs.lemmas.Map.Text.{is_eq-slice_cmp}
 use Rattle.yaml_base.specs.Tree.{greater, number_below, greatest_below}
+use Rattle.yaml_read.specs.Documents.{find_in}
 
 abbrev pub Named : Type 0
 Named = List ℕ × ℕ
@@ -212,4 +214,66 @@ module _ (xs : List Named) (anchor : List ℕ) (place i : ℕ) (d : Named) where
           | inr behind ↦ not_below anchor place (get_or xs k d) (front.1 k d behind l)
         ])
 
+-- one is missing or not greater than the other
+abbrev AtMost : Option ℕ → Option ℕ → Type 0
+AtMost None p = Unit {0}
+AtMost (Some n) None = ⊥
+AtMost (Some n) (Some m) = n ≤ m
+
+at_most_both : (o p : Option ℕ) → AtMost o p → AtMost p o → o ≡ p
+at_most_both None None h k = refl
+at_most_both None (Some m) h k = absurd k
+at_most_both (Some n) None h k = absurd h
+at_most_both (Some n) (Some m) h k = let e : n ≡ m = omega arith in ap Some e
+
+at_most_refl : (o : Option ℕ) → AtMost o o
+at_most_refl None = tt
+at_most_refl (Some n) = omega arith
+
+at_most_first : (o p : Option ℕ) → AtMost o (greater o p)
+at_most_first None p = tt
+at_most_first (Some n) None = omega arith
+at_most_first (Some n) (Some m) = omega arith
+
+at_most_second : (a o p : Option ℕ) → AtMost a p → AtMost a (greater o p)
+at_most_second None o p h = tt
+at_most_second (Some a) None p h = h
+at_most_second (Some a) (Some n) None h = absurd h
+at_most_second (Some a) (Some n) (Some m) h = omega arith
+
+at_most_greater : (o p q : Option ℕ) → AtMost o q → AtMost p q → AtMost (greater o p) q
+at_most_greater None p q h k = k
+at_most_greater (Some n) None q h k = h
+at_most_greater (Some n) (Some m) None h k = absurd h
+at_most_greater (Some n) (Some m) (Some l) h k = omega arith
+
+module _ (anchor : List ℕ) (place : ℕ) where
+  -- the greatest is at least each
+  greatest_upper : (xs : List Named) → All (λ x. AtMost (number_below place anchor x) (greatest_below place anchor xs)) xs
+  greatest_upper [] k d l = absurd (omega arith)
+  greatest_upper (x ∷ xs) zero d l = at_most_first (number_below place anchor x) (greatest_below place anchor xs)
+  greatest_upper (x ∷ xs) (suc k) d l =
+      at_most_second (number_below place anchor (get_or xs k d)) (number_below place anchor x)
+        (greatest_below place anchor xs) (greatest_upper xs k d (omega arith))
+
+  -- and at most what each is at most
+  greatest_least : (xs : List Named) (p : Option ℕ) → All (λ x. AtMost (number_below place anchor x) p) xs
+      → AtMost (greatest_below place anchor xs) p
+  greatest_least [] p h = tt
+  greatest_least (x ∷ xs) p h =
+      at_most_greater (number_below place anchor x) (greatest_below place anchor xs) p (h 0 x (omega arith))
+        (greatest_least xs p (λ k d l. h (suc k) d (omega arith)))
+
+  permuted : (xs ys : List Named) → IsPermutation xs ys
+      → AtMost (greatest_below place anchor ys) (greatest_below place anchor xs)
+  permuted xs ys p =
+      greatest_least ys (greatest_below place anchor xs)
+        (All-permutation (λ x. AtMost (number_below place anchor x) (greatest_below place anchor xs)) xs ys p
+          (greatest_upper xs))
+
 -- the targets are the same whatever the order of the anchors
+pub find_in-permutation : (xs ys : List Named) → IsPermutation xs ys → find_in ys ≡ find_in xs
+find_in-permutation xs ys p =
+    fun_ext (λ anchor. fun_ext (λ place.
+      at_most_both (greatest_below place anchor ys) (greatest_below place anchor xs) (permuted anchor place xs ys p)
+        (permuted anchor place ys xs (IsPermutation-sym xs ys p))))

@@ -3,3 +3,4 @@ pub mod StreamMachineLaws
 pub mod TreeLaws
 pub mod WrongPlaces
 pub mod AnchorSearch
+pub mod Gatherings

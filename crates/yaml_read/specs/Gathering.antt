@@ -1,5 +1,5 @@
 -- Documents as ranges of one list of events, beside which stand the numbers of the events.
-use Rattle.std.specs.Prelude.{ℕ, ◌≡◌, ◌≤◌, List, [], ◌∷◌, map, length, slice_range, Option, Some, None, option_to_list}
+use Rattle.std.specs.Prelude.{ℕ, ◌≡◌, ◌≤◌, List, [], ◌∷◌, map, length, slice_range, All, Option, Some, None, option_to_list}
 use Rattle.yaml_base.specs.Position.{Position}
 use Rattle.yaml_base.specs.PlainFault.{PlainFault}
 use Rattle.yaml_read.specs.DocEventView.{doc_event_of, marked_events_of}
@@ -19,6 +19,10 @@ abbrev pub HasEnds : List (DocEvent × Position) → List ℕ → ℕ → ℕ �
 HasEnds events ends from to =
     (from ≤ to) × (to ≤ length events) × (to ≤ length ends)
       × (slice_range ends from to ≡ ends_of (plain_doc_events (slice_range events from to)))
+
+-- each range lies so
+abbrev pub AreCuts : List (DocEvent × Position) → List ℕ → List Cut → Type 0
+AreCuts events ends cuts = All (λ (c : Cut). HasEnds events ends c.from c.to) cuts
 
 -- the document of a range
 abbrev pub document_in : List (DocEvent × Position) → Cut → PlainDocument

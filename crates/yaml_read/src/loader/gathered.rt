@@ -1,9 +1,9 @@
 //! The documents that a loader hands out, while their events are put beside one another.
 
-ghost use Rattle.std.specs.Prelude.{◌≡◌, ◌++◌, ◌∷◌, ◌↔◌, [], IfOk, IsTrue, Some};
+ghost use Rattle.std.specs.Prelude.{◌≡◌, ◌++◌, ◌∷◌, ◌↔◌, [], IfOk, IsTrue, length};
 ghost use Rattle.yaml_read.specs.DocEventView.{marked_events_of};
-ghost use Rattle.yaml_read.specs.Documents.{document_of};
-ghost use Rattle.yaml_read.specs.Gathering.{closing_documents};
+ghost use Rattle.yaml_read.specs.Documents.{document_of, ending_of};
+ghost use Rattle.yaml_read.specs.Gathering.{AreCuts, closing_documents, documents_in};
 ghost use Rattle.yaml_read.specs.MarkedEvents.{plain_marked};
 
 use crate::doc_event::DocEvent;
@@ -33,20 +33,46 @@ pub(crate) struct Gathered<'de> {
 }
 
 impl<'de> Model for Gathered<'de> {
-    ghost use Rattle.std.specs.Prelude.{◌≡◌, List, All, length};
-    ghost use Rattle.yaml_read.specs.Gathering.{HasEnds, documents_in};
+    ghost use Rattle.std.specs.Prelude.{◌≡◌, List, length};
+    ghost use Rattle.yaml_read.specs.Gathering.{AreCuts, documents_in};
     ghost use Rattle.yaml_read.specs.PlainDocument.{PlainDocument};
-    ghost use Rattle.yaml_read.specs.declared.loader.gathered.Cut.{Cut};
 
     ghost Value = { List PlainDocument };
 
     ghost view = { λ g. documents_in g.events.items g.cuts.items };
 
     ghost invariant = { λ g. (length g.ends.items ≡ length g.events.items)
-        × All (λ (c : Cut). HasEnds g.events.items g.ends.items c.from c.to) g.cuts.items };
+        × AreCuts g.events.items g.ends.items g.cuts.items };
+}
+
+// Why a document is cut off, if it is: by an unknown alias, or, where it has no end, by the parser's fault.
+fn ending(unknown: Option<Mark>, ended: bool, fault: Option<ParserFault>) -> Option<Error>
+    ensures { result ≡ ending_of unknown ended fault }
+{
+    match unknown {
+        Some(mark) => Some(Error::new(Cause::UnknownAnchor(mark))),
+        None => {
+            if ended {
+                return None;
+            }
+            match fault {
+                Some(fault) => Some(Error::from(fault)),
+                None => None,
+            }
+        }
+    }
 }
 
 impl<'de> Gathered<'de> {
+    // The documents of these ranges.
+    fn of(events: Vec<(DocEvent<'de>, Mark)>, ends: Vec<usize>, cuts: Vec<Cut>) -> Gathered<'de>
+        requires numbered { length ends.items ≡ length events.items }
+        requires cuts { AreCuts events.items ends.items cuts.items }
+        ensures { result ≡ documents_in events.entry.items cuts.items }
+    {
+        Gathered { events, ends, cuts }
+    }
+
     // No document. Takes no memory.
     pub(crate) fn new(alloc: Global) -> Gathered<'de>
         ensures { result ≡ [] }
@@ -86,7 +112,7 @@ impl<'de> Gathered<'de> {
         ends.append(&mut found_ends)?;
         let to = events.len();
         cuts.push(Cut { from, to, error })?;
-        Ok(Gathered { events, ends, cuts })
+        Ok(Gathered::of(events, ends, cuts))
     }
 
     // These documents, and behind them that of the body, which the parser's fault cuts off where it has no end.
@@ -106,20 +132,7 @@ impl<'de> Gathered<'de> {
         } = body;
         let anchors = Anchors::new(named)?;
         let (found, unknown) = resolve(alloc, events, &anchors)?;
-        let error = match unknown {
-            Some(mark) => Some(Error::new(Cause::UnknownAnchor(mark))),
-            None => {
-                if ended {
-                    None
-                } else {
-                    match fault {
-                        Some(fault) => Some(Error::from(fault)),
-                        None => None,
-                    }
-                }
-            }
-        };
-        self.add(alloc, found, error)
+        self.add(alloc, found, ending(unknown, ended, fault))
     }
 
     // These documents, and behind them the one without events that the parser's fault leaves, or, where there is neither
