@@ -4,3 +4,4 @@ pub mod TreeLaws
 pub mod WrongPlaces
 pub mod AnchorSearch
 pub mod Gatherings
+pub mod DocumentLaws
