@@ -1,6 +1,6 @@
 -- A document is read off the input behind its start.
 use Rattle.std.proofs.Common.{◌≡◌, ℕ, ◌+◌, List, [], ◌∷◌, ◌++◌, map, refl, sym, ◌∙◌, ap, Bool, true, false, Option, Some, None}
-use Rattle.std.proofs.Common.{option_to_list, ◌||◌, inl, inr}
+use Rattle.std.proofs.Common.{option_to_list, ◌||◌, not, inl, inr, cond, suc, ◌≤◌, length, arith, append_assoc, append-nil}
 use Rattle.std.specs.List.{list_any}
 use Rattle.std.specs.List.Sorted.{IsPermutation}
 use Rattle.std.proofs.lemmas.Bool.{cases_Bool}
@@ -13,7 +13,9 @@ use Rattle.yaml_read.specs.Bodies.{stripped, all_stripped}
 use Rattle.yaml_read.specs.Documents.{Input, Find, find_in, becomes, then_events, known_events, or_mark, unknown_mark}
 use Rattle.yaml_read.specs.Documents.{body, behind, is_ended, is_document_end, is_document_start, after_starts, is_open_after}
 use Rattle.yaml_read.specs.Documents.{anchors_in, ending_of, document_of, document_from, documents_of, further_document}
-use Rattle.yaml_read.specs.Documents.{last_mark, void_documents}
+use Rattle.yaml_read.specs.Documents.{last_mark, void_documents, failed_document}
+use Rattle.yaml_read.specs.MarkedEvents.{plain_marked}
+use Rattle.yaml_base.specs.declared.event.Event.{Event}
 use Rattle.yaml_read.specs.Gathering.{closing_documents}
 use Rattle.yaml_read.specs.PlainDocEvent.{PlainDocEvent}
 use Rattle.yaml_read.specs.PlainDocument.{PlainDocument}
@@ -126,3 +128,108 @@ open_at_end (e ∷ rest) h =
       inl yes_ ↦ absurd (let t = ap (λ b. b || is_ended rest) yes_ in cc)
       | inr no_ ↦ simp no_ (open_at_end rest (ap (λ b. b || is_ended rest) (sym no_) ∙ h))
     ]
+
+-- an event at which no document begins
+skip_starts : (left rest : Input) (e : PlainEvent × Position) → left ≡ e ∷ rest → is_document_start e.0 ≡ false
+    → after_starts false left ≡ after_starts false rest
+skip_starts left rest e is h =
+    ap (after_starts false) is ∙ ap (λ b. cond b (rest ∷ after_starts true rest) (after_starts false rest)) h
+
+pub skip_open : (left rest : Input) (e : PlainEvent × Position) → left ≡ e ∷ rest → is_document_start e.0 ≡ false
+    → is_open_after false left ≡ is_open_after false rest
+skip_open left rest e is h = ap (is_open_after false) is ∙ ap (λ b. is_open_after b rest) h
+
+-- a document begins
+begin_starts : (left rest : Input) (e : PlainEvent × Position) → left ≡ e ∷ rest → is_document_start e.0 ≡ true
+    → after_starts false left ≡ rest ∷ after_starts true rest
+begin_starts left rest e is h =
+    ap (after_starts false) is ∙ ap (λ b. cond b (rest ∷ after_starts true rest) (after_starts false rest)) h
+
+begin_open : (left rest : Input) (e : PlainEvent × Position) → left ≡ e ∷ rest → is_document_start e.0 ≡ true
+    → is_open_after false left ≡ is_open_after true rest
+begin_open left rest e is h = ap (is_open_after false) is ∙ ap (λ b. is_open_after b rest) h
+
+abbrev documents_behind : Option PlainFault → List Input → List PlainDocument
+documents_behind fault starts = map (document_from fault) starts
+
+-- the documents so far, with those behind an event at which none begins
+pub found_skipped : (fault : Option PlainFault) (old all : List PlainDocument) (left rest : Input) (e : PlainEvent × Position)
+    → left ≡ e ∷ rest → is_document_start e.0 ≡ false → old ++ documents_behind fault (after_starts false left) ≡ all
+    → old ++ documents_behind fault (after_starts false rest) ≡ all
+found_skipped fault old all left rest e is h found =
+    ap (λ s. old ++ documents_behind fault s) (sym (skip_starts left rest e is h)) ∙ found
+
+-- the documents so far, with one more, and those behind it
+pub found_more : (fault : Option PlainFault) (old new all : List PlainDocument) (doc : PlainDocument) (left rest next : Input)
+    (e : PlainEvent × Position) → left ≡ e ∷ rest → is_document_start e.0 ≡ true → is_ended rest ≡ true → next ≡ behind rest
+    → doc ≡ document_from fault rest → new ≡ old ++ doc ∷ [] → old ++ documents_behind fault (after_starts false left) ≡ all
+    → new ++ documents_behind fault (after_starts false next) ≡ all
+found_more fault old new all doc left rest next e is h ended n d made found =
+    let starts = begin_starts left rest e is h ∙ ap (λ s. rest ∷ s) (starts_behind rest ended ∙ ap (after_starts false) (sym n)) in
+    ap (λ ds. ds ++ documents_behind fault (after_starts false next)) made
+      ∙ append_assoc old (doc ∷ []) (documents_behind fault (after_starts false next))
+      ∙ ap (λ x. old ++ x ∷ documents_behind fault (after_starts false next)) d
+      ∙ ap (λ s. old ++ documents_behind fault s) (sym starts) ∙ found
+
+pub open_more : (opened : Bool) (left rest next : Input) (e : PlainEvent × Position) → left ≡ e ∷ rest
+    → is_document_start e.0 ≡ true → is_ended rest ≡ true → next ≡ behind rest → is_open_after false left ≡ opened
+    → is_open_after false next ≡ opened
+open_more opened left rest next e is h ended n o =
+    ap (is_open_after false) n ∙ sym (open_behind rest ended) ∙ sym (begin_open left rest e is h) ∙ o
+
+-- nothing comes behind documents of which the last is open
+none_void : (fault : Option PlainFault) (starts : List Input) (end : Option Position) (old : List PlainDocument)
+    (doc : PlainDocument) → old ++ doc ∷ [] ≡ documents_behind fault starts → void_documents starts end ≡ []
+none_void fault [] end [] doc h = absurd (cc)
+none_void fault [] end (x ∷ old) doc h = absurd (cc)
+none_void fault (s ∷ starts) end old doc h = refl
+
+none_further : (input : Input) (fault : Option PlainFault) (old : List PlainDocument) (doc : PlainDocument)
+    → old ++ doc ∷ [] ≡ documents_behind fault (after_starts false input) → is_open_after false input ≡ true
+    → further_document input fault ≡ []
+none_further input None old doc h o = none_void None (after_starts false input) (last_mark input) old doc h
+none_further input (Some f) old doc h o = ap (λ b. cond b [] (failed_document f ∷ [])) o
+
+-- the last document, which has no end
+pub found_last_open : (fault : Option PlainFault) (old : List PlainDocument) (doc : PlainDocument) (input left rest : Input)
+    (e : PlainEvent × Position) → left ≡ e ∷ rest → is_document_start e.0 ≡ true → is_ended rest ≡ false
+    → doc ≡ document_from fault rest
+    → old ++ documents_behind fault (after_starts false left) ≡ documents_behind fault (after_starts false input)
+    → is_open_after false left ≡ is_open_after false input → old ++ doc ∷ [] ≡ documents_of input fault
+found_last_open fault old doc input left rest e is h unended d found o =
+    let starts = begin_starts left rest e is h ∙ ap (λ s. rest ∷ s) (no_starts rest unended) in
+    let all : old ++ doc ∷ [] ≡ documents_behind fault (after_starts false input) =
+        ap (λ x. old ++ x ∷ []) d ∙ ap (λ s. old ++ documents_behind fault s) (sym starts) ∙ found in
+    let opened = sym o ∙ begin_open left rest e is h ∙ open_at_end rest unended in
+    all ∙ sym (append-nil (documents_behind fault (after_starts false input)))
+      ∙ ap (λ ds. documents_behind fault (after_starts false input) ++ ds) (sym (none_further input fault old doc all opened))
+
+-- what is left is no longer
+length-behind : (input : Input) → length (behind input) ≤ length input
+length-behind [] = omega arith
+length-behind (e ∷ input) =
+    elim (cases_Bool (is_document_end e.0)) [
+      inl yes_ ↦ simp yes_ (omega arith)
+      | inr no_ ↦ simp no_ (let r = length-behind input in omega arith)
+    ]
+
+length-plain_marked : (events : List (Event × Position)) → length (plain_marked events) ≡ length events
+length-plain_marked [] = refl
+length-plain_marked (e ∷ events) = ap suc (length-plain_marked events)
+
+pub shorter_behind : (events left : List (Event × Position)) → plain_marked left ≡ behind (plain_marked events)
+    → length left ≤ length events
+shorter_behind events left is =
+    let r = length-behind (plain_marked events) in
+    let a = length-plain_marked events in
+    let b = length-plain_marked left in
+    omega (arith, ap length is)
+
+-- what the code's tests say
+pub is_unended : (b : Bool) → not b ≡ true → b ≡ false
+is_unended true h = absurd (cc)
+is_unended false h = refl
+
+pub has_ended : (b : Bool) → not b ≡ false → b ≡ true
+has_ended true h = refl
+has_ended false h = absurd (cc)

@@ -1,6 +1,6 @@
 -- Ranges of a list of events keep their documents when events are put behind.
 use Rattle.std.proofs.Common.{◌≡◌, ℕ, zero, suc, ◌+◌, ◌-◌, ◌≤◌, ◌<◌, List, [], ◌∷◌, ◌++◌, map, length, take, drop, take_all, slice_range}
-use Rattle.std.proofs.Common.{refl, sym, ◌∙◌, ap, subst, arith, All, length-append, length-drop, Option, Some, None}
+use Rattle.std.proofs.Common.{refl, sym, ◌∙◌, ap, subst, arith, All, length-append, length-drop, append_assoc, Option, Some, None}
 use Rattle.std.proofs.lemmas.List.{take-append-le, drop-append-le, map-append}
 use Rattle.std.proofs.lemmas.List.Elements.{All-append, All-cons, All-nil, All-tail}
 use Rattle.std.proofs.Math.Seq.{drop-append_seam}
@@ -131,3 +131,13 @@ long_pushed events more whole ends numbers all w a long are =
     let many : length numbers ≡ length more =
         ap length are ∙ length-ends_from 0 (plain_doc_events more) ∙ length-plain_doc_events more in
     omega (arith, ap length w, ap length a, length-append events more, length-append ends numbers)
+
+-- one document more, and those of the ranges left
+pub documents_left : (events shared : Events) (cut : Cut) (before after all : List PlainDocument) (doc : PlainDocument)
+    (left later : List Cut) → shared ≡ events → left ≡ cut ∷ later → after ≡ before ++ doc ∷ []
+    → doc ≡ record { events = marked_events_of (slice_range shared cut.from cut.to); ending = cut.error }
+    → before ++ documents_in events left ≡ all → after ++ documents_in events later ≡ all
+documents_left events shared cut before after all doc left later s l a d found =
+    ap (λ ds. ds ++ documents_in events later) a ∙ append_assoc before (doc ∷ []) (documents_in events later)
+      ∙ ap (λ x. before ++ x ∷ documents_in events later) (d ∙ ap (λ (es : Events). document_in es cut) s)
+      ∙ ap (λ cs. before ++ documents_in events cs) (sym l) ∙ found

@@ -10,10 +10,10 @@ invariant-documents l =
     let input = plain_marked l.fn.events.items in
     let left = plain_marked (into_iter_items l.rest) in
     record {
-      fault : l.fault ≡ l.initial.fault;
+      fault : l.fault ≡ l.fn.fault;
       found :
-        l.gathered ++ map (document_from l.fault) (after_starts false left)
-          ≡ map (document_from l.fault) (after_starts false input);
+        l.gathered ++ map (document_from l.fn.fault) (after_starts false left)
+          ≡ map (document_from l.fn.fault) (after_starts false input);
       opened : is_open_after false left ≡ is_open_after false input;
     }
 
