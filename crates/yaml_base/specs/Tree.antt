@@ -1,6 +1,5 @@
 -- The tree of one document, its events, and the target of an alias.
-use Rattle.std.specs.Prelude.{ℕ, suc, ◌+◌, List, [], ◌∷◌, ◌++◌, length, Option, None, Some, nat_lt, ◌&&◌, if◌then◌else◌}
-use Rattle.std.specs.Option.{option_or}
+use Rattle.std.specs.Prelude.{ℕ, ◌+◌, max, List, [], ◌∷◌, ◌++◌, length, Option, None, Some, nat_lt, ◌&&◌, if◌then◌else◌}
 use Rattle.std.specs.Str.{bytes_eq}
 use Rattle.yaml_base.specs.PlainEvent.{PlainScalar, PlainEvent, alias, scalar}
 use Rattle.yaml_base.specs.PlainEvent.{sequence_start, sequence_end, mapping_start, mapping_end}
@@ -43,36 +42,45 @@ abbrev mutual
 abbrev pub size_of : Node → ℕ
 size_of n = length (node_events n [])
 
--- the anchor of the node with this number, beside the number
-abbrev pub anchor_at : ℕ → Option (List ℕ) → List (ℕ × List ℕ)
-anchor_at number None = []
-anchor_at number (Some anchor) = (number, anchor) ∷ []
+-- the anchor of the node with this number, and the number
+abbrev pub anchor_at : Option (List ℕ) → ℕ → List (List ℕ × ℕ)
+anchor_at None number = []
+anchor_at (Some anchor) number = (anchor, number) ∷ []
 
 -- The anchors of a tree, in order, each beside the number of its node, where the first node has the given number.
 -- A node's number is the place of its first event.
 abbrev mutual
-  pub anchors_of : Node → ℕ → List (ℕ × List ℕ)
+  pub anchors_of : Node → ℕ → List (List ℕ × ℕ)
   anchors_of (alias_node anchor) number = []
-  anchors_of (scalar_node s) number = anchor_at number s.anchor
-  anchors_of (sequence_node anchor tag nodes) number = anchor_at number anchor ++ anchors_of_nodes nodes (suc number)
-  anchors_of (mapping_node anchor tag pairs) number = anchor_at number anchor ++ anchors_of_pairs pairs (suc number)
+  anchors_of (scalar_node s) number = anchor_at s.anchor number
+  anchors_of (sequence_node anchor tag nodes) number = anchor_at anchor number ++ anchors_of_nodes nodes (number + 1)
+  anchors_of (mapping_node anchor tag pairs) number = anchor_at anchor number ++ anchors_of_pairs pairs (number + 1)
 
-  pub anchors_of_nodes : Nodes → ℕ → List (ℕ × List ℕ)
+  pub anchors_of_nodes : Nodes → ℕ → List (List ℕ × ℕ)
   anchors_of_nodes no_nodes number = []
   anchors_of_nodes (node n nodes) number = anchors_of n number ++ anchors_of_nodes nodes (number + size_of n)
 
-  pub anchors_of_pairs : Pairs → ℕ → List (ℕ × List ℕ)
+  pub anchors_of_pairs : Pairs → ℕ → List (List ℕ × ℕ)
   anchors_of_pairs no_pairs number = []
   anchors_of_pairs (pair key value pairs) number =
       anchors_of key number
-      ++ (anchors_of value (number + size_of key) ++ anchors_of_pairs pairs (number + size_of key + size_of value))
+        ++ (anchors_of value (number + size_of key) ++ anchors_of_pairs pairs (number + size_of key + size_of value))
 
--- the last of the numbers, which stand in order, that is below the given one and has the anchor
-abbrev pub last_below : ℕ → List ℕ → List (ℕ × List ℕ) → Option ℕ
-last_below number anchor [] = None
-last_below number anchor (x ∷ xs) =
-    option_or (last_below number anchor xs) (if nat_lt x.0 number && bytes_eq x.1 anchor then Some x.0 else None)
+-- the greater of two numbers, each of which may be missing
+abbrev pub greater : Option ℕ → Option ℕ → Option ℕ
+greater None found = found
+greater (Some n) None = Some n
+greater (Some n) (Some m) = Some (max n m)
+
+-- the number, if it is below a bound and stands beside the anchor
+abbrev pub number_below : ℕ → List ℕ → List ℕ × ℕ → Option ℕ
+number_below bound anchor x = if bytes_eq x.0 anchor && nat_lt x.1 bound then Some x.1 else None
+
+-- the greatest number below a bound that stands beside the anchor
+abbrev pub greatest_below : ℕ → List ℕ → List (List ℕ × ℕ) → Option ℕ
+greatest_below bound anchor [] = None
+greatest_below bound anchor (x ∷ xs) = greater (number_below bound anchor x) (greatest_below bound anchor xs)
 
 -- the target of an alias with this anchor and number: the greatest number below it of a node with the anchor
 abbrev pub target : Node → List ℕ → ℕ → Option ℕ
-target root anchor number = last_below number anchor (anchors_of root 0)
+target root anchor number = greatest_below number anchor (anchors_of root 0)

@@ -1,16 +1,21 @@
--- What was gathered, and what the events left will give, is what all events give.
-use Rattle.std.proofs.Common.{◌≡◌, ◌++◌, length}
-use Rattle.std.specs.List.{filter_map}
+-- The documents so far, and those that the events left hold, are the documents of all events.
+use Rattle.std.proofs.Common.{◌≡◌, ◌++◌, length, map, false}
 use Rattle.std.specs.Vec.Iter.{into_iter_items}
-use Rattle.yaml_read.specs.Bare.{marked_node_event}
-use Rattle.yaml_read.specs.DocEventView.{marked_events_of}
+use Rattle.yaml_read.specs.Documents.{after_starts, document_from, is_open_after}
 use Rattle.yaml_read.specs.MarkedEvents.{plain_marked}
 use Rattle.yaml_read.proofs.loader.gather.Given as goal
 
-abbrev pub invariant-events : goal.invariant-events
-invariant-events l =
-    marked_events_of l.gathered.items ++ filter_map marked_node_event (plain_marked (into_iter_items l.rest))
-    ≡ filter_map marked_node_event (plain_marked (into_iter_items l.initial.rest))
+abbrev pub invariant-documents : goal.invariant-documents
+invariant-documents l =
+    let input = plain_marked l.fn.events.items in
+    let left = plain_marked (into_iter_items l.rest) in
+    record {
+      fault : l.fault ≡ l.fn.fault;
+      found :
+        l.gathered ++ map (document_from l.fn.fault) (after_starts false left)
+          ≡ map (document_from l.fn.fault) (after_starts false input);
+      opened : is_open_after false left ≡ is_open_after false input;
+    }
 
-abbrev pub decreases-events : goal.decreases-events
-decreases-events l = length (into_iter_items l.rest)
+abbrev pub decreases-documents : goal.decreases-documents
+decreases-documents l = length (into_iter_items l.rest)
