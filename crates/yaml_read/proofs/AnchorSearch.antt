@@ -32,7 +32,7 @@ order_weak = ranks_by order_total (λ (x : Named). x)
 pub is_parted : (xs : List Named) (key : Named) → IsSorted order xs → IsPartitionedBy (λ y. is_lt (order y key)) xs
 is_parted xs key sorted i j d before within test =
     elim (cases_Bool (is_lt (order (get_or xs i d) key))) [
-      inl yes_ ↦ yes_
+      | inl yes_ ↦ yes_
       | inr no_ ↦ absurd (let far = sorted_far (λ (x y : Named). is_lt (order x y)) order_weak xs sorted i j d before within in
           let chained = order_weak.chain (get_or xs j d) (get_or xs i d) key far no_ in cc)
     ]
@@ -70,8 +70,8 @@ not_below : (anchor : List ℕ) (place : ℕ) (x : Named) → is_lt (order x (an
     → number_below place anchor x ≡ None
 not_below anchor place x h =
     elim (cases_Bool (bytes_eq x.0 anchor)) [
-      inl same ↦ number_of_same anchor place x false same
-        (sym (by_place x (anchor, place) (equal_names x.0 anchor same)) ∙ h)
+      | inl same ↦ number_of_same anchor place x false same
+          (sym (by_place x (anchor, place) (equal_names x.0 anchor same)) ∙ h)
       | inr other ↦ number_of_other anchor place x other
     ]
 
@@ -94,10 +94,10 @@ earlier_below : (anchor : List ℕ) (place : ℕ) (x y : Named) → bytes_eq x.0
     → Bounded x.1 (number_below place anchor y)
 earlier_below anchor place x y same h =
     elim (cases_Bool (bytes_eq y.0 anchor)) [
-      inl also ↦
-        let names = subst (λ n. bytes_eq x.0 n ≡ true) (sym ((bytes_decides y.0 anchor).0 also)) same in
-        let places = ltb-false x.1 y.1 (sym (by_place x y (equal_names x.0 y.0 names)) ∙ h) in
-        subst (Bounded x.1) (sym (number_of_same anchor place y (nat_lt y.1 place) also refl))
+      | inl also ↦
+          let names = subst (λ n. bytes_eq x.0 n ≡ true) (sym ((bytes_decides y.0 anchor).0 also)) same in
+          let places = ltb-false x.1 y.1 (sym (by_place x y (equal_names x.0 y.0 names)) ∙ h) in
+          subst (Bounded x.1) (sym (number_of_same anchor place y (nat_lt y.1 place) also refl))
           (bounded_if (nat_lt y.1 place) y.1 x.1 places)
       | inr other ↦ subst (Bounded x.1) (sym (number_of_other anchor place y other)) tt
     ]
@@ -112,13 +112,13 @@ other_below : (anchor : List ℕ) (place : ℕ) (x y : Named) → bytes_eq x.0 a
     → is_lt (order x (anchor, place)) ≡ true → is_lt (order x y) ≡ false → number_below place anchor y ≡ None
 other_below anchor place x y other front h =
     elim (cases_Bool (bytes_eq y.0 anchor)) [
-      inl also ↦
-        let name = (bytes_decides y.0 anchor).0 also in
-        let apart : is_eq (slice_cmp nat_cmp x.0 anchor) ≡ false = is_eq-slice_cmp x.0 anchor ∙ other in
-        let less = less_then (slice_cmp nat_cmp x.0 anchor) (nat_cmp x.1 place) (nat_cmp x.1 y.1) apart front in
-        let again : is_lt (order x y) ≡ true =
-            subst (λ n. is_lt (ordering_then (slice_cmp nat_cmp x.0 n) (nat_cmp x.1 y.1)) ≡ true) (sym name) less in
-        absurd (cc)
+      | inl also ↦
+          let name = (bytes_decides y.0 anchor).0 also in
+          let apart : is_eq (slice_cmp nat_cmp x.0 anchor) ≡ false = is_eq-slice_cmp x.0 anchor ∙ other in
+          let less = less_then (slice_cmp nat_cmp x.0 anchor) (nat_cmp x.1 place) (nat_cmp x.1 y.1) apart front in
+          let again : is_lt (order x y) ≡ true =
+          subst (λ n. is_lt (ordering_then (slice_cmp nat_cmp x.0 n) (nat_cmp x.1 y.1)) ≡ true) (sym name) less in
+          absurd (cc)
       | inr apart ↦ number_of_other anchor place y apart
     ]
 
@@ -146,14 +146,14 @@ module _ (anchor : List ℕ) (place : ℕ) where
   greatest_bounded [] n d h = tt
   greatest_bounded (x ∷ xs) n d h =
       greater_bounded n (number_below place anchor x) (greatest_below place anchor xs) (h 0 (omega arith))
-        (greatest_bounded xs n d (λ k l. h (suc k) (omega arith)))
+      (greatest_bounded xs n d (λ k l. h (suc k) (omega arith)))
 
   greatest_none : (xs : List Named) (d : Named)
       → ((k : ℕ) → k < length xs → number_below place anchor (get_or xs k d) ≡ None) → greatest_below place anchor xs ≡ None
   greatest_none [] d h = refl
   greatest_none (x ∷ xs) d h =
       ap (λ o. greater o (greatest_below place anchor xs)) (h 0 (omega arith))
-        ∙ greatest_none xs d (λ k l. h (suc k) (omega arith))
+      ∙ greatest_none xs d (λ k l. h (suc k) (omega arith))
 
   greatest_at : (xs : List Named) (m n : ℕ) (d : Named) → m < length xs
       → number_below place anchor (get_or xs m d) ≡ Some n
@@ -162,10 +162,10 @@ module _ (anchor : List ℕ) (place : ℕ) where
   greatest_at [] m n d l is h = absurd (omega arith)
   greatest_at (x ∷ xs) zero n d l is h =
       ap (λ o. greater o (greatest_below place anchor xs)) is
-        ∙ greater_first n (greatest_below place anchor xs) (greatest_bounded xs n d (λ k l. h (suc k) (omega arith)))
+      ∙ greater_first n (greatest_below place anchor xs) (greatest_bounded xs n d (λ k l. h (suc k) (omega arith)))
   greatest_at (x ∷ xs) (suc m) n d l is h =
       ap (greater (number_below place anchor x)) (greatest_at xs m n d (omega arith) is (λ k l. h (suc k) (omega arith)))
-        ∙ greater_second n (number_below place anchor x) (h 0 (omega arith))
+      ∙ greater_second n (number_below place anchor x) (h 0 (omega arith))
 
 -- how many anchors stand in front of the alias, in a list in order
 abbrev pub IsFront : List Named → Named → ℕ → Type 0
@@ -174,9 +174,9 @@ IsFront xs key i = IsPartitionPoint (λ y. is_lt (order y key) ≡ true) (λ y. 
 -- a position is in front of the last, or behind it
 sides : (k i : ℕ) → (k ≤ i - 1) ⊎ (i ≤ k)
 sides k i = elim (cases_Bool (nat_lt k i)) [
-    inl less ↦ let h = ltb-true k i less in inl (omega arith)
-    | inr more ↦ inr (ltb-false k i more)
-  ]
+  | inl less ↦ let h = ltb-true k i less in inl (omega arith)
+  | inr more ↦ inr (ltb-false k i more)
+]
 
 module _ (xs : List Named) (anchor : List ℕ) (place i : ℕ) (d : Named) where
   -- none in front
@@ -196,11 +196,11 @@ module _ (xs : List Named) (anchor : List ℕ) (place i : ℕ) (d : Named) where
   last_is_target sorted front bound some same =
       let last = get_or xs (i - 1) d in
       greatest_at anchor place xs (i - 1) last.1 d (omega arith)
-        (found_last anchor place last (front.0 (i - 1) d (omega arith) (omega arith)) same)
-        (λ k l. elim (sides k i) [
-          inl before ↦ earlier_below anchor place last (get_or xs k d) same (up_to_last sorted bound some k before)
-          | inr behind ↦ subst (Bounded last.1) (sym (not_below anchor place (get_or xs k d) (front.1 k d behind l))) tt
-        ])
+      (found_last anchor place last (front.0 (i - 1) d (omega arith) (omega arith)) same)
+      (λ k l. elim (sides k i) [
+        | inl before ↦ earlier_below anchor place last (get_or xs k d) same (up_to_last sorted bound some k before)
+        | inr behind ↦ subst (Bounded last.1) (sym (not_below anchor place (get_or xs k d) (front.1 k d behind l))) tt
+      ])
 
   -- the last in front has another name
   pub last_is_other : IsSorted order xs → IsFront xs (anchor, place) i → i ≤ length xs → 0 < i
@@ -208,11 +208,11 @@ module _ (xs : List Named) (anchor : List ℕ) (place i : ℕ) (d : Named) where
   last_is_other sorted front bound some other =
       let last = get_or xs (i - 1) d in
       greatest_none anchor place xs d
-        (λ k l. elim (sides k i) [
-          inl before ↦ other_below anchor place last (get_or xs k d) other
+      (λ k l. elim (sides k i) [
+        | inl before ↦ other_below anchor place last (get_or xs k d) other
             (front.0 (i - 1) d (omega arith) (omega arith)) (up_to_last sorted bound some k before)
-          | inr behind ↦ not_below anchor place (get_or xs k d) (front.1 k d behind l)
-        ])
+        | inr behind ↦ not_below anchor place (get_or xs k d) (front.1 k d behind l)
+      ])
 
 -- one is missing or not greater than the other
 abbrev AtMost : Option ℕ → Option ℕ → Type 0
@@ -254,7 +254,7 @@ module _ (anchor : List ℕ) (place : ℕ) where
   greatest_upper (x ∷ xs) zero d l = at_most_first (number_below place anchor x) (greatest_below place anchor xs)
   greatest_upper (x ∷ xs) (suc k) d l =
       at_most_second (number_below place anchor (get_or xs k d)) (number_below place anchor x)
-        (greatest_below place anchor xs) (greatest_upper xs k d (omega arith))
+      (greatest_below place anchor xs) (greatest_upper xs k d (omega arith))
 
   -- and at most what each is at most
   greatest_least : (xs : List Named) (p : Option ℕ) → All (λ x. AtMost (number_below place anchor x) p) xs
@@ -262,18 +262,18 @@ module _ (anchor : List ℕ) (place : ℕ) where
   greatest_least [] p h = tt
   greatest_least (x ∷ xs) p h =
       at_most_greater (number_below place anchor x) (greatest_below place anchor xs) p (h 0 x (omega arith))
-        (greatest_least xs p (λ k d l. h (suc k) d (omega arith)))
+      (greatest_least xs p (λ k d l. h (suc k) d (omega arith)))
 
   permuted : (xs ys : List Named) → IsPermutation xs ys
       → AtMost (greatest_below place anchor ys) (greatest_below place anchor xs)
   permuted xs ys p =
       greatest_least ys (greatest_below place anchor xs)
-        (All-permutation (λ x. AtMost (number_below place anchor x) (greatest_below place anchor xs)) xs ys p
-          (greatest_upper xs))
+      (All-permutation (λ x. AtMost (number_below place anchor x) (greatest_below place anchor xs)) xs ys p
+      (greatest_upper xs))
 
 -- the targets are the same whatever the order of the anchors
 pub find_in-permutation : (xs ys : List Named) → IsPermutation xs ys → find_in ys ≡ find_in xs
 find_in-permutation xs ys p =
     fun_ext (λ anchor. fun_ext (λ place.
-      at_most_both (greatest_below place anchor ys) (greatest_below place anchor xs) (permuted anchor place xs ys p)
-        (permuted anchor place ys xs (IsPermutation-sym xs ys p))))
+    at_most_both (greatest_below place anchor ys) (greatest_below place anchor xs) (permuted anchor place xs ys p)
+    (permuted anchor place ys xs (IsPermutation-sym xs ys p))))

@@ -33,8 +33,8 @@ pub document_made : (anchors named : List Named) (events : Input) (ended : Bool)
 document_made anchors named events ended fault found unknown ending p f u e =
     let same = find_in-permutation named anchors p in
     ap (λ es. held es ending) (f ∙ ap (λ (find : Find). known_events find 0 events) same)
-      ∙ ap (held (known_events (find_in named) 0 events))
-          (e ∙ ap (λ m. ending_of m ended fault) (u ∙ ap (λ (find : Find). unknown_mark find 0 events) same))
+    ∙ ap (held (known_events (find_in named) 0 events))
+    (e ∙ ap (λ m. ending_of m ended fault) (u ∙ ap (λ (find : Find). unknown_mark find 0 events) same))
 
 -- an event becomes the same without its anchor
 becomes-stripped : (find : Find) (place : ℕ) (e : PlainEvent) → becomes find place (stripped e) ≡ becomes find place e
@@ -54,22 +54,22 @@ known_events-stripped : (find : Find) (place : ℕ) (input : Input)
 known_events-stripped find place [] = refl
 known_events-stripped find place (e ∷ input) =
     ap (λ o. then_events o e.1 (known_events find (place + 1) (all_stripped input))) (becomes-stripped find place e.0)
-      ∙ ap (then_events (becomes find place e.0) e.1) (known_events-stripped find (place + 1) input)
+    ∙ ap (then_events (becomes find place e.0) e.1) (known_events-stripped find (place + 1) input)
 
 unknown_mark-stripped : (find : Find) (place : ℕ) (input : Input)
     → unknown_mark find place (all_stripped input) ≡ unknown_mark find place input
 unknown_mark-stripped find place [] = refl
 unknown_mark-stripped find place (e ∷ input) =
     ap (λ o. or_mark o e.1 (unknown_mark find (place + 1) (all_stripped input))) (becomes-stripped find place e.0)
-      ∙ ap (or_mark (becomes find place e.0) e.1) (unknown_mark-stripped find (place + 1) input)
+    ∙ ap (or_mark (becomes find place e.0) e.1) (unknown_mark-stripped find (place + 1) input)
 
 document_of-stripped : (named : List Named) (input : Input) (ended : Bool) (fault : Option PlainFault)
     → document_of named (all_stripped input) ended fault ≡ document_of named input ended fault
 document_of-stripped named input ended fault =
     ap (λ es. held es (ending_of (unknown_mark (find_in named) 0 (all_stripped input)) ended fault))
-        (known_events-stripped (find_in named) 0 input)
-      ∙ ap (λ m. held (known_events (find_in named) 0 input) (ending_of m ended fault))
-          (unknown_mark-stripped (find_in named) 0 input)
+    (known_events-stripped (find_in named) 0 input)
+    ∙ ap (λ m. held (known_events (find_in named) 0 input) (ending_of m ended fault))
+    (unknown_mark-stripped (find_in named) 0 input)
 
 -- where the document ends, the parser's fault lies elsewhere
 ending_of-ended : (unknown : Option Position) (fault : Option PlainFault)
@@ -83,24 +83,24 @@ pub document_read : (named : List Named) (events rest : Input) (ended : Bool) (f
     → document_of named events ended fault ≡ document_from fault rest
 document_read named events rest ended fault n e d =
     ap (λ ns. document_of ns events ended fault) n
-      ∙ ap (λ es. document_of (anchors_in 0 (body rest)) es ended fault) e
-      ∙ document_of-stripped (anchors_in 0 (body rest)) (body rest) ended fault
-      ∙ ap (λ b. document_of (anchors_in 0 (body rest)) (body rest) b fault) d
+    ∙ ap (λ es. document_of (anchors_in 0 (body rest)) es ended fault) e
+    ∙ document_of-stripped (anchors_in 0 (body rest)) (body rest) ended fault
+    ∙ ap (λ b. document_of (anchors_in 0 (body rest)) (body rest) b fault) d
 
 pub document_read_ended : (named : List Named) (events rest : Input) (ended : Bool) (fault : Option PlainFault)
     → named ≡ anchors_in 0 (body rest) → events ≡ all_stripped (body rest) → ended ≡ is_ended rest → ended ≡ true
     → document_of named events ended None ≡ document_from fault rest
 document_read_ended named events rest ended fault n e d t =
     ap (λ b. document_of named events b None) t
-      ∙ ap (held (known_events (find_in named) 0 events)) (ending_of-ended (unknown_mark (find_in named) 0 events) fault)
-      ∙ ap (λ b. document_of named events b fault) (sym t) ∙ document_read named events rest ended fault n e d
+    ∙ ap (held (known_events (find_in named) 0 events)) (ending_of-ended (unknown_mark (find_in named) 0 events) fault)
+    ∙ ap (λ b. document_of named events b fault) (sym t) ∙ document_read named events rest ended fault n e d
 
 -- behind a document that ends
 starts_behind : (rest : Input) → is_ended rest ≡ true → after_starts true rest ≡ after_starts false (behind rest)
 starts_behind [] h = absurd (cc)
 starts_behind (e ∷ rest) h =
     elim (cases_Bool (is_document_end e.0)) [
-      inl yes_ ↦ simp yes_
+      | inl yes_ ↦ simp yes_
       | inr no_ ↦ simp no_ (starts_behind rest (ap (λ b. b || is_ended rest) (sym no_) ∙ h))
     ]
 
@@ -108,7 +108,7 @@ open_behind : (rest : Input) → is_ended rest ≡ true → is_open_after true r
 open_behind [] h = absurd (cc)
 open_behind (e ∷ rest) h =
     elim (cases_Bool (is_document_end e.0)) [
-      inl yes_ ↦ simp yes_
+      | inl yes_ ↦ simp yes_
       | inr no_ ↦ simp no_ (open_behind rest (ap (λ b. b || is_ended rest) (sym no_) ∙ h))
     ]
 
@@ -117,7 +117,7 @@ no_starts : (rest : Input) → is_ended rest ≡ false → after_starts true res
 no_starts [] h = refl
 no_starts (e ∷ rest) h =
     elim (cases_Bool (is_document_end e.0)) [
-      inl yes_ ↦ absurd (let t = ap (λ b. b || is_ended rest) yes_ in cc)
+      | inl yes_ ↦ absurd (let t = ap (λ b. b || is_ended rest) yes_ in cc)
       | inr no_ ↦ simp no_ (no_starts rest (ap (λ b. b || is_ended rest) (sym no_) ∙ h))
     ]
 
@@ -125,7 +125,7 @@ open_at_end : (rest : Input) → is_ended rest ≡ false → is_open_after true 
 open_at_end [] h = refl
 open_at_end (e ∷ rest) h =
     elim (cases_Bool (is_document_end e.0)) [
-      inl yes_ ↦ absurd (let t = ap (λ b. b || is_ended rest) yes_ in cc)
+      | inl yes_ ↦ absurd (let t = ap (λ b. b || is_ended rest) yes_ in cc)
       | inr no_ ↦ simp no_ (open_at_end rest (ap (λ b. b || is_ended rest) (sym no_) ∙ h))
     ]
 
@@ -167,9 +167,9 @@ pub found_more : (fault : Option PlainFault) (old new all : List PlainDocument) 
 found_more fault old new all doc left rest next e is h ended n d made found =
     let starts = begin_starts left rest e is h ∙ ap (λ s. rest ∷ s) (starts_behind rest ended ∙ ap (after_starts false) (sym n)) in
     ap (λ ds. ds ++ documents_behind fault (after_starts false next)) made
-      ∙ append_assoc old (doc ∷ []) (documents_behind fault (after_starts false next))
-      ∙ ap (λ x. old ++ x ∷ documents_behind fault (after_starts false next)) d
-      ∙ ap (λ s. old ++ documents_behind fault s) (sym starts) ∙ found
+    ∙ append_assoc old (doc ∷ []) (documents_behind fault (after_starts false next))
+    ∙ ap (λ x. old ++ x ∷ documents_behind fault (after_starts false next)) d
+    ∙ ap (λ s. old ++ documents_behind fault s) (sym starts) ∙ found
 
 pub open_more : (opened : Bool) (left rest next : Input) (e : PlainEvent × Position) → left ≡ e ∷ rest
     → is_document_start e.0 ≡ true → is_ended rest ≡ true → next ≡ behind rest → is_open_after false left ≡ opened
@@ -199,17 +199,17 @@ pub found_last_open : (fault : Option PlainFault) (old : List PlainDocument) (do
 found_last_open fault old doc input left rest e is h unended d found o =
     let starts = begin_starts left rest e is h ∙ ap (λ s. rest ∷ s) (no_starts rest unended) in
     let all : old ++ doc ∷ [] ≡ documents_behind fault (after_starts false input) =
-        ap (λ x. old ++ x ∷ []) d ∙ ap (λ s. old ++ documents_behind fault s) (sym starts) ∙ found in
+    ap (λ x. old ++ x ∷ []) d ∙ ap (λ s. old ++ documents_behind fault s) (sym starts) ∙ found in
     let opened = sym o ∙ begin_open left rest e is h ∙ open_at_end rest unended in
     all ∙ sym (append-nil (documents_behind fault (after_starts false input)))
-      ∙ ap (λ ds. documents_behind fault (after_starts false input) ++ ds) (sym (none_further input fault old doc all opened))
+    ∙ ap (λ ds. documents_behind fault (after_starts false input) ++ ds) (sym (none_further input fault old doc all opened))
 
 -- what is left is no longer
 length-behind : (input : Input) → length (behind input) ≤ length input
 length-behind [] = omega arith
 length-behind (e ∷ input) =
     elim (cases_Bool (is_document_end e.0)) [
-      inl yes_ ↦ simp yes_ (omega arith)
+      | inl yes_ ↦ simp yes_ (omega arith)
       | inr no_ ↦ simp no_ (let r = length-behind input in omega arith)
     ]
 

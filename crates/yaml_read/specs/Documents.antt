@@ -118,9 +118,9 @@ ending_of None false fault = option_map Parser fault
 -- the document whose node's events, with their anchors taken out, have these anchors
 abbrev pub document_of : List (List ℕ × ℕ) → Input → Bool → Option PlainFault → PlainDocument
 document_of anchors events ended fault = record {
-    events = known_events (find_in anchors) 0 events;
-    ending = ending_of (unknown_mark (find_in anchors) 0 events) ended fault;
-  }
+  events = known_events (find_in anchors) 0 events;
+  ending = ending_of (unknown_mark (find_in anchors) 0 events) ended fault;
+}
 
 -- the document behind a start
 abbrev pub document_from : Option PlainFault → Input → PlainDocument

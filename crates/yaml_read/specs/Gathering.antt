@@ -18,7 +18,7 @@ plain_doc_events events = map (λ e. doc_event_of e.0) events
 abbrev pub HasEnds : List (DocEvent × Position) → List ℕ → ℕ → ℕ → Type 0
 HasEnds events ends from to =
     (from ≤ to) × (to ≤ length events) × (to ≤ length ends)
-      × (slice_range ends from to ≡ ends_of (plain_doc_events (slice_range events from to)))
+    × (slice_range ends from to ≡ ends_of (plain_doc_events (slice_range events from to)))
 
 -- each range lies so
 abbrev pub AreCuts : List (DocEvent × Position) → List ℕ → List Cut → Type 0

@@ -50,11 +50,17 @@ fn strip<'de>(event: Event<'de>) -> (Event<'de>, Option<Anchor>)
         }
         Event::SequenceStart(start) => {
             let SequenceStart { anchor, tag } = start;
-            (Event::SequenceStart(SequenceStart { anchor: None, tag }), anchor)
+            (
+                Event::SequenceStart(SequenceStart { anchor: None, tag }),
+                anchor,
+            )
         }
         Event::MappingStart(start) => {
             let MappingStart { anchor, tag } = start;
-            (Event::MappingStart(MappingStart { anchor: None, tag }), anchor)
+            (
+                Event::MappingStart(MappingStart { anchor: None, tag }),
+                anchor,
+            )
         }
         other => (other, None),
     }

@@ -9,7 +9,7 @@ ghost use Rattle.yaml_read.specs.MarkedEvents.{plain_marked};
 use crate::doc_event::DocEvent;
 use crate::document::Document;
 use crate::loader::anchors::Anchors;
-use crate::loader::body::{resolve, Body};
+use crate::loader::body::{Body, resolve};
 use crate::loader::ends::ends_of;
 use std::alloc::{AllocError, Global};
 use std::marker::Model;

@@ -13,7 +13,7 @@ invariant-events l =
     record {
       counted : l.place + length (into_iter_items l.rest) ≡ length (into_iter_items l.initial.rest);
       known :
-        marked_events_of l.found.items ++ known_events (find_in l.anchors) l.place left
+          marked_events_of l.found.items ++ known_events (find_in l.anchors) l.place left
           ≡ known_events (find_in l.anchors) 0 input;
       unknown : unknown_mark (find_in l.anchors) l.place left ≡ unknown_mark (find_in l.anchors) 0 input;
     }

@@ -10,6 +10,6 @@ pub returns : goal.returns
 returns c =
     let b = c.args.body in
     let made = document_made c.in_ok-anchors.anchors b.named.items (plain_marked b.events.items) b.ended c.args.fault
-        (marked_events_of c.in_ok-found.found.items) c.in_ok-found.unknown c.ending.result c.in_ok-anchors.ensures
-        c.in_ok-found.ensures.known c.in_ok-found.ensures.unknown c.ending.ensures in
+    (marked_events_of c.in_ok-found.found.items) c.in_ok-found.unknown c.ending.result c.in_ok-anchors.ensures
+    c.in_ok-found.ensures.known c.in_ok-found.ensures.unknown c.ending.ensures in
     subst (λ (d : PlainDocument). IfOk c.add.result (λ after. after ≡ c.args.self ++ d ∷ [])) made c.add.ensures

@@ -15,8 +15,8 @@ new-requires-in-Some c =
     let cuts = subst (AreCuts events ends) c.in-Some.ensures.items c.cuts.invariant.cuts in
     let here : HasEnds events ends cut.from cut.to = cuts 0 cut (omega arith) in
     subst (λ es. HasEnds es c.in_ok-clone-2.field-0.value.items cut.from cut.to)
-      (ap (λ (v : _). v.items) (sym c.in_ok-clone.ensures.cases))
-      (subst (λ ns. HasEnds events ns cut.from cut.to) (ap (λ (v : _). v.items) (sym c.in_ok-clone-2.ensures.cases)) here)
+    (ap (λ (v : _). v.items) (sym c.in_ok-clone.ensures.cases))
+    (subst (λ ns. HasEnds events ns cut.from cut.to) (ap (λ (v : _). v.items) (sym c.in_ok-clone-2.ensures.cases)) here)
 
 pub cuts-preserved : goal.cuts-preserved
 cuts-preserved c =
@@ -27,7 +27,7 @@ cuts-preserved c =
     record {
       cuts = All-tail (λ (x : Cut). HasEnds events ends x.from x.to) cut (into_iter_items c.next.new.self) cuts;
       documents =
-        documents_left events c.in_ok-clone.field-0.value.items cut c.cuts.documents.items c.push.new.self.items c.args.self
+          documents_left events c.in_ok-clone.field-0.value.items cut c.cuts.documents.items c.push.new.self.items c.args.self
           c.new-in-Some.result (into_iter_items c.cuts.rest) (into_iter_items c.next.new.self)
           (ap (λ (v : _). v.items) c.in_ok-clone.ensures.cases) c.in-Some.ensures.items c.in_ok-push.ensures.items
           c.new-in-Some.ensures c.cuts.invariant.documents;
