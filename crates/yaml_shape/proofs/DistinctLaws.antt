@@ -40,7 +40,7 @@ apart_sorted ys up next i j d before within same =
     let lt : List ℕ → List ℕ → Bool = λ x y. is_lt (slice_cmp nat_cmp x y) in
     let step : lt (get_or ys (i + 1) d) (get_or ys i d) ≡ false = up i d (omega arith) (omega arith) in
     let far : lt (get_or ys j d) (get_or ys (i + 1) d) ≡ false =
-        sorted_far lt (ranks_by nat_list_cmp_total (λ x. x)) ys up (i + 1) j d (omega arith) within in
+    sorted_far lt (ranks_by nat_list_cmp_total (λ x. x)) ys up (i + 1) j d (omega arith) within in
     let back : lt (get_or ys i d) (get_or ys (i + 1) d) ≡ false = subst (λ x. lt x (get_or ys (i + 1) d) ≡ false) (sym same) far in
     next i d (omega arith) (tied (get_or ys i d) (get_or ys (i + 1) d) back step)
 
@@ -67,8 +67,8 @@ adjacent_texts (x ∷ xs) n end next k d within =
 distinct_moved : (xs ys : List (Bor (List ℕ))) → IsPermutation xs ys → AreDistinct (texts_of xs) → AreDistinct (texts_of ys)
 distinct_moved xs ys moved apart =
     AllPairs-from_IsDistinct bytes_eq-Decides (texts_of ys)
-        (IsDistinct-IsPermutation bytes_eq nat_list_eq_equiv.symm (texts_of xs) (texts_of ys) (IsPermutation-map (λ n. n.now) xs ys moved)
-            (IsDistinct-from_AllPairs bytes_eq-Decides (texts_of xs) apart))
+    (IsDistinct-IsPermutation bytes_eq nat_list_eq_equiv.symm (texts_of xs) (texts_of ys) (IsPermutation-map (λ n. n.now) xs ys moved)
+    (IsDistinct-from_AllPairs bytes_eq-Decides (texts_of xs) apart))
 
 -- names are distinct where, sorted, each differs from the next
 pub distinct_by_sorting : (xs ys : List (Bor (List ℕ))) (n : ℕ) → IsPermutation xs ys → IsSorted (λ a b. slice_cmp nat_cmp a.now b.now) ys
@@ -85,7 +85,7 @@ pub same_neighbours : (xs ys : List (Bor (List ℕ))) (i : ℕ) (x y : Bor (List
 same_neighbours xs ys i x y moved first within here there same apart =
     let size : length (texts_of ys) ≡ length ys = length-map ys (λ n. n.now) in
     distinct_moved xs ys moved apart (i - 1) i [] (omega arith) (omega arith)
-        (text_at ys (i - 1) x [] (omega arith) ∙ ap (λ n. n.now) (sym here) ∙ (bytes_eq-Decides x.now y.now).0 same ∙ ap (λ n. n.now) there ∙ sym (text_at ys i y [] within))
+    (text_at ys (i - 1) x [] (omega arith) ∙ ap (λ n. n.now) (sym here) ∙ (bytes_eq-Decides x.now y.now).0 same ∙ ap (λ n. n.now) there ∙ sym (text_at ys i y [] within))
 
 -- the names of fields, as the code reads them
 names_fields : (fields : List (String Global × ShapeId)) → map (λ e. string_bytes e.0) fields ≡ names_of (fields_of fields)
@@ -106,9 +106,10 @@ tests_names lent fields r same h =
 tests_both : (variants : List (String Global × VariantShape)) (d : Bool)
     → (IsTrue d ↔ (AreDistinct (map (λ v. string_bytes v.0) variants) × All (λ v. IsDistinctInside (content_of v.1)) variants))
     → (IsTrue d ↔ HasDistinctNames (enum_shape [] (variants_of variants)))
-tests_both variants d h =
-    (λ t. (subst AreDistinct (names_variants variants) (h.0 t).0, All-map (λ v. IsDistinctInside v.1) variant_of variants (h.0 t).1),
-     λ e. h.1 (subst AreDistinct (sym (names_variants variants)) e.0, All-from_map (λ v. IsDistinctInside v.1) variant_of variants e.1))
+tests_both variants d h = (
+  λ t. (subst AreDistinct (names_variants variants) (h.0 t).0, All-map (λ v. IsDistinctInside v.1) variant_of variants (h.0 t).1),
+  λ e. h.1 (subst AreDistinct (sym (names_variants variants)) e.0, All-from_map (λ v. IsDistinctInside v.1) variant_of variants e.1),
+)
 
 -- a test of the variants, as the code reads them
 pub tests_enum : (lent variants : List (String Global × VariantShape)) (r : Result Bool AllocError) → lent ≡ variants

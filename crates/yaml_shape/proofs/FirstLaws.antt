@@ -22,9 +22,9 @@ pub first_without : (P : PlainShape → Type 0) (shapes : List Shape) (i : ℕ) 
 first_without P shapes i x within here before without =
     let size : length (map shape_of shapes) ≡ length shapes = length-map shapes shape_of in
     record {
-        before = rw take-map (All-map P shape_of (take i shapes) before);
-        without = rw (plain_at shapes i x within here) without;
-        within = omega arith;
+      before = rw take-map (All-map P shape_of (take i shapes) before);
+      without = rw (plain_at shapes i x within here) without;
+      within = omega arith;
     }
 
 -- each shape before is so, and this one too

@@ -102,10 +102,11 @@ distinct-raised by (tuple_shape items) h = tt
 distinct-raised by (tuple_struct_shape name items) h = tt
 distinct-raised by (map_shape key value) h = tt
 distinct-raised by (struct_shape strict name fields) h = subst AreDistinct (sym (names-raised by fields)) h
-distinct-raised by (enum_shape name variants) h =
-    (subst AreDistinct (sym (variants-raised by variants)) h.0,
-     All-map (λ v. IsDistinctInside v.1) (λ v. (v.0, raised_content by v.1)) variants
-        (All-weaker (λ v. IsDistinctInside v.1) (λ v. IsDistinctInside (raised_content by v.1)) (λ v d. distinct_inside-raised by v.1 d) variants h.1))
+distinct-raised by (enum_shape name variants) h = (
+  subst AreDistinct (sym (variants-raised by variants)) h.0,
+  All-map (λ v. IsDistinctInside v.1) (λ v. (v.0, raised_content by v.1)) variants
+      (All-weaker (λ v. IsDistinctInside v.1) (λ v. IsDistinctInside (raised_content by v.1)) (λ v d. distinct_inside-raised by v.1 d) variants h.1),
+)
 distinct-raised by ignored_shape h = tt
 
 -- a shape of a table names only its numbers

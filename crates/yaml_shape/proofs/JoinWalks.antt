@@ -100,25 +100,25 @@ joined_ending first second a b id cycle = by_place (ltb id (length first)) refl
 raised_closed : (by size : ℕ) (shape : PlainShape) → NamesWithin size shape → NamesWithin (by + size) (raised by shape)
 raised_closed by size shape within =
     subst (All (λ id. id < by + size)) (sym (named-raised by shape))
-        (All-map (λ id. id < by + size) (λ id. by + id) (named shape) (All-weaker (λ id. id < size) (λ id. by + id < by + size) (λ id h. omega arith) (named shape) within))
+    (All-map (λ id. id < by + size) (λ id. by + id) (named shape) (All-weaker (λ id. id < size) (λ id. by + id < by + size) (λ id h. omega arith) (named shape) within))
 
 -- the join of valid tables is valid where it isn't too long
 pub valid-joined : (first second : List PlainShape) → IsValidSchema first → IsValidSchema second → length first + length second ≤ 4096 → IsValidSchema (joined first second)
 valid-joined first second a b few =
     let moved : List PlainShape = map (raised (length first)) second in
     let size : length (joined first second) ≡ length first + length second =
-        length-append first (map (raised (length first)) second) ∙ ap (λ n. length first + n) (length-map second (raised (length first))) in
+    length-append first (map (raised (length first)) second) ∙ ap (λ n. length first + n) (length-map second (raised (length first))) in
     record {
-        few = omega arith;
-        closed = subst (λ n. AllNameWithin n (joined first second)) (sym size)
-            (All-append (NamesWithin (length first + length second)) first (map (raised (length first)) second)
-                (All-weaker (NamesWithin (length first)) (NamesWithin (length first + length second)) (λ s h. wider s h) first a.closed)
-                (All-map (NamesWithin (length first + length second)) (raised (length first)) second
-                    (All-weaker (NamesWithin (length second)) (λ s. NamesWithin (length first + length second) (raised (length first) s)) (raised_closed (length first) (length second)) second b.closed)));
-        distinct = All-append HasDistinctNames first (map (raised (length first)) second) a.distinct
-            (All-map HasDistinctNames (raised (length first)) second
-                (All-weaker HasDistinctNames (λ s. HasDistinctNames (raised (length first) s)) (distinct-raised (length first)) second b.distinct));
-        ending = joined_ending first second a b;
+      few = omega arith;
+      closed = subst (λ n. AllNameWithin n (joined first second)) (sym size)
+          (All-append (NamesWithin (length first + length second)) first (map (raised (length first)) second)
+          (All-weaker (NamesWithin (length first)) (NamesWithin (length first + length second)) (λ s h. wider s h) first a.closed)
+          (All-map (NamesWithin (length first + length second)) (raised (length first)) second
+          (All-weaker (NamesWithin (length second)) (λ s. NamesWithin (length first + length second) (raised (length first) s)) (raised_closed (length first) (length second)) second b.closed)));
+      distinct = All-append HasDistinctNames first (map (raised (length first)) second) a.distinct
+          (All-map HasDistinctNames (raised (length first)) second
+          (All-weaker HasDistinctNames (λ s. HasDistinctNames (raised (length first) s)) (distinct-raised (length first)) second b.distinct));
+      ending = joined_ending first second a b;
     }
   where
     wider : (s : PlainShape) → NamesWithin (length first) s → NamesWithin (length first + length second) s
@@ -162,13 +162,13 @@ pub valid-added : (shapes : List PlainShape) (shape : PlainShape) → IsValidSch
 valid-added shapes shape valid within names few =
     let size : length (shapes ++ shape ∷ []) ≡ length shapes + 1 = length-append shapes (shape ∷ []) in
     record {
-        few = omega arith;
-        closed = subst (λ n. AllNameWithin n (shapes ++ shape ∷ [])) (sym size)
-            (All-push (NamesWithin (length shapes + 1)) shapes shape
-                (All-weaker (NamesWithin (length shapes)) (NamesWithin (length shapes + 1)) (λ s h. wider s h) shapes valid.closed)
-                (wider shape within));
-        distinct = All-push HasDistinctNames shapes shape valid.distinct names;
-        ending = added_ending shapes shape valid within;
+      few = omega arith;
+      closed = subst (λ n. AllNameWithin n (shapes ++ shape ∷ [])) (sym size)
+          (All-push (NamesWithin (length shapes + 1)) shapes shape
+          (All-weaker (NamesWithin (length shapes)) (NamesWithin (length shapes + 1)) (λ s h. wider s h) shapes valid.closed)
+          (wider shape within));
+      distinct = All-push HasDistinctNames shapes shape valid.distinct names;
+      ending = added_ending shapes shape valid within;
     }
   where
     wider : (s : PlainShape) → NamesWithin (length shapes) s → NamesWithin (length shapes + 1) s

@@ -44,16 +44,17 @@ All-from_flat_map P f (y ∷ ys) h =
 -- a test of the lists of each mapped element tests all
 pub tests_flat : {X Y Z : Type 0} (P : X → Type 0) (f : Y → List X) (g : Z → Y) (zs : List Z) (b : Bool)
     → (IsTrue b ↔ All (λ z. All P (f (g z))) zs) → (IsTrue b ↔ All P (flat_map f (map g zs)))
-tests_flat P f g zs b h = 
-    (λ t. All-flat_map P f (map g zs) (All-map (λ y. All P (f y)) g zs (h.0 t)),
-     λ a. h.1 (All-from_map (λ y. All P (f y)) g zs (All-from_flat_map P f (map g zs) a)))
+tests_flat P f g zs b h = (
+  λ t. All-flat_map P f (map g zs) (All-map (λ y. All P (f y)) g zs (h.0 t)),
+  λ a. h.1 (All-from_map (λ y. All P (f y)) g zs (All-from_flat_map P f (map g zs) a)),
+)
 
 -- a test of each field tests each number that the fields name
 pub tests_fields : (size : ℕ) (fields : List (String Global × ShapeId)) (b : Bool)
     → (IsTrue b ↔ All (λ f. f.1.0 < size) fields) → (IsTrue b ↔ All (λ id. id < size) (numbers_of (fields_of fields)))
 tests_fields size fields b h =
     tests_mapped (λ id. id < size) (λ f. f.1) (fields_of fields) b
-        (tests_mapped (λ f. f.1 < size) field_of fields b h)
+    (tests_mapped (λ f. f.1 < size) field_of fields b h)
 
 -- a test of each variant tests each number that the variants name
 pub tests_variants : (size : ℕ) (variants : List (String Global × VariantShape)) (b : Bool)

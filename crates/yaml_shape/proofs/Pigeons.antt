@@ -24,8 +24,8 @@ last_place f v n a none last below false here same = none a (grind (arith, nat_t
 
 find_at : (f : ℕ → ℕ) (v n : ℕ) (b : Bool) → eqb (f n) v ≡ b → Found f v n ⊎ ((a : ℕ) → a < n → f a ≢ v)
     → Found f v (suc n) ⊎ ((a : ℕ) → a < suc n → f a ≢ v)
-find_at f v n b e (inl w) = inl (record { place = w.place; below = omega (arith, w.below); there = w.there; })
-find_at f v n true e (inr none) = inl (record { place = n; below = omega arith; there = (Decides-eqb (f n) v).0 e; })
+find_at f v n b e (inl w) = inl (record { place = w.place; below = omega (arith, w.below); there = w.there })
+find_at f v n true e (inr none) = inl (record { place = n; below = omega arith; there = (Decides-eqb (f n) v).0 e })
 find_at f v n false e (inr none) =
     inr (λ a below. last_place f v n a none (λ same. false≢true (sym e ∙ (Decides-eqb (f n) v).1 same)) below (eqb a n) refl)
 
@@ -48,19 +48,19 @@ without_same v x y p q true false e f same = grind (arith, nat_tests)
 without_same v x y p q false true e f same = grind (arith, nat_tests)
 without_same v x y p q false false e f same = grind (arith, nat_tests)
 
-pigeons_by : (n : ℕ) (f : ℕ → ℕ) → ((a : ℕ) → a ≤ suc n → f a < suc n) → Found f (f (suc n)) (suc n) ⊎ ((a : ℕ) → a < suc n → f a ≢ f (suc n)) 
+pigeons_by : (n : ℕ) (f : ℕ → ℕ) → ((a : ℕ) → a ≤ suc n → f a < suc n) → Found f (f (suc n)) (suc n) ⊎ ((a : ℕ) → a < suc n → f a ≢ f (suc n))
     → ((g : ℕ → ℕ) → ((a : ℕ) → a ≤ n → g a < n) → Twice g (suc n)) → Twice f (suc (suc n))
-pigeons_by n f below (inl w) rest = record { first = w.place; second = suc n; apart = w.below; within = omega arith; same = w.there; }
+pigeons_by n f below (inl w) rest = record { first = w.place; second = suc n; apart = w.below; within = omega arith; same = w.there }
 pigeons_by n f below (inr none) rest =
     let v : ℕ = f (suc n) in
     let t : Twice (λ a. without v (f a)) (suc n) =
-        rest (λ a. without v (f a)) (λ a h. without_below v (f a) n (below (suc n) (omega arith)) (below a (omega arith)) (none a (omega arith)) (ltb (f a) v) refl) in
+    rest (λ a. without v (f a)) (λ a h. without_below v (f a) n (below (suc n) (omega arith)) (below a (omega arith)) (none a (omega arith)) (ltb (f a) v) refl) in
     record {
-        first = t.first;
-        second = t.second;
-        apart = t.apart;
-        within = omega (arith, t.within);
-        same = without_same v (f t.first) (f t.second) (none t.first (omega (arith, t.apart, t.within))) (none t.second t.within) (ltb (f t.first) v) (ltb (f t.second) v) refl refl t.same;
+      first = t.first;
+      second = t.second;
+      apart = t.apart;
+      within = omega (arith, t.within);
+      same = without_same v (f t.first) (f t.second) (none t.first (omega (arith, t.apart, t.within))) (none t.second t.within) (ltb (f t.first) v) (ltb (f t.second) v) refl refl t.same;
     }
 
 -- n + 1 places with values below n

@@ -10,7 +10,7 @@ pub record AreRaised {X Y : Type 0} (see : X → Y) (raise : Y → Y) (old new :
 
 -- none is raised at first
 pub none_raised : {X Y : Type 0} (see : X → Y) (raise : Y → Y) (xs : List X) → AreRaised see raise xs xs 0
-none_raised see raise xs = record { size = refl; done = refl; left = refl; }
+none_raised see raise xs = record { size = refl; done = refl; left = refl }
 
 -- one more is raised
 pub one_raised : {X Y : Type 0} (see : X → Y) (raise : Y → Y) (old new : List X) (i : ℕ) (d y : X) → i < length new → AreRaised see raise old new i
@@ -20,13 +20,13 @@ one_raised see raise old new i d y within are seen =
     let same : length new ≡ length old = are.size in
     let here : get_or new i d ≡ get_or old i d = sym (get_or_drop new i d) ∙ (ap (λ l. get_or l 0 d) are.left ∙ get_or_drop old i d) in
     let as_new : map see (take (i + 1) (set new i y)) ≡ map see (take i new) ++ (see y ∷ []) =
-        ap (map see) (take_more_set new i y within) ∙ map-append see (take i new) (y ∷ []) in
+    ap (map see) (take_more_set new i y within) ∙ map-append see (take i new) (y ∷ []) in
     let as_old : map raise (map see (take (i + 1) old)) ≡ map raise (map see (take i old)) ++ (raise (see (get_or old i d)) ∷ []) =
-        ap (λ l. map raise (map see l)) (take_more old i d (omega arith)) ∙ (ap (map raise) (map-append see (take i old) (get_or old i d ∷ [])) ∙ map-append raise (map see (take i old)) (see (get_or old i d) ∷ [])) in
+    ap (λ l. map raise (map see l)) (take_more old i d (omega arith)) ∙ (ap (map raise) (map-append see (take i old) (get_or old i d ∷ [])) ∙ map-append raise (map see (take i old)) (see (get_or old i d) ∷ [])) in
     record {
-        size = size ∙ same;
-        done = as_new ∙ (ap (λ l. l ++ (see y ∷ [])) are.done ∙ (ap (λ v. map raise (map see (take i old)) ++ (v ∷ [])) (seen ∙ ap (λ x. raise (see x)) here) ∙ sym as_old));
-        left = drop-set-lt (i + 1) new i y (omega arith) ∙ (sym (drop-drop 1 i new) ∙ (ap (drop 1) are.left ∙ drop-drop 1 i old));
+      size = size ∙ same;
+      done = as_new ∙ (ap (λ l. l ++ (see y ∷ [])) are.done ∙ (ap (λ v. map raise (map see (take i old)) ++ (v ∷ [])) (seen ∙ ap (λ x. raise (see x)) here) ∙ sym as_old));
+      left = drop-set-lt (i + 1) new i y (omega arith) ∙ (sym (drop-drop 1 i new) ∙ (ap (drop 1) are.left ∙ drop-drop 1 i old));
     }
   where
     get_or_drop : {A : Type 0} (xs : List A) (i : ℕ) (d : A) → get_or (drop i xs) 0 d ≡ get_or xs i d
@@ -45,8 +45,8 @@ pub as_before : {X Y : Type 0} (see : X → Y) (raise : Y → Y) (P : X → Type
 as_before see raise P old new i x within are here all =
     let same : length new ≡ length old = are.size in
     let e : get_or new i x ≡ get_or old i x =
-        sym (get_or-drop i new 0 x ∙ ap (λ k. get_or new k x) (let z : i + 0 ≡ i = omega arith in z))
-        ∙ (ap (λ l. get_or l 0 x) are.left ∙ (get_or-drop i old 0 x ∙ ap (λ k. get_or old k x) (let z : i + 0 ≡ i = omega arith in z))) in
+    sym (get_or-drop i new 0 x ∙ ap (λ k. get_or new k x) (let z : i + 0 ≡ i = omega arith in z))
+    ∙ (ap (λ l. get_or l 0 x) are.left ∙ (get_or-drop i old 0 x ∙ ap (λ k. get_or old k x) (let z : i + 0 ≡ i = omega arith in z))) in
     subst P (sym (here ∙ e)) (all i x (omega arith))
 
 -- what two reads of one place gave

@@ -46,10 +46,10 @@ record NoEnd (first : Option ℕ) (steps : List (Option ℕ)) : Type 0 where
   none : (id : ℕ) → led_from steps id ≡ None
 
 no_ends : (first : Option ℕ) (steps : List (Option ℕ)) → fold lesser first steps ≡ None → NoEnd first steps
-no_ends first [] h = record { alone = h; none = λ id. refl; }
+no_ends first [] h = record { alone = h; none = λ id. refl }
 no_ends None (None ∷ steps) h =
     let rest : NoEnd None steps = no_ends None steps h in
-    record { alone = refl; none = λ id. at rest id; }
+    record { alone = refl; none = λ id. at rest id }
   where
     at : NoEnd None steps → (id : ℕ) → led_from (None ∷ steps) id ≡ None
     at rest zero = refl
@@ -75,9 +75,9 @@ comes_on x steps id (led start h) = led (suc start) h
 
 least_end : (first : Option ℕ) (steps : List (Option ℕ)) (id : ℕ) → fold lesser first steps ≡ Some id → IsLeast first steps id
 least_end None [] id h = absurd (cc)
-least_end (Some a) [] id h = 
+least_end (Some a) [] id h =
     let same : a ≡ id = cc in
-    record { comes = alone h; before = omega arith; least = λ other end e. absurd (cc); }
+    record { comes = alone h; before = omega arith; least = λ other end e. absurd (cc) }
 least_end first (x ∷ steps) id h = joined first x (least_end (lesser first x) steps id h)
   where
     from_either : (a b : ℕ) (c : Bool) → ltb a b ≡ c → Comes (Some (min a b)) steps id → Comes (Some a) (Some b ∷ steps) id
@@ -100,13 +100,13 @@ least_end first (x ∷ steps) id h = joined first x (least_end (lesser first x) 
     least_on x below rest (suc other) end e = rest other end e
 
     joined : (first x : Option ℕ) → IsLeast (lesser first x) steps id → IsLeast first (x ∷ steps) id
-    joined None None l = record { comes = comes_on None steps id l.comes; before = tt; least = least_on None tt l.least; }
-    joined None (Some b) l = record { comes = from_next b l.comes; before = tt; least = least_on (Some b) l.before l.least; }
-    joined (Some a) None l = record { comes = from_first a l.comes; before = l.before; least = least_on None tt l.least; }
+    joined None None l = record { comes = comes_on None steps id l.comes; before = tt; least = least_on None tt l.least }
+    joined None (Some b) l = record { comes = from_next b l.comes; before = tt; least = least_on (Some b) l.before l.least }
+    joined (Some a) None l = record { comes = from_first a l.comes; before = l.before; least = least_on None tt l.least }
     joined (Some a) (Some b) l = record {
-        comes = from_either a b (ltb a b) refl l.comes;
-        before = omega (arith, l.before);
-        least = least_on (Some b) (omega (arith, l.before)) l.least;
+      comes = from_either a b (ltb a b) refl l.comes;
+      before = omega (arith, l.before);
+      least = least_on (Some b) (omega (arith, l.before)) l.least;
     }
 
 -- no steps lead anywhere where their least end isn't there
@@ -124,7 +124,7 @@ least_led (Some id) steps e = from l.comes
 
     from : Comes None steps id → IsLeastEnd steps id
     from (alone h) = absurd (cc)
-    from (led start h) = record { start = start; leads = h; least = l.least; }
+    from (led start h) = record { start = start; leads = h; least = l.least }
 
 -- where walks that are longer than the table lead nowhere, there is no cycle
 pub no_cycle : (shapes : List PlainShape) (many : ℕ) (steps : List (Option ℕ)) → AreWalks shapes many steps → ((id : ℕ) → led_from steps id ≡ None)
@@ -139,9 +139,9 @@ no_cycle shapes many steps are none id cycle =
 pub least_cycle : (shapes : List PlainShape) (many : ℕ) (steps : List (Option ℕ)) (id : ℕ) → length shapes < many → AreWalks shapes many steps → IsLeastEnd steps id
     → IsFirstCycle shapes id
 least_cycle shapes many steps id long are l = record {
-    before = λ other less cycle. (let r = cycle_reached shapes many other cycle in
-        absurd (omega (arith, less, l.least r.0 other (are r.0 ∙ r.1))));
-    cycle = long_walk shapes many l.start id long (sym (are l.start) ∙ l.leads);
+  before = λ other less cycle. (let r = cycle_reached shapes many other cycle in
+      absurd (omega (arith, less, l.least r.0 other (are r.0 ∙ r.1))));
+  cycle = long_walk shapes many l.start id long (sym (are l.start) ∙ l.leads);
 }
 
 -- both for what the search for the least end answers

@@ -15,7 +15,7 @@ pub record Passes {A : Type 0} (o : Option A) (f : A → Option A) (y : A) : Typ
 
 pub passes : {A : Type 0} (o : Option A) (f : A → Option A) (y : A) → option_and_then f o ≡ Some y → Passes o f y
 passes None f y h = absurd (cc)
-passes (Some x) f y h = record { middle = x; first = refl; rest = h; }
+passes (Some x) f y h = record { middle = x; first = refl; rest = h }
 
 add_step : (shapes : List PlainShape) (m n : ℕ) → ((id : ℕ) → walk shapes (m + n) id ≡ option_and_then (walk shapes n) (walk shapes m id))
     → (o : Option ℕ) → option_and_then (walk shapes (m + n)) o ≡ option_and_then (walk shapes n) (option_and_then (walk shapes m) o)
@@ -50,7 +50,7 @@ step_within shapes id j h =
 -- a walk of at least one step leads on from a shape of the table alone
 pub walk_within : (shapes : List PlainShape) (n id j : ℕ) → 0 < n → walk shapes n id ≡ Some j → id < length shapes
 walk_within shapes zero id j some h = absurd (omega arith)
-walk_within shapes (suc n) id j some h = 
+walk_within shapes (suc n) id j some h =
     let p : Passes (step_from shapes id) (walk shapes n) j = passes (step_from shapes id) (walk shapes n) j h in
     step_within shapes id p.middle p.first
 
@@ -90,13 +90,13 @@ found o m h = h ∙ ap Some (ap (λ o. unwrap_or o 0) (sym h))
 pub long_walk : (shapes : List PlainShape) (many id j : ℕ) → length shapes < many → walk shapes many id ≡ Some j → IsCycle shapes j
 long_walk shapes many id j long whole =
     let passed : (k : ℕ) → k ≤ many → Passes (walk shapes k id) (walk shapes (many - k)) j =
-        λ k h. (let sum : k + (many - k) ≡ many = omega arith in walk_passes shapes k (many - k) id j (rw sum whole)) in
+    λ k h. (let sum : k + (many - k) ≡ many = omega arith in walk_passes shapes k (many - k) id j (rw sum whole)) in
     let at : (k : ℕ) → k ≤ many → walk shapes k id ≡ Some (place shapes id k) =
-        λ k h. found (walk shapes k id) (passed k h).middle (passed k h).first in
+    λ k h. found (walk shapes k id) (passed k h).middle (passed k h).first in
     let on : (k : ℕ) → k ≤ many → walk shapes (many - k) (place shapes id k) ≡ Some j =
-        λ k h. (let sum : k + (many - k) ≡ many = omega arith in walk_rest shapes k (many - k) id (place shapes id k) j (rw sum whole) (at k h)) in
+    λ k h. (let sum : k + (many - k) ≡ many = omega arith in walk_rest shapes k (many - k) id (place shapes id k) j (rw sum whole) (at k h)) in
     let t : Twice (place shapes id) (suc (length shapes)) =
-        pigeons (length shapes) (place shapes id) (λ k h. walk_within shapes (many - k) (place shapes id k) j (omega arith) (on k (omega arith))) in
+    pigeons (length shapes) (place shapes id) (λ k h. walk_within shapes (many - k) (place shapes id k) j (omega arith) (on k (omega arith))) in
     let round : ℕ = t.second - t.first in
     let left : ℕ = many - t.first in
     let v : ℕ = place shapes id t.first in

@@ -158,8 +158,8 @@ abbrev mutual
   has_shape t id (struct_data ds) = passes (shape_at t id) (on_struct (λ ids. each_has t ids ds))
   has_shape t id (variant_data place d) =
       passes (shape_at t id)
-        (on_variant place
-          (on_content (is_unit_data d) (λ j. has_shape t j d) (λ js. tuple_has t js d) (λ js. struct_has t js d)))
+      (on_variant place
+      (on_content (is_unit_data d) (λ j. has_shape t j d) (λ js. tuple_has t js d) (λ js. struct_has t js d)))
   has_shape t id ignored_data = passes (shape_at t id) is_ignored
 
   -- the data is a tuple of these shapes

@@ -85,7 +85,10 @@ pub(crate) fn has_shape(schema: &Schema, id: ShapeId, data: &Data) -> bool
         },
         Data::Tuple(items) => match shape {
             Shape::Tuple(ids) => each_has(schema, ids, items),
-            Shape::TupleStruct { name: _, items: ids } => each_has(schema, ids, items),
+            Shape::TupleStruct {
+                name: _,
+                items: ids,
+            } => each_has(schema, ids, items),
             _ => false,
         },
         Data::Map(entries) => match shape {

@@ -9,10 +9,11 @@ use Rattle.yaml_shape.proofs.names.are_distinct_inside.Goals as goal
 pub loop-i-preserved : goal.loop-i-preserved
 loop-i-preserved c =
     All-more (λ v. IsDistinctInside (content_of v.1)) c.args.variants.now c.loop-i.i (c.index-variants-i.result) c.loop-i-test.true c.loop-i.invariant
-        (c.in_ok-is_distinct_inside.ensures.0 c.if-not-branch.false)
+    (c.in_ok-is_distinct_inside.ensures.0 c.if-not-branch.false)
 
 pub returns : goal.returns
-returns c =
-    (λ _. All-same (λ v. IsDistinctInside (content_of v.1)) c.args.variants.now (take c.loop-i.i c.args.variants.now)
-        (sym (take_all c.loop-i.i c.args.variants.now c.loop-i-test.false)) c.loop-i.invariant,
-     λ _. refl)
+returns c = (
+  λ _. All-same (λ v. IsDistinctInside (content_of v.1)) c.args.variants.now (take c.loop-i.i c.args.variants.now)
+      (sym (take_all c.loop-i.i c.args.variants.now c.loop-i-test.false)) c.loop-i.invariant,
+  λ _. refl,
+)

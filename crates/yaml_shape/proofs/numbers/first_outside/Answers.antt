@@ -10,12 +10,12 @@ use Rattle.yaml_shape.proofs.numbers.first_outside.Goals as goal
 pub returns-then-not-names_within-clause-first : goal.returns-then-not-names_within-clause-first
 returns-then-not-names_within-clause-first c =
     rw length-map (first_without (NamesWithin (length c.args.shapes.now)) c.args.shapes.now c.loop-number.number c.index-shapes-number.result
-        c.loop-number-test.true c.index-shapes-number.is c.loop-number.invariant (λ h. cc (c.names_within.ensures.1 h)))
+    c.loop-number-test.true c.index-shapes-number.is c.loop-number.invariant (λ h. cc (c.names_within.ensures.1 h)))
 
 pub loop-number-preserved : goal.loop-number-preserved
 loop-number-preserved c =
     one_more (NamesWithin (length c.args.shapes.now)) c.args.shapes.now c.loop-number.number c.index-shapes-number.result
-        c.loop-number-test.true c.index-shapes-number.is c.loop-number.invariant (c.names_within.ensures.0 c.if-not-names_within.false)
+    c.loop-number-test.true c.index-shapes-number.is c.loop-number.invariant (c.names_within.ensures.0 c.if-not-names_within.false)
 
 pub returns-clause-none : goal.returns-clause-none
 returns-clause-none c = λ _.

@@ -10,4 +10,4 @@ raised_id-requires-clause-small c =
 pub loop-i-preserved : goal.loop-i-preserved
 loop-i-preserved c =
     one_raised (λ id. id.0) (λ n. c.args.by + n) c.args.ids.now.items c.loop-i.ids.items c.loop-i.i c.index.result.now c.raised_id.result (omega arith) c.loop-i.invariant
-        (c.raised_id.ensures ∙ ap (λ id. c.args.by + id.0) c.index.ensures)
+    (c.raised_id.ensures ∙ ap (λ id. c.args.by + id.0) c.index.ensures)
