@@ -5,3 +5,5 @@ pub mod WrongPlaces
 pub mod AnchorSearch
 pub mod Gatherings
 pub mod DocumentLaws
+pub mod PlainWalks
+pub mod StreamLaws

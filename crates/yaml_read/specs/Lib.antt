@@ -9,5 +9,6 @@ pub mod MarkedEvents
 pub mod PlainDocEvent
 pub mod PlainDocument
 pub mod Resolved
+pub mod StreamLaw
 pub mod StreamMachine
 pub mod WrongPlace

@@ -5,6 +5,7 @@ mod doc_event;
 mod document;
 mod loader;
 mod stream;
+pub mod stream_law;
 
 pub use doc_event::DocEvent;
 pub use document::Document;
