@@ -113,3 +113,6 @@ impl<'de> Loader<'de> {
         self.left.next()
     }
 }
+
+#[cfg(test)]
+mod tests;
