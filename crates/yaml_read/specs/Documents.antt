@@ -90,7 +90,8 @@ becomes find place (alias anchor) = option_map alias_to (find anchor place)
 becomes find place e = node_event e
 
 -- an event in front of others, which end where it is missing
-abbrev pub then_events : Option PlainDocEvent → Position → List (PlainDocEvent × Position) → List (PlainDocEvent × Position)
+abbrev pub then_events :
+    Option PlainDocEvent → Position → List (PlainDocEvent × Position) → List (PlainDocEvent × Position)
 then_events None mark events = []
 then_events (Some d) mark events = (d, mark) ∷ events
 

@@ -1,5 +1,6 @@
 -- Documents as ranges of one list of events, beside which stand the numbers of the events.
-use Rattle.std.specs.Prelude.{ℕ, ◌≡◌, ◌≤◌, List, [], ◌∷◌, map, length, slice_range, All, Option, Some, None, option_to_list}
+use Rattle.std.specs.Prelude.{ℕ, ◌≡◌, ◌≤◌, List, [], ◌∷◌, map, length, slice_range, All}
+use Rattle.std.specs.Prelude.{Option, Some, None, option_to_list}
 use Rattle.yaml_base.specs.Position.{Position}
 use Rattle.yaml_base.specs.PlainFault.{PlainFault}
 use Rattle.yaml_read.specs.DocEventView.{doc_event_of, marked_events_of}

@@ -8,7 +8,7 @@ use Rattle.yaml_read.specs.Documents.{void_document}
 use Rattle.yaml_read.specs.PlainDocument.{PlainDocument}
 use Rattle.yaml_read.specs.Resolved.{resolved}
 
--- the document of a tree whose aliases all have targets is whole and has its events; any other ends at an unknown anchor
+-- the document of a tree whose aliases all have targets is whole and has its events; else it ends at an unknown anchor
 abbrev pub IsDocumentOf : Option DocNode → PlainDocument → Type 0
 IsDocumentOf (Some tree) document = (map (λ e. e.0) document.events ≡ events_of tree) × (document.ending ≡ None)
 IsDocumentOf None document = (mark : Position) × (document.ending ≡ Some (UnknownAnchor mark))

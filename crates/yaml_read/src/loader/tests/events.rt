@@ -1,10 +1,10 @@
 //! Short texts for events and for documents.
 //!
-//! Of events: `S` and `E` are the start and the end of the stream, `(` and `)` of a document, brackets and braces those of
-//! collections, a small letter is a plain scalar with that text, `&a` an anchor for the node that follows, and `*a` an
-//! alias. Of documents: scalars, starts and ends as above; `*A` is an alias of the first event, `*B` of the second, and so
-//! on; `~` stands for nothing. Then `.` ends a whole document, `!` one with the parser's fault, and `?C` one with an
-//! unknown anchor at the third event of all. `#C` is a list that is wrong at the third event.
+//! Of events: `S` and `E` are the start and the end of the stream, `(` and `)` of a document, brackets and braces those
+//! of collections, a small letter is a plain scalar with that text, `&a` an anchor for the node that follows, and `*a`
+//! an alias. Of documents: scalars, starts and ends as above; `*A` is an alias of the first event, `*B` of the second,
+//! and so on; `~` stands for nothing. Then `.` ends a whole document, `!` one with the parser's fault, and `?C` one with
+//! an unknown anchor at the third event of all. `#C` is a list that is wrong at the third event.
 
 use crate::doc_event::DocEvent;
 use crate::document::Document;
