@@ -96,7 +96,7 @@ document_read_ended named events rest ended fault n e d t =
     ∙ ap (λ b. document_of named events b fault) (sym t) ∙ document_read named events rest ended fault n e d
 
 -- behind a document that ends
-starts_behind : (rest : Input) → is_ended rest ≡ true → after_starts true rest ≡ after_starts false (behind rest)
+pub starts_behind : (rest : Input) → is_ended rest ≡ true → after_starts true rest ≡ after_starts false (behind rest)
 starts_behind [] h = absurd (cc)
 starts_behind (e ∷ rest) h =
     elim (cases_Bool (is_document_end e.0)) [

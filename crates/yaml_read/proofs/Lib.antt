@@ -11,6 +11,8 @@ mod Whole
 pub mod AnchorSearch
 pub mod DocumentLaws
 pub mod Gatherings
+pub mod PlainWalks
+pub mod StreamLaws
 pub mod StreamMachineLaws
 pub mod TreeLaws
 pub mod WrongPlaces

@@ -13,6 +13,7 @@ pub mod Reader
 pub mod Reads
 pub mod Resolved
 pub mod Scalars
+pub mod StreamLaw
 pub mod StreamMachine
 pub mod Walks
 pub mod WrongPlace

@@ -11,7 +11,8 @@ use std::marker::Model;
 use std::rc::Rc;
 use yaml_base::{Error, Mark};
 
-/// One document: its events, which lie beside those of the stream's other documents, and the fault that cut it off, if one did.
+/// One document: its events, which lie beside those of the stream's other documents, and the fault that cut it off, if
+/// one did.
 #[derive(Drop)]
 pub struct Document<'de> {
     shared: Rc<Vec<(DocEvent<'de>, Mark)>>,
@@ -70,8 +71,8 @@ impl<'de> Document<'de> {
         &self.shared[self.from..self.to]
     }
 
-    // A number for each event: where the collection that begins there ends, or the length where it is cut off, and for any
-    // other event its own place.
+    // A number for each event: where the collection that begins there ends, or the length where it is cut off, and for
+    // any other event its own place.
     pub(crate) fn ends(&self) -> &[usize]
         ensures { result.now ≡ ends_of (map (λ e. e.0) self.now.events) }
     {

@@ -9,6 +9,7 @@ mod loader;
 mod stream;
 mod tally;
 mod walk;
+pub mod stream_law;
 
 pub use doc_event::DocEvent;
 pub use document::Document;

@@ -80,20 +80,22 @@ fn gather<'de>(
 }
 
 impl<'de> Loader<'de> {
-    /// The documents of a stream, or, with a parser's fault, of a beginning of a stream that lacks the end. Any other list
-    /// of events is no stream, and is refused with the least place that is wrong. The events are dropped on refusal.
+    /// The documents of a stream, or, with a parser's fault, of a beginning of a stream that lacks the end. Any other
+    /// list is refused with the least place that is wrong. The events are dropped on refusal.
     pub fn new(
         alloc: Global,
         events: Vec<(Event<'de>, Mark)>,
         fault: Option<ParserFault>,
     ) -> yaml_base::Result<Loader<'de>>
-        ensures accepted { IfOk result (λ _. IsWellFormed (is_some fault) (plain_events events.entry.items)) }
+        ensures accepted { IfOk result (λ _.
+            IsWellFormed (is_some fault) (plain_events events.entry.items)) }
         ensures documents { IfOk result (λ documents.
             documents ≡ documents_of (plain_marked events.entry.items) fault) }
 
         ensures refused { IfErr result (λ cause. is_memory cause ≡ false
             → IsWellFormed (is_some fault) (plain_events events.entry.items) → ⊥) }
-        ensures wrong { IfErr result (λ cause. is_memory cause ≡ false → (place : ℕ) × (cause ≡ NotAStream place)
+        ensures wrong { IfErr result (λ cause. is_memory cause ≡ false
+            → (place : ℕ) × (cause ≡ NotAStream place)
             × IsWrongAt (is_some fault) (plain_events events.entry.items) place) }
     {
         if let Some(place) = wrong_place(alloc, &events, fault.is_some())? {
@@ -113,3 +115,6 @@ impl<'de> Loader<'de> {
         self.left.next()
     }
 }
+
+#[cfg(test)]
+mod tests;

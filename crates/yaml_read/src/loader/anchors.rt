@@ -9,7 +9,8 @@ use std::alloc::AllocError;
 use std::marker::Model;
 use yaml_base::Anchor;
 
-// The anchors of a document, each beside the place of its node, in the order of the anchors' bytes and then of the places.
+// The anchors of a document, each beside the place of its node, in the order of the anchors' bytes and then of the
+// places.
 #[derive(Drop)]
 pub(crate) struct Anchors {
     named: Vec<(Anchor, usize)>,
@@ -44,7 +45,8 @@ impl Anchors {
     {
         let after = self.named.partition_point(
             |x: &(Anchor, usize)| -> bool
-                ensures { result ≡ is_lt (ordering_then (slice_cmp nat_cmp x.now.0 anchor.entry.now) (nat_cmp x.now.1 place)) }
+                ensures { result ≡ is_lt (ordering_then
+                    (slice_cmp nat_cmp x.now.0 anchor.entry.now) (nat_cmp x.now.1 place)) }
             { x.0.cmp(anchor).then(x.1.cmp(&place)).is_lt() },
         );
         if after == 0 {

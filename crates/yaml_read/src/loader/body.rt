@@ -72,12 +72,15 @@ pub(crate) fn read_body<'de>(
     rest: &mut IntoIter<(Event<'de>, Mark), Global>,
 ) -> Result<Body<'de>, AllocError>
     ensures events { IfOk result (λ found.
-        plain_marked found.events.items ≡ all_stripped (body (plain_marked (into_iter_items rest.old)))) }
+        plain_marked found.events.items
+          ≡ all_stripped (body (plain_marked (into_iter_items rest.old)))) }
     ensures named { IfOk result (λ found.
         found.named.items ≡ anchors_in 0 (body (plain_marked (into_iter_items rest.old)))) }
-    ensures ended { IfOk result (λ found. found.ended ≡ is_ended (plain_marked (into_iter_items rest.old))) }
+    ensures ended { IfOk result (λ found.
+        found.ended ≡ is_ended (plain_marked (into_iter_items rest.old))) }
     ensures rest { IfOk result (λ _.
-        plain_marked (into_iter_items rest.new) ≡ behind (plain_marked (into_iter_items rest.old))) }
+        plain_marked (into_iter_items rest.new)
+          ≡ behind (plain_marked (into_iter_items rest.old))) }
 {
     let mut events = Vec::new(alloc);
     let mut named = Vec::new(alloc);
@@ -104,7 +107,8 @@ pub(crate) fn read_body<'de>(
 
 // What the event at a place of the document becomes, unless it is an unknown alias.
 fn doc_event<'de>(event: Event<'de>, place: usize, anchors: &Anchors) -> Option<DocEvent<'de>>
-    ensures { option_map doc_event_of result ≡ becomes (find_in anchors.now) place (event_of event.entry) }
+    ensures { option_map doc_event_of result
+        ≡ becomes (find_in anchors.now) place (event_of event.entry) }
 {
     match event {
         Event::Alias(anchor) => {

@@ -123,7 +123,8 @@ impl<'de> Gathered<'de> {
         fault: Option<ParserFault>,
     ) -> Result<Gathered<'de>, AllocError>
         ensures { IfOk result (λ after. after ≡ self.entry
-            ++ document_of body.entry.named.items (plain_marked body.entry.events.items) body.entry.ended fault ∷ []) }
+            ++ document_of body.entry.named.items (plain_marked body.entry.events.items)
+              body.entry.ended fault ∷ []) }
     {
         let Body {
             events,
@@ -135,15 +136,16 @@ impl<'de> Gathered<'de> {
         self.add(alloc, found, ending(unknown, ended, fault))
     }
 
-    // These documents, and behind them the one without events that the parser's fault leaves, or, where there is neither
-    // a document nor a fault, that of an empty stream.
+    // These documents, and behind them the one without events that the parser's fault leaves, or, where there is
+    // neither a document nor a fault, that of an empty stream.
     pub(crate) fn close(
         self,
         alloc: Global,
         end: Option<Mark>,
         fault: Option<ParserFault>,
     ) -> Result<Gathered<'de>, AllocError>
-        ensures { IfOk result (λ after. after ≡ self.entry ++ closing_documents self.entry end fault) }
+        ensures { IfOk result (λ after.
+            after ≡ self.entry ++ closing_documents self.entry end fault) }
     {
         let mut found = Vec::new(alloc);
         match fault {
