@@ -10,3 +10,5 @@ pub mod DataLaws
 pub mod RaiseLaws
 pub mod JoinLaws
 pub mod JoinWalks
+pub mod JoinCode
+pub mod PartLaws

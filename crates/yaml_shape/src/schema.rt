@@ -22,7 +22,7 @@ pub const SHAPES: usize = 4096;
 /// A table of shapes in which each number that a shape names is in the table. Contracts see it as its list of shapes.
 #[derive(Drop)]
 pub struct Schema {
-    shapes: Vec<Shape>,
+    pub(crate) shapes: Vec<Shape>,
 }
 
 impl Model for Schema {
