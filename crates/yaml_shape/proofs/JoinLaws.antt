@@ -31,7 +31,7 @@ at_right (x ∷ xs) ys i =
     rw e (at_right xs ys i)
 
 -- the numbers of raised fields
-numbers-raised : (by : ℕ) (fields : List (List ℕ × ℕ)) → numbers_of (raised_fields by fields) ≡ raised_ids by (numbers_of fields)
+pub numbers-raised : (by : ℕ) (fields : List (List ℕ × ℕ)) → numbers_of (raised_fields by fields) ≡ raised_ids by (numbers_of fields)
 numbers-raised by [] = refl
 numbers-raised by (f ∷ fs) = ap (λ ns. (by + f.1) ∷ ns) (numbers-raised by fs)
 

@@ -12,3 +12,5 @@ pub mod JoinLaws
 pub mod JoinWalks
 pub mod JoinCode
 pub mod PartLaws
+pub mod JoinData
+pub mod Stands

@@ -23,7 +23,7 @@ pub record AreJoined (parts : Parts) (table : List PlainShape) (starts : List Sh
 pub none_joined : (parts : Parts) → All StartsWithin (parts_of parts) → AreJoined parts [] [] parts
 none_joined parts within = record { tables = refl; places = refl; within = within; }
 
-length-joined : (first second : List PlainShape) → length (joined first second) ≡ length first + length second
+pub length-joined : (first second : List PlainShape) → length (joined first second) ≡ length first + length second
 length-joined first second = length-append first (map (raised (length first)) second) ∙ ap (λ n. length first + n) (length-map second (raised (length first)))
 
 -- one more is joined
