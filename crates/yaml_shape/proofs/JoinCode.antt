@@ -1,13 +1,18 @@
 -- The joins as the code makes them.
 use Rattle.std.proofs.Common.{◌≡◌, ◌<◌, ◌≤◌, ◌+◌, ℕ, List, [], ◌∷◌, ◌++◌, map, length, refl, sym, ◌∙◌, ap, subst, All, arith}
+use Rattle.std.specs.Prelude.{Result, Ok, Err, IfOk}
 use Rattle.std.proofs.lemmas.List.{length-map, map-append}
 use Rattle.std.proofs.lemmas.List.Elements.{All-weaker}
 use Rattle.yaml_shape.specs.PlainShape.{PlainShape}
 use Rattle.yaml_shape.specs.ShapeView.{shape_of}
 use Rattle.yaml_shape.specs.Validity.{named, NamesWithin, AllNameWithin, HasDistinctNames, IsValidSchema}
-use Rattle.yaml_shape.specs.Join.{raised, joined}
+use Rattle.yaml_shape.specs.Join.{raised, joined, IsWith}
 use Rattle.yaml_shape.specs.declared.shape.Shape.{Shape}
+use Rattle.yaml_shape.specs.declared.shape.ShapeId.{ShapeId}
+use Rattle.yaml_shape.specs.declared.fault.SchemaFault.{SchemaFault}
+use Rattle.yaml_shape.specs.Kept.{Keeps}
 use Rattle.yaml_shape.proofs.NumberLaws.{All-from_map}
+use Rattle.yaml_shape.proofs.Stands.{keeps_first}
 use Rattle.yaml_shape.proofs.JoinWalks.{valid-joined, valid-added}
 
 -- a valid table with one more shape
@@ -39,3 +44,16 @@ all_small shapes valid =
   where
     small : (s : PlainShape) → NamesWithin (length (map shape_of shapes)) s → NamesWithin 4096 s
     small s h = All-weaker (λ id. id < length (map shape_of shapes)) (λ id. id < 4096) (λ id l. omega (arith, valid.few)) (named s) h
+
+-- a table keeps its data when one more shape is added
+pub pushed_keeps : (old new : List Shape) (shape : Shape) (table : List PlainShape) → map shape_of old ≡ table → new ≡ old ++ shape ∷ []
+    → IsValidSchema (map shape_of old) → Keeps 0 table (map shape_of new)
+pushed_keeps old new shape table seen made valid =
+    subst (Keeps 0 table) (sym (ap (map shape_of) made ∙ (map-append shape_of old (shape ∷ []) ∙ ap (λ t. t ++ (shape_of shape ∷ [])) seen)))
+        (keeps_first table (shape_of shape ∷ []) (subst IsValidSchema seen valid))
+
+-- what is so of each table with this shape behind it is so of the answer
+pub answered : (r : Result (List PlainShape × ShapeId) SchemaFault) (table : List PlainShape) (shape : PlainShape) (P : List PlainShape → Type 0)
+    → P (table ++ shape ∷ []) → IfOk r (IsWith table shape) → IfOk r (λ a. P a.0)
+answered (Ok a) table shape P h is = subst P (sym is.table) h
+answered (Err e) table shape P h is = tt

@@ -1,9 +1,10 @@
 -- Tables joined in a row, part by part.
 use Rattle.std.proofs.Common.{◌≡◌, ◌<◌, ◌≤◌, ◌+◌, ℕ, List, [], ◌∷◌, ◌++◌, map, length, refl, sym, ◌∙◌, ap, subst, All, arith, append_assoc, append-nil, length-append}
 use Rattle.std.proofs.lemmas.List.{length-map, map-append}
-use Rattle.std.proofs.lemmas.List.Elements.{All-nil, All-cons, All-head, All-tail}
+use Rattle.std.proofs.lemmas.List.Elements.{All-nil, All-cons, All-head, All-tail, All-push, All-map}
 use Rattle.yaml_shape.specs.PlainShape.{PlainShape}
 use Rattle.yaml_shape.specs.ShapeView.{ids_of}
+use Rattle.yaml_shape.specs.Validity.{AllNameWithin}
 use Rattle.yaml_shape.specs.Join.{raised, joined, joined_all, starts_behind, parts_of, StartsWithin, IsTooLarge}
 use Rattle.yaml_shape.specs.declared.shape.ShapeId.{ShapeId}
 use Rattle.yaml_shape.specs.declared.fault.SchemaFault.{SchemaFault}
@@ -87,3 +88,26 @@ next_within parts table starts schema start rest are = All-head StartsWithin (sc
 pub empty : {X : Type 0} (xs : List X) → length xs ≡ 0 → xs ≡ []
 empty [] h = refl
 empty (x ∷ xs) h = absurd (omega arith)
+
+-- the first parts are closed tables, and the others are left
+pub record AreSeen (parts done rest : Parts) : Type 0 where
+  pub row : done ++ rest ≡ parts
+  pub closed : All (λ p. AllNameWithin (length p.0) p.0) done
+
+-- at first none is known to be
+pub none_seen : (parts : Parts) → AreSeen parts [] parts
+none_seen parts = record { row = refl; closed = All-nil (λ p. AllNameWithin (length p.0) p.0); }
+
+-- one more is
+pub one_seen : (parts done rest left : Parts) (part : List PlainShape × ShapeId) → left ≡ part ∷ rest → AllNameWithin (length part.0) part.0 → AreSeen parts done left
+    → AreSeen parts (done ++ part ∷ []) rest
+one_seen parts done rest left part next closed are = record {
+    row = append_assoc done (part ∷ []) rest ∙ (ap (λ l. done ++ l) (sym next) ∙ are.row);
+    closed = All-push (λ p. AllNameWithin (length p.0) p.0) done part are.closed closed;
+}
+
+-- all are in the end
+pub all_seen : (parts done : Parts) → AreSeen parts done [] → All (λ p. AllNameWithin (length p.0) p.0) (parts_of parts)
+all_seen parts done are =
+    All-map (λ p. AllNameWithin (length p.0) p.0) (λ p. (p.0, p.1.0)) parts
+        (subst (λ (l : Parts). All (λ p. AllNameWithin (length p.0) p.0) l) (sym (append-nil done) ∙ are.row) are.closed)
