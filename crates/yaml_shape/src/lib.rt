@@ -25,3 +25,6 @@ pub use schema::Schema;
 pub use shape::{Shape, ShapeId, VariantShape};
 pub use text::Text;
 pub use typed::Typed;
+
+#[cfg(test)]
+mod tests;
