@@ -45,9 +45,14 @@ fn add(schema: Schema, shape: Shape) -> Result<(Schema, ShapeId), SchemaFault>
     Ok((Schema { shapes }, ShapeId(start as u32)))
 }
 
-/// The schema with a sequence behind it whose elements are of the shape with this number, and the number of the sequence. Refused by
+/// The schema with a sequence behind it whose elements are of the shape with this number, and the number of the
+/// sequence. Refused by
 /// `S4` where there is no room for it, and by `S5`.
-pub fn seq_of(_alloc: Global, schema: Schema, element: ShapeId) -> Result<(Schema, ShapeId), SchemaFault>
+pub fn seq_of(
+    _alloc: Global,
+    schema: Schema,
+    element: ShapeId,
+) -> Result<(Schema, ShapeId), SchemaFault>
     requires { element.0 < length schema }
     ensures ok { IfOk result (IsWith schema (seq_shape element.0)) }
     ensures kept { IfOk result (λ r. Keeps 0 schema r.0) }
@@ -56,9 +61,14 @@ pub fn seq_of(_alloc: Global, schema: Schema, element: ShapeId) -> Result<(Schem
     add(schema, Shape::Seq(element))
 }
 
-/// The schema with an optional behind it whose content is of the shape with this number, and the number of the optional. Refused by
+/// The schema with an optional behind it whose content is of the shape with this number, and the number of the
+/// optional. Refused by
 /// `S4` where there is no room for it, and by `S5`.
-pub fn option_of(_alloc: Global, schema: Schema, content: ShapeId) -> Result<(Schema, ShapeId), SchemaFault>
+pub fn option_of(
+    _alloc: Global,
+    schema: Schema,
+    content: ShapeId,
+) -> Result<(Schema, ShapeId), SchemaFault>
     requires { content.0 < length schema }
     ensures ok { IfOk result (IsWith schema (option_shape content.0)) }
     ensures kept { IfOk result (λ r. Keeps 0 schema r.0) }
@@ -67,9 +77,17 @@ pub fn option_of(_alloc: Global, schema: Schema, content: ShapeId) -> Result<(Sc
     add(schema, Shape::Option(content))
 }
 
-/// Both schemas in a row, the numbers in the second moved, with a mapping behind them from keys of the shape with this number in the
-/// first to values of that in the second; and the number of the mapping. Refused by `S4` where there are too many, and by `S5`.
-pub fn map_of(_alloc: Global, keys: Schema, key: ShapeId, values: Schema, value: ShapeId) -> Result<(Schema, ShapeId), SchemaFault>
+/// Both schemas in a row, the numbers in the second moved, with a mapping behind them from keys of the shape with
+/// this number in the
+/// first to values of that in the second; and the number of the mapping. Refused by `S4` where there are too many,
+/// and by `S5`.
+pub fn map_of(
+    _alloc: Global,
+    keys: Schema,
+    key: ShapeId,
+    values: Schema,
+    value: ShapeId,
+) -> Result<(Schema, ShapeId), SchemaFault>
     requires key_in { key.0 < length keys }
     requires value_in { value.0 < length values }
     ensures ok { IfOk result (IsWith (joined keys values) (map_shape key.0 (length keys + value.0))) }
@@ -83,9 +101,13 @@ pub fn map_of(_alloc: Global, keys: Schema, key: ShapeId, values: Schema, value:
     add(both, Shape::Map(key, ShapeId(behind + value.0)))
 }
 
-/// All schemas in a row, the numbers in each moved, with a tuple behind them whose elements are of the shapes with these numbers; and
+/// All schemas in a row, the numbers in each moved, with a tuple behind them whose elements are of the shapes with
+/// these numbers; and
 /// the number of the tuple. Without any it is the empty tuple. Refused by `S4` where there are too many, and by `S5`.
-pub fn tuple_of(alloc: Global, parts: Vec<(Schema, ShapeId)>) -> Result<(Schema, ShapeId), SchemaFault>
+pub fn tuple_of(
+    alloc: Global,
+    parts: Vec<(Schema, ShapeId)>,
+) -> Result<(Schema, ShapeId), SchemaFault>
     requires { All StartsWithin (parts_of parts.items) }
     ensures ok { IfOk result (IsWith (joined_all [] (parts_of parts.items))
         (tuple_shape (starts_behind 0 (parts_of parts.items)))) }

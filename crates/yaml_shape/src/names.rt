@@ -54,7 +54,10 @@ fn is_distinct_inside(alloc: Global, content: &VariantShape) -> Result<bool, All
 }
 
 // Whether the content of each variant has no name twice. The only error is want of memory.
-fn are_distinct_inside(alloc: Global, variants: &[(String, VariantShape)]) -> Result<bool, AllocError>
+fn are_distinct_inside(
+    alloc: Global,
+    variants: &[(String, VariantShape)],
+) -> Result<bool, AllocError>
     ensures { IfOk result
         (λ d. IsTrue d ↔ All (λ v. IsDistinctInside (content_of v.1)) variants.now) }
 {
@@ -66,11 +69,15 @@ fn are_distinct_inside(alloc: Global, variants: &[(String, VariantShape)]) -> Re
     Ok(true)
 }
 
-// Whether the variants have distinct names, and each has no name twice in its content. The only error is want of memory.
-fn are_distinct_variants(alloc: Global, variants: &[(String, VariantShape)]) -> Result<bool, AllocError>
+// Whether the variants have distinct names, and each has no name twice in its content. The only error is want of
+// memory.
+fn are_distinct_variants(
+    alloc: Global,
+    variants: &[(String, VariantShape)],
+) -> Result<bool, AllocError>
     ensures { IfOk result (λ d. IsTrue d
         ↔ (AreDistinct (map (λ v. string_bytes v.0) variants.now)
-            × All (λ v. IsDistinctInside (content_of v.1)) variants.now)) }
+        × All (λ v. IsDistinctInside (content_of v.1)) variants.now)) }
 {
     if !have_distinct_names(alloc, variants)? {
         return Ok(false);

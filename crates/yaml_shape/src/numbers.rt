@@ -47,7 +47,9 @@ fn variants_within(variants: &[(String, VariantShape)], size: usize) -> bool
     ensures { IsTrue result
         ↔ All (λ v. All (λ id. id < size) (named_in (content_of v.1))) variants.now }
 {
-    variants.iter().all(|variant| content_within(&variant.1, size))
+    variants
+        .iter()
+        .all(|variant| content_within(&variant.1, size))
 }
 
 // Whether each number that the shape names is below the size.
@@ -55,7 +57,9 @@ fn names_within(shape: &Shape, size: usize) -> bool
     ensures { IsTrue result ↔ NamesWithin size (shape_of shape.now) }
 {
     match shape {
-        Shape::Option(id) | Shape::Seq(id) | Shape::Newtype { name: _, inner: id } => is_within(*id, size),
+        Shape::Option(id) | Shape::Seq(id) | Shape::Newtype { name: _, inner: id } => is_within(
+            *id, size,
+        ),
         Shape::Map(key, value) => is_within(*key, size) && is_within(*value, size),
         Shape::Tuple(items) => all_within(items, size),
         Shape::TupleStruct { name: _, items } => all_within(items, size),

@@ -4,8 +4,7 @@ use crate::data::Data;
 use crate::join::{map_of, option_of, seq_of, tuple_of};
 use crate::schema::Schema;
 use crate::shape::{Shape, ShapeId, VariantShape};
-use crate::tests::makers::single;
-use crate::tests::makers::variant;
+use crate::tests::makers::{single, variant};
 use crate::typed::Typed;
 use std::alloc::{AllocError, Global};
 use std::test::Fail;
@@ -13,12 +12,18 @@ use std::test::Fail;
 // An enum behind a boolean, whose one variant holds that boolean.
 fn holder(alloc: Global) -> Result<Schema, Fail> {
     let content = VariantShape::Tuple(vec![in alloc; ShapeId(0)]?);
-    Ok(Schema::new(alloc, vec![in alloc; Shape::Bool, variant(alloc, content)?]?)?)
+    Ok(Schema::new(
+        alloc,
+        vec![in alloc; Shape::Bool, variant(alloc, content)?]?,
+    )?)
 }
 
 // The data of that enum.
 fn held(alloc: Global) -> Result<Data<'static>, AllocError> {
-    Ok(Data::Variant(0, Box::new(alloc, Data::Tuple(vec![in alloc; Data::Bool(true)]?))?))
+    Ok(Data::Variant(
+        0,
+        Box::new(alloc, Data::Tuple(vec![in alloc; Data::Bool(true)]?))?,
+    ))
 }
 
 // A schema with its start, which is in it.

@@ -50,20 +50,44 @@ fn structs(alloc: Global, count: u32) -> Result<Vec<Shape>, AllocError> {
 fn long_tables(rt: HostRuntime) -> Result<(), Fail> {
     let alloc = rt.alloc();
     let option = |id| Shape::Option(ShapeId(id));
-    assert_eq!(rt; answer(alloc, sequences(alloc, 4096, 0)?)?.as_str(), "a schema");
-    assert_eq!(rt; answer(alloc, sequences(alloc, 4097, 0)?)?.as_str(), "more than 4096 shapes");
-    assert_eq!(rt; answer(alloc, sequences(alloc, 4097, 9999)?)?.as_str(), "more than 4096 shapes");
-    assert_eq!(rt; answer(alloc, chain(alloc, 4095, Shape::Unit)?)?.as_str(), "a schema");
-    assert_eq!(rt; answer(alloc, chain(alloc, 4095, option(0))?)?.as_str(), "shape 0 is a cycle of options");
-    assert_eq!(rt; answer(alloc, chain(alloc, 4095, option(4000))?)?.as_str(), "shape 4000 is a cycle of options");
+    assert_eq!(rt;
+        answer(alloc, sequences(alloc, 4096, 0)?)?.as_str(),
+        "a schema"
+    );
+    assert_eq!(rt;
+        answer(alloc, sequences(alloc, 4097, 0)?)?.as_str(),
+        "more than 4096 shapes"
+    );
+    assert_eq!(rt;
+        answer(alloc, sequences(alloc, 4097, 9999)?)?.as_str(),
+        "more than 4096 shapes"
+    );
+    assert_eq!(rt;
+        answer(alloc, chain(alloc, 4095, Shape::Unit)?)?.as_str(),
+        "a schema"
+    );
+    assert_eq!(rt;
+        answer(alloc, chain(alloc, 4095, option(0))?)?.as_str(),
+        "shape 0 is a cycle of options"
+    );
+    assert_eq!(rt;
+        answer(alloc, chain(alloc, 4095, option(4000))?)?.as_str(),
+        "shape 4000 is a cycle of options"
+    );
     Ok(())
 }
 
 #[test]
 fn many_names(rt: HostRuntime) -> Result<(), Fail> {
     let alloc = rt.alloc();
-    assert_eq!(rt; answer(alloc, vec![in alloc; wide(alloc, 100_000, "last")?]?)?.as_str(), "a schema");
-    assert_eq!(rt; answer(alloc, vec![in alloc; wide(alloc, 100_000, "field 50000")?]?)?.as_str(), "shape 0 has a name twice");
+    assert_eq!(rt;
+        answer(alloc, vec![in alloc; wide(alloc, 100_000, "last")?]?)?.as_str(),
+        "a schema"
+    );
+    assert_eq!(rt;
+        answer(alloc, vec![in alloc; wide(alloc, 100_000, "field 50000")?]?)?.as_str(),
+        "shape 0 has a name twice"
+    );
     assert_eq!(rt; answer(alloc, structs(alloc, 4096)?)?.as_str(), "a schema");
     Ok(())
 }

@@ -11,7 +11,11 @@ pub(crate) fn name(alloc: Global, text: &str) -> Result<String, AllocError> {
 }
 
 /// Fields with these names, each of the shape with this number.
-pub(crate) fn fields(alloc: Global, names: &[&str], shape: u32) -> Result<Vec<(String, ShapeId)>, AllocError> {
+pub(crate) fn fields(
+    alloc: Global,
+    names: &[&str],
+    shape: u32,
+) -> Result<Vec<(String, ShapeId)>, AllocError> {
     let mut fields = Vec::new(alloc);
     for name in names {
         fields.push((String::from_str(alloc, name)?, ShapeId(shape)))?;

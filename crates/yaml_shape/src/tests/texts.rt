@@ -1,6 +1,8 @@
 //! The texts of what was expected, and of faults.
 
-use crate::expected::{sequence_of, struct_variant, tuple_struct_with, tuple_variant, tuple_variant_with};
+use crate::expected::{
+    sequence_of, struct_variant, tuple_struct_with, tuple_variant, tuple_variant_with,
+};
 use crate::fault::SchemaFault;
 use crate::schema::Schema;
 use crate::shape::{Shape, ShapeId};
@@ -41,14 +43,40 @@ fn plain(number: u32) -> (Shape, &'static str) {
 fn named(alloc: Global, number: u32) -> Result<(Shape, &'static str), AllocError> {
     let one = ShapeId(0);
     Ok(match number {
-        0 => (Shape::UnitStruct { name: name(alloc, "N")? }, "unit struct N"),
-        1 => (Shape::Newtype { name: name(alloc, "N")?, inner: one }, "tuple struct N"),
+        0 => (
+            Shape::UnitStruct {
+                name: name(alloc, "N")?,
+            },
+            "unit struct N",
+        ),
+        1 => (
+            Shape::Newtype {
+                name: name(alloc, "N")?,
+                inner: one,
+            },
+            "tuple struct N",
+        ),
         2 => (Shape::Tuple(vec![in alloc]?), "a tuple of size 0"),
         3 => (Shape::Tuple(vec![in alloc; one]?), "a tuple of size 1"),
-        4 => (Shape::Tuple(vec![in alloc; one, one, one]?), "a tuple of size 3"),
-        5 => (Shape::TupleStruct { name: name(alloc, "N")?, items: vec![in alloc; one]? }, "tuple struct N"),
+        4 => (
+            Shape::Tuple(vec![in alloc; one, one, one]?),
+            "a tuple of size 3",
+        ),
+        5 => (
+            Shape::TupleStruct {
+                name: name(alloc, "N")?,
+                items: vec![in alloc; one]?,
+            },
+            "tuple struct N",
+        ),
         6 => (structure(alloc, &["a"], 0)?, "struct S"),
-        7 => (Shape::StrictStruct { name: name(alloc, "N")?, fields: fields(alloc, &[], 0)? }, "struct N"),
+        7 => (
+            Shape::StrictStruct {
+                name: name(alloc, "N")?,
+                fields: fields(alloc, &[], 0)?,
+            },
+            "struct N",
+        ),
         _ => (units(alloc, &["A"])?, "enum E"),
     })
 }
@@ -80,14 +108,44 @@ fn texts_of_shapes(rt: HostRuntime) -> Result<(), Fail> {
 fn texts_of_numbers_of_elements(rt: HostRuntime) -> Result<(), Fail> {
     let alloc = rt.alloc();
     let no = "no text";
-    assert_eq!(rt; sequence_of(alloc, 1).ok().ok_or(no)?.as_str(), "sequence of 1 element");
-    assert_eq!(rt; sequence_of(alloc, 2).ok().ok_or(no)?.as_str(), "sequence of 2 elements");
-    assert_eq!(rt; tuple_struct_with(alloc, "N", 1).ok().ok_or(no)?.as_str(), "tuple struct N with 1 element");
-    assert_eq!(rt; tuple_struct_with(alloc, "N", 0).ok().ok_or(no)?.as_str(), "tuple struct N with 0 elements");
-    assert_eq!(rt; tuple_variant(alloc, "E", "V").ok().ok_or(no)?.as_str(), "tuple variant E::V");
-    assert_eq!(rt; tuple_variant_with(alloc, "E", "V", 1).ok().ok_or(no)?.as_str(), "tuple variant E::V with 1 element");
-    assert_eq!(rt; tuple_variant_with(alloc, "E", "V", 3).ok().ok_or(no)?.as_str(), "tuple variant E::V with 3 elements");
-    assert_eq!(rt; struct_variant(alloc, "E", "V").ok().ok_or(no)?.as_str(), "struct variant E::V");
+    assert_eq!(rt;
+        sequence_of(alloc, 1).ok().ok_or(no)?.as_str(),
+        "sequence of 1 element"
+    );
+    assert_eq!(rt;
+        sequence_of(alloc, 2).ok().ok_or(no)?.as_str(),
+        "sequence of 2 elements"
+    );
+    assert_eq!(rt;
+        tuple_struct_with(alloc, "N", 1).ok().ok_or(no)?.as_str(),
+        "tuple struct N with 1 element"
+    );
+    assert_eq!(rt;
+        tuple_struct_with(alloc, "N", 0).ok().ok_or(no)?.as_str(),
+        "tuple struct N with 0 elements"
+    );
+    assert_eq!(rt;
+        tuple_variant(alloc, "E", "V").ok().ok_or(no)?.as_str(),
+        "tuple variant E::V"
+    );
+    assert_eq!(rt;
+        tuple_variant_with(alloc, "E", "V", 1)
+            .ok()
+            .ok_or(no)?
+            .as_str(),
+        "tuple variant E::V with 1 element"
+    );
+    assert_eq!(rt;
+        tuple_variant_with(alloc, "E", "V", 3)
+            .ok()
+            .ok_or(no)?
+            .as_str(),
+        "tuple variant E::V with 3 elements"
+    );
+    assert_eq!(rt;
+        struct_variant(alloc, "E", "V").ok().ok_or(no)?.as_str(),
+        "struct variant E::V"
+    );
     assert_eq!(rt; SchemaFault::S5.to_string(alloc)?.as_str(), "out of memory");
     Ok(())
 }

@@ -19,15 +19,24 @@ fn shapes(alloc: Global) -> Result<Vec<Shape>, AllocError> {
         Shape::Str,
         Shape::U8,
         Shape::Option(small),
-        Shape::Newtype { name: name(alloc, "N")?, inner: text },
+        Shape::Newtype {
+            name: name(alloc, "N")?,
+            inner: text
+        },
         Shape::Seq(small),
         Shape::Tuple(vec![in alloc; small, text]?),
         Shape::Map(text, small),
-        Shape::Struct { name: name(alloc, "S")?, fields: fields(alloc, &["a", "b"], 1)? },
-        Shape::Enum { name: name(alloc, "E")?, variants: variants(alloc)? },
+        Shape::Struct {
+            name: name(alloc, "S")?,
+            fields: fields(alloc, &["a", "b"], 1)?
+        },
+        Shape::Enum {
+            name: name(alloc, "E")?,
+            variants: variants(alloc)?
+        },
         Shape::Option(any),
         Shape::I128,
-        Shape::U128
+        Shape::U128,
     ]?)
 }
 
@@ -37,9 +46,18 @@ fn variants(alloc: Global) -> Result<Vec<(String, VariantShape)>, AllocError> {
     Ok(vec![in alloc;
         (name(alloc, "U")?, VariantShape::Unit),
         (name(alloc, "N")?, VariantShape::Newtype(small)),
-        (name(alloc, "T")?, VariantShape::Tuple(vec![in alloc; small]?)),
-        (name(alloc, "S")?, VariantShape::Struct(fields(alloc, &["a"], 1)?)),
-        (name(alloc, "X")?, VariantShape::StrictStruct(fields(alloc, &["a"], 1)?))
+        (
+            name(alloc, "T")?,
+            VariantShape::Tuple(vec![in alloc; small]?)
+        ),
+        (
+            name(alloc, "S")?,
+            VariantShape::Struct(fields(alloc, &["a"], 1)?)
+        ),
+        (
+            name(alloc, "X")?,
+            VariantShape::StrictStruct(fields(alloc, &["a"], 1)?)
+        ),
     ]?)
 }
 
@@ -93,10 +111,32 @@ fn node(alloc: Global, number: u32) -> Result<(u32, Data<'static>, bool), AllocE
         3 => (5, text(alloc)?, false),
         4 => (6, Data::Seq(items(alloc, 3)?), true),
         5 => (6, Data::Tuple(items(alloc, 3)?), false),
-        6 => (7, Data::Tuple(vec![in alloc; Data::Signed(1), text(alloc)?]?), true),
+        6 => (
+            7,
+            Data::Tuple(vec![in alloc; Data::Signed(1), text(alloc)?]?),
+            true,
+        ),
         7 => (7, Data::Tuple(items(alloc, 1)?), false),
-        8 => (8, Data::Map(vec![in alloc; Entry { key: text(alloc)?, value: Data::Signed(1) }]?), true),
-        9 => (8, Data::Map(vec![in alloc; Entry { key: Data::Signed(1), value: Data::Signed(1) }]?), false),
+        8 => (
+            8,
+            Data::Map(vec![in alloc;
+                Entry {
+                    key: text(alloc)?,
+                    value: Data::Signed(1)
+                },
+            ]?),
+            true,
+        ),
+        9 => (
+            8,
+            Data::Map(vec![in alloc;
+                Entry {
+                    key: Data::Signed(1),
+                    value: Data::Signed(1)
+                },
+            ]?),
+            false,
+        ),
         10 => (9, Data::Struct(items(alloc, 2)?), true),
         11 => (9, Data::Struct(items(alloc, 1)?), false),
         _ => (9, Data::Tuple(items(alloc, 2)?), false),
