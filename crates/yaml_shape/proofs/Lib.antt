@@ -10,3 +10,7 @@ pub mod DataLaws
 pub mod RaiseLaws
 pub mod JoinLaws
 pub mod JoinWalks
+pub mod JoinCode
+pub mod PartLaws
+pub mod JoinData
+pub mod Stands

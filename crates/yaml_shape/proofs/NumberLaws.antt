@@ -1,10 +1,10 @@
 -- A fact of each mapped element, and of each element of mapped lists.
-use Rattle.std.proofs.Common.{◌≡◌, ◌<◌, ◌≤◌, ◌+◌, ◌↔◌, ℕ, zero, suc, Bool, IsTrue, List, [], ◌∷◌, ◌++◌, map, length, get_or, All, arith, length-append}
+use Rattle.std.proofs.Common.{◌<◌, ◌↔◌, ℕ, Bool, IsTrue, List, [], ◌∷◌, ◌++◌, map}
+use Rattle.std.proofs.Common.{All}
 use Rattle.std.specs.Prelude.{String}
 use Rattle.std.specs.List.{flat_map}
 use Rattle.std.specs.declared.alloc.Global.{Global}
-use Rattle.std.proofs.lemmas.List.{length-map, get_or-map}
-use Rattle.std.proofs.lemmas.List.Elements.{All-map, All-nil, All-cons, All-head, All-tail, All-append, All-same}
+use Rattle.std.proofs.lemmas.List.Elements.{All-map, All-nil, All-cons, All-head, All-tail, All-append}
 use Rattle.yaml_shape.specs.ShapeView.{field_of, fields_of, content_of, variant_of, variants_of}
 use Rattle.yaml_shape.specs.Validity.{numbers_of, named_in}
 use Rattle.yaml_shape.specs.declared.shape.ShapeId.{ShapeId}
@@ -30,16 +30,20 @@ All-right P [] ys h = h
 All-right P (x ∷ xs) ys h = All-right P xs ys (All-tail P x (xs ++ ys) h)
 
 -- what is so of each element of each list is so of each element of all
-pub All-flat_map : {X Y : Type 0} (P : X → Type 0) (f : Y → List X) (ys : List Y) → All (λ y. All P (f y)) ys → All P (flat_map f ys)
+pub All-flat_map : {X Y : Type 0} (P : X → Type 0) (f : Y → List X) (ys : List Y) → All (λ y. All P (f y)) ys
+    → All P (flat_map f ys)
 All-flat_map P f [] h = All-nil P
 All-flat_map P f (y ∷ ys) h =
-    All-append P (f y) (flat_map f ys) (All-head (λ z. All P (f z)) y ys h) (All-flat_map P f ys (All-tail (λ z. All P (f z)) y ys h))
+    All-append P (f y) (flat_map f ys) (All-head (λ z. All P (f z)) y ys h)
+    (All-flat_map P f ys (All-tail (λ z. All P (f z)) y ys h))
 
 -- and the other way round
-pub All-from_flat_map : {X Y : Type 0} (P : X → Type 0) (f : Y → List X) (ys : List Y) → All P (flat_map f ys) → All (λ y. All P (f y)) ys
+pub All-from_flat_map : {X Y : Type 0} (P : X → Type 0) (f : Y → List X) (ys : List Y) → All P (flat_map f ys)
+    → All (λ y. All P (f y)) ys
 All-from_flat_map P f [] h = All-nil (λ y. All P (f y))
 All-from_flat_map P f (y ∷ ys) h =
-    All-cons (λ z. All P (f z)) y ys (All-left P (f y) (flat_map f ys) h) (All-from_flat_map P f ys (All-right P (f y) (flat_map f ys) h))
+    All-cons (λ z. All P (f z)) y ys (All-left P (f y) (flat_map f ys) h)
+    (All-from_flat_map P f ys (All-right P (f y) (flat_map f ys) h))
 
 -- a test of the lists of each mapped element tests all
 pub tests_flat : {X Y Z : Type 0} (P : X → Type 0) (f : Y → List X) (g : Z → Y) (zs : List Z) (b : Bool)
@@ -63,11 +67,14 @@ pub tests_variants : (size : ℕ) (variants : List (String Global × VariantShap
 tests_variants size variants b h = tests_flat (λ id. id < size) (λ v. named_in v.1) variant_of variants b h
 
 -- what is so of each number that fields name
-pub All-from_fields : (P : ℕ → Type 0) (fields : List (String Global × ShapeId)) → All P (numbers_of (fields_of fields)) → All (λ f. P f.1.0) fields
+pub All-from_fields : (P : ℕ → Type 0) (fields : List (String Global × ShapeId))
+    → All P (numbers_of (fields_of fields)) → All (λ f. P f.1.0) fields
 All-from_fields P fields h = All-from_map (λ f. P f.1) field_of fields (All-from_map P (λ f. f.1) (fields_of fields) h)
 
 -- what is so of each number that variants name
 pub All-from_variants : (P : ℕ → Type 0) (variants : List (String Global × VariantShape))
-    → All P (flat_map (λ v. named_in v.1) (variants_of variants)) → All (λ v. All P (named_in (content_of v.1))) variants
+    → All P (flat_map (λ v. named_in v.1) (variants_of variants))
+    → All (λ v. All P (named_in (content_of v.1))) variants
 All-from_variants P variants h =
-    All-from_map (λ v. All P (named_in v.1)) variant_of variants (All-from_flat_map P (λ v. named_in v.1) (variants_of variants) h)
+    All-from_map (λ v. All P (named_in v.1)) variant_of variants (All-from_flat_map P (λ v. named_in
+    v.1) (variants_of variants) h)

@@ -1,10 +1,11 @@
 -- How walks through optionals go on: joined, cut, round a cycle, and to their ends.
-use Rattle.std.proofs.Common.{◌≡◌, ◌<◌, ◌≤◌, ◌+◌, ◌-◌, ◌*◌, ℕ, zero, suc, List, Option, Some, None, length, refl, sym, ◌∙◌, ap, subst, All, arith}
-use Rattle.std.specs.Prelude.{slice_get, unwrap_or}
+use Rattle.std.proofs.Common.{◌≡◌, ◌<◌, ◌≤◌, ◌+◌, ◌-◌, ◌*◌, ℕ, zero, suc, List, Option, Some, None, length, refl, sym}
+use Rattle.std.proofs.Common.{◌∙◌, ap, arith}
+use Rattle.std.specs.Prelude.{unwrap_or}
 use Rattle.std.specs.Option.{option_and_then}
-use Rattle.std.proofs.lemmas.Option.{slice_get_past, slice_get_within}
+use Rattle.std.proofs.lemmas.Option.{slice_get_within}
 use Rattle.yaml_shape.specs.PlainShape.{PlainShape, shape_at}
-use Rattle.yaml_shape.specs.Validity.{optional_content, step_from, walk, IsCycle, AllNameWithin}
+use Rattle.yaml_shape.specs.Validity.{optional_content, step_from, walk, IsCycle}
 use Rattle.yaml_shape.proofs.Pigeons.{Twice, pigeons}
 
 -- a chain that is there has a first part that is
@@ -17,24 +18,29 @@ pub passes : {A : Type 0} (o : Option A) (f : A → Option A) (y : A) → option
 passes None f y h = absurd (cc)
 passes (Some x) f y h = record { middle = x; first = refl; rest = h }
 
-add_step : (shapes : List PlainShape) (m n : ℕ) → ((id : ℕ) → walk shapes (m + n) id ≡ option_and_then (walk shapes n) (walk shapes m id))
-    → (o : Option ℕ) → option_and_then (walk shapes (m + n)) o ≡ option_and_then (walk shapes n) (option_and_then (walk shapes m) o)
+add_step : (shapes : List PlainShape) (m n : ℕ)
+    → ((id : ℕ) → walk shapes (m + n) id ≡ option_and_then (walk shapes n) (walk shapes m id))
+    → (o : Option ℕ) → option_and_then (walk shapes (m + n)) o ≡ option_and_then (walk shapes n)
+    (option_and_then (walk shapes m) o)
 add_step shapes m n h None = refl
 add_step shapes m n h (Some next) = h next
 
 -- a walk goes on where its first part ends
-pub walk-add : (shapes : List PlainShape) (m n id : ℕ) → walk shapes (m + n) id ≡ option_and_then (walk shapes n) (walk shapes m id)
+pub walk-add : (shapes : List PlainShape) (m n id : ℕ)
+    → walk shapes (m + n) id ≡ option_and_then (walk shapes n) (walk shapes m id)
 walk-add shapes zero n id = ap (λ k. walk shapes k id) (omega arith)
 walk-add shapes (suc m) n id =
     let more : suc m + n ≡ suc (m + n) = omega arith in
     rw more (add_step shapes m n (λ k. walk-add shapes m n k) (step_from shapes id))
 
 -- where a walk leads on from the end of another
-pub walk_on : (shapes : List PlainShape) (m n id j k : ℕ) → walk shapes m id ≡ Some j → walk shapes n j ≡ Some k → walk shapes (m + n) id ≡ Some k
+pub walk_on : (shapes : List PlainShape) (m n id j k : ℕ) → walk shapes m id ≡ Some j → walk shapes n j ≡ Some k
+    → walk shapes (m + n) id ≡ Some k
 walk_on shapes m n id j k h g = walk-add shapes m n id ∙ ap (option_and_then (walk shapes n)) h ∙ g
 
 -- a walk passes by each of its places
-pub walk_passes : (shapes : List PlainShape) (m n id k : ℕ) → walk shapes (m + n) id ≡ Some k → Passes (walk shapes m id) (walk shapes n) k
+pub walk_passes : (shapes : List PlainShape) (m n id k : ℕ) → walk shapes (m + n) id ≡ Some k
+    → Passes (walk shapes m id) (walk shapes n) k
 walk_passes shapes m n id k h = passes (walk shapes m id) (walk shapes n) k (sym (walk-add shapes m n id) ∙ h)
 
 -- a step leads on from a shape of the table alone
@@ -43,7 +49,8 @@ step_within shapes id j h =
     let p = passes_shape (shape_at shapes id) j h in
     slice_get_within shapes id p.0 p.1
   where
-    passes_shape : (o : Option PlainShape) (j : ℕ) → option_and_then optional_content o ≡ Some j → (s : PlainShape) × (o ≡ Some s)
+    passes_shape : (o : Option PlainShape) (j : ℕ) → option_and_then optional_content o ≡ Some j
+        → (s : PlainShape) × (o ≡ Some s)
     passes_shape None j h = absurd (cc)
     passes_shape (Some s) j h = (s, refl)
 
@@ -55,7 +62,8 @@ walk_within shapes (suc n) id j some h =
     step_within shapes id p.middle p.first
 
 -- round a cycle any number of times
-pub walk_round : (shapes : List PlainShape) (times n id : ℕ) → walk shapes n id ≡ Some id → walk shapes (times * n) id ≡ Some id
+pub walk_round : (shapes : List PlainShape) (times n id : ℕ) → walk shapes n id ≡ Some id
+    → walk shapes (times * n) id ≡ Some id
 walk_round shapes zero n id h =
     let none : zero * n ≡ zero = omega arith in
     rw none refl
@@ -64,11 +72,14 @@ walk_round shapes (suc times) n id h =
     rw more (walk_on shapes n (times * n) id id id h (walk_round shapes times n id h))
 
 -- how a walk goes on from a place that it passes
-pub walk_rest : (shapes : List PlainShape) (m n id j k : ℕ) → walk shapes (m + n) id ≡ Some k → walk shapes m id ≡ Some j → walk shapes n j ≡ Some k
-walk_rest shapes m n id j k whole first = ap (option_and_then (walk shapes n)) (sym first) ∙ (sym (walk-add shapes m n id) ∙ whole)
+pub walk_rest : (shapes : List PlainShape) (m n id j k : ℕ) → walk shapes (m + n) id ≡ Some k
+    → walk shapes m id ≡ Some j → walk shapes n j ≡ Some k
+walk_rest shapes m n id j k whole first = ap (option_and_then (walk shapes n)) (sym first)
+    ∙ (sym (walk-add shapes m n id) ∙ whole)
 
 -- a walk of any length leads to a shape on a cycle
-pub cycle_reached : (shapes : List PlainShape) (many j : ℕ) → IsCycle shapes j → (id : ℕ) × (walk shapes many id ≡ Some j)
+pub cycle_reached : (shapes : List PlainShape) (many j : ℕ) → IsCycle shapes j
+    → (id : ℕ) × (walk shapes many id ≡ Some j)
 cycle_reached shapes many j c = by_length c.0 c.1 c.2
   where
     by_length : (n : ℕ) → 0 < n → walk shapes n j ≡ Some j → (id : ℕ) × (walk shapes many id ≡ Some j)
@@ -87,16 +98,19 @@ found : (o : Option ℕ) (m : ℕ) → o ≡ Some m → o ≡ Some (unwrap_or o 
 found o m h = h ∙ ap Some (ap (λ o. unwrap_or o 0) (sym h))
 
 -- a walk that is longer than the table ends on a cycle
-pub long_walk : (shapes : List PlainShape) (many id j : ℕ) → length shapes < many → walk shapes many id ≡ Some j → IsCycle shapes j
+pub long_walk : (shapes : List PlainShape) (many id j : ℕ) → length shapes < many → walk shapes many id ≡ Some j
+    → IsCycle shapes j
 long_walk shapes many id j long whole =
     let passed : (k : ℕ) → k ≤ many → Passes (walk shapes k id) (walk shapes (many - k)) j =
     λ k h. (let sum : k + (many - k) ≡ many = omega arith in walk_passes shapes k (many - k) id j (rw sum whole)) in
     let at : (k : ℕ) → k ≤ many → walk shapes k id ≡ Some (place shapes id k) =
     λ k h. found (walk shapes k id) (passed k h).middle (passed k h).first in
     let on : (k : ℕ) → k ≤ many → walk shapes (many - k) (place shapes id k) ≡ Some j =
-    λ k h. (let sum : k + (many - k) ≡ many = omega arith in walk_rest shapes k (many - k) id (place shapes id k) j (rw sum whole) (at k h)) in
+    λ k h. (let sum : k + (many - k) ≡ many = omega arith in
+    walk_rest shapes k (many - k) id (place shapes id k) j (rw sum whole) (at k h)) in
     let t : Twice (place shapes id) (suc (length shapes)) =
-    pigeons (length shapes) (place shapes id) (λ k h. walk_within shapes (many - k) (place shapes id k) j (omega arith) (on k (omega arith))) in
+    pigeons (length shapes) (place shapes id) (λ k h. walk_within
+    shapes (many - k) (place shapes id k) j (omega arith) (on k (omega arith))) in
     let round : ℕ = t.second - t.first in
     let left : ℕ = many - t.first in
     let v : ℕ = place shapes id t.first in
@@ -110,7 +124,8 @@ long_walk shapes many id j long whole =
     (round, omega (arith, t.apart), walk_rest shapes left round v j j more end)
 
 -- a walk that doesn't end is one of no valid table
-pub walk_ends : (shapes : List PlainShape) (many : ℕ) → length shapes < many → ((id : ℕ) → IsCycle shapes id → ⊥) → (id : ℕ) → walk shapes many id ≡ None
+pub walk_ends : (shapes : List PlainShape) (many : ℕ) → length shapes < many → ((id : ℕ) → IsCycle shapes id → ⊥)
+    → (id : ℕ) → walk shapes many id ≡ None
 walk_ends shapes many long ending id = by_end (walk shapes many id) refl
   where
     by_end : (o : Option ℕ) → walk shapes many id ≡ o → o ≡ None

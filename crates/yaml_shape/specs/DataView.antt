@@ -2,7 +2,8 @@
 use Rattle.std.specs.Prelude.{List, [], ◌∷◌, map, true, false, string_bytes}
 use Rattle.yaml_tree.specs.View.{tree_of}
 use Rattle.yaml_shape.specs.PlainData.{PlainData, PlainItems, PlainEntries, any_data, bool_data, char_data, signed_data}
-use Rattle.yaml_shape.specs.PlainData.{unsigned_data, text_data, bytes_data, none_data, some_data, unit_data, newtype_data}
+use Rattle.yaml_shape.specs.PlainData.{unsigned_data, text_data, bytes_data, none_data, some_data, unit_data}
+use Rattle.yaml_shape.specs.PlainData.{newtype_data}
 use Rattle.yaml_shape.specs.PlainData.{seq_data, tuple_data, map_data, struct_data, variant_data, ignored_data}
 use Rattle.yaml_shape.specs.PlainData.{no_items, item, no_entries, entry}
 use Rattle.yaml_shape.specs.declared.text.Text.{Text}

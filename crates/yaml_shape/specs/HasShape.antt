@@ -1,14 +1,17 @@
 -- Which data a shape has.
-use Rattle.std.specs.Prelude.{ℕ, zero, suc, ◌-◌, ◌^◌, ℤ, pos, negsuc, List, [], ◌∷◌, map, Bool, true, false, ◌&&◌, nat_lt, IsTrue}
+use Rattle.std.specs.Prelude.{ℕ, ◌-◌, ◌^◌, ℤ, pos, negsuc, List, [], ◌∷◌, Bool, true, false, ◌&&◌}
+use Rattle.std.specs.Prelude.{nat_lt, IsTrue}
 use Rattle.std.specs.Prelude.{Option, Some, None, slice_get}
 use Rattle.yaml_shape.specs.PlainShape.{IntegerType, i8, i16, i32, i64, i128, isize, u8, u16, u32, u64, u128, usize}
 use Rattle.yaml_shape.specs.PlainShape.{PlainShape, any_shape, bool_shape, char_shape, integer_shape, str_shape}
 use Rattle.yaml_shape.specs.PlainShape.{identifier_shape, bytes_shape, option_shape, unit_shape, unit_struct_shape}
-use Rattle.yaml_shape.specs.PlainShape.{newtype_shape, seq_shape, tuple_shape, tuple_struct_shape, map_shape, struct_shape}
+use Rattle.yaml_shape.specs.PlainShape.{newtype_shape, seq_shape, tuple_shape, tuple_struct_shape, map_shape}
+use Rattle.yaml_shape.specs.PlainShape.{struct_shape}
 use Rattle.yaml_shape.specs.PlainShape.{enum_shape, ignored_shape, shape_at}
 use Rattle.yaml_shape.specs.PlainShape.{PlainVariant, unit_variant, newtype_variant, tuple_variant, struct_variant}
 use Rattle.yaml_shape.specs.PlainData.{PlainData, PlainItems, PlainEntries, any_data, bool_data, char_data, signed_data}
-use Rattle.yaml_shape.specs.PlainData.{unsigned_data, text_data, bytes_data, none_data, some_data, unit_data, newtype_data}
+use Rattle.yaml_shape.specs.PlainData.{unsigned_data, text_data, bytes_data, none_data, some_data, unit_data}
+use Rattle.yaml_shape.specs.PlainData.{newtype_data}
 use Rattle.yaml_shape.specs.PlainData.{seq_data, tuple_data, map_data, struct_data, variant_data, ignored_data}
 use Rattle.yaml_shape.specs.PlainData.{no_items, item, no_entries, entry}
 use Rattle.yaml_shape.specs.Validity.{numbers_of}

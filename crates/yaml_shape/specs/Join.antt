@@ -1,10 +1,12 @@
 -- Tables of shapes joined into one.
-use Rattle.std.specs.Prelude.{ℕ, ◌+◌, ◌<◌, ◌≤◌, List, [], ◌∷◌, ◌++◌, map, length}
+use Rattle.std.specs.Prelude.{ℕ, ◌≡◌, ◌+◌, ◌<◌, List, [], ◌∷◌, ◌++◌, map, length}
 use Rattle.yaml_shape.specs.PlainShape.{PlainShape, any_shape, bool_shape, char_shape, integer_shape, str_shape}
 use Rattle.yaml_shape.specs.PlainShape.{identifier_shape, bytes_shape, option_shape, unit_shape, unit_struct_shape}
-use Rattle.yaml_shape.specs.PlainShape.{newtype_shape, seq_shape, tuple_shape, tuple_struct_shape, map_shape, struct_shape}
+use Rattle.yaml_shape.specs.PlainShape.{newtype_shape, seq_shape, tuple_shape, tuple_struct_shape, map_shape}
+use Rattle.yaml_shape.specs.PlainShape.{struct_shape}
 use Rattle.yaml_shape.specs.PlainShape.{enum_shape, ignored_shape}
 use Rattle.yaml_shape.specs.PlainShape.{PlainVariant, unit_variant, newtype_variant, tuple_variant, struct_variant}
+use Rattle.yaml_shape.specs.declared.shape.ShapeId.{ShapeId}
 use Rattle.yaml_shape.specs.declared.fault.SchemaFault.{SchemaFault}
 use Rattle.yaml_shape.specs.declared.fault.SchemaFault.TheVariants.{S1, S2, S3, S4, S5}
 
@@ -62,9 +64,18 @@ abbrev pub starts_behind : ℕ → List (List PlainShape × ℕ) → List ℕ
 starts_behind size [] = []
 starts_behind size (part ∷ parts) = (size + part.1) ∷ starts_behind (size + length part.0) parts
 
--- the start of each table is in it
+-- tables with their starts, as plain parts
+abbrev pub parts_of : List (List PlainShape × ShapeId) → List (List PlainShape × ℕ)
+parts_of = map (λ p. (p.0, p.1.0))
+
+-- the start of the table is in it
 abbrev pub StartsWithin : List PlainShape × ℕ → Type 0
 StartsWithin part = part.1 < length part.0
+
+-- the answer is this table with this shape behind it, and the number of that shape
+pub record IsWith (shapes : List PlainShape) (shape : PlainShape) (answer : List PlainShape × ShapeId) : Type 0 where
+  pub table : answer.0 ≡ shapes ++ shape ∷ []
+  pub start : answer.1.0 ≡ length shapes
 
 -- a join of so many shapes is refused: for them, or for want of memory
 abbrev pub IsTooLarge : ℕ → SchemaFault → Type 0

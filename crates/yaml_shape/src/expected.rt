@@ -4,7 +4,8 @@ ghost use Rattle.std.specs.Prelude.{◌≡◌, ◌<◌, length, Some, string_byt
 ghost use Rattle.yaml_base.specs.declared.error.Cause.TheVariants.{Memory};
 ghost use Rattle.yaml_shape.specs.PlainShape.{shape_at};
 ghost use Rattle.yaml_shape.specs.ShapeView.{shape_of};
-ghost use Rattle.yaml_shape.specs.Expected.{expected_text, elements_text, sequence_text, tuple_struct_text, tuple_variant_text, tuple_variant_with_text, struct_variant_text};
+ghost use Rattle.yaml_shape.specs.Expected.{expected_text, elements_text, sequence_text, tuple_struct_text};
+ghost use Rattle.yaml_shape.specs.Expected.{tuple_variant_text, tuple_variant_with_text, struct_variant_text};
 
 use crate::schema::Schema;
 use crate::shape::{Shape, ShapeId};
@@ -114,7 +115,8 @@ pub fn tuple_variant(alloc: Global, name: &str, variant: &str) -> Result<String>
     Ok(format!(in alloc; "tuple variant {name}::{variant}")?)
 }
 
-/// The text `tuple variant E::V with k elements`, for where there are fewer than it has. The only fault is want of memory.
+/// The text `tuple variant E::V with k elements`, for where there are fewer than it has. The only fault is want of
+/// memory.
 pub fn tuple_variant_with(alloc: Global, name: &str, variant: &str, count: usize) -> Result<String>
     ensures text { IfOk result
         (λ text. string_bytes text ≡ tuple_variant_with_text name.now variant.now count) }

@@ -5,7 +5,8 @@ ghost use Rattle.std.specs.Option.{option_map};
 ghost use Rattle.yaml_shape.specs.ShapeView.{ids_of, fields_of, content_of, variants_of, shape_of};
 ghost use Rattle.yaml_shape.specs.DataView.{data_of, items_view, entries_view};
 ghost use Rattle.yaml_shape.specs.Validity.{numbers_of};
-ghost use Rattle.yaml_shape.specs.HasShape.{takes_signed, takes_unsigned, has_shape, has_content, all_have, each_has, entries_have};
+ghost use Rattle.yaml_shape.specs.HasShape.{takes_signed, takes_unsigned, has_shape, has_content, all_have};
+ghost use Rattle.yaml_shape.specs.HasShape.{each_has, entries_have};
 
 use crate::data::{Data, Entry};
 use crate::schema::Schema;

@@ -5,6 +5,7 @@ mod data;
 mod expected;
 mod fault;
 mod has_shape;
+mod join;
 mod names;
 mod numbers;
 mod raise;
@@ -19,7 +20,11 @@ pub use expected::{
     sequence_of, struct_variant, tuple_struct_with, tuple_variant, tuple_variant_with,
 };
 pub use fault::SchemaFault;
+pub use join::{map_of, option_of, seq_of, tuple_of};
 pub use schema::Schema;
 pub use shape::{Shape, ShapeId, VariantShape};
 pub use text::Text;
 pub use typed::Typed;
+
+#[cfg(test)]
+mod tests;

@@ -69,7 +69,8 @@ fn are_distinct_inside(
     Ok(true)
 }
 
-// Whether the variants have distinct names, and each has no name twice in its content. The only error is want of memory.
+// Whether the variants have distinct names, and each has no name twice in its content. The only error is want of
+// memory.
 fn are_distinct_variants(
     alloc: Global,
     variants: &[(String, VariantShape)],

@@ -22,7 +22,7 @@ pub const SHAPES: usize = 4096;
 /// A table of shapes in which each number that a shape names is in the table. Contracts see it as its list of shapes.
 #[derive(Drop)]
 pub struct Schema {
-    shapes: Vec<Shape>,
+    pub(crate) shapes: Vec<Shape>,
 }
 
 impl Model for Schema {
@@ -40,7 +40,8 @@ impl Model for Schema {
 }
 
 impl Schema {
-    /// The schema of these shapes, each named by its place. Of several faults the first of `S4`, `S1`, `S3`, `S2` is answered, with
+    /// The schema of these shapes, each named by its place. Of several faults the first of `S4`, `S1`, `S3`, `S2` is
+    /// answered, with
     /// the least shape concerned; `S5` may be answered in place of any. The shapes are dropped on refusal.
     pub fn new(alloc: Global, shapes: Vec<Shape>) -> Result<Schema, SchemaFault>
         ensures ok { IfOk result (λ schema. (schema ≡ map shape_of shapes.items) × IsValidSchema schema) }
@@ -68,7 +69,8 @@ impl Schema {
         let _shapes = &self.shapes;
     }
 
-    /// Does nothing. A proof that calls it learns that ranks fall along optionals, so that each walk through optionals ends.
+    /// Does nothing. A proof that calls it learns that ranks fall along optionals, so that each walk through
+    /// optionals ends.
     pub fn optionals_end(&self)
         ensures small { (id : ℕ) → rank self.now id ≤ 4096 }
         ensures falls { (id content : ℕ) → shape_at self.now id ≡ Some (option_shape content)

@@ -21,7 +21,8 @@ pub struct Typed<'a, 'de> {
 impl<'a, 'de> Typed<'a, 'de> {
     ghost use Rattle.yaml_shape.specs.TypedView.{schema_in, id_in, content_in, IsOf};
 
-    /// The data with its shape, or `None` where the data isn't of the shape, or the schema has none with this number. Takes no memory.
+    /// The data with its shape, or `None` where the data isn't of the shape, or the schema has none with this number.
+    /// Takes no memory.
     pub fn new(schema: &'a Schema, id: ShapeId, content: &'a Data<'de>) -> Option<Typed<'a, 'de>>
         ensures exactly { IsSome result ↔ HasShape schema.now id.0 (data_of content.now) }
         ensures parts { IfSome result (IsOf schema.now id content.now) }

@@ -1,7 +1,9 @@
 //! Whether a walk through optionals alone comes back to its start.
 //!
-//! The steps of all shapes are doubled until they are more than a schema has shapes. Where a walk goes on so far, it has come to a
-//! cycle, and each shape on a cycle is the end of such a walk, the one that begins so many steps before it on the cycle.
+//! The steps of all shapes are doubled until they are more than a schema has shapes. Where a walk goes on so far, it
+//! has come to a
+//! cycle, and each shape on a cycle is the end of such a walk, the one that begins so many steps before it on the
+//! cycle.
 
 ghost use Rattle.std.specs.Prelude.{◌≡◌, ◌≤◌, ℕ, map, length, None, IsNone, IfOk, IfSome};
 ghost use Rattle.yaml_shape.specs.ShapeView.{shape_of};
@@ -83,7 +85,8 @@ fn least(steps: &[Option<usize>]) -> Option<usize>
     least
 }
 
-/// The first shape from which a walk through optionals leads back to it, if there is one. The only error is want of memory.
+/// The first shape from which a walk through optionals leads back to it, if there is one. The only error is want of
+/// memory.
 pub(crate) fn first_cycle(alloc: Global, shapes: &[Shape]) -> Result<Option<usize>, AllocError>
     requires { length shapes.now ≤ 4096 }
     ensures none { IfOk result

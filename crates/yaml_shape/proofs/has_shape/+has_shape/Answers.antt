@@ -6,4 +6,5 @@ pub each_has-returns-then-ids-items : goal.each_has-returns-then-ids-items
 each_has-returns-then-ids-items t c = other_count c.args.schema.now c.args.ids.now c.args.items.now c.if-ids-items.true
 
 pub fields_have-returns-then-fields-items : goal.fields_have-returns-then-fields-items
-fields_have-returns-then-fields-items t c = other_fields c.args.schema.now c.args.fields.now c.args.items.now c.if-fields-items.true
+fields_have-returns-then-fields-items t c =
+    other_fields c.args.schema.now c.args.fields.now c.args.items.now c.if-fields-items.true

@@ -7,8 +7,10 @@ use Rattle.yaml_shape.proofs.names.are_distinct.Goals as goal
 pub returns-then-eq : goal.returns-then-eq
 returns-then-eq c = (
   λ e. absurd (false≢true e),
-  λ apart. absurd (same_neighbours c.args.names.items c.sort_unstable.new.self.items c.loop-i.i c.index.result.now c.index-in-loop-i.result.now
-      c.sort_unstable.ensures.permutation (omega arith) (omega arith) c.index.ensures c.index-in-loop-i.ensures (cc) apart),
+  λ apart. absurd (same_neighbours c.args.names.items c.sort_unstable.new.self.items c.loop-i.i c.index.result.now
+      c.index-in-loop-i.result.now
+      c.sort_unstable.ensures.permutation (omega arith) (omega arith) c.index.ensures c.index-in-loop-i.ensures
+      (cc) apart),
 )
 
 pub returns : goal.returns

@@ -1,5 +1,5 @@
 -- The names inside each variant.
-use Rattle.std.proofs.Common.{◌≡◌, take, refl, sym}
+use Rattle.std.proofs.Common.{take, refl, sym}
 use Rattle.std.proofs.lemmas.List.{take_all}
 use Rattle.std.proofs.lemmas.List.Elements.{All-more, All-same}
 use Rattle.yaml_shape.specs.ShapeView.{content_of}
@@ -8,7 +8,8 @@ use Rattle.yaml_shape.proofs.names.are_distinct_inside.Goals as goal
 
 pub loop-i-preserved : goal.loop-i-preserved
 loop-i-preserved c =
-    All-more (λ v. IsDistinctInside (content_of v.1)) c.args.variants.now c.loop-i.i (c.index-variants-i.result) c.loop-i-test.true c.loop-i.invariant
+    All-more (λ v. IsDistinctInside (content_of v.1)) c.args.variants.now c.loop-i.i
+    (c.index-variants-i.result) c.loop-i-test.true c.loop-i.invariant
     (c.in_ok-is_distinct_inside.ensures.0 c.if-not-branch.false)
 
 pub returns : goal.returns

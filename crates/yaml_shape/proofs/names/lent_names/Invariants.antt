@@ -1,5 +1,5 @@
 -- What the copying of names keeps.
-use Rattle.std.specs.Prelude.{◌≡◌, map, take, length, string_bytes}
+use Rattle.std.specs.Prelude.{◌≡◌, map, take, string_bytes}
 use Rattle.yaml_shape.proofs.names.lent_names.Given as goal
 
 -- the names so far

@@ -6,12 +6,15 @@ use Rattle.yaml_shape.proofs.numbers.names_within.Goals as goal
 pub returns-in-Tuple : goal.returns-in-Tuple
 returns-in-Tuple c =
     rw c.in-Tuple.is (rw (← c.deref.ensures.value)
-    (tests_mapped (λ id. id < c.args.size) (λ id. id.0) c.deref.result.now c.all_within.result c.all_within.ensures))
+    (tests_mapped (λ id. id < c.args.size)
+    (λ id. id.0) c.deref.result.now c.all_within.result c.all_within.ensures))
 
 pub returns-in-TupleStruct : goal.returns-in-TupleStruct
 returns-in-TupleStruct c =
     rw c.in-TupleStruct.is (rw (← c.deref-in-TupleStruct.ensures.value)
-    (tests_mapped (λ id. id < c.args.size) (λ id. id.0) c.deref-in-TupleStruct.result.now c.all_within-in-TupleStruct.result c.all_within-in-TupleStruct.ensures))
+    (tests_mapped (λ id. id < c.args.size)
+    (λ id. id.0) c.deref-in-TupleStruct.result.now c.all_within-in-TupleStruct.result
+    c.all_within-in-TupleStruct.ensures))
 
 pub returns-in-Struct : goal.returns-in-Struct
 returns-in-Struct c =
@@ -21,7 +24,8 @@ returns-in-Struct c =
 pub returns-in-StrictStruct : goal.returns-in-StrictStruct
 returns-in-StrictStruct c =
     rw c.in-StrictStruct.is (rw (← c.deref-in-StrictStruct.ensures.value)
-    (tests_fields c.args.size c.deref-in-StrictStruct.result.now c.fields_within-in-StrictStruct.result c.fields_within-in-StrictStruct.ensures))
+    (tests_fields c.args.size c.deref-in-StrictStruct.result.now c.fields_within-in-StrictStruct.result
+    c.fields_within-in-StrictStruct.ensures))
 
 pub returns-in-Enum : goal.returns-in-Enum
 returns-in-Enum c =

@@ -1,5 +1,5 @@
 -- The raising of shapes.
-use Rattle.std.proofs.Common.{◌≡◌, ap, ◌∙◌, arith}
+use Rattle.std.proofs.Common.{ap, ◌∙◌, arith}
 use Rattle.yaml_shape.specs.Join.{raised}
 use Rattle.yaml_shape.specs.ShapeView.{shape_of}
 use Rattle.yaml_shape.specs.Validity.{NamesWithin}
@@ -14,6 +14,7 @@ raise_shape-requires-clause-small c =
 
 pub loop-i-preserved : goal.loop-i-preserved
 loop-i-preserved c =
-    one_raised shape_of (raised c.args.by) c.args.shapes.now.items c.loop-i.shapes.items c.loop-i.i c.index_mut.result.now _
+    one_raised shape_of (raised c.args.by) c.args.shapes.now.items c.loop-i.shapes.items c.loop-i.i
+    c.index_mut.result.now _
     (omega arith) c.loop-i.invariant
     (c.raise_shape.ensures ∙ ap (λ s. raised c.args.by (shape_of s)) c.index_mut.ensures.value)

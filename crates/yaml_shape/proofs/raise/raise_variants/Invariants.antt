@@ -6,4 +6,5 @@ use Rattle.yaml_shape.proofs.raise.raise_variants.Given as goal
 
 -- the variants before this one are raised
 abbrev pub invariant-loop-i : goal.invariant-loop-i
-invariant-loop-i l = AreRaised variant_of (λ v. (v.0, raised_content l.by v.1)) l.initial.variants.items l.variants.items l.i
+invariant-loop-i l = AreRaised variant_of
+    (λ v. (v.0, raised_content l.by v.1)) l.initial.variants.items l.variants.items l.i

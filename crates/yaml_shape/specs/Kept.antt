@@ -1,0 +1,21 @@
+-- Tables that stand in a larger one, with their numbers moved.
+use Rattle.std.specs.Prelude.{ℕ, ◌≡◌, ◌+◌, ◌<◌, List, [], ◌∷◌, length}
+use Rattle.std.specs.Option.{option_map}
+use Rattle.yaml_shape.specs.PlainShape.{PlainShape, shape_at}
+use Rattle.yaml_shape.specs.PlainData.{PlainData}
+use Rattle.yaml_shape.specs.HasShape.{has_shape}
+use Rattle.yaml_shape.specs.Join.{raised}
+
+-- each shape of the part stands in the whole so much later, and the numbers that it names are raised by as much
+abbrev pub StandsIn : ℕ → List PlainShape → List PlainShape → Type 0
+StandsIn by part whole =
+    (id : ℕ) → id < length part → shape_at whole (by + id) ≡ option_map (raised by) (shape_at part id)
+
+-- data is of a shape of the part just where it is of the shape so much later in the whole
+abbrev pub Keeps : ℕ → List PlainShape → List PlainShape → Type 0
+Keeps by part whole = (id : ℕ) → (d : PlainData) → id < length part → has_shape whole (by + id) d ≡ has_shape part id d
+
+-- so it is for each part, the first so much later, and the others behind it in a row
+abbrev pub KeepsAll : ℕ → List (List PlainShape × ℕ) → List PlainShape → Type 0
+KeepsAll by [] whole = Unit {0}
+KeepsAll by (part ∷ parts) whole = Keeps by part.0 whole × KeepsAll (by + length part.0) parts whole
