@@ -71,7 +71,7 @@ impl<'de> Deserializer<'de> {
             → HoldsOne self.entry document tree → Means schema.now tree id.0 tree false v d k
             → IsRefusal default_limits (length document.events) d k fault) }
         ensures faults { IfErr result (λ fault. (document : PlainDocument) (tree : DocNode) → HoldsOne self.entry document tree
-            → is_memory fault ≡ false → IsReadingFault (slice_get document.events) fault) }
+            → is_memory fault ≡ false → IsReadingFault schema.now (slice_get document.events) fault) }
     {
         let Deserializer { mut documents } = self;
         match documents.next_document() {

@@ -2,6 +2,8 @@
 #![tactic(auto)]
 
 mod de;
+#[cfg(test)]
+mod tests;
 
 pub use de::Deserializer;
 pub use yaml_base::{Error, Result};

@@ -65,7 +65,7 @@ abbrev mutual
   anchors_of_pairs no_pairs number = []
   anchors_of_pairs (pair key value pairs) number =
       anchors_of key number
-        ++ (anchors_of value (number + size_of key) ++ anchors_of_pairs pairs (number + size_of key + size_of value))
+      ++ (anchors_of value (number + size_of key) ++ anchors_of_pairs pairs (number + size_of key + size_of value))
 
 -- the last of the numbers, which stand in order, that is below the given one and has the anchor
 abbrev pub last_below : ℕ → List ℕ → List (ℕ × List ℕ) → Option ℕ

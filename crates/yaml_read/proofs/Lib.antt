@@ -1,6 +1,7 @@
 -- Lemmas of this crate.
 mod Before
 mod Meanings
+mod MeaningShapes
 mod Outcomes
 mod Refusals
 mod Shown

@@ -1,12 +1,14 @@
 -- What reading answers where a tree means something: the data, or a refusal where a budget is passed.
-use Rattle.std.proofs.Common.{◌≡◌, ℕ, zero, suc, ◌+◌, ◌-◌, ◌<◌, ◌≤◌, List, [], ◌∷◌, ◌++◌, length, Some, Ok, Err, Bool, false, refl, ap, subst, ◌∙◌, arith, length-append, append_assoc}
+use Rattle.std.proofs.Common.{◌≡◌, ℕ, zero, suc, ◌+◌, ◌-◌, ◌<◌, ◌≤◌, List, [], ◌∷◌, ◌++◌, length, Some, Ok, Err, Bool, true, false, refl, ap, subst, ◌∙◌, arith, length-append, append_assoc}
 use Rattle.std.specs.Prelude.{max}
 use Rattle.yaml_base.specs.Position.{Position}
 use Rattle.yaml_base.specs.declared.error.Cause.TheVariants.{RecursionLimitExceeded, RepetitionLimitExceeded}
-use Rattle.yaml_shape.specs.PlainShape.{PlainShape, shape_at, seq_shape, map_shape}
+use Rattle.yaml_shape.specs.PlainShape.{PlainShape, i64, bool_shape, integer_shape, str_shape, shape_at, seq_shape, map_shape}
 use Rattle.yaml_shape.specs.PlainData.{PlainData, PlainItems, PlainEntries, seq_data, map_data, no_items, item, no_entries, entry}
 use Rattle.yaml_read.specs.PlainDocEvent.{PlainDocEvent, alias_to, a_scalar, sequence_begins, sequence_ends, mapping_begins, mapping_ends, a_void}
 use Rattle.yaml_read.specs.DocTree.{DocNode, DocNodes, DocPairs, nothing, reference, word, list, mapping, events_of, events_of_nodes, events_of_pairs}
+use Rattle.yaml_base.specs.PlainEvent.{PlainScalar}
+use Rattle.yaml_read.specs.Scalars.{is_read, scalar_data, void_data}
 use Rattle.yaml_read.specs.Meaning.{Means, MeanEach, MeanPairs, means_target, means_void, means_scalar, means_sequence, means_mapping, means_none, means_more, means_no_pairs, means_pair}
 use Rattle.yaml_read.specs.Reader.{Spot, Reading, Events, ◌>>=◌, after, or_no_meaning, ending, enter, pursue, is_sequence_end, is_mapping_end, items_at, entries_at, event_at, node_at}
 use Rattle.yaml_read.proofs.Turns.{items_end, entries_end}
@@ -28,9 +30,10 @@ wide (mapping tag ps) = omega arith
 
 module _ (schema : List PlainShape) (events : Events) (size : ℕ) where
   -- one event, where the fuel is not 0
-  pub at_event : (fuel : ℕ) (id : ℕ) (nest : ℕ) (taken : Bool) (at : Spot) (s : PlainShape) (t : PlainDocEvent) (m : Position) → shape_at schema id ≡ Some s → events at.place ≡ Some (t, m) → node_at (suc fuel) schema events size id nest taken at ≡ event_at (node_at fuel schema events size) events size id s nest taken at t m
+  pub at_event : (fuel : ℕ) (id : ℕ) (nest : ℕ) (taken : Bool) (at : Spot) (s : PlainShape) (t : PlainDocEvent) (m : Position) → shape_at schema id ≡ Some s → is_read s ≡ true → events at.place ≡ Some (t, m)
+      → node_at (suc fuel) schema events size id nest taken at ≡ event_at (node_at fuel schema events size) events size id s nest taken at t m
   unfolding node_at
-  at_event fuel id nest taken at s t m is e = rw (is, e)
+  at_event fuel id nest taken at s t m is r e = rw (is, r, e)
 
   pub followed : (read : Spot → Reading PlainData) (j : ℕ) (at : Spot) (v : PlainData) (end nest d k : ℕ)
       → ((n : ℕ) → at.left ≡ suc n → Outcome (read (record { place = j; left = n })) v end nest n d k)
@@ -86,12 +89,25 @@ module _ (schema : List PlainShape) (events : Events) (size : ℕ) where
   here : {A : Type 0} (v : A) (at : Spot) (nest : ℕ) (r : Reading A) → r ≡ Ok (v, after at) → Outcome r v (at.place + 1) nest at.left 0 0
   here v at nest r e = reads (omega arith) (omega arith) (e ∙ ap (λ x. Ok (v, record { place = at.place + 1; left = x })) (omega arith))
 
-  has_shape : {root : DocNode} {id : ℕ} {n : DocNode} {taken : Bool} {v : PlainData} {d k : ℕ} → Means schema root id n taken v d k → (s : PlainShape) × (shape_at schema id ≡ Some s)
+  void_read : (s : PlainShape) (v : PlainData) → void_data s ≡ Some v → is_read s ≡ true
+  void_read (seq_shape e) v h = refl
+  void_read (map_shape a b) v h = refl
+  void_read _ v h = absurd cc
+
+  scalar_read : (s : PlainShape) (taken : Bool) (w : PlainScalar) (v : PlainData) → scalar_data s taken w ≡ Some v → is_read s ≡ true
+  scalar_read bool_shape taken w v h = refl
+  scalar_read (integer_shape i64) taken w v h = refl
+  scalar_read str_shape taken w v h = refl
+  scalar_read (seq_shape e) taken w v h = refl
+  scalar_read (map_shape a b) taken w v h = refl
+  scalar_read _ taken w v h = absurd cc
+
+  has_shape : {root : DocNode} {id : ℕ} {n : DocNode} {taken : Bool} {v : PlainData} {d k : ℕ} → Means schema root id n taken v d k → (s : PlainShape) × (shape_at schema id ≡ Some s) × (is_read s ≡ true)
   has_shape (means_target e m) = has_shape m
-  has_shape (means_void {s} e f) = (s, e)
-  has_shape (means_scalar {s} e f) = (s, e)
-  has_shape (means_sequence {e = a} e m) = (seq_shape a, e)
-  has_shape (means_mapping {a} {b} e m) = (map_shape a b, e)
+  has_shape (means_void {s} {taken} {v} e f) = (s, e, void_read s v f)
+  has_shape (means_scalar {s} {w} {taken} {v} e f) = (s, e, scalar_read s taken w v f)
+  has_shape (means_sequence {e = a} e m) = (seq_shape a, e, refl)
+  has_shape (means_mapping {a} {b} e m) = (map_shape a b, e, refl)
 
   module _ (root : DocNode) (root_shown : Shows events 0 (events_of root)) (within : (p : ℕ) (e : PlainDocEvent × Position) → events p ≡ Some e → p < size) where
     mutual
@@ -100,19 +116,19 @@ module _ (schema : List PlainShape) (events : Events) (size : ℕ) where
       outcome m zero nest at s lt = absurd (omega arith)
       outcome (means_target {id} {j} {n} {taken} {v} {d} {k} e m) (suc fuel) nest at s lt =
           let sh = has_shape m in
-          rw (at_event fuel id nest taken at sh.0 (alias_to j) s.0.0 sh.1 s.0.1)
+          rw (at_event fuel id nest taken at sh.0 (alias_to j) s.0.0 sh.1 sh.2 s.0.1)
           (followed (node_at fuel schema events size id nest false) j at v (j + length (events_of n)) nest d k
           (λ f is. outcome m fuel nest (record { place = j; left = f }) (target_shown events root j n root_shown e) (omega arith)))
-      outcome (means_void {id} {s = sh} {taken} {v} e f) (suc fuel) nest at s lt = here v at nest _ (at_event fuel id nest taken at sh a_void s.0.0 e s.0.1 ∙ ap (λ o. ending (after at) (or_no_meaning o)) f)
-      outcome (means_scalar {id} {s = sh} {w} {taken} {v} e f) (suc fuel) nest at s lt = here v at nest _ (at_event fuel id nest taken at sh (a_scalar w) s.0.0 e s.0.1 ∙ ap (λ o. ending (after at) (or_no_meaning o)) f)
+      outcome (means_void {id} {s = sh} {taken} {v} e f) (suc fuel) nest at s lt = here v at nest _ (at_event fuel id nest taken at sh a_void s.0.0 e (void_read sh v f) s.0.1 ∙ ap (λ o. ending (after at) (or_no_meaning o)) f)
+      outcome (means_scalar {id} {s = sh} {w} {taken} {v} e f) (suc fuel) nest at s lt = here v at nest _ (at_event fuel id nest taken at sh (a_scalar w) s.0.0 e (scalar_read sh taken w v f) s.0.1 ∙ ap (λ o. ending (after at) (or_no_meaning o)) f)
       outcome (means_sequence {id} {e = a} {tag} {ns} {taken} {vs} {d} {k} e m) (suc fuel) nest at s lt =
-          rw (at_event fuel id nest taken at (seq_shape a) (sequence_begins tag) s.0.0 e s.0.1)
+          rw (at_event fuel id nest taken at (seq_shape a) (sequence_begins tag) s.0.0 e refl s.0.1)
           (entered nest d k (at.place + suc (length (events_of_nodes ns ++ sequence_ends ∷ []))) at.left s.0.0 _ (seq_data vs)
           (λ n is. wrapped seq_data _ vs _ n at.left d k
           (subst (λ q. Outcome (items_at (node_at fuel schema events size a n false) events size (after at)) vs q n at.left d k) (omega arith)
           (outcome_each m fuel n size (after at) (subst (λ q. Shows events q (events_of_nodes ns ++ sequence_ends ∷ [])) (omega arith) s.1) (omega arith) (omega arith)))))
       outcome (means_mapping {id} {a} {b} {tag} {ps} {taken} {vs} {d} {k} e m) (suc fuel) nest at s lt =
-          rw (at_event fuel id nest taken at (map_shape a b) (mapping_begins tag) s.0.0 e s.0.1)
+          rw (at_event fuel id nest taken at (map_shape a b) (mapping_begins tag) s.0.0 e refl s.0.1)
           (entered nest d k (at.place + suc (length (events_of_pairs ps ++ mapping_ends ∷ []))) at.left s.0.0 _ (map_data vs)
           (λ n is. wrapped map_data _ vs _ n at.left d k
           (subst (λ q. Outcome (entries_at (node_at fuel schema events size a n false) (node_at fuel schema events size b n false) events size (after at)) vs q n at.left d k) (omega arith)

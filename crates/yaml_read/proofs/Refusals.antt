@@ -1,16 +1,17 @@
 -- What reading a tree may be refused by.
-use Rattle.std.proofs.Common.{◌≡◌, ℕ, zero, suc, ◌+◌, ◌<◌, ◌≤◌, ◌⊎◌, List, [], ◌∷◌, ◌++◌, length, Option, Some, None, Result, Ok, Err, Bool, false, refl, sym, ap, subst, ◌∙◌, arith, append_assoc}
+use Rattle.std.proofs.Common.{◌≡◌, ℕ, zero, suc, ◌+◌, ◌<◌, ◌≤◌, ◌⊎◌, List, [], ◌∷◌, ◌++◌, length, Option, Some, None, Result, Ok, Err, Bool, true, false, refl, sym, ap, subst, ◌∙◌, arith, append_assoc}
+use Rattle.std.specs.Prelude.{if◌then◌else◌}
 use mathlib.Core.Logic.{inl, inr}
 use Rattle.yaml_base.specs.Position.{Position}
 use Rattle.yaml_base.specs.declared.error.Cause.{Cause}
 use Rattle.yaml_base.specs.declared.error.Cause.TheVariants.{RecursionLimitExceeded, RepetitionLimitExceeded}
-use Rattle.yaml_shape.specs.PlainShape.{PlainShape, bool_shape, integer_shape, str_shape, seq_shape, map_shape, shape_at}
+use Rattle.yaml_shape.specs.PlainShape.{PlainShape, seq_shape, map_shape, shape_at}
 use Rattle.yaml_shape.specs.PlainData.{PlainData, PlainItems, PlainEntries, seq_data, map_data, item, entry}
 use Rattle.yaml_read.specs.PlainDocEvent.{PlainDocEvent, alias_to, a_scalar, sequence_begins, sequence_ends, mapping_begins, mapping_ends, a_void}
 use Rattle.yaml_read.specs.DocTree.{DocNode, DocNodes, DocPairs, nothing, reference, word, list, mapping, no_nodes, node, no_pairs, pair, events_of, events_of_nodes, events_of_pairs, node_of}
-use Rattle.yaml_read.specs.Scalars.{scalar_data, void_data}
-use Rattle.yaml_read.specs.Reader.{Spot, Reading, Events, Reader, ◌>>=◌, no_meaning, after, or_no_meaning, ending, enter, pursue, items_at, entries_at, sequence_at, mapping_at, node_step, event_at, node_at}
-use Rattle.yaml_read.specs.Reads.{IsReadingFault, too_deep, too_often, meaningless}
+use Rattle.yaml_read.specs.Scalars.{is_read, scalar_data, void_data}
+use Rattle.yaml_read.specs.Reader.{Spot, Reading, Events, Reader, ◌>>=◌, no_meaning, after, or_no_meaning, ending, enter, pursue, items_at, entries_at, sequence_at, mapping_at, shape_step, node_step, node_at, not_built}
+use Rattle.yaml_read.specs.Reads.{IsReadingFault, too_deep, too_often, meaningless, not_yet}
 use Rattle.yaml_read.proofs.Turns.{items_end, entries_end}
 use Rattle.yaml_read.proofs.Shown.{Shows, shows_front, shows_rest, target_shown, starts}
 use Rattle.yaml_read.proofs.Outcomes.{at_event, items_going, entries_going, wide}
@@ -49,38 +50,32 @@ enter_err mark (suc n) go y h = within_parts n refl h
 
 sequence_err : (read : Reader) (events : Events) (size : ℕ) (s : PlainShape) (nest : ℕ) (mark : Position) (at : Spot) (y : Cause) → sequence_at read events size s nest mark at ≡ Err y
     → Refused mark nest (λ n x. (e : ℕ) × (items_at (read e n false) events size at ≡ Err x)) y
-sequence_err read events size bool_shape nest mark at y h = no_such cc
-sequence_err read events size (integer_shape width) nest mark at y h = no_such cc
-sequence_err read events size str_shape nest mark at y h = no_such cc
-sequence_err read events size (map_shape a b) nest mark at y h = no_such cc
 sequence_err read events size (seq_shape e) nest mark at y h = elim (enter_err mark nest _ y h) [
   | no_such f ↦ no_such f
   | deep f ↦ deep f
   | within_parts n is f ↦ within_parts n is (e, wrap_err (items_at (read e n false) events size at) seq_data y f)
 ]
+sequence_err read events size _ nest mark at y h = no_such cc
 
 mapping_err : (read : Reader) (events : Events) (size : ℕ) (s : PlainShape) (nest : ℕ) (mark : Position) (at : Spot) (y : Cause) → mapping_at read events size s nest mark at ≡ Err y
     → Refused mark nest (λ n x. (a : ℕ) × (b : ℕ) × (entries_at (read a n false) (read b n false) events size at ≡ Err x)) y
-mapping_err read events size bool_shape nest mark at y h = no_such cc
-mapping_err read events size (integer_shape width) nest mark at y h = no_such cc
-mapping_err read events size str_shape nest mark at y h = no_such cc
-mapping_err read events size (seq_shape e) nest mark at y h = no_such cc
 mapping_err read events size (map_shape a b) nest mark at y h = elim (enter_err mark nest _ y h) [
   | no_such f ↦ no_such f
   | deep f ↦ deep f
   | within_parts n is f ↦ within_parts n is (a, b, wrap_err (entries_at (read a n false) (read b n false) events size at) map_data y f)
 ]
+mapping_err read events size _ nest mark at y h = no_such cc
 
 module _ (schema : List PlainShape) (events : Events) (size : ℕ) (root : DocNode) (root_shown : Shows events 0 (events_of root)) (known : (p j : ℕ) (m : Position) → events p ≡ Some (alias_to j, m) → (n : DocNode) × (node_of root j ≡ Some n)) (within : (p : ℕ) (e : PlainDocEvent × Position) → events p ≡ Some e → p < size) where
   -- with this fuel each refusal of a node is one of those
   abbrev IsFaulty : ℕ → Type 0
-  IsFaulty fuel = (n : DocNode) (id nest : ℕ) (taken : Bool) (at : Spot) (y : Cause) → Shows events at.place (events_of n) → at.left + nest < fuel → node_at fuel schema events size id nest taken at ≡ Err y → IsReadingFault events y
+  IsFaulty fuel = (n : DocNode) (id nest : ℕ) (taken : Bool) (at : Spot) (y : Cause) → Shows events at.place (events_of n) → at.left + nest < fuel → node_at fuel schema events size id nest taken at ≡ Err y → IsReadingFault schema events y
 
   read_as : ℕ → ℕ → ℕ → Spot → Reading PlainData
   read_as fuel e nest at = node_at fuel schema events size e nest false at
 
   faulty_each : (fuel : ℕ) → IsFaulty fuel → (turns : ℕ) (ns : DocNodes) (e nest : ℕ) (at : Spot) (y : Cause) → Shows events at.place (events_of_nodes ns ++ sequence_ends ∷ []) → at.left + nest < fuel → size < turns + at.place
-      → items_at (node_at fuel schema events size e nest false) events turns at ≡ Err y → IsReadingFault events y
+      → items_at (node_at fuel schema events size e nest false) events turns at ≡ Err y → IsReadingFault schema events y
   faulty_each fuel faulty zero no_nodes e nest at y s lt big h = let bad = within at.place _ s.0.1 in absurd (omega arith)
   faulty_each fuel faulty zero (node n ns) e nest at y s lt big h =
       let apart = subst (Shows events at.place) (append_assoc (events_of n) (events_of_nodes ns) (sequence_ends ∷ [])) s in
@@ -103,7 +98,7 @@ module _ (schema : List PlainShape) (events : Events) (size : ℕ) (root : DocNo
       ]
 
   faulty_pairs : (fuel : ℕ) → IsFaulty fuel → (turns : ℕ) (ps : DocPairs) (a b nest : ℕ) (at : Spot) (y : Cause) → Shows events at.place (events_of_pairs ps ++ mapping_ends ∷ []) → at.left + nest < fuel → size < turns + at.place
-      → entries_at (node_at fuel schema events size a nest false) (node_at fuel schema events size b nest false) events turns at ≡ Err y → IsReadingFault events y
+      → entries_at (node_at fuel schema events size a nest false) (node_at fuel schema events size b nest false) events turns at ≡ Err y → IsReadingFault schema events y
   faulty_pairs fuel faulty zero no_pairs a b nest at y s lt big h = let bad = within at.place _ s.0.1 in absurd (omega arith)
   faulty_pairs fuel faulty zero (pair m n ps) a b nest at y s lt big h =
       let apart = subst (Shows events at.place) (append_assoc (events_of m) (events_of n ++ events_of_pairs ps) (mapping_ends ∷ [])) s in
@@ -145,37 +140,49 @@ module _ (schema : List PlainShape) (events : Events) (size : ℕ) (root : DocNo
   no_fuel : (n : ℕ) → n < 0 → ⊥
   no_fuel n lt = omega arith
 
-  a_node : (fuel : ℕ) → IsFaulty fuel → (o : Option PlainShape) (n : DocNode) (id nest : ℕ) (taken : Bool) (at : Spot) (y : Cause) → Shows events at.place (events_of n) → at.left + nest < suc fuel
-      → node_step (node_at fuel schema events size) events size id nest taken at o (events at.place) ≡ Err y → IsReadingFault events y
-  a_node fuel faulty None n id nest taken at y s lt h = let is : no_meaning ≡ y = cc in subst (IsReadingFault events) is meaningless
-  a_node fuel faulty (Some sh) nothing id nest taken at y s lt h =
+  a_node : (fuel : ℕ) → IsFaulty fuel → (sh : PlainShape) (n : DocNode) (id nest : ℕ) (taken : Bool) (at : Spot) (y : Cause) → Shows events at.place (events_of n) → at.left + nest < suc fuel
+      → shape_step (node_at fuel schema events size) events size id nest taken at sh (events at.place) ≡ Err y → IsReadingFault schema events y
+  a_node fuel faulty sh nothing id nest taken at y s lt h =
       let h' = rw s.0.1 at h in
-      subst (IsReadingFault events) (ended_err (after at) (void_data sh) y h') meaningless
-  a_node fuel faulty (Some sh) (word w) id nest taken at y s lt h =
+      subst (IsReadingFault schema events) (ended_err (after at) (void_data sh) y h') meaningless
+  a_node fuel faulty sh (word w) id nest taken at y s lt h =
       let h' = rw s.0.1 at h in
-      subst (IsReadingFault events) (ended_err (after at) (scalar_data sh taken w) y h') meaningless
-  a_node fuel faulty (Some sh) (reference j) id nest taken at y s lt h =
+      subst (IsReadingFault schema events) (ended_err (after at) (scalar_data sh taken w) y h') meaningless
+  a_node fuel faulty sh (reference j) id nest taken at y s lt h =
       let h' = rw s.0.1 at h in
       let target = known at.place j s.0.0 s.0.1 in
       elim (pursue_err (node_at fuel schema events size id nest false) j at.place at.left y h') [
-        | inl is ↦ subst (IsReadingFault events) is (too_often at.place j s.0.0 s.0.1)
+        | inl is ↦ subst (IsReadingFault schema events) is (too_often at.place j s.0.0 s.0.1)
         | inr m ↦ faulty target.0 id nest false (record { place = j; left = m.0 }) y (target_shown events root j target.0 root_shown target.1) (omega (arith, m.1)) m.2
       ]
-  a_node fuel faulty (Some sh) (list tag ns) id nest taken at y s lt h =
+  a_node fuel faulty sh (list tag ns) id nest taken at y s lt h =
       let h' = rw s.0.1 at h in
       elim (sequence_err (node_at fuel schema events size) events size sh nest s.0.0 (after at) y h') [
-        | no_such is ↦ subst (IsReadingFault events) is meaningless
-        | deep is ↦ subst (IsReadingFault events) is (too_deep at.place _ s.0.0 s.0.1 refl)
+        | no_such is ↦ subst (IsReadingFault schema events) is meaningless
+        | deep is ↦ subst (IsReadingFault schema events) is (too_deep at.place _ s.0.0 s.0.1 refl)
         | within_parts n is f ↦ faulty_each fuel faulty size ns f.0 n (after at) y (subst (λ q. Shows events q (events_of_nodes ns ++ sequence_ends ∷ [])) (omega arith) s.1) (omega (arith, is)) (omega arith) f.1
       ]
-  a_node fuel faulty (Some sh) (mapping tag ps) id nest taken at y s lt h =
+  a_node fuel faulty sh (mapping tag ps) id nest taken at y s lt h =
       let h' = rw s.0.1 at h in
       elim (mapping_err (node_at fuel schema events size) events size sh nest s.0.0 (after at) y h') [
-        | no_such is ↦ subst (IsReadingFault events) is meaningless
-        | deep is ↦ subst (IsReadingFault events) is (too_deep at.place _ s.0.0 s.0.1 refl)
+        | no_such is ↦ subst (IsReadingFault schema events) is meaningless
+        | deep is ↦ subst (IsReadingFault schema events) is (too_deep at.place _ s.0.0 s.0.1 refl)
         | within_parts n is f ↦ faulty_pairs fuel faulty size ps f.0 f.1 n (after at) y (subst (λ q. Shows events q (events_of_pairs ps ++ mapping_ends ∷ [])) (omega arith) s.1) (omega (arith, is)) (omega arith) f.2
+      ]
+
+  by_read : (b : Bool) (r : Reading PlainData) (y : Cause) → (if b then r else Err not_built) ≡ Err y → ((b ≡ true) × (r ≡ Err y)) ⊎ ((b ≡ false) × (not_built ≡ y))
+  by_read true r y h = inl (refl, h)
+  by_read false r y h = inr (refl, cc)
+
+  by_shape : (fuel : ℕ) → IsFaulty fuel → (o : Option PlainShape) (n : DocNode) (id nest : ℕ) (taken : Bool) (at : Spot) (y : Cause) → shape_at schema id ≡ o → Shows events at.place (events_of n) → at.left + nest < suc fuel
+      → node_step (node_at fuel schema events size) events size id nest taken at o (events at.place) ≡ Err y → IsReadingFault schema events y
+  by_shape fuel faulty None n id nest taken at y is s lt h = let fault : no_meaning ≡ y = cc in subst (IsReadingFault schema events) fault meaningless
+  by_shape fuel faulty (Some sh) n id nest taken at y is s lt h =
+      elim (by_read (is_read sh) (shape_step (node_at fuel schema events size) events size id nest taken at sh (events at.place)) y h) [
+        | inl r ↦ a_node fuel faulty sh n id nest taken at y s lt r.1
+        | inr r ↦ subst (IsReadingFault schema events) r.1 (not_yet id sh is r.0)
       ]
 
   pub faulty : (fuel : ℕ) → IsFaulty fuel
   faulty zero n id nest taken at y s lt h = absurd (no_fuel _ lt)
-  faulty (suc fuel) n id nest taken at y s lt h = a_node fuel (faulty fuel) (shape_at schema id) n id nest taken at y s lt (sym (unfolded fuel id nest taken at) ∙ h)
+  faulty (suc fuel) n id nest taken at y s lt h = by_shape fuel (faulty fuel) (shape_at schema id) n id nest taken at y refl s lt (sym (unfolded fuel id nest taken at) ∙ h)

@@ -1,15 +1,15 @@
 -- What reading answers is what the tree means.
-use Rattle.std.proofs.Common.{◌≡◌, ℕ, zero, suc, ◌+◌, ◌≤◌, List, [], ◌∷◌, ◌++◌, length, Option, Some, None, Result, Ok, Err, Bool, false, refl, sym, ap, subst, ◌∙◌, arith, length-append, append_assoc}
-use Rattle.std.specs.Prelude.{max}
+use Rattle.std.proofs.Common.{◌≡◌, ℕ, zero, suc, ◌+◌, ◌≤◌, List, [], ◌∷◌, ◌++◌, length, Option, Some, None, Result, Ok, Err, Bool, true, false, cond, refl, sym, ap, subst, ◌∙◌, arith, length-append, append_assoc}
+use Rattle.std.specs.Prelude.{max, if◌then◌else◌}
 use Rattle.yaml_base.specs.Position.{Position}
 use Rattle.yaml_base.specs.declared.error.Cause.{Cause}
-use Rattle.yaml_shape.specs.PlainShape.{PlainShape, bool_shape, integer_shape, str_shape, seq_shape, map_shape, shape_at}
+use Rattle.yaml_shape.specs.PlainShape.{PlainShape, seq_shape, map_shape, shape_at}
 use Rattle.yaml_shape.specs.PlainData.{PlainData, PlainItems, PlainEntries, seq_data, map_data, no_items, item, no_entries, entry}
 use Rattle.yaml_read.specs.PlainDocEvent.{PlainDocEvent, alias_to, a_scalar, sequence_begins, sequence_ends, mapping_begins, mapping_ends, a_void}
 use Rattle.yaml_read.specs.DocTree.{DocNode, DocNodes, DocPairs, nothing, reference, word, list, mapping, no_nodes, node, no_pairs, pair, events_of, events_of_nodes, events_of_pairs, node_of}
-use Rattle.yaml_read.specs.Scalars.{scalar_data, void_data}
+use Rattle.yaml_read.specs.Scalars.{is_read, scalar_data, void_data}
 use Rattle.yaml_read.specs.Meaning.{Means, MeanEach, MeanPairs, means_target, means_void, means_scalar, means_sequence, means_mapping, means_none, means_more, means_no_pairs, means_pair}
-use Rattle.yaml_read.specs.Reader.{Spot, Reading, Events, Reader, ◌>>=◌, after, or_no_meaning, ending, enter, pursue, items_at, entries_at, sequence_at, mapping_at, node_step, node_at}
+use Rattle.yaml_read.specs.Reader.{Spot, Reading, Events, Reader, ◌>>=◌, after, or_no_meaning, ending, enter, pursue, items_at, entries_at, sequence_at, mapping_at, shape_step, node_step, node_at, not_built}
 use Rattle.yaml_read.proofs.Turns.{items_end, entries_end}
 use Rattle.yaml_read.proofs.Shown.{Shows, shows_front, shows_rest, target_shown, starts}
 use Rattle.yaml_read.proofs.Outcomes.{at_event, items_going, entries_going}
@@ -41,31 +41,30 @@ enter_ok (suc n) mark go y h = (n, refl, h)
 
 sequence_ok : (read : Reader) (events : Events) (size : ℕ) (s : PlainShape) (nest : ℕ) (mark : Position) (at next : Spot) (v : PlainData) → sequence_at read events size s nest mark at ≡ Ok (v, next)
     → (e : ℕ) × (n : ℕ) × (vs : PlainItems) × (s ≡ seq_shape e) × (nest ≡ suc n) × (items_at (read e n false) events size at ≡ Ok (vs, next)) × (seq_data vs ≡ v)
-sequence_ok read events size bool_shape nest mark at next v h = absurd cc
-sequence_ok read events size (integer_shape width) nest mark at next v h = absurd cc
-sequence_ok read events size str_shape nest mark at next v h = absurd cc
-sequence_ok read events size (map_shape a b) nest mark at next v h = absurd cc
 sequence_ok read events size (seq_shape e) nest mark at next v h =
     let g = enter_ok nest mark _ (v, next) h in
     let b = bind_ok (items_at (read e g.0 false) events size at) _ (v, next) g.2 in
     let same : (seq_data b.0.0, b.0.1) ≡ (v, next) = same_ok _ _ b.2 in
     (e, g.0, b.0.0, refl, g.1, b.1 ∙ ap (λ p. Ok (b.0.0, p)) (ap (λ x. x.1) same), ap (λ x. x.0) same)
+sequence_ok read events size _ nest mark at next v h = absurd cc
 
 mapping_ok : (read : Reader) (events : Events) (size : ℕ) (s : PlainShape) (nest : ℕ) (mark : Position) (at next : Spot) (v : PlainData) → mapping_at read events size s nest mark at ≡ Ok (v, next)
     → (a : ℕ) × (b : ℕ) × (n : ℕ) × (vs : PlainEntries) × (s ≡ map_shape a b) × (nest ≡ suc n) × (entries_at (read a n false) (read b n false) events size at ≡ Ok (vs, next)) × (map_data vs ≡ v)
-mapping_ok read events size bool_shape nest mark at next v h = absurd cc
-mapping_ok read events size (integer_shape width) nest mark at next v h = absurd cc
-mapping_ok read events size str_shape nest mark at next v h = absurd cc
-mapping_ok read events size (seq_shape e) nest mark at next v h = absurd cc
 mapping_ok read events size (map_shape a b) nest mark at next v h =
     let g = enter_ok nest mark _ (v, next) h in
     let r = bind_ok (entries_at (read a g.0 false) (read b g.0 false) events size at) _ (v, next) g.2 in
     let same : (map_data r.0.0, r.0.1) ≡ (v, next) = same_ok _ _ r.2 in
     (a, b, g.0, r.0.0, refl, g.1, r.1 ∙ ap (λ p. Ok (r.0.0, p)) (ap (λ x. x.1) same), ap (λ x. x.0) same)
+mapping_ok read events size _ nest mark at next v h = absurd cc
 
-shaped : (read : Reader) (events : Events) (size : ℕ) (id : ℕ) (nest : ℕ) (taken : Bool) (at : Spot) (o : Option PlainShape) (e : Option (PlainDocEvent × Position)) (y : PlainData × Spot) → node_step read events size id nest taken at o e ≡ Ok y → (s : PlainShape) × (o ≡ Some s)
+chosen : {A : Type 0} (b : Bool) (r : Reading A) (y : A × Spot) → (if b then r else Err not_built) ≡ Ok y → b ≡ true
+chosen true r y h = refl
+chosen false r y h = absurd cc
+
+shaped : (read : Reader) (events : Events) (size : ℕ) (id : ℕ) (nest : ℕ) (taken : Bool) (at : Spot) (o : Option PlainShape) (e : Option (PlainDocEvent × Position)) (y : PlainData × Spot)
+    → node_step read events size id nest taken at o e ≡ Ok y → (s : PlainShape) × (o ≡ Some s) × (is_read s ≡ true)
 shaped read events size id nest taken at None e y h = absurd cc
-shaped read events size id nest taken at (Some s) e y h = (s, refl)
+shaped read events size id nest taken at (Some s) e y h = (s, refl, chosen (is_read s) (shape_step read events size id nest taken at s e) y h)
 
 module _ (schema : List PlainShape) (events : Events) (size : ℕ) (root : DocNode) (root_shown : Shows events 0 (events_of root)) (known : (p j : ℕ) (m : Position) → events p ≡ Some (alias_to j, m) → (n : DocNode) × (node_of root j ≡ Some n)) where
   pub record Found (id : ℕ) (n : DocNode) (taken : Bool) (v : PlainData) (nest : ℕ) (at next : Spot) : Type 0 where
@@ -95,7 +94,7 @@ module _ (schema : List PlainShape) (events : Events) (size : ℕ) (root : DocNo
   abbrev pub IsSound : ℕ → Type 0
   IsSound fuel = (n : DocNode) (id : ℕ) (nest : ℕ) (taken : Bool) (at next : Spot) (v : PlainData) → Shows events at.place (events_of n) → node_at fuel schema events size id nest taken at ≡ Ok (v, next) → Found id n taken v nest at next
 
-  has_shape : (fuel : ℕ) (id : ℕ) (nest : ℕ) (taken : Bool) (at : Spot) (y : PlainData × Spot) → node_at (suc fuel) schema events size id nest taken at ≡ Ok y → (s : PlainShape) × (shape_at schema id ≡ Some s)
+  has_shape : (fuel : ℕ) (id : ℕ) (nest : ℕ) (taken : Bool) (at : Spot) (y : PlainData × Spot) → node_at (suc fuel) schema events size id nest taken at ≡ Ok y → (s : PlainShape) × (shape_at schema id ≡ Some s) × (is_read s ≡ true)
   unfolding node_at
   has_shape fuel id nest taken at y h = shaped (node_at fuel schema events size) events size id nest taken at (shape_at schema id) (events at.place) y h
 
@@ -178,15 +177,15 @@ module _ (schema : List PlainShape) (events : Events) (size : ℕ) (root : DocNo
   sound zero n id nest taken at next v s h = absurd (none_sound id nest taken at (v, next) h)
   sound (suc fuel) nothing id nest taken at next v s h =
       let sh = has_shape fuel id nest taken at (v, next) h in
-      let e = ended_ok (after at) next v (void_data sh.0) (sym (at_event schema events size fuel id nest taken at sh.0 a_void s.0.0 sh.1 s.0.1) ∙ h) in
+      let e = ended_ok (after at) next v (void_data sh.0) (sym (at_event schema events size fuel id nest taken at sh.0 a_void s.0.0 sh.1 sh.2 s.0.1) ∙ h) in
       at_end id nothing taken v nest at next e.1 refl (means_void sh.1 e.0)
   sound (suc fuel) (word w) id nest taken at next v s h =
       let sh = has_shape fuel id nest taken at (v, next) h in
-      let e = ended_ok (after at) next v (scalar_data sh.0 taken w) (sym (at_event schema events size fuel id nest taken at sh.0 (a_scalar w) s.0.0 sh.1 s.0.1) ∙ h) in
+      let e = ended_ok (after at) next v (scalar_data sh.0 taken w) (sym (at_event schema events size fuel id nest taken at sh.0 (a_scalar w) s.0.0 sh.1 sh.2 s.0.1) ∙ h) in
       at_end id (word w) taken v nest at next e.1 refl (means_scalar sh.1 e.0)
   sound (suc fuel) (reference j) id nest taken at next v s h =
       let sh = has_shape fuel id nest taken at (v, next) h in
-      let p = pursue_ok (node_at fuel schema events size id nest false) j at.place at.left v next (sym (at_event schema events size fuel id nest taken at sh.0 (alias_to j) s.0.0 sh.1 s.0.1) ∙ h) in
+      let p = pursue_ok (node_at fuel schema events size id nest false) j at.place at.left v next (sym (at_event schema events size fuel id nest taken at sh.0 (alias_to j) s.0.0 sh.1 sh.2 s.0.1) ∙ h) in
       let target = known at.place j s.0.0 s.0.1 in
       let f = sound fuel target.0 id nest false (record { place = j; left = p.0 }) p.2 v (target_shown events root j target.0 root_shown target.1) p.3 in
       record {
@@ -199,7 +198,7 @@ module _ (schema : List PlainShape) (events : Events) (size : ℕ) (root : DocNo
       }
   sound (suc fuel) (list tag ns) id nest taken at next v s h =
       let sh = has_shape fuel id nest taken at (v, next) h in
-      let l = sequence_ok (node_at fuel schema events size) events size sh.0 nest s.0.0 (after at) next v (sym (at_event schema events size fuel id nest taken at sh.0 (sequence_begins tag) s.0.0 sh.1 s.0.1) ∙ h) in
+      let l = sequence_ok (node_at fuel schema events size) events size sh.0 nest s.0.0 (after at) next v (sym (at_event schema events size fuel id nest taken at sh.0 (sequence_begins tag) s.0.0 sh.1 sh.2 s.0.1) ∙ h) in
       let f = sound_each fuel (sound fuel) size ns l.0 l.1 (after at) next l.2 (subst (λ q. Shows events q (events_of_nodes ns ++ sequence_ends ∷ [])) (omega arith) s.1) l.5 in
       subst (λ x. Found id (list tag ns) taken x nest at next) l.6 (record {
         d = suc f.d;
@@ -211,7 +210,7 @@ module _ (schema : List PlainShape) (events : Events) (size : ℕ) (root : DocNo
       })
   sound (suc fuel) (mapping tag ps) id nest taken at next v s h =
       let sh = has_shape fuel id nest taken at (v, next) h in
-      let l = mapping_ok (node_at fuel schema events size) events size sh.0 nest s.0.0 (after at) next v (sym (at_event schema events size fuel id nest taken at sh.0 (mapping_begins tag) s.0.0 sh.1 s.0.1) ∙ h) in
+      let l = mapping_ok (node_at fuel schema events size) events size sh.0 nest s.0.0 (after at) next v (sym (at_event schema events size fuel id nest taken at sh.0 (mapping_begins tag) s.0.0 sh.1 sh.2 s.0.1) ∙ h) in
       let f = sound_pairs fuel (sound fuel) size ps l.0 l.1 l.2 (after at) next l.3 (subst (λ q. Shows events q (events_of_pairs ps ++ mapping_ends ∷ [])) (omega arith) s.1) l.6 in
       subst (λ x. Found id (mapping tag ps) taken x nest at next) l.7 (record {
         d = suc f.d;

@@ -11,7 +11,8 @@ use Rattle.yaml_shape.specs.declared.data.Data.{Data}
 use Rattle.yaml_shape.specs.declared.data.Entry.{Entry, the_lemmas}
 use Rattle.yaml_read.specs.PlainDocEvent.{PlainDocEvent}
 use Rattle.yaml_read.specs.DocEventView.{doc_event_of}
-use Rattle.yaml_read.specs.Reader.{Spot, Reading, no_meaning, ◌>>=◌, Events, after, is_sequence_end, is_mapping_end, items_step, entries_step, items_at, entries_at, pursue, ending, Reader, sequence_at, mapping_at, event_at, node_at}
+use Rattle.yaml_read.specs.Scalars.{is_read}
+use Rattle.yaml_read.specs.Reader.{Spot, Reading, no_meaning, not_built, ◌>>=◌, Events, after, is_sequence_end, is_mapping_end, items_step, entries_step, items_at, entries_at, pursue, ending, Reader, sequence_at, mapping_at, event_at, node_at}
 use Rattle.yaml_read.specs.declared.doc_event.DocEvent.{DocEvent}
 use Rattle.yaml_read.specs.declared.doc_event.DocEvent.TheVariants as event
 use Rattle.yaml_read.proofs.Before.{items_front, items_before, entries_front, entries_before}
@@ -83,18 +84,26 @@ module _ (fuel : ℕ) (schema : List PlainShape) (events : Events) (size : ℕ) 
     | suc f ↦ λ lt s. rw (← s)
   ]
 
-  pub node_ended : (s : PlainShape) → 0 < fuel → Some s ≡ shape_at schema id → None ≡ events at.place → node_at fuel schema events size id nest taken at ≡ Err EndOfStream
+  pub node_unread : (s : PlainShape) → 0 < fuel → Some s ≡ shape_at schema id → is_read s ≡ false → node_at fuel schema events size id nest taken at ≡ Err not_built
   unfolding node_at
-  node_ended shape lt s e = elim fuel as (λ f. 0 < f → node_at f schema events size id nest taken at ≡ Err EndOfStream) [
+  node_unread shape lt s r = elim fuel as (λ f. 0 < f → node_at f schema events size id nest taken at ≡ Err not_built) [
     | zero ↦ λ lt. absurd (omega arith)
-    | suc f ↦ λ lt. rw (← s, ← e)
+    | suc f ↦ λ lt. rw (← s, r)
   ] lt
 
-  pub node_event : (s : PlainShape) (ev ev' : DocEvent) (m : Position) → 0 < fuel → Some s ≡ shape_at schema id → Some (doc_event_of ev, m) ≡ events at.place → ev ≡ ev' → node_at fuel schema events size id nest taken at ≡ event_at (node_at (fuel - 1) schema events size) events size id s nest taken at (doc_event_of ev') m
+  pub node_ended : (s : PlainShape) → 0 < fuel → Some s ≡ shape_at schema id → is_read s ≡ true → None ≡ events at.place → node_at fuel schema events size id nest taken at ≡ Err EndOfStream
   unfolding node_at
-  node_event shape ev ev' m lt s e is = elim fuel as (λ f. 0 < f → node_at f schema events size id nest taken at ≡ event_at (node_at (f - 1) schema events size) events size id shape nest taken at (doc_event_of ev') m) [
+  node_ended shape lt s r e = elim fuel as (λ f. 0 < f → node_at f schema events size id nest taken at ≡ Err EndOfStream) [
     | zero ↦ λ lt. absurd (omega arith)
-    | suc f ↦ λ lt. rw (← s, ← e, enough f, is)
+    | suc f ↦ λ lt. rw (← s, r, ← e)
+  ] lt
+
+  pub node_event : (s : PlainShape) (ev ev' : DocEvent) (m : Position) → 0 < fuel → Some s ≡ shape_at schema id → is_read s ≡ true → Some (doc_event_of ev, m) ≡ events at.place → ev ≡ ev'
+      → node_at fuel schema events size id nest taken at ≡ event_at (node_at (fuel - 1) schema events size) events size id s nest taken at (doc_event_of ev') m
+  unfolding node_at
+  node_event shape ev ev' m lt s r e is = elim fuel as (λ f. 0 < f → node_at f schema events size id nest taken at ≡ event_at (node_at (f - 1) schema events size) events size id shape nest taken at (doc_event_of ev') m) [
+    | zero ↦ λ lt. absurd (omega arith)
+    | suc f ↦ λ lt. rw (← s, r, ← e, enough f, is)
   ] lt
 
 module _ (size : ℕ) (e : ℕ) (mark : Position) (at : Spot) (read : Reader) (events : Events) where

@@ -61,7 +61,7 @@ module _ (limits : PlainLimits) (schema : List PlainShape) (document : PlainDocu
       (record { place = 0; left = limits.follows * length document.events }) next v shown h in
       record { nestings = f.d; followed = f.k; means = f.means; nests_within = f.nested; follows_within = omega (arith, f.followed) }
 
-  pub refused_only : (id : ℕ) (y : Cause) → whole_reading limits schema document id ≡ Err y → IsReadingFault (slice_get document.events) y
+  pub refused_only : (id : ℕ) (y : Cause) → whole_reading limits schema document id ≡ Err y → IsReadingFault schema (slice_get document.events) y
   refused_only id y h =
       faulty schema (slice_get document.events) (length document.events) root shown is.known (λ p e. slice_get_within document.events p e)
       (limits.follows * length document.events + limits.nesting + 1) root id limits.nesting false (record { place = 0; left = limits.follows * length document.events }) y shown (omega arith) h

@@ -3,10 +3,10 @@ use Rattle.std.specs.Prelude.{◌≡◌, ℕ, zero, suc, ◌+◌, ◌-◌, List,
 use Rattle.yaml_base.specs.Position.{Position}
 use Rattle.yaml_base.specs.declared.error.Cause.{Cause}
 use Rattle.yaml_base.specs.declared.error.Cause.TheVariants.{EndOfStream, RecursionLimitExceeded, RepetitionLimitExceeded, Custom}
-use Rattle.yaml_shape.specs.PlainShape.{PlainShape, bool_shape, integer_shape, str_shape, seq_shape, map_shape, shape_at}
+use Rattle.yaml_shape.specs.PlainShape.{PlainShape, seq_shape, map_shape, shape_at}
 use Rattle.yaml_shape.specs.PlainData.{PlainData, PlainItems, PlainEntries, seq_data, map_data, no_items, item, no_entries, entry}
 use Rattle.yaml_read.specs.PlainDocEvent.{PlainDocEvent, alias_to, a_scalar, sequence_begins, sequence_ends, mapping_begins, mapping_ends, a_void}
-use Rattle.yaml_read.specs.Scalars.{scalar_data, void_data}
+use Rattle.yaml_read.specs.Scalars.{is_read, scalar_data, void_data}
 
 -- where a reading is: the place of its next event, and the follows that are left
 pub record Spot : Type 0 where
@@ -16,6 +16,10 @@ pub record Spot : Type 0 where
 -- what reading answers: a value and where it ended, or a fault
 abbrev pub Reading : Type 0 → Type 0
 Reading A = Result (A × Spot) Cause
+
+-- the fault of a shape that is not read yet
+unfoldable pub not_built : Cause
+not_built = Custom (codes "not built yet") None
 
 -- the fault of a node without a meaning
 unfoldable pub no_meaning : Cause
@@ -107,23 +111,17 @@ Reader = ℕ → ℕ → Bool → Spot → Reading PlainData
 
 -- a sequence, behind its start
 abbrev pub sequence_at : Reader → Events → ℕ → PlainShape → ℕ → Position → Spot → Reading PlainData
-sequence_at read events size bool_shape nest mark at = Err no_meaning
-sequence_at read events size (integer_shape width) nest mark at = Err no_meaning
-sequence_at read events size str_shape nest mark at = Err no_meaning
-sequence_at read events size (map_shape a b) nest mark at = Err no_meaning
 sequence_at read events size (seq_shape e) nest mark at = enter nest mark (λ n. do
   vs ← items_at (read e n false) events size at
   Ok (seq_data vs.0, vs.1))
+sequence_at read events size _ nest mark at = Err no_meaning
 
 -- a mapping, behind its start
 abbrev pub mapping_at : Reader → Events → ℕ → PlainShape → ℕ → Position → Spot → Reading PlainData
-mapping_at read events size bool_shape nest mark at = Err no_meaning
-mapping_at read events size (integer_shape width) nest mark at = Err no_meaning
-mapping_at read events size str_shape nest mark at = Err no_meaning
-mapping_at read events size (seq_shape e) nest mark at = Err no_meaning
 mapping_at read events size (map_shape a b) nest mark at = enter nest mark (λ n. do
   vs ← entries_at (read a n false) (read b n false) events size at
   Ok (map_data vs.0, vs.1))
+mapping_at read events size _ nest mark at = Err no_meaning
 
 -- a node that begins with an event
 abbrev pub event_at : Reader → Events → ℕ → ℕ → PlainShape → ℕ → Bool → Spot → PlainDocEvent → Position → Reading PlainData
@@ -135,11 +133,15 @@ event_at read events size id s nest taken at (mapping_begins tag) mark = mapping
 event_at read events size id s nest taken at mapping_ends mark = Err EndOfStream
 event_at read events size id s nest taken at a_void mark = ending (after at) (or_no_meaning (void_data s))
 
+-- a node under a shape that is read, whose first event was looked up
+abbrev pub shape_step : Reader → Events → ℕ → ℕ → ℕ → Bool → Spot → PlainShape → Option (PlainDocEvent × Position) → Reading PlainData
+shape_step read events size id nest taken at s None = Err EndOfStream
+shape_step read events size id nest taken at s (Some e) = event_at read events size id s nest taken at e.0 e.1
+
 -- a node whose shape and first event were looked up
 abbrev pub node_step : Reader → Events → ℕ → ℕ → ℕ → Bool → Spot → Option PlainShape → Option (PlainDocEvent × Position) → Reading PlainData
 node_step read events size id nest taken at None e = Err no_meaning
-node_step read events size id nest taken at (Some s) None = Err EndOfStream
-node_step read events size id nest taken at (Some s) (Some e) = event_at read events size id s nest taken at e.0 e.1
+node_step read events size id nest taken at (Some s) e = if is_read s then shape_step read events size id nest taken at s e else Err not_built
 
 -- A node. The first number bounds the depth; more than the nestings and the follows that are left is always enough.
 unfoldable pub node_at : ℕ → List PlainShape → Events → ℕ → Reader

@@ -3,13 +3,14 @@ use Rattle.std.specs.Prelude.{◌≡◌, ℕ, ◌*◌, ◌<◌, ◌≤◌, List,
 use Rattle.yaml_base.specs.Position.{Position}
 use Rattle.yaml_base.specs.declared.error.Cause.{Cause}
 use Rattle.yaml_base.specs.declared.error.Cause.TheVariants.{Memory, RecursionLimitExceeded, RepetitionLimitExceeded}
-use Rattle.yaml_shape.specs.PlainShape.{PlainShape}
+use Rattle.yaml_shape.specs.PlainShape.{PlainShape, shape_at}
 use Rattle.yaml_shape.specs.PlainData.{PlainData}
 use Rattle.yaml_read.specs.PlainDocEvent.{PlainDocEvent, alias_to, sequence_begins, mapping_begins}
 use Rattle.yaml_read.specs.PlainDocument.{PlainDocument}
 use Rattle.yaml_read.specs.DocTree.{DocNode, events_of, node_of}
 use Rattle.yaml_read.specs.Meaning.{Means}
-use Rattle.yaml_read.specs.Reader.{no_meaning}
+use Rattle.yaml_read.specs.Reader.{no_meaning, not_built}
+use Rattle.yaml_read.specs.Scalars.{is_read}
 
 -- how deep a reading goes, and how many aliases it follows for each event of the document
 pub record PlainLimits : Type 0 where
@@ -48,9 +49,10 @@ begins_collection (mapping_begins tag) = true
 begins_collection _ = false
 
 -- What a reading of a whole document may be refused by, beside want of memory: a collection of the document that is nested
--- too deep, too many follows of its aliases, or a node without a meaning.
-pub data IsReadingFault (events : ℕ → Option (PlainDocEvent × Position)) : Cause → Type 0 where
+-- too deep, too many follows of its aliases, a node without a meaning, or a shape of the schema that is not read yet.
+pub data IsReadingFault (schema : List PlainShape) (events : ℕ → Option (PlainDocEvent × Position)) : Cause → Type 0 where
   too_deep : (place : ℕ) (event : PlainDocEvent) (mark : Position) → events place ≡ Some (event, mark) → begins_collection event ≡ true
-    → IsReadingFault events (RecursionLimitExceeded mark)
-  too_often : (place target : ℕ) (mark : Position) → events place ≡ Some (alias_to target, mark) → IsReadingFault events RepetitionLimitExceeded
-  meaningless : IsReadingFault events no_meaning
+      → IsReadingFault schema events (RecursionLimitExceeded mark)
+  too_often : (place target : ℕ) (mark : Position) → events place ≡ Some (alias_to target, mark) → IsReadingFault schema events RepetitionLimitExceeded
+  meaningless : IsReadingFault schema events no_meaning
+  not_yet : (id : ℕ) (shape : PlainShape) → shape_at schema id ≡ Some shape → is_read shape ≡ false → IsReadingFault schema events not_built

@@ -25,6 +25,16 @@ const NESTING: u8 = 128;
 /// The most aliases that a reading follows, for each event of the document.
 const FOLLOWS: u128 = 100;
 
+// A copy of the fault, or want of memory.
+fn copied(fault: &Error, alloc: Global) -> Error
+    ensures { is_memory result ≡ false → result ≡ fault.now }
+{
+    match fault.copy(alloc) {
+        Ok(copy) => copy,
+        Err(fault) => fault,
+    }
+}
+
 impl<'de> Document<'de> {
     /// The data of the document under the shape with this number, within 128 nestings and 100 follows for each event of the
     /// document. Texts are lent from the source where the source shows them. `Schema::has` is the test of what is asked.
@@ -44,7 +54,7 @@ impl<'de> Document<'de> {
         ensures refused { IfErr result (λ fault. (root : DocNode) (v : PlainData) (d k : ℕ) → IsTreeOf self.now root
             → Means schema.now root id.0 root false v d k → IsRefusal default_limits (length self.now.events) d k fault) }
         ensures faults { IfErr result (λ fault. (root : DocNode) → IsTreeOf self.now root → is_memory fault ≡ false
-            → IsReadingFault (slice_get self.now.events) fault) }
+            → IsReadingFault schema.now (slice_get self.now.events) fault) }
     {
         let events = self.events();
         let mut walk = Walk {
@@ -55,7 +65,7 @@ impl<'de> Document<'de> {
         match read_node(alloc, schema, events, id, NESTING, false, &mut walk) {
             Ok(data) => match self.error() {
                 None => Ok(data),
-                Some(_) => Err(Error::custom(String::from_str(alloc, "not built yet")?)),
+                Some(fault) => Err(copied(fault, alloc)),
             },
             Err(fault) => Err(fault),
         }

@@ -1,2 +1,12 @@
 -- Lemmas of this crate.
-mod Tables
+pub mod NumberLaws
+pub mod FirstLaws
+pub mod DistinctLaws
+mod Pigeons
+pub mod WalkLaws
+pub mod StepLaws
+pub mod Ranks
+pub mod DataLaws
+pub mod RaiseLaws
+pub mod JoinLaws
+pub mod JoinWalks

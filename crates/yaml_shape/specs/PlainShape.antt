@@ -1,17 +1,48 @@
 -- Shapes without where they lie in memory, and the table that they form.
-use Rattle.std.specs.Prelude.{ℕ, List, Option, slice_get}
+use Rattle.std.specs.Prelude.{ℕ, List, Bool, Option, slice_get}
 
 -- the integers that a shape may ask for
 pub data IntegerType : Type 0 where
+  i8 : IntegerType
+  i16 : IntegerType
+  i32 : IntegerType
   i64 : IntegerType
+  i128 : IntegerType
+  isize : IntegerType
+  u8 : IntegerType
+  u16 : IntegerType
+  u32 : IntegerType
+  u64 : IntegerType
+  u128 : IntegerType
+  usize : IntegerType
 
--- a shape, which names others by their places in the table
+-- the content of a variant; of fields with names it is known whether others are a fault
+pub data PlainVariant : Type 0 where
+  unit_variant : PlainVariant
+  newtype_variant : (inner : ℕ) → PlainVariant
+  tuple_variant : (items : List ℕ) → PlainVariant
+  struct_variant : (strict : Bool) → (fields : List (List ℕ × ℕ)) → PlainVariant
+
+-- a shape, which names others by their places in the table; a name is its bytes
 pub data PlainShape : Type 0 where
+  any_shape : PlainShape
   bool_shape : PlainShape
+  char_shape : PlainShape
   integer_shape : IntegerType → PlainShape
   str_shape : PlainShape
+  identifier_shape : PlainShape
+  bytes_shape : PlainShape
+  option_shape : (content : ℕ) → PlainShape
+  unit_shape : PlainShape
+  unit_struct_shape : (name : List ℕ) → PlainShape
+  newtype_shape : (name : List ℕ) → (inner : ℕ) → PlainShape
   seq_shape : (element : ℕ) → PlainShape
+  tuple_shape : (items : List ℕ) → PlainShape
+  tuple_struct_shape : (name : List ℕ) → (items : List ℕ) → PlainShape
   map_shape : (key : ℕ) → (value : ℕ) → PlainShape
+  struct_shape : (strict : Bool) → (name : List ℕ) → (fields : List (List ℕ × ℕ)) → PlainShape
+  enum_shape : (name : List ℕ) → (variants : List (List ℕ × PlainVariant)) → PlainShape
+  ignored_shape : PlainShape
 
 -- the shape with a number
 abbrev pub shape_at : List PlainShape → ℕ → Option PlainShape

@@ -1,20 +1,46 @@
 -- Why a table of shapes is refused.
-use Rattle.std.specs.Prelude.{ℕ, ◌<◌, ◌≤◌, ◌≡◌, List, length, take, Some, IfSome, slice_get}
+use Rattle.std.specs.Prelude.{ℕ, ◌<◌, ◌≤◌, List, length, take, All, IfSome}
 use Rattle.yaml_shape.specs.PlainShape.{PlainShape, shape_at}
-use Rattle.yaml_shape.specs.Validity.{NamesWithin, AllNameWithin}
+use Rattle.yaml_shape.specs.Validity.{NamesWithin, AllNameWithin, HasDistinctNames, IsCycle}
 use Rattle.yaml_shape.specs.declared.fault.SchemaFault.{SchemaFault}
 use Rattle.yaml_shape.specs.declared.fault.SchemaFault.TheVariants.{S1, S2, S3, S4, S5}
 
--- the shape with this number names one outside the table, and none before it does
-pub record IsFirstOutside (shapes : List PlainShape) (number : ℕ) : Type 0 where
-  pub before : AllNameWithin (length shapes) (take number shapes)
-  pub outside : IfSome (shape_at shapes number) (λ shape. NamesWithin (length shapes) shape → ⊥)
+-- the shape with this number isn't so, and each before it is
+pub record IsFirstWithout (P : PlainShape → Type 0) (shapes : List PlainShape) (number : ℕ) : Type 0 where
+  pub before : All P (take number shapes)
+  pub without : IfSome (shape_at shapes number) (λ shape. P shape → ⊥)
   pub within : number < length shapes
 
--- the fault is the first that the table has, or want of memory
+-- the shape with this number names one outside the table, and none before it does
+abbrev pub IsFirstOutside : List PlainShape → ℕ → Type 0
+IsFirstOutside shapes number = IsFirstWithout (NamesWithin (length shapes)) shapes number
+
+-- the shape with this number has a name twice, and none before it does
+abbrev pub IsFirstRepeated : List PlainShape → ℕ → Type 0
+IsFirstRepeated shapes number = IsFirstWithout HasDistinctNames shapes number
+
+-- a walk through optionals leads from the shape with this number back to it, and from none before it
+pub record IsFirstCycle (shapes : List PlainShape) (number : ℕ) : Type 0 where
+  pub before : (id : ℕ) → id < number → IsCycle shapes id → ⊥
+  pub cycle : IsCycle shapes number
+
+-- the table has a name twice, and is else in order so far as that is looked at before
+pub record IsRepeated (shapes : List PlainShape) (number : ℕ) : Type 0 where
+  pub few : length shapes ≤ 4096
+  pub closed : AllNameWithin (length shapes) shapes
+  pub first : IsFirstRepeated shapes number
+
+-- the table has a cycle of optionals, and is else in order
+pub record IsCyclic (shapes : List PlainShape) (number : ℕ) : Type 0 where
+  pub few : length shapes ≤ 4096
+  pub closed : AllNameWithin (length shapes) shapes
+  pub distinct : All HasDistinctNames shapes
+  pub first : IsFirstCycle shapes number
+
+-- the fault is the first that the table has in the order S4, S1, S3, S2, or want of memory
 abbrev pub IsRefused : List PlainShape → SchemaFault → Type 0
 IsRefused shapes S4 = 4096 < length shapes
 IsRefused shapes (S1 number) = (length shapes ≤ 4096) × IsFirstOutside shapes number
-IsRefused shapes (S2 number) = ⊥
-IsRefused shapes (S3 number) = ⊥
+IsRefused shapes (S3 number) = IsRepeated shapes number
+IsRefused shapes (S2 number) = IsCyclic shapes number
 IsRefused shapes S5 = Unit {0}

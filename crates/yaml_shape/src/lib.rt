@@ -2,13 +2,24 @@
 #![tactic(auto)]
 
 mod data;
+mod expected;
 mod fault;
+mod has_shape;
+mod names;
+mod numbers;
+mod raise;
 mod schema;
 mod shape;
 mod text;
+mod typed;
+mod walks;
 
 pub use data::{Data, Entry};
+pub use expected::{
+    sequence_of, struct_variant, tuple_struct_with, tuple_variant, tuple_variant_with,
+};
 pub use fault::SchemaFault;
 pub use schema::Schema;
-pub use shape::{Shape, ShapeId};
+pub use shape::{Shape, ShapeId, VariantShape};
 pub use text::Text;
+pub use typed::Typed;

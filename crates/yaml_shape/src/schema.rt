@@ -1,14 +1,18 @@
 //! Tables of shapes that name only each other.
 
-ghost use Rattle.std.specs.Prelude.{◌≡◌, ◌<◌, ◌↔◌, map, length, IsTrue, IfOk, IfErr, IfSome, IfNone};
+ghost use Rattle.std.specs.Prelude.{◌≡◌, ◌<◌, ◌≤◌, ◌↔◌, ℕ, map, length, Some, IsTrue, IfOk, IfErr};
 ghost use Rattle.std.specs.Option.{option_map};
-ghost use Rattle.yaml_shape.specs.PlainShape.{shape_at};
+ghost use Rattle.yaml_shape.specs.PlainShape.{option_shape, shape_at};
 ghost use Rattle.yaml_shape.specs.ShapeView.{shape_of};
-ghost use Rattle.yaml_shape.specs.Validity.{IsValidSchema, NamesWithin, AllNameWithin};
-ghost use Rattle.yaml_shape.specs.Refusal.{IsRefused, IsFirstOutside};
+ghost use Rattle.yaml_shape.specs.Validity.{IsValidSchema};
+ghost use Rattle.yaml_shape.specs.Refusal.{IsRefused};
+ghost use Rattle.yaml_shape.specs.Walks.{rank};
 
 use crate::fault::SchemaFault;
+use crate::names::first_repeated;
+use crate::numbers::first_outside;
 use crate::shape::{Shape, ShapeId};
+use crate::walks::first_cycle;
 use std::alloc::Global;
 use std::marker::Model;
 
@@ -35,45 +39,42 @@ impl Model for Schema {
     ghost invariant = { λ s. IsValidSchema (map shape_of s.shapes.items) };
 }
 
-// Whether each number that the shape names is below the size.
-fn names_within(shape: &Shape, size: usize) -> bool
-    ensures { IsTrue result ↔ NamesWithin size (shape_of shape.now) }
-{
-    let within = |id: ShapeId| (id.0 as usize) < size;
-    match shape {
-        Shape::Bool | Shape::I64 | Shape::Str => true,
-        Shape::Seq(element) => within(*element),
-        Shape::Map(key, value) => within(*key) && within(*value),
-    }
-}
-
-// The first shape that names a number outside the table, if there is one.
-fn first_outside(shapes: &[Shape]) -> Option<usize>
-    ensures none { IfNone result (AllNameWithin (length shapes.now) (map shape_of shapes.now)) }
-    ensures some { IfSome result (IsFirstOutside (map shape_of shapes.now)) }
-{
-    for number in 0..shapes.len() {
-        if !names_within(&shapes[number], shapes.len()) {
-            return Some(number);
-        }
-    }
-    None
-}
-
 impl Schema {
-    /// The schema of these shapes, each named by its place. Of several faults the first of `S4`, `S1`, `S3`, `S2` is answered;
-    /// `S5` may be answered in place of any. The shapes are dropped on refusal.
-    pub fn new(_alloc: Global, shapes: Vec<Shape>) -> Result<Schema, SchemaFault>
+    /// The schema of these shapes, each named by its place. Of several faults the first of `S4`, `S1`, `S3`, `S2` is answered, with
+    /// the least shape concerned; `S5` may be answered in place of any. The shapes are dropped on refusal.
+    pub fn new(alloc: Global, shapes: Vec<Shape>) -> Result<Schema, SchemaFault>
         ensures ok { IfOk result (λ schema. (schema ≡ map shape_of shapes.items) × IsValidSchema schema) }
         ensures refused { IfErr result (IsRefused (map shape_of shapes.items)) }
     {
         if shapes.len() > SHAPES {
             return Err(SchemaFault::S4);
         }
-        match first_outside(&shapes) {
-            Some(number) => Err(SchemaFault::S1(number as u32)),
-            None => Ok(Schema { shapes }),
+        if let Some(number) = first_outside(&shapes) {
+            return Err(SchemaFault::S1(number as u32));
         }
+        if let Some(number) = first_repeated(alloc, &shapes)? {
+            return Err(SchemaFault::S3(number as u32));
+        }
+        if let Some(number) = first_cycle(alloc, &shapes)? {
+            return Err(SchemaFault::S2(number as u32));
+        }
+        Ok(Schema { shapes })
+    }
+
+    /// Does nothing. A proof that calls it learns that this schema is valid, as each is from its making on.
+    pub fn is_valid(&self)
+        ensures { IsValidSchema self.now }
+    {
+        let _shapes = &self.shapes;
+    }
+
+    /// Does nothing. A proof that calls it learns that ranks fall along optionals, so that each walk through optionals ends.
+    pub fn optionals_end(&self)
+        ensures small { (id : ℕ) → rank self.now id ≤ 4096 }
+        ensures falls { (id content : ℕ) → shape_at self.now id ≡ Some (option_shape content)
+            → rank self.now content < rank self.now id }
+    {
+        self.is_valid();
     }
 
     /// Whether the number names a shape of this schema.
@@ -81,6 +82,14 @@ impl Schema {
         ensures { IsTrue result ↔ (id.0 < length self.now) }
     {
         (id.0 as usize) < self.shapes.len()
+    }
+
+    // The shape with this number.
+    pub(crate) fn at(&self, id: ShapeId) -> &Shape
+        requires { id.0 < length self.now }
+        ensures { shape_at self.now id.0 ≡ Some (shape_of result.now) }
+    {
+        &self.shapes[id.0 as usize]
     }
 
     /// The shape with this number, or `None` where there is none.

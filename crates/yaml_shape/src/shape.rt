@@ -7,14 +7,107 @@ pub struct ShapeId(pub u32);
 /// A shape that data may have. It names others by their numbers, so a shape may lead back to itself.
 #[derive(Drop)]
 pub enum Shape {
+    /// A value of any kind.
+    Any,
     /// A boolean.
     Bool,
+    /// A character.
+    Char,
+    /// An integer of 8 bits with a sign.
+    I8,
+    /// An integer of 16 bits with a sign.
+    I16,
+    /// An integer of 32 bits with a sign.
+    I32,
     /// An integer of 64 bits with a sign.
     I64,
+    /// An integer of 128 bits with a sign.
+    I128,
+    /// An integer of the machine's width, 64 bits, with a sign.
+    Isize,
+    /// An integer of 8 bits without a sign.
+    U8,
+    /// An integer of 16 bits without a sign.
+    U16,
+    /// An integer of 32 bits without a sign.
+    U32,
+    /// An integer of 64 bits without a sign.
+    U64,
+    /// An integer of 128 bits without a sign.
+    U128,
+    /// An integer of the machine's width, 64 bits, without a sign.
+    Usize,
     /// A text.
     Str,
+    /// The name of a field or a variant.
+    Identifier,
+    /// Bytes. No event stands for them.
+    Bytes,
+    /// Nothing, or content of this shape.
+    Option(ShapeId),
+    /// Nothing.
+    Unit,
+    /// A struct without fields.
+    UnitStruct {
+        /// Its name.
+        name: String,
+    },
+    /// A struct around one content.
+    Newtype {
+        /// Its name.
+        name: String,
+        /// The shape of the content.
+        inner: ShapeId,
+    },
     /// A sequence whose elements have this shape.
     Seq(ShapeId),
+    /// A sequence of as many elements, each of its own shape.
+    Tuple(Vec<ShapeId>),
+    /// A struct whose fields have no names.
+    TupleStruct {
+        /// Its name.
+        name: String,
+        /// The shapes of its fields.
+        items: Vec<ShapeId>,
+    },
     /// A mapping from keys of the first shape to values of the second. A repeated key is kept.
     Map(ShapeId, ShapeId),
+    /// A struct. A field that it doesn't have is ignored.
+    Struct {
+        /// Its name.
+        name: String,
+        /// The name and the shape of each field.
+        fields: Vec<(String, ShapeId)>,
+    },
+    /// A struct. A field that it doesn't have is a fault.
+    StrictStruct {
+        /// Its name.
+        name: String,
+        /// The name and the shape of each field.
+        fields: Vec<(String, ShapeId)>,
+    },
+    /// One of several variants.
+    Enum {
+        /// Its name.
+        name: String,
+        /// The name and the content of each variant.
+        variants: Vec<(String, VariantShape)>,
+    },
+    /// Any node, stepped over.
+    IgnoredAny,
+}
+
+/// The content of a variant.
+#[derive(Drop)]
+pub enum VariantShape {
+    /// Nothing.
+    Unit,
+    /// One content of this shape.
+    Newtype(ShapeId),
+    /// Fields without names.
+    Tuple(Vec<ShapeId>),
+    /// Fields with names. A field that it doesn't have is ignored.
+    Struct(Vec<(String, ShapeId)>),
+    /// Fields with names. A field that it doesn't have is a fault.
+    StrictStruct(Vec<(String, ShapeId)>),
 }

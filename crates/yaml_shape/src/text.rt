@@ -23,3 +23,24 @@ impl Text<'_> {
         }
     }
 }
+
+/// Texts are equal where their bytes are, lent or owned.
+impl PartialEq for Text<'_> {
+    ghost use Rattle.std.specs.Cmp.{on_per, partial_equiv_from_equiv};
+    ghost use Rattle.std.specs.Str.{bytes_eq};
+    ghost use Rattle.std.proofs.lemmas.Cmp.{nat_list_eq_equiv};
+
+    ghost eq = { λ a b. bytes_eq (text_bytes a) (text_bytes b) };
+
+    ghost laws = { on_per text_bytes (partial_equiv_from_equiv nat_list_eq_equiv) };
+
+    fn eq(&self, other: &Self) -> bool {
+        self.as_str() == other.as_str()
+    }
+}
+
+impl Eq for Text<'_> {
+    ghost use Rattle.std.proofs.lemmas.Cmp.{nat_list_eq_equiv, on_equiv};
+
+    ghost laws = { on_equiv text_bytes nat_list_eq_equiv };
+}

@@ -1,6 +1,6 @@
 -- What decides equality: of lists their lengths and values, of mappings their lengths and each pair of the first.
-use Rattle.std.specs.Prelude.{◌≡◌, ℕ, ◌+◌, List, [], ◌∷◌, length, refl, true, false, Bool, ◌&&◌, ◌||◌}
-use Rattle.std.specs.Prelude.{Option, Some, None, option_map}
+use Rattle.std.specs.Prelude.{◌≡◌, ◌+◌, refl, true, false, Bool, ◌&&◌, ◌||◌}
+use Rattle.std.specs.Prelude.{Option, Some, None}
 use Rattle.std.proofs.Common.{ap, arith, sym, ◌∙◌, subst}
 use Rattle.yaml_tree.specs.Equal.{tree_eq, trees_eq, pairs_eq, rest_passes}
 use Rattle.yaml_tree.specs.EqualLaws.{tree_eq-symm, tree_eq-congr}
@@ -52,7 +52,7 @@ has_all_pairs-without : (k v : Tree) (ps q q' : Pairs) → has_key k ps ≡ fals
 has_all_pairs-without k v no_pairs q q' n e = refl
 has_all_pairs-without k v (pair l w ps) q q' n e =
     let here : has_pair l w q ≡ has_pair l w q' =
-      subst (IsKept l w q) e (kept k v l w (λ m p. differs k l m (or_left _ _ n) p) q) in
+    subst (IsKept l w q) e (kept k v l w (λ m p. differs k l m (or_left _ _ n) p) q) in
     λ i. here i && has_all_pairs-without k v ps q q' (or_right (tree_eq k l) _ n) e i
 
 -- ---- mappings
@@ -72,7 +72,7 @@ pairs_eq-has_all_pairs no_pairs no_pairs d len = refl
 pairs_eq-has_all_pairs no_pairs (pair l w qs) d len = absurd (omega arith)
 pairs_eq-has_all_pairs (pair k v ps) q d len =
     pairs_eq_by k v ps q (without k v q) refl (taken k v q) (first_key k v ps d) len
-      (λ q' e. pairs_eq-has_all_pairs ps q' (other_keys k v ps d) e)
+    (λ q' e. pairs_eq-has_all_pairs ps q' (other_keys k v ps d) e)
 
 longer_by : (k v : Tree) (ps q : Pairs) (o : Option Pairs) → IsTaken k v q o → (pair_count ps + 1 ≡ pair_count q → ⊥)
     → ((q' : Pairs) → (pair_count ps ≡ pair_count q' → ⊥) → pairs_eq ps q' ≡ false)

@@ -1,5 +1,5 @@
 -- What the place of a key says of the value there, of the pairs with a new value, and of the keys.
-use Rattle.std.specs.Prelude.{◌≡◌, ℕ, zero, suc, ◌+◌, ◌<◌, List, [], ◌∷◌, ◌++◌, length, refl, true, false, Bool}
+use Rattle.std.specs.Prelude.{◌≡◌, ℕ, zero, suc, ◌<◌, List, [], ◌∷◌, ◌++◌, length, refl, true, false, Bool}
 use Rattle.std.specs.Prelude.{Option, Some, None, option_map, if◌then◌else◌, ◌||◌, ◌&&◌, not}
 use Rattle.std.proofs.Common.{ap, arith, sym, ◌∙◌, get_or, set, subst, true≢false}
 use Rattle.yaml_tree.specs.Entries.{with_value, new_entry}
@@ -7,7 +7,7 @@ use Rattle.yaml_tree.specs.Equal.{tree_eq}
 use Rattle.yaml_tree.specs.EqualLaws.{tree_eq-symm, tree_eq-congr}
 use Rattle.yaml_tree.specs.Lookup.{place_of, has_pair}
 use Rattle.yaml_tree.specs.Mapping.{has_key, keys_distinct, value_at, with_pair}
-use Rattle.yaml_tree.specs.TakeOut.{from_false, and_left, and_right}
+use Rattle.yaml_tree.specs.TakeOut.{and_left, and_right}
 use Rattle.yaml_tree.specs.Tree.{Tree, Pairs, pair, no_pairs}
 use Rattle.yaml_tree.specs.View.{tree_of, entry_pairs}
 use Rattle.yaml_tree.specs.declared.mapping.Entry.{Entry}
@@ -53,7 +53,8 @@ HoldsAt k es i =
 abbrev pub HoldsNot : Tree → List Entry → Type 0
 HoldsNot k es =
     (value_at k (entry_pairs es) ≡ None)
-    × ((c v : Value) → k ≡ tree_of c → with_pair k (tree_of v) (entry_pairs es) ≡ entry_pairs (es ++ new_entry c v ∷ []))
+    × ((c v : Value) → k ≡ tree_of c
+    → with_pair k (tree_of v) (entry_pairs es) ≡ entry_pairs (es ++ new_entry c v ∷ []))
 
 -- what a place or none says
 abbrev pub Holds : Tree → List Entry → Option ℕ → Type 0
@@ -73,13 +74,16 @@ holds_by : (b : Bool) (k : Tree) (e : Entry) (es : List Entry) (o : Option ℕ) 
     → Holds k es o → Holds k (e ∷ es) (if b then Some 0 else option_map suc o)
 holds_by true k e es o is h =
     λ d. (ap (λ b. value_by b k e es) is, λ v. ap (λ b. with_pair_by b k (tree_of v) e es) is)
-holds_by false k e es None is h =
-    (ap (λ b. value_by b k e es) is ∙ h.0,
-      λ c v p. ap (λ b. with_pair_by b k (tree_of v) e es) is
-        ∙ ap (pair (tree_of e.key) (tree_of e.value)) (h.1 c v p))
+holds_by false k e es None is h = (
+  ap (λ b. value_by b k e es) is ∙ h.0,
+  λ c v p. ap (λ b. with_pair_by b k (tree_of v) e es) is
+      ∙ ap (pair (tree_of e.key) (tree_of e.value)) (h.1 c v p),
+)
 holds_by false k e es (Some i) is h =
-    λ d. (ap (λ b. value_by b k e es) is ∙ (h d).0,
-      λ v. ap (λ b. with_pair_by b k (tree_of v) e es) is ∙ ap (pair (tree_of e.key) (tree_of e.value)) ((h d).1 v))
+    λ d. (
+      ap (λ b. value_by b k e es) is ∙ (h d).0,
+      λ v. ap (λ b. with_pair_by b k (tree_of v) e es) is ∙ ap (pair (tree_of e.key) (tree_of e.value)) ((h d).1 v),
+    )
 
 -- the place of a key says these
 pub holds_at_place : (k : Tree) (es : List Entry) → Holds k es (place_of k (entry_pairs es))
@@ -117,7 +121,7 @@ place_of-guess k (e ∷ es) zero d h lt q = ap (λ b. if b then Some 0 else opti
 place_of-guess k (e ∷ es) (suc i) d h lt q =
     let l = tree_of e.key in let w = tree_of e.value in
     place_by (tree_eq k l) k e es i d refl (first_key l w (entry_pairs es) h) (omega (arith, lt)) q
-      (place_of-guess k es i d (other_keys l w (entry_pairs es) h) (omega (arith, lt)) q)
+    (place_of-guess k es i d (other_keys l w (entry_pairs es) h) (omega (arith, lt)) q)
 
 -- ---- a pair among pairs with distinct keys
 has_key-alike : (k l : Tree) (ps : Pairs) → tree_eq k l ≡ true → has_key k ps ≡ has_key l ps
@@ -159,7 +163,7 @@ has_key-with_pair : (j k v : Tree) (ps : Pairs) → tree_eq j k ≡ false → ha
 has_key-with_pair j k v no_pairs n h = λ i. n i || false
 has_key-with_pair j k v (pair l w ps) n h =
     has_key-with_pair_by (tree_eq k l) j k v l w ps (or_left _ _ h) (or_right (tree_eq j l) _ h)
-      (has_key-with_pair j k v ps n (or_right (tree_eq j l) _ h))
+    (has_key-with_pair j k v ps n (or_right (tree_eq j l) _ h))
 
 keys_distinct-with_pair_by : (b : Bool) (k v l w : Tree) (ps : Pairs) → tree_eq k l ≡ b → has_key l ps ≡ false
     → keys_distinct ps ≡ true → keys_distinct (with_pair k v ps) ≡ true
@@ -174,4 +178,4 @@ pub keys_distinct-with_pair : (k v : Tree) (ps : Pairs) → keys_distinct ps ≡
 keys_distinct-with_pair k v no_pairs d = refl
 keys_distinct-with_pair k v (pair l w ps) d =
     keys_distinct-with_pair_by (tree_eq k l) k v l w ps refl (first_key l w ps d) (other_keys l w ps d)
-      (keys_distinct-with_pair k v ps (other_keys l w ps d))
+    (keys_distinct-with_pair k v ps (other_keys l w ps d))

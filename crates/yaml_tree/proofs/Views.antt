@@ -1,12 +1,12 @@
 -- What the views of sequences and mappings say of the values in them.
-use Rattle.std.specs.Prelude.{◌≡◌, ℕ, zero, suc, ◌+◌, ◌<◌, ◌≤◌, ◌++◌, ◌↔◌, List, [], ◌∷◌, length, refl, true, false, IsTrue}
-use Rattle.std.specs.Prelude.{Option, Some, None, nat_eq}
+use Rattle.std.specs.Prelude.{◌≡◌, ℕ, zero, suc, ◌<◌, ◌≤◌, ◌++◌, ◌↔◌, List, [], ◌∷◌, length, refl}
+use Rattle.std.specs.Prelude.{Bool, true, false, IsTrue, Some, None, nat_eq}
 use Rattle.std.proofs.Common.{ap, arith, sym, ◌∙◌, get_or}
 use Rattle.std.proofs.lemmas.Bool.Decides.{nat_tests}
 use Rattle.yaml_tree.specs.Equal.{trees_eq, pairs_eq}
 use Rattle.yaml_tree.specs.Lookup.{has_all_pairs}
 use Rattle.yaml_tree.specs.Mapping.{keys_distinct}
-use Rattle.yaml_tree.specs.Tree.{Tree, Trees, no_trees, tree, Pairs, no_pairs, pair, tree_count, pair_count}
+use Rattle.yaml_tree.specs.Tree.{Trees, no_trees, tree, Pairs, no_pairs, pair, tree_count, pair_count}
 use Rattle.yaml_tree.specs.Tree.{tree_at, with_tree}
 use Rattle.yaml_tree.specs.Valid.{ValueTrees, ValuePairs, items_of, pairs_of, value_pairs, pairs_of-value_pairs}
 use Rattle.yaml_tree.specs.View.{tree_of, trees_of, are_values-trees_of, entry_pairs, are_pairs-entry_pairs}
@@ -52,7 +52,7 @@ pub pairs_eq-lengths : (xs ys : List Entry) → (length xs ≡ length ys → ⊥
 pairs_eq-lengths xs ys n =
     pairs_eq-other_count _ _ (λ e. n (sym (pair_count-entry_pairs xs) ∙ (e ∙ pair_count-entry_pairs ys)))
 
--- lists of entries of one length, the first with distinct keys, are equal where each entry of the first is in the second
+-- lists of entries of one length, the first with distinct keys, are equal where each of the first is in the second
 pub pairs_eq-entries : (xs ys : List Entry) → keys_distinct (entry_pairs xs) ≡ true → length xs ≡ length ys
     → pairs_eq (entry_pairs xs) (entry_pairs ys) ≡ has_all_pairs (entry_pairs xs) (entry_pairs ys)
 pairs_eq-entries xs ys d n =
@@ -60,7 +60,7 @@ pairs_eq-entries xs ys d n =
 
 -- ---- the calls of a sequence
 -- a list is empty where it has no value
-pub is_empty-trees : (ts : Trees) (b : _) → b ≡ nat_eq (tree_count ts) 0 → IsTrue b ↔ (ts ≡ no_trees)
+pub is_empty-trees : (ts : Trees) (b : Bool) → b ≡ nat_eq (tree_count ts) 0 → IsTrue b ↔ (ts ≡ no_trees)
 is_empty-trees no_trees b e = (λ t. refl, λ n. e)
 is_empty-trees (tree t ts) b e = (λ h. absurd (grind (arith, nat_tests)), λ n. absurd (cc))
 
@@ -84,6 +84,6 @@ trees_of-push (w ∷ vs) v = ap (tree (tree_of w)) (trees_of-push vs v)
 
 -- ---- the calls of a mapping
 -- a mapping is empty where it has no pair
-pub is_empty-pairs : (ps : Pairs) (b : _) → b ≡ nat_eq (pair_count ps) 0 → IsTrue b ↔ (ps ≡ no_pairs)
+pub is_empty-pairs : (ps : Pairs) (b : Bool) → b ≡ nat_eq (pair_count ps) 0 → IsTrue b ↔ (ps ≡ no_pairs)
 is_empty-pairs no_pairs b e = (λ t. refl, λ n. e)
 is_empty-pairs (pair k v ps) b e = (λ h. absurd (grind (arith, nat_tests)), λ n. absurd (cc))

@@ -15,6 +15,7 @@ abbrev unbit : ℕ → Bool
 unbit zero = false
 unbit (suc n) = true
 
+-- a boolean is read back
 unbit-bit : (b : Bool) → unbit (bit b) ≡ b
 unbit-bit true = refl
 unbit-bit false = refl
@@ -40,6 +41,7 @@ read_text gnil = []
 read_text (gnum n) = []
 read_text (gcons a b) = num a ∷ read_text b
 
+-- a text is read back
 read_text-code_text : (ns : List ℕ) → read_text (code_text ns) ≡ ns
 read_text-code_text [] = refl
 read_text-code_text (n ∷ ns) = ap (λ r. n ∷ r) (read_text-code_text ns)
@@ -81,6 +83,7 @@ tail_of (gcons a b) = b
 abbrev read_integer : Gv → ℤ
 read_integer g = signed (num (head_of g)) (num (tail_of g))
 
+-- an integer is read back
 read_integer-code_integer : (z : ℤ) → read_integer (code_integer z) ≡ z
 read_integer-code_integer (pos n) = refl
 read_integer-code_integer (negsuc n) = refl
@@ -128,6 +131,7 @@ read (gcons a b) = record {
 }
 
 mutual
+  -- a tree is read back
   read-code_tree : (t : Tree) → (read (code_tree t)).as_tree ≡ t
   read-code_tree null = refl
   read-code_tree (boolean b) = ap boolean (unbit-bit b)
@@ -137,10 +141,12 @@ mutual
   read-code_tree (mapping ps) = ap mapping (read-code_pairs ps)
   read-code_tree (tagged s t) = λ i. tagged (read_text-code_text s i) (read-code_tree t i)
 
+  -- so is a list of trees
   read-code_trees : (ts : Trees) → (read (code_trees ts)).as_trees ≡ ts
   read-code_trees no_trees = refl
   read-code_trees (tree t ts) = λ i. tree (read-code_tree t i) (read-code_trees ts i)
 
+  -- so is a list of pairs
   read-code_pairs : (ps : Pairs) → (read (code_pairs ps)).as_pairs ≡ ps
   read-code_pairs no_pairs = refl
   read-code_pairs (pair k v ps) = λ i. pair (read-code_tree k i) (read-code_tree v i) (read-code_pairs ps i)

@@ -1,5 +1,7 @@
 -- Entries as the code has them, and which entries and tagged values stand for the same.
-use Rattle.std.specs.Prelude.{◌≡◌}
+use Rattle.std.specs.Prelude.{◌≡◌, ℕ, ◌<◌, List, length, false, slice_index_or}
+use Rattle.yaml_tree.specs.Equal.{tree_eq}
+use Rattle.yaml_tree.specs.Tree.{Tree}
 use Rattle.yaml_tree.specs.Valid.{TaggedTree, tag_of, content_of}
 use Rattle.yaml_tree.specs.View.{tree_of}
 use Rattle.yaml_tree.specs.declared.mapping.Entry.{Entry}
@@ -12,6 +14,10 @@ with_value e v = record { key = e.key; value = v }
 -- an entry of a key and a value
 abbrev pub new_entry : Value → Value → Entry
 new_entry k v = record { key = k; value = v }
+
+-- the entry at this place, if there is one, has another key than this
+abbrev pub IsOtherKey : Tree → List Entry → ℕ → Type 0
+IsOtherKey k es i = (d : Entry) → i < length es → tree_eq k (tree_of (slice_index_or es i d).key) ≡ false
 
 -- two entries stand for one pair
 abbrev pub SameEntry : Entry → Entry → Type 0

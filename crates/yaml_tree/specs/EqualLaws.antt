@@ -23,9 +23,9 @@ tag_equiv = record {
 -- a pair that was added to the second side is looked for in the first
 added_at : (b : Bool) (k v l w : Tree) (qs ps : Pairs)
     → rest_passes (λ z. pairs_eq qs (pair k v z)) (without l w ps)
-      ≡ rest_passes (λ z. rest_passes (λ y. pairs_eq y z) (without k v qs)) (without l w ps)
+    ≡ rest_passes (λ z. rest_passes (λ y. pairs_eq y z) (without k v qs)) (without l w ps)
     → rest_passes (pairs_eq qs) (kept_unless b k v ps (without l w ps))
-      ≡ rest_passes (λ y. pairs_eq y ps) (kept_unless b l w qs (without k v qs))
+    ≡ rest_passes (λ y. pairs_eq y ps) (kept_unless b l w qs (without k v qs))
 added_at true k v l w qs ps ih = refl
 added_at false k v l w qs ps ih =
     rest_passes-option_map (pairs_eq qs) (pair k v) (without l w ps)
@@ -33,13 +33,14 @@ added_at false k v l w qs ps ih =
     ∙ (rest_passes-swap (λ z y. pairs_eq y z) (without l w ps) (without k v qs)
     ∙ sym (rest_passes-option_map (λ y. pairs_eq y ps) (pair l w) (without k v qs))))
 
+-- a pair in front of the second side is found in the first, where its parts may change sides
 added : (k v : Tree) → ((t : Tree) → tree_eq k t ≡ tree_eq t k) → ((t : Tree) → tree_eq v t ≡ tree_eq t v)
     → (qs ps : Pairs) → pairs_eq qs (pair k v ps) ≡ rest_passes (λ y. pairs_eq y ps) (without k v qs)
 added k v sk sv no_pairs ps = refl
 added k v sk sv (pair l w qs) ps =
     ap (λ b. rest_passes (pairs_eq qs) (kept_unless b k v ps (without l w ps))) (λ i. sym (sk l) i && sym (sv w) i)
     ∙ added_at (tree_eq k l && tree_eq v w) k v l w qs ps
-      (rest_passes-alike _ _ (without l w ps) (λ z. added k v sk sv qs z))
+    (rest_passes-alike _ _ (without l w ps) (λ z. added k v sk sv qs z))
 
 mutual
   -- equality of trees is symmetric
@@ -90,7 +91,7 @@ mutual
   pairs_eq-refl no_pairs = refl
   pairs_eq-refl (pair k v ps) =
       ap (λ b. rest_passes (pairs_eq ps) (kept_unless b k v ps (without k v ps)))
-        (λ i. tree_eq-refl k i && tree_eq-refl v i)
+      (λ i. tree_eq-refl k i && tree_eq-refl v i)
       ∙ pairs_eq-refl ps
 
 -- ---- congruence
@@ -107,13 +108,14 @@ apart : (k v l w : Tree) → IsCongruent k → IsCongruent v → (tree_eq k l &&
 apart k v l w ck cv ne m u p q =
     let kl : tree_eq k l ≡ true = ck m (and_left _ _ p) l ∙ (tree_eq-symm m l ∙ and_left _ _ q) in
     let vw : tree_eq v w ≡ true =
-      cv u (and_right (tree_eq k m) _ p) w ∙ (tree_eq-symm u w ∙ and_right (tree_eq l m) _ q) in
+    cv u (and_right (tree_eq k m) _ p) w ∙ (tree_eq-symm u w ∙ and_right (tree_eq l m) _ q) in
     true≢false (sym (λ i. kl i && vw i) ∙ ne)
 
 -- with a pair equal to k and v taken out of q, q is matched as k, v and what is left are
 abbrev Matches : Tree → Tree → Pairs → Pairs → Option Pairs → Type 0
 Matches k v q r o = IfSome o (λ q'. pairs_eq q r ≡ rest_passes (pairs_eq q') (without k v r))
 
+-- the step of `matched`, where a test says whether the first pair is the one that is taken out
 matched_at : (b : Bool) (k v : Tree) → IsCongruent k → IsCongruent v → (l w : Tree) (qs q' r : Pairs)
     → (tree_eq k l && tree_eq v w) ≡ b → kept_unless b l w qs (without k v qs) ≡ Some q'
     → ((o : Option Pairs) → without k v qs ≡ o → (z : Pairs) → Matches k v qs z o)
@@ -122,8 +124,8 @@ matched_at : (b : Bool) (k v : Tree) → IsCongruent k → IsCongruent v → (l 
 matched_at true k v ck cv l w qs q' r t e ih o is =
     let same : qs ≡ q' = some_same e in
     ap (rest_passes (pairs_eq qs))
-      (take_out-alike (tree_eq l) (tree_eq w) (tree_eq k) (tree_eq v) r
-        (λ m. sym (ck l (and_left _ _ t) m)) (λ m. sym (cv w (and_right (tree_eq k l) _ t) m)))
+    (take_out-alike (tree_eq l) (tree_eq w) (tree_eq k) (tree_eq v) r
+    (λ m. sym (ck l (and_left _ _ t) m)) (λ m. sym (cv w (and_right (tree_eq k l) _ t) m)))
     ∙ ap (λ y. rest_passes (pairs_eq y) (without k v r)) same
 matched_at false k v ck cv l w qs q' r t e ih None is =
     absurd (let n : None ≡ Some q' = ap (option_map (pair l w)) (sym is) ∙ e in cc)
@@ -133,6 +135,7 @@ matched_at false k v ck cv l w qs q' r t e ih (Some y) is =
     ∙ (after_both-swap (tree_eq k) (tree_eq v) (tree_eq l) (tree_eq w) (apart k v l w ck cv t) (pairs_eq y) r
     ∙ ap (λ x. rest_passes (pairs_eq x) (without k v r)) same)
 
+-- with a pair equal to k and v taken out of a list, the list is matched so
 matched : (k v : Tree) → IsCongruent k → IsCongruent v → (q : Pairs) (o : Option Pairs) → without k v q ≡ o
     → (r : Pairs) → Matches k v q r o
 matched k v ck cv q None e r = tt
@@ -140,6 +143,7 @@ matched k v ck cv no_pairs (Some q') e r = absurd (let n : None ≡ Some q' = e 
 matched k v ck cv (pair l w qs) (Some q') e r =
     matched_at (tree_eq k l && tree_eq v w) k v ck cv l w qs q' r refl e (matched k v ck cv qs) (without k v qs) refl
 
+-- the step of congruence for a list with k and v in front
 congruent_at : (k v : Tree) (ps q r : Pairs) (o : Option Pairs) → without k v q ≡ o → rest_passes (pairs_eq ps) o ≡ true
     → ((b : Pairs) → pairs_eq ps b ≡ true → (c : Pairs) → pairs_eq ps c ≡ pairs_eq b c) → Matches k v q r o
     → rest_passes (pairs_eq ps) (without k v r) ≡ pairs_eq q r
@@ -180,7 +184,7 @@ mutual
   pairs_eq-congr no_pairs (pair l w qs) e c = from_false e
   pairs_eq-congr (pair k v ps) q e c =
       congruent_at k v ps q c (without k v q) refl e (λ b f d. pairs_eq-congr ps b f d)
-        (matched k v (λ b f d. tree_eq-congr k b f d) (λ b f d. tree_eq-congr v b f d) q (without k v q) refl c)
+      (matched k v (λ b f d. tree_eq-congr k b f d) (λ b f d. tree_eq-congr v b f d) q (without k v q) refl c)
 
 -- ---- the equivalences
 -- equality of trees is an equivalence

@@ -1,5 +1,5 @@
 -- The integers that a number can be, and the one that it is.
-use Rattle.std.specs.Prelude.{ℕ, ◌^◌, ℤ, pos, negsuc, Bool, true, false, Option, Some, None, nat_lt, if◌then◌else◌}
+use Rattle.std.specs.Prelude.{ℕ, ◌^◌, ℤ, pos, negsuc, Bool, false, Option, Some, None, nat_lt, if◌then◌else◌}
 use Rattle.yaml_tree.specs.declared.number.Integer.{Integer}
 use Rattle.yaml_tree.specs.declared.number.Integer.TheVariants.{Unsigned, Negative}
 

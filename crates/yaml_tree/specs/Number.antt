@@ -10,6 +10,7 @@ use Rattle.yaml_tree.specs.declared.number.Number.{Number}
 abbrev pub number_of : Number → ℤ
 number_of x = integer_of x.integer
 
+-- the integer of a form is in range
 is_number-canonical : (form : Integer) → is_canonical form ≡ true → is_number (integer_of form) ≡ true
 is_number-canonical (Unsigned n) e = e
 is_number-canonical (Negative (pos n)) e = absurd (true≢false (sym e))

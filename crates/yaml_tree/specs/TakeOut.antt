@@ -37,6 +37,7 @@ pub rest_passes-option_map : (f : Pairs → Bool) (c : Pairs → Pairs) (o : Opt
 rest_passes-option_map f c None = refl
 rest_passes-option_map f c (Some ps) = refl
 
+-- nothing passes a test that always fails
 rest_passes-false : (o : Option Pairs) → rest_passes (λ ps. false) o ≡ false
 rest_passes-false None = refl
 rest_passes-false (Some ps) = refl
@@ -74,20 +75,23 @@ abbrev after_front : (c : Bool) (f g f' g' : Tree → Bool) → (Pairs → Bool)
 after_front c f g f' g' h m u rs =
     rest_passes (λ z. rest_passes h (take_out f g z)) (kept_unless c m u rs (take_out f' g' rs))
 
+-- where the first two tests take out the pair in front, it matters not when the others are made
 after_front-taken : (f g f' g' : Tree → Bool) (h : Pairs → Bool) (m u : Tree) (rs : Pairs) → (f m && g u) ≡ true
     → after_front false f g f' g' h m u rs ≡ after_front true f' g' f g h m u rs
 after_front-taken f g f' g' h m u rs p =
     rest_passes-option_map (λ z. rest_passes h (take_out f g z)) (pair m u) (take_out f' g' rs)
     ∙ rest_passes-alike _ _ (take_out f' g' rs) (λ z. ap (λ b. rest_passes h (kept_unless b m u z (take_out f g z))) p)
 
+-- where they do not, the pair in front stays in front
 after_front-kept : (f g f' g' : Tree → Bool) (h : Pairs → Bool) (m u : Tree) (rs : Pairs) → (f m && g u) ≡ false
     → after_front false f g f' g' h m u rs ≡ after_both f g f' g' (λ y. h (pair m u y)) rs
 after_front-kept f g f' g' h m u rs p =
     rest_passes-option_map (λ z. rest_passes h (take_out f g z)) (pair m u) (take_out f' g' rs)
     ∙ rest_passes-alike _ _ (take_out f' g' rs)
-      (λ z. ap (λ b. rest_passes h (kept_unless b m u z (take_out f g z))) p
-        ∙ rest_passes-option_map h (pair m u) (take_out f g z))
+    (λ z. ap (λ b. rest_passes h (kept_unless b m u z (take_out f g z))) p
+    ∙ rest_passes-option_map h (pair m u) (take_out f g z))
 
+-- the step of `after_both-swap`, where tests say which of the two takes out the pair in front
 after_both-swap_at : (b c : Bool) (f g f' g' : Tree → Bool) (h : Pairs → Bool) (m u : Tree) (rs : Pairs)
     → (b ≡ true → c ≡ true → ⊥) → (f m && g u) ≡ b → (f' m && g' u) ≡ c
     → after_both f g f' g' (λ y. h (pair m u y)) rs ≡ after_both f' g' f g (λ y. h (pair m u y)) rs
@@ -104,4 +108,4 @@ pub after_both-swap : (f g f' g' : Tree → Bool) → Apart f g f' g' → (h : P
 after_both-swap f g f' g' d h no_pairs = refl
 after_both-swap f g f' g' d h (pair m u rs) =
     after_both-swap_at (f m && g u) (f' m && g' u) f g f' g' h m u rs (d m u) refl refl
-      (after_both-swap f g f' g' d (λ y. h (pair m u y)) rs)
+    (after_both-swap f g f' g' d (λ y. h (pair m u y)) rs)

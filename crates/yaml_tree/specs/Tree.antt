@@ -43,6 +43,11 @@ abbrev pub with_tree : Trees → Tree → Trees
 with_tree no_trees u = tree u no_trees
 with_tree (tree t ts) u = tree t (with_tree ts u)
 
+-- a list with one more pair at its end
+abbrev pub with_last : Pairs → Tree → Tree → Pairs
+with_last no_pairs l w = pair l w no_pairs
+with_last (pair k v ps) l w = pair k v (with_last ps l w)
+
 -- the pairs of a mapping, one after another
 abbrev pub pair_list : Pairs → List (Tree × Tree)
 pair_list no_pairs = []

@@ -66,6 +66,10 @@ tag_of t = t.0.0
 abbrev pub content_of : TaggedTree → Tree
 content_of t = t.1.0
 
+-- a tagged value as a tree
+abbrev pub tree_of_tagged : TaggedTree → Tree
+tree_of_tagged t = tagged (tag_of t) (content_of t)
+
 -- a tree is told from others by itself
 abbrev pub value_tree_code : Coded ValueTree
 value_tree_code = coded_sub tree_code (λ t. is_value t ≡ true) (λ t. Coded-set coded_bool (is_value t) true)
@@ -78,7 +82,7 @@ value_trees_code = coded_sub trees_code (λ ts. are_values ts ≡ true) (λ ts. 
 abbrev pub value_pairs_code : Coded ValuePairs
 value_pairs_code =
     coded_sub pairs_code (λ ps. (keys_distinct ps && are_pairs ps) ≡ true)
-      (λ ps. Coded-set coded_bool (keys_distinct ps && are_pairs ps) true)
+    (λ ps. Coded-set coded_bool (keys_distinct ps && are_pairs ps) true)
 
 -- so is the text of a tag
 abbrev pub tag_text_code : Coded TagText
@@ -98,11 +102,13 @@ pairs_by false ps d h = (no_pairs, refl)
 abbrev pub value_pairs : (ps : Pairs) → are_pairs ps ≡ true → ValuePairs
 value_pairs ps h = pairs_by (keys_distinct ps) ps refl h
 
+-- the pairs of a mapping, where the test of their keys has passed
 pairs_of-pairs_by : (distinct : Bool) (ps : Pairs) (d : keys_distinct ps ≡ distinct) (h : are_pairs ps ≡ true)
     → distinct ≡ true → pairs_of (pairs_by distinct ps d h) ≡ ps
 pairs_of-pairs_by true ps d h e = refl
 pairs_of-pairs_by false ps d h e = absurd (cc)
 
 -- the pairs of a mapping made of pairs with distinct keys are these
-pub pairs_of-value_pairs : (ps : Pairs) (h : are_pairs ps ≡ true) → keys_distinct ps ≡ true → pairs_of (value_pairs ps h) ≡ ps
+pub pairs_of-value_pairs : (ps : Pairs) (h : are_pairs ps ≡ true) → keys_distinct ps ≡ true
+    → pairs_of (value_pairs ps h) ≡ ps
 pairs_of-value_pairs ps h d = pairs_of-pairs_by (keys_distinct ps) ps refl h d

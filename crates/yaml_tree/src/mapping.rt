@@ -1,6 +1,7 @@
 //! Mappings of values to values.
 ghost use Rattle.std.specs.Prelude.{◌≡◌, ◌<◌, ◌++◌, ◌∷◌, [], None, length};
-ghost use Rattle.std.specs.Prelude.{option_map, slice_index_or, slice_set, IfErr, IfOk, OnErr, OnOk};
+ghost use Rattle.std.specs.Prelude.{option_map, slice_index_or, slice_set};
+ghost use Rattle.std.specs.Prelude.{IfErr, IfOk, OnErr, OnOk};
 ghost use Rattle.yaml_tree.specs.Entries.{new_entry, with_value};
 ghost use Rattle.yaml_tree.specs.Mapping.{value_at, with_pair};
 ghost use Rattle.yaml_tree.specs.View.{entry_pairs, tree_of};
@@ -31,7 +32,8 @@ impl Model for Mapping {
     ghost use Rattle.std.specs.Prelude.{◌≡◌, true};
     ghost use Rattle.yaml_tree.specs.Mapping.{keys_distinct};
     ghost use Rattle.yaml_tree.specs.Tree.{pairs_size};
-    ghost use Rattle.yaml_tree.specs.Valid.{ValuePairs, pairs_of, value_pairs, value_pairs_code, pairs_of-value_pairs};
+    ghost use Rattle.yaml_tree.specs.Valid.{ValuePairs, pairs_of, value_pairs, value_pairs_code};
+    ghost use Rattle.yaml_tree.specs.Valid.{pairs_of-value_pairs};
 
     ghost Value = { ValuePairs };
 
@@ -39,7 +41,9 @@ impl Model for Mapping {
 
     ghost use Rattle.yaml_tree.specs.View.{entry_pairs, are_pairs-entry_pairs};
 
-    ghost view = { λ m. value_pairs (entry_pairs m.entries.items) (are_pairs-entry_pairs m.entries.items) };
+    ghost view = { λ m.
+        let es = m.entries.items in
+        value_pairs (entry_pairs es) (are_pairs-entry_pairs es) };
 
     ghost invariant = { λ m. keys_distinct (entry_pairs m.entries.items) ≡ true };
 
@@ -51,11 +55,12 @@ impl Model for Mapping {
     ghost size_decreases = { λ m h.
         let es = m.entries.items in
         rw (pairs_of-value_pairs (entry_pairs es) (are_pairs-entry_pairs es) h)
-          (omega (arith, most-Entry_le es)) };
+        (omega (arith, most-Entry_le es)) };
 }
 
 impl Mapping {
-    ghost use Rattle.std.specs.Prelude.{◌≡◌, ◌↔◌, None, option_map, IfErr, IfOk, IsTrue, OnErr, OnOk};
+    ghost use Rattle.std.specs.Prelude.{◌≡◌, ◌↔◌, None, option_map};
+    ghost use Rattle.std.specs.Prelude.{IfErr, IfOk, IsTrue, OnErr, OnOk};
     ghost use Rattle.yaml_tree.specs.Mapping.{value_at, with_pair};
     ghost use Rattle.yaml_tree.specs.Tree.{no_pairs, pair_count, pair_list};
     ghost use Rattle.yaml_tree.specs.Valid.{pairs_of};
@@ -86,7 +91,8 @@ impl Mapping {
 
     /// The value at a key.
     pub fn get(&self, key: &Value) -> Option<&Value>
-        ensures { option_map (λ v. tree_of v.now) result ≡ value_at (tree_of key.now) (pairs_of self.now) }
+        ensures { option_map (λ v. tree_of v.now) result
+            ≡ value_at (tree_of key.now) (pairs_of self.now) }
     {
         let entries = self.entries.as_slice();
         match find(key, entries) {
@@ -95,13 +101,17 @@ impl Mapping {
         }
     }
 
-    /// Puts a value at a key, and answers the one that was there. A new key goes last; a key that is there keeps its
-    /// place, and this takes no memory. On refusal the key and the value are dropped.
+    /// Puts a value at a key, and answers the one that was there. A new key goes last. A key that
+    /// is there keeps its place, and then no memory is taken. On refusal the key and the value are
+    /// dropped.
     pub fn insert(&mut self, key: Value, value: Value) -> Result<Option<Value>, TreeFault>
-        ensures ok { OnOk result (pairs_of self.new ≡ with_pair (tree_of key) (tree_of value) (pairs_of self.old)) }
-        ensures replaced { IfOk result (λ o. option_map tree_of o ≡ value_at (tree_of key) (pairs_of self.old)) }
+        ensures ok { let old = pairs_of self.old in
+            OnOk result (pairs_of self.new ≡ with_pair (tree_of key) (tree_of value) old) }
+        ensures replaced { let found = value_at (tree_of key) (pairs_of self.old) in
+            IfOk result (λ replaced. option_map tree_of replaced ≡ found) }
 
         ensures memory { IfErr result (λ e. e ≡ TreeFault.Memory) }
+        // A key that is there is never refused.
         ensures only_new { OnErr result (value_at (tree_of key) (pairs_of self.old) ≡ None) }
         ensures err { OnErr result (self.new ≡ self.old) }
     {
@@ -119,10 +129,13 @@ impl Mapping {
 }
 
 fn put(entries: &mut Vec<Entry>, key: Value, value: Value) -> Result<Option<Value>, TreeFault>
-    ensures ok { OnOk result (entry_pairs entries.new.items ≡ with_pair (tree_of key) (tree_of value) (entry_pairs entries.old.items)) }
-    ensures replaced { IfOk result (λ o. option_map tree_of o ≡ value_at (tree_of key) (entry_pairs entries.old.items)) }
+    ensures ok { let old = entry_pairs entries.old.items in
+        OnOk result (entry_pairs entries.new.items ≡ with_pair (tree_of key) (tree_of value) old) }
+    ensures replaced { let found = value_at (tree_of key) (entry_pairs entries.old.items) in
+        IfOk result (λ replaced. option_map tree_of replaced ≡ found) }
     ensures memory { IfErr result (λ e. e ≡ TreeFault.Memory) }
-    ensures only_new { OnErr result (value_at (tree_of key) (entry_pairs entries.old.items) ≡ None) }
+    ensures only_new { let found = value_at (tree_of key) (entry_pairs entries.old.items) in
+        OnErr result (found ≡ None) }
     ensures err { OnErr result (entries.new.items ≡ entries.old.items) }
 {
     match find(&key, entries.as_slice()) {
@@ -139,10 +152,8 @@ fn put(entries: &mut Vec<Entry>, key: Value, value: Value) -> Result<Option<Valu
 
 fn replace_value(entries: &mut Vec<Entry>, i: usize, value: Value) -> Value
     requires { i < length entries.old.items }
-    ensures after {
-        (d : _) → entries.new.items
-          ≡ slice_set entries.old.items i (with_value (slice_index_or entries.old.items i d) value)
-    }
+    ensures after { (d : _) → entries.new.items
+        ≡ slice_set entries.old.items i (with_value (slice_index_or entries.old.items i d) value) }
     ensures answer { (d : _) → result ≡ (slice_index_or entries.old.items i d).value }
 {
     let entry = &mut entries[i];

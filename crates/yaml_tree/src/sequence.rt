@@ -102,7 +102,8 @@ impl Sequence {
 
     /// Adds a value at the end. On refusal it is dropped.
     pub fn push(&mut self, value: Value) -> Result<(), TreeFault>
-        ensures ok { OnOk result (items_of self.new ≡ with_tree (items_of self.old) (tree_of value)) }
+        ensures ok { let old = items_of self.old in
+            OnOk result (items_of self.new ≡ with_tree old (tree_of value)) }
         ensures memory { IfErr result (λ e. e ≡ TreeFault.Memory) }
         ensures err { OnErr result (self.new ≡ self.old) }
     {

@@ -49,13 +49,13 @@ impl Tag {
 
 impl PartialEq for Tag {
     ghost use Rattle.std.specs.Cmp.{on_per, partial_equiv_from_equiv};
-    ghost use Rattle.std.specs.Cmp.Lexicographic.{nat_list_eq_equiv};
-    ghost use Rattle.yaml_tree.specs.Tag.{tag_eq, tag_name};
+    ghost use Rattle.yaml_tree.specs.EqualLaws.{tag_equiv};
+    ghost use Rattle.yaml_tree.specs.Tag.{tag_eq};
     ghost use Rattle.yaml_tree.specs.TagView.{tag_text};
 
     ghost eq = { λ a b. tag_eq (tag_text a) (tag_text b) };
 
-    ghost laws = { on_per (λ t. tag_name (tag_text t)) (partial_equiv_from_equiv nat_list_eq_equiv) };
+    ghost laws = { on_per tag_text (partial_equiv_from_equiv tag_equiv) };
 
     fn eq(&self, other: &Tag) -> bool {
         name(self.text.as_bytes()) == name(other.text.as_bytes())
@@ -64,11 +64,10 @@ impl PartialEq for Tag {
 
 impl Eq for Tag {
     ghost use Rattle.std.specs.Cmp.{on_equiv};
-    ghost use Rattle.std.specs.Cmp.Lexicographic.{nat_list_eq_equiv};
-    ghost use Rattle.yaml_tree.specs.Tag.{tag_name};
+    ghost use Rattle.yaml_tree.specs.EqualLaws.{tag_equiv};
     ghost use Rattle.yaml_tree.specs.TagView.{tag_text};
 
-    ghost laws = { on_equiv (λ t. tag_name (tag_text t)) nat_list_eq_equiv };
+    ghost laws = { on_equiv tag_text tag_equiv };
 }
 
 // The text without one leading `!` that has something behind it.

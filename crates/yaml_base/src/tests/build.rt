@@ -10,11 +10,29 @@ pub(crate) struct Row {
     pub text: &'static str,
 }
 
-// The row of a fault with this cause.
-pub(crate) fn row_of(cause: Cause, text: &'static str) -> Row {
-    Row {
-        fault: Error::new(cause),
-        text,
+// Rows of a table.
+#[derive(Drop)]
+pub(crate) struct Table {
+    pub rows: Vec<Row>,
+}
+
+impl Table {
+    // A table without rows.
+    pub fn new(alloc: Global) -> Table {
+        Table {
+            rows: Vec::new(alloc),
+        }
+    }
+
+    // Adds the row of a fault with this cause, unless memory ran out in making it.
+    pub fn add(
+        &mut self,
+        cause: Result<Cause, AllocError>,
+        text: &'static str,
+    ) -> Result<(), AllocError> {
+        let fault = Error::new(cause?);
+        self.rows.push(Row { fault, text })?;
+        Ok(())
     }
 }
 
@@ -49,13 +67,20 @@ pub(crate) fn fault(
     kind: FaultKind,
     offset: u64,
     mark: Mark,
-    context: Option<&str>,
     context_mark: Mark,
 ) -> Result<ParserFault, AllocError> {
     let problem = String::from_str(alloc, "did not find expected ',' or ']'")?;
-    let context = match context {
-        Some(context) => Some(String::from_str(alloc, context)?),
-        None => None,
-    };
-    Ok(ParserFault::new(kind, problem, offset, mark, context, context_mark))
+    let context = String::from_str(alloc, "while parsing a flow sequence")?;
+    Ok(ParserFault::new(kind, problem, offset, mark, Some(context), context_mark))
+}
+
+// A parser's fault without a context.
+pub(crate) fn bare_fault(
+    alloc: Global,
+    kind: FaultKind,
+    offset: u64,
+    mark: Mark,
+) -> Result<ParserFault, AllocError> {
+    let problem = String::from_str(alloc, "did not find expected ',' or ']'")?;
+    Ok(ParserFault::new(kind, problem, offset, mark, None, mark))
 }

@@ -1,157 +1,133 @@
-//! What faults, marks, names and scalars show in debug.
+//! What faults and scalars show in debug.
 
-use crate::tests::build::{Row, fault, list, mark, place, row_of, words};
-use crate::{Anchor, Cause, FaultKind, Found, Scalar, ScalarStyle, Tag};
+use crate::tests::build::{Table, bare_fault, fault, mark, place};
+use crate::tests::causes::{invalid_text, missing_field, of_parser, unknown_variant};
+use crate::{Anchor, Cause, FaultKind, Scalar, ScalarStyle, Tag};
 use std::alloc::{AllocError, Global};
 use std::test::Fail;
 
-fn quoted_text(alloc: Global) -> Result<Row, AllocError> {
-    let quoted = Cause::InvalidType {
-        found: Found::Str(words(alloc, "fase")?),
-        expected: words(alloc, "a boolean")?,
-        place: place(alloc, mark(2, 7), "b[0].d")?,
-    };
-    let text =
+fn add_faults_of_reading(alloc: Global, table: &mut Table) -> Result<(), AllocError> {
+    let inner =
         "Error(\"b[0].d: invalid type: string \\\"fase\\\", expected a boolean\", line: 3, column: 8)";
-    Ok(row_of(quoted, text))
+    let start = "Error(\"missing field `w`\", line: 1, column: 1)";
+    let nowhere = "Error(\"unknown variant `X`, expected `A`\")";
+    let anchor = "Error(\"unknown anchor\", line: 1, column: 5)";
+    table.add(Ok(Cause::UnknownAnchor(mark(0, 4))), anchor)?;
+    table.add(
+        Ok(Cause::EndOfStream),
+        "Error(\"EOF while parsing a value\")",
+    )?;
+    table.add(unknown_variant(alloc, "X", &["A"]), nowhere)?;
+    let element = place(alloc, mark(2, 7), "b[0].d")?;
+    table.add(invalid_text(alloc, "fase", "a boolean", element), inner)?;
+    let root = place(alloc, mark(0, 0), ".")?;
+    table.add(missing_field(alloc, "w", root), start)
 }
 
-fn place_at_start(alloc: Global) -> Result<Row, AllocError> {
-    let missing = Cause::MissingField {
-        name: words(alloc, "w")?,
-        place: place(alloc, mark(0, 0), ".")?,
-    };
-    Ok(row_of(missing, "Error(\"missing field `w`\", line: 1, column: 1)"))
+fn add_faults_of_parsing(alloc: Global, table: &mut Table) -> Result<(), AllocError> {
+    let (start, line) = (mark(0, 0), mark(1, 0));
+    let placed =
+        "Error { kind: PARSER, problem: \"did not find expected ',' or ']'\", problem_mark: Mark { line: 2, column: 1 }, context: \"while parsing a flow sequence\" }";
+    let unplaced =
+        "Error { kind: READER, problem: \"did not find expected ',' or ']'\", problem_offset: 10 }";
+    let bare = "Error { problem: \"did not find expected ',' or ']'\" }";
+    let beside =
+        "Error { kind: SCANNER, problem: \"did not find expected ',' or ']'\", problem_mark: Mark { line: 2, column: 1 }, context: \"while parsing a flow sequence\", context_mark: Mark { line: 2, column: 1 } }";
+    table.add(
+        of_parser(fault(alloc, FaultKind::Parser, 10, line, start)),
+        placed,
+    )?;
+    table.add(
+        of_parser(bare_fault(alloc, FaultKind::Reader, 10, start)),
+        unplaced,
+    )?;
+    table.add(
+        of_parser(bare_fault(alloc, FaultKind::Other, 0, start)),
+        bare,
+    )?;
+    table.add(
+        of_parser(fault(alloc, FaultKind::Scanner, 10, line, line)),
+        beside,
+    )
 }
 
-fn no_place(alloc: Global) -> Result<Row, AllocError> {
-    let unknown = Cause::UnknownVariant {
-        variant: words(alloc, "X")?,
-        known: list(alloc, &["A"])?,
-        place: None,
-    };
-    Ok(row_of(unknown, "Error(\"unknown variant `X`, expected `A`\")"))
-}
-
-fn faults_of_reading(alloc: Global) -> Result<Vec<Row>, AllocError> {
-    let rows = vec![in alloc;
-        row_of(
-            Cause::UnknownAnchor(mark(0, 4)),
-            "Error(\"unknown anchor\", line: 1, column: 5)"
-        ),
-        row_of(Cause::EndOfStream, "Error(\"EOF while parsing a value\")"),
-        quoted_text(alloc)?,
-        place_at_start(alloc)?,
-        no_place(alloc)?,
-    ]?;
-    Ok(rows)
-}
-
-fn faults_of_parsing(alloc: Global) -> Result<Vec<Row>, AllocError> {
-    let (start, end) = (mark(0, 0), mark(1, 0));
-    let context = Some("while parsing a flow sequence");
-    let placed = fault(alloc, FaultKind::Parser, 10, end, context, start)?;
-    let unplaced = fault(alloc, FaultKind::Reader, 10, start, None, end)?;
-    let bare = fault(alloc, FaultKind::Other, 0, start, None, start)?;
-    let beside = fault(alloc, FaultKind::Scanner, 10, end, context, end)?;
-    let rows = vec![in alloc;
-        row_of(
-            Cause::Parser(placed),
-            "Error { kind: PARSER, problem: \"did not find expected ',' or ']'\", problem_mark: Mark { line: 2, column: 1 }, context: \"while parsing a flow sequence\" }"
-        ),
-        row_of(
-            Cause::Parser(unplaced),
-            "Error { kind: READER, problem: \"did not find expected ',' or ']'\", problem_offset: 10 }"
-        ),
-        row_of(
-            Cause::Parser(bare),
-            "Error { problem: \"did not find expected ',' or ']'\" }"
-        ),
-        row_of(
-            Cause::Parser(beside),
-            "Error { kind: SCANNER, problem: \"did not find expected ',' or ']'\", problem_mark: Mark { line: 2, column: 1 }, context: \"while parsing a flow sequence\", context_mark: Mark { line: 2, column: 1 } }"
-        ),
-    ]?;
-    Ok(rows)
-}
-
-#[test]
-fn kinds_are_shown_in_capitals(rt: HostRuntime) -> Result<(), Fail> {
-    let alloc = rt.alloc();
+fn add_kinds(alloc: Global, table: &mut Table) -> Result<(), AllocError> {
     let start = mark(0, 0);
-    let kinds = [
-        (FaultKind::Memory, "MEMORY"),
-        (FaultKind::Composer, "COMPOSER"),
-        (FaultKind::Writer, "WRITER"),
-        (FaultKind::Emitter, "EMITTER"),
-    ];
-    for (kind, name) in kinds {
-        let fault = fault(alloc, kind, 0, start, None, start)?;
-        let text = format!(in alloc; "{fault:?}")?;
-        let expected = format!(in alloc;
-            "Error {{ kind: {name}, problem: \"did not find expected ',' or ']'\" }}"
-        )?;
-        assert_eq!(rt; text.as_str(), expected.as_str());
-    }
-    Ok(())
+    let memory = "Error { kind: MEMORY, problem: \"did not find expected ',' or ']'\" }";
+    let composer = "Error { kind: COMPOSER, problem: \"did not find expected ',' or ']'\" }";
+    let writer = "Error { kind: WRITER, problem: \"did not find expected ',' or ']'\" }";
+    let emitter = "Error { kind: EMITTER, problem: \"did not find expected ',' or ']'\" }";
+    table.add(
+        of_parser(bare_fault(alloc, FaultKind::Memory, 0, start)),
+        memory,
+    )?;
+    table.add(
+        of_parser(bare_fault(alloc, FaultKind::Composer, 0, start)),
+        composer,
+    )?;
+    table.add(
+        of_parser(bare_fault(alloc, FaultKind::Writer, 0, start)),
+        writer,
+    )?;
+    table.add(
+        of_parser(bare_fault(alloc, FaultKind::Emitter, 0, start)),
+        emitter,
+    )
 }
 
 #[test]
 fn faults_show_their_message_and_place(rt: HostRuntime) -> Result<(), Fail> {
     let alloc = rt.alloc();
-    let tables = vec![in alloc; faults_of_reading(alloc)?, faults_of_parsing(alloc)?]?;
-    for table in &tables {
-        for row in table {
-            let fault = &row.fault;
-            let text = format!(in alloc; "{fault:?}")?;
-            assert_eq!(rt; text.as_str(), row.text);
-        }
+    let mut table = Table::new(alloc);
+    add_faults_of_reading(alloc, &mut table)?;
+    add_faults_of_parsing(alloc, &mut table)?;
+    add_kinds(alloc, &mut table)?;
+    for row in &table.rows {
+        let fault = &row.fault;
+        let text = format!(in alloc; "{fault:?}")?;
+        assert_eq!(rt; text.as_str(), row.text);
     }
     Ok(())
 }
 
-// A scalar of the text `x"`.
-fn scalar<'de>(
+// What a scalar of the text `x"` shows, with these bytes as its anchor and its tag.
+fn shown(
     alloc: Global,
-    anchor: Option<Anchor>,
-    tag: Option<Tag>,
+    names: Option<&[u8]>,
     style: ScalarStyle,
-    repr: Option<&'de [u8]>,
-) -> Result<Scalar<'de>, AllocError> {
+    repr: Option<&[u8]>,
+) -> Result<String, AllocError> {
     let value = Vec::from_slice(alloc, b"x\"".as_slice())?;
-    Ok(Scalar {
+    let (anchor, tag) = match names {
+        Some(bytes) => {
+            let anchor = Anchor::new(Vec::from_slice(alloc, bytes)?);
+            (Some(anchor), Some(Tag::new(Vec::from_slice(alloc, bytes)?)))
+        }
+        None => (None, None),
+    };
+    let scalar = Scalar {
         anchor,
         tag,
         value,
         style,
         repr,
-    })
+    };
+    format!(in alloc; "{scalar:?}")
 }
 
 #[test]
 fn scalars_show_all_but_their_source(rt: HostRuntime) -> Result<(), Fail> {
     let alloc = rt.alloc();
-    let anchor = Anchor::new(Vec::from_slice(alloc, b"a".as_slice())?);
-    let tag = Tag::new(Vec::from_slice(alloc, b"!\xff".as_slice())?);
     let source = b"'x\"'";
-    let scalar = scalar(
+    let named = shown(
         alloc,
-        Some(anchor),
-        Some(tag),
+        Some(b"!\xff"),
         ScalarStyle::SingleQuoted,
-        Some(source.as_slice()),
+        Some(source),
     )?;
-    let text = format!(in alloc; "{scalar:?}")?;
-    assert_eq!(rt;
-        text.as_str(),
-        "Scalar { anchor: Some(\"a\"), tag: Some(\"!\\xff\"), value: \"x\\\"\", style: SingleQuoted }"
-    );
-    Ok(())
-}
-
-#[test]
-fn scalars_without_names_show_none(rt: HostRuntime) -> Result<(), Fail> {
-    let alloc = rt.alloc();
+    let expected =
+        "Scalar { anchor: Some(\"!\\xff\"), tag: Some(\"!\\xff\"), value: \"x\\\"\", style: SingleQuoted }";
+    assert_eq!(rt; named.as_str(), expected);
     let styles = [
         (
             ScalarStyle::Plain,
@@ -171,8 +147,7 @@ fn scalars_without_names_show_none(rt: HostRuntime) -> Result<(), Fail> {
         ),
     ];
     for (style, expected) in styles {
-        let scalar = scalar(alloc, None, None, style, None)?;
-        let text = format!(in alloc; "{scalar:?}")?;
+        let text = shown(alloc, None, style, None)?;
         assert_eq!(rt; text.as_str(), expected);
     }
     Ok(())

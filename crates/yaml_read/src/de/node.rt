@@ -8,7 +8,7 @@ ghost use Rattle.yaml_read.specs.DocEventView.{marked_events_of};
 ghost use Rattle.yaml_read.specs.Reader.{items_at, entries_at, sequence_at, mapping_at, node_at};
 ghost use Rattle.yaml_read.specs.Walks.{spot_of, Moves, Costs};
 
-use crate::de::scalar::{no_meaning, read_scalar, read_void};
+use crate::de::scalar::{is_read, no_meaning, not_built, read_scalar, read_void};
 use crate::doc_event::DocEvent;
 use crate::walk::{Walk, event_here};
 use std::alloc::Global;
@@ -34,6 +34,9 @@ pub(super) fn read_node<'de>(
     let Some(shape) = schema.shape(id) else {
         return no_meaning(alloc);
     };
+    if !is_read(shape) {
+        return not_built(alloc);
+    }
     let Some((event, mark)) = event_here(events, walk.place) else {
         return Err(Error::new(Cause::EndOfStream));
     };

@@ -8,8 +8,8 @@ ghost use Rattle.yaml_shape.specs.ShapeView.{shape_of};
 ghost use Rattle.yaml_shape.specs.DataView.{data_of};
 ghost use Rattle.yaml_shape.specs.PlainData.{bool_data, signed_data};
 ghost use Rattle.yaml_shape.specs.PlainShape.{bool_shape, integer_shape, i64, str_shape};
-ghost use Rattle.yaml_read.specs.Scalars.{is_plain, is_empty_plain, text_of, scalar_data, void_data};
-ghost use Rattle.yaml_read.specs.Reader.{no_meaning, or_no_meaning};
+ghost use Rattle.yaml_read.specs.Scalars.{is_read, is_plain, is_empty_plain, text_of, scalar_data, void_data};
+ghost use Rattle.yaml_read.specs.Reader.{no_meaning, not_built, or_no_meaning};
 
 use std::alloc::Global;
 use yaml_base::{
@@ -23,6 +23,24 @@ pub(super) fn no_meaning<'de>(alloc: Global) -> Result<Data<'de>>
     ensures { Gives data_of result (Err no_meaning) }
 {
     Err(Error::custom(String::from_str(alloc, "not a value of its shape")?))
+}
+
+/// The fault of a shape that is not read yet, or want of memory.
+#[tactic(auto, unfolding(crate::specs::Reader::not_built))]
+pub(super) fn not_built<'de>(alloc: Global) -> Result<Data<'de>>
+    ensures { Gives data_of result (Err not_built) }
+{
+    Err(Error::custom(String::from_str(alloc, "not built yet")?))
+}
+
+/// Whether the shape is one that is read so far.
+pub(super) fn is_read(shape: &Shape) -> bool
+    ensures { result ≡ is_read (shape_of shape.now) }
+{
+    match shape {
+        Shape::Bool | Shape::I64 | Shape::Str | Shape::Seq(_) | Shape::Map(_, _) => true,
+        _ => false,
+    }
 }
 
 // Whether the scalar stands without quotes.
@@ -47,9 +65,9 @@ pub(super) fn read_void<'de>(alloc: Global, shape: &Shape) -> Result<Data<'de>>
     ensures { Gives data_of result (or_no_meaning (void_data (shape_of shape.now))) }
 {
     match shape {
-        Shape::Bool | Shape::I64 | Shape::Str => no_meaning(alloc),
         Shape::Seq(_) => Ok(Data::Seq(Vec::new(alloc))),
         Shape::Map(_, _) => Ok(Data::Map(Vec::new(alloc))),
+        _ => no_meaning(alloc),
     }
 }
 
@@ -129,5 +147,6 @@ pub(super) fn read_scalar<'de>(
                 no_meaning(alloc)
             }
         }
+        _ => no_meaning(alloc),
     }
 }

@@ -62,7 +62,12 @@ fn tags(rt: HostRuntime) -> Result<(), Fail> {
 }
 
 // Whether the value at a key is this.
-fn is_at(alloc: Global, mapping: &Mapping, key: &Plain, wanted: &Option<Plain>) -> Result<bool, Fail> {
+fn is_at(
+    alloc: Global,
+    mapping: &Mapping,
+    key: &Plain,
+    wanted: &Option<Plain>,
+) -> Result<bool, Fail> {
     let key = value(alloc, key)?;
     match (mapping.get(&key), wanted) {
         (Some(found), Some(wanted)) => Ok(*found == value(alloc, wanted)?),
@@ -72,7 +77,9 @@ fn is_at(alloc: Global, mapping: &Mapping, key: &Plain, wanted: &Option<Plain>) 
 }
 
 const A: Plain<'static> = Text("a");
+
 const B: Plain<'static> = Tagged("!b", &Null);
+
 const C: Plain<'static> = Pairs(&[(A, Null), (Null, A)]);
 
 #[test]
@@ -100,7 +107,11 @@ fn mappings(rt: HostRuntime) -> Result<(), Fail> {
     for absent in [Null, Tagged("!c", &Null), Pairs(&[(A, Null)])] {
         assert!(rt; is_at(rt.alloc(), &mapping, &absent, &None)?);
     }
-    pairs_are(&rt, &mapping, &[(A, Unsigned(4)), (B, Unsigned(5)), (C, Unsigned(6))])
+    pairs_are(
+        &rt,
+        &mapping,
+        &[(A, Unsigned(4)), (B, Unsigned(5)), (C, Unsigned(6))],
+    )
 }
 
 // The pairs of a mapping are these, in this order.

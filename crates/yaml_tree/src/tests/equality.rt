@@ -4,8 +4,11 @@ use super::plain::value;
 use std::test::Fail;
 
 const ONE: Plain<'static> = Unsigned(1);
+
 const TWO: Plain<'static> = Unsigned(2);
+
 const A: Plain<'static> = Text("a");
+
 const B: Plain<'static> = Text("b");
 
 // Two values, and whether they are equal.
@@ -27,9 +30,21 @@ const ROWS: [(Plain<'static>, Plain<'static>, bool); 30] = [
     (List(&[ONE, TWO]), List(&[TWO, ONE]), false),
     (List(&[ONE]), List(&[ONE, TWO]), false),
     (Pairs(&[]), Pairs(&[]), true),
-    (Pairs(&[(A, ONE), (B, TWO)]), Pairs(&[(B, TWO), (A, ONE)]), true),
-    (Pairs(&[(A, ONE), (B, TWO)]), Pairs(&[(A, ONE), (B, ONE)]), false),
-    (Pairs(&[(A, ONE), (B, TWO)]), Pairs(&[(A, TWO), (B, ONE)]), false),
+    (
+        Pairs(&[(A, ONE), (B, TWO)]),
+        Pairs(&[(B, TWO), (A, ONE)]),
+        true,
+    ),
+    (
+        Pairs(&[(A, ONE), (B, TWO)]),
+        Pairs(&[(A, ONE), (B, ONE)]),
+        false,
+    ),
+    (
+        Pairs(&[(A, ONE), (B, TWO)]),
+        Pairs(&[(A, TWO), (B, ONE)]),
+        false,
+    ),
     (Pairs(&[(A, ONE)]), Pairs(&[(A, ONE), (B, TWO)]), false),
     (Pairs(&[(A, ONE), (B, TWO)]), Pairs(&[(A, ONE)]), false),
     (

@@ -3,15 +3,20 @@ use crate::{Mapping, Number, Sequence, Tag, TaggedValue, Value};
 use std::alloc::Global;
 use std::test::Fail;
 
-// Null under so many sequences, mappings and tags by turns.
+// Null under so many sequences, mappings (as value and as key) and tags by turns.
 fn deep(alloc: Global, levels: u32) -> Result<Value, Fail> {
     let mut value = Value::Null;
     for level in 0..levels {
-        value = match level % 3 {
+        value = match level % 4 {
             0 => Value::Sequence(Sequence::from(vec![in alloc; value]?)),
             1 => {
                 let mut mapping = Mapping::new(alloc);
                 mapping.insert(Value::Bool(true), value)?;
+                Value::Mapping(mapping)
+            }
+            2 => {
+                let mut mapping = Mapping::new(alloc);
+                mapping.insert(value, Value::Null)?;
                 Value::Mapping(mapping)
             }
             _ => {

@@ -15,7 +15,8 @@ impl Value {
     ghost use Rattle.std.specs.Prelude.{◌≡◌, IfErr, IfOk};
     ghost use Rattle.yaml_tree.specs.View.{tree_of};
 
-    /// A copy, whose mappings have their pairs in the same order and whose tags have the same texts.
+    /// A copy: an equal value, with the pairs of mappings in the same order and the same texts of
+    /// tags.
     pub fn copy(&self, alloc: Global) -> Result<Value, TreeFault>
         ensures ok { IfOk result (λ copied. tree_of copied ≡ tree_of self.now) }
         ensures memory { IfErr result (λ e. e ≡ TreeFault.Memory) }

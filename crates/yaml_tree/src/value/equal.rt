@@ -1,10 +1,10 @@
 //! Equality of values.
-ghost use Rattle.std.specs.Prelude.{◌≡◌, true, ◌&&◌, ◌<◌, length, IfSome};
+ghost use Rattle.std.specs.Prelude.{◌≡◌, true, ◌<◌, length, IfSome};
+ghost use Rattle.yaml_tree.specs.Entries.{IsOtherKey};
 ghost use Rattle.yaml_tree.specs.Equal.{pairs_eq, tree_eq, trees_eq};
 ghost use Rattle.yaml_tree.specs.Lookup.{has_all_pairs, has_pair, place_of};
 ghost use Rattle.yaml_tree.specs.Mapping.{keys_distinct};
-ghost use Rattle.yaml_tree.specs.Tag.{tag_eq};
-ghost use Rattle.yaml_tree.specs.Valid.{content_of, items_of, pairs_of, tag_of};
+ghost use Rattle.yaml_tree.specs.Valid.{items_of, pairs_of, tree_of_tagged};
 ghost use Rattle.yaml_tree.specs.View.{entry_pairs, tree_of};
 
 use crate::mapping::{Entry, Mapping};
@@ -80,6 +80,29 @@ impl Eq for Mapping {
     ghost laws = { on_equiv pairs_of pairs_equiv };
 }
 
+impl PartialEq for TaggedValue {
+    ghost use Rattle.std.specs.Cmp.{on_per, partial_equiv_from_equiv};
+    ghost use Rattle.yaml_tree.specs.Equal.{tree_eq};
+    ghost use Rattle.yaml_tree.specs.EqualLaws.{tree_equiv};
+    ghost use Rattle.yaml_tree.specs.Valid.{tree_of_tagged};
+
+    ghost eq = { λ a b. tree_eq (tree_of_tagged a) (tree_of_tagged b) };
+
+    ghost laws = { on_per tree_of_tagged (partial_equiv_from_equiv tree_equiv) };
+
+    fn eq(&self, other: &TaggedValue) -> bool {
+        same_tagged(self, other)
+    }
+}
+
+impl Eq for TaggedValue {
+    ghost use Rattle.std.specs.Cmp.{on_equiv};
+    ghost use Rattle.yaml_tree.specs.EqualLaws.{tree_equiv};
+    ghost use Rattle.yaml_tree.specs.Valid.{tree_of_tagged};
+
+    ghost laws = { on_equiv tree_of_tagged tree_equiv };
+}
+
 #[cycle(same)]
 fn same_value(a: &Value, b: &Value) -> bool
     ensures { result ≡ tree_eq (tree_of a.now) (tree_of b.now) }
@@ -98,7 +121,7 @@ fn same_value(a: &Value, b: &Value) -> bool
 
 #[cycle(same)]
 fn same_tagged(a: &TaggedValue, b: &TaggedValue) -> bool
-    ensures { result ≡ (tag_eq (tag_of a.now) (tag_of b.now) && tree_eq (content_of a.now) (content_of b.now)) }
+    ensures { result ≡ tree_eq (tree_of_tagged a.now) (tree_of_tagged b.now) }
 {
     a.tag == b.tag && same_value(&a.value, &b.value)
 }
@@ -107,13 +130,13 @@ fn same_tagged(a: &TaggedValue, b: &TaggedValue) -> bool
 fn same_items(a: &Sequence, b: &Sequence) -> bool
     ensures { result ≡ trees_eq (items_of a.now) (items_of b.now) }
 {
-    let x = a.items.as_slice();
-    let y = b.items.as_slice();
-    if x.len() != y.len() {
+    let left = a.items.as_slice();
+    let right = b.items.as_slice();
+    if left.len() != right.len() {
         return false;
     }
-    for i in 0..x.len() {
-        if !same_value(&x[i], &y[i]) {
+    for i in 0..left.len() {
+        if !same_value(&left[i], &right[i]) {
             return false;
         }
     }
@@ -124,12 +147,12 @@ fn same_items(a: &Sequence, b: &Sequence) -> bool
 fn same_pairs(a: &Mapping, b: &Mapping) -> bool
     ensures { result ≡ pairs_eq (pairs_of a.now) (pairs_of b.now) }
 {
-    let x = a.entries.as_slice();
-    let y = b.entries.as_slice();
-    if x.len() != y.len() {
+    let wanted = a.entries.as_slice();
+    let entries = b.entries.as_slice();
+    if wanted.len() != entries.len() {
         return false;
     }
-    has_all_entries(x, y)
+    has_all_entries(wanted, entries)
 }
 
 // Whether each of these entries is among the others, whose keys are distinct.
@@ -146,11 +169,12 @@ fn has_all_entries(wanted: &[Entry], entries: &[Entry]) -> bool
     true
 }
 
-// Whether an entry is among these, whose keys are distinct. The guess is where it is looked for first.
+// Whether an entry is among these, whose keys are distinct. It is looked for at the guess first.
 #[cycle(same)]
 fn is_among(wanted: &Entry, entries: &[Entry], guess: usize) -> bool
     requires { keys_distinct (entry_pairs entries.now) ≡ true }
-    ensures { result ≡ has_pair (tree_of wanted.now.key) (tree_of wanted.now.value) (entry_pairs entries.now) }
+    ensures { let key = tree_of wanted.now.key in
+        result ≡ has_pair key (tree_of wanted.now.value) (entry_pairs entries.now) }
 {
     match find_near(&wanted.key, entries, guess) {
         Some(i) => same_value(&wanted.value, &entries[i].value),
@@ -158,29 +182,42 @@ fn is_among(wanted: &Entry, entries: &[Entry], guess: usize) -> bool
     }
 }
 
-// The place of a key among entries with distinct keys. The guess is where it is looked for first.
+// The place of a key among entries with distinct keys. It is looked for at the guess first, and no
+// key is compared twice, since a comparison of deep keys makes such comparisons again.
 #[cycle(same)]
 fn find_near(key: &Value, entries: &[Entry], guess: usize) -> Option<usize>
     requires { keys_distinct (entry_pairs entries.now) ≡ true }
     ensures place { result ≡ place_of (tree_of key.now) (entry_pairs entries.now) }
     ensures within { IfSome result (λ i. i < length entries.now) }
 {
-    if guess < entries.len() && same_value(key, &entries[guess].key) {
+    if guess >= entries.len() {
+        return find_besides(key, entries, guess);
+    }
+    if same_value(key, &entries[guess].key) {
         return Some(guess);
     }
-    find(key, entries)
+    find_besides(key, entries, guess)
 }
 
-/// The place of the first entry with this key.
+// The place of the first entry with this key, where the entry at one place has another key.
 #[cycle(same)]
-pub(crate) fn find(key: &Value, entries: &[Entry]) -> Option<usize>
+fn find_besides(key: &Value, entries: &[Entry], other: usize) -> Option<usize>
+    requires { IsOtherKey (tree_of key.now) entries.now other }
     ensures place { result ≡ place_of (tree_of key.now) (entry_pairs entries.now) }
     ensures within { IfSome result (λ i. i < length entries.now) }
 {
     for (i, entry) in entries.iter().enumerate() {
-        if same_value(key, &entry.key) {
+        if i != other && same_value(key, &entry.key) {
             return Some(i);
         }
     }
     None
+}
+
+/// The place of the first entry with this key.
+pub(crate) fn find(key: &Value, entries: &[Entry]) -> Option<usize>
+    ensures place { result ≡ place_of (tree_of key.now) (entry_pairs entries.now) }
+    ensures within { IfSome result (λ i. i < length entries.now) }
+{
+    find_besides(key, entries, entries.len())
 }

@@ -2,7 +2,7 @@
 use Rattle.std.proofs.Common.{ap, sym, ◌∙◌, refl, Some, None}
 use Rattle.yaml_tree.specs.Entries.{new_entry}
 use Rattle.yaml_tree.specs.View.{tree_of, entry_pairs}
-use Rattle.yaml_tree.proofs.Lookups.{HoldsAt, HoldsNot, holds_at_found}
+use Rattle.yaml_tree.proofs.Lookups.{HoldsAt, holds_at_found}
 use Rattle.yaml_tree.proofs.mapping.put.Goals as goal
 
 held : (c : goal.After-replace_value) → HoldsAt (tree_of c.args.key) c.args.entries.now.items c.in-Some.i

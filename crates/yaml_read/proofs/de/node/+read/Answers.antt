@@ -12,20 +12,24 @@ use Rattle.yaml_read.specs.DocEventView.{doc_event_of, marked_events_of}
 use Rattle.yaml_read.specs.Reader.{Spot, ◌>>=◌, after, is_sequence_end, is_mapping_end, items_at, entries_at, sequence_at, mapping_at, node_at}
 use Rattle.yaml_read.specs.Walks.{spot_of}
 use Rattle.yaml_read.proofs.Before.{items_before, entries_before}
-use Rattle.yaml_read.proofs.Turns.{same_spot, gives_fault, gives_ending_at, fails_on, pursue_many, pursue_fails, pursue_finds, node_shapeless, node_ended, node_event, sequence_fails, sequence_finds, mapping_fails, mapping_finds, not_sequence_end, not_mapping_end, items_ended, items_end, items_fail, items_more, items_before_one, items_before_end, entries_ended, entries_end, entries_no_key, entries_no_value, entries_more, entries_before_one, entries_before_end, entry_is}
+use Rattle.yaml_read.proofs.Turns.{same_spot, gives_fault, gives_ending_at, fails_on, pursue_many, pursue_fails, pursue_finds, node_shapeless, node_unread, node_ended, node_event, sequence_fails, sequence_finds, mapping_fails, mapping_finds, not_sequence_end, not_mapping_end, items_ended, items_end, items_fail, items_more, items_before_one, items_before_end, entries_ended, entries_end, entries_no_key, entries_no_value, entries_more, entries_before_one, entries_before_end, entry_is}
 use Rattle.yaml_read.proofs.de.node.+read.Goals as goal
 
 pub read_node-returns-in_default-clause-gives : goal.read_node-returns-in_default-clause-gives
 read_node-returns-in_default-clause-gives t c = λ fuel lt.
     gives_fault data_of _ c.no_meaning.result _ _ c.no_meaning.ensures (node_shapeless fuel c.args.schema.now (slice_get (marked_events_of c.args.events.now)) (length c.args.events.now) c.args.id.0 c.args.nest c.args.taken (spot_of c.args.walk.now) (omega arith) c.in_default.ensures.found)
 
+pub read_node-returns-then-not-is_read-clause-gives : goal.read_node-returns-then-not-is_read-clause-gives
+read_node-returns-then-not-is_read-clause-gives t c = λ fuel lt.
+    gives_fault data_of _ c.not_built.result _ _ c.not_built.ensures (node_unread fuel c.args.schema.now (slice_get (marked_events_of c.args.events.now)) (length c.args.events.now) c.args.id.0 c.args.nest c.args.taken (spot_of c.args.walk.now) _ (omega arith) c.in-Some.ensures.found (sym c.is_read.ensures ∙ c.if-not-is_read.true))
+
 pub read_node-returns-in_default-event_here-clause-gives : goal.read_node-returns-in_default-event_here-clause-gives
 read_node-returns-in_default-event_here-clause-gives t c = λ fuel lt fault.
-    node_ended fuel c.args.schema.now (slice_get (marked_events_of c.args.events.now)) (length c.args.events.now) c.args.id.0 c.args.nest c.args.taken (spot_of c.args.walk.now) _ (omega arith) c.in-Some.ensures.found c.in_default-event_here.ensures.found ∙ ap Err (sym c.new.ensures)
+    node_ended fuel c.args.schema.now (slice_get (marked_events_of c.args.events.now)) (length c.args.events.now) c.args.id.0 c.args.nest c.args.taken (spot_of c.args.walk.now) _ (omega arith) c.in-Some.ensures.found (sym c.is_read.ensures ∙ c.if-not-is_read.false) c.in_default-event_here.ensures.found ∙ ap Err (sym c.new.ensures)
 
 pub read_node-returns-then-walk-eq0-clause-gives : goal.read_node-returns-then-walk-eq0-clause-gives
 read_node-returns-then-walk-eq0-clause-gives t c = λ fuel lt fault.
-    node_event fuel c.args.schema.now (slice_get (marked_events_of c.args.events.now)) (length c.args.events.now) c.args.id.0 c.args.nest c.args.taken (spot_of c.args.walk.now) _ _ _ _ (omega arith) c.in-Some.ensures.found c.in-Some-event_here.ensures.found c.in-Alias.is
+    node_event fuel c.args.schema.now (slice_get (marked_events_of c.args.events.now)) (length c.args.events.now) c.args.id.0 c.args.nest c.args.taken (spot_of c.args.walk.now) _ _ _ _ (omega arith) c.in-Some.ensures.found (sym c.is_read.ensures ∙ c.if-not-is_read.false) c.in-Some-event_here.ensures.found c.in-Alias.is
     ∙ pursue_many (node_at (fuel - 1) c.args.schema.now (slice_get (marked_events_of c.args.events.now)) (length c.args.events.now) c.args.id.0 c.args.nest false) c.in-Alias.target c.args.walk.now.place c.args.walk.now.left (omega (arith, c.step.ensures.left, c.if-walk-eq0.true))
     ∙ ap Err (sym c.new-then-walk-eq0.ensures)
 
@@ -33,7 +37,7 @@ pub read_node-returns-in-Ok-clause-gives : goal.read_node-returns-in-Ok-clause-g
 read_node-returns-in-Ok-clause-gives t c = λ fuel lt.
     let left = c.step.ensures.left in
     let some : 0 < c.step.new.self.left = omega (arith, c.if-walk-eq0.false) in
-    node_event fuel c.args.schema.now (slice_get (marked_events_of c.args.events.now)) (length c.args.events.now) c.args.id.0 c.args.nest c.args.taken (spot_of c.args.walk.now) _ _ _ _ (omega arith) c.in-Some.ensures.found c.in-Some-event_here.ensures.found c.in-Alias.is
+    node_event fuel c.args.schema.now (slice_get (marked_events_of c.args.events.now)) (length c.args.events.now) c.args.id.0 c.args.nest c.args.taken (spot_of c.args.walk.now) _ _ _ _ (omega arith) c.in-Some.ensures.found (sym c.is_read.ensures ∙ c.if-not-is_read.false) c.in-Some-event_here.ensures.found c.in-Alias.is
     ∙ pursue_finds (node_at (fuel - 1) c.args.schema.now (slice_get (marked_events_of c.args.events.now)) (length c.args.events.now) c.args.id.0 c.args.nest false) c.in-Alias.target c.args.walk.now.place c.args.walk.now.left (data_of c.in-Ok.data) (spot_of c.read_node.new.walk) (omega (arith, left, some)) (rw (← left) (c.in-Ok.ensures.gives (fuel - 1) (omega (arith, left, some))))
     ∙ ap (λ (q : ℕ). Ok (data_of c.in-Ok.data, record { place = q; left = c.read_node.new.walk.left })) (sym c.step.ensures.place)
 
@@ -41,34 +45,34 @@ pub read_node-returns-in-Err-clause-gives : goal.read_node-returns-in-Err-clause
 read_node-returns-in-Err-clause-gives t c = λ fuel lt fault.
     let left = c.step.ensures.left in
     let some : 0 < c.step.new.self.left = omega (arith, c.if-walk-eq0.false) in
-    node_event fuel c.args.schema.now (slice_get (marked_events_of c.args.events.now)) (length c.args.events.now) c.args.id.0 c.args.nest c.args.taken (spot_of c.args.walk.now) _ _ _ _ (omega arith) c.in-Some.ensures.found c.in-Some-event_here.ensures.found c.in-Alias.is
+    node_event fuel c.args.schema.now (slice_get (marked_events_of c.args.events.now)) (length c.args.events.now) c.args.id.0 c.args.nest c.args.taken (spot_of c.args.walk.now) _ _ _ _ (omega arith) c.in-Some.ensures.found (sym c.is_read.ensures ∙ c.if-not-is_read.false) c.in-Some-event_here.ensures.found c.in-Alias.is
     ∙ pursue_fails (node_at (fuel - 1) c.args.schema.now (slice_get (marked_events_of c.args.events.now)) (length c.args.events.now) c.args.id.0 c.args.nest false) c.in-Alias.target c.args.walk.now.place c.args.walk.now.left _ (omega (arith, left, some)) (rw (← left) (c.in-Err.ensures.gives (fuel - 1) (omega (arith, left, some)) fault))
 
 pub read_node-returns-in-Scalar-clause-gives : goal.read_node-returns-in-Scalar-clause-gives
 read_node-returns-in-Scalar-clause-gives t c = λ fuel lt.
-    rw (node_event fuel c.args.schema.now (slice_get (marked_events_of c.args.events.now)) (length c.args.events.now) c.args.id.0 c.args.nest c.args.taken (spot_of c.args.walk.now) _ _ _ _ (omega arith) c.in-Some.ensures.found c.in-Some-event_here.ensures.found c.in-Scalar.is)
+    rw (node_event fuel c.args.schema.now (slice_get (marked_events_of c.args.events.now)) (length c.args.events.now) c.args.id.0 c.args.nest c.args.taken (spot_of c.args.walk.now) _ _ _ _ (omega arith) c.in-Some.ensures.found (sym c.is_read.ensures ∙ c.if-not-is_read.false) c.in-Some-event_here.ensures.found c.in-Scalar.is)
     (gives_ending_at data_of _ _ c.read_scalar.result _ (same_spot (spot_of c.step.new.self) (after (spot_of c.args.walk.now)) c.step.ensures.place c.step.ensures.left) c.read_scalar.ensures)
 
 pub read_node-returns-in-Void-clause-gives : goal.read_node-returns-in-Void-clause-gives
 read_node-returns-in-Void-clause-gives t c = λ fuel lt.
-    rw (node_event fuel c.args.schema.now (slice_get (marked_events_of c.args.events.now)) (length c.args.events.now) c.args.id.0 c.args.nest c.args.taken (spot_of c.args.walk.now) _ _ _ _ (omega arith) c.in-Some.ensures.found c.in-Some-event_here.ensures.found c.in-Void.is)
+    rw (node_event fuel c.args.schema.now (slice_get (marked_events_of c.args.events.now)) (length c.args.events.now) c.args.id.0 c.args.nest c.args.taken (spot_of c.args.walk.now) _ _ _ _ (omega arith) c.in-Some.ensures.found (sym c.is_read.ensures ∙ c.if-not-is_read.false) c.in-Some-event_here.ensures.found c.in-Void.is)
     (gives_ending_at data_of _ _ c.read_void.result _ (same_spot (spot_of c.step.new.self) (after (spot_of c.args.walk.now)) c.step.ensures.place c.step.ensures.left) c.read_void.ensures)
 
 pub read_node-returns-in-SequenceStart-clause-gives : goal.read_node-returns-in-SequenceStart-clause-gives
 read_node-returns-in-SequenceStart-clause-gives t c = λ fuel lt.
-    rw (node_event fuel c.args.schema.now (slice_get (marked_events_of c.args.events.now)) (length c.args.events.now) c.args.id.0 c.args.nest c.args.taken (spot_of c.args.walk.now) _ _ _ _ (omega arith) c.in-Some.ensures.found c.in-Some-event_here.ensures.found c.in-SequenceStart.is, ← (same_spot (spot_of c.step.new.self) (after (spot_of c.args.walk.now)) c.step.ensures.place c.step.ensures.left))
+    rw (node_event fuel c.args.schema.now (slice_get (marked_events_of c.args.events.now)) (length c.args.events.now) c.args.id.0 c.args.nest c.args.taken (spot_of c.args.walk.now) _ _ _ _ (omega arith) c.in-Some.ensures.found (sym c.is_read.ensures ∙ c.if-not-is_read.false) c.in-Some-event_here.ensures.found c.in-SequenceStart.is, ← (same_spot (spot_of c.step.new.self) (after (spot_of c.args.walk.now)) c.step.ensures.place c.step.ensures.left))
     (c.read_sequence.ensures.gives (fuel - 1) (omega (arith, c.step.ensures.left)))
 
 pub read_node-returns-in-MappingStart-clause-gives : goal.read_node-returns-in-MappingStart-clause-gives
 read_node-returns-in-MappingStart-clause-gives t c = λ fuel lt.
-    rw (node_event fuel c.args.schema.now (slice_get (marked_events_of c.args.events.now)) (length c.args.events.now) c.args.id.0 c.args.nest c.args.taken (spot_of c.args.walk.now) _ _ _ _ (omega arith) c.in-Some.ensures.found c.in-Some-event_here.ensures.found c.in-MappingStart.is, ← (same_spot (spot_of c.step.new.self) (after (spot_of c.args.walk.now)) c.step.ensures.place c.step.ensures.left))
+    rw (node_event fuel c.args.schema.now (slice_get (marked_events_of c.args.events.now)) (length c.args.events.now) c.args.id.0 c.args.nest c.args.taken (spot_of c.args.walk.now) _ _ _ _ (omega arith) c.in-Some.ensures.found (sym c.is_read.ensures ∙ c.if-not-is_read.false) c.in-Some-event_here.ensures.found c.in-MappingStart.is, ← (same_spot (spot_of c.step.new.self) (after (spot_of c.args.walk.now)) c.step.ensures.place c.step.ensures.left))
     (c.read_mapping.ensures.gives (fuel - 1) (omega (arith, c.step.ensures.left)))
 
 pub read_node-returns-in-SequenceEnd-clause-gives : goal.read_node-returns-in-SequenceEnd-clause-gives
 read_node-returns-in-SequenceEnd-clause-gives t c = λ fuel lt fault.
     elim c.in-SequenceEnd.is [
-      | inl is ↦ node_event fuel c.args.schema.now (slice_get (marked_events_of c.args.events.now)) (length c.args.events.now) c.args.id.0 c.args.nest c.args.taken (spot_of c.args.walk.now) _ _ _ _ (omega arith) c.in-Some.ensures.found c.in-Some-event_here.ensures.found is ∙ ap Err (sym c.new-in-SequenceEnd.ensures)
-      | inr is ↦ node_event fuel c.args.schema.now (slice_get (marked_events_of c.args.events.now)) (length c.args.events.now) c.args.id.0 c.args.nest c.args.taken (spot_of c.args.walk.now) _ _ _ _ (omega arith) c.in-Some.ensures.found c.in-Some-event_here.ensures.found is ∙ ap Err (sym c.new-in-SequenceEnd.ensures)
+      | inl is ↦ node_event fuel c.args.schema.now (slice_get (marked_events_of c.args.events.now)) (length c.args.events.now) c.args.id.0 c.args.nest c.args.taken (spot_of c.args.walk.now) _ _ _ _ (omega arith) c.in-Some.ensures.found (sym c.is_read.ensures ∙ c.if-not-is_read.false) c.in-Some-event_here.ensures.found is ∙ ap Err (sym c.new-in-SequenceEnd.ensures)
+      | inr is ↦ node_event fuel c.args.schema.now (slice_get (marked_events_of c.args.events.now)) (length c.args.events.now) c.args.id.0 c.args.nest c.args.taken (spot_of c.args.walk.now) _ _ _ _ (omega arith) c.in-Some.ensures.found (sym c.is_read.ensures ∙ c.if-not-is_read.false) c.in-Some-event_here.ensures.found is ∙ ap Err (sym c.new-in-SequenceEnd.ensures)
     ]
 
 pub read_sequence-returns-in-Ok-clause-gives : goal.read_sequence-returns-in-Ok-clause-gives

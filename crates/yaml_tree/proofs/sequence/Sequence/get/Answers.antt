@@ -1,5 +1,5 @@
 -- The value at a place is the tree at that place.
-use Rattle.std.proofs.Common.{ap, sym, ◌∙◌, Some}
+use Rattle.std.proofs.Common.{ap, ◌∙◌, Some}
 use Rattle.yaml_tree.specs.Tree.{tree_at}
 use Rattle.yaml_tree.specs.View.{tree_of, trees_of}
 use Rattle.yaml_tree.proofs.Views.{items_of-view, tree_at-within, tree_at-past}

@@ -1,6 +1,6 @@
 -- Comparing by lengths, by places of keys, and by what the views say.
 use Rattle.std.proofs.Common.{ap, sym, ◌∙◌, refl, Some, None}
-use Rattle.yaml_tree.specs.Equal.{tree_eq, trees_eq, pairs_eq}
+use Rattle.yaml_tree.specs.Equal.{trees_eq, pairs_eq}
 use Rattle.yaml_tree.specs.Mapping.{keys_distinct}
 use Rattle.yaml_tree.specs.View.{tree_of, trees_of, entry_pairs}
 use Rattle.yaml_tree.proofs.Lookups.{holds_at_found, is_value_equal, has_pair-value_at, place_of-guess}
@@ -10,8 +10,8 @@ use Rattle.yaml_tree.proofs.value.equal.+same.Goals as goal
 pub find_near-returns-then-same_value-clause-place : goal.find_near-returns-then-same_value-clause-place
 find_near-returns-then-same_value-clause-place t c =
     let k = tree_of c.args.key.now in
-    sym (place_of-guess k c.args.entries.now c.args.guess c.index-entries-guess.result c.requires c.if-guess-entries.true
-      (sym c.same_value.ensures ∙ c.if-same_value.true))
+    sym (place_of-guess k c.args.entries.now c.args.guess c.index-entries-guess.result
+    c.requires c.if-guess-entries.false (sym c.same_value.ensures ∙ c.if-same_value.true))
 
 pub is_among-returns-in-Some : goal.is_among-returns-in-Some
 is_among-returns-in-Some t c =
@@ -30,22 +30,22 @@ is_among-returns-in-None t c =
     let held = holds_at_found k es es None refl c.in-None.ensures.place in
     sym (has_pair-value_at k v (entry_pairs es) c.requires ∙ ap (is_value_equal v) held.0)
 
-pub same_items-returns-then-x-y : goal.same_items-returns-then-x-y
-same_items-returns-then-x-y t c =
-    let left = ap trees_of c.as_slice-x.ensures.value ∙ items_of-view _ _ c.a.view_is in
-    let right = ap trees_of c.as_slice-y.ensures.value ∙ items_of-view _ _ c.b.view_is in
-    sym (trees_eq-lengths _ _ c.if-x-y.true) ∙ (λ i. trees_eq (left i) (right i))
+pub same_items-returns-then-left-right : goal.same_items-returns-then-left-right
+same_items-returns-then-left-right t c =
+    let left = ap trees_of c.as_slice-left.ensures.value ∙ items_of-view _ _ c.a.view_is in
+    let right = ap trees_of c.as_slice-right.ensures.value ∙ items_of-view _ _ c.b.view_is in
+    sym (trees_eq-lengths _ _ c.if-left-right.true) ∙ (λ i. trees_eq (left i) (right i))
 
-pub same_pairs-returns-then-x-y : goal.same_pairs-returns-then-x-y
-same_pairs-returns-then-x-y t c =
-    let left = ap entry_pairs c.as_slice-x.ensures.value ∙ pairs_of-view _ _ c.a.view_is c.a.invariant in
-    let right = ap entry_pairs c.as_slice-y.ensures.value ∙ pairs_of-view _ _ c.b.view_is c.b.invariant in
-    sym (pairs_eq-lengths _ _ c.if-x-y.true) ∙ (λ i. pairs_eq (left i) (right i))
+pub same_pairs-returns-then-wanted-entries : goal.same_pairs-returns-then-wanted-entries
+same_pairs-returns-then-wanted-entries t c =
+    let left = ap entry_pairs c.as_slice-wanted.ensures.value ∙ pairs_of-view _ _ c.a.view_is c.a.invariant in
+    let right = ap entry_pairs c.as_slice-entries.ensures.value ∙ pairs_of-view _ _ c.b.view_is c.b.invariant in
+    sym (pairs_eq-lengths _ _ c.if-wanted-entries.true) ∙ (λ i. pairs_eq (left i) (right i))
 
 pub same_pairs-returns : goal.same_pairs-returns
 same_pairs-returns t c =
-    let left = ap entry_pairs c.as_slice-x.ensures.value ∙ pairs_of-view _ _ c.a.view_is c.a.invariant in
-    let right = ap entry_pairs c.as_slice-y.ensures.value ∙ pairs_of-view _ _ c.b.view_is c.b.invariant in
-    let distinct = ap (λ es. keys_distinct (entry_pairs es)) c.as_slice-x.ensures.value ∙ c.a.invariant in
+    let left = ap entry_pairs c.as_slice-wanted.ensures.value ∙ pairs_of-view _ _ c.a.view_is c.a.invariant in
+    let right = ap entry_pairs c.as_slice-entries.ensures.value ∙ pairs_of-view _ _ c.b.view_is c.b.invariant in
+    let distinct = ap (λ es. keys_distinct (entry_pairs es)) c.as_slice-wanted.ensures.value ∙ c.a.invariant in
     c.has_all_entries.ensures
-    ∙ (sym (pairs_eq-entries _ _ distinct c.if-x-y.false) ∙ (λ i. pairs_eq (left i) (right i)))
+    ∙ (sym (pairs_eq-entries _ _ distinct c.if-wanted-entries.false) ∙ (λ i. pairs_eq (left i) (right i)))

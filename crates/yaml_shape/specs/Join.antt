@@ -1,0 +1,75 @@
+-- Tables of shapes joined into one.
+use Rattle.std.specs.Prelude.{ℕ, ◌+◌, ◌<◌, ◌≤◌, List, [], ◌∷◌, ◌++◌, map, length}
+use Rattle.yaml_shape.specs.PlainShape.{PlainShape, any_shape, bool_shape, char_shape, integer_shape, str_shape}
+use Rattle.yaml_shape.specs.PlainShape.{identifier_shape, bytes_shape, option_shape, unit_shape, unit_struct_shape}
+use Rattle.yaml_shape.specs.PlainShape.{newtype_shape, seq_shape, tuple_shape, tuple_struct_shape, map_shape, struct_shape}
+use Rattle.yaml_shape.specs.PlainShape.{enum_shape, ignored_shape}
+use Rattle.yaml_shape.specs.PlainShape.{PlainVariant, unit_variant, newtype_variant, tuple_variant, struct_variant}
+use Rattle.yaml_shape.specs.declared.fault.SchemaFault.{SchemaFault}
+use Rattle.yaml_shape.specs.declared.fault.SchemaFault.TheVariants.{S1, S2, S3, S4, S5}
+
+-- numbers, each raised by so much
+abbrev pub raised_ids : ℕ → List ℕ → List ℕ
+raised_ids by = map (λ id. by + id)
+
+-- fields, the number of each raised by so much
+abbrev pub raised_fields : ℕ → List (List ℕ × ℕ) → List (List ℕ × ℕ)
+raised_fields by = map (λ f. (f.0, by + f.1))
+
+-- the content of a variant, each number that it names raised by so much
+abbrev pub raised_content : ℕ → PlainVariant → PlainVariant
+raised_content by unit_variant = unit_variant
+raised_content by (newtype_variant inner) = newtype_variant (by + inner)
+raised_content by (tuple_variant items) = tuple_variant (raised_ids by items)
+raised_content by (struct_variant strict fields) = struct_variant strict (raised_fields by fields)
+
+-- variants, each number that they name raised by so much
+abbrev pub raised_variants : ℕ → List (List ℕ × PlainVariant) → List (List ℕ × PlainVariant)
+raised_variants by = map (λ v. (v.0, raised_content by v.1))
+
+-- a shape, each number that it names raised by so much
+abbrev pub raised : ℕ → PlainShape → PlainShape
+raised by any_shape = any_shape
+raised by bool_shape = bool_shape
+raised by char_shape = char_shape
+raised by (integer_shape i) = integer_shape i
+raised by str_shape = str_shape
+raised by identifier_shape = identifier_shape
+raised by bytes_shape = bytes_shape
+raised by (option_shape content) = option_shape (by + content)
+raised by unit_shape = unit_shape
+raised by (unit_struct_shape name) = unit_struct_shape name
+raised by (newtype_shape name inner) = newtype_shape name (by + inner)
+raised by (seq_shape element) = seq_shape (by + element)
+raised by (tuple_shape items) = tuple_shape (raised_ids by items)
+raised by (tuple_struct_shape name items) = tuple_struct_shape name (raised_ids by items)
+raised by (map_shape key value) = map_shape (by + key) (by + value)
+raised by (struct_shape strict name fields) = struct_shape strict name (raised_fields by fields)
+raised by (enum_shape name variants) = enum_shape name (raised_variants by variants)
+raised by ignored_shape = ignored_shape
+
+-- the second table behind the first, with the numbers in it raised past the first
+abbrev pub joined : List PlainShape → List PlainShape → List PlainShape
+joined first second = first ++ map (raised (length first)) second
+
+-- tables, each with a shape where it starts, behind a first one
+abbrev pub joined_all : List PlainShape → List (List PlainShape × ℕ) → List PlainShape
+joined_all first [] = first
+joined_all first (part ∷ parts) = joined_all (joined first part.0) parts
+
+-- where each of these tables starts in the table that they are joined to behind so many shapes
+abbrev pub starts_behind : ℕ → List (List PlainShape × ℕ) → List ℕ
+starts_behind size [] = []
+starts_behind size (part ∷ parts) = (size + part.1) ∷ starts_behind (size + length part.0) parts
+
+-- the start of each table is in it
+abbrev pub StartsWithin : List PlainShape × ℕ → Type 0
+StartsWithin part = part.1 < length part.0
+
+-- a join of so many shapes is refused: for them, or for want of memory
+abbrev pub IsTooLarge : ℕ → SchemaFault → Type 0
+IsTooLarge size (S1 number) = ⊥
+IsTooLarge size (S2 number) = ⊥
+IsTooLarge size (S3 number) = ⊥
+IsTooLarge size S4 = 4096 < size
+IsTooLarge size S5 = Unit {0}

@@ -1,0 +1,193 @@
+//! Whether data is of a shape.
+
+ghost use Rattle.std.specs.Prelude.{◌≡◌, slice_get};
+ghost use Rattle.std.specs.Option.{option_map};
+ghost use Rattle.yaml_shape.specs.ShapeView.{ids_of, fields_of, content_of, variants_of, shape_of};
+ghost use Rattle.yaml_shape.specs.DataView.{data_of, items_view, entries_view};
+ghost use Rattle.yaml_shape.specs.Validity.{numbers_of};
+ghost use Rattle.yaml_shape.specs.HasShape.{takes_signed, takes_unsigned, has_shape, has_content, all_have, each_has, entries_have};
+
+use crate::data::{Data, Entry};
+use crate::schema::Schema;
+use crate::shape::{Shape, ShapeId, VariantShape};
+
+// Whether the integer is one with a sign that the shape takes.
+fn takes_signed(shape: &Shape, n: i128) -> bool
+    ensures { result ≡ takes_signed n (shape_of shape.now) }
+{
+    match shape {
+        Shape::I8 => -0x80 <= n && n < 0x80,
+        Shape::I16 => -0x8000 <= n && n < 0x8000,
+        Shape::I32 => -0x8000_0000 <= n && n < 0x8000_0000,
+        Shape::I64 => -0x8000_0000_0000_0000 <= n && n < 0x8000_0000_0000_0000,
+        Shape::Isize => -0x8000_0000_0000_0000 <= n && n < 0x8000_0000_0000_0000,
+        Shape::I128 => true,
+        _ => false,
+    }
+}
+
+// Whether the integer is one without a sign that the shape takes.
+fn takes_unsigned(shape: &Shape, n: u128) -> bool
+    ensures { result ≡ takes_unsigned n (shape_of shape.now) }
+{
+    match shape {
+        Shape::U8 => n < 0x100,
+        Shape::U16 => n < 0x1_0000,
+        Shape::U32 => n < 0x1_0000_0000,
+        Shape::U64 => n < 0x1_0000_0000_0000_0000,
+        Shape::Usize => n < 0x1_0000_0000_0000_0000,
+        Shape::U128 => true,
+        _ => false,
+    }
+}
+
+// The content of the variant at this place.
+fn content_at(variants: &[(String, VariantShape)], place: usize) -> Option<&VariantShape>
+    ensures { option_map (λ content. content_of content.now) result
+        ≡ option_map (λ v. v.1) (slice_get (variants_of variants.now) place) }
+{
+    if place < variants.len() {
+        Some(&variants[place].1)
+    } else {
+        None
+    }
+}
+
+/// Whether the data is of the shape with this number.
+#[cycle(has_shape)]
+pub(crate) fn has_shape(schema: &Schema, id: ShapeId, data: &Data) -> bool
+    ensures { result ≡ has_shape schema.now id.0 (data_of data.now) }
+{
+    let Some(shape) = schema.shape(id) else {
+        return false;
+    };
+    match data {
+        Data::Any(_) => matches!(shape, Shape::Any),
+        Data::Bool(_) => matches!(shape, Shape::Bool),
+        Data::Char(_) => matches!(shape, Shape::Char),
+        Data::Signed(n) => takes_signed(shape, *n),
+        Data::Unsigned(n) => takes_unsigned(shape, *n),
+        Data::Str(_) => matches!(shape, Shape::Str | Shape::Identifier),
+        Data::Bytes(_) => matches!(shape, Shape::Bytes),
+        Data::None => matches!(shape, Shape::Option(_)),
+        Data::Some(content) => match shape {
+            Shape::Option(inner) => has_shape(schema, *inner, content),
+            _ => false,
+        },
+        Data::Unit => matches!(shape, Shape::Unit | Shape::UnitStruct { name: _ }),
+        Data::Newtype(content) => match shape {
+            Shape::Newtype { name: _, inner } => has_shape(schema, *inner, content),
+            _ => false,
+        },
+        Data::Seq(items) => match shape {
+            Shape::Seq(element) => all_have(schema, *element, items),
+            _ => false,
+        },
+        Data::Tuple(items) => match shape {
+            Shape::Tuple(ids) => each_has(schema, ids, items),
+            Shape::TupleStruct {
+                name: _,
+                items: ids,
+            } => each_has(schema, ids, items),
+            _ => false,
+        },
+        Data::Map(entries) => match shape {
+            Shape::Map(key, value) => entries_have(schema, *key, *value, entries),
+            _ => false,
+        },
+        Data::Struct(items) => match shape {
+            Shape::Struct { name: _, fields } => fields_have(schema, fields, items),
+            Shape::StrictStruct { name: _, fields } => fields_have(schema, fields, items),
+            _ => false,
+        },
+        Data::Variant(place, content) => match shape {
+            Shape::Enum { name: _, variants } => match content_at(variants, *place) {
+                Some(variant) => has_content(schema, variant, content),
+                None => false,
+            },
+            _ => false,
+        },
+        Data::Ignored => matches!(shape, Shape::IgnoredAny),
+    }
+}
+
+// Whether the data is what a variant holds.
+#[cycle(has_shape)]
+fn has_content(schema: &Schema, content: &VariantShape, data: &Data) -> bool
+    ensures { result ≡ has_content schema.now (data_of data.now) (content_of content.now) }
+{
+    match content {
+        VariantShape::Unit => matches!(data, Data::Unit),
+        VariantShape::Newtype(inner) => has_shape(schema, *inner, data),
+        VariantShape::Tuple(ids) => match data {
+            Data::Tuple(items) => each_has(schema, ids, items),
+            _ => false,
+        },
+        VariantShape::Struct(fields) => match data {
+            Data::Struct(items) => fields_have(schema, fields, items),
+            _ => false,
+        },
+        VariantShape::StrictStruct(fields) => match data {
+            Data::Struct(items) => fields_have(schema, fields, items),
+            _ => false,
+        },
+    }
+}
+
+// Whether each element is of the shape.
+#[cycle(has_shape)]
+fn all_have(schema: &Schema, id: ShapeId, items: &[Data]) -> bool
+    ensures { result ≡ all_have schema.now id.0 (items_view items.now) }
+{
+    for item in items {
+        if !has_shape(schema, id, item) {
+            return false;
+        }
+    }
+    true
+}
+
+// Whether there are as many elements as shapes, and each is of its own.
+#[cycle(has_shape)]
+fn each_has(schema: &Schema, ids: &[ShapeId], items: &[Data]) -> bool
+    ensures { result ≡ each_has schema.now (ids_of ids.now) (items_view items.now) }
+{
+    if ids.len() != items.len() {
+        return false;
+    }
+    for i in 0..items.len() {
+        if !has_shape(schema, ids[i], &items[i]) {
+            return false;
+        }
+    }
+    true
+}
+
+// Whether there are as many elements as fields, and each is of its field's shape.
+#[cycle(has_shape)]
+fn fields_have(schema: &Schema, fields: &[(String, ShapeId)], items: &[Data]) -> bool
+    ensures { result ≡ each_has schema.now (numbers_of (fields_of fields.now)) (items_view items.now) }
+{
+    if fields.len() != items.len() {
+        return false;
+    }
+    for i in 0..items.len() {
+        if !has_shape(schema, fields[i].1, &items[i]) {
+            return false;
+        }
+    }
+    true
+}
+
+// Whether each key is of the first shape, and each value of the second.
+#[cycle(has_shape)]
+fn entries_have(schema: &Schema, key: ShapeId, value: ShapeId, entries: &[Entry]) -> bool
+    ensures { result ≡ entries_have schema.now key.0 value.0 (entries_view entries.now) }
+{
+    for entry in entries {
+        if !has_shape(schema, key, &entry.key) || !has_shape(schema, value, &entry.value) {
+            return false;
+        }
+    }
+    true
+}
