@@ -6,5 +6,8 @@ pub mod FloatLaws
 pub mod IntegerLaws
 pub mod KindLaws
 pub mod LocalNameLaws
+pub mod MantissaLaws
+pub mod NumberLaws
 pub mod RangeLaws
 pub mod SignLaws
+pub mod WordLaws
