@@ -273,7 +273,8 @@ impl Error {
     /// The fault with this mark and this path as its place, if it is one that has a place and has none yet, and else
     /// the fault as it is. The only error is want of memory.
     pub fn fix_mark(self, alloc: Global, mark: Mark, path: &Path<'_>) -> Result<Error>
-        ensures filled { IfOk result (λ e. e ≡ filled self (record { mark = mark; path = path_text path.now })) }
+        ensures filled { IfOk result (λ e.
+            e ≡ filled self (record { mark = mark; path = path_text path.now })) }
         ensures err { IfErr result (λ refused. refused ≡ Memory) }
     {
         Ok(Error {

@@ -76,7 +76,8 @@ fn write_escaped<T: fmt::Display, W: fmt::Write>(
     value: &T,
     f: &mut fmt::Formatter<W>,
 ) -> fmt::Result
-    ensures { DisplaysOnOk W.write_str_gives f.old result (option_map (flat_map escaped) (T.output value.now)) f.new }
+    ensures { DisplaysOnOk W.write_str_gives f.old result
+        (option_map (flat_map escaped) (T.output value.now)) f.new }
 {
     let mut escaping = Escaping { out: f };
     let outcome = escaping.write(value);

@@ -12,7 +12,8 @@ use std::alloc::{AllocError, Global};
 
 // The place with this mark and the path's text. The only error is want of memory.
 fn place_at(alloc: Global, mark: Mark, path: &Path<'_>) -> Result<Option<Place>, AllocError>
-    ensures { IfOk result (λ place. place ≡ Some (record { mark = mark; path = path_text path.now })) }
+    ensures { IfOk result (λ place.
+        place ≡ Some (record { mark = mark; path = path_text path.now })) }
 {
     let text = path.to_string(alloc)?;
     Ok(Some(Place {
@@ -30,7 +31,8 @@ impl Cause {
         mark: Mark,
         path: &Path<'_>,
     ) -> Result<Cause, AllocError>
-        ensures { IfOk result (λ cause. cause ≡ filled self (record { mark = mark; path = path_text path.now })) }
+        ensures { IfOk result (λ cause.
+            cause ≡ filled self (record { mark = mark; path = path_text path.now })) }
     {
         match self {
             Cause::InvalidType {

@@ -34,7 +34,8 @@ impl fmt::Display for ProblemPlace {
 struct Context<'a>(Mark, Mark, &'a Option<String>);
 
 impl fmt::Display for Context<'_> {
-    ghost output = { λ context. Some (context_part context.0 context.1 (option_map string_bytes context.2.now)) };
+    ghost output = { λ context.
+        Some (context_part context.0 context.1 (option_map string_bytes context.2.now)) };
 
     fn fmt<W: fmt::Write>(&self, f: &mut fmt::Formatter<W>) -> fmt::Result {
         let (problem_mark, mark) = (self.0, self.1);
@@ -107,7 +108,8 @@ impl fmt::Display for DebugProblem {
 struct DebugContext<'a>(Mark, &'a Option<String>);
 
 impl fmt::Display for DebugContext<'_> {
-    ghost output = { λ context. Some (context_debug_part context.0 (option_map string_bytes context.1.now)) };
+    ghost output = { λ context.
+        Some (context_debug_part context.0 (option_map string_bytes context.1.now)) };
 
     fn fmt<W: fmt::Write>(&self, f: &mut fmt::Formatter<W>) -> fmt::Result {
         let mark = self.0;

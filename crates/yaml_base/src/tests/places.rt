@@ -3,7 +3,7 @@
 use crate::tests::build::{mark, words};
 use crate::tests::causes::custom;
 use crate::{Cause, Error, Mark, Path, Quoted, QuotedBytes};
-use std::alloc::Global;
+use std::alloc::{AllocError, Global};
 use std::test::Fail;
 
 #[test]
@@ -33,15 +33,19 @@ fn marks_count_from_one(rt: HostRuntime) -> Result<(), Fail> {
     Ok(())
 }
 
-#[test]
-fn paths_leave_aliases_out(rt: HostRuntime) -> Result<(), Fail> {
-    let alloc = rt.alloc();
+// The texts of paths of several levels.
+fn path_texts(alloc: Global) -> Result<Vec<String>, AllocError> {
     let root = Path::Root;
     let first = Path::Seq {
         parent: &root,
         index: 0,
     };
+    let unknown = Path::Unknown { parent: &first };
     let alias = Path::Alias { parent: &root };
+    let key = Path::Map {
+        parent: &alias,
+        key: "k",
+    };
     let dependencies = Path::Map {
         parent: &root,
         key: "dependencies",
@@ -55,30 +59,37 @@ fn paths_leave_aliases_out(rt: HostRuntime) -> Result<(), Fail> {
         parent: &through,
         key: "typo1",
     };
-    let paths = [
-        (alias, "."),
-        (first, ".[0]"),
-        (Path::Unknown { parent: &first }, ".[0].?"),
-        (
-            Path::Map {
-                parent: &alias,
-                key: "k",
-            },
-            "k",
-        ),
-        (Path::Unknown { parent: &alias }, "?"),
-        (typo, "dependencies.serde.typo1"),
-        (
-            Path::Seq {
-                parent: &typo,
-                index: 12,
-            },
-            "dependencies.serde.typo1[12]",
-        ),
+    let texts = vec![in alloc;
+        alias.to_string(alloc)?,
+        first.to_string(alloc)?,
+        unknown.to_string(alloc)?,
+        key.to_string(alloc)?,
+        Path::Unknown { parent: &alias }.to_string(alloc)?,
+        typo.to_string(alloc)?,
+        Path::Seq {
+            parent: &typo,
+            index: 12
+        }
+        .to_string(alloc)?,
+    ]?;
+    Ok(texts)
+}
+
+#[test]
+fn paths_leave_aliases_out(rt: HostRuntime) -> Result<(), Fail> {
+    let expected = [
+        ".",
+        ".[0]",
+        ".[0].?",
+        "k",
+        "?",
+        "dependencies.serde.typo1",
+        "dependencies.serde.typo1[12]",
     ];
-    for (path, expected) in paths {
-        let text = path.to_string(alloc)?;
-        assert_eq!(rt; text.as_str(), expected);
+    let texts = path_texts(rt.alloc())?;
+    assert_eq!(rt; texts.len(), expected.len());
+    for (text, wanted) in texts.iter().zip(expected) {
+        assert_eq!(rt; text.as_str(), wanted);
     }
     Ok(())
 }
@@ -94,15 +105,26 @@ fn said_at(alloc: Global, error: Error, mark: Mark, key: &str) -> Result<String,
 }
 
 #[test]
-fn a_fault_is_given_a_place_once(rt: HostRuntime) -> Result<(), Fail> {
+fn a_fault_is_given_a_place(rt: HostRuntime) -> Result<(), Fail> {
     let alloc = rt.alloc();
+    let rows = [
+        ("k", "k: no at line 2 column 1"),
+        (".", "no at line 2 column 1"),
+    ];
+    for (key, expected) in rows {
+        let error = Error::new(custom(alloc, "no")?);
+        let text = said_at(alloc, error, mark(1, 0), key)?;
+        assert_eq!(rt; text.as_str(), expected);
+    }
     let whole = said_at(alloc, Error::new(Cause::EndOfStream), mark(9, 9), "k")?;
     assert_eq!(rt; whole.as_str(), "EOF while parsing a value");
-    let error = Error::new(custom(alloc, "no")?);
-    assert!(rt; error.location().is_none());
-    let dotted = said_at(alloc, error.copy(alloc)?, mark(1, 0), ".")?;
-    assert_eq!(rt; dotted.as_str(), "no at line 2 column 1");
-    let placed = error.fix_mark(alloc, mark(0, 3), &Path::Root)?;
+    Ok(())
+}
+
+#[test]
+fn a_place_stays(rt: HostRuntime) -> Result<(), Fail> {
+    let alloc = rt.alloc();
+    let placed = Error::new(custom(alloc, "no")?).fix_mark(alloc, mark(0, 3), &Path::Root)?;
     let location = placed.location().ok_or("no location")?;
     assert_eq!(rt;
         (location.index(), location.line(), location.column()),
