@@ -6,7 +6,7 @@ use Rattle.yaml_shape.specs.PlainData.{PlainData}
 use Rattle.yaml_shape.specs.PlainShape.{PlainShape}
 use Rattle.yaml_read.specs.DocTree.{DocNode}
 use Rattle.yaml_read.specs.PlainDocument.{PlainDocument}
-use Rattle.yaml_read.specs.Reads.{PlainLimits, IsTreeOf, Reads, IsReadingFault}
+use Rattle.yaml_read.specs.Reads.{PlainLimits, Reads, IsReadingFault}
 use Rattle.serde_yaml.specs.PlainStream.{PlainStream}
 
 -- the stream was not gone through, its first document is this one, and others follow

@@ -52,25 +52,25 @@ impl<'de> Model for Deserializer<'de> {
 // Reads one document, behind which others may follow.
 fn read_first<'de>(
     alloc: Global,
-    document: Document<'de>,
+    document: &Document<'de>,
     schema: &Schema,
     id: ShapeId,
     others: bool,
 ) -> Result<Data<'de>>
     requires { id.0 < length schema.now }
-    ensures whole { OnOk result ((others ≡ false) × (document.entry.ending ≡ None)) }
-    ensures found { IfOk result (λ v. (tree : DocNode) → IsTreeOf document.entry tree
-        → Reads default_limits schema.now id.0 tree (length document.entry.events) (data_of v)) }
-    ensures only { (tree : DocNode) (v : PlainData) → others ≡ false → IsTreeOf document.entry tree
-        → Reads default_limits schema.now id.0 tree (length document.entry.events) v → Gives data_of result (Ok v) }
-    ensures more { (tree : DocNode) (v : PlainData) → others ≡ true → IsTreeOf document.entry tree
-        → Reads default_limits schema.now id.0 tree (length document.entry.events) v
+    ensures whole { OnOk result ((others ≡ false) × (document.now.ending ≡ None)) }
+    ensures found { IfOk result (λ v. (tree : DocNode) → IsTreeOf document.now tree
+        → Reads default_limits schema.now id.0 tree (length document.now.events) (data_of v)) }
+    ensures only { (tree : DocNode) (v : PlainData) → others ≡ false → IsTreeOf document.now tree
+        → Reads default_limits schema.now id.0 tree (length document.now.events) v → Gives data_of result (Ok v) }
+    ensures more { (tree : DocNode) (v : PlainData) → others ≡ true → IsTreeOf document.now tree
+        → Reads default_limits schema.now id.0 tree (length document.now.events) v
         → Gives data_of result (Err MoreThanOneDocument) }
-    ensures refused { IfErr result (λ fault. (tree : DocNode) (v : PlainData) (d k : ℕ) → others ≡ false → IsTreeOf document.entry tree
-        → Means schema.now tree id.0 tree false v d k → IsRefusal default_limits (length document.entry.events) d k fault) }
-    ensures faults { IfErr result (λ fault. (tree : DocNode) → IsTreeOf document.entry tree → is_memory fault ≡ false
-        → IsReadingFault schema.now (slice_get document.entry.events) fault
-        ⊎ ((fault ≡ MoreThanOneDocument) × (others ≡ true) × (v : PlainData) × Reads default_limits schema.now id.0 tree (length document.entry.events) v)) }
+    ensures refused { IfErr result (λ fault. (tree : DocNode) (v : PlainData) (d k : ℕ) → others ≡ false → IsTreeOf document.now tree
+        → Means schema.now tree id.0 tree false v d k → IsRefusal default_limits (length document.now.events) d k fault) }
+    ensures faults { IfErr result (λ fault. (tree : DocNode) → IsTreeOf document.now tree → is_memory fault ≡ false
+        → IsReadingFault schema.now (slice_get document.now.events) fault
+        ⊎ ((fault ≡ MoreThanOneDocument) × (others ≡ true) × (v : PlainData) × Reads default_limits schema.now id.0 tree (length document.now.events) v)) }
 {
     match document.deserialize(alloc, schema, id) {
         Ok(found) => {
@@ -160,11 +160,11 @@ impl<'de> Deserializer<'de> {
             return Err(Error::new(Cause::MoreThanOneDocument));
         }
         match source {
-            Source::One(document) => read_first(alloc, document, schema, id, false),
+            Source::One(document) => read_first(alloc, &document, schema, id, false),
             Source::Stream(mut documents) => match documents.next_document() {
                 Some(document) => {
                     let others = is_there(documents.next_document());
-                    read_first(alloc, document, schema, id, others)
+                    read_first(alloc, &document, schema, id, others)
                 }
                 None => Err(Error::new(Cause::EndOfStream)),
             },
