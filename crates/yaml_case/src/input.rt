@@ -1,0 +1,58 @@
+//! The whole input: a line for each event, and at most one for the parser's fault, which is the last.
+
+use crate::line::{self, Line};
+use std::alloc::{AllocError, Global};
+use yaml_base::{Event, Mark, ParserFault};
+
+/// What the input says.
+#[derive(Drop)]
+pub enum Input {
+    /// Each line was taken: events with their marks, and the fault that ended them, if there was one.
+    Events(Vec<(Event<'static>, Mark)>, Option<ParserFault>),
+    /// The line with this number, counted from 1, is the first that was not taken.
+    BadLine(usize),
+}
+
+// The first line of an input that isn't empty, without its line feed, and what follows.
+fn first_line(text: &[u8]) -> (&[u8], &[u8]) {
+    match text.iter().position(|b| *b == b'\n') {
+        Some(end) => (&text[..end], &text[end + 1..]),
+        None => (text, &[]),
+    }
+}
+
+// What a line says, unless lines like it aren't taken.
+fn taken(alloc: Global, text: &[u8]) -> Result<Option<Line>, AllocError> {
+    match line::parse(alloc, text)? {
+        Some(line) => {
+            if line::is_taken(&line) {
+                Ok(Some(line))
+            } else {
+                Ok(None)
+            }
+        }
+        None => Ok(None),
+    }
+}
+
+/// What the lines of an input say.
+pub fn parse(alloc: Global, text: &[u8]) -> Result<Input, AllocError> {
+    let mut events = Vec::new(alloc);
+    let mut fault = None;
+    let mut number = 0;
+    let mut rest = text;
+    while !rest.is_empty() {
+        number += 1;
+        let (line, after) = first_line(rest);
+        if fault.is_some() {
+            return Ok(Input::BadLine(number));
+        }
+        match taken(alloc, line)? {
+            Some(Line::Event(event, mark)) => events.push((event, mark))?,
+            Some(Line::Fault(found)) => fault = Some(found),
+            None => return Ok(Input::BadLine(number)),
+        }
+        rest = after;
+    }
+    Ok(Input::Events(events, fault))
+}

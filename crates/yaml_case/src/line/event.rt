@@ -1,0 +1,174 @@
+//! An event as a line writes it.
+
+use crate::escape::unescape;
+use crate::line::parts::{cut, strip};
+use std::alloc::{AllocError, Global};
+use yaml_base::{Anchor, Event, MappingStart, Scalar, ScalarStyle, SequenceStart, Tag};
+
+// The event of a line with one word and nothing more.
+fn bare_event(text: &[u8]) -> Option<Event<'static>> {
+    if text == b"+STR".as_slice() {
+        return Some(Event::StreamStart);
+    }
+    if text == b"-STR".as_slice() {
+        return Some(Event::StreamEnd);
+    }
+    if text == b"+DOC".as_slice() {
+        return Some(Event::DocumentStart);
+    }
+    if text == b"-DOC".as_slice() {
+        return Some(Event::DocumentEnd);
+    }
+    if text == b"-SEQ".as_slice() {
+        return Some(Event::SequenceEnd);
+    }
+    if text == b"-MAP".as_slice() {
+        return Some(Event::MappingEnd);
+    }
+    None
+}
+
+// The anchor that a text names.
+fn anchor_named(alloc: Global, name: &[u8]) -> Result<Option<Anchor>, AllocError> {
+    if name.is_empty() || name.contains(&b' ') {
+        return Ok(None);
+    }
+    match unescape(alloc, name)? {
+        Some(bytes) => Ok(Some(Anchor::new(bytes))),
+        None => Ok(None),
+    }
+}
+
+// What stands in a text up to its first space, and the rest of it from there on.
+fn word_of(text: &[u8]) -> (&[u8], &[u8]) {
+    match text.iter().position(|b| *b == b' ') {
+        Some(end) => (&text[..end], &text[end..]),
+        None => (text, &[]),
+    }
+}
+
+// The anchor at the start of a text, where there is one, and the rest.
+fn anchor_part(alloc: Global, text: &[u8]) -> Result<Option<(Option<Anchor>, &[u8])>, AllocError> {
+    let Some(text) = strip(text, b" &") else {
+        return Ok(Some((None, text)));
+    };
+    let (name, rest) = word_of(text);
+    match anchor_named(alloc, name)? {
+        Some(anchor) => Ok(Some((Some(anchor), rest))),
+        None => Ok(None),
+    }
+}
+
+// The tag at the start of a text, where there is one, and the rest.
+fn tag_part(alloc: Global, text: &[u8]) -> Result<Option<(Option<Tag>, &[u8])>, AllocError> {
+    let Some(text) = strip(text, b" <") else {
+        return Ok(Some((None, text)));
+    };
+    let Some((name, rest)) = cut(text, b'>') else {
+        return Ok(None);
+    };
+    match unescape(alloc, name)? {
+        Some(bytes) => Ok(Some((Some(Tag::new(bytes)), rest))),
+        None => Ok(None),
+    }
+}
+
+// The style that a byte stands for.
+fn style_of(byte: u8) -> Option<ScalarStyle> {
+    match byte {
+        b':' => Some(ScalarStyle::Plain),
+        b'\'' => Some(ScalarStyle::SingleQuoted),
+        b'"' => Some(ScalarStyle::DoubleQuoted),
+        b'|' => Some(ScalarStyle::Literal),
+        b'>' => Some(ScalarStyle::Folded),
+        _ => None,
+    }
+}
+
+// The style and the text of a scalar, behind its anchor and tag.
+fn content(alloc: Global, text: &[u8]) -> Result<Option<(ScalarStyle, Vec<u8>)>, AllocError> {
+    let Some(text) = strip(text, b" ") else {
+        return Ok(None);
+    };
+    let Some((sign, text)) = text.split_first() else {
+        return Ok(None);
+    };
+    let Some(style) = style_of(*sign) else {
+        return Ok(None);
+    };
+    match unescape(alloc, text)? {
+        Some(value) => Ok(Some((style, value))),
+        None => Ok(None),
+    }
+}
+
+// The anchor and the tag at the start of a text, where they are there, and the rest.
+fn properties(
+    alloc: Global,
+    text: &[u8],
+) -> Result<Option<(Option<Anchor>, Option<Tag>, &[u8])>, AllocError> {
+    let Some((anchor, text)) = anchor_part(alloc, text)? else {
+        return Ok(None);
+    };
+    let Some((tag, text)) = tag_part(alloc, text)? else {
+        return Ok(None);
+    };
+    Ok(Some((anchor, tag, text)))
+}
+
+// The anchor and the tag that a text consists of.
+fn only_properties(
+    alloc: Global,
+    text: &[u8],
+) -> Result<Option<(Option<Anchor>, Option<Tag>)>, AllocError> {
+    let Some((anchor, tag, rest)) = properties(alloc, text)? else {
+        return Ok(None);
+    };
+    if rest.is_empty() { Ok(Some((anchor, tag))) } else { Ok(None) }
+}
+
+// The scalar that stands behind the word for one.
+fn scalar(alloc: Global, text: &[u8]) -> Result<Option<Scalar<'static>>, AllocError> {
+    let Some((anchor, tag, text)) = properties(alloc, text)? else {
+        return Ok(None);
+    };
+    let Some((style, value)) = content(alloc, text)? else {
+        return Ok(None);
+    };
+    Ok(Some(Scalar {
+        anchor,
+        tag,
+        value,
+        style,
+        repr: None,
+    }))
+}
+
+/// The event that stands behind the mark of a line, or `None` where none does.
+pub fn parse(alloc: Global, text: &[u8]) -> Result<Option<Event<'static>>, AllocError> {
+    if let Some(rest) = strip(text, b"=VAL") {
+        return match scalar(alloc, rest)? {
+            Some(scalar) => Ok(Some(Event::Scalar(scalar))),
+            None => Ok(None),
+        };
+    }
+    if let Some(rest) = strip(text, b"+SEQ") {
+        return match only_properties(alloc, rest)? {
+            Some((anchor, tag)) => Ok(Some(Event::SequenceStart(SequenceStart { anchor, tag }))),
+            None => Ok(None),
+        };
+    }
+    if let Some(rest) = strip(text, b"+MAP") {
+        return match only_properties(alloc, rest)? {
+            Some((anchor, tag)) => Ok(Some(Event::MappingStart(MappingStart { anchor, tag }))),
+            None => Ok(None),
+        };
+    }
+    if let Some(rest) = strip(text, b"=ALI *") {
+        return match anchor_named(alloc, rest)? {
+            Some(anchor) => Ok(Some(Event::Alias(anchor))),
+            None => Ok(None),
+        };
+    }
+    Ok(bare_event(text))
+}

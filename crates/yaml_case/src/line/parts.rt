@@ -1,0 +1,49 @@
+//! The parts of a line: its mark, and what stands before or behind a byte or a word.
+
+ghost use Rattle.std.specs.Prelude.{◌≡◌, ◌≢◌, ℕ, List, ◌∷◌, ◌++◌, MatchOption};
+ghost use Rattle.yaml_base.specs.Position.{Position};
+ghost use Rattle.yaml_case.specs.Escape.{Lacks};
+ghost use Rattle.yaml_case.specs.Place.{IsNumber, IsMarked};
+
+use yaml_base::Mark;
+
+/// What follows the word at the start of a text.
+pub fn strip<'a>(text: &'a [u8], word: &[u8]) -> Option<&'a [u8]>
+    ensures { MatchOption result ((rest : List ℕ) → text.now ≢ word.now ++ rest)
+        (λ rest. text.now ≡ word.now ++ rest.now) }
+{
+    text.strip_prefix(word)
+}
+
+/// What stands before the first such byte of a text, and what behind it.
+pub fn cut(text: &[u8], byte: u8) -> Option<(&[u8], &[u8])>
+    ensures { MatchOption result (Lacks text.now byte)
+        (λ parts. (text.now ≡ parts.0.now ++ byte ∷ parts.1.now) × Lacks parts.0.now byte) }
+{
+    let end = text.iter().position(|b| *b == byte)?;
+    Some((&text[..end], &text[end + 1..]))
+}
+
+/// The number that a text of decimal digits writes, if it is a `u64`.
+pub fn number(text: &[u8]) -> Option<u64>
+    ensures { MatchOption result ((n : ℕ) → ¬ (IsNumber text.now n)) (IsNumber text.now) }
+{
+    if text.first() == Some(&b'+') {
+        return None;
+    }
+    let text = std::str::from_utf8(text).ok()?;
+    text.parse::<u64>().ok()
+}
+
+/// The mark at the start of a line, and what stands behind it and the space that follows it.
+pub fn mark_of(text: &[u8]) -> Option<(Mark, &[u8])>
+    ensures { MatchOption result
+        ((mark : Position) → (rest : List ℕ) → ¬ (IsMarked text.now mark rest))
+        (λ found. IsMarked text.now found.0 found.1.now) }
+{
+    let (index, text) = cut(text, b':')?;
+    let (line, text) = cut(text, b':')?;
+    let (column, text) = cut(text, b' ')?;
+    let mark = Mark::new(number(index)?, number(line)?, number(column)?)?;
+    Some((mark, text))
+}
