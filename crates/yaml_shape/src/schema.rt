@@ -1,11 +1,11 @@
 //! Tables of shapes that name only each other.
 
-ghost use Rattle.std.specs.Prelude.{◌≡◌, ◌<◌, ◌↔◌, map, length, IsTrue, IfOk, IfErr};
+ghost use Rattle.std.specs.Prelude.{◌≡◌, ◌<◌, ◌↔◌, map, length, IsTrue, IfOk, IfErr, IfSome, IfNone};
 ghost use Rattle.std.specs.Option.{option_map};
 ghost use Rattle.yaml_shape.specs.PlainShape.{shape_at};
 ghost use Rattle.yaml_shape.specs.ShapeView.{shape_of};
 ghost use Rattle.yaml_shape.specs.Validity.{IsValidSchema, NamesWithin, AllNameWithin};
-ghost use Rattle.yaml_shape.specs.Refusal.{IsRefused};
+ghost use Rattle.yaml_shape.specs.Refusal.{IsRefused, IsFirstOutside};
 
 use crate::fault::SchemaFault;
 use crate::shape::{Shape, ShapeId};
@@ -48,9 +48,12 @@ fn names_within(shape: &Shape, size: usize) -> bool
 }
 
 // The first shape that names a number outside the table, if there is one.
-fn first_outside(shapes: &[Shape]) -> Option<usize> {
-    for (number, shape) in shapes.iter().enumerate() {
-        if !names_within(shape, shapes.len()) {
+fn first_outside(shapes: &[Shape]) -> Option<usize>
+    ensures none { IfNone result (AllNameWithin (length shapes.now) (map shape_of shapes.now)) }
+    ensures some { IfSome result (IsFirstOutside (map shape_of shapes.now)) }
+{
+    for number in 0..shapes.len() {
+        if !names_within(&shapes[number], shapes.len()) {
             return Some(number);
         }
     }
