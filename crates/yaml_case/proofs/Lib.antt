@@ -1,1 +1,3 @@
 -- Lemmas of this crate.
+pub mod EscapeLaws
+pub mod PlaceLaws

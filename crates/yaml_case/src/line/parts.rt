@@ -1,9 +1,10 @@
 //! The parts of a line: its mark, and what stands before or behind a byte or a word.
 
-ghost use Rattle.std.specs.Prelude.{◌≡◌, ◌≢◌, ℕ, List, ◌∷◌, ◌++◌, MatchOption};
+ghost use Rattle.std.specs.Prelude.{◌≡◌, ◌≢◌, ◌≤◌, ℕ, List, ◌∷◌, ◌++◌, MatchOption};
+ghost use Rattle.std.specs.Char.{digit_value};
 ghost use Rattle.yaml_base.specs.Position.{Position};
 ghost use Rattle.yaml_case.specs.Escape.{Lacks};
-ghost use Rattle.yaml_case.specs.Place.{IsNumber, IsMarked};
+ghost use Rattle.yaml_case.specs.Place.{IsNumber, HasNumber, IsMarked};
 
 use yaml_base::Mark;
 
@@ -31,8 +32,26 @@ pub fn number(text: &[u8]) -> Option<u64>
     if text.first() == Some(&b'+') {
         return None;
     }
-    let text = std::str::from_utf8(text).ok()?;
-    text.parse::<u64>().ok()
+    match std::str::from_utf8(text) {
+        Ok(text) => text.parse::<u64>().ok(),
+        Err(_) => None,
+    }
+}
+
+// The number that a text begins with, and what stands behind the byte that follows it.
+fn number_before(text: &[u8], byte: u8) -> Option<(u64, &[u8])>
+    requires { 10 ≤ digit_value byte }
+    ensures { MatchOption result
+        ((n : ℕ) → (rest : List ℕ) → ¬ (HasNumber text.now byte n rest))
+        (λ found. HasNumber text.now byte found.0 found.1.now) }
+{
+    let Some((digits, rest)) = cut(text, byte) else {
+        return None;
+    };
+    match number(digits) {
+        Some(number) => Some((number, rest)),
+        None => None,
+    }
 }
 
 /// The mark at the start of a line, and what stands behind it and the space that follows it.
@@ -41,9 +60,17 @@ pub fn mark_of(text: &[u8]) -> Option<(Mark, &[u8])>
         ((mark : Position) → (rest : List ℕ) → ¬ (IsMarked text.now mark rest))
         (λ found. IsMarked text.now found.0 found.1.now) }
 {
-    let (index, text) = cut(text, b':')?;
-    let (line, text) = cut(text, b':')?;
-    let (column, text) = cut(text, b' ')?;
-    let mark = Mark::new(number(index)?, number(line)?, number(column)?)?;
-    Some((mark, text))
+    let Some((index, text)) = number_before(text, b':') else {
+        return None;
+    };
+    let Some((line, text)) = number_before(text, b':') else {
+        return None;
+    };
+    let Some((column, text)) = number_before(text, b' ') else {
+        return None;
+    };
+    match Mark::new(index, line, column) {
+        Some(mark) => Some((mark, text)),
+        None => None,
+    }
 }
