@@ -8,35 +8,8 @@ use Rattle.std.proofs.lemmas.Str.{IsUtf8-from_ascii}
 use Rattle.std.proofs.lemmas.Fmt.{IsAscii-from_digits}
 use Rattle.yaml_base.specs.Position.{Position}
 use Rattle.yaml_case.specs.Escape.{Lacks}
+use Rattle.yaml_case.proofs.CutLaws.{lacks-cons, cut-unique, cut_has}
 use Rattle.yaml_case.specs.Place.{IsNumber, HasNumber, IsMarked}
-
--- the parts of a text that lacks a byte
-lacks-head : (byte x : ℕ) (xs : List ℕ) → Lacks (x ∷ xs) byte → x ≢ byte
-lacks-head byte x xs l = l 0 x (omega arith)
-
-lacks-tail : (byte x : ℕ) (xs : List ℕ) → Lacks (x ∷ xs) byte → Lacks xs byte
-lacks-tail byte x xs l = λ k d h. l (suc k) d (omega arith)
-
-lacks-cons : (byte x : ℕ) (xs : List ℕ) → x ≢ byte → Lacks xs byte → Lacks (x ∷ xs) byte
-lacks-cons byte x xs not l zero d h = not
-lacks-cons byte x xs not l (suc k) d h = l k d (omega arith)
-
--- a text is cut at the first such byte in one way
-pub cut-unique : (byte : ℕ) (a b xs ys : List ℕ) → Lacks a byte → Lacks b byte → a ++ byte ∷ xs ≡ b ++ byte ∷ ys → (a ≡ b) × (xs ≡ ys)
-cut-unique byte [] [] xs ys la lb e = (refl, ap (λ (l : List ℕ). drop 1 l) e)
-cut-unique byte [] (y ∷ b) xs ys la lb e = absurd (lacks-head byte y b lb (sym (ap (λ (l : List ℕ). get_or l 0 0) e)))
-cut-unique byte (x ∷ a) [] xs ys la lb e = absurd (lacks-head byte x a la (ap (λ (l : List ℕ). get_or l 0 0) e))
-cut-unique byte (x ∷ a) (y ∷ b) xs ys la lb e =
-    let h : x ≡ y = ap (λ (l : List ℕ). get_or l 0 0) e in
-    let t : a ++ byte ∷ xs ≡ b ++ byte ∷ ys = ap (λ (l : List ℕ). drop 1 l) e in
-    let rest = cut-unique byte a b xs ys (lacks-tail byte x a la) (lacks-tail byte y b lb) t in
-    let same = rest.0 in
-    ((cc), rest.1)
-
--- a text that has the byte doesn't lack it
-pub cut_has : (byte : ℕ) (a xs : List ℕ) → Lacks (a ++ byte ∷ xs) byte → ⊥
-cut_has byte [] xs l = lacks-head byte byte xs l refl
-cut_has byte (x ∷ a) xs l = cut_has byte a xs (lacks-tail byte x (a ++ byte ∷ xs) l)
 
 -- digits lack each byte that is no digit
 pub digits-lack : (byte : ℕ) (digits : List ℕ) → 10 ≤ digit_value byte → AllDigits 10 digits → Lacks digits byte
