@@ -77,6 +77,28 @@ BeginsWith-unique text a b r s f g =
         sym (ap first_of f.split ∙ first_of-spelling f.unit r a f.spelling) ∙ (ap first_of g.split ∙ first_of-spelling g.unit s b g.spelling) in
     ((cc), (cc))
 
+-- the empty text begins with no byte
+begins_some : (text : List ℕ) (byte : ℕ) (rest : List ℕ) → text ≡ [] → BeginsWith text byte rest → ⊥
+begins_some text byte rest e b = let l : 0 ≡ length (b.unit ++ rest) = ap length (sym e ∙ b.split) in nothing_spelled b.unit b.spelling l where
+  nothing_spelled : (unit : List ℕ) → IsSpelling unit byte → 0 ≡ length (unit ++ rest) → ⊥
+  nothing_spelled unit (itself e low high not) l = let m : 0 ≡ length (byte ∷ rest) = l ∙ ap (λ u. length (u ++ rest)) e in omega arith
+  nothing_spelled unit (backslash e f) l = let m : 0 ≡ length (codes "\\\\" ++ rest) = l ∙ ap (λ u. length (u ++ rest)) e in omega arith
+  nothing_spelled unit (line_feed e f) l = let m : 0 ≡ length (codes "\\n" ++ rest) = l ∙ ap (λ u. length (u ++ rest)) e in omega arith
+  nothing_spelled unit (tab e f) l = let m : 0 ≡ length (codes "\\t" ++ rest) = l ∙ ap (λ u. length (u ++ rest)) e in omega arith
+  nothing_spelled unit (number high low e h k f) l = let m : 0 ≡ length ((codes "\\x" ++ (high ∷ low ∷ [])) ++ rest) = l ∙ ap (λ u. length (u ++ rest)) e in omega arith
+
+-- a text writes one list of bytes
+pub Spells-unique : (text a b : List ℕ) → Spells text a → Spells text b → a ≡ b
+Spells-unique text [] [] f g = refl
+Spells-unique text [] (y ∷ b) f g = absurd (begins_some text y g.0 f g.1)
+Spells-unique text (x ∷ a) [] f g = absurd (begins_some text x f.0 g f.1)
+Spells-unique text (x ∷ a) (y ∷ b) f g =
+    let u = BeginsWith-unique text x y f.0 g.0 f.1 g.1 in
+    let v = Spells-unique f.0 a b f.2 (subst (λ t. Spells t b) (sym u.1) g.2) in
+    let first : x ≡ y = u.0 in
+    let others : a ≡ b = v in
+    ap (λ c. c ∷ a) first ∙ ap (λ cs. y ∷ cs) others
+
 -- the text writes the bytes and then what the rest writes, and nothing else
 pub record WritesThen (text : List ℕ) (bytes rest : List ℕ) : Type 0 where
   pub sound : (more : List ℕ) → Spells rest more → Spells text (bytes ++ more)

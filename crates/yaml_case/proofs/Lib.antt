@@ -2,5 +2,8 @@
 pub mod CutLaws
 pub mod EscapeLaws
 pub mod EventLaws
+pub mod FaultLaws
+pub mod LineLaws
 pub mod PlaceLaws
 pub mod WordLaws
+pub mod InputLaws

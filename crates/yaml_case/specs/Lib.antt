@@ -1,4 +1,7 @@
 -- What contracts of this crate cite.
 pub mod Escape
 pub mod EventText
+pub mod FaultText
+pub mod InputText
+pub mod LineText
 pub mod Place

@@ -1,5 +1,10 @@
 //! The whole input: a line for each event, and at most one for the parser's fault, which is the last.
 
+ghost use Rattle.std.specs.Prelude.{◌≡◌, ◌<◌, ◌∷◌, length, IfOk, MatchOption};
+ghost use Rattle.yaml_case.specs.LineText.{Said, said_of, IsTaken};
+ghost use Rattle.yaml_case.specs.InputText.{lines_of, IsInputOf};
+
+use crate::line::parts::cut;
 use crate::line::{self, Line};
 use std::alloc::{AllocError, Global};
 use yaml_base::{Event, Mark, ParserFault};
@@ -14,15 +19,22 @@ pub enum Input {
 }
 
 // The first line of an input that isn't empty, without its line feed, and what follows.
-fn first_line(text: &[u8]) -> (&[u8], &[u8]) {
-    match text.iter().position(|b| *b == b'\n') {
-        Some(end) => (&text[..end], &text[end + 1..]),
+fn first_line(text: &[u8]) -> (&[u8], &[u8])
+    requires { 0 < length text.now }
+    ensures lines { lines_of text.now ≡ result.0.now ∷ lines_of result.1.now }
+    ensures shorter { length result.1.now < length text.now }
+{
+    match cut(text, b'\n') {
+        Some((line, rest)) => (line, rest),
         None => (text, &[]),
     }
 }
 
 // What a line says, unless lines like it aren't taken.
-fn taken(alloc: Global, text: &[u8]) -> Result<Option<Line>, AllocError> {
+fn taken(alloc: Global, text: &[u8]) -> Result<Option<Line>, AllocError>
+    ensures { IfOk result (λ found. MatchOption found
+        ((said : Said) → ¬ (IsTaken text.now said)) (λ said. IsTaken text.now (said_of said))) }
+{
     match line::parse(alloc, text)? {
         Some(line) => {
             if line::is_taken(&line) {
@@ -36,7 +48,9 @@ fn taken(alloc: Global, text: &[u8]) -> Result<Option<Line>, AllocError> {
 }
 
 /// What the lines of an input say.
-pub fn parse(alloc: Global, text: &[u8]) -> Result<Input, AllocError> {
+pub fn parse(alloc: Global, text: &[u8]) -> Result<Input, AllocError>
+    ensures { IfOk result (IsInputOf (lines_of text.now)) }
+{
     let mut events = Vec::new(alloc);
     let mut fault = None;
     let mut number = 0;

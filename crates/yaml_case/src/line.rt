@@ -1,8 +1,11 @@
 //! One line of the input: an event with its mark, or the fault of the parser.
 
+ghost use Rattle.std.specs.Prelude.{◌≡◌, IfOk, MatchOption};
+ghost use Rattle.yaml_case.specs.LineText.{Said, said_of, IsSaid, IsLine, is_taken};
+
 mod event;
 mod fault;
-mod parts;
+pub mod parts;
 
 use parts::{mark_of, strip};
 use std::alloc::{AllocError, Global};
@@ -17,11 +20,11 @@ pub enum Line {
     Fault(ParserFault),
 }
 
-/// What a line says, or `None` where it says nothing.
-pub fn parse(alloc: Global, line: &[u8]) -> Result<Option<Line>, AllocError> {
-    let Some((mark, text)) = mark_of(line) else {
-        return Ok(None);
-    };
+// What stands behind the mark of a line says.
+fn said(alloc: Global, text: &[u8], mark: Mark) -> Result<Option<Line>, AllocError>
+    ensures { IfOk result (λ found. MatchOption found
+        ((said : Said) → ¬ (IsSaid text.now mark said)) (λ line. IsSaid text.now mark (said_of line))) }
+{
     if let Some(rest) = strip(text, b"!ERR ") {
         return match fault::parse(alloc, rest, mark)? {
             Some(fault) => Ok(Some(Line::Fault(fault))),
@@ -34,8 +37,24 @@ pub fn parse(alloc: Global, line: &[u8]) -> Result<Option<Line>, AllocError> {
     }
 }
 
+/// What a line says, or `None` where it says nothing.
+pub fn parse(alloc: Global, line: &[u8]) -> Result<Option<Line>, AllocError>
+    ensures { IfOk result (λ found. MatchOption found
+        ((said : Said) → ¬ (IsLine line.now said)) (λ said. IsLine line.now (said_of said))) }
+{
+    let Some((mark, text)) = mark_of(line) else {
+        return Ok(None);
+    };
+    match said(alloc, text, mark)? {
+        Some(line) => Ok(Some(line)),
+        None => Ok(None),
+    }
+}
+
 /// Whether lines like this one are taken: no anchor, tag, alias or fault is, so far.
-pub fn is_taken(line: &Line) -> bool {
+pub fn is_taken(line: &Line) -> bool
+    ensures { result ≡ is_taken (said_of line.now) }
+{
     match line {
         Line::Fault(_) => false,
         Line::Event(event, _) => match event {

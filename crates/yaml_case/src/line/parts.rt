@@ -25,8 +25,8 @@ pub fn cut(text: &[u8], byte: u8) -> Option<(&[u8], &[u8])>
     Some((&text[..end], &text[end + 1..]))
 }
 
-/// The number that a text of decimal digits writes, if it is a `u64`.
-pub fn number(text: &[u8]) -> Option<u64>
+// The number that a text of decimal digits writes, if it is a `u64`.
+fn number(text: &[u8]) -> Option<u64>
     ensures { MatchOption result ((n : ℕ) → ¬ (IsNumber text.now n)) (IsNumber text.now) }
 {
     if text.first() == Some(&b'+') {
@@ -38,8 +38,8 @@ pub fn number(text: &[u8]) -> Option<u64>
     }
 }
 
-// The number that a text begins with, and what stands behind the byte that follows it.
-fn number_before(text: &[u8], byte: u8) -> Option<(u64, &[u8])>
+/// The number that a text begins with, and what stands behind the byte that follows it.
+pub fn number_before(text: &[u8], byte: u8) -> Option<(u64, &[u8])>
     requires { 10 ≤ digit_value byte }
     ensures { MatchOption result
         ((n : ℕ) → (rest : List ℕ) → ¬ (HasNumber text.now byte n rest))
