@@ -42,10 +42,10 @@ pub fn parse(alloc: Global, line: &[u8]) -> Result<Option<Line>, AllocError>
     ensures { IfOk result (λ found. MatchOption found
         ((said : Said) → ¬ (IsLine line.now said)) (λ said. IsLine line.now (said_of said))) }
 {
-    let Some((mark, text)) = mark_of(line) else {
+    let Some(marked) = mark_of(line) else {
         return Ok(None);
     };
-    match said(alloc, text, mark)? {
+    match said(alloc, marked.text, marked.mark)? {
         Some(line) => Ok(Some(line)),
         None => Ok(None),
     }

@@ -54,11 +54,20 @@ pub fn number_before(text: &[u8], byte: u8) -> Option<(u64, &[u8])>
     }
 }
 
+/// A line whose mark is read.
+#[derive(Drop)]
+pub struct Marked<'a> {
+    /// The mark.
+    pub mark: Mark,
+    /// What stands behind the mark and the space that follows it.
+    pub text: &'a [u8],
+}
+
 /// The mark at the start of a line, and what stands behind it and the space that follows it.
-pub fn mark_of(text: &[u8]) -> Option<(Mark, &[u8])>
+pub fn mark_of(text: &[u8]) -> Option<Marked<'_>>
     ensures { MatchOption result
         ((mark : Position) → (rest : List ℕ) → ¬ (IsMarked text.now mark rest))
-        (λ found. IsMarked text.now found.0 found.1.now) }
+        (λ marked. IsMarked text.now marked.mark marked.text.now) }
 {
     let Some((index, text)) = number_before(text, b':') else {
         return None;
@@ -70,7 +79,7 @@ pub fn mark_of(text: &[u8]) -> Option<(Mark, &[u8])>
         return None;
     };
     match Mark::new(index, line, column) {
-        Some(mark) => Some((mark, text)),
+        Some(mark) => Some(Marked { mark, text }),
         None => None,
     }
 }

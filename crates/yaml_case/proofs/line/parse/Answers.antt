@@ -7,8 +7,8 @@ returns-in_default c = λ said h. c.in_default.ensures h.mark h.text h.is_marked
 
 pub returns-in-Some-2 : goal.returns-in-Some-2
 returns-in-Some-2 c = record {
-  mark = c.in-Some.mark;
-  text = c.in-Some.text.now;
+  mark = c.in-Some.marked.mark;
+  text = c.in-Some.marked.text.now;
   is_marked = c.in-Some.ensures;
   is_said = rw c.in-Some-2.is at c.in_ok-line.ensures;
 }
