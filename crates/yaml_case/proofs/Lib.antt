@@ -7,3 +7,4 @@ pub mod LineLaws
 pub mod PlaceLaws
 pub mod WordLaws
 pub mod InputLaws
+pub mod ShowLaws

@@ -1,7 +1,10 @@
 -- What contracts of this crate cite.
+pub mod DataText
+pub mod DataTextView
 pub mod Escape
 pub mod EventText
 pub mod FaultText
 pub mod InputText
 pub mod LineText
 pub mod Place
+pub mod Quoted
