@@ -1,4 +1,5 @@
 -- What contracts of this crate cite.
+pub mod Answers
 pub mod DataText
 pub mod DataTextView
 pub mod Escape
@@ -8,3 +9,4 @@ pub mod InputText
 pub mod LineText
 pub mod Place
 pub mod Quoted
+pub mod Shapes

@@ -1,5 +1,13 @@
 //! A run of the program: its input is read whole, and one line is written.
 
+ghost use Rattle.std.specs.Prelude.{◌≡◌, ◌≢◌, ◌∷◌, [], ◌++◌, List, ℕ, codes, string_bytes, IfOk, IfSome};
+ghost use Rattle.std.specs.Io.KnownBytes.{Appends};
+ghost use Rattle.yaml_base.specs.ErrorText.{error_text};
+ghost use Rattle.yaml_shape.specs.DataView.{data_of};
+ghost use Rattle.yaml_case.specs.Answers.{IsReply, IsAnswer};
+ghost use Rattle.yaml_case.specs.DataText.{data_text};
+ghost use Rattle.yaml_case.specs.Shapes.{IsNoName};
+
 #[cfg(test)]
 mod tests;
 
@@ -10,7 +18,8 @@ use crate::show::show;
 use crate::status::Status;
 use std::alloc::{AllocError, Global};
 use std::io::{Read, Write};
-use yaml_shape::ShapeId;
+use yaml_base::Error;
+use yaml_shape::{Data, ShapeId};
 
 // The most calls of `read`. An input that hasn't ended by then counts as one that can't be read.
 const READ_CALLS: u32 = 1_048_576;
@@ -24,8 +33,17 @@ enum Unread {
     Memory,
 }
 
+// What is printed, with its line feed, and the status that goes with it.
+#[derive(Drop)]
+struct Answer {
+    status: Status,
+    line: String,
+}
+
 // All that the reader gives.
-fn read_input<R: Read>(alloc: Global, reader: &mut R) -> Result<Vec<u8>, Unread> {
+fn read_input<R: Read>(alloc: Global, reader: &mut R) -> Result<Vec<u8>, Unread>
+    ensures { IfOk result (λ input. IfSome (R.remaining reader.old) (λ bytes. input.items ≡ bytes)) }
+{
     let mut input = Vec::new(alloc);
     let mut buffer = [0u8; 4096];
     for _ in 0..READ_CALLS {
@@ -42,8 +60,11 @@ fn read_input<R: Read>(alloc: Global, reader: &mut R) -> Result<Vec<u8>, Unread>
     Err(Unread::Failed)
 }
 
-// Writes a line and its line feed. The status is the one that is given, unless the writer fails.
-fn print<W: Write>(writer: &mut W, line: &[u8], status: Status) -> Status {
+// Writes a line with its line feed. The status is the one that is given, unless the writer fails.
+fn print<W: Write>(writer: &mut W, line: &[u8], status: Status) -> Status
+    ensures { result ≢ Status.Failed
+        → (result ≡ status) × Appends (W.contents writer.old) (W.contents writer.new) line.now }
+{
     if writer.write_all(line).is_err() || writer.flush().is_err() {
         return Status::Failed;
     }
@@ -51,53 +72,89 @@ fn print<W: Write>(writer: &mut W, line: &[u8], status: Status) -> Status {
 }
 
 /// Prints that memory ran out.
-pub fn out_of_memory<W: Write>(writer: &mut W) -> Status {
+pub fn out_of_memory<W: Write>(writer: &mut W) -> Status
+    ensures { result ≢ Status.Failed → (result ≡ Status.Fault)
+        × Appends (W.contents writer.old) (W.contents writer.new) (codes "fault: out of memory\n") }
+{
     print(writer, b"fault: out of memory\n", Status::Fault)
 }
 
-// What is printed of events that were read as a shape.
-fn answer_to_events(alloc: Global, named: Named, input: Input) -> Result<(Status, String), AllocError> {
-    let (events, fault) = match input {
-        Input::Events(events, fault) => (events, fault),
+// Prints that the argument is none that the program takes.
+fn bad_argument<W: Write>(writer: &mut W) -> Status
+    ensures { result ≢ Status.Failed → (result ≡ Status.Refused)
+        × Appends (W.contents writer.old) (W.contents writer.new) (codes "bad argument\n") }
+{
+    print(writer, b"bad argument\n", Status::Refused)
+}
+
+// What is printed of data.
+fn found(alloc: Global, content: &Data<'_>) -> Result<Answer, AllocError>
+    ensures { IfOk result (λ answer. (answer.status ≡ Status.Read)
+        × (string_bytes answer.line ≡ data_text (data_of content.now) ++ 10 ∷ [])) }
+{
+    let mut line = String::new(alloc);
+    show(&mut line, content)?;
+    line.push('\n')?;
+    Ok(Answer {
+        status: Status::Read,
+        line,
+    })
+}
+
+// What is printed of a fault.
+fn fault(alloc: Global, fault: &Error) -> Result<Answer, AllocError>
+    ensures { IfOk result (λ answer. (answer.status ≡ Status.Fault)
+        × (string_bytes answer.line ≡ (codes "fault: " ++ error_text fault.now) ++ 10 ∷ [])) }
+{
+    let line = format!(in alloc; "fault: {fault}\n")?;
+    Ok(Answer {
+        status: Status::Fault,
+        line,
+    })
+}
+
+// What is printed of an input that is read as a shape.
+fn answer_to(alloc: Global, named: Named, input: &[u8]) -> Result<Answer, AllocError>
+    ensures { IfOk result (λ answer. (text : List ℕ)
+        × (string_bytes answer.line ≡ text ++ 10 ∷ []) × IsReply input.now answer.status text) }
+{
+    let (events, ended_by) = match input::parse(alloc, input)? {
+        Input::Events(events, ended_by) => (events, ended_by),
         Input::BadLine(number) => {
-            return Ok((Status::Refused, format!(in alloc; "bad line {number}\n")?));
+            return Ok(Answer {
+                status: Status::Refused,
+                line: format!(in alloc; "bad line {number}\n")?,
+            });
         }
     };
     let Ok(schema) = named.schema(alloc) else {
         return Err(AllocError);
     };
-    let mut text = String::new(alloc);
-    match read(alloc, events, fault, &schema, ShapeId(0)) {
-        Ok(content) => {
-            show(&mut text, &content)?;
-            text.push('\n')?;
-            Ok((Status::Read, text))
-        }
-        Err(fault) => {
-            write!(&mut text, "fault: {fault}\n")?;
-            Ok((Status::Fault, text))
-        }
+    match read(alloc, events, ended_by, &schema, ShapeId(0)) {
+        Ok(content) => found(alloc, &content),
+        Err(error) => fault(alloc, &error),
     }
 }
 
-// What is printed of an input that is read as a shape.
-fn answer(alloc: Global, named: Named, input: &[u8]) -> Result<(Status, String), AllocError> {
-    let input = input::parse(alloc, input)?;
-    answer_to_events(alloc, named, input)
-}
-
-/// Reads the input as the shape with this name, and prints what was read, or why nothing was.
-pub fn run<R: Read, W: Write>(alloc: Global, name: &str, reader: &mut R, writer: &mut W) -> Status {
+/// Reads the input as the shape with this name, and prints what was read, or why nothing was. The argument is looked at
+/// first, and all of the input is read before any line is looked at. Where the status is `Failed`, as it is where the
+/// reader or the writer failed, nothing is known of what was written.
+pub fn run<R: Read, W: Write>(alloc: Global, name: &str, reader: &mut R, writer: &mut W) -> Status
+    ensures prints { result ≢ Status.Failed → (text : List ℕ)
+        × IfSome (R.remaining reader.old) (λ input. IsAnswer name.now input result text)
+        × Appends (W.contents writer.old) (W.contents writer.new) (text ++ 10 ∷ []) }
+    ensures unread { IsNoName name.now → reader.new ≡ reader.old }
+{
     let Some(named) = Named::find(name) else {
-        return print(writer, b"bad argument\n", Status::Refused);
+        return bad_argument(writer);
     };
     let input = match read_input(alloc, reader) {
         Ok(input) => input,
         Err(Unread::Failed) => return Status::Failed,
         Err(Unread::Memory) => return out_of_memory(writer),
     };
-    match answer(alloc, named, input.as_slice()) {
-        Ok((status, text)) => print(writer, text.as_bytes(), status),
+    match answer_to(alloc, named, input.as_slice()) {
+        Ok(answer) => print(writer, answer.line.as_bytes(), answer.status),
         Err(_) => out_of_memory(writer),
     }
 }
@@ -111,6 +168,6 @@ pub fn start<R: Read, W: Write>(
 ) -> Status {
     match arguments {
         [name] => run(alloc, name.as_str(), reader, writer),
-        _ => print(writer, b"bad argument\n", Status::Refused),
+        _ => bad_argument(writer),
     }
 }

@@ -1,5 +1,10 @@
 //! The shapes that the argument of the program may name.
 
+ghost use Rattle.std.specs.Prelude.{◌≡◌, map, IfOk, IfErr, MatchOption};
+ghost use Rattle.yaml_shape.specs.ShapeView.{shape_of};
+ghost use Rattle.yaml_shape.specs.declared.fault.SchemaFault.TheVariants.{S5};
+ghost use Rattle.yaml_case.specs.Shapes.{name_of, IsNoName, table_of};
+
 use std::alloc::{AllocError, Global};
 use yaml_shape::{Schema, SchemaFault, Shape, ShapeId};
 
@@ -20,7 +25,9 @@ pub enum Named {
 
 impl Named {
     /// The shape with this name.
-    pub fn find(name: &str) -> Option<Named> {
+    pub fn find(name: &str) -> Option<Named>
+        ensures { MatchOption result (IsNoName name.now) (λ shape. name_of shape ≡ name.now) }
+    {
         match name {
             "bool" => Some(Named::Bool),
             "i64" => Some(Named::I64),
@@ -32,7 +39,9 @@ impl Named {
     }
 
     // The shapes that this one needs, itself first.
-    fn shapes(self, alloc: Global) -> Result<Vec<Shape>, AllocError> {
+    fn shapes(self, alloc: Global) -> Result<Vec<Shape>, AllocError>
+        ensures { IfOk result (λ shapes. map shape_of shapes.items ≡ table_of self) }
+    {
         match self {
             Named::Bool => Ok(vec![in alloc; Shape::Bool]?),
             Named::I64 => Ok(vec![in alloc; Shape::I64]?),
@@ -43,7 +52,10 @@ impl Named {
     }
 
     /// A schema whose first shape is this one.
-    pub fn schema(self, alloc: Global) -> Result<Schema, SchemaFault> {
+    pub fn schema(self, alloc: Global) -> Result<Schema, SchemaFault>
+        ensures ok { IfOk result (λ schema. schema ≡ table_of self) }
+        ensures memory { IfErr result (λ fault. fault ≡ S5) }
+    {
         match self.shapes(alloc) {
             Ok(shapes) => Schema::new(alloc, shapes),
             Err(_) => Err(SchemaFault::S5),
