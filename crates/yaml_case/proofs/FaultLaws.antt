@@ -33,15 +33,18 @@ kind_unspaced Writer = (refl, (refl, (refl, (refl, (refl, (refl, tt))))))
 kind_unspaced Emitter = (refl, (refl, (refl, (refl, (refl, (refl, (refl, tt)))))))
 kind_unspaced Other = (refl, (refl, (refl, (refl, (refl, tt)))))
 
+pub kind_spaceless : (kind : FaultKind) → Lacks (kind_name kind) 32
+kind_spaceless kind = lacks_unspaced _ (kind_unspaced kind)
+
 -- a text with no space is no fault
 pub no_space : (text : List ℕ) → Lacks text 32 → (fault : PlainFault) → ¬ (IsFaultText text fault)
 no_space text l fault f = cut_has 32 (kind_name fault.kind) f.behind_kind (subst (λ t. Lacks t 32) f.split l)
 
 -- what stands before the first space is the kind's name
-kind_and_rest : (text name after : List ℕ) → text ≡ name ++ 32 ∷ after → Lacks name 32 → (fault : PlainFault) → (f : IsFaultText text fault)
+pub kind_and_rest : (text name after : List ℕ) → text ≡ name ++ 32 ∷ after → Lacks name 32 → (fault : PlainFault) → (f : IsFaultText text fault)
     → (kind_name fault.kind ≡ name) × (f.behind_kind ≡ after)
 kind_and_rest text name after e l fault f =
-    cut-unique 32 (kind_name fault.kind) name f.behind_kind after (lacks_unspaced _ (kind_unspaced fault.kind)) l (sym f.split ∙ e)
+    cut-unique 32 (kind_name fault.kind) name f.behind_kind after (kind_spaceless fault.kind) l (sym f.split ∙ e)
 
 -- a text whose first word is no kind's name is no fault
 pub no_kind : (text name after : List ℕ) → text ≡ name ++ 32 ∷ after → Lacks name 32 → ((kind : FaultKind) → kind_name kind ≢ name)

@@ -6,7 +6,7 @@ use Rattle.yaml_base.specs.PlainEvent.{PlainScalar, PlainEvent, stream_start, st
 use Rattle.yaml_case.specs.EventText.{HasProperties, IsScalarText, IsEventText}
 
 -- texts with unlike bytes at a place are not the same
-unlike : {a b : List ℕ} (k : ℕ) → a ≡ b → (get_or a k 0 == get_or b k 0) ≡ false → ⊥
+pub unlike : {a b : List ℕ} (k : ℕ) → a ≡ b → (get_or a k 0 == get_or b k 0) ≡ false → ⊥
 unlike {a} {b} k e f = eqb-false (get_or a k 0) (get_or b k 0) f (ap (λ (l : List ℕ). get_or l k 0) e)
 
 -- where no scalar stands behind the word for one, the line is no event

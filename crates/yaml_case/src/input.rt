@@ -30,19 +30,16 @@ fn first_line(text: &[u8]) -> (&[u8], &[u8])
     }
 }
 
-// What a line says, unless lines like it aren't taken.
-fn taken(alloc: Global, text: &[u8]) -> Result<Option<Line>, AllocError>
+// What a line says, if it is taken.
+fn taken_line(alloc: Global, text: &[u8]) -> Result<Option<Line>, AllocError>
     ensures { IfOk result (λ found. MatchOption found
-        ((said : Said) → ¬ (IsTaken text.now said)) (λ said. IsTaken text.now (said_of said))) }
+        ((said : Said) → ¬ (IsTaken text.now said)) (λ line. IsTaken text.now (said_of line))) }
 {
-    match line::parse(alloc, text)? {
-        Some(line) => {
-            if line::is_taken(&line) {
-                Ok(Some(line))
-            } else {
-                Ok(None)
-            }
-        }
+    let Some(line) = line::parse(alloc, text)? else {
+        return Ok(None);
+    };
+    match line::taken(line) {
+        Some(line) => Ok(Some(line)),
         None => Ok(None),
     }
 }
@@ -61,7 +58,7 @@ pub fn parse(alloc: Global, text: &[u8]) -> Result<Input, AllocError>
         if fault.is_some() {
             return Ok(Input::BadLine(number));
         }
-        match taken(alloc, line)? {
+        match taken_line(alloc, line)? {
             Some(Line::Event(event, mark)) => events.push((event, mark))?,
             Some(Line::Fault(found)) => fault = Some(found),
             None => return Ok(Input::BadLine(number)),

@@ -1,6 +1,6 @@
 //! One line of the input: an event with its mark, or the fault of the parser.
 
-ghost use Rattle.std.specs.Prelude.{◌≡◌, IfOk, MatchOption};
+ghost use Rattle.std.specs.Prelude.{◌≡◌, true, false, IfOk, MatchOption};
 ghost use Rattle.yaml_case.specs.LineText.{Said, said_of, IsSaid, IsLine, is_taken};
 
 mod event;
@@ -51,8 +51,8 @@ pub fn parse(alloc: Global, line: &[u8]) -> Result<Option<Line>, AllocError>
     }
 }
 
-/// Whether lines like this one are taken: no anchor, tag, alias or fault is, so far.
-pub fn is_taken(line: &Line) -> bool
+// Whether a line that says this is taken: no anchor, tag, alias or fault is, so far.
+fn is_taken(line: &Line) -> bool
     ensures { result ≡ is_taken (said_of line.now) }
 {
     match line {
@@ -65,4 +65,12 @@ pub fn is_taken(line: &Line) -> bool
             _ => true,
         },
     }
+}
+
+/// The line itself, if it is taken.
+pub fn taken(line: Line) -> Option<Line>
+    ensures { MatchOption result (is_taken (said_of line) ≡ false)
+        (λ same. (same ≡ line) × (is_taken (said_of line) ≡ true)) }
+{
+    if is_taken(&line) { Some(line) } else { None }
 }
