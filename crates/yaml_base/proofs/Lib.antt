@@ -1,1 +1,5 @@
 -- Lemmas of this crate.
+pub mod BorrowableLaws
+pub mod DigitLaws
+pub mod Escapes
+pub mod RangeLaws

@@ -1,28 +1,22 @@
--- The printed text of a fault.
-use Rattle.std.specs.Prelude.{ℕ, List, [], ◌++◌, if◌then◌else◌, codes, Option, None, Some}
-use Rattle.std.specs.Option.{option_map}
+-- The printed texts of a fault: what it says, and where it is.
+use Rattle.std.specs.Prelude.{ℕ, ◌+◌, List, [], ◌++◌, if◌then◌else◌, codes, decimal, Option, None, Some}
+use Rattle.std.specs.Option.{option_map_or}
 use Rattle.std.specs.Str.{bytes_eq}
-use Rattle.yaml_base.specs.Position.{Position}
+use Rattle.yaml_base.specs.CausePlace.{cause_mark, cause_place}
+use Rattle.yaml_base.specs.CauseText.{message_text}
+use Rattle.yaml_base.specs.FaultText.{fault_debug_text, fault_text}
 use Rattle.yaml_base.specs.MarkText.{is_start, mark_text}
+use Rattle.yaml_base.specs.PlainFault.{PlainFault}
+use Rattle.yaml_base.specs.Position.{Position}
+use Rattle.yaml_base.specs.Quoted.{quoted}
 use Rattle.yaml_base.specs.declared.error.Cause.{Cause}
-use Rattle.yaml_base.specs.declared.error.Cause.TheVariants.{Memory, RecursionLimitExceeded, Custom}
+use Rattle.yaml_base.specs.declared.error.Cause.TheVariants.{Parser}
 use Rattle.yaml_base.specs.declared.error.Place.{Place}
 
--- the place of a fault that has one
-abbrev pub cause_place : Cause → Option Place
-cause_place (Custom text place) = place
-cause_place _ = None
-
--- the mark of a fault that has one, its own or its place's
-abbrev pub cause_mark : Cause → Option Position
-cause_mark (RecursionLimitExceeded mark) = Some mark
-cause_mark cause = option_map (λ p. p.mark) (cause_place cause)
-
--- what the fault says
-abbrev pub message_text : Cause → List ℕ
-message_text Memory = codes "out of memory"
-message_text (RecursionLimitExceeded mark) = codes "recursion limit exceeded"
-message_text (Custom text place) = text
+-- the parser's fault, if the cause is one
+abbrev pub parser_fault : Cause → Option PlainFault
+parser_fault (Parser fault) = Some fault
+parser_fault _ = None
 
 -- the path and a colon, unless the path is the root's
 abbrev pub path_part : Option Place → List ℕ
@@ -38,6 +32,17 @@ abbrev pub mark_part : Option Position → List ℕ
 mark_part None = []
 mark_part (Some mark) = if is_start mark then [] else codes " at " ++ mark_text mark
 
--- the message with the path in front, and the mark behind it
+-- the message with the path in front and the mark behind it; a parser's fault has its own text
 abbrev pub error_text : Cause → List ℕ
-error_text cause = placed_text cause ++ mark_part (cause_mark cause)
+error_text cause = option_map_or fault_text (parser_fault cause) (placed_text cause ++ mark_part (cause_mark cause))
+
+-- where it happened, in debug, counted from 1
+abbrev pub mark_debug_part : Option Position → List ℕ
+mark_debug_part None = []
+mark_debug_part (Some mark) =
+    codes ", line: " ++ (decimal (mark.line + 1) ++ (codes ", column: " ++ decimal (mark.column + 1)))
+
+-- the same in debug, with the message between quotes
+abbrev pub error_debug_text : Cause → List ℕ
+error_debug_text cause = option_map_or fault_debug_text (parser_fault cause)
+    (codes "Error(" ++ (quoted (placed_text cause) ++ (mark_debug_part (cause_mark cause) ++ codes ")")))

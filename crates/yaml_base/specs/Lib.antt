@@ -1,9 +1,20 @@
 -- What contracts of this crate, and of those above it, cite.
 pub mod Answer
+pub mod Borrowable
+pub mod CausePlace
+pub mod CauseText
 pub mod ErrorText
+pub mod FaultText
+pub mod FoundText
+pub mod Integers
 pub mod MarkText
+pub mod PathText
 pub mod PlainEvent
 pub mod PlainFault
+pub mod PlainWords
 pub mod Position
+pub mod Quoted
+pub mod ScalarText
+pub mod Signs
 pub mod Stream
 pub mod Tree

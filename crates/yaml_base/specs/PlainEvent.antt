@@ -29,7 +29,13 @@ pub data PlainEvent : Type 0 where
 
 -- the plain scalar of a scalar
 abbrev pub scalar_of : Scalar → PlainScalar
-scalar_of s = record { anchor = s.anchor; tag = s.tag; text = s.value.items; style = s.style; source = option_map (λ r. r.now) s.repr }
+scalar_of s = record {
+  anchor = s.anchor;
+  tag = s.tag;
+  text = s.value.items;
+  style = s.style;
+  source = option_map (λ r. r.now) s.repr;
+}
 
 -- the plain event of an event
 abbrev pub event_of : Event → PlainEvent

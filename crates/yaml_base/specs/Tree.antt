@@ -1,6 +1,9 @@
 -- The tree of one document, its events, and the target of an alias.
-use Rattle.std.specs.Prelude.{ℕ, suc, ◌+◌, List, [], ◌∷◌, ◌++◌, length, Option, None, Some}
-use Rattle.yaml_base.specs.PlainEvent.{PlainScalar, PlainEvent, alias, scalar, sequence_start, sequence_end, mapping_start, mapping_end}
+use Rattle.std.specs.Prelude.{ℕ, suc, ◌+◌, List, [], ◌∷◌, ◌++◌, length, Option, None, Some, nat_lt, ◌&&◌, if◌then◌else◌}
+use Rattle.std.specs.Option.{option_or}
+use Rattle.std.specs.Str.{bytes_eq}
+use Rattle.yaml_base.specs.PlainEvent.{PlainScalar, PlainEvent, alias, scalar}
+use Rattle.yaml_base.specs.PlainEvent.{sequence_start, sequence_end, mapping_start, mapping_end}
 
 -- a node is an alias, a scalar, a list of nodes, or pairs of nodes
 mutual
@@ -23,8 +26,10 @@ abbrev mutual
   pub node_events : Node → List PlainEvent → List PlainEvent
   node_events (alias_node anchor) rest = alias anchor ∷ rest
   node_events (scalar_node s) rest = scalar s ∷ rest
-  node_events (sequence_node anchor tag nodes) rest = sequence_start anchor tag ∷ nodes_events nodes (sequence_end ∷ rest)
-  node_events (mapping_node anchor tag pairs) rest = mapping_start anchor tag ∷ pairs_events pairs (mapping_end ∷ rest)
+  node_events (sequence_node anchor tag nodes) rest =
+      sequence_start anchor tag ∷ nodes_events nodes (sequence_end ∷ rest)
+  node_events (mapping_node anchor tag pairs) rest =
+      mapping_start anchor tag ∷ pairs_events pairs (mapping_end ∷ rest)
 
   pub nodes_events : Nodes → List PlainEvent → List PlainEvent
   nodes_events no_nodes rest = rest
@@ -33,3 +38,41 @@ abbrev mutual
   pub pairs_events : Pairs → List PlainEvent → List PlainEvent
   pairs_events no_pairs rest = rest
   pairs_events (pair key value pairs) rest = node_events key (node_events value (pairs_events pairs rest))
+
+-- how many events a node has
+abbrev pub size_of : Node → ℕ
+size_of n = length (node_events n [])
+
+-- the anchor of the node with this number, beside the number
+abbrev pub anchor_at : ℕ → Option (List ℕ) → List (ℕ × List ℕ)
+anchor_at number None = []
+anchor_at number (Some anchor) = (number, anchor) ∷ []
+
+-- The anchors of a tree, in order, each beside the number of its node, where the first node has the given number.
+-- A node's number is the place of its first event.
+abbrev mutual
+  pub anchors_of : Node → ℕ → List (ℕ × List ℕ)
+  anchors_of (alias_node anchor) number = []
+  anchors_of (scalar_node s) number = anchor_at number s.anchor
+  anchors_of (sequence_node anchor tag nodes) number = anchor_at number anchor ++ anchors_of_nodes nodes (suc number)
+  anchors_of (mapping_node anchor tag pairs) number = anchor_at number anchor ++ anchors_of_pairs pairs (suc number)
+
+  pub anchors_of_nodes : Nodes → ℕ → List (ℕ × List ℕ)
+  anchors_of_nodes no_nodes number = []
+  anchors_of_nodes (node n nodes) number = anchors_of n number ++ anchors_of_nodes nodes (number + size_of n)
+
+  pub anchors_of_pairs : Pairs → ℕ → List (ℕ × List ℕ)
+  anchors_of_pairs no_pairs number = []
+  anchors_of_pairs (pair key value pairs) number =
+      anchors_of key number
+        ++ (anchors_of value (number + size_of key) ++ anchors_of_pairs pairs (number + size_of key + size_of value))
+
+-- the last of the numbers, which stand in order, that is below the given one and has the anchor
+abbrev pub last_below : ℕ → List ℕ → List (ℕ × List ℕ) → Option ℕ
+last_below number anchor [] = None
+last_below number anchor (x ∷ xs) =
+    option_or (last_below number anchor xs) (if nat_lt x.0 number && bytes_eq x.1 anchor then Some x.0 else None)
+
+-- the target of an alias with this anchor and number: the greatest number below it of a node with the anchor
+abbrev pub target : Node → List ℕ → ℕ → Option ℕ
+target root anchor number = last_below number anchor (anchors_of root 0)

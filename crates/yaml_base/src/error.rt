@@ -1,14 +1,26 @@
 //! Why a document was not read, or a value not written.
 
-ghost use Rattle.std.specs.Prelude.{◌≡◌, Some, None, string_bytes};
-ghost use Rattle.std.specs.Option.{option_copied};
-ghost use Rattle.yaml_base.specs.ErrorText.{cause_place, cause_mark, message_text, placed_text, error_text};
-ghost use Rattle.yaml_base.specs.declared.error.Cause.TheVariants.{Custom as CustomCause};
+ghost use Rattle.std.specs.Prelude.{◌≡◌, IfErr, IfOk, None, Some, string_bytes};
+ghost use Rattle.std.specs.Option.{option_copied, option_map};
+ghost use Rattle.yaml_base.specs.CausePlace.{cause_mark, cause_place, filled};
+ghost use Rattle.yaml_base.specs.ErrorText.{parser_fault};
+ghost use Rattle.yaml_base.specs.PathText.{path_text};
+ghost use Rattle.yaml_base.specs.Position.{counted_from_one};
+ghost use Rattle.yaml_base.specs.declared.error.Cause.TheVariants.{Custom, Memory};
 
+mod copy;
+mod fill;
+mod message;
+mod print;
+
+use crate::entry_key::EntryKey;
+use crate::fault::ParserFault;
+use crate::found::Found;
+use crate::location::Location;
 use crate::mark::Mark;
-use crate::words::Words;
-use std::alloc::{AllocError, AllocFailed};
-use std::fmt;
+use crate::path::Path;
+use crate::words::{WordList, Words};
+use std::alloc::{AllocError, AllocFailed, Global};
 use std::marker::Model;
 
 /// The answer of a call that may fail.
@@ -24,12 +36,114 @@ pub struct Place {
 }
 
 /// Why a call failed.
+///
+/// Those with a field `place` are found in reading a node. They are made without a place, and are given one by
+/// `Error::fix_mark`.
 #[derive(Drop)]
 pub enum Cause {
     /// Memory ran out.
     Memory,
+    /// The events are not those of a stream. The number is that of the first event that is wrong, counted from 0, or
+    /// how many events there are where only the end is wrong.
+    NotAStream(usize),
+    /// The events end before the value does.
+    EndOfStream,
+    /// There is a document after the first.
+    MoreThanOneDocument,
     /// Collections are nested deeper than the limit allows. The mark is that of the first one too many.
     RecursionLimitExceeded(Mark),
+    /// Aliases are followed more often than the limit allows.
+    RepetitionLimitExceeded,
+    /// Bytes are neither read nor written.
+    BytesUnsupported,
+    /// An alias at this mark names an anchor that no node before it has.
+    UnknownAnchor(Mark),
+    /// A value with two tags was to be written.
+    SerializeNestedEnum,
+    /// The parser failed.
+    Parser(ParserFault),
+    /// The node is of another type.
+    InvalidType {
+        /// What is there.
+        found: Found,
+        /// What was expected.
+        expected: Words,
+        /// Where it stands, once that is known.
+        place: Option<Place>,
+    },
+    /// The node is of the right type, but has another value.
+    InvalidValue {
+        /// What is there.
+        found: Found,
+        /// What was expected.
+        expected: Words,
+        /// Where it stands, once that is known.
+        place: Option<Place>,
+    },
+    /// The sequence has another length.
+    InvalidLength {
+        /// The length that was found.
+        length: usize,
+        /// What was expected.
+        expected: Words,
+        /// Where it stands, once that is known.
+        place: Option<Place>,
+    },
+    /// No variant has this name.
+    UnknownVariant {
+        /// The name.
+        variant: Words,
+        /// The names of the variants.
+        known: WordList,
+        /// Where it stands, once that is known.
+        place: Option<Place>,
+    },
+    /// No field has this name, and unknown fields are refused.
+    UnknownField {
+        /// The name.
+        name: Words,
+        /// The names of the fields.
+        known: WordList,
+        /// Where it stands, once that is known.
+        place: Option<Place>,
+    },
+    /// A field is missing.
+    MissingField {
+        /// The name of the field.
+        name: Words,
+        /// Where it stands, once that is known.
+        place: Option<Place>,
+    },
+    /// A field is there twice.
+    DuplicateField {
+        /// The name of the field.
+        name: Words,
+        /// Where it stands, once that is known.
+        place: Option<Place>,
+    },
+    /// A key is there twice.
+    DuplicateEntry {
+        /// The key.
+        key: EntryKey,
+        /// Where it stands, once that is known.
+        place: Option<Place>,
+    },
+    /// The content of a variant is itself a variant that needs a tag.
+    NestedEnum {
+        /// The name of the enum.
+        name: Words,
+        /// The tag of the outer variant.
+        tag: Words,
+        /// Where it stands, once that is known.
+        place: Option<Place>,
+    },
+    /// Floating point numbers are not read.
+    FloatUnsupported {
+        /// The number, as it stands there.
+        text: Words,
+        /// Where it stands, once that is known.
+        place: Option<Place>,
+    },
     /// A fault with a text of its own.
     Custom {
         /// The text.
@@ -37,61 +151,63 @@ pub enum Cause {
         /// Where it stands, once that is known.
         place: Option<Place>,
     },
+    /// What is to be merged is a scalar.
+    ScalarInMerge,
+    /// What is to be merged has a tag.
+    TaggedInMerge,
+    /// An element of what is to be merged is a scalar.
+    ScalarInMergeElement,
+    /// An element of what is to be merged is a sequence.
+    SequenceInMergeElement,
+    /// A tag is empty.
+    EmptyTag,
+    /// A text is no number.
+    FailedToParseNumber,
 }
 
 impl Cause {
+    // The parser's fault, if that is the cause.
+    fn parser_fault(&self) -> Option<&ParserFault>
+        ensures { option_copied result ≡ parser_fault self.now }
+    {
+        match self {
+            Cause::Parser(fault) => Some(fault),
+            _ => None,
+        }
+    }
+
     // Where the fault stands, if it is of a kind that has a place, and the place is known.
     fn place(&self) -> Option<&Place>
         ensures { option_copied result ≡ cause_place self.now }
     {
         match self {
-            Cause::Custom { place, .. } => place.as_ref(),
-            Cause::Memory | Cause::RecursionLimitExceeded(_) => None,
+            Cause::InvalidType { place, .. }
+            | Cause::InvalidValue { place, .. }
+            | Cause::InvalidLength { place, .. }
+            | Cause::UnknownVariant { place, .. }
+            | Cause::UnknownField { place, .. }
+            | Cause::MissingField { place, .. }
+            | Cause::DuplicateField { place, .. }
+            | Cause::DuplicateEntry { place, .. }
+            | Cause::NestedEnum { place, .. }
+            | Cause::FloatUnsupported { place, .. }
+            | Cause::Custom { place, .. } => place.as_ref(),
+            _ => None,
         }
     }
 
-    // The mark of the fault, if it has one.
+    // The mark of the fault, if it has one: its own, its problem's or its place's.
     fn mark(&self) -> Option<Mark>
         ensures { result ≡ cause_mark self.now }
     {
         match self {
-            Cause::RecursionLimitExceeded(mark) => Some(*mark),
-            Cause::Memory | Cause::Custom { .. } => {
+            Cause::RecursionLimitExceeded(mark) | Cause::UnknownAnchor(mark) => Some(*mark),
+            Cause::Parser(fault) => Some(fault.mark()),
+            _ => {
                 let place = self.place()?;
                 Some(place.mark)
             }
         }
-    }
-}
-
-impl fmt::Display for Cause {
-    ghost output = { λ cause. Some (message_text cause) };
-
-    fn fmt<W: fmt::Write>(&self, f: &mut fmt::Formatter<W>) -> fmt::Result {
-        match self {
-            Cause::Memory => f.write_str("out of memory"),
-            Cause::RecursionLimitExceeded(_) => f.write_str("recursion limit exceeded"),
-            Cause::Custom { text, .. } => f.write_str(text.as_str()),
-        }
-    }
-}
-
-// The message, with the path in front.
-#[derive(Drop)]
-struct Message<'a>(&'a Cause);
-
-impl fmt::Display for Message<'_> {
-    ghost output = { λ message. Some (placed_text message.0.now) };
-
-    fn fmt<W: fmt::Write>(&self, f: &mut fmt::Formatter<W>) -> fmt::Result {
-        let cause = self.0;
-        if let Some(place) = cause.place() {
-            if place.path.as_str() != "." {
-                f.write_str(place.path.as_str())?;
-                f.write_str(": ")?;
-            }
-        }
-        write!(f, "{cause}")
     }
 }
 
@@ -119,7 +235,7 @@ impl Error {
 
     /// A fault with a text of its own, and no place. Takes no memory.
     pub fn custom(text: String) -> Error
-        ensures { result ≡ CustomCause (string_bytes text) None }
+        ensures { result ≡ Custom (string_bytes text) None }
     {
         Error {
             cause: Cause::Custom {
@@ -129,26 +245,53 @@ impl Error {
         }
     }
 
-    /// Why the call failed.
+    /// Why the call failed. Takes no memory.
     pub fn cause(&self) -> &Cause
         ensures { result.now ≡ self.now }
     {
         &self.cause
     }
+
+    /// Where the fault is, if that is known. Takes no memory.
+    pub fn location(&self) -> Option<Location>
+        ensures { result ≡ option_map counted_from_one (cause_mark self.now) }
+    {
+        let mark = self.cause.mark()?;
+        Some(Location::from_mark(mark))
+    }
+
+    /// The same fault. The only error is want of memory.
+    pub fn copy(&self, alloc: Global) -> Result<Error>
+        ensures equal { IfOk result (λ error. error ≡ self.now) }
+        ensures err { IfErr result (λ refused. refused ≡ Memory) }
+    {
+        Ok(Error {
+            cause: self.cause.copy(alloc)?,
+        })
+    }
+
+    /// The fault with this mark and this path as its place, if it is one that has a place and has none yet, and else
+    /// the fault as it is. The only error is want of memory.
+    pub fn fix_mark(self, alloc: Global, mark: Mark, path: &Path<'_>) -> Result<Error>
+        ensures filled { IfOk result (λ e. e ≡ filled self (record { mark = mark; path = path_text path.now })) }
+        ensures err { IfErr result (λ refused. refused ≡ Memory) }
+    {
+        Ok(Error {
+            cause: self.cause.fill(alloc, mark, path)?,
+        })
+    }
 }
 
-impl fmt::Display for Error {
-    ghost output = { λ error. Some (error_text error) };
+impl From<ParserFault> for Error {
+    ghost use Rattle.std.specs.Prelude.{◌≡◌};
+    ghost use Rattle.yaml_base.specs.declared.error.Cause.TheVariants.{Parser};
 
-    fn fmt<W: fmt::Write>(&self, f: &mut fmt::Formatter<W>) -> fmt::Result {
-        let message = Message(&self.cause);
-        write!(f, "{message}")?;
-        if let Some(mark) = self.cause.mark() {
-            if !mark.is_start() {
-                write!(f, " at {mark}")?;
-            }
+    ghost from_gives = { λ fault e. e ≡ Parser fault };
+
+    fn from(fault: ParserFault) -> Error {
+        Error {
+            cause: Cause::Parser(fault),
         }
-        Ok(())
     }
 }
 

@@ -1,9 +1,15 @@
 //! The events of a parser.
 
+ghost use Rattle.std.specs.Prelude.{Some};
+ghost use Rattle.yaml_base.specs.PlainEvent.{scalar_of};
+ghost use Rattle.yaml_base.specs.ScalarText.{name_text, scalar_text, style_text};
+
+use crate::quoted::QuotedBytes;
 use crate::tag::{Anchor, Tag};
+use std::fmt;
 
 /// How a scalar stands in the source.
-#[derive(Clone, Copy, PartialEq, Eq, Debug)]
+#[derive(Clone, Copy, PartialEq, Eq)]
 pub enum ScalarStyle {
     /// Without quotes.
     Plain,
@@ -17,7 +23,23 @@ pub enum ScalarStyle {
     Folded,
 }
 
+impl fmt::Debug for ScalarStyle {
+    ghost debug_output = { λ style. Some (style_text style) };
+
+    fn fmt<W: fmt::Write>(&self, f: &mut fmt::Formatter<W>) -> fmt::Result {
+        match self {
+            ScalarStyle::Plain => f.write_str("Plain"),
+            ScalarStyle::SingleQuoted => f.write_str("SingleQuoted"),
+            ScalarStyle::DoubleQuoted => f.write_str("DoubleQuoted"),
+            ScalarStyle::Literal => f.write_str("Literal"),
+            ScalarStyle::Folded => f.write_str("Folded"),
+        }
+    }
+}
+
 /// A scalar, with its text and, where the parser has it, the slice of the source that it was read from.
+///
+/// Debug shows all but that slice.
 #[derive(Drop)]
 pub struct Scalar<'de> {
     /// The anchor, if the scalar has one.
@@ -32,8 +54,53 @@ pub struct Scalar<'de> {
     pub repr: Option<&'de [u8]>,
 }
 
-/// The start of a sequence.
+// The anchor of a scalar in debug.
 #[derive(Drop)]
+struct AnchorName<'a>(&'a Option<Anchor>);
+
+impl fmt::Display for AnchorName<'_> {
+    ghost output = { λ name. Some (name_text name.0.now) };
+
+    fn fmt<W: fmt::Write>(&self, f: &mut fmt::Formatter<W>) -> fmt::Result {
+        match self.0 {
+            Some(anchor) => write!(f, "Some({anchor:?})"),
+            None => f.write_str("None"),
+        }
+    }
+}
+
+// The tag of a scalar in debug.
+#[derive(Drop)]
+struct TagName<'a>(&'a Option<Tag>);
+
+impl fmt::Display for TagName<'_> {
+    ghost output = { λ name. Some (name_text name.0.now) };
+
+    fn fmt<W: fmt::Write>(&self, f: &mut fmt::Formatter<W>) -> fmt::Result {
+        match self.0 {
+            Some(tag) => write!(f, "Some({tag:?})"),
+            None => f.write_str("None"),
+        }
+    }
+}
+
+impl fmt::Debug for Scalar<'_> {
+    ghost debug_output = { λ scalar. Some (scalar_text (scalar_of scalar)) };
+
+    fn fmt<W: fmt::Write>(&self, f: &mut fmt::Formatter<W>) -> fmt::Result {
+        let anchor = AnchorName(&self.anchor);
+        let tag = TagName(&self.tag);
+        let value = QuotedBytes(self.value.as_slice());
+        let style = self.style;
+        write!(
+            f,
+            "Scalar {{ anchor: {anchor}, tag: {tag}, value: {value}, style: {style:?} }}"
+        )
+    }
+}
+
+/// The start of a sequence.
+#[derive(Debug, Drop)]
 pub struct SequenceStart {
     /// The anchor, if the sequence has one.
     pub anchor: Option<Anchor>,
@@ -42,7 +109,7 @@ pub struct SequenceStart {
 }
 
 /// The start of a mapping.
-#[derive(Drop)]
+#[derive(Debug, Drop)]
 pub struct MappingStart {
     /// The anchor, if the mapping has one.
     pub anchor: Option<Anchor>,
@@ -51,7 +118,7 @@ pub struct MappingStart {
 }
 
 /// An event of a parser, in the order in which a document is written.
-#[derive(Drop)]
+#[derive(Debug, Drop)]
 pub enum Event<'de> {
     /// The first event of each stream.
     StreamStart,

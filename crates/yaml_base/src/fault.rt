@@ -1,9 +1,12 @@
 //! What a parser says of input that it can't read.
 
-ghost use Rattle.std.specs.Prelude.{◌≡◌, string_bytes};
+ghost use Rattle.std.specs.Prelude.{◌≡◌, IfOk, string_bytes};
 ghost use Rattle.std.specs.Option.{option_map};
 
+mod print;
+
 use crate::mark::Mark;
+use std::alloc::{AllocError, Global};
 use std::marker::Model;
 
 /// Which part of a parser or an emitter failed.
@@ -27,7 +30,9 @@ pub enum FaultKind {
     Other,
 }
 
-/// A fault of the parser.
+/// A fault of the parser: a problem, and what was being read there.
+///
+/// A mark whose line and column are both 0 stands for an unknown place.
 #[derive(Drop)]
 pub struct ParserFault {
     kind: FaultKind,
@@ -56,8 +61,8 @@ impl Model for ParserFault {
 }
 
 impl ParserFault {
-    /// The fault with this problem, found at the byte `offset` and the mark, while doing what `context` says, which began
-    /// at `context_mark`. Takes no memory.
+    /// The fault with this problem, found at the byte `offset` and the mark, while doing what `context` says, which
+    /// began at `context_mark`. Takes no memory.
     pub fn new(
         kind: FaultKind,
         problem: String,
@@ -90,5 +95,24 @@ impl ParserFault {
         ensures { result ≡ self.now.mark }
     {
         self.mark
+    }
+
+    // The same fault. The only error is want of memory.
+    pub(crate) fn copy(&self, alloc: Global) -> Result<ParserFault, AllocError>
+        ensures { IfOk result (λ fault. fault ≡ self.now) }
+    {
+        let problem = String::from_str(alloc, self.problem.as_str())?;
+        let context = match &self.context {
+            Some(context) => Some(String::from_str(alloc, context.as_str())?),
+            None => None,
+        };
+        Ok(ParserFault {
+            kind: self.kind,
+            problem,
+            offset: self.offset,
+            mark: self.mark,
+            context,
+            context_mark: self.context_mark,
+        })
     }
 }

@@ -1,7 +1,7 @@
 //! Where an event begins.
 
 ghost use Rattle.std.specs.Prelude.{◌≡◌, ◌+◌, ◌^◌, ◌<◌, SomeIff, Some};
-ghost use Rattle.yaml_base.specs.MarkText.{is_start, mark_text};
+ghost use Rattle.yaml_base.specs.MarkText.{is_beside, is_start, mark_debug_text, mark_text};
 
 use std::fmt;
 use std::marker::Model;
@@ -31,6 +31,7 @@ impl Model for Mark {
 
 impl Mark {
     /// The mark with these numbers, each counted from 0, or `None` where the line or the column is the greatest `u64`.
+    /// Takes no memory.
     pub fn new(index: u64, line: u64, column: u64) -> Option<Mark>
         ensures { SomeIff result ((line + 1 < 2 ^ 64) × (column + 1 < 2 ^ 64))
             (record { index = index; line = line; column = column }) }
@@ -75,6 +76,13 @@ impl Mark {
     {
         self.line == 0 && self.column == 0
     }
+
+    // Whether both marks are in the same line and column.
+    pub(crate) fn is_beside(&self, other: Mark) -> bool
+        ensures { result ≡ is_beside self.now other }
+    {
+        self.line == other.line && self.column == other.column
+    }
 }
 
 impl fmt::Display for Mark {
@@ -88,6 +96,21 @@ impl fmt::Display for Mark {
         } else {
             let index = self.index;
             write!(f, "position {index}")
+        }
+    }
+}
+
+impl fmt::Debug for Mark {
+    ghost debug_output = { λ m. Some (mark_debug_text m) };
+
+    fn fmt<W: fmt::Write>(&self, f: &mut fmt::Formatter<W>) -> fmt::Result {
+        if self.line != 0 || self.column != 0 {
+            let line = self.line + 1;
+            let column = self.column + 1;
+            write!(f, "Mark {{ line: {line}, column: {column} }}")
+        } else {
+            let index = self.index;
+            write!(f, "Mark {{ index: {index} }}")
         }
     }
 }

@@ -5,7 +5,7 @@ use Rattle.yaml_shape.specs.declared.text.Text.{Text}
 use Rattle.yaml_shape.specs.declared.text.Text.TheVariants.{Borrowed, Owned}
 use Rattle.yaml_shape.specs.declared.data.Data.{Data, fold-Data}
 use Rattle.yaml_shape.specs.declared.data.Data.TheOpen.{Data-F, Entry-F}
-use Rattle.yaml_shape.specs.declared.data.Entry.{Entry}
+use Rattle.yaml_shape.specs.declared.data.Entry.{Entry, fold-Entry}
 
 -- the plain data of a text
 abbrev pub text_of : Text → PlainData
@@ -41,3 +41,11 @@ data_of = fold-Data PlainData (PlainData × PlainData) data_level entry_level
 -- the plain items of a list of data
 abbrev pub items_view : List Data → PlainItems
 items_view ds = items_of (map data_of ds)
+
+-- the plain key and value of an entry
+abbrev pub entry_of : Entry → PlainData × PlainData
+entry_of = fold-Entry PlainData (PlainData × PlainData) data_level entry_level
+
+-- the plain entries of a list of entries
+abbrev pub entries_view : List Entry → PlainEntries
+entries_view es = entries_of (map entry_of es)

@@ -1,0 +1,8 @@
+//! Tests of what is printed, and of each call on its happy path.
+
+mod build;
+mod debug;
+mod faults;
+mod messages;
+mod names;
+mod places;

@@ -1,0 +1,97 @@
+-- Reading a whole document.
+use Rattle.std.proofs.Common.{◌≡◌, ℕ, zero, suc, ◌+◌, ◌*◌, ◌<◌, ◌≤◌, ◌⊎◌, List, [], ◌∷◌, map, length, Option, Some, Result, Ok, Err, Bool, false, refl, sym, ap, subst, ◌∙◌, arith}
+use Rattle.std.specs.Prelude.{slice_get}
+use Rattle.std.proofs.lemmas.Option.{slice_get_within}
+use Rattle.std.proofs.lemmas.List.{length-map}
+use Rattle.yaml_base.specs.Position.{Position}
+use Rattle.yaml_base.specs.Answer.{Gives, Fails, is_memory}
+use Rattle.yaml_base.specs.declared.error.Cause.{Cause}
+use Rattle.yaml_base.specs.declared.error.Cause.TheVariants.{Memory, RecursionLimitExceeded, RepetitionLimitExceeded}
+use Rattle.yaml_shape.specs.PlainShape.{PlainShape}
+use Rattle.yaml_shape.specs.PlainData.{PlainData}
+use Rattle.yaml_read.specs.PlainDocEvent.{PlainDocEvent}
+use Rattle.yaml_read.specs.PlainDocument.{PlainDocument}
+use Rattle.yaml_read.specs.DocEventView.{doc_event_of, marked_events_of}
+use Rattle.yaml_read.specs.declared.doc_event.DocEvent.{DocEvent}
+use Rattle.yaml_read.specs.DocTree.{DocNode, events_of}
+use Rattle.yaml_read.specs.Meaning.{Means}
+use Rattle.yaml_read.specs.Reader.{Spot, Reading, Events, node_at}
+use Rattle.yaml_read.specs.Reads.{PlainLimits, IsTreeOf, Reads, IsRefusal, IsReadingFault}
+use Rattle.yaml_read.proofs.Shown.{Shows}
+use Rattle.yaml_read.proofs.Outcomes.{Outcome, reads, deep, many, outcome}
+use Rattle.yaml_read.proofs.Sounds.{sound}
+use Rattle.yaml_read.proofs.Refusals.{faulty}
+
+shift : (f : Events) (p : ℕ) (es : List PlainDocEvent) → Shows (λ q. f (suc q)) p es → Shows f (suc p) es
+shift f p [] s = tt
+shift f p (e ∷ es) s = (s.0, shift f (suc p) es s.1)
+
+shows_list : (es : List (PlainDocEvent × Position)) → Shows (slice_get es) 0 (map (λ e. e.0) es)
+shows_list [] = tt
+shows_list (e ∷ es) = ((e.1, refl), shift (slice_get (e ∷ es)) 0 _ (shows_list es))
+
+-- the reading of a document from its start
+abbrev pub whole_reading : PlainLimits → List PlainShape → PlainDocument → ℕ → Reading PlainData
+whole_reading limits schema document id =
+    node_at (limits.follows * length document.events + limits.nesting + 1) schema (slice_get document.events) (length document.events) id limits.nesting false
+    (record { place = 0; left = limits.follows * length document.events })
+
+-- what the walk over a document's events gives is that reading
+pub seen_whole : (limits : PlainLimits) (schema : List PlainShape) (document : PlainDocument) (id : ℕ) (es : List (DocEvent × Position)) (r : Reading PlainData) → marked_events_of es ≡ document.events
+    → ((fuel : ℕ) → limits.follows * length es + limits.nesting < fuel → node_at fuel schema (slice_get (marked_events_of es)) (length es) id limits.nesting false (record { place = 0; left = limits.follows * length es }) ≡ r)
+    → whole_reading limits schema document id ≡ r
+seen_whole limits schema document id es r seen gives =
+    let size : length es ≡ length document.events = sym (length-map es (λ e. (doc_event_of e.0, e.1))) ∙ ap length seen in
+    let same = gives (limits.follows * length es + limits.nesting + 1) (omega arith) in
+    rw (seen, size) at same
+
+module _ (limits : PlainLimits) (schema : List PlainShape) (document : PlainDocument) (root : DocNode) (is : IsTreeOf document root) where
+  shown : Shows (slice_get document.events) 0 (events_of root)
+  shown = subst (Shows (slice_get document.events) 0) is.events (shows_list document.events)
+
+  pub means_only : (id : ℕ) (v : PlainData) (d k : ℕ) → Means schema root id root false v d k
+      → Outcome (whole_reading limits schema document id) v (0 + length (events_of root)) limits.nesting (limits.follows * length document.events) d k
+  means_only id v d k m =
+      outcome schema (slice_get document.events) (length document.events) root shown (λ p e. slice_get_within document.events p e) m
+      (limits.follows * length document.events + limits.nesting + 1) limits.nesting (record { place = 0; left = limits.follows * length document.events }) shown (omega arith)
+
+  pub read_only : (id : ℕ) (v : PlainData) (next : Spot) → whole_reading limits schema document id ≡ Ok (v, next) → Reads limits schema id root (length document.events) v
+  read_only id v next h =
+      let f = sound schema (slice_get document.events) (length document.events) root shown is.known (limits.follows * length document.events + limits.nesting + 1) root id limits.nesting false
+      (record { place = 0; left = limits.follows * length document.events }) next v shown h in
+      record { nestings = f.d; followed = f.k; means = f.means; nests_within = f.nested; follows_within = omega (arith, f.followed) }
+
+  pub refused_only : (id : ℕ) (y : Cause) → whole_reading limits schema document id ≡ Err y → IsReadingFault (slice_get document.events) y
+  refused_only id y h =
+      faulty schema (slice_get document.events) (length document.events) root shown is.known (λ p e. slice_get_within document.events p e)
+      (limits.follows * length document.events + limits.nesting + 1) root id limits.nesting false (record { place = 0; left = limits.follows * length document.events }) y shown (omega arith) h
+
+same_ok : {A : Type 0} (x y : A) → ◌≡◌ {A = Result A Cause} (Ok x) (Ok y) → x ≡ y
+same_ok x y h = cc
+
+-- within the limits what reading gives is the data
+pub answered : {A : Type 0} (r : Reading A) (v w : A) (next : Spot) (end nest follows d k : ℕ) → Outcome r v end nest follows d k → d ≤ nest → k ≤ follows → r ≡ Ok (w, next) → w ≡ v
+answered {A} r v w next end nest follows d k (reads a b h) p q f = ap (λ (x : A × Spot). x.0) (same_ok _ _ (sym f ∙ h))
+answered r v w next end nest follows d k (deep m a h) p q f = absurd (omega arith)
+answered r v w next end nest follows d k (many a h) p q f = absurd (omega arith)
+
+-- a fault that is given within the limits is want of memory
+pub never_refused : {A : Type 0} (r : Reading A) (v : A) (end nest follows d k : ℕ) (e : Cause) → Outcome r v end nest follows d k → d ≤ nest → k ≤ follows → r ≡ Err e → ⊥
+never_refused r v end nest follows d k e (reads a b h) p q f = let bad = sym h ∙ f in absurd cc
+never_refused r v end nest follows d k e (deep m a h) p q f = absurd (omega arith)
+never_refused r v end nest follows d k e (many a h) p q f = absurd (omega arith)
+
+err_is : {A : Type 0} (e f : Cause) → ◌≡◌ {A = Result A Cause} (Err e) (Err f) → e ≡ f
+err_is e f h = cc
+
+-- a refusal of what has a meaning is one that the limits ask for
+pub refusal : {A : Type 0} (limits : PlainLimits) (n : ℕ) (r : Reading A) (v : A) (end d k : ℕ) (e : Cause) → Outcome r v end limits.nesting (limits.follows * n) d k → r ≡ Err e → IsRefusal limits n d k e
+refusal limits n r v end d k e (reads a b h) f = let bad = sym h ∙ f in absurd cc
+refusal limits n r v end d k e (deep m a h) f = subst (IsRefusal limits n d k) (err_is _ _ (sym h ∙ f)) a
+refusal limits n r v end d k e (many a h) f = subst (IsRefusal limits n d k) (err_is _ _ (sym h ∙ f)) a
+
+-- the same, where want of memory is no fault of the reading
+pub refusal_or_memory : {A : Type 0} (limits : PlainLimits) (n : ℕ) (r : Reading A) (v : A) (end d k : ℕ) (e : Cause) → Outcome r v end limits.nesting (limits.follows * n) d k
+    → (is_memory e ≡ false → r ≡ Err e) → IsRefusal limits n d k e
+refusal_or_memory limits n r v end d k Memory o f = tt
+refusal_or_memory limits n r v end d k e o f = refusal limits n r v end d k e o (f refl)

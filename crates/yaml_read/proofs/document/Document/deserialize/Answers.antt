@@ -1,0 +1,35 @@
+-- What a document gives, from what its reading gives.
+use Rattle.std.proofs.Common.{◌≡◌, ℕ, ◌*◌, length, Ok, Err, sym, ap}
+use Rattle.yaml_shape.specs.DataView.{data_of}
+use Rattle.yaml_read.specs.Reads.{default_limits}
+use Rattle.yaml_read.specs.Walks.{spot_of}
+use Rattle.yaml_read.proofs.Whole.{seen_whole, whole_reading, means_only, read_only, refused_only, answered, never_refused, refusal_or_memory}
+use Rattle.yaml_read.proofs.document.Document.deserialize.Goals as goal
+
+pub returns-in-None-clause-found : goal.returns-in-None-clause-found
+returns-in-None-clause-found c = λ root is.
+    read_only default_limits c.args.schema.now c.args.self.now root is c.args.id.0 _ _
+    (seen_whole default_limits c.args.schema.now c.args.self.now c.args.id.0 c.events-events.result.now _ c.events-events.ensures c.in-Ok.ensures.gives)
+
+pub returns-in-None-clause-only : goal.returns-in-None-clause-only
+returns-in-None-clause-only c = λ root v is r.
+    ap Ok (sym (answered _ v (data_of c.in-Ok.data) _ _ _ _ r.nestings r.followed
+    (means_only default_limits c.args.schema.now c.args.self.now root is c.args.id.0 v r.nestings r.followed r.means) r.nests_within r.follows_within
+    (seen_whole default_limits c.args.schema.now c.args.self.now c.args.id.0 c.events-events.result.now _ c.events-events.ensures c.in-Ok.ensures.gives)))
+
+pub returns-clause-only : goal.returns-clause-only
+returns-clause-only c = λ root v is r fault.
+    absurd (never_refused (whole_reading default_limits c.args.schema.now c.args.self.now c.args.id.0) v _ _ _ r.nestings r.followed c.in-Err.fault
+    (means_only default_limits c.args.schema.now c.args.self.now root is c.args.id.0 v r.nestings r.followed r.means) r.nests_within r.follows_within
+    (seen_whole default_limits c.args.schema.now c.args.self.now c.args.id.0 c.events-events.result.now _ c.events-events.ensures (λ fuel lt. c.in-Err.ensures.gives fuel lt fault)))
+
+pub returns-clause-refused : goal.returns-clause-refused
+returns-clause-refused c = λ root v d k is m.
+    refusal_or_memory default_limits (length c.args.self.now.events) (whole_reading default_limits c.args.schema.now c.args.self.now c.args.id.0) v _ d k c.in-Err.fault
+    (means_only default_limits c.args.schema.now c.args.self.now root is c.args.id.0 v d k m)
+    (λ fault. seen_whole default_limits c.args.schema.now c.args.self.now c.args.id.0 c.events-events.result.now _ c.events-events.ensures (λ fuel lt. c.in-Err.ensures.gives fuel lt fault))
+
+pub returns-clause-faults : goal.returns-clause-faults
+returns-clause-faults c = λ root is fault.
+    refused_only default_limits c.args.schema.now c.args.self.now root is c.args.id.0 c.in-Err.fault
+    (seen_whole default_limits c.args.schema.now c.args.self.now c.args.id.0 c.events-events.result.now _ c.events-events.ensures (λ fuel lt. c.in-Err.ensures.gives fuel lt fault))

@@ -1,0 +1,5 @@
+pub mod Lookups
+pub mod EqualTests
+pub mod Views
+pub mod Copies
+pub mod Callers

@@ -1,0 +1,15 @@
+pub mod Tree
+pub mod Integer
+pub mod Number
+pub mod Tag
+pub mod Equal
+pub mod TakeOut
+pub mod EqualLaws
+pub mod Mapping
+pub mod Code
+pub mod Valid
+pub mod TagView
+pub mod View
+pub mod Entries
+pub mod Lookup
+pub mod Falls

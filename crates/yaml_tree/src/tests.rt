@@ -1,0 +1,5 @@
+//! What no contract shows: that calls succeed, outside values, and values that are deep or wide.
+mod calls;
+mod equality;
+mod large;
+mod plain;

@@ -1,0 +1,186 @@
+//! Equality of values.
+ghost use Rattle.std.specs.Prelude.{◌≡◌, true, ◌&&◌, ◌<◌, length, IfSome};
+ghost use Rattle.yaml_tree.specs.Equal.{pairs_eq, tree_eq, trees_eq};
+ghost use Rattle.yaml_tree.specs.Lookup.{has_all_pairs, has_pair, place_of};
+ghost use Rattle.yaml_tree.specs.Mapping.{keys_distinct};
+ghost use Rattle.yaml_tree.specs.Tag.{tag_eq};
+ghost use Rattle.yaml_tree.specs.Valid.{content_of, items_of, pairs_of, tag_of};
+ghost use Rattle.yaml_tree.specs.View.{entry_pairs, tree_of};
+
+use crate::mapping::{Entry, Mapping};
+use crate::sequence::Sequence;
+use crate::value::{TaggedValue, Value};
+
+impl PartialEq for Value {
+    ghost use Rattle.std.specs.Cmp.{on_per, partial_equiv_from_equiv};
+    ghost use Rattle.yaml_tree.specs.Equal.{tree_eq};
+    ghost use Rattle.yaml_tree.specs.View.{tree_of};
+    ghost use Rattle.yaml_tree.specs.EqualLaws.{tree_equiv};
+
+    ghost eq = { λ a b. tree_eq (tree_of a) (tree_of b) };
+
+    ghost laws = { on_per tree_of (partial_equiv_from_equiv tree_equiv) };
+
+    fn eq(&self, other: &Value) -> bool {
+        same_value(self, other)
+    }
+}
+
+impl Eq for Value {
+    ghost use Rattle.std.specs.Cmp.{on_equiv};
+    ghost use Rattle.yaml_tree.specs.View.{tree_of};
+    ghost use Rattle.yaml_tree.specs.EqualLaws.{tree_equiv};
+
+    ghost laws = { on_equiv tree_of tree_equiv };
+}
+
+impl PartialEq for Sequence {
+    ghost use Rattle.std.specs.Cmp.{on_per, partial_equiv_from_equiv};
+    ghost use Rattle.yaml_tree.specs.Equal.{trees_eq};
+    ghost use Rattle.yaml_tree.specs.Valid.{items_of};
+    ghost use Rattle.yaml_tree.specs.EqualLaws.{trees_equiv};
+
+    ghost eq = { λ a b. trees_eq (items_of a) (items_of b) };
+
+    ghost laws = { on_per items_of (partial_equiv_from_equiv trees_equiv) };
+
+    fn eq(&self, other: &Sequence) -> bool {
+        same_items(self, other)
+    }
+}
+
+impl Eq for Sequence {
+    ghost use Rattle.std.specs.Cmp.{on_equiv};
+    ghost use Rattle.yaml_tree.specs.Valid.{items_of};
+    ghost use Rattle.yaml_tree.specs.EqualLaws.{trees_equiv};
+
+    ghost laws = { on_equiv items_of trees_equiv };
+}
+
+impl PartialEq for Mapping {
+    ghost use Rattle.std.specs.Cmp.{on_per, partial_equiv_from_equiv};
+    ghost use Rattle.yaml_tree.specs.Equal.{pairs_eq};
+    ghost use Rattle.yaml_tree.specs.Valid.{pairs_of};
+    ghost use Rattle.yaml_tree.specs.EqualLaws.{pairs_equiv};
+
+    ghost eq = { λ a b. pairs_eq (pairs_of a) (pairs_of b) };
+
+    ghost laws = { on_per pairs_of (partial_equiv_from_equiv pairs_equiv) };
+
+    fn eq(&self, other: &Mapping) -> bool {
+        same_pairs(self, other)
+    }
+}
+
+impl Eq for Mapping {
+    ghost use Rattle.std.specs.Cmp.{on_equiv};
+    ghost use Rattle.yaml_tree.specs.Valid.{pairs_of};
+    ghost use Rattle.yaml_tree.specs.EqualLaws.{pairs_equiv};
+
+    ghost laws = { on_equiv pairs_of pairs_equiv };
+}
+
+#[cycle(same)]
+fn same_value(a: &Value, b: &Value) -> bool
+    ensures { result ≡ tree_eq (tree_of a.now) (tree_of b.now) }
+{
+    match (a, b) {
+        (Value::Null, Value::Null) => true,
+        (Value::Bool(x), Value::Bool(y)) => *x == *y,
+        (Value::Number(x), Value::Number(y)) => *x == *y,
+        (Value::String(x), Value::String(y)) => x.as_bytes() == y.as_bytes(),
+        (Value::Sequence(x), Value::Sequence(y)) => same_items(x, y),
+        (Value::Mapping(x), Value::Mapping(y)) => same_pairs(x, y),
+        (Value::Tagged(x), Value::Tagged(y)) => same_tagged(x, y),
+        _ => false,
+    }
+}
+
+#[cycle(same)]
+fn same_tagged(a: &TaggedValue, b: &TaggedValue) -> bool
+    ensures { result ≡ (tag_eq (tag_of a.now) (tag_of b.now) && tree_eq (content_of a.now) (content_of b.now)) }
+{
+    a.tag == b.tag && same_value(&a.value, &b.value)
+}
+
+#[cycle(same)]
+fn same_items(a: &Sequence, b: &Sequence) -> bool
+    ensures { result ≡ trees_eq (items_of a.now) (items_of b.now) }
+{
+    let x = a.items.as_slice();
+    let y = b.items.as_slice();
+    if x.len() != y.len() {
+        return false;
+    }
+    for i in 0..x.len() {
+        if !same_value(&x[i], &y[i]) {
+            return false;
+        }
+    }
+    true
+}
+
+#[cycle(same)]
+fn same_pairs(a: &Mapping, b: &Mapping) -> bool
+    ensures { result ≡ pairs_eq (pairs_of a.now) (pairs_of b.now) }
+{
+    let x = a.entries.as_slice();
+    let y = b.entries.as_slice();
+    if x.len() != y.len() {
+        return false;
+    }
+    has_all_entries(x, y)
+}
+
+// Whether each of these entries is among the others, whose keys are distinct.
+#[cycle(same)]
+fn has_all_entries(wanted: &[Entry], entries: &[Entry]) -> bool
+    requires { keys_distinct (entry_pairs entries.now) ≡ true }
+    ensures { result ≡ has_all_pairs (entry_pairs wanted.now) (entry_pairs entries.now) }
+{
+    for (i, entry) in wanted.iter().enumerate() {
+        if !is_among(entry, entries, i) {
+            return false;
+        }
+    }
+    true
+}
+
+// Whether an entry is among these, whose keys are distinct. The guess is where it is looked for first.
+#[cycle(same)]
+fn is_among(wanted: &Entry, entries: &[Entry], guess: usize) -> bool
+    requires { keys_distinct (entry_pairs entries.now) ≡ true }
+    ensures { result ≡ has_pair (tree_of wanted.now.key) (tree_of wanted.now.value) (entry_pairs entries.now) }
+{
+    match find_near(&wanted.key, entries, guess) {
+        Some(i) => same_value(&wanted.value, &entries[i].value),
+        None => false,
+    }
+}
+
+// The place of a key among entries with distinct keys. The guess is where it is looked for first.
+#[cycle(same)]
+fn find_near(key: &Value, entries: &[Entry], guess: usize) -> Option<usize>
+    requires { keys_distinct (entry_pairs entries.now) ≡ true }
+    ensures place { result ≡ place_of (tree_of key.now) (entry_pairs entries.now) }
+    ensures within { IfSome result (λ i. i < length entries.now) }
+{
+    if guess < entries.len() && same_value(key, &entries[guess].key) {
+        return Some(guess);
+    }
+    find(key, entries)
+}
+
+/// The place of the first entry with this key.
+#[cycle(same)]
+pub(crate) fn find(key: &Value, entries: &[Entry]) -> Option<usize>
+    ensures place { result ≡ place_of (tree_of key.now) (entry_pairs entries.now) }
+    ensures within { IfSome result (λ i. i < length entries.now) }
+{
+    for (i, entry) in entries.iter().enumerate() {
+        if same_value(key, &entry.key) {
+            return Some(i);
+        }
+    }
+    None
+}
