@@ -9,7 +9,8 @@ use Rattle.yaml_case.specs.Escape.{IsSpelling, BeginsWith, Spells}
 use Rattle.yaml_case.specs.Escape.IsSpelling.{itself, backslash, line_feed, tab, number}
 
 -- an escape by number
-pub begins_number : (text after rest : List ℕ) (high low : ℕ) → text ≡ high ∷ after → after ≡ low ∷ rest → digit_value high < 16 → digit_value low < 16
+pub begins_number : (text after rest : List ℕ) (high low : ℕ) → text ≡ high ∷ after → after ≡ low ∷ rest
+    → digit_value high < 16 → digit_value low < 16
     → BeginsWith (92 ∷ 120 ∷ text) (16 * digit_value high + digit_value low) rest
 begins_number text after rest high low e f h l = record {
   unit = codes "\\x" ++ (high ∷ low ∷ []);
@@ -127,7 +128,8 @@ pub writes_all : (text bytes rest : List ℕ) → WritesThen text bytes rest →
 writes_all text bytes rest w e = let s : Spells text (bytes ++ []) = w.sound [] e in subst (Spells text) (append-nil bytes) s
 
 -- what is left begins with no byte
-pub writes_no_more : (text bytes rest : List ℕ) → 0 < length rest → WritesThen text bytes rest → ((byte : ℕ) → (after : List ℕ) → ¬ (BeginsWith rest byte after))
+pub writes_no_more : (text bytes rest : List ℕ) → 0 < length rest → WritesThen text bytes rest
+    → ((byte : ℕ) → (after : List ℕ) → ¬ (BeginsWith rest byte after))
     → (all : List ℕ) → ¬ (Spells text all)
 writes_no_more text bytes rest some w none all s = stuck rest (w.complete all s).0 some none (w.complete all s).1 where
   stuck : (rest more : List ℕ) → 0 < length rest → ((byte : ℕ) → (after : List ℕ) → ¬ (BeginsWith rest byte after)) → Spells rest more → ⊥

@@ -8,7 +8,8 @@ use Rattle.yaml_case.specs.EventText.{IsAnchorName, IsTagName, IsBreak, HasAncho
 use Rattle.yaml_case.proofs.CutLaws.{cut-unique, cut_has, break-unique}
 
 -- a text whose first word is no anchor's name begins with no anchor
-pub no_anchor : (text name after : List ℕ) → text ≡ codes " &" ++ (name ++ after) → Lacks name 32 → IsBreak after → ((anchor : List ℕ) → ¬ (IsAnchorName name anchor))
+pub no_anchor : (text name after : List ℕ) → text ≡ codes " &" ++ (name ++ after) → Lacks name 32 → IsBreak after
+    → ((anchor : List ℕ) → ¬ (IsAnchorName name anchor))
     → (anchor : Option (List ℕ)) → (rest : List ℕ) → ¬ (HasAnchor text anchor rest)
 no_anchor text name after e l b none None rest h = h.1 (name ++ after) e
 no_anchor text name after e l b none (Some anchor) rest h =
@@ -25,7 +26,8 @@ behind_anchor-unique text (Some a) (Some b) r s f g =
     (break-unique f.0 g.0 r s f.2.unspaced g.2.unspaced f.3 g.3 (ap (λ (t : List ℕ). drop 2 t) (sym f.1 ∙ g.1))).1
 
 -- a text whose tag isn't closed begins with no tag
-pub no_close : (text after : List ℕ) → text ≡ codes " <" ++ after → Lacks after 62 → (tag : Option (List ℕ)) → (rest : List ℕ) → ¬ (HasTag text tag rest)
+pub no_close : (text after : List ℕ) → text ≡ codes " <" ++ after → Lacks after 62 → (tag : Option (List ℕ))
+    → (rest : List ℕ) → ¬ (HasTag text tag rest)
 no_close text after e l None rest h = h.1 after e
 no_close text after e l (Some tag) rest h =
     let same : after ≡ h.0 ++ 62 ∷ rest = ap (λ (t : List ℕ). drop 2 t) (sym e ∙ h.1) in
@@ -49,7 +51,8 @@ behind_tag-unique text (Some a) (Some b) r s f g =
     (cut-unique 62 f.0 g.0 r s f.2.closed g.2.closed (ap (λ (t : List ℕ). drop 2 t) (sym f.1 ∙ g.1))).1
 
 -- where no tag can stand behind the anchor, the text has no such beginning
-pub no_tag_behind : (text after : List ℕ) (a : Option (List ℕ)) → HasAnchor text a after → ((tag : Option (List ℕ)) → (rest : List ℕ) → ¬ (HasTag after tag rest))
+pub no_tag_behind : (text after : List ℕ) (a : Option (List ℕ)) → HasAnchor text a after
+    → ((tag : Option (List ℕ)) → (rest : List ℕ) → ¬ (HasTag after tag rest))
     → (anchor tag : Option (List ℕ)) → (rest : List ℕ) → ¬ (HasProperties text anchor tag rest)
 no_tag_behind text after a h none anchor tag rest p =
     none tag rest (subst (λ t. HasTag t tag rest) (sym (behind_anchor-unique text a anchor after p.behind_anchor h p.has_anchor)) p.has_tag)
@@ -61,16 +64,20 @@ behind-unique text a b s t q r f g =
     (subst (λ x. HasTag x s q) (behind_anchor-unique text a b f.behind_anchor g.behind_anchor f.has_anchor g.has_anchor) f.has_tag) g.has_tag
 
 -- where something follows them, they are not all
-pub not_alone : (text after : List ℕ) (a s : Option (List ℕ)) → HasProperties text a s after → 0 < length after → (anchor tag : Option (List ℕ)) → ¬ (HasProperties text anchor tag [])
+pub not_alone : (text after : List ℕ) (a s : Option (List ℕ)) → HasProperties text a s after → 0 < length after
+    → (anchor tag : Option (List ℕ)) → ¬ (HasProperties text anchor tag [])
 not_alone text after a s h some anchor tag p =
     let e : length after ≡ 0 = ap length (behind-unique text a anchor s tag after [] h p) in omega arith
 
 -- a scalar begins with an anchor and a tag, or the lack of them
-pub no_scalar : (text : List ℕ) → ((anchor tag : Option (List ℕ)) → (rest : List ℕ) → ¬ (HasProperties text anchor tag rest)) → (value : PlainScalar) → ¬ (IsScalarText text value)
+pub no_scalar : (text : List ℕ)
+    → ((anchor tag : Option (List ℕ)) → (rest : List ℕ) → ¬ (HasProperties text anchor tag rest))
+    → (value : PlainScalar) → ¬ (IsScalarText text value)
 no_scalar text none value s = none value.anchor value.tag s.behind_tag s.has_properties
 
 -- and has a style and a text behind them
-pub no_content : (text after : List ℕ) (a t : Option (List ℕ)) → HasProperties text a t after → ((style : ScalarStyle) → (value : List ℕ) → ¬ (IsContent after style value))
+pub no_content : (text after : List ℕ) (a t : Option (List ℕ)) → HasProperties text a t after
+    → ((style : ScalarStyle) → (value : List ℕ) → ¬ (IsContent after style value))
     → (value : PlainScalar) → ¬ (IsScalarText text value)
 no_content text after a t h none value s =
     none value.style value.text

@@ -124,7 +124,8 @@ read_fault lines rest more number events None line f is h r t = record {
 }
 
 -- all is read
-pub read_all : (lines rest : List (List ℕ)) (number : ℕ) (events : MarkedEvents) (fault : Option PlainFault) → HasRead lines number events fault rest → rest ≡ []
+pub read_all : (lines rest : List (List ℕ)) (number : ℕ) (events : MarkedEvents) (fault : Option PlainFault)
+    → HasRead lines number events fault rest → rest ≡ []
     → IsInput lines events fault
 read_all lines rest number events fault h e =
     subst (λ ls. IsInput ls events fault) (sym (h.split ∙ (ap (λ ls. h.good ++ ls) e ∙ append-nil h.good))) h.is_input

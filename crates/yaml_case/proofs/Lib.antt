@@ -9,3 +9,4 @@ pub mod PlaceLaws
 pub mod WordLaws
 pub mod InputLaws
 pub mod ShowLaws
+pub mod RunLaws

@@ -18,7 +18,8 @@ digits-lack byte (x ∷ xs) h d =
     lacks-cons byte x xs (λ e. let d' = subst (λ c. digit_value c < 10) e d.0 in omega arith) (digits-lack byte xs h d.1)
 
 -- a number and the byte behind it stand at the start of a text in one way
-pub HasNumber-unique : (text : List ℕ) (byte n m : ℕ) (r s : List ℕ) → 10 ≤ digit_value byte → HasNumber text byte n r → HasNumber text byte m s → (n ≡ m) × (r ≡ s)
+pub HasNumber-unique : (text : List ℕ) (byte n m : ℕ) (r s : List ℕ) → 10 ≤ digit_value byte → HasNumber text byte n r
+    → HasNumber text byte m s → (n ≡ m) × (r ≡ s)
 HasNumber-unique text byte n m r s h a b =
     let u = cut-unique byte a.digits b.digits r s (digits-lack byte a.digits h a.is_number.numeral.1) (digits-lack byte b.digits h b.is_number.numeral.1) (sym a.split ∙ b.split) in
     (sym a.is_number.value ∙ (ap (digits_value 10) u.0 ∙ b.is_number.value), u.1)
@@ -39,7 +40,8 @@ pub number-IsUtf8 : (digits : List ℕ) (n : ℕ) → IsNumber digits n → IsUt
 number-IsUtf8 digits n a = IsUtf8-from_ascii digits (IsAscii-from_digits digits a.numeral.1)
 
 -- a line with no first number has no mark
-pub no_index : (text : List ℕ) → ((n : ℕ) → (rest : List ℕ) → ¬ (HasNumber text 58 n rest)) → (mark : Position) → (rest : List ℕ) → ¬ (IsMarked text mark rest)
+pub no_index : (text : List ℕ) → ((n : ℕ) → (rest : List ℕ) → ¬ (HasNumber text 58 n rest)) → (mark : Position)
+    → (rest : List ℕ) → ¬ (IsMarked text mark rest)
 no_index text none mark rest m = none mark.index m.behind_index m.has_index
 
 -- nor has one with no second number
@@ -50,7 +52,8 @@ no_line text after index a none mark rest m =
     none mark.line m.behind_line (subst (λ t. HasNumber t 58 mark.line m.behind_line) u.1 m.has_line)
 
 -- the numbers of a mark are those that stand there
-pub mark_numbers : (text after further left : List ℕ) (index line column : ℕ) → HasNumber text 58 index after → HasNumber after 58 line further → HasNumber further 32 column left
+pub mark_numbers : (text after further left : List ℕ) (index line column : ℕ) → HasNumber text 58 index after
+    → HasNumber after 58 line further → HasNumber further 32 column left
     → (mark : Position) → (rest : List ℕ) → IsMarked text mark rest → (index ≡ mark.index) × (line ≡ mark.line) × (column ≡ mark.column) × (left ≡ rest)
 mark_numbers text after further left index line column a b d mark rest m =
     let u = HasNumber-unique text 58 index mark.index after m.behind_index (lit≤ tt) a m.has_index in

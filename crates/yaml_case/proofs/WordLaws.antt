@@ -10,7 +10,8 @@ pub unlike : {a b : List ℕ} (k : ℕ) → a ≡ b → (get_or a k 0 == get_or 
 unlike {a} {b} k e f = eqb-false (get_or a k 0) (get_or b k 0) f (ap (λ (l : List ℕ). get_or l k 0) e)
 
 -- where no scalar stands behind the word for one, the line is no event
-pub no_scalar_text : (text rest : List ℕ) → text ≡ codes "=VAL" ++ rest → ((value : PlainScalar) → ¬ (IsScalarText rest value)) → (event : PlainEvent) → ¬ (IsEventText text event)
+pub no_scalar_text : (text rest : List ℕ) → text ≡ codes "=VAL" ++ rest
+    → ((value : PlainScalar) → ¬ (IsScalarText rest value)) → (event : PlainEvent) → ¬ (IsEventText text event)
 no_scalar_text text rest e none stream_start h = unlike 0 (sym e ∙ h) refl
 no_scalar_text text rest e none stream_end h = unlike 0 (sym e ∙ h) refl
 no_scalar_text text rest e none document_start h = unlike 0 (sym e ∙ h) refl
@@ -24,7 +25,9 @@ no_scalar_text text rest e none (mapping_start anchor tag) h = unlike 0 (sym e �
 no_scalar_text text rest e none mapping_end h = unlike 0 (sym e ∙ h) refl
 
 -- the same of the start of a sequence
-pub no_sequence_text : (text rest : List ℕ) → text ≡ codes "+SEQ" ++ rest → ((anchor tag : Option (List ℕ)) → ¬ (HasProperties rest anchor tag [])) → (event : PlainEvent) → ¬ (IsEventText text event)
+pub no_sequence_text : (text rest : List ℕ) → text ≡ codes "+SEQ" ++ rest
+    → ((anchor tag : Option (List ℕ)) → ¬ (HasProperties rest anchor tag [])) → (event : PlainEvent)
+    → ¬ (IsEventText text event)
 no_sequence_text text rest e none stream_start h = unlike 2 (sym e ∙ h) refl
 no_sequence_text text rest e none stream_end h = unlike 0 (sym e ∙ h) refl
 no_sequence_text text rest e none document_start h = unlike 1 (sym e ∙ h) refl
@@ -38,7 +41,9 @@ no_sequence_text text rest e none (mapping_start anchor tag) h = unlike 1 (sym e
 no_sequence_text text rest e none mapping_end h = unlike 0 (sym e ∙ h) refl
 
 -- the same of the start of a mapping
-pub no_mapping_text : (text rest : List ℕ) → text ≡ codes "+MAP" ++ rest → ((anchor tag : Option (List ℕ)) → ¬ (HasProperties rest anchor tag [])) → (event : PlainEvent) → ¬ (IsEventText text event)
+pub no_mapping_text : (text rest : List ℕ) → text ≡ codes "+MAP" ++ rest
+    → ((anchor tag : Option (List ℕ)) → ¬ (HasProperties rest anchor tag [])) → (event : PlainEvent)
+    → ¬ (IsEventText text event)
 no_mapping_text text rest e none stream_start h = unlike 1 (sym e ∙ h) refl
 no_mapping_text text rest e none stream_end h = unlike 0 (sym e ∙ h) refl
 no_mapping_text text rest e none document_start h = unlike 1 (sym e ∙ h) refl

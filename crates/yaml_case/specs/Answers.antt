@@ -8,18 +8,25 @@ use Rattle.yaml_case.specs.declared.status.Status.{Status}
 use Rattle.yaml_case.specs.declared.status.Status.TheVariants as status
 use Rattle.yaml_case.specs.DataText.{data_text}
 use Rattle.yaml_case.specs.InputText.{lines_of, MarkedEvents, IsInput, IsFirstBadLine}
-use Rattle.yaml_case.specs.Shapes.{IsNoName}
+use Rattle.yaml_case.specs.Reading.{IsReadAs}
+use Rattle.yaml_case.specs.Shapes.{name_of, IsNoName, table_of}
+use Rattle.yaml_case.specs.declared.shapes.Named.{Named}
 
 -- the status and the text that stand for an input whose lines are read as a named shape
-pub data IsReply (input : List ℕ) (ended : Status) (text : List ℕ) : Type 0 where
-  bad_line : (number : ℕ) → IsFirstBadLine (lines_of input) number → ended ≡ status.Refused → text ≡ codes "bad line " ++ decimal number → IsReply input ended text
-  fault : (events : MarkedEvents) (fault : Option PlainFault) → IsInput (lines_of input) events fault → (cause : Cause)
-      → ended ≡ status.Fault → text ≡ codes "fault: " ++ error_text cause → IsReply input ended text
-  found : (events : MarkedEvents) (fault : Option PlainFault) → IsInput (lines_of input) events fault → (value : PlainData)
-      → ended ≡ status.Read → text ≡ data_text value → IsReply input ended text
-  out_of_memory : ended ≡ status.Fault → text ≡ codes "fault: out of memory" → IsReply input ended text
+pub data IsReply (shape : Named) (input : List ℕ) (ended : Status) (text : List ℕ) : Type 0 where
+  bad_line : (number : ℕ) → IsFirstBadLine (lines_of input) number → ended ≡ status.Refused
+      → text ≡ codes "bad line " ++ decimal number → IsReply shape input ended text
+  found : (events : MarkedEvents) (fault : Option PlainFault) (value : PlainData)
+      → IsInput (lines_of input) events fault → IsReadAs (table_of shape) events fault value
+      → ended ≡ status.Read → text ≡ data_text value → IsReply shape input ended text
+  refused : (events : MarkedEvents) (fault : Option PlainFault) (cause : Cause)
+      → IsInput (lines_of input) events fault
+      → ended ≡ status.Fault → text ≡ codes "fault: " ++ error_text cause → IsReply shape input ended text
+  out_of_memory : ended ≡ status.Fault → text ≡ codes "fault: out of memory"
+      → IsReply shape input ended text
 
 -- the same for an argument and an input
 pub data IsAnswer (name input : List ℕ) (ended : Status) (text : List ℕ) : Type 0 where
-  bad_argument : IsNoName name → ended ≡ status.Refused → text ≡ codes "bad argument" → IsAnswer name input ended text
-  reply : (IsNoName name → ⊥) → IsReply input ended text → IsAnswer name input ended text
+  bad_argument : IsNoName name → ended ≡ status.Refused → text ≡ codes "bad argument"
+      → IsAnswer name input ended text
+  reply : (shape : Named) → name_of shape ≡ name → IsReply shape input ended text → IsAnswer name input ended text

@@ -2,8 +2,9 @@
 use Rattle.std.specs.Prelude.{ℕ, ◌==◌, List, [], ◌∷◌, ◌++◌, codes, if◌then◌else◌}
 use Rattle.std.specs.List.{flat_map}
 use Rattle.std.specs.Fmt.{signed_decimal}
-use Rattle.yaml_shape.specs.PlainData.{PlainData, PlainItems, PlainEntries, bool_data, signed_data, text_data, seq_data, map_data, no_items, item, no_entries, entry}
-use Rattle.yaml_case.specs.Quoted.{quoted}
+use Rattle.yaml_shape.specs.PlainData.{PlainData, PlainItems, PlainEntries, no_items, item, no_entries, entry}
+use Rattle.yaml_shape.specs.PlainData.{bool_data, signed_data, text_data, seq_data, map_data}
+use Rattle.yaml_base.specs.Quoted.{quoted}
 
 -- what stands before the part with this place
 abbrev pub before_part : ℕ → List ℕ

@@ -1,6 +1,7 @@
 -- How a line writes an event, behind its mark.
 use Rattle.std.specs.Prelude.{ℕ, ◌≡◌, ◌≢◌, ◌<◌, List, [], ◌∷◌, ◌++◌, length, codes, Option, None, Some}
-use Rattle.yaml_base.specs.PlainEvent.{PlainScalar, PlainEvent, stream_start, stream_end, document_start, document_end, alias, scalar, sequence_start, sequence_end, mapping_start, mapping_end}
+use Rattle.yaml_base.specs.PlainEvent.{PlainScalar, PlainEvent, stream_start, stream_end, document_start, document_end}
+use Rattle.yaml_base.specs.PlainEvent.{alias, scalar, sequence_start, sequence_end, mapping_start, mapping_end}
 use Rattle.yaml_base.specs.declared.event.ScalarStyle.{ScalarStyle}
 use Rattle.yaml_base.specs.declared.event.ScalarStyle.TheVariants.{Plain, SingleQuoted, DoubleQuoted, Literal, Folded}
 use Rattle.yaml_case.specs.Escape.{Lacks, Spells}
@@ -28,12 +29,14 @@ IsWithout start text = (rest : List ℕ) → text ≢ start ++ rest
 -- the text begins with this anchor, or with none, and then comes the rest
 abbrev pub HasAnchor : List ℕ → Option (List ℕ) → List ℕ → Type 0
 HasAnchor text None rest = (text ≡ rest) × IsWithout (codes " &") text
-HasAnchor text (Some anchor) rest = (name : List ℕ) × (text ≡ codes " &" ++ (name ++ rest)) × IsAnchorName name anchor × IsBreak rest
+HasAnchor text (Some anchor) rest =
+    (name : List ℕ) × (text ≡ codes " &" ++ (name ++ rest)) × IsAnchorName name anchor × IsBreak rest
 
 -- the text begins with this tag, or with none, and then comes the rest
 abbrev pub HasTag : List ℕ → Option (List ℕ) → List ℕ → Type 0
 HasTag text None rest = (text ≡ rest) × IsWithout (codes " <") text
-HasTag text (Some tag) rest = (name : List ℕ) × (text ≡ codes " <" ++ (name ++ (codes ">" ++ rest))) × IsTagName name tag
+HasTag text (Some tag) rest =
+    (name : List ℕ) × (text ≡ codes " <" ++ (name ++ (codes ">" ++ rest))) × IsTagName name tag
 
 -- the text begins with these two, and then comes the rest
 pub record HasProperties (text : List ℕ) (anchor tag : Option (List ℕ)) (rest : List ℕ) : Type 0 where
@@ -68,9 +71,11 @@ IsEventText text document_start = text ≡ codes "+DOC"
 IsEventText text document_end = text ≡ codes "-DOC"
 IsEventText text (alias anchor) = (name : List ℕ) × (text ≡ codes "=ALI *" ++ name) × IsAnchorName name anchor
 IsEventText text (scalar found) = (rest : List ℕ) × (text ≡ codes "=VAL" ++ rest) × IsScalarText rest found
-IsEventText text (sequence_start anchor tag) = (rest : List ℕ) × (text ≡ codes "+SEQ" ++ rest) × HasProperties rest anchor tag []
+IsEventText text (sequence_start anchor tag) =
+    (rest : List ℕ) × (text ≡ codes "+SEQ" ++ rest) × HasProperties rest anchor tag []
 IsEventText text sequence_end = text ≡ codes "-SEQ"
-IsEventText text (mapping_start anchor tag) = (rest : List ℕ) × (text ≡ codes "+MAP" ++ rest) × HasProperties rest anchor tag []
+IsEventText text (mapping_start anchor tag) =
+    (rest : List ℕ) × (text ≡ codes "+MAP" ++ rest) × HasProperties rest anchor tag []
 IsEventText text mapping_end = text ≡ codes "-MAP"
 
 -- the text is no word that stands for an event alone

@@ -3,7 +3,8 @@ use Rattle.std.specs.Prelude.{◌≡◌, List, ℕ, ◌∷◌, ◌++◌, codes, 
 use Rattle.std.specs.Str.{IsUtf8}
 use Rattle.yaml_base.specs.PlainFault.{PlainFault}
 use Rattle.yaml_base.specs.declared.fault.FaultKind.{FaultKind}
-use Rattle.yaml_base.specs.declared.fault.FaultKind.TheVariants.{Memory, Reader, Scanner, Parser, Composer, Writer, Emitter, Other}
+use Rattle.yaml_base.specs.declared.fault.FaultKind.TheVariants.{Memory, Reader, Scanner, Parser}
+use Rattle.yaml_base.specs.declared.fault.FaultKind.TheVariants.{Composer, Writer, Emitter, Other}
 use Rattle.yaml_case.specs.Escape.{Spells}
 use Rattle.yaml_case.specs.Place.{HasNumber}
 

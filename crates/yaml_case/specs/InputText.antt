@@ -24,7 +24,8 @@ abbrev pub IsInput : List (List ℕ) → MarkedEvents → Option PlainFault → 
 IsInput lines [] None = lines ≡ []
 IsInput lines [] (Some fault) = (line : List ℕ) × (lines ≡ line ∷ []) × IsTaken line (says_fault fault)
 IsInput lines (e ∷ events) fault =
-    (line : List ℕ) × (rest : List (List ℕ)) × (lines ≡ line ∷ rest) × IsTaken line (says_event e.0 e.1) × IsInput rest events fault
+    (line : List ℕ) × (rest : List (List ℕ)) × (lines ≡ line ∷ rest) × IsTaken line (says_event e.0 e.1)
+    × IsInput rest events fault
 
 -- the line with this number, counted from 1, is the first with which the lines so far say nothing
 pub record IsFirstBadLine (lines : List (List ℕ)) (number : ℕ) : Type 0 where

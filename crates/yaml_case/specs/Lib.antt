@@ -4,9 +4,10 @@ pub mod DataText
 pub mod DataTextView
 pub mod Escape
 pub mod EventText
+pub mod ExitCode
 pub mod FaultText
 pub mod InputText
 pub mod LineText
 pub mod Place
-pub mod Quoted
+pub mod Reading
 pub mod Shapes

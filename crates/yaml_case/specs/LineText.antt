@@ -22,7 +22,8 @@ said_of (line.Fault fault) = says_fault fault
 -- what stands behind the mark of a line says this
 abbrev pub IsSaid : List ℕ → Position → Said → Type 0
 IsSaid text mark (says_event event at) = (at ≡ mark) × IsEventText text event
-IsSaid text mark (says_fault fault) = (fault.mark ≡ mark) × (rest : List ℕ) × (text ≡ codes "!ERR " ++ rest) × IsFaultText rest fault
+IsSaid text mark (says_fault fault) =
+    (fault.mark ≡ mark) × (rest : List ℕ) × (text ≡ codes "!ERR " ++ rest) × IsFaultText rest fault
 
 -- the line says this
 pub record IsLine (line : List ℕ) (said : Said) : Type 0 where

@@ -15,8 +15,8 @@ pub record HasNumber (text : List ℕ) (byte n : ℕ) (rest : List ℕ) : Type 0
   pub split : text ≡ digits ++ byte ∷ rest
   pub is_number : IsNumber digits n
 
--- the line begins with a mark, whose line and column can be counted from 1: three numbers, `:` (58) behind the first two
--- and a space (32) behind the third
+-- the line begins with a mark, whose line and column can be counted from 1: three numbers, with `:` (58) behind the
+-- first two and a space (32) behind the third
 pub record IsMarked (text : List ℕ) (mark : Position) (rest : List ℕ) : Type 0 where
   pub behind_index : List ℕ
   pub behind_line : List ℕ

@@ -1,4 +1,4 @@
-//! The whole input: a line for each event, and at most one for the parser's fault, which is the last.
+//! The whole input: a line for each event, and at most one for the parser's fault, the last line.
 
 ghost use Rattle.std.specs.Prelude.{◌≡◌, ◌<◌, ◌∷◌, length, IfOk, MatchOption};
 ghost use Rattle.yaml_case.specs.LineText.{Said, said_of, IsTaken};
@@ -12,7 +12,7 @@ use yaml_base::{Event, Mark, ParserFault};
 /// What the input says.
 #[derive(Drop)]
 pub enum Input {
-    /// Each line was taken: events with their marks, and the fault that ended them, if there was one.
+    /// Each line was taken: events with their marks, and the fault behind them, if there is one.
     Events(Vec<(Event<'static>, Mark)>, Option<ParserFault>),
     /// The line with this number, counted from 1, is the first that was not taken.
     BadLine(usize),

@@ -6,6 +6,8 @@ ghost use Rattle.yaml_case.specs.LineText.{Said, said_of, IsSaid, IsLine, is_tak
 mod event;
 mod fault;
 pub mod parts;
+#[cfg(test)]
+mod tests;
 
 use parts::{mark_of, strip};
 use std::alloc::{AllocError, Global};
@@ -23,7 +25,8 @@ pub enum Line {
 // What stands behind the mark of a line says.
 fn said(alloc: Global, text: &[u8], mark: Mark) -> Result<Option<Line>, AllocError>
     ensures { IfOk result (λ found. MatchOption found
-        ((said : Said) → ¬ (IsSaid text.now mark said)) (λ line. IsSaid text.now mark (said_of line))) }
+        ((said : Said) → ¬ (IsSaid text.now mark said))
+        (λ line. IsSaid text.now mark (said_of line))) }
 {
     if let Some(rest) = strip(text, b"!ERR ") {
         return match fault::parse(alloc, rest, mark)? {

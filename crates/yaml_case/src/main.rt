@@ -1,10 +1,9 @@
-//! The program: it reads a list of events, a line each, as a value of a named shape, and prints what was read.
+//! The program: it reads events, a line each, as data of a named shape, and prints what was read.
 #![tactic(auto)]
 
 mod escape;
 mod input;
 mod line;
-mod quoted;
 mod read;
 mod run;
 mod shapes;

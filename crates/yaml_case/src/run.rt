@@ -1,6 +1,7 @@
 //! A run of the program: its input is read whole, and one line is written.
 
-ghost use Rattle.std.specs.Prelude.{◌≡◌, ◌≢◌, ◌∷◌, [], ◌++◌, List, ℕ, codes, string_bytes, IfOk, IfSome};
+ghost use Rattle.std.specs.Prelude.{◌≡◌, ◌≢◌, ◌∷◌, [], ◌++◌, List, ℕ, codes, decimal};
+ghost use Rattle.std.specs.Prelude.{string_bytes, IfOk, IfSome};
 ghost use Rattle.std.specs.Io.KnownBytes.{Appends};
 ghost use Rattle.yaml_base.specs.ErrorText.{error_text};
 ghost use Rattle.yaml_shape.specs.DataView.{data_of};
@@ -19,7 +20,7 @@ use crate::status::Status;
 use std::alloc::{AllocError, Global};
 use std::io::{Read, Write};
 use yaml_base::Error;
-use yaml_shape::{Data, ShapeId};
+use yaml_shape::Data;
 
 // The most calls of `read`. An input that hasn't ended by then counts as one that can't be read.
 const READ_CALLS: u32 = 1_048_576;
@@ -42,7 +43,8 @@ struct Answer {
 
 // All that the reader gives.
 fn read_input<R: Read>(alloc: Global, reader: &mut R) -> Result<Vec<u8>, Unread>
-    ensures { IfOk result (λ input. IfSome (R.remaining reader.old) (λ bytes. input.items ≡ bytes)) }
+    ensures { IfOk result (λ input.
+        IfSome (R.remaining reader.old) (λ bytes. input.items ≡ bytes)) }
 {
     let mut input = Vec::new(alloc);
     let mut buffer = [0u8; 4096];
@@ -87,58 +89,61 @@ fn bad_argument<W: Write>(writer: &mut W) -> Status
     print(writer, b"bad argument\n", Status::Refused)
 }
 
-// What is printed of data.
-fn found(alloc: Global, content: &Data<'_>) -> Result<Answer, AllocError>
-    ensures { IfOk result (λ answer. (answer.status ≡ Status.Read)
-        × (string_bytes answer.line ≡ data_text (data_of content.now) ++ 10 ∷ [])) }
+// The line that shows data.
+fn data_line(alloc: Global, content: &Data<'_>) -> Result<String, AllocError>
+    ensures { IfOk result (λ line. string_bytes line ≡ data_text (data_of content.now) ++ 10 ∷ []) }
 {
     let mut line = String::new(alloc);
     show(&mut line, content)?;
     line.push('\n')?;
-    Ok(Answer {
-        status: Status::Read,
-        line,
-    })
+    Ok(line)
 }
 
-// What is printed of a fault.
-fn fault(alloc: Global, fault: &Error) -> Result<Answer, AllocError>
-    ensures { IfOk result (λ answer. (answer.status ≡ Status.Fault)
-        × (string_bytes answer.line ≡ (codes "fault: " ++ error_text fault.now) ++ 10 ∷ [])) }
+// The line that tells a fault.
+fn fault_line(alloc: Global, fault: Error) -> Result<String, AllocError>
+    ensures { IfOk result (λ line.
+        string_bytes line ≡ (codes "fault: " ++ error_text fault) ++ 10 ∷ []) }
 {
-    let line = format!(in alloc; "fault: {fault}\n")?;
-    Ok(Answer {
-        status: Status::Fault,
-        line,
-    })
+    format!(in alloc; "fault: {fault}\n")
+}
+
+// The line that names a line of the input.
+fn bad_line(alloc: Global, number: usize) -> Result<String, AllocError>
+    ensures { IfOk result (λ line.
+        string_bytes line ≡ (codes "bad line " ++ decimal number) ++ 10 ∷ []) }
+{
+    format!(in alloc; "bad line {number}\n")
 }
 
 // What is printed of an input that is read as a shape.
 fn answer_to(alloc: Global, named: Named, input: &[u8]) -> Result<Answer, AllocError>
     ensures { IfOk result (λ answer. (text : List ℕ)
-        × (string_bytes answer.line ≡ text ++ 10 ∷ []) × IsReply input.now answer.status text) }
+        × (string_bytes answer.line ≡ text ++ 10 ∷ [])
+        × IsReply named input.now answer.status text) }
 {
-    let (events, ended_by) = match input::parse(alloc, input)? {
-        Input::Events(events, ended_by) => (events, ended_by),
-        Input::BadLine(number) => {
-            return Ok(Answer {
-                status: Status::Refused,
-                line: format!(in alloc; "bad line {number}\n")?,
-            });
-        }
-    };
-    let Ok(schema) = named.schema(alloc) else {
-        return Err(AllocError);
-    };
-    match read(alloc, events, ended_by, &schema, ShapeId(0)) {
-        Ok(content) => found(alloc, &content),
-        Err(error) => fault(alloc, &error),
+    let lines = input::parse(alloc, input)?;
+    match lines {
+        Input::BadLine(number) => Ok(Answer {
+            status: Status::Refused,
+            line: bad_line(alloc, number)?,
+        }),
+        Input::Events(events, fault) => match read(alloc, named, events, fault) {
+            Ok(content) => Ok(Answer {
+                status: Status::Read,
+                line: data_line(alloc, &content)?,
+            }),
+            Err(error) => Ok(Answer {
+                status: Status::Fault,
+                line: fault_line(alloc, error)?,
+            }),
+        },
     }
 }
 
-/// Reads the input as the shape with this name, and prints what was read, or why nothing was. The argument is looked at
-/// first, and all of the input is read before any line is looked at. Where the status is `Failed`, as it is where the
-/// reader or the writer failed, nothing is known of what was written.
+/// Reads the input as the shape with this name, and prints what was read, or why nothing was.
+///
+/// The argument is looked at first, and all of the input is read before any line is looked at. Where
+/// the status is `Failed`, the reader or the writer failed, and part of the line may be written.
 pub fn run<R: Read, W: Write>(alloc: Global, name: &str, reader: &mut R, writer: &mut W) -> Status
     ensures prints { result ≢ Status.Failed → (text : List ℕ)
         × IfSome (R.remaining reader.old) (λ input. IsAnswer name.now input result text)

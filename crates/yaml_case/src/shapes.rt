@@ -1,6 +1,6 @@
 //! The shapes that the argument of the program may name.
 
-ghost use Rattle.std.specs.Prelude.{◌≡◌, map, IfOk, IfErr, MatchOption};
+ghost use Rattle.std.specs.Prelude.{◌≡◌, ◌<◌, length, map, IfOk, IfErr, MatchOption};
 ghost use Rattle.yaml_shape.specs.ShapeView.{shape_of};
 ghost use Rattle.yaml_shape.specs.declared.fault.SchemaFault.TheVariants.{S5};
 ghost use Rattle.yaml_case.specs.Shapes.{name_of, IsNoName, table_of};
@@ -54,6 +54,7 @@ impl Named {
     /// A schema whose first shape is this one.
     pub fn schema(self, alloc: Global) -> Result<Schema, SchemaFault>
         ensures ok { IfOk result (λ schema. schema ≡ table_of self) }
+        ensures some { IfOk result (λ schema. 0 < length schema) }
         ensures memory { IfErr result (λ fault. fault ≡ S5) }
     {
         match self.shapes(alloc) {

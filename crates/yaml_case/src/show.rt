@@ -1,26 +1,36 @@
 //! The text of data.
 
 ghost use Rattle.std.specs.Prelude.{◌≡◌, ◌++◌, codes, map, string_bytes, OnOk};
+ghost use Rattle.yaml_base.specs.Quoted.{quoted};
 ghost use Rattle.yaml_shape.specs.DataView.{data_of};
 ghost use Rattle.yaml_case.specs.DataText.{data_text, listed, before_part};
 ghost use Rattle.yaml_case.specs.DataTextView.{entry_text, item_text};
 
-use crate::quoted::push_quoted;
 use std::alloc::AllocError;
+use yaml_base::Quoted;
 use yaml_shape::{Data, Entry};
 
 /// Appends the text of data.
 #[cycle(show)]
 pub fn show(out: &mut String, content: &Data<'_>) -> Result<(), AllocError>
-    ensures { OnOk result (string_bytes out.new ≡ string_bytes out.old ++ data_text (data_of content.now)) }
+    ensures { OnOk result
+        (string_bytes out.new ≡ string_bytes out.old ++ data_text (data_of content.now)) }
 {
     match content {
         Data::Bool(value) => write!(out, "{value}"),
         Data::Signed(value) => write!(out, "{value}"),
-        Data::Str(text) => push_quoted(out, text.as_str()),
+        Data::Str(text) => show_text(out, text.as_str()),
         Data::Seq(items) => show_items(out, items),
         Data::Map(entries) => show_entries(out, entries),
     }
+}
+
+// Appends a text between quotes.
+fn show_text(out: &mut String, text: &str) -> Result<(), AllocError>
+    ensures { OnOk result (string_bytes out.new ≡ string_bytes out.old ++ quoted text.now) }
+{
+    let text = Quoted(text);
+    write!(out, "{text}")
 }
 
 // Appends what stands before the part with this place: nothing before the first.
@@ -35,8 +45,8 @@ fn separate(out: &mut String, place: usize) -> Result<(), AllocError>
 
 #[cycle(show)]
 fn show_items(out: &mut String, items: &Vec<Data<'_>>) -> Result<(), AllocError>
-    ensures { OnOk result (string_bytes out.new
-        ≡ string_bytes out.old ++ (codes "[" ++ (listed (map item_text items.now.items) ++ codes "]"))) }
+    ensures { OnOk result (string_bytes out.new ≡ string_bytes out.old
+        ++ (codes "[" ++ (listed (map item_text items.now.items) ++ codes "]"))) }
 {
     out.push_str("[")?;
     for (index, item) in items.iter().enumerate() {
@@ -48,8 +58,8 @@ fn show_items(out: &mut String, items: &Vec<Data<'_>>) -> Result<(), AllocError>
 
 #[cycle(show)]
 fn show_entries(out: &mut String, entries: &Vec<Entry<'_>>) -> Result<(), AllocError>
-    ensures { OnOk result (string_bytes out.new
-        ≡ string_bytes out.old ++ (codes "{" ++ (listed (map entry_text entries.now.items) ++ codes "}"))) }
+    ensures { OnOk result (string_bytes out.new ≡ string_bytes out.old
+        ++ (codes "{" ++ (listed (map entry_text entries.now.items) ++ codes "}"))) }
 {
     out.push_str("{")?;
     for (index, entry) in entries.iter().enumerate() {

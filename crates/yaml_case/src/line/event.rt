@@ -4,8 +4,9 @@ ghost use Rattle.std.specs.Prelude.{◌≡◌, ◌≢◌, ℕ, List, [], ◌++�
 ghost use Rattle.yaml_base.specs.PlainEvent.{PlainScalar, PlainEvent, event_of, scalar_of};
 ghost use Rattle.yaml_base.specs.declared.event.ScalarStyle.{ScalarStyle as Style};
 ghost use Rattle.yaml_case.specs.Escape.{Lacks};
-ghost use Rattle.yaml_case.specs.EventText.{IsAnchorName, IsBreak, HasAnchor, HasTag, HasProperties};
-ghost use Rattle.yaml_case.specs.EventText.{style_byte, IsContent, IsScalarText, IsEventText, IsNoWord};
+ghost use Rattle.yaml_case.specs.EventText.{IsAnchorName, IsBreak, HasAnchor, HasTag};
+ghost use Rattle.yaml_case.specs.EventText.{HasProperties, style_byte, IsContent, IsScalarText};
+ghost use Rattle.yaml_case.specs.EventText.{IsEventText, IsNoWord};
 
 use crate::escape::unescape;
 use crate::line::parts::{cut, strip};
@@ -14,7 +15,8 @@ use yaml_base::{Anchor, Event, MappingStart, Scalar, ScalarStyle, SequenceStart,
 
 // The event of a line that is one word and nothing more.
 fn bare_event(text: &[u8]) -> Option<Event<'static>>
-    ensures { MatchOption result (IsNoWord text.now) (λ event. IsEventText text.now (event_of event)) }
+    ensures { MatchOption result (IsNoWord text.now)
+        (λ event. IsEventText text.now (event_of event)) }
 {
     match text {
         b"+STR" => Some(Event::StreamStart),
@@ -89,7 +91,8 @@ fn tag_part(alloc: Global, text: &[u8]) -> Result<Option<(Option<Tag>, &[u8])>, 
 
 // The style that a byte stands for.
 fn style_of(byte: u8) -> Option<ScalarStyle>
-    ensures { MatchOption result ((style : Style) → style_byte style ≢ byte) (λ style. style_byte style ≡ byte) }
+    ensures { MatchOption result
+        ((style : Style) → style_byte style ≢ byte) (λ style. style_byte style ≡ byte) }
 {
     match byte {
         b':' => Some(ScalarStyle::Plain),
@@ -128,7 +131,8 @@ fn properties(
     text: &[u8],
 ) -> Result<Option<(Option<Anchor>, Option<Tag>, &[u8])>, AllocError>
     ensures { IfOk result (λ found. MatchOption found
-        ((anchor tag : Option (List ℕ)) → (rest : List ℕ) → ¬ (HasProperties text.now anchor tag rest))
+        ((anchor tag : Option (List ℕ)) → (rest : List ℕ)
+            → ¬ (HasProperties text.now anchor tag rest))
         (λ parts. HasProperties text.now parts.0 parts.1 parts.2.now)) }
 {
     let Some((anchor, text)) = anchor_part(alloc, text)? else {

@@ -14,7 +14,8 @@ use yaml_base::{FaultKind, Mark, ParserFault};
 
 // The kind with this name.
 fn kind_named(name: &[u8]) -> Option<FaultKind>
-    ensures { MatchOption result ((kind : Kind) → kind_name kind ≢ name.now) (λ kind. kind_name kind ≡ name.now) }
+    ensures { MatchOption result
+        ((kind : Kind) → kind_name kind ≢ name.now) (λ kind. kind_name kind ≡ name.now) }
 {
     match name {
         b"MEMORY" => Some(FaultKind::Memory),
