@@ -1,5 +1,5 @@
 -- What a run prints.
-use Rattle.std.specs.Prelude.{ℕ, ◌≡◌, List, ◌++◌, codes, decimal, Option, None}
+use Rattle.std.specs.Prelude.{ℕ, ◌≡◌, List, [], ◌∷◌, ◌++◌, codes, decimal, Option}
 use Rattle.yaml_base.specs.ErrorText.{error_text}
 use Rattle.yaml_base.specs.PlainFault.{PlainFault}
 use Rattle.yaml_base.specs.declared.error.Cause.{Cause}
@@ -30,3 +30,8 @@ pub data IsAnswer (name input : List ℕ) (ended : Status) (text : List ℕ) : T
   bad_argument : IsNoName name → ended ≡ status.Refused → text ≡ codes "bad argument"
       → IsAnswer name input ended text
   reply : (shape : Named) → name_of shape ≡ name → IsReply shape input ended text → IsAnswer name input ended text
+
+-- the same for a list of arguments, of which there must be one
+abbrev pub IsAnswerTo : List (List ℕ) → List ℕ → Status → List ℕ → Type 0
+IsAnswerTo (name ∷ []) input ended text = IsAnswer name input ended text
+IsAnswerTo arguments input ended text = (ended ≡ status.Refused) × (text ≡ codes "bad argument")

@@ -12,7 +12,7 @@ use std::alloc::Global;
 use yaml_base::{Cause, Error, Event, Mark, ParserFault, Result};
 use yaml_shape::{Data, ShapeId};
 
-/// Reads the one document of these events as data of a shape. The fault is the parser's, if it had one.
+/// Reads the one document of these events, and of the parser's fault, if it had one, as data.
 pub fn read<'de>(
     alloc: Global,
     named: Named,

@@ -1,11 +1,11 @@
 //! A run of the program: its input is read whole, and one line is written.
 
-ghost use Rattle.std.specs.Prelude.{◌≡◌, ◌≢◌, ◌∷◌, [], ◌++◌, List, ℕ, codes, decimal};
+ghost use Rattle.std.specs.Prelude.{◌≡◌, ◌≢◌, ◌∷◌, [], ◌++◌, List, ℕ, codes, decimal, map, length};
 ghost use Rattle.std.specs.Prelude.{string_bytes, IfOk, IfSome};
 ghost use Rattle.std.specs.Io.KnownBytes.{Appends};
 ghost use Rattle.yaml_base.specs.ErrorText.{error_text};
 ghost use Rattle.yaml_shape.specs.DataView.{data_of};
-ghost use Rattle.yaml_case.specs.Answers.{IsReply, IsAnswer};
+ghost use Rattle.yaml_case.specs.Answers.{IsReply, IsAnswer, IsAnswerTo};
 ghost use Rattle.yaml_case.specs.DataText.{data_text};
 ghost use Rattle.yaml_case.specs.Shapes.{IsNoName};
 
@@ -142,8 +142,8 @@ fn answer_to(alloc: Global, named: Named, input: &[u8]) -> Result<Answer, AllocE
 
 /// Reads the input as the shape with this name, and prints what was read, or why nothing was.
 ///
-/// The argument is looked at first, and all of the input is read before any line is looked at. Where
-/// the status is `Failed`, the reader or the writer failed, and part of the line may be written.
+/// The argument is looked at first, and all of the input is read before any line is looked at. With
+/// the status `Failed` the reader or the writer failed, and part of a line may be written.
 pub fn run<R: Read, W: Write>(alloc: Global, name: &str, reader: &mut R, writer: &mut W) -> Status
     ensures prints { result ≢ Status.Failed → (text : List ℕ)
         × IfSome (R.remaining reader.old) (λ input. IsAnswer name.now input result text)
@@ -170,9 +170,15 @@ pub fn start<R: Read, W: Write>(
     arguments: &[String],
     reader: &mut R,
     writer: &mut W,
-) -> Status {
-    match arguments {
-        [name] => run(alloc, name.as_str(), reader, writer),
-        _ => bad_argument(writer),
+) -> Status
+    ensures prints { result ≢ Status.Failed → (text : List ℕ)
+        × IfSome (R.remaining reader.old)
+            (λ input. IsAnswerTo (map string_bytes arguments.now) input result text)
+        × Appends (W.contents writer.old) (W.contents writer.new) (text ++ 10 ∷ []) }
+    ensures unread { length arguments.now ≢ 1 → reader.new ≡ reader.old }
+{
+    if arguments.len() != 1 {
+        return bad_argument(writer);
     }
+    run(alloc, arguments[0].as_str(), reader, writer)
 }
