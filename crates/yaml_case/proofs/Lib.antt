@@ -1,0 +1,12 @@
+-- Lemmas of this crate.
+pub mod CutLaws
+pub mod EscapeLaws
+pub mod EventLaws
+pub mod FaultLaws
+pub mod LineLaws
+pub mod OneReading
+pub mod PlaceLaws
+pub mod WordLaws
+pub mod InputLaws
+pub mod ShowLaws
+pub mod RunLaws
