@@ -9,4 +9,5 @@ pub mod PlaceLaws
 pub mod WordLaws
 pub mod InputLaws
 pub mod ShowLaws
+pub mod ValueLaws
 pub mod RunLaws

@@ -6,11 +6,12 @@ use Rattle.std.proofs.Common.{◌≡◌, ℕ, List, [], ◌∷◌, ◌++◌, map
 use Rattle.std.proofs.lemmas.Bool.{ne_eqb}
 use Rattle.std.proofs.lemmas.List.{take_more, append-nil}
 use Rattle.std.proofs.lemmas.List.Concat.{flat_map-append}
-use Rattle.yaml_shape.specs.PlainData.{seq_data, map_data}
+use Rattle.yaml_shape.specs.PlainData.{seq_data, tuple_data, struct_data, map_data}
 use Rattle.yaml_shape.specs.DataView.{data_of, items_of, entries_of}
-use Rattle.yaml_shape.specs.declared.data.Data.{Data, Seq, Map, the_lemmas}
+use Rattle.yaml_shape.specs.declared.data.Data.{Data, Seq, Tuple, Struct, Map, the_lemmas}
 use Rattle.yaml_shape.specs.declared.data.Entry.{Entry, out-Entry}
-use Rattle.yaml_case.specs.DataText.{listed, before_part, data_text, item_texts, entry_texts}
+use Rattle.yaml_case.specs.Listed.{listed, before_part}
+use Rattle.yaml_case.specs.DataText.{data_text, item_texts, entry_texts}
 use Rattle.yaml_case.specs.DataTextView.{item_text, entry_text}
 
 items-texts : (xs : List Data) → item_texts (items_of (map data_of xs)) ≡ map item_text xs
@@ -23,6 +24,20 @@ data_of-Seq v = search (rules, the_lemmas)
 -- a sequence
 pub show-Seq : (v : Vec Data Global) → data_text (data_of (Seq v)) ≡ codes "[" ++ (listed (map item_text v.items) ++ codes "]")
 show-Seq v = ap data_text (data_of-Seq v) ∙ ap (λ ts. codes "[" ++ (listed ts ++ codes "]")) (items-texts v.items)
+
+data_of-Tuple : (v : Vec Data Global) → data_of (Tuple v) ≡ tuple_data (items_of (map data_of v.items))
+data_of-Tuple v = search (rules, the_lemmas)
+
+-- a tuple
+pub show-Tuple : (v : Vec Data Global) → data_text (data_of (Tuple v)) ≡ codes "(" ++ (listed (map item_text v.items) ++ codes ")")
+show-Tuple v = ap data_text (data_of-Tuple v) ∙ ap (λ ts. codes "(" ++ (listed ts ++ codes ")")) (items-texts v.items)
+
+data_of-Struct : (v : Vec Data Global) → data_of (Struct v) ≡ struct_data (items_of (map data_of v.items))
+data_of-Struct v = search (rules, the_lemmas)
+
+-- a struct
+pub show-Struct : (v : Vec Data Global) → data_text (data_of (Struct v)) ≡ codes "struct(" ++ (listed (map item_text v.items) ++ codes ")")
+show-Struct v = ap data_text (data_of-Struct v) ∙ ap (λ ts. codes "struct(" ++ (listed ts ++ codes ")")) (items-texts v.items)
 
 data_of-Map : (v : Vec Entry Global) → data_of (Map v) ≡ map_data (entries_of (map (λ e. (data_of (out-Entry e).key, data_of (out-Entry e).value)) v.items))
 data_of-Map v = search (rules, the_lemmas)

@@ -8,6 +8,8 @@ pub mod ExitCode
 pub mod FaultText
 pub mod InputText
 pub mod LineText
+pub mod Listed
 pub mod Place
 pub mod Reading
 pub mod Shapes
+pub mod TreeText

@@ -1,6 +1,6 @@
 -- What was shown so far stands there, with a comma and a space between.
 use Rattle.std.proofs.Common.{◌≡◌, ◌++◌, take, map, string_bytes}
-use Rattle.yaml_case.specs.DataText.{listed}
+use Rattle.yaml_case.specs.Listed.{listed}
 use Rattle.yaml_case.specs.DataTextView.{item_text, entry_text}
 use Rattle.yaml_case.proofs.show.+show.Given as goal
 
