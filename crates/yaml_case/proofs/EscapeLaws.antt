@@ -75,7 +75,7 @@ first_of-spelling unit rest byte (number high low e h l b) = rw (e, b) refl
 pub BeginsWith-unique : (text : List ℕ) (a b : ℕ) (r s : List ℕ) → BeginsWith text a r → BeginsWith text b s → (a ≡ b) × (r ≡ s)
 BeginsWith-unique text a b r s f g =
     let e : first a r ≡ first b s =
-        sym (ap first_of f.split ∙ first_of-spelling f.unit r a f.spelling) ∙ (ap first_of g.split ∙ first_of-spelling g.unit s b g.spelling) in
+    sym (ap first_of f.split ∙ first_of-spelling f.unit r a f.spelling) ∙ (ap first_of g.split ∙ first_of-spelling g.unit s b g.spelling) in
     ((cc), (cc))
 
 -- the empty text begins with no byte

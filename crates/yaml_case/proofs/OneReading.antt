@@ -42,9 +42,10 @@ tag-unique text (Some a) (Some b) r s f g =
 
 HasProperties-unique : (text : List ℕ) (a b t u : Option (List ℕ)) (r s : List ℕ) → HasProperties text a t r → HasProperties text b u s → (a ≡ b) × (t ≡ u)
 HasProperties-unique text a b t u r s f g =
-    let e = behind_anchor-unique text a b f.behind_anchor g.behind_anchor f.has_anchor g.has_anchor in
-    (anchor-unique text a b f.behind_anchor g.behind_anchor f.has_anchor g.has_anchor,
-      tag-unique f.behind_anchor t u r s f.has_tag (subst (λ x. HasTag x u s) (sym e) g.has_tag))
+    let e = behind_anchor-unique text a b f.behind_anchor g.behind_anchor f.has_anchor g.has_anchor in (
+      anchor-unique text a b f.behind_anchor g.behind_anchor f.has_anchor g.has_anchor,
+      tag-unique f.behind_anchor t u r s f.has_tag (subst (λ x. HasTag x u s) (sym e) g.has_tag),
+    )
 
 -- a style by its byte
 abbrev style_at : ℕ → ScalarStyle
@@ -60,9 +61,10 @@ style_at-byte Folded = refl
 content-unique : (text : List ℕ) (a b : ScalarStyle) (v w : List ℕ) → IsContent text a v → IsContent text b w → (a ≡ b) × (v ≡ w)
 content-unique text a b v w f g =
     let e = sym f.1 ∙ g.1 in
-    let same : style_byte a ≡ style_byte b = ap (λ (l : List ℕ). get_or l 1 0) e in
-    (sym (style_at-byte a) ∙ (ap style_at same ∙ style_at-byte b),
-      Spells-unique f.0 v w f.2 (subst (λ t. Spells t w) (ap (λ (l : List ℕ). drop 2 l) (sym e)) g.2))
+    let same : style_byte a ≡ style_byte b = ap (λ (l : List ℕ). get_or l 1 0) e in (
+      sym (style_at-byte a) ∙ (ap style_at same ∙ style_at-byte b),
+      Spells-unique f.0 v w f.2 (subst (λ t. Spells t w) (ap (λ (l : List ℕ). drop 2 l) (sym e)) g.2),
+    )
 
 IsScalarText-unique : (text : List ℕ) (a b : PlainScalar) → IsScalarText text a → IsScalarText text b → a ≡ b
 IsScalarText-unique text a b f g =
@@ -70,12 +72,12 @@ IsScalarText-unique text a b f g =
     let rest = behind-unique text a.anchor b.anchor a.tag b.tag f.behind_tag g.behind_tag f.has_properties g.has_properties in
     let c = content-unique f.behind_tag a.style b.style a.text b.text f.is_content (subst (λ t. IsContent t b.style b.text) (sym rest) g.is_content) in
     same_scalar a b p.0 p.1 c.1 c.0 (f.no_source ∙ sym g.no_source) where
-  same_scalar : (p q : PlainScalar) → p.anchor ≡ q.anchor → p.tag ≡ q.tag → p.text ≡ q.text → p.style ≡ q.style → p.source ≡ q.source → p ≡ q
-  same_scalar p q a t x s r =
-      let make : Option (List ℕ) → Option (List ℕ) → List ℕ → ScalarStyle → Option (List ℕ) → PlainScalar =
+      same_scalar : (p q : PlainScalar) → p.anchor ≡ q.anchor → p.tag ≡ q.tag → p.text ≡ q.text → p.style ≡ q.style → p.source ≡ q.source → p ≡ q
+      same_scalar p q a t x s r =
+          let make : Option (List ℕ) → Option (List ℕ) → List ℕ → ScalarStyle → Option (List ℕ) → PlainScalar =
           λ anchor tag text style source. record { anchor = anchor; tag = tag; text = text; style = style; source = source } in
-      ap (λ y. make y p.tag p.text p.style p.source) a ∙ (ap (λ y. make q.anchor y p.text p.style p.source) t ∙ (ap (λ y. make q.anchor q.tag y p.style p.source) x
-      ∙ (ap (λ y. make q.anchor q.tag q.text y p.source) s ∙ ap (λ y. make q.anchor q.tag q.text q.style y) r)))
+          ap (λ y. make y p.tag p.text p.style p.source) a ∙ (ap (λ y. make q.anchor y p.text p.style p.source) t ∙ (ap (λ y. make q.anchor q.tag y p.style p.source) x
+          ∙ (ap (λ y. make q.anchor q.tag q.text y p.source) s ∙ ap (λ y. make q.anchor q.tag q.text q.style y) r)))
 
 -- an event
 IsEventText-unique : (text : List ℕ) (a b : PlainEvent) → IsEventText text a → IsEventText text b → a ≡ b
@@ -208,17 +210,17 @@ IsFaultText-unique text a b m f g =
     let u = kind_and_rest text (kind_name b.kind) g.behind_kind g.split (kind_spaceless b.kind) a f in
     let kind : a.kind ≡ b.kind = sym (kind_at-name a.kind) ∙ (ap (λ (n : List ℕ). kind_at (get_or n 0 0)) u.0 ∙ kind_at-name b.kind) in
     let offset = HasNumber-unique f.behind_kind 32 a.offset b.offset f.behind_offset g.behind_offset (lit≤ tt) f.has_offset
-        (subst (λ t. HasNumber t 32 b.offset g.behind_offset) (sym u.1) g.has_offset) in
+    (subst (λ t. HasNumber t 32 b.offset g.behind_offset) (sym u.1) g.has_offset) in
     let problem = Spells-unique f.behind_offset a.problem b.problem f.spelled (subst (λ t. Spells t b.problem) (sym offset.1) g.spelled) in
     same_fault a b kind problem offset.0 m (f.no_context ∙ sym g.no_context) (f.same_mark ∙ (m ∙ sym g.same_mark)) where
-  same_fault : (p q : PlainFault) → p.kind ≡ q.kind → p.problem ≡ q.problem → p.offset ≡ q.offset → p.mark ≡ q.mark → p.context ≡ q.context → p.context_mark ≡ q.context_mark → p ≡ q
-  same_fault p q k x o m c n =
-      let make : FaultKind → List ℕ → ℕ → Position → Option (List ℕ) → Position → PlainFault =
+      same_fault : (p q : PlainFault) → p.kind ≡ q.kind → p.problem ≡ q.problem → p.offset ≡ q.offset → p.mark ≡ q.mark → p.context ≡ q.context → p.context_mark ≡ q.context_mark → p ≡ q
+      same_fault p q k x o m c n =
+          let make : FaultKind → List ℕ → ℕ → Position → Option (List ℕ) → Position → PlainFault =
           λ kind problem offset mark context context_mark.
           record { kind = kind; problem = problem; offset = offset; mark = mark; context = context; context_mark = context_mark } in
-      ap (λ y. make y p.problem p.offset p.mark p.context p.context_mark) k ∙ (ap (λ y. make q.kind y p.offset p.mark p.context p.context_mark) x
-      ∙ (ap (λ y. make q.kind q.problem y p.mark p.context p.context_mark) o ∙ (ap (λ y. make q.kind q.problem q.offset y p.context p.context_mark) m
-      ∙ (ap (λ y. make q.kind q.problem q.offset q.mark y p.context_mark) c ∙ ap (λ y. make q.kind q.problem q.offset q.mark q.context y) n))))
+          ap (λ y. make y p.problem p.offset p.mark p.context p.context_mark) k ∙ (ap (λ y. make q.kind y p.offset p.mark p.context p.context_mark) x
+          ∙ (ap (λ y. make q.kind q.problem y p.mark p.context p.context_mark) o ∙ (ap (λ y. make q.kind q.problem q.offset y p.context p.context_mark) m
+          ∙ (ap (λ y. make q.kind q.problem q.offset q.mark y p.context_mark) c ∙ ap (λ y. make q.kind q.problem q.offset q.mark q.context y) n))))
 
 -- what stands behind a mark
 IsSaid-unique : (text : List ℕ) (mark : Position) (a b : Said) → IsSaid text mark a → IsSaid text mark b → a ≡ b

@@ -45,7 +45,11 @@ fn first_byte(text: &[u8]) -> Option<(u8, &[u8])>
     if byte == b'\\' {
         return after_backslash(rest);
     }
-    if byte >= 32 && byte <= 126 { Some((byte, rest)) } else { None }
+    if byte >= 32 && byte <= 126 {
+        Some((byte, rest))
+    } else {
+        None
+    }
 }
 
 /// The bytes that a text with escapes stands for, or `None` where it stands for none.

@@ -173,7 +173,7 @@ pub fn start<R: Read, W: Write>(
 ) -> Status
     ensures prints { result ≢ Status.Failed → (text : List ℕ)
         × IfSome (R.remaining reader.old)
-            (λ input. IsAnswerTo (map string_bytes arguments.now) input result text)
+        (λ input. IsAnswerTo (map string_bytes arguments.now) input result text)
         × Appends (W.contents writer.old) (W.contents writer.new) (text ++ 10 ∷ []) }
     ensures unread { length arguments.now ≢ 1 → reader.new ≡ reader.old }
 {

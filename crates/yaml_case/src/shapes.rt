@@ -47,7 +47,11 @@ impl Named {
             Named::I64 => Ok(vec![in alloc; Shape::I64]?),
             Named::Str => Ok(vec![in alloc; Shape::Str]?),
             Named::List => Ok(vec![in alloc; Shape::Seq(ShapeId(1)), Shape::I64]?),
-            Named::Map => Ok(vec![in alloc; Shape::Map(ShapeId(1), ShapeId(2)), Shape::Str, Shape::I64]?),
+            Named::Map => Ok(vec![in alloc;
+                Shape::Map(ShapeId(1), ShapeId(2)),
+                Shape::Str,
+                Shape::I64,
+            ]?),
         }
     }
 

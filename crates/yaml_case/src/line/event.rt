@@ -132,7 +132,7 @@ fn properties(
 ) -> Result<Option<(Option<Anchor>, Option<Tag>, &[u8])>, AllocError>
     ensures { IfOk result (λ found. MatchOption found
         ((anchor tag : Option (List ℕ)) → (rest : List ℕ)
-            → ¬ (HasProperties text.now anchor tag rest))
+        → ¬ (HasProperties text.now anchor tag rest))
         (λ parts. HasProperties text.now parts.0 parts.1 parts.2.now)) }
 {
     let Some((anchor, text)) = anchor_part(alloc, text)? else {
@@ -156,7 +156,11 @@ fn only_properties(
     let Some((anchor, tag, rest)) = properties(alloc, text)? else {
         return Ok(None);
     };
-    if rest.is_empty() { Ok(Some((anchor, tag))) } else { Ok(None) }
+    if rest.is_empty() {
+        Ok(Some((anchor, tag)))
+    } else {
+        Ok(None)
+    }
 }
 
 // The scalar that stands behind the word for one.

@@ -7,9 +7,17 @@ use yaml_base::Event;
 #[test]
 fn anchors_and_tags_are_read(rt: HostRuntime) -> Result<(), Fail> {
     let lines = [
-        (b"0:0:0 =VAL &a\\x20b <!t> :x".as_slice(), Some(b"a b".as_slice()), Some(b"!t".as_slice())),
+        (
+            b"0:0:0 =VAL &a\\x20b <!t> :x".as_slice(),
+            Some(b"a b".as_slice()),
+            Some(b"!t".as_slice()),
+        ),
         (b"0:0:0 =VAL <> :x".as_slice(), None, Some(b"".as_slice())),
-        (b"0:0:0 =VAL &<a> :x".as_slice(), Some(b"<a>".as_slice()), None),
+        (
+            b"0:0:0 =VAL &<a> :x".as_slice(),
+            Some(b"<a>".as_slice()),
+            None,
+        ),
     ];
     for (line, anchor, tag) in lines {
         match parse(rt.alloc(), line)? {
@@ -27,7 +35,10 @@ fn anchors_and_tags_are_read(rt: HostRuntime) -> Result<(), Fail> {
 #[test]
 fn aliases_and_faults_are_read(rt: HostRuntime) -> Result<(), Fail> {
     match parse(rt.alloc(), b"0:0:0 =ALI *a")? {
-        Some(Line::Event(Event::Alias(anchor), _)) => assert_eq!(rt; anchor.as_slice(), b"a".as_slice()),
+        Some(Line::Event(Event::Alias(anchor), _)) => assert_eq!(rt;
+            anchor.as_slice(),
+            b"a".as_slice()
+        ),
         _ => assert!(rt; false),
     }
     match parse(rt.alloc(), b"7:1:2 !ERR SCANNER 9 no \\xe2\\x82\\xac")? {

@@ -21,9 +21,11 @@ returns-in-Ok-answer_to-clause-prints g c = λ ok.
     let w = c.print.ensures ok in
     let a = c.in-Ok-answer_to.ensures in
     let whole = subst (λ i. IsReply c.in-Some.named i c.in-Ok-answer_to.answer.status a.0) c.as_slice.ensures.value a.2 in
-    let ended = subst (λ s. IsReply c.in-Some.named c.in-Ok.input.items s a.0) (sym w.0) whole in
-    (a.0, replies c.in-Some.named _ _ _ _ _ c.in-Some.ensures c.in-Ok.ensures ended,
-      subst (Appends (g.W.Write.contents c.args.writer.now) (g.W.Write.contents c.print.new.writer)) (c.as_bytes.ensures.value ∙ a.1) w.1)
+    let ended = subst (λ s. IsReply c.in-Some.named c.in-Ok.input.items s a.0) (sym w.0) whole in (
+      a.0,
+      replies c.in-Some.named _ _ _ _ _ c.in-Some.ensures c.in-Ok.ensures ended,
+      subst (Appends (g.W.Write.contents c.args.writer.now) (g.W.Write.contents c.print.new.writer)) (c.as_bytes.ensures.value ∙ a.1) w.1,
+    )
 
 pub returns-clause-prints : goal.returns-clause-prints
 returns-clause-prints g c = λ ok.

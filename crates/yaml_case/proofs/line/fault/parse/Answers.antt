@@ -16,17 +16,19 @@ returns-in_default-number_before c =
 pub returns-in-Some-2 : goal.returns-in-Some-2
 returns-in-Some-2 c =
     let spelled = rw c.in-Some-2.is at c.in_ok-problem.ensures in
-    rw c.new.ensures
-    (record {
-      behind_kind = c.in-Some.text.now;
-      behind_offset = c.in-Some-number_before.text.now;
-      split = c.in-Some.ensures.0 ∙ ap (λ n. n ++ 32 ∷ c.in-Some.text.now) (sym c.in-Some-kind_named.ensures);
-      has_offset = c.in-Some-number_before.ensures;
-      spelled = spelled.0;
-      is_text = spelled.1;
-      no_context = refl;
-      same_mark = refl;
-    }, refl)
+    rw c.new.ensures (
+      record {
+        behind_kind = c.in-Some.text.now;
+        behind_offset = c.in-Some-number_before.text.now;
+        split = c.in-Some.ensures.0 ∙ ap (λ n. n ++ 32 ∷ c.in-Some.text.now) (sym c.in-Some-kind_named.ensures);
+        has_offset = c.in-Some-number_before.ensures;
+        spelled = spelled.0;
+        is_text = spelled.1;
+        no_context = refl;
+        same_mark = refl;
+      },
+      refl,
+    )
 
 pub returns-in-None : goal.returns-in-None
 returns-in-None c =
