@@ -11,7 +11,7 @@ use Rattle.yaml_base.specs.declared.mark.Mark.{Mark}
 use Rattle.yaml_base.specs.PlainFault.{PlainFault}
 use Rattle.yaml_case.specs.Escape.{Lacks}
 use Rattle.yaml_case.specs.InputText.{lines_of, MarkedEvents, IsInput, IsFirstBadLine, events_of}
-use Rattle.yaml_case.specs.LineText.{Said, says_event, says_fault, IsLine, IsTaken}
+use Rattle.yaml_case.specs.LineText.{Said, says_event, says_fault, IsLine}
 use Rattle.yaml_case.proofs.CutLaws.{lacks-head, lacks-tail}
 use Rattle.yaml_case.proofs.LineLaws.{fault_or_event}
 
@@ -44,13 +44,13 @@ not_empty x xs e = let l : 0 ≡ length (x ∷ xs) = ap length e in omega arith
 pushed_two : {X : Type 0} (x y z : X) (xs : List X) → x ∷ (xs ++ y ∷ []) ≡ z ∷ [] → ⊥
 pushed_two x y z xs e = pushed_some xs y (tail-same x z (xs ++ y ∷ []) [] e)
 
--- the last line says something that is taken
+-- the last line says something
 pub last_taken : (good : List (List ℕ)) (line : List ℕ) (events : MarkedEvents) (fault : Option PlainFault) → IsInput (good ++ line ∷ []) events fault
-    → (said : Said) × IsTaken line said
+    → (said : Said) × IsLine line said
 last_taken good line [] None i = absurd (pushed_some good line i)
-last_taken [] line [] (Some f) i = (says_fault f, subst (λ t. IsTaken t (says_fault f)) (sym (head-same line i.0 [] [] i.1)) i.2)
+last_taken [] line [] (Some f) i = (says_fault f, subst (λ t. IsLine t (says_fault f)) (sym (head-same line i.0 [] [] i.1)) i.2)
 last_taken (x ∷ good) line [] (Some f) i = absurd (pushed_two x line i.0 good i.1)
-last_taken [] line (e ∷ events) fault i = (says_event e.0 e.1, subst (λ t. IsTaken t (says_event e.0 e.1)) (sym (head-same line i.0 [] i.1 i.2)) i.3)
+last_taken [] line (e ∷ events) fault i = (says_event e.0 e.1, subst (λ t. IsLine t (says_event e.0 e.1)) (sym (head-same line i.0 [] i.1 i.2)) i.3)
 last_taken (x ∷ good) line (e ∷ events) fault i =
     last_taken good line events fault (subst (λ ls. IsInput ls events fault) (sym (tail-same x i.0 (good ++ line ∷ []) i.1 i.2)) i.4)
 
@@ -61,8 +61,8 @@ after_fault good line known [] f None i j = pushed_some good line j
 after_fault [] line [] events f fault i j = not_empty i.0 [] i.1
 after_fault (x ∷ good) line [] [] f (Some g) i j = pushed_two x line j.0 good j.1
 after_fault (x ∷ good) line [] (e ∷ events) f fault i j =
-    fault_or_event x f e.0 e.1 (subst (λ t. IsLine t (says_fault f)) (sym (head-same x i.0 good [] i.1)) i.2.is_line)
-    (subst (λ t. IsLine t (says_event e.0 e.1)) (sym (head-same x j.0 (good ++ line ∷ []) j.1 j.2)) j.3.is_line)
+    fault_or_event x f e.0 e.1 (subst (λ t. IsLine t (says_fault f)) (sym (head-same x i.0 good [] i.1)) i.2)
+    (subst (λ t. IsLine t (says_event e.0 e.1)) (sym (head-same x j.0 (good ++ line ∷ []) j.1 j.2)) j.3)
 after_fault [] line (k ∷ known) events f fault i j = not_empty i.0 i.1 i.2
 after_fault (x ∷ good) line (k ∷ known) [] f (Some g) i j = pushed_two x line j.0 good j.1
 after_fault (x ∷ good) line (k ∷ known) (e ∷ events) f fault i j =
@@ -71,14 +71,14 @@ after_fault (x ∷ good) line (k ∷ known) (e ∷ events) f fault i j =
     (subst (λ ls. IsInput ls events fault) (sym (tail-same x j.0 (good ++ line ∷ []) j.1 j.2)) j.4)
 
 -- one event more
-push_event : (good : List (List ℕ)) (line : List ℕ) (events : MarkedEvents) (e : PlainEvent × Position) → IsInput good events None → IsTaken line (says_event e.0 e.1)
+push_event : (good : List (List ℕ)) (line : List ℕ) (events : MarkedEvents) (e : PlainEvent × Position) → IsInput good events None → IsLine line (says_event e.0 e.1)
     → IsInput (good ++ line ∷ []) (events ++ e ∷ []) None
 push_event good line [] e i t = (line, [], ap (λ ls. ls ++ line ∷ []) i, t, refl)
 push_event good line (k ∷ events) e i t =
     (i.0, i.1 ++ line ∷ [], ap (λ ls. ls ++ line ∷ []) i.2, i.3, push_event i.1 line events e i.4 t)
 
 -- the fault
-push_fault : (good : List (List ℕ)) (line : List ℕ) (events : MarkedEvents) (f : PlainFault) → IsInput good events None → IsTaken line (says_fault f)
+push_fault : (good : List (List ℕ)) (line : List ℕ) (events : MarkedEvents) (f : PlainFault) → IsInput good events None → IsLine line (says_fault f)
     → IsInput (good ++ line ∷ []) events (Some f)
 push_fault good line [] f i t = (line, ap (λ ls. ls ++ line ∷ []) i, t)
 push_fault good line (k ∷ events) f i t =
@@ -101,7 +101,7 @@ split_more lines good rest more line e f = e ∙ (ap (λ ls. good ++ ls) f ∙ s
 
 -- one event more is read
 pub read_event : (lines rest more : List (List ℕ)) (number : ℕ) (events : MarkedEvents) (fault : Option PlainFault) (line : List ℕ) (e : PlainEvent × Position)
-    → is_some fault ≡ false → HasRead lines number events fault rest → rest ≡ line ∷ more → IsTaken line (says_event e.0 e.1)
+    → is_some fault ≡ false → HasRead lines number events fault rest → rest ≡ line ∷ more → IsLine line (says_event e.0 e.1)
     → HasRead lines (number + 1) (events ++ e ∷ []) fault more
 read_event lines rest more number events (Some f) line e is h r t = absurd (false≢true (sym is))
 read_event lines rest more number events None line e is h r t = record {
@@ -113,7 +113,7 @@ read_event lines rest more number events None line e is h r t = record {
 
 -- the fault is read
 pub read_fault : (lines rest more : List (List ℕ)) (number : ℕ) (events : MarkedEvents) (fault : Option PlainFault) (line : List ℕ) (f : PlainFault)
-    → is_some fault ≡ false → HasRead lines number events fault rest → rest ≡ line ∷ more → IsTaken line (says_fault f)
+    → is_some fault ≡ false → HasRead lines number events fault rest → rest ≡ line ∷ more → IsLine line (says_fault f)
     → HasRead lines (number + 1) events (Some f) more
 read_fault lines rest more number events (Some g) line f is h r t = absurd (false≢true (sym is))
 read_fault lines rest more number events None line f is h r t = record {
@@ -130,9 +130,9 @@ pub read_all : (lines rest : List (List ℕ)) (number : ℕ) (events : MarkedEve
 read_all lines rest number events fault h e =
     subst (λ ls. IsInput ls events fault) (sym (h.split ∙ (ap (λ ls. h.good ++ ls) e ∙ append-nil h.good))) h.is_input
 
--- the next line is bad where it says nothing that is taken
+-- the next line is bad where it says nothing
 pub bad_line : (lines rest more : List (List ℕ)) (number : ℕ) (events : MarkedEvents) (fault : Option PlainFault) (line : List ℕ)
-    → HasRead lines number events fault rest → rest ≡ line ∷ more → ((said : Said) → ¬ (IsTaken line said)) → IsFirstBadLine lines (number + 1)
+    → HasRead lines number events fault rest → rest ≡ line ∷ more → ((said : Said) → ¬ (IsLine line said)) → IsFirstBadLine lines (number + 1)
 bad_line lines rest more number events fault line h r none = record {
   good = h.good;
   bad = line;

@@ -8,7 +8,7 @@ use Rattle.yaml_base.specs.declared.event.Event.{Event}
 use Rattle.yaml_base.specs.declared.mark.Mark.{Mark}
 use Rattle.yaml_case.specs.declared.input.Input.{Input}
 use Rattle.yaml_case.specs.declared.input.Input.TheVariants.{Events, BadLine}
-use Rattle.yaml_case.specs.LineText.{says_event, says_fault, IsTaken}
+use Rattle.yaml_case.specs.LineText.{says_event, says_fault, IsLine}
 
 -- the lines of a text, each without its line feed (10), which the last one may lack
 abbrev pub lines_of : List ℕ → List (List ℕ)
@@ -22,9 +22,9 @@ MarkedEvents = List (PlainEvent × Position)
 -- each line says an event, but for the last one, which says the fault, where there is one
 abbrev pub IsInput : List (List ℕ) → MarkedEvents → Option PlainFault → Type 0
 IsInput lines [] None = lines ≡ []
-IsInput lines [] (Some fault) = (line : List ℕ) × (lines ≡ line ∷ []) × IsTaken line (says_fault fault)
+IsInput lines [] (Some fault) = (line : List ℕ) × (lines ≡ line ∷ []) × IsLine line (says_fault fault)
 IsInput lines (e ∷ events) fault =
-    (line : List ℕ) × (rest : List (List ℕ)) × (lines ≡ line ∷ rest) × IsTaken line (says_event e.0 e.1)
+    (line : List ℕ) × (rest : List (List ℕ)) × (lines ≡ line ∷ rest) × IsLine line (says_event e.0 e.1)
     × IsInput rest events fault
 
 -- the line with this number, counted from 1, is the first with which the lines so far say nothing

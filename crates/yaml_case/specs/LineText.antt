@@ -1,7 +1,7 @@
 -- What a line says.
-use Rattle.std.specs.Prelude.{◌≡◌, List, ℕ, ◌++◌, Bool, true, false, ◌&&◌, is_none, codes}
+use Rattle.std.specs.Prelude.{◌≡◌, List, ℕ, ◌++◌, codes}
 use Rattle.yaml_base.specs.Position.{Position}
-use Rattle.yaml_base.specs.PlainEvent.{PlainEvent, alias, scalar, sequence_start, mapping_start, event_of}
+use Rattle.yaml_base.specs.PlainEvent.{PlainEvent, event_of}
 use Rattle.yaml_base.specs.PlainFault.{PlainFault}
 use Rattle.yaml_case.specs.declared.line.Line.{Line}
 use Rattle.yaml_case.specs.declared.line.Line.TheVariants as line
@@ -31,21 +31,3 @@ pub record IsLine (line : List ℕ) (said : Said) : Type 0 where
   pub text : List ℕ
   pub is_marked : IsMarked line mark text
   pub is_said : IsSaid text mark said
-
--- the event is no alias, and has no anchor and no tag
-abbrev pub is_bare : PlainEvent → Bool
-is_bare (alias anchor) = false
-is_bare (scalar found) = is_none found.anchor && is_none found.tag
-is_bare (sequence_start anchor tag) = is_none anchor && is_none tag
-is_bare (mapping_start anchor tag) = is_none anchor && is_none tag
-is_bare event = true
-
--- so far a line is taken only where it says such an event
-abbrev pub is_taken : Said → Bool
-is_taken (says_event event mark) = is_bare event
-is_taken (says_fault fault) = false
-
--- the line says this and is taken
-pub record IsTaken (text : List ℕ) (said : Said) : Type 0 where
-  pub is_line : IsLine text said
-  pub taken : is_taken said ≡ true

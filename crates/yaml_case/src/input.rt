@@ -1,7 +1,7 @@
 //! The whole input: a line for each event, and at most one for the parser's fault, the last line.
 
 ghost use Rattle.std.specs.Prelude.{◌≡◌, ◌<◌, ◌∷◌, length, IfOk, MatchOption};
-ghost use Rattle.yaml_case.specs.LineText.{Said, said_of, IsTaken};
+ghost use Rattle.yaml_case.specs.LineText.{Said, said_of, IsLine};
 ghost use Rattle.yaml_case.specs.InputText.{lines_of, IsInputOf};
 
 use crate::line::parts::cut;
@@ -12,9 +12,9 @@ use yaml_base::{Event, Mark, ParserFault};
 /// What the input says.
 #[derive(Drop)]
 pub enum Input {
-    /// Each line was taken: events with their marks, and the fault behind them, if there is one.
+    /// Each line says something: events with their marks, and the fault behind them, if there is one.
     Events(Vec<(Event<'static>, Mark)>, Option<ParserFault>),
-    /// The line with this number, counted from 1, is the first that was not taken.
+    /// The line with this number, counted from 1, is the first that says nothing.
     BadLine(usize),
 }
 
@@ -27,20 +27,6 @@ fn first_line(text: &[u8]) -> (&[u8], &[u8])
     match cut(text, b'\n') {
         Some((line, rest)) => (line, rest),
         None => (text, &[]),
-    }
-}
-
-// What a line says, if it is taken.
-fn taken_line(alloc: Global, text: &[u8]) -> Result<Option<Line>, AllocError>
-    ensures { IfOk result (λ found. MatchOption found
-        ((said : Said) → ¬ (IsTaken text.now said)) (λ line. IsTaken text.now (said_of line))) }
-{
-    let Some(line) = line::parse(alloc, text)? else {
-        return Ok(None);
-    };
-    match line::taken(line) {
-        Some(line) => Ok(Some(line)),
-        None => Ok(None),
     }
 }
 
@@ -58,7 +44,7 @@ pub fn parse(alloc: Global, text: &[u8]) -> Result<Input, AllocError>
         if fault.is_some() {
             return Ok(Input::BadLine(number));
         }
-        match taken_line(alloc, line)? {
+        match line::parse(alloc, line)? {
             Some(Line::Event(event, mark)) => events.push((event, mark))?,
             Some(Line::Fault(found)) => fault = Some(found),
             None => return Ok(Input::BadLine(number)),

@@ -1,7 +1,7 @@
 //! One line of the input: an event with its mark, or the fault of the parser.
 
-ghost use Rattle.std.specs.Prelude.{◌≡◌, true, false, IfOk, MatchOption};
-ghost use Rattle.yaml_case.specs.LineText.{Said, said_of, IsSaid, IsLine, is_taken};
+ghost use Rattle.std.specs.Prelude.{IfOk, MatchOption};
+ghost use Rattle.yaml_case.specs.LineText.{Said, said_of, IsSaid, IsLine};
 
 mod event;
 mod fault;
@@ -52,28 +52,4 @@ pub fn parse(alloc: Global, line: &[u8]) -> Result<Option<Line>, AllocError>
         Some(line) => Ok(Some(line)),
         None => Ok(None),
     }
-}
-
-// Whether a line that says this is taken: no anchor, tag, alias or fault is, so far.
-fn is_taken(line: &Line) -> bool
-    ensures { result ≡ is_taken (said_of line.now) }
-{
-    match line {
-        Line::Fault(_) => false,
-        Line::Event(event, _) => match event {
-            Event::Alias(_) => false,
-            Event::Scalar(scalar) => scalar.anchor.is_none() && scalar.tag.is_none(),
-            Event::SequenceStart(start) => start.anchor.is_none() && start.tag.is_none(),
-            Event::MappingStart(start) => start.anchor.is_none() && start.tag.is_none(),
-            _ => true,
-        },
-    }
-}
-
-/// The line itself, if it is taken.
-pub fn taken(line: Line) -> Option<Line>
-    ensures { MatchOption result (is_taken (said_of line) ≡ false)
-        (λ same. (same ≡ line) × (is_taken (said_of line) ≡ true)) }
-{
-    if is_taken(&line) { Some(line) } else { None }
 }

@@ -54,7 +54,7 @@ pub events_in-body : (input : Input) → events_in (body input) ≡ plain_body (
 events_in-body [] = refl
 events_in-body (e ∷ input) =
     elim (cases_Bool (is_document_end e.0)) [
-      inl yes_ ↦ simp yes_
+      | inl yes_ ↦ simp yes_
       | inr no_ ↦ simp no_ (ap (λ es. e.0 ∷ es) (events_in-body input))
     ]
 
@@ -62,7 +62,7 @@ pub events_in-behind : (input : Input) → events_in (behind input) ≡ plain_be
 events_in-behind [] = refl
 events_in-behind (e ∷ input) =
     elim (cases_Bool (is_document_end e.0)) [
-      inl yes_ ↦ simp yes_
+      | inl yes_ ↦ simp yes_
       | inr no_ ↦ simp no_ (events_in-behind input)
     ]
 
@@ -111,7 +111,7 @@ mutual
   body_pairs no_pairs rest = refl
   body_pairs (pair k v ps) rest =
       body_node k (node_events v (pairs_events ps rest))
-        ∙ ap (node_events k) (body_node v (pairs_events ps rest) ∙ ap (node_events v) (body_pairs ps rest))
+      ∙ ap (node_events k) (body_node v (pairs_events ps rest) ∙ ap (node_events v) (body_pairs ps rest))
 
 mutual
   pub behind_node : (n : Node) (rest : List PlainEvent) → plain_behind (node_events n rest) ≡ plain_behind rest
@@ -202,15 +202,15 @@ mutual
   anchors_node (sequence_node a g ns) i rest =
       let end : i + 1 + nodes_size ns + 1 ≡ i + size_of (sequence_node a g ns) = omega (arith, size_sequence a g ns) in
       ap (λ xs. anchor_at a i ++ xs)
-          (anchors_nodes ns (i + 1) (sequence_end ∷ rest)
-            ∙ ap (λ j. anchors_of_nodes ns (i + 1) ++ plain_anchors j rest) end)
-        ∙ sym (append_assoc (anchor_at a i) (anchors_of_nodes ns (i + 1)) _)
+      (anchors_nodes ns (i + 1) (sequence_end ∷ rest)
+      ∙ ap (λ j. anchors_of_nodes ns (i + 1) ++ plain_anchors j rest) end)
+      ∙ sym (append_assoc (anchor_at a i) (anchors_of_nodes ns (i + 1)) _)
   anchors_node (mapping_node a g ps) i rest =
       let end : i + 1 + pairs_size ps + 1 ≡ i + size_of (mapping_node a g ps) = omega (arith, size_mapping a g ps) in
       ap (λ xs. anchor_at a i ++ xs)
-          (anchors_pairs ps (i + 1) (mapping_end ∷ rest)
-            ∙ ap (λ j. anchors_of_pairs ps (i + 1) ++ plain_anchors j rest) end)
-        ∙ sym (append_assoc (anchor_at a i) (anchors_of_pairs ps (i + 1)) _)
+      (anchors_pairs ps (i + 1) (mapping_end ∷ rest)
+      ∙ ap (λ j. anchors_of_pairs ps (i + 1) ++ plain_anchors j rest) end)
+      ∙ sym (append_assoc (anchor_at a i) (anchors_of_pairs ps (i + 1)) _)
 
   anchors_nodes : (ns : Nodes) (i : ℕ) (rest : List PlainEvent)
       → plain_anchors i (nodes_events ns rest) ≡ anchors_of_nodes ns i ++ plain_anchors (i + nodes_size ns) rest
@@ -218,10 +218,10 @@ mutual
   anchors_nodes (node n ns) i rest =
       let end : i + size_of n + nodes_size ns ≡ i + nodes_size (node n ns) = omega (arith, size_node n ns) in
       anchors_node n i (nodes_events ns rest)
-        ∙ ap (λ xs. anchors_of n i ++ xs)
-            (anchors_nodes ns (i + size_of n) rest
-              ∙ ap (λ j. anchors_of_nodes ns (i + size_of n) ++ plain_anchors j rest) end)
-        ∙ sym (append_assoc (anchors_of n i) (anchors_of_nodes ns (i + size_of n)) _)
+      ∙ ap (λ xs. anchors_of n i ++ xs)
+      (anchors_nodes ns (i + size_of n) rest
+      ∙ ap (λ j. anchors_of_nodes ns (i + size_of n) ++ plain_anchors j rest) end)
+      ∙ sym (append_assoc (anchors_of n i) (anchors_of_nodes ns (i + size_of n)) _)
 
   anchors_pairs : (ps : Pairs) (i : ℕ) (rest : List PlainEvent)
       → plain_anchors i (pairs_events ps rest) ≡ anchors_of_pairs ps i ++ plain_anchors (i + pairs_size ps) rest
@@ -231,18 +231,18 @@ mutual
       let b = i + size_of k + size_of v in
       let end : b + pairs_size ps ≡ i + pairs_size (pair k v ps) = omega (arith, size_pair k v ps) in
       anchors_node k i (node_events v (pairs_events ps rest))
-        ∙ ap (λ xs. anchors_of k i ++ xs)
-            (anchors_node v a (pairs_events ps rest)
-              ∙ ap (λ xs. anchors_of v a ++ xs)
-                  (anchors_pairs ps b rest ∙ ap (λ j. anchors_of_pairs ps b ++ plain_anchors j rest) end))
-        ∙ simp append_assoc
+      ∙ ap (λ xs. anchors_of k i ++ xs)
+      (anchors_node v a (pairs_events ps rest)
+      ∙ ap (λ xs. anchors_of v a ++ xs)
+      (anchors_pairs ps b rest ∙ ap (λ j. anchors_of_pairs ps b ++ plain_anchors j rest) end))
+      ∙ simp append_assoc
 
 -- what events become, by what the resolved tree of the first of them is
 abbrev pub Told : {X : Type 0} → (X → List PlainDocEvent) → Find → Option X → ℕ → ℕ → List PlainEvent → List PlainEvent → Type 0
 Told shown find None i j events rest = plain_missing find i events ≡ true
 Told shown find (Some t) i j events rest =
     (plain_known find i events ≡ shown t ++ plain_known find j rest)
-      × (plain_missing find i events ≡ plain_missing find j rest)
+    × (plain_missing find i events ≡ plain_missing find j rest)
 
 told_at : {X : Type 0} (shown : X → List PlainDocEvent) (find : Find) (o : Option X) (i j k : ℕ)
     (events rest : List PlainEvent) → j ≡ k → Told shown find o i j events rest → Told shown find o i k events rest
@@ -251,9 +251,10 @@ told_at shown find o i j k events rest e h = subst (λ n. Told shown find o i n 
 told_alias : (find : Find) (o : Option ℕ) (i : ℕ) (a : List ℕ) (rest : List PlainEvent) → find a i ≡ o
     → Told events_of find (option_map reference o) i (i + 1) (alias a ∷ rest) rest
 told_alias find None i a rest h = ap (λ t. or_missing (option_map alias_to t) (plain_missing find (i + 1) rest)) h
-told_alias find (Some t) i a rest h =
-    (ap (λ n. then_known (option_map alias_to n) (plain_known find (i + 1) rest)) h,
-     ap (λ n. or_missing (option_map alias_to n) (plain_missing find (i + 1) rest)) h)
+told_alias find (Some t) i a rest h = (
+  ap (λ n. then_known (option_map alias_to n) (plain_known find (i + 1) rest)) h,
+  ap (λ n. or_missing (option_map alias_to n) (plain_missing find (i + 1) rest)) h,
+)
 
 told_list : (find : Find) (g : Option (List ℕ)) (o : Option DocNodes) (a : Option (List ℕ)) (i j : ℕ)
     (events rest : List PlainEvent) → Told events_of_nodes find o (i + 1) j events (sequence_end ∷ rest)
@@ -294,16 +295,16 @@ mutual
   told_node find (scalar_node s) i rest = (refl, refl)
   told_node find (sequence_node a g ns) i rest =
       told_at events_of find (resolved_from find (sequence_node a g ns) i) i (i + 1 + nodes_size ns + 1)
-        (i + size_of (sequence_node a g ns)) (node_events (sequence_node a g ns) rest) rest
-        (omega (arith, size_sequence a g ns))
-        (told_list find g (resolved_nodes find ns (i + 1)) a i (i + 1 + nodes_size ns) _ rest
-          (told_all find ns (i + 1) (sequence_end ∷ rest)))
+      (i + size_of (sequence_node a g ns)) (node_events (sequence_node a g ns) rest) rest
+      (omega (arith, size_sequence a g ns))
+      (told_list find g (resolved_nodes find ns (i + 1)) a i (i + 1 + nodes_size ns) _ rest
+      (told_all find ns (i + 1) (sequence_end ∷ rest)))
   told_node find (mapping_node a g ps) i rest =
       told_at events_of find (resolved_from find (mapping_node a g ps) i) i (i + 1 + pairs_size ps + 1)
-        (i + size_of (mapping_node a g ps)) (node_events (mapping_node a g ps) rest) rest
-        (omega (arith, size_mapping a g ps))
-        (told_mapping find g (resolved_pairs find ps (i + 1)) a i (i + 1 + pairs_size ps) _ rest
-          (told_each find ps (i + 1) (mapping_end ∷ rest)))
+      (i + size_of (mapping_node a g ps)) (node_events (mapping_node a g ps) rest) rest
+      (omega (arith, size_mapping a g ps))
+      (told_mapping find g (resolved_pairs find ps (i + 1)) a i (i + 1 + pairs_size ps) _ rest
+      (told_each find ps (i + 1) (mapping_end ∷ rest)))
 
   told_all : (find : Find) (ns : Nodes) (i : ℕ) (rest : List PlainEvent)
       → Told events_of_nodes find (resolved_nodes find ns i) i (i + nodes_size ns) (nodes_events ns rest) rest
@@ -312,10 +313,10 @@ mutual
       (ap (λ j. plain_known find j rest) e, ap (λ j. plain_missing find j rest) e)
   told_all find (node n ns) i rest =
       told_at events_of_nodes find (resolved_nodes find (node n ns) i) i (i + size_of n + nodes_size ns)
-        (i + nodes_size (node n ns)) (nodes_events (node n ns) rest) rest (omega (arith, size_node n ns))
-        (told_nodes find (resolved_from find n i) (resolved_nodes find ns (i + size_of n)) i (i + size_of n)
-          (i + size_of n + nodes_size ns) (nodes_events (node n ns) rest) (nodes_events ns rest) rest
-          (told_node find n i (nodes_events ns rest)) (told_all find ns (i + size_of n) rest))
+      (i + nodes_size (node n ns)) (nodes_events (node n ns) rest) rest (omega (arith, size_node n ns))
+      (told_nodes find (resolved_from find n i) (resolved_nodes find ns (i + size_of n)) i (i + size_of n)
+      (i + size_of n + nodes_size ns) (nodes_events (node n ns) rest) (nodes_events ns rest) rest
+      (told_node find n i (nodes_events ns rest)) (told_all find ns (i + size_of n) rest))
 
   told_each : (find : Find) (ps : Pairs) (i : ℕ) (rest : List PlainEvent)
       → Told events_of_pairs find (resolved_pairs find ps i) i (i + pairs_size ps) (pairs_events ps rest) rest
@@ -324,11 +325,11 @@ mutual
       (ap (λ j. plain_known find j rest) e, ap (λ j. plain_missing find j rest) e)
   told_each find (pair k v ps) i rest =
       told_at events_of_pairs find (resolved_pairs find (pair k v ps) i) i (i + size_of k + size_of v + pairs_size ps)
-        (i + pairs_size (pair k v ps)) (pairs_events (pair k v ps) rest) rest (omega (arith, size_pair k v ps))
-        (told_pairs find (resolved_from find k i) (resolved_from find v (i + size_of k))
-          (resolved_pairs find ps (i + size_of k + size_of v)) i (i + size_of k) (i + size_of k + size_of v)
-          (i + size_of k + size_of v + pairs_size ps) (pairs_events (pair k v ps) rest)
-          (node_events v (pairs_events ps rest)) (pairs_events ps rest) rest
-          (told_node find k i (node_events v (pairs_events ps rest)))
-          (told_node find v (i + size_of k) (pairs_events ps rest))
-          (told_each find ps (i + size_of k + size_of v) rest))
+      (i + pairs_size (pair k v ps)) (pairs_events (pair k v ps) rest) rest (omega (arith, size_pair k v ps))
+      (told_pairs find (resolved_from find k i) (resolved_from find v (i + size_of k))
+      (resolved_pairs find ps (i + size_of k + size_of v)) i (i + size_of k) (i + size_of k + size_of v)
+      (i + size_of k + size_of v + pairs_size ps) (pairs_events (pair k v ps) rest)
+      (node_events v (pairs_events ps rest)) (pairs_events ps rest) rest
+      (told_node find k i (node_events v (pairs_events ps rest)))
+      (told_node find v (i + size_of k) (pairs_events ps rest))
+      (told_each find ps (i + size_of k + size_of v) rest))

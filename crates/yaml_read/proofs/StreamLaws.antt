@@ -38,9 +38,10 @@ told_document None find i j input ended events is e h =
     let there = is_there (unknown_mark find i input) (missing-plain find i input ∙ ap (plain_missing find i) is ∙ h) in
     (there.0, ap (λ m. ending_of m ended None) there.1)
 told_document (Some t) find i j input ended events is e h =
-    let none = is_missing (unknown_mark find i input) (missing-plain find i input ∙ ap (plain_missing find i) is ∙ h.1) in
-    (known-plain find i input ∙ ap (plain_known find i) is ∙ h.0 ∙ append-nil (events_of t),
-     ap (λ m. ending_of m ended None) none ∙ ap (λ b. ending_of None b None) e)
+    let none = is_missing (unknown_mark find i input) (missing-plain find i input ∙ ap (plain_missing find i) is ∙ h.1) in (
+      known-plain find i input ∙ ap (plain_known find i) is ∙ h.0 ∙ append-nil (events_of t),
+      ap (λ m. ending_of m ended None) none ∙ ap (λ b. ending_of None b None) e,
+    )
 
 -- the document behind a start, whose node is this root
 document_of_root : (root : Node) (rest : Input) (more : List PlainEvent)
@@ -48,14 +49,14 @@ document_of_root : (root : Node) (rest : Input) (more : List PlainEvent)
 document_of_root root rest more is =
     let events = events_in-body rest ∙ ap plain_body is ∙ body_node root (document_end ∷ more) in
     let anchors : anchors_in 0 (body rest) ≡ anchors_of root 0 =
-        anchors_in-plain 0 (body rest) ∙ ap (plain_anchors 0) events ∙ anchors_node root 0 []
-          ∙ append-nil (anchors_of root 0) in
+    anchors_in-plain 0 (body rest) ∙ ap (plain_anchors 0) events ∙ anchors_node root 0 []
+    ∙ append-nil (anchors_of root 0) in
     let ended = is_ended-plain rest ∙ ap plain_ended is ∙ ended_node root (document_end ∷ more) in
     let told = told_document (resolved root) (target root) 0 (0 + size_of root) (body rest) (is_ended rest)
-        (node_events root []) events ended (told_node (target root) root 0 []) in
+    (node_events root []) events ended (told_node (target root) root 0 []) in
     subst (λ (find : Find). IsDocumentOf (resolved root)
-        record { events = known_events find 0 (body rest); ending = ending_of (unknown_mark find 0 (body rest)) (is_ended rest) None })
-      (ap find_in (sym anchors)) told
+    record { events = known_events find 0 (body rest); ending = ending_of (unknown_mark find 0 (body rest)) (is_ended rest) None })
+    (ap find_in (sym anchors)) told
 
 -- one document for each root
 documents_of_roots : (roots : List Node) (input : Input) → events_in input ≡ documents_events roots
@@ -64,7 +65,7 @@ documents_of_roots [] [] is = absurd (cc)
 documents_of_roots [] (e ∷ []) is =
     let end : e.0 ≡ stream_end = cc in
     subst (λ (x : PlainEvent). AreDocumentsOf [] (map (document_from None) (cond (is_document_start x) ([] ∷ []) [])))
-      (sym end) tt
+    (sym end) tt
 documents_of_roots [] (e ∷ (f ∷ input)) is = absurd (cc)
 documents_of_roots (root ∷ roots) [] is = absurd (cc)
 documents_of_roots (root ∷ roots) (e ∷ rest) is =
@@ -73,10 +74,10 @@ documents_of_roots (root ∷ roots) (e ∷ rest) is =
     let ended = is_ended-plain rest ∙ ap plain_ended node ∙ ended_node root (document_end ∷ documents_events roots) in
     let later = events_in-behind rest ∙ ap plain_behind node ∙ behind_node root (document_end ∷ documents_events roots) in
     let starts : after_starts false (e ∷ rest) ≡ rest ∷ after_starts false (behind rest) =
-        ap (λ x. cond (is_document_start x) (rest ∷ after_starts true rest) (after_starts false rest)) start
-          ∙ ap (λ s. rest ∷ s) (starts_behind rest ended) in
+    ap (λ x. cond (is_document_start x) (rest ∷ after_starts true rest) (after_starts false rest)) start
+    ∙ ap (λ s. rest ∷ s) (starts_behind rest ended) in
     subst (λ s. AreDocumentsOf (root ∷ roots) (map (document_from None) s)) (sym starts)
-      (document_of_root root rest (documents_events roots) node, documents_of_roots roots (behind rest) later)
+    (document_of_root root rest (documents_events roots) node, documents_of_roots roots (behind rest) later)
 
 -- nothing more comes behind documents
 documents_alone : (roots : List Node) (root : Node) (starts : List Input) (end : Option Position)
@@ -93,16 +94,18 @@ documents_of_stream roots [] is = absurd (cc)
 documents_of_stream [] (s ∷ []) is = absurd (cc)
 documents_of_stream [] (s ∷ (e ∷ [])) is =
     let start : s.0 ≡ stream_start = cc in
-    let end : e.0 ≡ stream_end = cc in
-    (e.1, ap (λ x. map (document_from None) (cond (is_document_start x) ((e ∷ []) ∷ after_starts true (e ∷ [])) (after_starts false (e ∷ [])))
+    let end : e.0 ≡ stream_end = cc in (
+      e.1,
+      ap (λ x. map (document_from None) (cond (is_document_start x) ((e ∷ []) ∷ after_starts true (e ∷ [])) (after_starts false (e ∷ [])))
           ++ void_documents (cond (is_document_start x) ((e ∷ []) ∷ after_starts true (e ∷ [])) (after_starts false (e ∷ []))) (Some e.1)) start
-        ∙ ap (λ x. map (document_from None) (cond (is_document_start x) ([] ∷ []) []) ++ void_documents (cond (is_document_start x) ([] ∷ []) []) (Some e.1)) end)
+          ∙ ap (λ x. map (document_from None) (cond (is_document_start x) ([] ∷ []) []) ++ void_documents (cond (is_document_start x) ([] ∷ []) []) (Some e.1)) end,
+    )
 documents_of_stream [] (s ∷ (e ∷ (f ∷ input))) is = absurd (cc)
 documents_of_stream (root ∷ roots) (s ∷ input) is =
     let start : s.0 ≡ stream_start = cc in
     let rest : events_in input ≡ documents_events (root ∷ roots) = cc in
     let skip : after_starts false (s ∷ input) ≡ after_starts false input =
-        ap (λ x. cond (is_document_start x) (input ∷ after_starts true input) (after_starts false input)) start in
+    ap (λ x. cond (is_document_start x) (input ∷ after_starts true input) (after_starts false input)) start in
     subst (λ starts. AreDocumentsOf (root ∷ roots) (map (document_from None) starts ++ void_documents starts (last_mark (s ∷ input))))
-      (sym skip)
-      (documents_alone roots root (after_starts false input) (last_mark (s ∷ input)) (documents_of_roots (root ∷ roots) input rest))
+    (sym skip)
+    (documents_alone roots root (after_starts false input) (last_mark (s ∷ input)) (documents_of_roots (root ∷ roots) input rest))

@@ -12,5 +12,4 @@ ghost use Rattle.yaml_read.specs.StreamLaw.{AreStreamDocuments};
 pub fn a_stream_is_cut_into_its_documents()
     ensures { (roots : List Node) (input : Input) → events_in input ≡ stream_events roots
         → AreStreamDocuments roots (documents_of input None) }
-{
-}
+{}

@@ -73,14 +73,14 @@ pub(crate) fn read_body<'de>(
 ) -> Result<Body<'de>, AllocError>
     ensures events { IfOk result (λ found.
         plain_marked found.events.items
-          ≡ all_stripped (body (plain_marked (into_iter_items rest.old)))) }
+        ≡ all_stripped (body (plain_marked (into_iter_items rest.old)))) }
     ensures named { IfOk result (λ found.
         found.named.items ≡ anchors_in 0 (body (plain_marked (into_iter_items rest.old)))) }
     ensures ended { IfOk result (λ found.
         found.ended ≡ is_ended (plain_marked (into_iter_items rest.old))) }
     ensures rest { IfOk result (λ _.
         plain_marked (into_iter_items rest.new)
-          ≡ behind (plain_marked (into_iter_items rest.old))) }
+        ≡ behind (plain_marked (into_iter_items rest.old))) }
 {
     let mut events = Vec::new(alloc);
     let mut named = Vec::new(alloc);

@@ -124,7 +124,7 @@ impl<'de> Gathered<'de> {
     ) -> Result<Gathered<'de>, AllocError>
         ensures { IfOk result (λ after. after ≡ self.entry
             ++ document_of body.entry.named.items (plain_marked body.entry.events.items)
-              body.entry.ended fault ∷ []) }
+            body.entry.ended fault ∷ []) }
     {
         let Body {
             events,

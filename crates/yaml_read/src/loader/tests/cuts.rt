@@ -1,6 +1,6 @@
 //! Streams, and what they are cut into.
-use crate::loader::tests::events::{events, show};
 use crate::loader::Loader;
+use crate::loader::tests::events::{events, show};
 use std::test::Fail;
 
 #[test]

@@ -10,8 +10,10 @@ use crate::doc_event::DocEvent;
 use crate::document::Document;
 use crate::loader::Loader;
 use std::alloc::{AllocError, Global};
-use yaml_base::{Anchor, Cause, Error, Event, FaultKind, MappingStart, Mark, ParserFault, Scalar};
-use yaml_base::{ScalarStyle, SequenceStart};
+use yaml_base::{
+    Anchor, Cause, Error, Event, FaultKind, MappingStart, Mark, ParserFault, Scalar, ScalarStyle,
+    SequenceStart,
+};
 
 // The mark of the event at a place.
 pub(crate) fn mark(place: usize) -> Mark {
@@ -32,11 +34,7 @@ fn bytes(alloc: Global, byte: u8) -> Result<Vec<u8>, AllocError> {
 }
 
 // The event of a letter.
-fn event(
-    alloc: Global,
-    letter: u8,
-    anchor: Option<Anchor>,
-) -> Result<Event<'static>, AllocError> {
+fn event(alloc: Global, letter: u8, anchor: Option<Anchor>) -> Result<Event<'static>, AllocError> {
     Ok(match letter {
         b'S' => Event::StreamStart,
         b'E' => Event::StreamEnd,
@@ -72,7 +70,10 @@ pub(crate) fn events(
                 sign = b' ';
             }
             b'*' => {
-                events.push((Event::Alias(Anchor::new(bytes(alloc, letter)?)), mark(place)))?;
+                events.push((
+                    Event::Alias(Anchor::new(bytes(alloc, letter)?)),
+                    mark(place),
+                ))?;
                 sign = b' ';
             }
             _ => match letter {

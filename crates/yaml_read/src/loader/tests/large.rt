@@ -1,6 +1,6 @@
 //! Inputs that are deep or wide.
-use crate::loader::tests::events::{fault, mark};
 use crate::loader::Loader;
+use crate::loader::tests::events::{fault, mark};
 use std::alloc::{AllocError, Global};
 use std::test::Fail;
 use yaml_base::{Anchor, Event, Mark, SequenceStart};
