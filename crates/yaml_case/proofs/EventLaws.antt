@@ -1,10 +1,10 @@
 -- A line writes an event in one way.
 use Rattle.std.specs.Prelude.{codes, Option, None, Some}
-use Rattle.std.proofs.Common.{◌≡◌, ◌≢◌, ℕ, ◌<◌, List, [], ◌∷◌, ◌++◌, length, refl, sym, ap, ◌∙◌, subst, arith, drop}
+use Rattle.std.proofs.Common.{◌≡◌, ℕ, ◌<◌, List, [], ◌∷◌, ◌++◌, length, sym, ap, ◌∙◌, subst, arith, drop}
 use Rattle.yaml_base.specs.PlainEvent.{PlainScalar}
 use Rattle.yaml_base.specs.declared.event.ScalarStyle.{ScalarStyle}
 use Rattle.yaml_case.specs.Escape.{Lacks, Spells}
-use Rattle.yaml_case.specs.EventText.{IsAnchorName, IsTagName, IsBreak, HasAnchor, HasTag, HasProperties, IsContent, IsScalarText}
+use Rattle.yaml_case.specs.EventText.{IsAnchorName, IsBreak, HasAnchor, HasTag, HasProperties, IsContent, IsScalarText}
 use Rattle.yaml_case.proofs.CutLaws.{cut-unique, cut_has, break-unique}
 
 -- a text whose first word is no anchor's name begins with no anchor

@@ -8,6 +8,7 @@ pub mod OneReading
 pub mod PlaceLaws
 pub mod WordLaws
 pub mod InputLaws
+pub mod Readings
 pub mod ShapeLaws
 pub mod ShowLaws
 pub mod ValueLaws

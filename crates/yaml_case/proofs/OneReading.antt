@@ -1,5 +1,5 @@
 -- A line says one thing: no text is read in two ways.
-use Rattle.std.specs.Prelude.{codes, Option, None, Some, ◌==◌, if◌then◌else◌}
+use Rattle.std.specs.Prelude.{Option, None, Some, ◌==◌, if◌then◌else◌}
 use Rattle.std.proofs.Common.{◌≡◌, ℕ, List, [], ◌∷◌, ◌++◌, sym, ap, ◌∙◌, subst, get_or, drop, refl, lit≤}
 use Rattle.yaml_base.specs.Position.{Position}
 use Rattle.yaml_base.specs.PlainEvent.{PlainScalar, PlainEvent, stream_start, stream_end, document_start, document_end, alias, scalar, sequence_start, sequence_end, mapping_start, mapping_end}

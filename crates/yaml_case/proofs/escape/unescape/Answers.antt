@@ -1,6 +1,5 @@
 -- Each turn takes one byte, and the text is read when nothing is left.
-use Rattle.std.proofs.Common.{sym}
-use Rattle.yaml_case.proofs.EscapeLaws.{WritesThen, writes_more, writes_all, writes_no_more, test_some, test_none}
+use Rattle.yaml_case.proofs.EscapeLaws.{writes_more, writes_all, writes_no_more, test_some, test_none}
 use Rattle.yaml_case.proofs.escape.unescape.Goals as goal
 
 pub returns-in_default : goal.returns-in_default

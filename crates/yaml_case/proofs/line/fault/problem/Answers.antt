@@ -1,5 +1,5 @@
 -- The bytes are those that the text stands for.
-use Rattle.std.proofs.Common.{ap, sym, subst, string_bytes}
+use Rattle.std.proofs.Common.{ap, sym, subst}
 use Rattle.std.proofs.lemmas.Bool.{false≢true}
 use Rattle.std.proofs.lemmas.Str.{IsUtf8-string_bytes}
 use Rattle.yaml_case.specs.Escape.{Spells}
