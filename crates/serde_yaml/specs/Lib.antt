@@ -1,2 +1,4 @@
 -- What contracts of this crate cite.
-pub mod OneDocument
+pub mod PlainStream
+pub mod StreamReads
+pub mod StreamView

@@ -1,82 +1,201 @@
 //! Reading a stream of events.
 
-ghost use Rattle.std.specs.Prelude.{◌≡◌, ℕ, ◌<◌, length, Ok, None, IfOk, IfErr, false, slice_get};
+ghost use Rattle.std.specs.Prelude.{◌≡◌, ◌≢◌, ℕ, ◌<◌, ◌∷◌, [], List, length, Ok, Err, None, IfOk, IfErr, OnOk, true, false};
+ghost use Rattle.std.specs.Prelude.{is_some, slice_get, ◌⊎◌};
 ghost use Rattle.yaml_base.specs.Answer.{Gives, is_memory};
+ghost use Rattle.yaml_base.specs.Stream.{IsWellFormed};
+ghost use Rattle.yaml_base.specs.declared.error.Cause.TheVariants.{NotAStream, MoreThanOneDocument};
 ghost use Rattle.yaml_shape.specs.DataView.{data_of};
 ghost use Rattle.yaml_shape.specs.PlainData.{PlainData};
-ghost use Rattle.yaml_read.specs.Bare.{HoldsBareStream, HasBareRoot, not_built_yet};
 ghost use Rattle.yaml_read.specs.DocTree.{DocNode};
+ghost use Rattle.yaml_read.specs.Documents.{documents_of};
 ghost use Rattle.yaml_read.specs.MarkedEvents.{plain_events, plain_marked};
 ghost use Rattle.yaml_read.specs.Meaning.{Means};
 ghost use Rattle.yaml_read.specs.PlainDocument.{PlainDocument};
-ghost use Rattle.yaml_read.specs.Reads.{default_limits, Reads, IsRefusal, IsReadingFault};
-ghost use Rattle.serde_yaml.specs.OneDocument.{HoldsOne};
+ghost use Rattle.yaml_read.specs.Reads.{default_limits, IsTreeOf, Reads, IsRefusal, IsReadingFault};
+ghost use Rattle.yaml_read.specs.WrongPlace.{IsWrongAt};
+ghost use Rattle.serde_yaml.specs.StreamReads.{Begins, IsOneWhole, IsFirstFault};
 
 use std::alloc::Global;
 use std::marker::Model;
 use yaml_base::{Cause, Error, Event, Mark, ParserFault, Result};
-use yaml_read::Loader;
+use yaml_read::{Document, Loader};
 use yaml_shape::{Data, Schema, ShapeId};
 
-/// A stream of documents that is still to be read.
+// What is read: the documents of a stream that were not handed out, or one of them.
+#[derive(Drop)]
+enum Source<'de> {
+    Stream(Loader<'de>),
+    One(Document<'de>),
+}
+
+/// A stream of documents that is still to be read, or one document of it.
+///
+/// A stream of one document is read by `deserialize`. A stream of several is gone through as an iterator: each item reads its own
+/// document, and may outlive the stream.
 #[derive(Drop)]
 pub struct Deserializer<'de> {
-    documents: Loader<'de>,
+    source: Source<'de>,
+    iterated: bool,
 }
 
 impl<'de> Model for Deserializer<'de> {
-    ghost use Rattle.std.specs.Prelude.{List};
-    ghost use Rattle.yaml_read.specs.PlainDocument.{PlainDocument};
+    ghost use Rattle.serde_yaml.specs.PlainStream.{PlainStream};
 
-    ghost Value = { List PlainDocument };
+    ghost Value = { PlainStream };
 
-    ghost view = { λ d. d.documents };
+    ghost use Rattle.serde_yaml.specs.StreamView.{documents_in, is_one};
+
+    ghost view = { λ d. record { documents = documents_in d.source; is_document = is_one d.source; iterated = d.iterated } };
 }
 
+// Reads one document, behind which others may follow.
+fn read_first<'de>(
+    alloc: Global,
+    document: &Document<'de>,
+    schema: &Schema,
+    id: ShapeId,
+    others: bool,
+) -> Result<Data<'de>>
+    requires { id.0 < length schema.now }
+    ensures whole { OnOk result ((others ≡ false) × (document.now.ending ≡ None)) }
+    ensures found { IfOk result (λ v. (tree : DocNode) → IsTreeOf document.now tree
+        → Reads default_limits schema.now id.0 tree (length document.now.events) (data_of v)) }
+    ensures only { (tree : DocNode) (v : PlainData) → others ≡ false → IsTreeOf document.now tree
+        → Reads default_limits schema.now id.0 tree (length document.now.events) v → Gives data_of result (Ok v) }
+    ensures more { (tree : DocNode) (v : PlainData) → others ≡ true → IsTreeOf document.now tree
+        → Reads default_limits schema.now id.0 tree (length document.now.events) v
+        → Gives data_of result (Err MoreThanOneDocument) }
+    ensures refused { IfErr result (λ fault. (tree : DocNode) (v : PlainData) (d k : ℕ) → others ≡ false → IsTreeOf document.now tree
+        → Means schema.now tree id.0 tree false v d k → IsRefusal default_limits (length document.now.events) d k fault) }
+    ensures faults { IfErr result (λ fault. (tree : DocNode) → IsTreeOf document.now tree → is_memory fault ≡ false
+        → IsReadingFault schema.now (slice_get document.now.events) fault
+        ⊎ ((fault ≡ MoreThanOneDocument) × (others ≡ true) × (v : PlainData) × Reads default_limits schema.now id.0 tree (length document.now.events) v)) }
+{
+    match document.deserialize(alloc, schema, id) {
+        Ok(found) => {
+            if others {
+                return Err(Error::new(Cause::MoreThanOneDocument));
+            }
+            Ok(found)
+        }
+        Err(fault) => Err(fault),
+    }
+}
+
+// Whether a document is there.
+fn is_there(document: Option<Document<'_>>) -> bool
+    ensures { result ≡ is_some document.entry }
+{
+    document.is_some()
+}
+
+// Lets what is read go.
+fn discard(_source: Source<'_>) {}
+
 impl<'de> Deserializer<'de> {
-    /// Takes the events of a stream, each with its mark, and the parser's fault, if it had one. So far a stream of one
-    /// document is read, whose node has no alias, anchor or tag, and without a fault; every other list is refused by a
-    /// fault with the text `not built yet`.
+    /// Takes the events of a stream, each with its mark, and the parser's fault, if it had one. A list of events that is no stream,
+    /// or with a fault no beginning of one that lacks the end, is refused with the least place that is wrong. The events are
+    /// dropped on refusal.
     pub fn from_events(
         alloc: Global,
         events: Vec<(Event<'de>, Mark)>,
         fault: Option<ParserFault>,
     ) -> Result<Deserializer<'de>>
-        ensures accepted { IfOk result (λ documents.
-            (fault ≡ None) × HoldsBareStream (plain_marked events.entry.items) documents) }
-        ensures refused { IfErr result (λ cause. is_memory cause ≡ false → (cause ≡ not_built_yet)
-            × (fault ≡ None → HasBareRoot (plain_events events.entry.items) → ⊥)) }
+        ensures accepted { IfOk result (λ _. IsWellFormed (is_some fault) (plain_events events.entry.items)) }
+        ensures documents { IfOk result (λ stream. stream ≡ (record {
+          documents = documents_of (plain_marked events.entry.items) fault;
+          is_document = false;
+          iterated = false;
+        })) }
+
+        ensures refused { IfErr result (λ cause. is_memory cause ≡ false
+            → IsWellFormed (is_some fault) (plain_events events.entry.items) → ⊥) }
+        ensures wrong { IfErr result (λ cause. is_memory cause ≡ false → (place : ℕ) × (cause ≡ NotAStream place)
+            × IsWrongAt (is_some fault) (plain_events events.entry.items) place) }
     {
         match Loader::new(alloc, events, fault) {
-            Ok(documents) => Ok(Deserializer { documents }),
+            Ok(documents) => Ok(Deserializer {
+                source: Source::Stream(documents),
+                iterated: false,
+            }),
             Err(fault) => Err(fault),
         }
     }
 
-    /// The data of the stream's document under the shape with this number, within 128 nestings and 100 follows for each
-    /// event. Texts are lent from the source where the source shows them. `Schema::has` is the test of what is asked.
+    /// The data of the stream's one document under the shape with this number, within 128 nestings and 100 follows for each of its
+    /// events. Texts are lent from the source where the source shows them. `Schema::has` is the test of what is asked.
+    ///
+    /// The first document's fault comes first: one of reading it, then the one that cut it off. A stream of several documents
+    /// whose first reads as data, and a stream that was gone through, are refused as more than one document.
     pub fn deserialize(self, alloc: Global, schema: &Schema, id: ShapeId) -> Result<Data<'de>>
         requires { id.0 < length schema.now }
 
-        // What is given is what the document's tree means.
-        ensures found { IfOk result (λ v. (document : PlainDocument) (tree : DocNode) → HoldsOne self.entry document tree
+        // Data comes of one whole document alone, and is what its tree means.
+        ensures whole { OnOk result (IsOneWhole self.entry) }
+        ensures found { IfOk result (λ v. (document : PlainDocument) (tree : DocNode) → Begins self.entry document [] → IsTreeOf document tree
             → Reads default_limits schema.now id.0 tree (length document.events) (data_of v)) }
 
         // What the tree means within the limits is given, unless memory runs out.
-        ensures only { (document : PlainDocument) (tree : DocNode) (v : PlainData) → HoldsOne self.entry document tree
+        ensures only { (document : PlainDocument) (tree : DocNode) (v : PlainData) → Begins self.entry document [] → IsTreeOf document tree
             → Reads default_limits schema.now id.0 tree (length document.events) v → Gives data_of result (Ok v) }
 
-        // A tree with a meaning is refused only past a limit, and no tree is refused otherwise than so or for want of a meaning.
+        // More than one document is refused so where the first reads as data, and where the stream was gone through.
+        ensures more { (document second : PlainDocument) (others : List PlainDocument) (tree : DocNode) (v : PlainData)
+            → Begins self.entry document (second ∷ others) → IsTreeOf document tree
+            → Reads default_limits schema.now id.0 tree (length document.events) v → Gives data_of result (Err MoreThanOneDocument) }
+        ensures iterated { self.entry.iterated ≡ true → Gives data_of result (Err MoreThanOneDocument) }
+
+        // A tree with a meaning is refused only past a limit, and a first document otherwise only for what its reading finds.
         ensures refused { IfErr result (λ fault. (document : PlainDocument) (tree : DocNode) (v : PlainData) (d k : ℕ)
-            → HoldsOne self.entry document tree → Means schema.now tree id.0 tree false v d k
+            → Begins self.entry document [] → IsTreeOf document tree → Means schema.now tree id.0 tree false v d k
             → IsRefusal default_limits (length document.events) d k fault) }
-        ensures faults { IfErr result (λ fault. (document : PlainDocument) (tree : DocNode) → HoldsOne self.entry document tree
-            → is_memory fault ≡ false → IsReadingFault schema.now (slice_get document.events) fault) }
+        ensures faults { IfErr result (λ fault. (document : PlainDocument) (others : List PlainDocument) (tree : DocNode)
+            → Begins self.entry document others → IsTreeOf document tree → is_memory fault ≡ false
+            → IsFirstFault default_limits schema.now id.0 document tree others fault) }
     {
-        let Deserializer { mut documents } = self;
-        match documents.next_document() {
-            Some(document) => document.deserialize(alloc, schema, id),
-            None => Err(Error::new(Cause::EndOfStream)),
+        let Deserializer { source, iterated } = self;
+        if iterated {
+            discard(source);
+            return Err(Error::new(Cause::MoreThanOneDocument));
+        }
+        match source {
+            Source::One(document) => read_first(alloc, &document, schema, id, false),
+            Source::Stream(mut documents) => match documents.next_document() {
+                Some(document) => {
+                    let others = is_there(documents.next_document());
+                    read_first(alloc, &document, schema, id, others)
+                }
+                None => Err(Error::new(Cause::EndOfStream)),
+            },
+        }
+    }
+}
+
+impl<'de> Iterator for Deserializer<'de> {
+    ghost use Rattle.std.specs.Iterator.{item_count};
+    ghost use Rattle.serde_yaml.specs.PlainStream.{items_left, GoesOn};
+
+    type Item = Deserializer<'de>;
+
+    ghost next_gives = { GoesOn };
+
+    ghost remaining = { item_count items_left };
+
+    /// The next document of the stream, to be read on its own, or `None` once each was given, for good. Takes no memory.
+    fn next(&mut self) -> Option<Deserializer<'de>> {
+        match &mut self.source {
+            Source::Stream(documents) => {
+                self.iterated = true;
+                match documents.next_document() {
+                    Some(document) => Some(Deserializer {
+                        source: Source::One(document),
+                        iterated: false,
+                    }),
+                    None => None,
+                }
+            }
+            Source::One(_) => None,
         }
     }
 }

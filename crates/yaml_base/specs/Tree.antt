@@ -64,7 +64,7 @@ abbrev mutual
   anchors_of_pairs no_pairs number = []
   anchors_of_pairs (pair key value pairs) number =
       anchors_of key number
-        ++ (anchors_of value (number + size_of key) ++ anchors_of_pairs pairs (number + size_of key + size_of value))
+      ++ (anchors_of value (number + size_of key) ++ anchors_of_pairs pairs (number + size_of key + size_of value))
 
 -- the greater of two numbers, each of which may be missing
 abbrev pub greater : Option ℕ → Option ℕ → Option ℕ

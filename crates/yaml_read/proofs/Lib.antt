@@ -1,15 +1,18 @@
 -- Lemmas of this crate.
 mod Before
-mod Meanings
 mod MeaningShapes
+mod Meanings
 mod Outcomes
 mod Refusals
 mod Shown
 mod Sounds
 mod Turns
 mod Whole
-pub mod BareDocuments
-pub mod BareStreams
+pub mod AnchorSearch
+pub mod DocumentLaws
+pub mod Gatherings
+pub mod PlainWalks
+pub mod StreamLaws
 pub mod StreamMachineLaws
 pub mod TreeLaws
 pub mod WrongPlaces

@@ -1,7 +1,10 @@
 -- What contracts of this crate, and of those above it, cite.
-pub mod Bare
+pub mod Bodies
 pub mod DocEventView
 pub mod DocTree
+pub mod Documents
+pub mod Ends
+pub mod Gathering
 pub mod MarkedEvents
 pub mod Meaning
 pub mod PlainDocEvent
@@ -10,6 +13,7 @@ pub mod Reader
 pub mod Reads
 pub mod Resolved
 pub mod Scalars
+pub mod StreamLaw
 pub mod StreamMachine
 pub mod Walks
 pub mod WrongPlace

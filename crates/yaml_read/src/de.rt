@@ -3,8 +3,10 @@
 mod node;
 mod scalar;
 
-ghost use Rattle.std.specs.Prelude.{◌≡◌, ℕ, ◌<◌, length, Ok, None, OnOk, IfOk, IfErr, false, slice_get};
+ghost use Rattle.std.specs.Prelude.{◌≡◌, ℕ, ◌<◌, length, Ok, Some, None, OnOk, IfOk, IfErr, false, slice_get};
 ghost use Rattle.yaml_base.specs.Answer.{Gives, is_memory};
+ghost use Rattle.yaml_base.specs.declared.error.Cause.{Cause};
+ghost use Rattle.yaml_base.specs.declared.error.Cause.TheVariants.{EndOfStream};
 ghost use Rattle.yaml_shape.specs.DataView.{data_of};
 ghost use Rattle.yaml_shape.specs.PlainData.{PlainData};
 ghost use Rattle.yaml_read.specs.DocTree.{DocNode};
@@ -16,7 +18,7 @@ use crate::document::Document;
 use crate::tally::Tally;
 use crate::walk::Walk;
 use std::alloc::Global;
-use yaml_base::{Error, Result};
+use yaml_base::{Cause, Error, Result};
 use yaml_shape::{Data, Schema, ShapeId};
 
 /// The most collections, one within another, that a reading goes into.
@@ -33,6 +35,16 @@ fn copied(fault: &Error, alloc: Global) -> Error
         Ok(copy) => copy,
         Err(fault) => fault,
     }
+}
+
+// The fault that cut a document off, where its events came to an end; else the fault itself.
+fn told(fault: Error, ending: &Error, alloc: Global) -> Error
+    ensures { result ≡ EndOfStream → ending.now ≡ EndOfStream }
+{
+    if matches!(fault.cause(), Cause::EndOfStream) {
+        return copied(ending, alloc);
+    }
+    fault
 }
 
 impl<'de> Document<'de> {
@@ -55,6 +67,9 @@ impl<'de> Document<'de> {
             → Means schema.now root id.0 root false v d k → IsRefusal default_limits (length self.now.events) d k fault) }
         ensures faults { IfErr result (λ fault. (root : DocNode) → IsTreeOf self.now root → is_memory fault ≡ false
             → IsReadingFault schema.now (slice_get self.now.events) fault) }
+
+        // Where the events of a document that was cut off come to an end, what cut it off is told.
+        ensures cut { IfErr result (λ fault. (cause : Cause) → fault ≡ EndOfStream → self.now.ending ≡ Some cause → cause ≡ EndOfStream) }
     {
         let events = self.events();
         let mut walk = Walk {
@@ -67,7 +82,10 @@ impl<'de> Document<'de> {
                 None => Ok(data),
                 Some(fault) => Err(copied(fault, alloc)),
             },
-            Err(fault) => Err(fault),
+            Err(fault) => match self.error() {
+                None => Err(fault),
+                Some(ending) => Err(told(fault, ending, alloc)),
+            },
         }
     }
 }

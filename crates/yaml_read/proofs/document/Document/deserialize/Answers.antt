@@ -17,19 +17,19 @@ returns-in-None-clause-only c = λ root v is r.
     (means_only default_limits c.args.schema.now c.args.self.now root is c.args.id.0 v r.nestings r.followed r.means) r.nests_within r.follows_within
     (seen_whole default_limits c.args.schema.now c.args.self.now c.args.id.0 c.events-events.result.now _ c.events-events.ensures c.in-Ok.ensures.gives)))
 
-pub returns-clause-only : goal.returns-clause-only
-returns-clause-only c = λ root v is r fault.
+pub returns-in-None-error-clause-only : goal.returns-in-None-error-clause-only
+returns-in-None-error-clause-only c = λ root v is r fault.
     absurd (never_refused (whole_reading default_limits c.args.schema.now c.args.self.now c.args.id.0) v _ _ _ r.nestings r.followed c.in-Err.fault
     (means_only default_limits c.args.schema.now c.args.self.now root is c.args.id.0 v r.nestings r.followed r.means) r.nests_within r.follows_within
     (seen_whole default_limits c.args.schema.now c.args.self.now c.args.id.0 c.events-events.result.now _ c.events-events.ensures (λ fuel lt. c.in-Err.ensures.gives fuel lt fault)))
 
-pub returns-clause-refused : goal.returns-clause-refused
-returns-clause-refused c = λ root v d k is m.
+pub returns-in-None-error-clause-refused : goal.returns-in-None-error-clause-refused
+returns-in-None-error-clause-refused c = λ root v d k is m.
     refusal_or_memory default_limits (length c.args.self.now.events) (whole_reading default_limits c.args.schema.now c.args.self.now c.args.id.0) v _ d k c.in-Err.fault
     (means_only default_limits c.args.schema.now c.args.self.now root is c.args.id.0 v d k m)
     (λ fault. seen_whole default_limits c.args.schema.now c.args.self.now c.args.id.0 c.events-events.result.now _ c.events-events.ensures (λ fuel lt. c.in-Err.ensures.gives fuel lt fault))
 
-pub returns-clause-faults : goal.returns-clause-faults
-returns-clause-faults c = λ root is fault.
+pub returns-in-None-error-clause-faults : goal.returns-in-None-error-clause-faults
+returns-in-None-error-clause-faults c = λ root is fault.
     refused_only default_limits c.args.schema.now c.args.self.now root is c.args.id.0 c.in-Err.fault
     (seen_whole default_limits c.args.schema.now c.args.self.now c.args.id.0 c.events-events.result.now _ c.events-events.ensures (λ fuel lt. c.in-Err.ensures.gives fuel lt fault))

@@ -1,0 +1,15 @@
+-- What a reader of streams holds.
+use Rattle.std.specs.Prelude.{List, [], ◌∷◌, Bool, true, false}
+use Rattle.yaml_read.specs.PlainDocument.{PlainDocument}
+use Rattle.serde_yaml.specs.declared.de.Source.{Source}
+use Rattle.serde_yaml.specs.declared.de.Source.TheVariants.{Stream, One}
+
+-- the documents that were not handed out
+abbrev pub documents_in : Source → List PlainDocument
+documents_in (Stream loader) = loader
+documents_in (One document) = document ∷ []
+
+-- whether it is one document on its own
+abbrev pub is_one : Source → Bool
+is_one (Stream loader) = false
+is_one (One document) = true

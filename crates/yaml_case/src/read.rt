@@ -1,0 +1,31 @@
+//! Reading events as data of a named shape.
+
+ghost use Rattle.std.specs.Prelude.{IfOk};
+ghost use Rattle.yaml_shape.specs.DataView.{data_of};
+ghost use Rattle.yaml_case.specs.InputText.{events_of};
+ghost use Rattle.yaml_case.specs.Reading.{IsReadAs};
+ghost use Rattle.yaml_case.specs.Shapes.{table_of};
+
+use crate::shapes::Named;
+use serde_yaml::Deserializer;
+use std::alloc::Global;
+use yaml_base::{Cause, Error, Event, Mark, ParserFault, Result};
+use yaml_shape::{Data, ShapeId};
+
+/// Reads the one document of these events, and of the parser's fault, if it had one, as data.
+pub fn read<'de>(
+    alloc: Global,
+    named: Named,
+    events: Vec<(Event<'de>, Mark)>,
+    fault: Option<ParserFault>,
+) -> Result<Data<'de>>
+    ensures { IfOk result (λ v.
+        IsReadAs (table_of named) (events_of events.entry.items) fault (data_of v)) }
+{
+    let Ok(schema) = named.schema(alloc) else {
+        return Err(Error::new(Cause::Memory));
+    };
+    let documents = Deserializer::from_events(alloc, events, fault)?;
+    let content = documents.deserialize(alloc, &schema, ShapeId(0))?;
+    Ok(content)
+}

@@ -1,0 +1,184 @@
+//! A run of the program: its input is read whole, and one line is written.
+
+ghost use Rattle.std.specs.Prelude.{◌≡◌, ◌≢◌, ◌∷◌, [], ◌++◌, List, ℕ, codes, decimal, map, length};
+ghost use Rattle.std.specs.Prelude.{string_bytes, IfOk, IfSome};
+ghost use Rattle.std.specs.Io.KnownBytes.{Appends};
+ghost use Rattle.yaml_base.specs.ErrorText.{error_text};
+ghost use Rattle.yaml_shape.specs.DataView.{data_of};
+ghost use Rattle.yaml_case.specs.Answers.{IsReply, IsAnswer, IsAnswerTo};
+ghost use Rattle.yaml_case.specs.DataText.{data_text};
+ghost use Rattle.yaml_case.specs.Shapes.{IsNoName};
+
+#[cfg(test)]
+mod tests;
+
+use crate::input::{self, Input};
+use crate::read::read;
+use crate::shapes::Named;
+use crate::show::show;
+use crate::status::Status;
+use std::alloc::{AllocError, Global};
+use std::io::{Read, Write};
+use yaml_base::Error;
+use yaml_shape::Data;
+
+// The most calls of `read`. An input that hasn't ended by then counts as one that can't be read.
+const READ_CALLS: u32 = 1_048_576;
+
+// Why the input was not read.
+#[derive(Drop)]
+enum Unread {
+    // The reader failed, or did not come to an end.
+    Failed,
+    // Memory ran out.
+    Memory,
+}
+
+// What is printed, with its line feed, and the status that goes with it.
+#[derive(Drop)]
+struct Answer {
+    status: Status,
+    line: String,
+}
+
+// All that the reader gives.
+fn read_input<R: Read>(alloc: Global, reader: &mut R) -> Result<Vec<u8>, Unread>
+    ensures { IfOk result (λ input.
+        IfSome (R.remaining reader.old) (λ bytes. input.items ≡ bytes)) }
+{
+    let mut input = Vec::new(alloc);
+    let mut buffer = [0u8; 4096];
+    for _ in 0..READ_CALLS {
+        let Ok(count) = reader.read(&mut buffer) else {
+            return Err(Unread::Failed);
+        };
+        if count == 0 {
+            return Ok(input);
+        }
+        if input.extend_from_slice(&buffer[..count]).is_err() {
+            return Err(Unread::Memory);
+        }
+    }
+    Err(Unread::Failed)
+}
+
+// Writes a line with its line feed. The status is the one that is given, unless the writer fails.
+fn print<W: Write>(writer: &mut W, line: &[u8], status: Status) -> Status
+    ensures { result ≢ Status.Failed
+        → (result ≡ status) × Appends (W.contents writer.old) (W.contents writer.new) line.now }
+{
+    if writer.write_all(line).is_err() || writer.flush().is_err() {
+        return Status::Failed;
+    }
+    status
+}
+
+/// Prints that memory ran out.
+pub fn out_of_memory<W: Write>(writer: &mut W) -> Status
+    ensures { result ≢ Status.Failed → (result ≡ Status.Fault)
+        × Appends (W.contents writer.old) (W.contents writer.new) (codes "fault: out of memory\n") }
+{
+    print(writer, b"fault: out of memory\n", Status::Fault)
+}
+
+// Prints that the argument is none that the program takes.
+fn bad_argument<W: Write>(writer: &mut W) -> Status
+    ensures { result ≢ Status.Failed → (result ≡ Status.Refused)
+        × Appends (W.contents writer.old) (W.contents writer.new) (codes "bad argument\n") }
+{
+    print(writer, b"bad argument\n", Status::Refused)
+}
+
+// The line that shows data.
+fn data_line(alloc: Global, content: &Data<'_>) -> Result<String, AllocError>
+    ensures { IfOk result (λ line. string_bytes line ≡ data_text (data_of content.now) ++ 10 ∷ []) }
+{
+    let mut line = String::new(alloc);
+    show(&mut line, content)?;
+    line.push('\n')?;
+    Ok(line)
+}
+
+// The line that tells a fault.
+fn fault_line(alloc: Global, fault: Error) -> Result<String, AllocError>
+    ensures { IfOk result (λ line.
+        string_bytes line ≡ (codes "fault: " ++ error_text fault) ++ 10 ∷ []) }
+{
+    format!(in alloc; "fault: {fault}\n")
+}
+
+// The line that names a line of the input.
+fn bad_line(alloc: Global, number: usize) -> Result<String, AllocError>
+    ensures { IfOk result (λ line.
+        string_bytes line ≡ (codes "bad line " ++ decimal number) ++ 10 ∷ []) }
+{
+    format!(in alloc; "bad line {number}\n")
+}
+
+// What is printed of an input that is read as a shape.
+fn answer_to(alloc: Global, named: Named, input: &[u8]) -> Result<Answer, AllocError>
+    ensures { IfOk result (λ answer. (text : List ℕ)
+        × (string_bytes answer.line ≡ text ++ 10 ∷ [])
+        × IsReply named input.now answer.status text) }
+{
+    let lines = input::parse(alloc, input)?;
+    match lines {
+        Input::BadLine(number) => Ok(Answer {
+            status: Status::Refused,
+            line: bad_line(alloc, number)?,
+        }),
+        Input::Events(events, fault) => match read(alloc, named, events, fault) {
+            Ok(content) => Ok(Answer {
+                status: Status::Read,
+                line: data_line(alloc, &content)?,
+            }),
+            Err(error) => Ok(Answer {
+                status: Status::Fault,
+                line: fault_line(alloc, error)?,
+            }),
+        },
+    }
+}
+
+/// Reads the input as the shape with this name, and prints what was read, or why nothing was.
+///
+/// The argument is looked at first, and all of the input is read before any line is looked at. With
+/// the status `Failed` the reader or the writer failed, and part of a line may be written.
+pub fn run<R: Read, W: Write>(alloc: Global, name: &str, reader: &mut R, writer: &mut W) -> Status
+    ensures prints { result ≢ Status.Failed → (text : List ℕ)
+        × IfSome (R.remaining reader.old) (λ input. IsAnswer name.now input result text)
+        × Appends (W.contents writer.old) (W.contents writer.new) (text ++ 10 ∷ []) }
+    ensures unread { IsNoName name.now → reader.new ≡ reader.old }
+{
+    let Some(named) = Named::find(name) else {
+        return bad_argument(writer);
+    };
+    let input = match read_input(alloc, reader) {
+        Ok(input) => input,
+        Err(Unread::Failed) => return Status::Failed,
+        Err(Unread::Memory) => return out_of_memory(writer),
+    };
+    match answer_to(alloc, named, input.as_slice()) {
+        Ok(answer) => print(writer, answer.line.as_bytes(), answer.status),
+        Err(_) => out_of_memory(writer),
+    }
+}
+
+/// Runs the program on its arguments, of which there must be one.
+pub fn start<R: Read, W: Write>(
+    alloc: Global,
+    arguments: &[String],
+    reader: &mut R,
+    writer: &mut W,
+) -> Status
+    ensures prints { result ≢ Status.Failed → (text : List ℕ)
+        × IfSome (R.remaining reader.old)
+        (λ input. IsAnswerTo (map string_bytes arguments.now) input result text)
+        × Appends (W.contents writer.old) (W.contents writer.new) (text ++ 10 ∷ []) }
+    ensures unread { length arguments.now ≢ 1 → reader.new ≡ reader.old }
+{
+    if arguments.len() != 1 {
+        return bad_argument(writer);
+    }
+    run(alloc, arguments[0].as_str(), reader, writer)
+}

@@ -1,0 +1,71 @@
+//! Inputs that are deep or wide.
+use crate::loader::Loader;
+use crate::loader::tests::events::{fault, mark};
+use std::alloc::{AllocError, Global};
+use std::test::Fail;
+use yaml_base::{Anchor, Event, Mark, SequenceStart};
+
+#[test]
+fn deep_starts(rt: HostRuntime) -> Result<(), Fail> {
+    let alloc = rt.alloc();
+    let mut events = Vec::new(alloc);
+    events.push((Event::StreamStart, mark(0)))?;
+    events.push((Event::DocumentStart, mark(1)))?;
+    for _ in 0..1_000_000 {
+        let start = SequenceStart {
+            anchor: None,
+            tag: None,
+        };
+        events.push((Event::SequenceStart(start), mark(2)))?;
+    }
+    let mut loader = Loader::new(alloc, events, Some(fault(alloc)?))?;
+    let Some(document) = loader.next_document() else {
+        return Err(Fail::new("no document"));
+    };
+    assert_eq!(rt; document.events().len(), 1_000_000);
+    assert_eq!(rt; document.ends().first().copied(), Some(1_000_000));
+    assert!(rt; document.error().is_some());
+    assert!(rt; loader.next_document().is_none());
+    Ok(())
+}
+
+// The name of a number, in digits of one length.
+fn name(alloc: Global, number: u32) -> Result<Anchor, AllocError> {
+    let mut bytes = Vec::new(alloc);
+    let mut rest = number;
+    for _ in 0..6 {
+        bytes.push(b'0' + (rest % 10) as u8)?;
+        rest /= 10;
+    }
+    bytes.reverse();
+    Ok(Anchor::new(bytes))
+}
+
+#[test]
+fn many_anchors(rt: HostRuntime) -> Result<(), Fail> {
+    let alloc = rt.alloc();
+    let mut events = Vec::new(alloc);
+    events.push((Event::StreamStart, mark(0)))?;
+    events.push((Event::DocumentStart, mark(1)))?;
+    let start = SequenceStart {
+        anchor: None,
+        tag: None,
+    };
+    events.push((Event::SequenceStart(start), mark(2)))?;
+    for number in 0..100_000u32 {
+        let start = SequenceStart {
+            anchor: Some(name(alloc, 100_000 - number)?),
+            tag: None,
+        };
+        events.push((Event::SequenceStart(start), mark(3)))?;
+        events.push((Event::Alias(name(alloc, 100_000 - number)?), mark(4)))?;
+        events.push((Event::SequenceEnd, mark(5)))?;
+    }
+    let mut loader = Loader::new(alloc, events, Some(fault(alloc)?))?;
+    let Some(document) = loader.next_document() else {
+        return Err(Fail::new("no document"));
+    };
+    assert_eq!(rt; document.events().len(), 300_001);
+    assert!(rt; loader.next_document().is_none());
+    Ok(())
+}
