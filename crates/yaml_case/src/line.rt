@@ -6,8 +6,6 @@ ghost use Rattle.yaml_case.specs.LineText.{Said, said_of, IsSaid, IsLine};
 mod event;
 mod fault;
 pub mod parts;
-#[cfg(test)]
-mod tests;
 
 use parts::{mark_of, strip};
 use std::alloc::{AllocError, Global};
