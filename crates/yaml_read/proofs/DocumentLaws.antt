@@ -19,22 +19,19 @@ use Rattle.yaml_base.specs.declared.event.Event.{Event}
 use Rattle.yaml_read.specs.Gathering.{closing_documents}
 use Rattle.yaml_read.specs.PlainDocEvent.{PlainDocEvent}
 use Rattle.yaml_read.specs.PlainDocument.{PlainDocument}
-use Rattle.yaml_read.proofs.AnchorSearch.{Named, find_in-permutation}
+use Rattle.yaml_read.proofs.AnchorSearch.{Named}
 
 abbrev held : List (PlainDocEvent × Position) → Option Cause → PlainDocument
 held events ending = record { events = events; ending = ending }
 
--- the document that was found with the anchors in order
-pub document_made : (anchors named : List Named) (events : Input) (ended : Bool) (fault : Option PlainFault)
+-- the document that was found
+pub document_made : (named : List Named) (events : Input) (ended : Bool) (fault : Option PlainFault)
     (found : List (PlainDocEvent × Position)) (unknown : Option Position) (ending : Option Cause)
-    → IsPermutation named anchors → found ≡ known_events (find_in anchors) 0 events
-    → unknown ≡ unknown_mark (find_in anchors) 0 events → ending ≡ ending_of unknown ended fault
-    → held found ending ≡ document_of named events ended fault
-document_made anchors named events ended fault found unknown ending p f u e =
-    let same = find_in-permutation named anchors p in
-    ap (λ es. held es ending) (f ∙ ap (λ (find : Find). known_events find 0 events) same)
-    ∙ ap (held (known_events (find_in named) 0 events))
-    (e ∙ ap (λ m. ending_of m ended fault) (u ∙ ap (λ (find : Find). unknown_mark find 0 events) same))
+    → found ≡ known_events (find_in named) 0 events → unknown ≡ unknown_mark (find_in named) 0 events
+    → ending ≡ ending_of unknown ended fault → held found ending ≡ document_of named events ended fault
+document_made named events ended fault found unknown ending f u e =
+    ap (λ es. held es ending) f
+    ∙ ap (held (known_events (find_in named) 0 events)) (e ∙ ap (λ m. ending_of m ended fault) u)
 
 -- an event becomes the same without its anchor
 becomes-stripped : (find : Find) (place : ℕ) (e : PlainEvent) → becomes find place (stripped e) ≡ becomes find place e

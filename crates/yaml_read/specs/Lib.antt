@@ -1,4 +1,5 @@
 -- What contracts of this crate, and of those above it, cite.
+pub mod AnchorTable
 pub mod Bodies
 pub mod DocEventView
 pub mod DocTree

@@ -4,6 +4,7 @@ ghost use Rattle.std.specs.Prelude.{◌≡◌, IfOk};
 ghost use Rattle.std.specs.Option.{option_map};
 ghost use Rattle.std.specs.Vec.Iter.{into_iter_items};
 ghost use Rattle.yaml_base.specs.PlainEvent.{event_of};
+ghost use Rattle.yaml_read.specs.AnchorTable.{HasRisingPlaces};
 ghost use Rattle.yaml_read.specs.Bodies.{all_stripped, stripped};
 ghost use Rattle.yaml_read.specs.DocEventView.{doc_event_of, marked_events_of};
 ghost use Rattle.yaml_read.specs.Documents.{anchor_of, anchors_in, becomes, behind, body};
@@ -105,14 +106,14 @@ pub(crate) fn read_body<'de>(
     })
 }
 
-// What the event at a place of the document becomes, unless it is an unknown alias.
-fn doc_event<'de>(event: Event<'de>, place: usize, anchors: &Anchors) -> Option<DocEvent<'de>>
+// What the event that the walk has reached becomes, unless it is an unknown alias.
+fn doc_event<'de>(event: Event<'de>, anchors: &Anchors<'_>) -> Option<DocEvent<'de>>
     ensures { option_map doc_event_of result
-        ≡ becomes (find_in anchors.now) place (event_of event.entry) }
+        ≡ becomes (find_in anchors.now.named) anchors.now.place (event_of event.entry) }
 {
     match event {
         Event::Alias(anchor) => {
-            let target = anchors.last_before(&anchor, place)?;
+            let target = anchors.last(&anchor)?;
             Some(DocEvent::Alias(target))
         }
         Event::Scalar(scalar) => Some(DocEvent::Scalar(Scalar {
@@ -140,22 +141,23 @@ fn doc_event<'de>(event: Event<'de>, place: usize, anchors: &Anchors) -> Option<
 pub(crate) fn resolve<'de>(
     alloc: Global,
     events: Vec<(Event<'de>, Mark)>,
-    anchors: &Anchors,
+    named: &[(Anchor, usize)],
 ) -> Result<(Vec<(DocEvent<'de>, Mark)>, Option<Mark>), AllocError>
+    requires { HasRisingPlaces named.now }
     ensures known { IfOk result (λ found. marked_events_of found.0.items
-        ≡ known_events (find_in anchors.now) 0 (plain_marked events.entry.items)) }
+        ≡ known_events (find_in named.now) 0 (plain_marked events.entry.items)) }
     ensures unknown { IfOk result (λ found.
-        found.1 ≡ unknown_mark (find_in anchors.now) 0 (plain_marked events.entry.items)) }
+        found.1 ≡ unknown_mark (find_in named.now) 0 (plain_marked events.entry.items)) }
 {
+    let mut anchors = Anchors::new(alloc, named)?;
     let mut found = Vec::new(alloc);
-    let mut place = 0;
     let mut rest = events.into_iter();
     'events: while let Some((event, mark)) = rest.next() {
-        match doc_event(event, place, anchors) {
+        match doc_event(event, &anchors) {
             Some(event) => found.push((event, mark))?,
             None => return Ok((found, Some(mark))),
         }
-        place += 1;
+        anchors.pass();
     }
     Ok((found, None))
 }

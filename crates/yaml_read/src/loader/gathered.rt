@@ -1,6 +1,7 @@
 //! The documents that a loader hands out, while their events are put beside one another.
 
 ghost use Rattle.std.specs.Prelude.{◌≡◌, ◌++◌, ◌∷◌, ◌↔◌, [], IfOk, IsTrue, length};
+ghost use Rattle.yaml_read.specs.AnchorTable.{HasRisingPlaces};
 ghost use Rattle.yaml_read.specs.DocEventView.{marked_events_of};
 ghost use Rattle.yaml_read.specs.Documents.{document_of, ending_of};
 ghost use Rattle.yaml_read.specs.Gathering.{AreCuts, closing_documents, documents_in};
@@ -8,7 +9,6 @@ ghost use Rattle.yaml_read.specs.MarkedEvents.{plain_marked};
 
 use crate::doc_event::DocEvent;
 use crate::document::Document;
-use crate::loader::anchors::Anchors;
 use crate::loader::body::{Body, resolve};
 use crate::loader::ends::ends_of;
 use std::alloc::{AllocError, Global};
@@ -122,6 +122,7 @@ impl<'de> Gathered<'de> {
         body: Body<'de>,
         fault: Option<ParserFault>,
     ) -> Result<Gathered<'de>, AllocError>
+        requires { HasRisingPlaces body.named.items }
         ensures { IfOk result (λ after. after ≡ self.entry
             ++ document_of body.entry.named.items (plain_marked body.entry.events.items)
             body.entry.ended fault ∷ []) }
@@ -131,8 +132,7 @@ impl<'de> Gathered<'de> {
             named,
             ended,
         } = body;
-        let anchors = Anchors::new(named)?;
-        let (found, unknown) = resolve(alloc, events, &anchors)?;
+        let (found, unknown) = resolve(alloc, events, &named)?;
         self.add(alloc, found, ending(unknown, ended, fault))
     }
 

@@ -11,11 +11,12 @@ invariant-events l =
     let input = plain_marked (into_iter_items l.initial.rest) in
     let left = plain_marked (into_iter_items l.rest) in
     record {
-      counted : l.place + length (into_iter_items l.rest) ≡ length (into_iter_items l.initial.rest);
+      named : l.anchors.named ≡ l.named;
+      counted : l.anchors.place + length (into_iter_items l.rest) ≡ length (into_iter_items l.initial.rest);
       known :
-          marked_events_of l.found.items ++ known_events (find_in l.anchors) l.place left
-          ≡ known_events (find_in l.anchors) 0 input;
-      unknown : unknown_mark (find_in l.anchors) l.place left ≡ unknown_mark (find_in l.anchors) 0 input;
+          marked_events_of l.found.items ++ known_events (find_in l.named) l.anchors.place left
+          ≡ known_events (find_in l.named) 0 input;
+      unknown : unknown_mark (find_in l.named) l.anchors.place left ≡ unknown_mark (find_in l.named) 0 input;
     }
 
 abbrev pub decreases-events : goal.decreases-events
