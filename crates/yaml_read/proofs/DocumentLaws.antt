@@ -1,7 +1,6 @@
 -- A document is read off the input behind its start.
 use Rattle.std.proofs.Common.{◌≡◌, ℕ, ◌+◌, List, [], ◌∷◌, ◌++◌, map, refl, sym, ◌∙◌, ap, Bool, true, false, Option, Some, None}
-use Rattle.std.proofs.Common.{option_to_list, ◌||◌, not, inl, inr, cond, suc, ◌≤◌, length, arith, append_assoc, append-nil}
-use Rattle.std.specs.List.{list_any}
+use Rattle.std.proofs.Common.{◌||◌, not, inl, inr, cond, suc, ◌≤◌, length, arith, append_assoc, append-nil}
 use Rattle.std.specs.List.Sorted.{IsPermutation}
 use Rattle.std.proofs.lemmas.Bool.{cases_Bool}
 use Rattle.yaml_base.specs.Position.{Position}
@@ -16,7 +15,6 @@ use Rattle.yaml_read.specs.Documents.{anchors_in, ending_of, document_of, docume
 use Rattle.yaml_read.specs.Documents.{last_mark, void_documents, failed_document}
 use Rattle.yaml_read.specs.MarkedEvents.{plain_marked}
 use Rattle.yaml_base.specs.declared.event.Event.{Event}
-use Rattle.yaml_read.specs.Gathering.{closing_documents}
 use Rattle.yaml_read.specs.PlainDocEvent.{PlainDocEvent}
 use Rattle.yaml_read.specs.PlainDocument.{PlainDocument}
 use Rattle.yaml_read.proofs.AnchorSearch.{Named, find_in-permutation}

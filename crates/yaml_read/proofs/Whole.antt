@@ -1,12 +1,12 @@
 -- Reading a whole document.
-use Rattle.std.proofs.Common.{◌≡◌, ℕ, zero, suc, ◌+◌, ◌*◌, ◌<◌, ◌≤◌, ◌⊎◌, List, [], ◌∷◌, map, length, Option, Some, Result, Ok, Err, Bool, false, refl, sym, ap, subst, ◌∙◌, arith}
+use Rattle.std.proofs.Common.{◌≡◌, ℕ, suc, ◌+◌, ◌*◌, ◌<◌, ◌≤◌, List, [], ◌∷◌, map, length, Result, Ok, Err, false, refl, sym, ap, subst, ◌∙◌, arith}
 use Rattle.std.specs.Prelude.{slice_get}
 use Rattle.std.proofs.lemmas.Option.{slice_get_within}
 use Rattle.std.proofs.lemmas.List.{length-map}
 use Rattle.yaml_base.specs.Position.{Position}
-use Rattle.yaml_base.specs.Answer.{Gives, Fails, is_memory}
+use Rattle.yaml_base.specs.Answer.{is_memory}
 use Rattle.yaml_base.specs.declared.error.Cause.{Cause}
-use Rattle.yaml_base.specs.declared.error.Cause.TheVariants.{Memory, RecursionLimitExceeded, RepetitionLimitExceeded}
+use Rattle.yaml_base.specs.declared.error.Cause.TheVariants.{Memory}
 use Rattle.yaml_shape.specs.PlainShape.{PlainShape}
 use Rattle.yaml_shape.specs.PlainData.{PlainData}
 use Rattle.yaml_read.specs.PlainDocEvent.{PlainDocEvent}

@@ -1,5 +1,6 @@
 -- What contracts of this crate, and of those above it, cite.
 pub mod Bodies
+pub mod CoreTags
 pub mod DocEventView
 pub mod DocTree
 pub mod Documents

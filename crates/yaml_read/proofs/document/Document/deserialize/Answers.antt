@@ -1,8 +1,7 @@
 -- What a document gives, from what its reading gives.
-use Rattle.std.proofs.Common.{◌≡◌, ℕ, ◌*◌, length, Ok, Err, sym, ap}
+use Rattle.std.proofs.Common.{length, Ok, sym, ap}
 use Rattle.yaml_shape.specs.DataView.{data_of}
 use Rattle.yaml_read.specs.Reads.{default_limits}
-use Rattle.yaml_read.specs.Walks.{spot_of}
 use Rattle.yaml_read.proofs.Whole.{seen_whole, whole_reading, means_only, read_only, refused_only, answered, never_refused, refusal_or_memory}
 use Rattle.yaml_read.proofs.document.Document.deserialize.Goals as goal
 

@@ -1,5 +1,5 @@
 -- The last anchor in front of the alias is its target, if it has the alias's name.
-use Rattle.std.proofs.Common.{◌-◌, ◌≤◌, length, Some, rules, of_calls, arith, sym, ap, subst, ◌∙◌}
+use Rattle.std.proofs.Common.{◌≤◌, length, Some, rules, of_calls, arith, sym, ap, subst, ◌∙◌}
 use Rattle.std.specs.List.Sorted.{IsSorted}
 use Rattle.std.specs.Ordering.{is_lt}
 use Rattle.std.specs.Str.{bytes_eq}
