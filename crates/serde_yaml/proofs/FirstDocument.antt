@@ -10,7 +10,7 @@ use Rattle.yaml_shape.specs.PlainShape.{PlainShape}
 use Rattle.yaml_read.specs.DocTree.{DocNode}
 use Rattle.yaml_read.specs.Meaning.{Means}
 use Rattle.yaml_read.specs.PlainDocument.{PlainDocument}
-use Rattle.yaml_read.specs.Reads.{PlainLimits, IsTreeOf, Reads, IsRefusal, IsReadingFault}
+use Rattle.yaml_read.specs.Reads.{PlainLimits, IsTreeOf, Reads, IsRefusal, IsReadingFault, IsCutFault}
 use Rattle.serde_yaml.specs.PlainStream.{PlainStream}
 use Rattle.serde_yaml.specs.StreamReads.{Begins, IsOneWhole, IsFirstFault}
 
@@ -139,6 +139,14 @@ module _ (stream : PlainStream) (first : PlainDocument) (rest : List PlainDocume
   faults_of result h = IfErr-weaker result _ _ (λ fault faults document left tree begins t other.
       fault_of document left tree fault (same begins) (same_rest begins)
       (faults tree (tree_of_first (same begins) t) other)) h
+
+  pub cut_of : {X : Type 0} (result : Result X Cause)
+      → IfErr result (λ fault. (cause : Cause) → first.ending ≡ Some cause → is_memory fault ≡ false → IsCutFault schema first cause fault)
+      → IfErr result (λ fault. (document : PlainDocument) (left : List PlainDocument) (cause : Cause)
+      → Begins stream document left → document.ending ≡ Some cause → is_memory fault ≡ false → IsCutFault schema document cause fault)
+  cut_of result h = IfErr-weaker result _ _ (λ fault cuts document left cause begins cut other.
+      subst (λ d. IsCutFault schema d cause fault) (same begins)
+      (cuts cause (ap (λ (d : PlainDocument). d.ending) (same begins) ∙ cut) other)) h
 
   pub only_of : {X : Type 0} (view : X → PlainData) (result : Result X Cause)
       → ((tree : DocNode) (v : PlainData) → others ≡ false → IsTreeOf first tree

@@ -1,9 +1,10 @@
 //! Reading a stream of events.
 
-ghost use Rattle.std.specs.Prelude.{◌≡◌, ◌≢◌, ℕ, ◌<◌, ◌∷◌, [], List, length, Ok, Err, None, IfOk, IfErr, OnOk, true, false};
+ghost use Rattle.std.specs.Prelude.{◌≡◌, ◌≢◌, ℕ, ◌<◌, ◌∷◌, [], List, length, Ok, Err, Some, None, IfOk, IfErr, OnOk, true, false};
 ghost use Rattle.std.specs.Prelude.{is_some, slice_get, ◌⊎◌};
 ghost use Rattle.yaml_base.specs.Answer.{Gives, is_memory};
 ghost use Rattle.yaml_base.specs.Stream.{IsWellFormed};
+ghost use Rattle.yaml_base.specs.declared.error.Cause.{Cause};
 ghost use Rattle.yaml_base.specs.declared.error.Cause.TheVariants.{NotAStream, MoreThanOneDocument};
 ghost use Rattle.yaml_shape.specs.DataView.{data_of};
 ghost use Rattle.yaml_shape.specs.PlainData.{PlainData};
@@ -12,7 +13,7 @@ ghost use Rattle.yaml_read.specs.Documents.{documents_of};
 ghost use Rattle.yaml_read.specs.MarkedEvents.{plain_events, plain_marked};
 ghost use Rattle.yaml_read.specs.Meaning.{Means};
 ghost use Rattle.yaml_read.specs.PlainDocument.{PlainDocument};
-ghost use Rattle.yaml_read.specs.Reads.{default_limits, IsTreeOf, Reads, IsRefusal, IsReadingFault};
+ghost use Rattle.yaml_read.specs.Reads.{default_limits, IsTreeOf, Reads, IsRefusal, IsReadingFault, IsCutFault};
 ghost use Rattle.yaml_read.specs.WrongPlace.{IsWrongAt};
 ghost use Rattle.serde_yaml.specs.StreamReads.{Begins, IsOneWhole, IsFirstFault};
 
@@ -71,6 +72,8 @@ fn read_first<'de>(
     ensures faults { IfErr result (λ fault. (tree : DocNode) → IsTreeOf document.now tree → is_memory fault ≡ false
         → IsReadingFault schema.now (slice_get document.now.events) fault
         ⊎ ((fault ≡ MoreThanOneDocument) × (others ≡ true) × (v : PlainData) × Reads default_limits schema.now id.0 tree (length document.now.events) v)) }
+    ensures cut { IfErr result (λ fault. (cause : Cause) → document.now.ending ≡ Some cause → is_memory fault ≡ false
+        → IsCutFault schema.now document.now cause fault) }
 {
     match document.deserialize(alloc, schema, id) {
         Ok(found) => {
@@ -153,6 +156,11 @@ impl<'de> Deserializer<'de> {
         ensures faults { IfErr result (λ fault. (document : PlainDocument) (others : List PlainDocument) (tree : DocNode)
             → Begins self.entry document others → IsTreeOf document tree → is_memory fault ≡ false
             → IsFirstFault default_limits schema.now id.0 document tree others fault) }
+
+        // A first document that was cut off is refused by what cut it off, or by a fault that reading finds before that.
+        ensures cut { IfErr result (λ fault. (document : PlainDocument) (others : List PlainDocument) (cause : Cause)
+            → Begins self.entry document others → document.ending ≡ Some cause → is_memory fault ≡ false
+            → IsCutFault schema.now document cause fault) }
     {
         let Deserializer { source, iterated } = self;
         if iterated {

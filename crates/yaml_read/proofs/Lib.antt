@@ -1,5 +1,6 @@
 -- Lemmas of this crate.
 mod Before
+mod CutRefusals
 mod MeaningShapes
 mod Meanings
 mod Outcomes

@@ -1,36 +1,36 @@
 -- What reading a tree may be refused by.
-use Rattle.std.proofs.Common.{◌≡◌, ℕ, zero, suc, ◌+◌, ◌<◌, ◌≤◌, ◌⊎◌, List, [], ◌∷◌, ◌++◌, length, Option, Some, None, Result, Ok, Err, Bool, true, false, refl, sym, ap, subst, ◌∙◌, arith, append_assoc}
+use Rattle.std.proofs.Common.{◌≡◌, ℕ, zero, suc, ◌+◌, ◌<◌, ◌⊎◌, List, [], ◌∷◌, ◌++◌, length, Option, Some, None, Result, Ok, Err, Bool, true, false, refl, sym, ap, subst, ◌∙◌, arith, append_assoc}
 use Rattle.std.specs.Prelude.{if◌then◌else◌}
 use mathlib.Core.Logic.{inl, inr}
 use Rattle.yaml_base.specs.Position.{Position}
 use Rattle.yaml_base.specs.declared.error.Cause.{Cause}
 use Rattle.yaml_base.specs.declared.error.Cause.TheVariants.{RecursionLimitExceeded, RepetitionLimitExceeded}
 use Rattle.yaml_shape.specs.PlainShape.{PlainShape, seq_shape, map_shape, shape_at}
-use Rattle.yaml_shape.specs.PlainData.{PlainData, PlainItems, PlainEntries, seq_data, map_data, item, entry}
-use Rattle.yaml_read.specs.PlainDocEvent.{PlainDocEvent, alias_to, a_scalar, sequence_begins, sequence_ends, mapping_begins, mapping_ends, a_void}
+use Rattle.yaml_shape.specs.PlainData.{PlainData, seq_data, map_data, item, entry}
+use Rattle.yaml_read.specs.PlainDocEvent.{PlainDocEvent, alias_to, sequence_ends, mapping_ends}
 use Rattle.yaml_read.specs.DocTree.{DocNode, DocNodes, DocPairs, nothing, reference, word, list, mapping, no_nodes, node, no_pairs, pair, events_of, events_of_nodes, events_of_pairs, node_of}
 use Rattle.yaml_read.specs.Scalars.{is_read, scalar_data, void_data}
 use Rattle.yaml_read.specs.Reader.{Spot, Reading, Events, Reader, ◌>>=◌, no_meaning, after, or_no_meaning, ending, enter, pursue, items_at, entries_at, sequence_at, mapping_at, shape_step, node_step, node_at, not_built}
 use Rattle.yaml_read.specs.Reads.{IsReadingFault, too_deep, too_often, meaningless, not_yet}
 use Rattle.yaml_read.proofs.Turns.{items_end, entries_end}
 use Rattle.yaml_read.proofs.Shown.{Shows, shows_front, shows_rest, target_shown, starts}
-use Rattle.yaml_read.proofs.Outcomes.{at_event, items_going, entries_going, wide}
+use Rattle.yaml_read.proofs.Outcomes.{items_going, entries_going, wide}
 use Rattle.yaml_read.proofs.Sounds.{sound}
 
 -- a step that fails, or one that goes on and fails later
-bind_err : {A B : Type 0} (r : Result A Cause) (f : A → Result B Cause) (y : Cause) → (r >>= f) ≡ Err y → (r ≡ Err y) ⊎ ((x : A) × (r ≡ Ok x) × (f x ≡ Err y))
+pub bind_err : {A B : Type 0} (r : Result A Cause) (f : A → Result B Cause) (y : Cause) → (r >>= f) ≡ Err y → (r ≡ Err y) ⊎ ((x : A) × (r ≡ Ok x) × (f x ≡ Err y))
 bind_err (Ok x) f y h = inr (x, refl, h)
 bind_err (Err e) f y h = let same : e ≡ y = cc in inl (ap Err same)
 
-wrap_err : {A B : Type 0} (r : Reading A) (f : A → B) (y : Cause) → ◌>>=◌ {B = B × Spot} r (λ x. Ok (f x.0, x.1)) ≡ Err y → r ≡ Err y
+pub wrap_err : {A B : Type 0} (r : Reading A) (f : A → B) (y : Cause) → ◌>>=◌ {B = B × Spot} r (λ x. Ok (f x.0, x.1)) ≡ Err y → r ≡ Err y
 wrap_err (Ok x) f y h = absurd cc
 wrap_err (Err e) f y h = let same : e ≡ y = cc in ap Err same
 
-ended_err : (at : Spot) (o : Option PlainData) (y : Cause) → ending at (or_no_meaning o) ≡ Err y → no_meaning ≡ y
+pub ended_err : (at : Spot) (o : Option PlainData) (y : Cause) → ending at (or_no_meaning o) ≡ Err y → no_meaning ≡ y
 ended_err at None y h = cc
 ended_err at (Some v) y h = absurd cc
 
-pursue_err : (read : Spot → Reading PlainData) (j p n : ℕ) (y : Cause) → pursue read j p n ≡ Err y
+pub pursue_err : (read : Spot → Reading PlainData) (j p n : ℕ) (y : Cause) → pursue read j p n ≡ Err y
     → (RepetitionLimitExceeded ≡ y) ⊎ ((m : ℕ) × (n ≡ suc m) × (read (record { place = j; left = m }) ≡ Err y))
 pursue_err read j p zero y h = inl cc
 pursue_err read j p (suc m) y h = elim (bind_err (read (record { place = j; left = m })) _ y h) [
@@ -48,7 +48,7 @@ enter_err : (mark : Position) (nest : ℕ) (go : ℕ → Reading PlainData) (y :
 enter_err mark zero go y h = deep cc
 enter_err mark (suc n) go y h = within_parts n refl h
 
-sequence_err : (read : Reader) (events : Events) (size : ℕ) (s : PlainShape) (nest : ℕ) (mark : Position) (at : Spot) (y : Cause) → sequence_at read events size s nest mark at ≡ Err y
+pub sequence_err : (read : Reader) (events : Events) (size : ℕ) (s : PlainShape) (nest : ℕ) (mark : Position) (at : Spot) (y : Cause) → sequence_at read events size s nest mark at ≡ Err y
     → Refused mark nest (λ n x. (e : ℕ) × (items_at (read e n false) events size at ≡ Err x)) y
 sequence_err read events size (seq_shape e) nest mark at y h = elim (enter_err mark nest _ y h) [
   | no_such f ↦ no_such f
@@ -57,7 +57,7 @@ sequence_err read events size (seq_shape e) nest mark at y h = elim (enter_err m
 ]
 sequence_err read events size _ nest mark at y h = no_such cc
 
-mapping_err : (read : Reader) (events : Events) (size : ℕ) (s : PlainShape) (nest : ℕ) (mark : Position) (at : Spot) (y : Cause) → mapping_at read events size s nest mark at ≡ Err y
+pub mapping_err : (read : Reader) (events : Events) (size : ℕ) (s : PlainShape) (nest : ℕ) (mark : Position) (at : Spot) (y : Cause) → mapping_at read events size s nest mark at ≡ Err y
     → Refused mark nest (λ n x. (a : ℕ) × (b : ℕ) × (entries_at (read a n false) (read b n false) events size at ≡ Err x)) y
 mapping_err read events size (map_shape a b) nest mark at y h = elim (enter_err mark nest _ y h) [
   | no_such f ↦ no_such f
@@ -65,6 +65,11 @@ mapping_err read events size (map_shape a b) nest mark at y h = elim (enter_err 
   | within_parts n is f ↦ within_parts n is (a, b, wrap_err (entries_at (read a n false) (read b n false) events size at) map_data y f)
 ]
 mapping_err read events size _ nest mark at y h = no_such cc
+
+-- what a shape answers that may not be read yet
+pub by_read : (b : Bool) (r : Reading PlainData) (y : Cause) → (if b then r else Err not_built) ≡ Err y → ((b ≡ true) × (r ≡ Err y)) ⊎ ((b ≡ false) × (not_built ≡ y))
+by_read true r y h = inl (refl, h)
+by_read false r y h = inr (refl, cc)
 
 module _ (schema : List PlainShape) (events : Events) (size : ℕ) (root : DocNode) (root_shown : Shows events 0 (events_of root)) (known : (p j : ℕ) (m : Position) → events p ≡ Some (alias_to j, m) → (n : DocNode) × (node_of root j ≡ Some n)) (within : (p : ℕ) (e : PlainDocEvent × Position) → events p ≡ Some e → p < size) where
   -- with this fuel each refusal of a node is one of those
@@ -169,10 +174,6 @@ module _ (schema : List PlainShape) (events : Events) (size : ℕ) (root : DocNo
         | deep is ↦ subst (IsReadingFault schema events) is (too_deep at.place _ s.0.0 s.0.1 refl)
         | within_parts n is f ↦ faulty_pairs fuel faulty size ps f.0 f.1 n (after at) y (subst (λ q. Shows events q (events_of_pairs ps ++ mapping_ends ∷ [])) (omega arith) s.1) (omega (arith, is)) (omega arith) f.2
       ]
-
-  by_read : (b : Bool) (r : Reading PlainData) (y : Cause) → (if b then r else Err not_built) ≡ Err y → ((b ≡ true) × (r ≡ Err y)) ⊎ ((b ≡ false) × (not_built ≡ y))
-  by_read true r y h = inl (refl, h)
-  by_read false r y h = inr (refl, cc)
 
   by_shape : (fuel : ℕ) → IsFaulty fuel → (o : Option PlainShape) (n : DocNode) (id nest : ℕ) (taken : Bool) (at : Spot) (y : Cause) → shape_at schema id ≡ o → Shows events at.place (events_of n) → at.left + nest < suc fuel
       → node_step (node_at fuel schema events size) events size id nest taken at o (events at.place) ≡ Err y → IsReadingFault schema events y

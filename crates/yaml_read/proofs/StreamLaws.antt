@@ -5,14 +5,11 @@ use Rattle.yaml_base.specs.Position.{Position}
 use Rattle.yaml_base.specs.PlainEvent.{PlainEvent, stream_start, stream_end, document_start, document_end}
 use Rattle.yaml_base.specs.Stream.{documents_events, stream_events}
 use Rattle.yaml_base.specs.Tree.{Node, node_events, size_of, target, anchors_of}
-use Rattle.yaml_base.specs.declared.error.Cause.{Cause}
 use Rattle.yaml_read.specs.DocTree.{DocNode, events_of}
 use Rattle.yaml_read.specs.Documents.{Input, Find, find_in, known_events, unknown_mark, body, behind, is_ended, is_document_start}
-use Rattle.yaml_read.specs.Documents.{anchors_in, ending_of, document_from, documents_of, after_starts, void_document}
+use Rattle.yaml_read.specs.Documents.{anchors_in, ending_of, document_from, documents_of, after_starts}
 use Rattle.yaml_read.specs.Documents.{void_documents, last_mark}
 use Rattle.yaml_read.specs.MarkedEvents.{events_in}
-use Rattle.yaml_read.specs.PlainDocEvent.{PlainDocEvent}
-use Rattle.yaml_read.specs.PlainDocument.{PlainDocument}
 use Rattle.yaml_read.specs.Resolved.{resolved}
 use Rattle.yaml_read.specs.StreamLaw.{IsDocumentOf, AreDocumentsOf, AreStreamDocuments}
 use Rattle.yaml_read.proofs.DocumentLaws.{starts_behind}

@@ -1,5 +1,5 @@
 -- One turn of reading.
-use Rattle.std.proofs.Common.{◌≡◌, ℕ, zero, suc, ◌+◌, ◌<◌, Bool, true, false, List, [], ◌∷◌, ◌++◌, map, Option, Some, None, Result, Ok, Err, refl, sym, ap, subst, ◌∙◌, ◌-◌, arith, rules}
+use Rattle.std.proofs.Common.{◌≡◌, ℕ, zero, suc, ◌+◌, ◌<◌, Bool, true, false, List, [], ◌∷◌, ◌++◌, map, Some, None, Result, Ok, Err, refl, sym, ap, subst, ◌∙◌, ◌-◌, arith, rules}
 use Rattle.yaml_base.specs.Position.{Position}
 use Rattle.yaml_base.specs.Answer.{Fails, Gives}
 use Rattle.yaml_base.specs.declared.error.Cause.{Cause}
@@ -12,7 +12,7 @@ use Rattle.yaml_shape.specs.declared.data.Entry.{Entry, the_lemmas}
 use Rattle.yaml_read.specs.PlainDocEvent.{PlainDocEvent}
 use Rattle.yaml_read.specs.DocEventView.{doc_event_of}
 use Rattle.yaml_read.specs.Scalars.{is_read}
-use Rattle.yaml_read.specs.Reader.{Spot, Reading, no_meaning, not_built, ◌>>=◌, Events, after, is_sequence_end, is_mapping_end, items_step, entries_step, items_at, entries_at, pursue, ending, Reader, sequence_at, mapping_at, event_at, node_at}
+use Rattle.yaml_read.specs.Reader.{Spot, Reading, no_meaning, not_built, ◌>>=◌, Events, after, is_sequence_end, is_mapping_end, items_at, entries_at, pursue, ending, Reader, sequence_at, mapping_at, event_at, node_at}
 use Rattle.yaml_read.specs.declared.doc_event.DocEvent.{DocEvent}
 use Rattle.yaml_read.specs.declared.doc_event.DocEvent.TheVariants as event
 use Rattle.yaml_read.proofs.Before.{items_front, items_before, entries_front, entries_before}

@@ -1,12 +1,13 @@
 -- Reading a whole document.
-use Rattle.std.proofs.Common.{◌≡◌, ℕ, zero, suc, ◌+◌, ◌*◌, ◌<◌, ◌≤◌, ◌⊎◌, List, [], ◌∷◌, map, length, Option, Some, Result, Ok, Err, Bool, false, refl, sym, ap, subst, ◌∙◌, arith}
+use Rattle.std.proofs.Common.{◌≡◌, ℕ, suc, ◌+◌, ◌*◌, ◌<◌, ◌≤◌, ◌⊎◌, List, [], ◌∷◌, map, length, Result, Ok, Err, Bool, true, false, refl, sym, ap, subst, ◌∙◌, arith}
+use mathlib.Core.Logic.{inl, inr}
 use Rattle.std.specs.Prelude.{slice_get}
 use Rattle.std.proofs.lemmas.Option.{slice_get_within}
 use Rattle.std.proofs.lemmas.List.{length-map}
 use Rattle.yaml_base.specs.Position.{Position}
-use Rattle.yaml_base.specs.Answer.{Gives, Fails, is_memory}
+use Rattle.yaml_base.specs.Answer.{is_memory}
 use Rattle.yaml_base.specs.declared.error.Cause.{Cause}
-use Rattle.yaml_base.specs.declared.error.Cause.TheVariants.{Memory, RecursionLimitExceeded, RepetitionLimitExceeded}
+use Rattle.yaml_base.specs.declared.error.Cause.TheVariants.{Memory, EndOfStream}
 use Rattle.yaml_shape.specs.PlainShape.{PlainShape}
 use Rattle.yaml_shape.specs.PlainData.{PlainData}
 use Rattle.yaml_read.specs.PlainDocEvent.{PlainDocEvent}
@@ -21,6 +22,7 @@ use Rattle.yaml_read.proofs.Shown.{Shows}
 use Rattle.yaml_read.proofs.Outcomes.{Outcome, reads, deep, many, outcome}
 use Rattle.yaml_read.proofs.Sounds.{sound}
 use Rattle.yaml_read.proofs.Refusals.{faulty}
+use Rattle.yaml_read.proofs.CutRefusals.{node_refused, no_end}
 
 shift : (f : Events) (p : ℕ) (es : List PlainDocEvent) → Shows (λ q. f (suc q)) p es → Shows f (suc p) es
 shift f p [] s = tt
@@ -95,3 +97,27 @@ pub refusal_or_memory : {A : Type 0} (limits : PlainLimits) (n : ℕ) (r : Readi
     → (is_memory e ≡ false → r ≡ Err e) → IsRefusal limits n d k e
 refusal_or_memory limits n r v end d k Memory o f = tt
 refusal_or_memory limits n r v end d k e o f = refusal limits n r v end d k e o (f refl)
+
+no_memory : (fault : Cause) → is_memory fault ≡ true → fault ≡ EndOfStream → ⊥
+no_memory fault e h = let bad = rw h at e in absurd cc
+
+both_ways : (b : Bool) → b ≡ true → b ≡ false → ⊥
+both_ways b e f = let bad = sym e ∙ f in absurd cc
+
+-- what is told of a document that was cut off: what cut it off, or a fault that reading found
+pub told_or_found : (limits : PlainLimits) (schema : List PlainShape) (document : PlainDocument) (id : ℕ) (fault told cut : Cause)
+    → (fault ≡ EndOfStream → is_memory told ≡ false → told ≡ cut) → ((fault ≡ EndOfStream → ⊥) → told ≡ fault)
+    → (is_memory fault ≡ false → whole_reading limits schema document id ≡ Err fault) → is_memory told ≡ false
+    → (told ≡ cut) ⊎ IsReadingFault schema (slice_get document.events) told
+told_or_found limits schema document id fault told cut ended kept gives here = by_memory (is_memory fault) refl
+  where
+    by_memory : (b : Bool) → is_memory fault ≡ b → (told ≡ cut) ⊎ IsReadingFault schema (slice_get document.events) told
+    by_memory true e =
+        let is = kept (no_memory fault e) in
+        absurd (both_ways (is_memory told) (ap is_memory is ∙ e) here)
+    by_memory false e =
+        elim (node_refused schema (slice_get document.events) (length document.events) (limits.follows * length document.events + limits.nesting + 1) id limits.nesting false
+        (record { place = 0; left = limits.follows * length document.events }) fault (gives e)) [
+          | inl f ↦ inl (ended (sym f) here)
+          | inr f ↦ inr (subst (IsReadingFault schema (slice_get document.events)) (sym (kept (no_end f))) f)
+        ]

@@ -1,6 +1,7 @@
 -- What contracts of this crate, and of those above it, cite.
 pub mod AnchorTable
 pub mod Bodies
+pub mod CoreTags
 pub mod DocEventView
 pub mod DocTree
 pub mod Documents

@@ -1,5 +1,5 @@
 -- What a document gives, within limits, and how it may be refused where it has a meaning.
-use Rattle.std.specs.Prelude.{◌≡◌, ℕ, ◌*◌, ◌<◌, ◌≤◌, List, map, length, Option, Some, None, Bool, true, false, slice_get}
+use Rattle.std.specs.Prelude.{◌≡◌, ◌⊎◌, ℕ, ◌*◌, ◌<◌, ◌≤◌, List, map, Option, Some, None, Bool, true, false, slice_get}
 use Rattle.yaml_base.specs.Position.{Position}
 use Rattle.yaml_base.specs.declared.error.Cause.{Cause}
 use Rattle.yaml_base.specs.declared.error.Cause.TheVariants.{Memory, RecursionLimitExceeded, RepetitionLimitExceeded}
@@ -56,3 +56,7 @@ pub data IsReadingFault (schema : List PlainShape) (events : ℕ → Option (Pla
   too_often : (place target : ℕ) (mark : Position) → events place ≡ Some (alias_to target, mark) → IsReadingFault schema events RepetitionLimitExceeded
   meaningless : IsReadingFault schema events no_meaning
   not_yet : (id : ℕ) (shape : PlainShape) → shape_at schema id ≡ Some shape → is_read shape ≡ false → IsReadingFault schema events not_built
+
+-- how a document that was cut off is refused: by what cut it off, or by a fault that reading finds before that
+abbrev pub IsCutFault : List PlainShape → PlainDocument → (cut fault : Cause) → Type 0
+IsCutFault schema document cut fault = (fault ≡ cut) ⊎ IsReadingFault schema (slice_get document.events) fault

@@ -3,7 +3,7 @@
 mod node;
 mod scalar;
 
-ghost use Rattle.std.specs.Prelude.{◌≡◌, ℕ, ◌<◌, length, Ok, Some, None, OnOk, IfOk, IfErr, false, slice_get};
+ghost use Rattle.std.specs.Prelude.{◌≡◌, ◌≢◌, ℕ, ◌<◌, length, Ok, Some, None, OnOk, IfOk, IfErr, false, slice_get};
 ghost use Rattle.yaml_base.specs.Answer.{Gives, is_memory};
 ghost use Rattle.yaml_base.specs.declared.error.Cause.{Cause};
 ghost use Rattle.yaml_base.specs.declared.error.Cause.TheVariants.{EndOfStream};
@@ -11,7 +11,7 @@ ghost use Rattle.yaml_shape.specs.DataView.{data_of};
 ghost use Rattle.yaml_shape.specs.PlainData.{PlainData};
 ghost use Rattle.yaml_read.specs.DocTree.{DocNode};
 ghost use Rattle.yaml_read.specs.Meaning.{Means};
-ghost use Rattle.yaml_read.specs.Reads.{default_limits, IsTreeOf, Reads, IsRefusal, IsReadingFault};
+ghost use Rattle.yaml_read.specs.Reads.{default_limits, IsTreeOf, Reads, IsRefusal, IsReadingFault, IsCutFault};
 
 use crate::de::node::read_node;
 use crate::document::Document;
@@ -39,7 +39,8 @@ fn copied(fault: &Error, alloc: Global) -> Error
 
 // The fault that cut a document off, where its events came to an end; else the fault itself.
 fn told(fault: Error, ending: &Error, alloc: Global) -> Error
-    ensures { result ≡ EndOfStream → ending.now ≡ EndOfStream }
+    ensures ended { fault ≡ EndOfStream → is_memory result ≡ false → result ≡ ending.now }
+    ensures kept { fault ≢ EndOfStream → result ≡ fault }
 {
     if matches!(fault.cause(), Cause::EndOfStream) {
         return copied(ending, alloc);
@@ -68,8 +69,9 @@ impl<'de> Document<'de> {
         ensures faults { IfErr result (λ fault. (root : DocNode) → IsTreeOf self.now root → is_memory fault ≡ false
             → IsReadingFault schema.now (slice_get self.now.events) fault) }
 
-        // Where the events of a document that was cut off come to an end, what cut it off is told.
-        ensures cut { IfErr result (λ fault. (cause : Cause) → fault ≡ EndOfStream → self.now.ending ≡ Some cause → cause ≡ EndOfStream) }
+        // A document that was cut off is refused by what cut it off, or by a fault that reading finds before that.
+        ensures cut { IfErr result (λ fault. (cause : Cause) → self.now.ending ≡ Some cause → is_memory fault ≡ false
+            → IsCutFault schema.now self.now cause fault) }
     {
         let events = self.events();
         let mut walk = Walk {

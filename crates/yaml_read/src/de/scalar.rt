@@ -1,6 +1,6 @@
 //! A scalar, and the node of an empty stream, under a shape.
 
-ghost use Rattle.std.specs.Prelude.{◌≡◌, Ok, Err, Some, None, false};
+ghost use Rattle.std.specs.Prelude.{◌≡◌, false, Ok, Err};
 ghost use Rattle.std.specs.Option.{option_map, option_copied};
 ghost use Rattle.yaml_base.specs.Answer.{Gives, Fails};
 ghost use Rattle.yaml_base.specs.PlainEvent.{scalar_of};
@@ -8,12 +8,12 @@ ghost use Rattle.yaml_shape.specs.ShapeView.{shape_of};
 ghost use Rattle.yaml_shape.specs.DataView.{data_of};
 ghost use Rattle.yaml_shape.specs.PlainData.{bool_data, signed_data};
 ghost use Rattle.yaml_shape.specs.PlainShape.{bool_shape, integer_shape, i64, str_shape};
-ghost use Rattle.yaml_read.specs.Scalars.{is_read, is_plain, is_empty_plain, text_of, scalar_data, void_data};
+ghost use Rattle.yaml_read.specs.Scalars.{is_read, is_plain, is_literal, is_tag, is_plain_or_tagged_literal, is_empty_plain, text_of, scalar_data, void_data};
 ghost use Rattle.yaml_read.specs.Reader.{no_meaning, not_built, or_no_meaning};
 
 use std::alloc::Global;
 use yaml_base::{
-    Error, Result, Scalar, ScalarStyle, parse_bool, parse_borrowed_str, parse_signed_int,
+    Error, Result, Scalar, ScalarStyle, Tag, parse_bool, parse_borrowed_str, parse_signed_int,
 };
 use yaml_shape::{Data, Shape, Text};
 
@@ -53,6 +53,33 @@ fn is_plain(style: ScalarStyle) -> bool
     }
 }
 
+// Whether the scalar stands as a literal block.
+fn is_literal(style: ScalarStyle) -> bool
+    ensures { result ≡ is_literal style }
+{
+    match style {
+        ScalarStyle::Literal => true,
+        _ => false,
+    }
+}
+
+// Whether the tag is this one.
+fn is_tag(name: &str, tag: &Option<Tag>) -> bool
+    ensures { result ≡ is_tag name.now tag.now }
+{
+    match tag {
+        Some(tag) => tag.is(name),
+        None => false,
+    }
+}
+
+// Whether the scalar stands without quotes, or as a literal block that has just this tag, which is not taken.
+fn is_plain_or_tagged_literal(name: &str, taken: bool, scalar: &Scalar<'_>) -> bool
+    ensures { result ≡ is_plain_or_tagged_literal name.now taken (scalar_of scalar.now) }
+{
+    is_plain(scalar.style) || (is_literal(scalar.style) && !taken && is_tag(name, &scalar.tag))
+}
+
 // Whether the scalar stands without quotes and has no text.
 fn is_empty_plain(scalar: &Scalar<'_>) -> bool
     ensures { result ≡ is_empty_plain (scalar_of scalar.now) }
@@ -81,21 +108,23 @@ fn text_of<'a>(scalar: &'a Scalar<'_>) -> Option<&'a str>
     }
 }
 
-// The boolean that a plain scalar is a word for.
-fn boolean_of(scalar: &Scalar<'_>) -> Option<bool>
-    ensures { option_map bool_data result ≡ scalar_data bool_shape false (scalar_of scalar.now) }
+// The boolean that a scalar is a word for.
+#[tactic(auto, unfolding(crate::specs::CoreTags::bool_tag))]
+fn boolean_of(scalar: &Scalar<'_>, taken: bool) -> Option<bool>
+    ensures { option_map bool_data result ≡ scalar_data bool_shape taken (scalar_of scalar.now) }
 {
-    if !is_plain(scalar.style) {
+    if !is_plain_or_tagged_literal(Tag::BOOL, taken, scalar) {
         return None;
     }
     parse_bool(text_of(scalar)?)
 }
 
-// The integer of 64 bits that a plain scalar writes.
-fn integer_of(scalar: &Scalar<'_>) -> Option<i128>
-    ensures { option_map signed_data result ≡ scalar_data (integer_shape i64) false (scalar_of scalar.now) }
+// The integer of 64 bits that a scalar writes.
+#[tactic(auto, unfolding(crate::specs::CoreTags::int_tag))]
+fn integer_of(scalar: &Scalar<'_>, taken: bool) -> Option<i128>
+    ensures { option_map signed_data result ≡ scalar_data (integer_shape i64) taken (scalar_of scalar.now) }
 {
-    if !is_plain(scalar.style) {
+    if !is_plain_or_tagged_literal(Tag::INT, taken, scalar) {
         return None;
     }
     parse_signed_int(text_of(scalar)?, i64::MIN as i128, i64::MAX as i128)
@@ -118,17 +147,17 @@ fn read_text<'de>(alloc: Global, scalar: &Scalar<'de>) -> Result<Data<'de>>
 pub(super) fn read_scalar<'de>(
     alloc: Global,
     shape: &Shape,
-    _taken: bool,
+    taken: bool,
     scalar: &Scalar<'de>,
 ) -> Result<Data<'de>>
-    ensures { Gives data_of result (or_no_meaning (scalar_data (shape_of shape.now) _taken (scalar_of scalar.now))) }
+    ensures { Gives data_of result (or_no_meaning (scalar_data (shape_of shape.now) taken (scalar_of scalar.now))) }
 {
     match shape {
-        Shape::Bool => match boolean_of(scalar) {
+        Shape::Bool => match boolean_of(scalar, taken) {
             Some(boolean) => Ok(Data::Bool(boolean)),
             None => no_meaning(alloc),
         },
-        Shape::I64 => match integer_of(scalar) {
+        Shape::I64 => match integer_of(scalar, taken) {
             Some(integer) => Ok(Data::Signed(integer)),
             None => no_meaning(alloc),
         },

@@ -41,9 +41,12 @@ fn name(alloc: Global, number: u32) -> Result<Anchor, AllocError> {
     Ok(Anchor::new(bytes))
 }
 
-#[test]
-fn many_anchors(rt: HostRuntime) -> Result<(), Fail> {
-    let alloc = rt.alloc();
+// The events of a document that is cut off behind so many nodes, each with an anchor of its own and an alias within.
+fn anchored(
+    alloc: Global,
+    count: u32,
+    falling: bool,
+) -> Result<Vec<(Event<'static>, Mark)>, AllocError> {
     let mut events = Vec::new(alloc);
     events.push((Event::StreamStart, mark(0)))?;
     events.push((Event::DocumentStart, mark(1)))?;
@@ -52,20 +55,57 @@ fn many_anchors(rt: HostRuntime) -> Result<(), Fail> {
         tag: None,
     };
     events.push((Event::SequenceStart(start), mark(2)))?;
-    for number in 0..100_000u32 {
+    for place in 0..count {
+        let number = if falling { count - place } else { place };
         let start = SequenceStart {
-            anchor: Some(name(alloc, 100_000 - number)?),
+            anchor: Some(name(alloc, number)?),
             tag: None,
         };
         events.push((Event::SequenceStart(start), mark(3)))?;
-        events.push((Event::Alias(name(alloc, 100_000 - number)?), mark(4)))?;
+        events.push((Event::Alias(name(alloc, number)?), mark(4)))?;
         events.push((Event::SequenceEnd, mark(5)))?;
     }
-    let mut loader = Loader::new(alloc, events, Some(fault(alloc)?))?;
-    let Some(document) = loader.next_document() else {
-        return Err(Fail::new("no document"));
-    };
-    assert_eq!(rt; document.events().len(), 300_001);
+    Ok(events)
+}
+
+#[test]
+fn many_anchors(rt: HostRuntime) -> Result<(), Fail> {
+    let alloc = rt.alloc();
+    for falling in [false, true] {
+        let events = anchored(alloc, 100_000, falling)?;
+        let mut loader = Loader::new(alloc, events, Some(fault(alloc)?))?;
+        let Some(document) = loader.next_document() else {
+            return Err(Fail::new("no document"));
+        };
+        assert_eq!(rt; document.events().len(), 300_001);
+        assert!(rt; loader.next_document().is_none());
+    }
+    Ok(())
+}
+
+#[test]
+fn many_documents(rt: HostRuntime) -> Result<(), Fail> {
+    let alloc = rt.alloc();
+    let mut events = Vec::new(alloc);
+    events.push((Event::StreamStart, mark(0)))?;
+    for _ in 0..100_000 {
+        events.push((Event::DocumentStart, mark(1)))?;
+        let start = SequenceStart {
+            anchor: None,
+            tag: None,
+        };
+        events.push((Event::SequenceStart(start), mark(2)))?;
+        events.push((Event::SequenceEnd, mark(3)))?;
+        events.push((Event::DocumentEnd, mark(4)))?;
+    }
+    events.push((Event::StreamEnd, mark(5)))?;
+    let mut loader = Loader::new(alloc, events, None)?;
+    for number in 0..100_000 {
+        let Some(document) = loader.next_document() else {
+            return Err(Fail::new("too few documents"));
+        };
+        assert_eq!(rt; document.events().len(), 2, "{number}");
+    }
     assert!(rt; loader.next_document().is_none());
     Ok(())
 }

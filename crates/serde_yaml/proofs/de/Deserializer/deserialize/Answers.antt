@@ -3,7 +3,7 @@ use Rattle.std.proofs.Common.{ap, ◌∙◌}
 use Rattle.yaml_shape.specs.DataView.{data_of}
 use Rattle.yaml_read.specs.Reads.{default_limits}
 use Rattle.serde_yaml.specs.StreamView.{documents_in}
-use Rattle.serde_yaml.proofs.FirstDocument.{splits_one, splits_stream, whole_of, found_of, only_of, more_of, refused_of, faults_of}
+use Rattle.serde_yaml.proofs.FirstDocument.{splits_one, splits_stream, whole_of, found_of, only_of, more_of, refused_of, faults_of, cut_of}
 use Rattle.serde_yaml.proofs.de.Deserializer.deserialize.Goals as goal
 
 pub returns-in-One-clause-whole : goal.returns-in-One-clause-whole
@@ -30,6 +30,11 @@ pub returns-in-One-clause-faults : goal.returns-in-One-clause-faults
 returns-in-One-clause-faults c =
     faults_of _ _ _ _ (splits_one c.self.view_is c.if-iterated.false (ap documents_in c.in-One.is))
     default_limits c.args.schema.now c.args.id.0 c.read_first.result c.read_first.ensures.faults
+
+pub returns-in-One-clause-cut : goal.returns-in-One-clause-cut
+returns-in-One-clause-cut c =
+    cut_of _ _ _ _ (splits_one c.self.view_is c.if-iterated.false (ap documents_in c.in-One.is))
+    default_limits c.args.schema.now c.args.id.0 c.read_first.result c.read_first.ensures.cut
 
 pub returns-in-Some-clause-whole : goal.returns-in-Some-clause-whole
 returns-in-Some-clause-whole c =
@@ -66,3 +71,9 @@ returns-in-Some-clause-faults c =
     faults_of _ _ _ _ (splits_stream c.next_document-in-Some.result c.next_document-in-Some.new.self c.self.view_is c.if-iterated.false (ap documents_in c.in-Stream.is ∙ c.in-Some.ensures.items)
     c.next_document-in-Some.ensures.items c.next_document-in-Some.ensures.none c.is_there-others.ensures)
     default_limits c.args.schema.now c.args.id.0 c.read_first-in-Some.result c.read_first-in-Some.ensures.faults
+
+pub returns-in-Some-clause-cut : goal.returns-in-Some-clause-cut
+returns-in-Some-clause-cut c =
+    cut_of _ _ _ _ (splits_stream c.next_document-in-Some.result c.next_document-in-Some.new.self c.self.view_is c.if-iterated.false (ap documents_in c.in-Stream.is ∙ c.in-Some.ensures.items)
+    c.next_document-in-Some.ensures.items c.next_document-in-Some.ensures.none c.is_there-others.ensures)
+    default_limits c.args.schema.now c.args.id.0 c.read_first-in-Some.result c.read_first-in-Some.ensures.cut

@@ -1,18 +1,16 @@
 -- What the reader's functions give at each exit.
-use Rattle.std.proofs.Common.{Ok, Err, Some, ◌≡◌, ℕ, suc, ◌+◌, ◌-◌, ◌<◌, List, [], ◌∷◌, ◌++◌, length, false, refl, sym, ap, ◌∙◌, arith, rules, length-append}
+use Rattle.std.proofs.Common.{Ok, Err, ◌≡◌, ℕ, suc, ◌+◌, ◌-◌, ◌<◌, [], ◌∷◌, ◌++◌, length, false, sym, ap, ◌∙◌, arith, rules, length-append}
 use Rattle.std.specs.Prelude.{slice_get}
 use mathlib.Core.Logic.{inl, inr}
-use Rattle.yaml_base.specs.declared.error.Cause.TheVariants.{EndOfStream}
-use Rattle.yaml_shape.specs.ShapeView.{shape_of}
 use Rattle.yaml_shape.specs.DataView.{data_of, items_view, entries_view}
 use Rattle.yaml_shape.specs.PlainData.{PlainData, seq_data, map_data, entry}
 use Rattle.yaml_shape.specs.declared.data.Data.{Seq, Map, the_lemmas}
 use Rattle.yaml_shape.specs.declared.data.Entry.{Entry}
 use Rattle.yaml_read.specs.DocEventView.{doc_event_of, marked_events_of}
-use Rattle.yaml_read.specs.Reader.{Spot, ◌>>=◌, after, is_sequence_end, is_mapping_end, items_at, entries_at, sequence_at, mapping_at, node_at}
+use Rattle.yaml_read.specs.Reader.{Spot, ◌>>=◌, after, is_sequence_end, is_mapping_end, items_at, entries_at, node_at}
 use Rattle.yaml_read.specs.Walks.{spot_of}
 use Rattle.yaml_read.proofs.Before.{items_before, entries_before}
-use Rattle.yaml_read.proofs.Turns.{same_spot, gives_fault, gives_ending_at, fails_on, pursue_many, pursue_fails, pursue_finds, node_shapeless, node_unread, node_ended, node_event, sequence_fails, sequence_finds, mapping_fails, mapping_finds, not_sequence_end, not_mapping_end, items_ended, items_end, items_fail, items_more, items_before_one, items_before_end, entries_ended, entries_end, entries_no_key, entries_no_value, entries_more, entries_before_one, entries_before_end, entry_is}
+use Rattle.yaml_read.proofs.Turns.{same_spot, gives_fault, gives_ending_at, pursue_many, pursue_fails, pursue_finds, node_shapeless, node_unread, node_ended, node_event, sequence_fails, sequence_finds, mapping_fails, mapping_finds, not_sequence_end, not_mapping_end, items_ended, items_end, items_fail, items_more, items_before_one, items_before_end, entries_ended, entries_end, entries_no_key, entries_no_value, entries_more, entries_before_one, entries_before_end, entry_is}
 use Rattle.yaml_read.proofs.de.node.+read.Goals as goal
 
 pub read_node-returns-in_default-clause-gives : goal.read_node-returns-in_default-clause-gives

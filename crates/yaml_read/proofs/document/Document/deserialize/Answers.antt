@@ -1,9 +1,8 @@
 -- What a document gives, from what its reading gives.
-use Rattle.std.proofs.Common.{◌≡◌, ℕ, ◌*◌, length, Ok, Err, sym, ap}
+use Rattle.std.proofs.Common.{◌≡◌, length, Ok, Some, sym, ap, ◌∙◌}
 use Rattle.yaml_shape.specs.DataView.{data_of}
 use Rattle.yaml_read.specs.Reads.{default_limits}
-use Rattle.yaml_read.specs.Walks.{spot_of}
-use Rattle.yaml_read.proofs.Whole.{seen_whole, whole_reading, means_only, read_only, refused_only, answered, never_refused, refusal_or_memory}
+use Rattle.yaml_read.proofs.Whole.{seen_whole, whole_reading, means_only, read_only, refused_only, told_or_found, answered, never_refused, refusal_or_memory}
 use Rattle.yaml_read.proofs.document.Document.deserialize.Goals as goal
 
 pub returns-in-None-clause-found : goal.returns-in-None-clause-found
@@ -33,3 +32,11 @@ pub returns-in-None-error-clause-faults : goal.returns-in-None-error-clause-faul
 returns-in-None-error-clause-faults c = λ root is fault.
     refused_only default_limits c.args.schema.now c.args.self.now root is c.args.id.0 c.in-Err.fault
     (seen_whole default_limits c.args.schema.now c.args.self.now c.args.id.0 c.events-events.result.now _ c.events-events.ensures (λ fuel lt. c.in-Err.ensures.gives fuel lt fault))
+
+pub returns-clause-cut : goal.returns-clause-cut
+returns-clause-cut c = λ cause cut here.
+    let copy : Some c.in-Some-error.ending.now ≡ Some cause = (rw c.in-Some-error.is at c.error-in-Err.ensures) ∙ cut in
+    let same : c.in-Some-error.ending.now ≡ cause = cc in
+    told_or_found default_limits c.args.schema.now c.args.self.now c.args.id.0 c.in-Err.fault c.told.result cause
+    (λ e h. c.told.ensures.ended e h ∙ same) c.told.ensures.kept
+    (λ fault. seen_whole default_limits c.args.schema.now c.args.self.now c.args.id.0 c.events-events.result.now _ c.events-events.ensures (λ fuel lt. c.in-Err.ensures.gives fuel lt fault)) here

@@ -1,5 +1,5 @@
 -- The range that comes next lies within the events, and its document is put behind those so far.
-use Rattle.std.proofs.Common.{◌∷◌, length, ap, sym, subst, arith}
+use Rattle.std.proofs.Common.{ap, sym, subst, arith}
 use Rattle.std.specs.Vec.Iter.{into_iter_items}
 use Rattle.std.proofs.lemmas.List.Elements.{All-tail}
 use Rattle.yaml_read.specs.Gathering.{AreCuts, HasEnds}

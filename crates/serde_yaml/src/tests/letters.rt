@@ -1,0 +1,72 @@
+//! Short texts for events.
+//!
+//! `S` and `E` are the start and the end of the stream, `(` and `)` of a document, brackets and braces those of collections. Any other
+//! letter or digit is a plain scalar with that text, `&a` an anchor for the node that follows, and `*a` an alias. The mark of an event has its
+//! place in the list as its column.
+
+use super::events::at;
+use std::alloc::{AllocError, Global};
+use std::test::Fail;
+use yaml_base::{Anchor, Event, MappingStart, Mark, Scalar, ScalarStyle, SequenceStart};
+
+fn bytes(alloc: Global, letter: u8) -> Result<Vec<u8>, AllocError> {
+    let mut bytes = Vec::new(alloc);
+    bytes.push(letter)?;
+    Ok(bytes)
+}
+
+// The event of a letter.
+fn event(alloc: Global, letter: u8, anchor: Option<Anchor>) -> Result<Event<'static>, AllocError> {
+    Ok(match letter {
+        b'S' => Event::StreamStart,
+        b'E' => Event::StreamEnd,
+        b'(' => Event::DocumentStart,
+        b')' => Event::DocumentEnd,
+        b'[' => Event::SequenceStart(SequenceStart { anchor, tag: None }),
+        b']' => Event::SequenceEnd,
+        b'{' => Event::MappingStart(MappingStart { anchor, tag: None }),
+        b'}' => Event::MappingEnd,
+        _ => Event::Scalar(Scalar {
+            anchor,
+            tag: None,
+            value: bytes(alloc, letter)?,
+            style: ScalarStyle::Plain,
+            repr: None,
+        }),
+    })
+}
+
+/// The events of a text.
+pub fn events(alloc: Global, text: &str) -> Result<Vec<(Event<'static>, Mark)>, Fail> {
+    let mut events = Vec::new(alloc);
+    let mut sign = b' ';
+    let mut anchor = None;
+    let mut column = 0;
+    for &letter in text.as_bytes() {
+        match sign {
+            b'&' => {
+                anchor = Some(Anchor::new(bytes(alloc, letter)?));
+                sign = b' ';
+            }
+            b'*' => {
+                let alias = Event::Alias(Anchor::new(bytes(alloc, letter)?));
+                events
+                    .push((alias, at(0, column)?))
+                    .map_err(AllocError::from)?;
+                column = (column + 1) % 1_000;
+                sign = b' ';
+            }
+            _ => match letter {
+                b'&' | b'*' => sign = letter,
+                _ => {
+                    let found = event(alloc, letter, anchor.take())?;
+                    events
+                        .push((found, at(0, column)?))
+                        .map_err(AllocError::from)?;
+                    column = (column + 1) % 1_000;
+                }
+            },
+        }
+    }
+    Ok(events)
+}
