@@ -1,11 +1,13 @@
 //! Streams of several documents, of none, and of documents that were cut off.
 
+ghost use Rattle.std.specs.Prelude.{◌<◌, length};
+
 use super::events::at;
 use super::letters::events;
 use crate::Deserializer;
 use std::alloc::{AllocError, Global};
 use std::test::Fail;
-use yaml_base::{FaultKind, ParserFault};
+use yaml_base::{Error, FaultKind, ParserFault};
 use yaml_shape::{Data, Schema, Shape, ShapeId};
 
 // The shapes of the tests, by their numbers.
@@ -88,6 +90,12 @@ fn write_data(data: &Data<'_>, out: &mut Vec<u8>) -> Result<(), AllocError> {
     }
 }
 
+// Writes the message of a fault.
+fn write_fault(alloc: Global, fault: &Error, out: &mut Vec<u8>) -> Result<(), AllocError> {
+    let message = fault.to_string(alloc)?;
+    Ok(out.extend_from_slice(message.as_str().as_bytes())?)
+}
+
 // Writes what reading gives, the data or the message of the fault.
 fn write_reading(
     alloc: Global,
@@ -95,15 +103,34 @@ fn write_reading(
     schema: &Schema,
     id: ShapeId,
     out: &mut Vec<u8>,
-) -> Result<(), Fail> {
-    if !schema.has(id) {
-        return Err("no shape")?;
-    }
+) -> Result<(), AllocError>
+    requires { id.0 < length schema.now }
+{
     match stream.deserialize(alloc, schema, id) {
-        Ok(data) => write_data(&data, out)?,
-        Err(fault) => out.extend_from_slice(fault.to_string(alloc)?.as_str().as_bytes())?,
+        Ok(data) => write_data(&data, out),
+        Err(fault) => write_fault(alloc, &fault, out),
     }
-    Ok(())
+}
+
+// What the stream of a text reads as under a shape.
+fn reading_of(
+    alloc: Global,
+    text: &str,
+    faulted: bool,
+    schema: &Schema,
+    id: ShapeId,
+) -> Result<Vec<u8>, Fail>
+    requires { id.0 < length schema.now }
+{
+    let mut out = Vec::new(alloc);
+    write_reading(
+        alloc,
+        stream_of(alloc, text, faulted)?,
+        schema,
+        id,
+        &mut out,
+    )?;
+    Ok(out)
 }
 
 #[test]
@@ -155,22 +182,35 @@ fn the_first_document_is_read_alone(rt: HostRuntime) -> Result<(), Fail> {
     Ok(())
 }
 
-// What each document of a stream is read as under a shape, four of them or a dash where there is none.
+// Writes what the next document reads as under a shape, or a dash where there is none.
+fn write_next(
+    alloc: Global,
+    stream: &mut Deserializer<'_>,
+    schema: &Schema,
+    id: ShapeId,
+    out: &mut Vec<u8>,
+) -> Result<(), AllocError>
+    requires { id.0 < length schema.now }
+{
+    match stream.next() {
+        Some(document) => write_reading(alloc, document, schema, id, out),
+        None => Ok(out.push(b'-')?),
+    }
+}
+
+// What the first four documents of a stream read as, each under its shape.
 fn four_documents(
     alloc: Global,
-    text: &str,
-    faulted: bool,
+    stream: &mut Deserializer<'_>,
     schema: &Schema,
     shapes: [ShapeId; 4],
 ) -> Result<Vec<u8>, Fail> {
-    let mut stream = stream_of(alloc, text, faulted)?;
     let mut out = Vec::new(alloc);
     for id in shapes {
-        match stream.next() {
-            Some(document) => write_reading(alloc, document, schema, id, &mut out)?,
-            None => out.push(b'-')?,
+        if schema.has(id) {
+            write_next(alloc, stream, schema, id, &mut out)?;
+            out.push(b';')?;
         }
-        out.push(b';')?;
     }
     Ok(out)
 }
@@ -226,29 +266,60 @@ fn documents_come_one_by_one(rt: HostRuntime) -> Result<(), Fail> {
         ),
     ];
     for (text, faulted, shapes, expected) in rows {
-        let out = four_documents(alloc, text, faulted, &schema, shapes)?;
+        let mut stream = stream_of(alloc, text, faulted)?;
+        let out = four_documents(alloc, &mut stream, &schema, shapes)?;
         assert!(rt; out.as_slice() == expected.as_bytes(), "{text}");
     }
     Ok(())
+}
+
+// A stream whose first document was given.
+fn gone_through<'de>(stream: Deserializer<'de>) -> Deserializer<'de> {
+    let mut stream = stream;
+    let _first = stream.next();
+    stream
+}
+
+// The second document of a stream that is then let go.
+fn second_of<'de>(stream: Deserializer<'de>) -> Option<Deserializer<'de>> {
+    let mut stream = gone_through(stream);
+    stream.next()
+}
+
+// A document, of which nothing more is given.
+fn asked_for_more<'de>(document: Deserializer<'de>) -> Option<Deserializer<'de>> {
+    let mut document = document;
+    match document.next() {
+        Some(_) => None,
+        None => Some(document),
+    }
 }
 
 #[test]
 fn a_document_outlives_its_stream(rt: HostRuntime) -> Result<(), Fail> {
     let alloc = rt.alloc();
     let schema = schema(alloc)?;
-    let mut stream = stream_of(alloc, "S(&a1)([&a2*a])(*a)E", false)?;
-    assert!(rt; stream.next().is_some());
-    let Some(mut second) = stream.next() else {
-        return Err("no second document")?;
-    };
-    // The stream was gone through, so it is not read as one document any more.
+    assert!(rt; schema.has(LIST));
+    let stream = stream_of(alloc, "S(&a1)([&a2*a])(*a)E", false)?;
     let mut out = Vec::new(alloc);
-    write_reading(alloc, stream, &schema, INTEGER, &mut out)?;
-    assert!(rt; out.as_slice() == MORE.as_bytes());
-    // Its document is still there, gives no further document, and is read on its own.
-    assert!(rt; second.next().is_none());
-    let mut out = Vec::new(alloc);
-    write_reading(alloc, second, &schema, LIST, &mut out)?;
+    match second_of(stream).and_then(asked_for_more) {
+        Some(second) => write_reading(alloc, second, &schema, LIST, &mut out)?,
+        None => out.push(b'-')?,
+    }
     assert!(rt; out.as_slice() == b"[22]".as_slice());
+    Ok(())
+}
+
+#[test]
+fn a_stream_is_not_read_once_gone_through(rt: HostRuntime) -> Result<(), Fail> {
+    let alloc = rt.alloc();
+    let schema = schema(alloc)?;
+    assert!(rt; schema.has(INTEGER));
+    for text in ["SE", "S(1)E", "S(1)(2)E"] {
+        let mut out = Vec::new(alloc);
+        let stream = gone_through(stream_of(alloc, text, false)?);
+        write_reading(alloc, stream, &schema, INTEGER, &mut out)?;
+        assert!(rt; out.as_slice() == MORE.as_bytes(), "{text}");
+    }
     Ok(())
 }

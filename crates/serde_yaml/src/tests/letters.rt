@@ -41,8 +41,8 @@ pub fn events(alloc: Global, text: &str) -> Result<Vec<(Event<'static>, Mark)>, 
     let mut events = Vec::new(alloc);
     let mut sign = b' ';
     let mut anchor = None;
-    let mut column = 0;
     for &letter in text.as_bytes() {
+        let column = (events.len() % 1_000) as u64;
         match sign {
             b'&' => {
                 anchor = Some(Anchor::new(bytes(alloc, letter)?));
@@ -53,7 +53,6 @@ pub fn events(alloc: Global, text: &str) -> Result<Vec<(Event<'static>, Mark)>, 
                 events
                     .push((alias, at(0, column)?))
                     .map_err(AllocError::from)?;
-                column = (column + 1) % 1_000;
                 sign = b' ';
             }
             _ => match letter {
@@ -63,7 +62,6 @@ pub fn events(alloc: Global, text: &str) -> Result<Vec<(Event<'static>, Mark)>, 
                     events
                         .push((found, at(0, column)?))
                         .map_err(AllocError::from)?;
-                    column = (column + 1) % 1_000;
                 }
             },
         }

@@ -119,26 +119,49 @@ fn show_document(document: &Document<'_>, out: &mut Vec<u8>) -> Result<(), Alloc
     Ok(())
 }
 
+// Writes the next document, if there is one.
+fn show_next(loader: &mut Loader<'_>, out: &mut Vec<u8>) -> Result<(), AllocError> {
+    match loader.next_document() {
+        Some(document) => show_document(&document, out),
+        None => Ok(()),
+    }
+}
+
+// Writes the first documents.
+fn show_documents(loader: &mut Loader<'_>, out: &mut Vec<u8>) -> Result<(), AllocError> {
+    for _ in 0..8 {
+        show_next(loader, out)?;
+    }
+    Ok(())
+}
+
+// Writes where a list is wrong.
+fn show_wrong(error: &Error, out: &mut Vec<u8>) -> Result<(), AllocError> {
+    if let Cause::NotAStream(place) = error.cause() {
+        out.push(b'#')?;
+        out.push(capital(*place as u64))?;
+    }
+    Ok(())
+}
+
+// Writes the documents of events, or where they are wrong.
+fn show_input(
+    alloc: Global,
+    events: Vec<(Event<'_>, Mark)>,
+    fault: Option<ParserFault>,
+    out: &mut Vec<u8>,
+) -> Result<(), AllocError> {
+    match Loader::new(alloc, events, fault) {
+        Ok(mut loader) => show_documents(&mut loader, out),
+        Err(error) => show_wrong(&error, out),
+    }
+}
+
 // The documents of a text of events, or where it is wrong.
-pub(crate) fn show(alloc: Global, text: &[u8], faulted: bool) -> Result<Vec<u8>, Error> {
+pub(crate) fn show(alloc: Global, text: &[u8], faulted: bool) -> Result<Vec<u8>, AllocError> {
+    let events = events(alloc, text)?;
     let fault = if faulted { Some(fault(alloc)?) } else { None };
     let mut out = Vec::new(alloc);
-    match Loader::new(alloc, events(alloc, text)?, fault) {
-        Ok(loader) => {
-            let mut loader = loader;
-            for _ in 0..8 {
-                if let Some(document) = loader.next_document() {
-                    show_document(&document, &mut out)?;
-                }
-            }
-        }
-        Err(error) => match error.cause() {
-            Cause::NotAStream(place) => {
-                out.push(b'#')?;
-                out.push(capital(*place as u64))?;
-            }
-            _ => return Err(error),
-        },
-    }
+    show_input(alloc, events, fault, &mut out)?;
     Ok(out)
 }
