@@ -1,5 +1,5 @@
 -- What reading any events may be refused by, also where they are the events of no tree.
-use Rattle.std.proofs.Common.{◌≡◌, ℕ, zero, suc, ◌⊎◌, List, Option, Some, None, Result, Ok, Err, Bool, true, false, refl, sym, subst, ◌∙◌}
+use Rattle.std.proofs.Common.{◌≡◌, ℕ, zero, suc, ◌⊎◌, List, Option, Some, None, Ok, Err, Bool, true, false, refl, sym, subst, ◌∙◌}
 use Rattle.std.specs.Prelude.{if◌then◌else◌}
 use mathlib.Core.Logic.{inl, inr}
 use Rattle.yaml_base.specs.Position.{Position}
@@ -11,7 +11,7 @@ use Rattle.yaml_read.specs.PlainDocEvent.{PlainDocEvent, alias_to, a_scalar, seq
 use Rattle.yaml_read.specs.Scalars.{is_read, scalar_data, void_data}
 use Rattle.yaml_read.specs.Reader.{Spot, Reading, Events, no_meaning, not_built, after, is_sequence_end, is_mapping_end, items_step, entries_step, items_at, entries_at, shape_step, node_step, node_at}
 use Rattle.yaml_read.specs.Reads.{IsReadingFault, too_deep, too_often, meaningless, not_yet}
-use Rattle.yaml_read.proofs.Refusals.{bind_err, wrap_err, ended_err, pursue_err, Refused, no_such, deep, within_parts, sequence_err, mapping_err, by_read}
+use Rattle.yaml_read.proofs.Refusals.{bind_err, wrap_err, ended_err, pursue_err, no_such, deep, within_parts, sequence_err, mapping_err, by_read}
 
 by_end : {A : Type 0} (b : Bool) (x : A × Spot) (r : Reading A) (y : Cause) → (if b then Ok x else r) ≡ Err y → r ≡ Err y
 by_end true x r y h = absurd cc
