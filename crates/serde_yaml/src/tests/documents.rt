@@ -169,14 +169,8 @@ fn the_first_document_is_read_alone(rt: HostRuntime) -> Result<(), Fail> {
         ("S(x)(1)E", false, INTEGER, "not a value of its shape"),
     ];
     for (text, faulted, id, expected) in rows {
-        let mut out = Vec::new(alloc);
-        write_reading(
-            alloc,
-            stream_of(alloc, text, faulted)?,
-            &schema,
-            id,
-            &mut out,
-        )?;
+        assert!(rt; schema.has(id));
+        let out = reading_of(alloc, text, faulted, &schema, id)?;
         assert!(rt; out.as_slice() == expected.as_bytes(), "{text}");
     }
     Ok(())
