@@ -1,20 +1,24 @@
 -- What a stream's answer says of the input's events.
-use Rattle.std.proofs.Common.{◌≡◌, [], ◌∷◌, List, Option, is_some, length, refl, subst, sym, ap, ◌∙◌, false}
+use Rattle.std.proofs.Common.{◌≡◌, ℕ, [], ◌∷◌, List, Option, Some, is_some, length, refl, subst, sym, ap, ◌∙◌, false}
 use Rattle.yaml_base.specs.Position.{Position}
 use Rattle.yaml_base.specs.PlainEvent.{event_of}
 use Rattle.yaml_base.specs.PlainFault.{PlainFault}
 use Rattle.yaml_base.specs.Stream.{IsWellFormed}
+use Rattle.yaml_base.specs.declared.error.Cause.{Cause}
+use Rattle.yaml_base.specs.declared.error.Cause.TheVariants.{NotAStream}
 use Rattle.yaml_base.specs.declared.event.Event.{Event}
 use Rattle.yaml_read.specs.DocTree.{DocNode}
 use Rattle.yaml_read.specs.Documents.{documents_of}
 use Rattle.yaml_read.specs.MarkedEvents.{events_in, plain_events, plain_marked}
 use Rattle.yaml_read.specs.PlainDocument.{PlainDocument}
-use Rattle.yaml_read.specs.Reads.{default_limits, IsTreeOf, Reads}
+use Rattle.yaml_read.specs.Reads.{default_limits, IsTreeOf, Reads, IsCutFault}
+use Rattle.yaml_read.specs.WrongPlace.{IsWrongAt}
 use Rattle.yaml_shape.specs.PlainData.{PlainData}
 use Rattle.yaml_shape.specs.PlainShape.{PlainShape}
 use Rattle.serde_yaml.specs.PlainStream.{PlainStream}
-use Rattle.serde_yaml.specs.StreamReads.{Begins, IsOneWhole}
-use Rattle.yaml_case.specs.Reading.{IsReadAs}
+use Rattle.serde_yaml.specs.StreamReads.{Begins, IsOneWhole, IsFirstFault}
+use Rattle.yaml_case.specs.Reading.{IsReadAs, IsRefusedAs, IsFaultOf}
+use Rattle.yaml_case.specs.Reading.IsRefusedAs.{no_stream, no_data}
 
 events_again : (events : List (Event × Position)) → events_in (plain_marked events) ≡ plain_events events
 events_again [] = refl
@@ -34,3 +38,31 @@ read_as table events fault value stream good is one reads = record {
   whole = one.whole;
   reads = λ tree t. reads one.document tree one.begins t;
 }
+
+pub refused_stream : (table : List PlainShape) (events : List (Event × Position)) (fault : Option PlainFault) (cause : Cause)
+    → (place : ℕ) × (cause ≡ NotAStream place) × IsWrongAt (is_some fault) (plain_events events) place
+    → IsRefusedAs table (plain_marked events) fault cause
+refused_stream table events fault cause wrong =
+    no_stream wrong.0 (subst (λ es. IsWrongAt (is_some fault) es wrong.0) (sym (events_again events)) wrong.2) wrong.1
+
+pub refused_data : (table : List PlainShape) (events : List (Event × Position)) (fault : Option PlainFault) (cause : Cause) (stream : PlainStream)
+    → IsWellFormed (is_some fault) (plain_events events)
+    → stream ≡ record { documents = documents_of (plain_marked events) fault; is_document = false; iterated = false }
+    → ((document : PlainDocument) (others : List PlainDocument) (tree : DocNode) → Begins stream document others → IsTreeOf document tree
+    → IsFirstFault default_limits table 0 document tree others cause)
+    → ((document : PlainDocument) (others : List PlainDocument) (cut : Cause) → Begins stream document others → document.ending ≡ Some cut
+    → IsCutFault table document cut cause)
+    → ((document : PlainDocument) (tree : DocNode) (value : PlainData) → Begins stream document [] → IsTreeOf document tree
+    → Reads default_limits table 0 tree (length document.events) value → ⊥)
+    → IsRefusedAs table (plain_marked events) fault cause
+refused_data table events fault cause stream good is faults cuts never =
+    no_data (subst (λ es. IsWellFormed (is_some fault) es) (sym (events_again events)) good) (λ document others given.
+    let begins : Begins stream document others = record {
+      fresh = ap (λ (s : PlainStream). s.iterated) is;
+      documents = ap (λ (s : PlainStream). s.documents) is ∙ given;
+    } in
+    record {
+      of_tree = λ tree t. faults document others tree begins t;
+      of_cut = λ cut e. cuts document others cut begins e;
+      never = λ tree value alone t r. never document tree value (subst (λ os. Begins stream document os) alone begins) t r;
+    })

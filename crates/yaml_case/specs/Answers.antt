@@ -8,7 +8,7 @@ use Rattle.yaml_case.specs.declared.status.Status.{Status}
 use Rattle.yaml_case.specs.declared.status.Status.TheVariants as status
 use Rattle.yaml_case.specs.DataText.{data_text}
 use Rattle.yaml_case.specs.InputText.{lines_of, MarkedEvents, IsInput, IsFirstBadLine}
-use Rattle.yaml_case.specs.Reading.{IsReadAs}
+use Rattle.yaml_case.specs.Reading.{IsReadAs, IsRefusedAs}
 use Rattle.yaml_case.specs.Shapes.{name_of, IsNoName, table_of}
 use Rattle.yaml_case.specs.declared.shapes.Named.{Named}
 
@@ -20,7 +20,7 @@ pub data IsReply (shape : Named) (input : List ℕ) (ended : Status) (text : Lis
       → IsInput (lines_of input) events fault → IsReadAs (table_of shape) events fault value
       → ended ≡ status.Read → text ≡ data_text value → IsReply shape input ended text
   refused : (events : MarkedEvents) (fault : Option PlainFault) (cause : Cause)
-      → IsInput (lines_of input) events fault
+      → IsInput (lines_of input) events fault → IsRefusedAs (table_of shape) events fault cause
       → ended ≡ status.Fault → text ≡ codes "fault: " ++ error_text cause → IsReply shape input ended text
   out_of_memory : ended ≡ status.Fault → text ≡ codes "fault: out of memory"
       → IsReply shape input ended text

@@ -1,9 +1,10 @@
 //! Reading events as data of a named shape.
 
-ghost use Rattle.std.specs.Prelude.{IfOk};
+ghost use Rattle.std.specs.Prelude.{◌≡◌, IfOk, IfErr, false};
+ghost use Rattle.yaml_base.specs.Answer.{is_memory};
 ghost use Rattle.yaml_shape.specs.DataView.{data_of};
 ghost use Rattle.yaml_case.specs.InputText.{events_of};
-ghost use Rattle.yaml_case.specs.Reading.{IsReadAs};
+ghost use Rattle.yaml_case.specs.Reading.{IsReadAs, IsRefusedAs};
 ghost use Rattle.yaml_case.specs.Shapes.{table_of};
 
 use crate::shapes::Named;
@@ -19,8 +20,10 @@ pub fn read<'de>(
     events: Vec<(Event<'de>, Mark)>,
     fault: Option<ParserFault>,
 ) -> Result<Data<'de>>
-    ensures { IfOk result (λ v.
+    ensures read { IfOk result (λ v.
         IsReadAs (table_of named) (events_of events.entry.items) fault (data_of v)) }
+    ensures refused { IfErr result (λ cause. is_memory cause ≡ false
+        → IsRefusedAs (table_of named) (events_of events.entry.items) fault cause) }
 {
     let Ok(schema) = named.schema(alloc) else {
         return Err(Error::new(Cause::Memory));

@@ -19,12 +19,15 @@ const LIST: ShapeId = ShapeId(2);
 
 const MAP: ShapeId = ShapeId(3);
 
+const LETTER: ShapeId = ShapeId(4);
+
 fn schema(alloc: Global) -> Result<Schema, Fail> {
     let shapes = vec![in alloc;
         Shape::I64,
         Shape::Str,
         Shape::Seq(INTEGER),
         Shape::Map(TEXT, INTEGER),
+        Shape::Char,
     ]?;
     match Schema::new(alloc, shapes) {
         Ok(schema) => Ok(schema),
@@ -156,6 +159,7 @@ fn the_first_document_is_read_alone(rt: HostRuntime) -> Result<(), Fail> {
         // None, and several.
         ("SE", false, LIST, "[]"),
         ("SE", false, INTEGER, "not a value of its shape"),
+        ("S(a)E", false, LETTER, "not built yet"),
         ("S(0)(1)E", false, INTEGER, MORE),
         // A fault of reading comes first, then what cut the document off, and then that others follow.
         ("S([x", true, LIST, "not a value of its shape"),
@@ -164,7 +168,7 @@ fn the_first_document_is_read_alone(rt: HostRuntime) -> Result<(), Fail> {
             "S([*y])(1)E",
             false,
             LIST,
-            "unknown anchor at line 1 column 4",
+            "unknown anchor at line 1 column 2",
         ),
         ("S(x)(1)E", false, INTEGER, "not a value of its shape"),
     ];
@@ -231,13 +235,13 @@ fn documents_come_one_by_one(rt: HostRuntime) -> Result<(), Fail> {
             "S([*x])(7)E",
             false,
             [LIST, INTEGER, INTEGER, INTEGER],
-            "unknown anchor at line 1 column 4;7;-;-;",
+            "unknown anchor at line 1 column 2;7;-;-;",
         ),
         (
             "S([*x",
             true,
             [LIST, LIST, LIST, LIST],
-            "unknown anchor at line 1 column 4;-;-;-;",
+            "unknown anchor at line 1 column 2;-;-;-;",
         ),
         (
             "S(0)",
@@ -249,7 +253,7 @@ fn documents_come_one_by_one(rt: HostRuntime) -> Result<(), Fail> {
             "S(&a1)([&a2*a])(*a)E",
             false,
             [INTEGER, LIST, INTEGER, INTEGER],
-            "1;[22];unknown anchor at line 1 column 12;-;",
+            "1;[22];unknown anchor at line 1 column 10;-;",
         ),
         // The last node so anchored counts, and never a later one.
         (

@@ -1,8 +1,8 @@
 //! Short texts for events.
 //!
 //! `S` and `E` are the start and the end of the stream, `(` and `)` of a document, brackets and braces those of collections. Any other
-//! letter or digit is a plain scalar with that text, `&a` an anchor for the node that follows, and `*a` an alias. The mark of an event has its
-//! place in the list as its column.
+//! letter or digit is a plain scalar with that text, `&a` an anchor for the node that follows, and `*a` an alias. The column of an event's mark
+//! counts from the first event of the first document.
 
 use super::events::at;
 use std::alloc::{AllocError, Global};
@@ -42,7 +42,7 @@ pub fn events(alloc: Global, text: &str) -> Result<Vec<(Event<'static>, Mark)>, 
     let mut sign = b' ';
     let mut anchor = None;
     for &letter in text.as_bytes() {
-        let column = (events.len() % 1_000) as u64;
+        let column = (events.len() % 1_000).saturating_sub(2) as u64;
         match sign {
             b'&' => {
                 anchor = Some(Anchor::new(bytes(alloc, letter)?));

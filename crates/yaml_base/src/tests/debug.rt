@@ -1,10 +1,13 @@
 //! What faults and scalars show in debug.
 
 use crate::tests::build::{Table, bare_fault, fault, mark, place};
-use crate::tests::causes::{invalid_text, missing_field, of_parser, unknown_variant};
-use crate::{Anchor, Cause, FaultKind, Scalar, ScalarStyle, Tag};
+use crate::tests::causes::{
+    duplicate_entry, duplicate_text, invalid_text, missing_field, of_parser, unknown_variant,
+};
+use crate::{Anchor, Cause, EntryKey, FaultKind, Scalar, ScalarStyle, Tag};
 use std::alloc::{AllocError, Global};
 use std::test::Fail;
+use yaml_tree::Number;
 
 fn add_faults_of_reading(alloc: Global, table: &mut Table) -> Result<(), AllocError> {
     let inner =
@@ -22,6 +25,30 @@ fn add_faults_of_reading(alloc: Global, table: &mut Table) -> Result<(), AllocEr
     table.add(invalid_text(alloc, "fase", "a boolean", element), inner)?;
     let root = place(alloc, mark(0, 0), ".")?;
     table.add(missing_field(alloc, "w", root), start)
+}
+
+fn add_entry_keys(alloc: Global, table: &mut Table) -> Result<(), AllocError> {
+    let less = EntryKey::Number(Number::from_i64(-7));
+    table.add(
+        duplicate_entry(EntryKey::Null),
+        "Error(\"duplicate entry with null key\")",
+    )?;
+    table.add(
+        duplicate_entry(EntryKey::Bool(true)),
+        "Error(\"duplicate entry with key `true`\")",
+    )?;
+    table.add(
+        duplicate_entry(less),
+        "Error(\"duplicate entry with key -7\")",
+    )?;
+    table.add(
+        duplicate_text(alloc, "a"),
+        "Error(\"duplicate entry with key \\\"a\\\"\")",
+    )?;
+    table.add(
+        duplicate_entry(EntryKey::Other),
+        "Error(\"duplicate entry in YAML map\")",
+    )
 }
 
 fn add_faults_of_parsing(alloc: Global, table: &mut Table) -> Result<(), AllocError> {
@@ -80,6 +107,7 @@ fn faults_show_their_message_and_place(rt: HostRuntime) -> Result<(), Fail> {
     let alloc = rt.alloc();
     let mut table = Table::new(alloc);
     add_faults_of_reading(alloc, &mut table)?;
+    add_entry_keys(alloc, &mut table)?;
     add_faults_of_parsing(alloc, &mut table)?;
     add_kinds(alloc, &mut table)?;
     for row in &table.rows {

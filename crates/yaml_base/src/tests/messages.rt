@@ -126,9 +126,13 @@ fn add_known_names(alloc: Global, table: &mut Table) -> Result<(), AllocError> {
 
 fn add_known_fields(alloc: Global, table: &mut Table) -> Result<(), AllocError> {
     let none = "unknown field `x`, there are no fields";
+    let one = "unknown field `x`, expected `v`";
+    let three = "unknown field `x`, expected one of `u`, `v`, `w`";
     let two = ".[0]: unknown field `x`, expected `v` or `w` at line 1 column 10";
     let place = place(alloc, mark(0, 9), ".[0]")?;
     table.add(unknown_field(alloc, "x", &[], None), none)?;
+    table.add(unknown_field(alloc, "x", &["v"], None), one)?;
+    table.add(unknown_field(alloc, "x", &["u", "v", "w"], None), three)?;
     table.add(unknown_field(alloc, "x", &["v", "w"], place), two)
 }
 

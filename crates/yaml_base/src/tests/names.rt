@@ -5,6 +5,19 @@ use std::cmp::Ordering;
 use std::test::Fail;
 
 #[test]
+fn core_tags_have_their_names(rt: HostRuntime) {
+    let names = [
+        (Tag::NULL, "tag:yaml.org,2002:null"),
+        (Tag::BOOL, "tag:yaml.org,2002:bool"),
+        (Tag::INT, "tag:yaml.org,2002:int"),
+        (Tag::FLOAT, "tag:yaml.org,2002:float"),
+    ];
+    for (tag, name) in names {
+        assert_eq!(rt; tag, name);
+    }
+}
+
+#[test]
 fn tags_compare_by_their_bytes(rt: HostRuntime) -> Result<(), Fail> {
     let alloc = rt.alloc();
     let int = Tag::new(Vec::from_slice(alloc, Tag::INT.as_bytes())?);

@@ -1,6 +1,6 @@
 //! Marks, paths, and the places of faults.
 
-use crate::tests::build::{mark, words};
+use crate::tests::build::{list, mark, words};
 use crate::tests::causes::custom;
 use crate::{Cause, Error, Mark, Path, Quoted, QuotedBytes};
 use std::alloc::{AllocError, Global};
@@ -54,12 +54,28 @@ fn path_texts(alloc: Global) -> Result<Vec<String>, AllocError> {
         parent: &dependencies,
         key: "serde",
     };
+    let below = Path::Map {
+        parent: &serde,
+        key: "typo1",
+    };
     let through = Path::Alias { parent: &serde };
     let typo = Path::Map {
         parent: &through,
         key: "typo1",
     };
+    let wild = Path::Unknown { parent: &root };
     let texts = vec![in alloc;
+        below.to_string(alloc)?,
+        Path::Seq {
+            parent: &wild,
+            index: 0
+        }
+        .to_string(alloc)?,
+        Path::Map {
+            parent: &wild,
+            key: "k"
+        }
+        .to_string(alloc)?,
         alias.to_string(alloc)?,
         first.to_string(alloc)?,
         unknown.to_string(alloc)?,
@@ -78,6 +94,9 @@ fn path_texts(alloc: Global) -> Result<Vec<String>, AllocError> {
 #[test]
 fn paths_leave_aliases_out(rt: HostRuntime) -> Result<(), Fail> {
     let expected = [
+        "dependencies.serde.typo1",
+        "?[0]",
+        "?.k",
         ".",
         ".[0]",
         ".[0].?",
@@ -145,7 +164,19 @@ fn texts_are_quoted_byte_by_byte(rt: HostRuntime) -> Result<(), Fail> {
         printed.as_str(),
         "\"a\\\"\\\\ ~\\x7f\\x09\\xc3\\xa9\" \"\\x00\\x1f \\xff\""
     );
-    let error = Error::custom(String::from_str(alloc, "own")?);
+    Ok(())
+}
+
+#[test]
+fn texts_of_ones_own_stand_as_they_are(rt: HostRuntime) -> Result<(), Fail> {
+    let alloc = rt.alloc();
+    let error = Error::custom(String::from_str(alloc, "own \u{e9}")?);
     assert!(rt; matches!(error.cause(), Cause::Custom { .. }));
+    assert_eq!(rt; error.to_string(alloc)?.as_str(), "own \u{e9}");
+    assert_eq!(rt;
+        words(alloc, "it\u{e9}")?.into_string().as_str(),
+        "it\u{e9}"
+    );
+    assert_eq!(rt; list(alloc, &["a", "b"])?.into_vec().len(), 2);
     Ok(())
 }

@@ -40,6 +40,40 @@ fn shapes(alloc: Global) -> Result<Vec<Shape>, AllocError> {
     ]?)
 }
 
+// Further shapes, whose numbers are counted from 0 again.
+fn further_shapes(alloc: Global) -> Result<Vec<Shape>, AllocError> {
+    Ok(vec![in alloc;
+        Shape::Bool,
+        Shape::Char,
+        Shape::I16,
+        Shape::I32,
+        Shape::I64,
+        Shape::Isize,
+        Shape::I128,
+        Shape::U16,
+        Shape::U32,
+        Shape::U64,
+        Shape::Usize,
+        Shape::U128,
+        Shape::Identifier,
+        Shape::Bytes,
+        Shape::Unit,
+        Shape::UnitStruct {
+            name: name(alloc, "U")?
+        },
+        Shape::TupleStruct {
+            name: name(alloc, "T")?,
+            items: vec![in alloc; ShapeId(0), ShapeId(4)]?
+        },
+        Shape::StrictStruct {
+            name: name(alloc, "S")?,
+            fields: fields(alloc, &["a", "b"], 4)?
+        },
+        Shape::IgnoredAny,
+        Shape::Any,
+    ]?)
+}
+
 // Variants of each kind.
 fn variants(alloc: Global) -> Result<Vec<(String, VariantShape)>, AllocError> {
     let small = ShapeId(1);
@@ -160,10 +194,73 @@ fn variant(alloc: Global, number: u32) -> Result<(u32, Data<'static>, bool), All
     })
 }
 
+// An integer at an end of its shape, or just past one.
+fn integer(number: u32) -> (u32, Data<'static>, bool) {
+    match number {
+        0 => (2, Data::Signed(-32_768), true),
+        1 => (2, Data::Signed(32_768), false),
+        2 => (3, Data::Signed(2_147_483_647), true),
+        3 => (3, Data::Signed(-2_147_483_649), false),
+        4 => (4, Data::Signed(-9_223_372_036_854_775_808), true),
+        5 => (4, Data::Signed(9_223_372_036_854_775_808), false),
+        6 => (5, Data::Signed(9_223_372_036_854_775_807), true),
+        7 => (5, Data::Signed(-9_223_372_036_854_775_809), false),
+        8 => (6, Data::Unsigned(0), false),
+        9 => (7, Data::Unsigned(65_535), true),
+        10 => (7, Data::Unsigned(65_536), false),
+        11 => (8, Data::Unsigned(4_294_967_295), true),
+        12 => (8, Data::Unsigned(4_294_967_296), false),
+        13 => (9, Data::Unsigned(18_446_744_073_709_551_615), true),
+        14 => (9, Data::Unsigned(18_446_744_073_709_551_616), false),
+        15 => (10, Data::Unsigned(18_446_744_073_709_551_615), true),
+        16 => (10, Data::Unsigned(18_446_744_073_709_551_616), false),
+        _ => (11, Data::Signed(0), false),
+    }
+}
+
+// One of the other shapes, data, and whether the data is of the shape.
+fn other(alloc: Global, number: u32) -> Result<(u32, Data<'static>, bool), AllocError> {
+    Ok(match number {
+        0 => (0, Data::Bool(true), true),
+        1 => (0, Data::Signed(1), false),
+        2 => (1, Data::Char('t'), true),
+        3 => (1, text(alloc)?, false),
+        4 => (12, text(alloc)?, true),
+        5 => (12, Data::Char('t'), false),
+        6 => (13, Data::Bytes(vec![in alloc; b't']?), true),
+        7 => (13, text(alloc)?, false),
+        8 => (14, Data::Unit, true),
+        9 => (14, Data::None, false),
+        10 => (15, Data::Unit, true),
+        11 => (15, Data::Struct(items(alloc, 0)?), false),
+        12 => (18, Data::Ignored, true),
+        13 => (18, Data::Unit, false),
+        _ => (19, Data::Unit, false),
+    })
+}
+
+// Data of structs, and data one part short.
+fn parted(alloc: Global, number: u32) -> Result<(u32, Data<'static>, bool), AllocError> {
+    Ok(match number {
+        0 => (
+            16,
+            Data::Tuple(vec![in alloc; Data::Bool(true), Data::Signed(1)]?),
+            true,
+        ),
+        1 => (16, Data::Tuple(vec![in alloc; Data::Bool(true)]?), false),
+        2 => (17, Data::Struct(items(alloc, 2)?), true),
+        _ => (17, Data::Struct(items(alloc, 1)?), false),
+    })
+}
+
 // Whether the data is of the shape with this number.
 fn is_of(schema: &Schema, id: u32, data: &Data) -> bool {
     match Typed::new(schema, ShapeId(id), data) {
-        Some(typed) => typed.id() == ShapeId(id) && typed.schema().has(ShapeId(id)),
+        Some(typed) => {
+            typed.id() == ShapeId(id)
+                && typed.schema().has(ShapeId(id))
+                && matches!(typed.content(), Data::Unit) == matches!(data, Data::Unit)
+        }
         None => false,
     }
 }
@@ -183,6 +280,25 @@ fn data_of_shapes(rt: HostRuntime) -> Result<(), Fail> {
     for number in 0..11 {
         let (id, data, fits) = variant(alloc, number)?;
         assert!(rt; is_of(&schema, id, &data) == fits, "variant {number}");
+    }
+    Ok(())
+}
+
+#[test]
+fn data_of_further_shapes(rt: HostRuntime) -> Result<(), Fail> {
+    let alloc = rt.alloc();
+    let schema = Schema::new(alloc, further_shapes(alloc)?)?;
+    for number in 0..18 {
+        let (id, data, fits) = integer(number);
+        assert!(rt; is_of(&schema, id, &data) == fits, "integer {number}");
+    }
+    for number in 0..15 {
+        let (id, data, fits) = other(alloc, number)?;
+        assert!(rt; is_of(&schema, id, &data) == fits, "other {number}");
+    }
+    for number in 0..4 {
+        let (id, data, fits) = parted(alloc, number)?;
+        assert!(rt; is_of(&schema, id, &data) == fits, "parted {number}");
     }
     Ok(())
 }
