@@ -1,4 +1,6 @@
 -- What a stream's answer says of the input's events.
+use Rattle.std.specs.Prelude.{IfOk, IfErr, OnOk, Result, Ok, Err}
+use Rattle.yaml_base.specs.Answer.{Gives, is_memory}
 use Rattle.std.proofs.Common.{◌≡◌, ℕ, [], ◌∷◌, List, Option, Some, is_some, length, refl, subst, sym, ap, ◌∙◌, false}
 use Rattle.yaml_base.specs.Position.{Position}
 use Rattle.yaml_base.specs.PlainEvent.{event_of}
@@ -66,3 +68,32 @@ refused_data table events fault cause stream good is faults cuts never =
       of_cut = λ cut e. cuts document others cut begins e;
       never = λ tree value alone t r. never document tree value (subst (λ os. Begins stream document os) alone begins) t r;
     })
+
+-- what reading the stream answers, where it answers no data
+pub refused_of : {X : Type 0} (view : X → PlainData) (table : List PlainShape) (events : List (Event × Position)) (fault : Option PlainFault) (stream : PlainStream)
+    (result : Result X Cause) → IsWellFormed (is_some fault) (plain_events events)
+    → stream ≡ record { documents = documents_of (plain_marked events) fault; is_document = false; iterated = false }
+    → IfErr result (λ cause. (document : PlainDocument) (others : List PlainDocument) (tree : DocNode) → Begins stream document others → IsTreeOf document tree
+    → is_memory cause ≡ false → IsFirstFault default_limits table 0 document tree others cause)
+    → IfErr result (λ cause. (document : PlainDocument) (others : List PlainDocument) (cut : Cause) → Begins stream document others → document.ending ≡ Some cut
+    → is_memory cause ≡ false → IsCutFault table document cut cause)
+    → ((document : PlainDocument) (tree : DocNode) (value : PlainData) → Begins stream document [] → IsTreeOf document tree
+    → Reads default_limits table 0 tree (length document.events) value → Gives view result (Ok value))
+    → IfErr result (λ cause. is_memory cause ≡ false → IsRefusedAs table (plain_marked events) fault cause)
+refused_of view table events fault stream (Ok x) good is faults cuts only = tt
+refused_of view table events fault stream (Err cause) good is faults cuts only = λ other.
+    refused_data table events fault cause stream good is
+    (λ document others tree begins t. faults document others tree begins t other)
+    (λ document others cut begins e. cuts document others cut begins e other)
+    (λ document tree value begins t r. let bad = only document tree value begins t r other in absurd cc)
+
+-- and what it answers where it does
+pub found_of : {X : Type 0} (view : X → PlainData) (table : List PlainShape) (events : List (Event × Position)) (fault : Option PlainFault) (stream : PlainStream)
+    (result : Result X Cause) → IsWellFormed (is_some fault) (plain_events events)
+    → stream ≡ record { documents = documents_of (plain_marked events) fault; is_document = false; iterated = false }
+    → OnOk result (IsOneWhole stream)
+    → IfOk result (λ value. (document : PlainDocument) (tree : DocNode) → Begins stream document [] → IsTreeOf document tree
+    → Reads default_limits table 0 tree (length document.events) (view value))
+    → IfOk result (λ value. IsReadAs table (plain_marked events) fault (view value))
+found_of view table events fault stream (Ok x) good is whole found = read_as table events fault (view x) stream good is whole found
+found_of view table events fault stream (Err cause) good is whole found = tt

@@ -1,13 +1,20 @@
 -- What a run prints, from what its parts say.
 use Rattle.std.specs.Prelude.{codes, Option, None, Some, IfSome}
-use Rattle.std.proofs.Common.{◌≡◌, ◌≢◌, ℕ, List, [], ◌∷◌, length, map, subst, refl}
+use Rattle.std.proofs.Common.{◌≡◌, ◌≢◌, ℕ, List, [], ◌∷◌, ◌++◌, false, length, map, subst, refl}
+use Rattle.yaml_base.specs.Answer.{is_memory}
+use Rattle.yaml_base.specs.ErrorText.{error_text}
+use Rattle.yaml_base.specs.PlainFault.{PlainFault}
+use Rattle.yaml_base.specs.declared.error.Cause.{Cause}
+use Rattle.yaml_base.specs.declared.error.Cause.TheVariants.{Memory}
 use Rattle.yaml_case.specs.declared.status.Status.{Status}
 use Rattle.yaml_case.specs.declared.status.Status.TheVariants as status
 use Rattle.yaml_case.specs.declared.shapes.Named.{Named}
 use Rattle.yaml_case.specs.Answers.{IsReply, IsAnswer, IsAnswerTo}
-use Rattle.yaml_case.specs.Answers.IsReply.{out_of_memory}
+use Rattle.yaml_case.specs.Answers.IsReply.{refused, out_of_memory}
 use Rattle.yaml_case.specs.Answers.IsAnswer.{bad_argument, reply}
-use Rattle.yaml_case.specs.Shapes.{name_of, IsNoName}
+use Rattle.yaml_case.specs.InputText.{MarkedEvents, IsInput, lines_of}
+use Rattle.yaml_case.specs.Reading.{IsRefusedAs}
+use Rattle.yaml_case.specs.Shapes.{name_of, table_of, IsNoName}
 
 -- no input matters to a bad argument
 pub refuses : (name : List ℕ) (known : Option (List ℕ)) (ended : Status) → IsNoName name → ended ≡ status.Refused
@@ -35,3 +42,9 @@ refuses_count name_in arguments None ended n e = tt
 refuses_count name_in [] (Some input) ended n e = (e, refl)
 refuses_count name_in (x ∷ []) (Some input) ended n e = absurd (n refl)
 refuses_count name_in (x ∷ y ∷ more) (Some input) ended n e = (e, refl)
+
+-- a fault is one that the events ask for, or want of memory
+pub fault_reply : (shape : Named) (input : List ℕ) (events : MarkedEvents) (fault : Option PlainFault) (cause : Cause) → IsInput (lines_of input) events fault
+    → (is_memory cause ≡ false → IsRefusedAs (table_of shape) events fault cause) → IsReply shape input status.Fault (codes "fault: " ++ error_text cause)
+fault_reply shape input events fault Memory lines why = out_of_memory refl refl
+fault_reply shape input events fault cause lines why = refused events fault cause lines (why refl) refl refl

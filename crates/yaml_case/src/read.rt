@@ -28,7 +28,8 @@ pub fn read<'de>(
     let Ok(schema) = named.schema(alloc) else {
         return Err(Error::new(Cause::Memory));
     };
-    let documents = Deserializer::from_events(alloc, events, fault)?;
-    let content = documents.deserialize(alloc, &schema, ShapeId(0))?;
-    Ok(content)
+    match Deserializer::from_events(alloc, events, fault) {
+        Ok(documents) => documents.deserialize(alloc, &schema, ShapeId(0)),
+        Err(fault) => Err(fault),
+    }
 }
