@@ -47,5 +47,6 @@ for edit in "$root"/crates/*/misuse/*.edit; do
     fi
 done
 cd "$root" || exit 1
+[ "$count" -gt 0 ] || failed=1
 echo "misuse: $count edits, $([ "$failed" = 0 ] && echo all refused || echo FAILED)"
 exit "$failed"

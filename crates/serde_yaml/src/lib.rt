@@ -2,8 +2,6 @@
 #![tactic(auto)]
 
 mod de;
-#[cfg(test)]
-mod tests;
 
 pub use de::Deserializer;
 pub use yaml_base::{Error, Result};

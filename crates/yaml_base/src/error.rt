@@ -1,6 +1,6 @@
 //! Why a document was not read, or a value not written.
 
-ghost use Rattle.std.specs.Prelude.{◌≡◌, IfErr, IfOk, None, Some, string_bytes};
+ghost use Rattle.std.specs.Prelude.{◌≡◌, ◌≢◌, IfErr, IfOk, None, Some, string_bytes};
 ghost use Rattle.std.specs.Option.{option_copied, option_map};
 ghost use Rattle.yaml_base.specs.CausePlace.{cause_mark, cause_place, filled};
 ghost use Rattle.yaml_base.specs.ErrorText.{parser_fault};
@@ -271,11 +271,12 @@ impl Error {
     }
 
     /// The fault with this mark and this path as its place, if it is one that has a place and has none yet, and else
-    /// the fault as it is. The only error is want of memory.
+    /// the fault as it is. The only error is want of memory, and it comes only where a place is filled.
     pub fn fix_mark(self, alloc: Global, mark: Mark, path: &Path<'_>) -> Result<Error>
         ensures filled { IfOk result (λ e.
             e ≡ filled self (record { mark = mark; path = path_text path.now })) }
-        ensures err { IfErr result (λ refused. refused ≡ Memory) }
+        ensures err { IfErr result (λ refused. (refused ≡ Memory)
+            × (filled self (record { mark = mark; path = path_text path.now }) ≢ self)) }
     {
         Ok(Error {
             cause: self.cause.fill(alloc, mark, path)?,

@@ -16,8 +16,6 @@ mod quoted;
 mod resolver;
 mod style;
 mod tag;
-#[cfg(test)]
-mod tests;
 mod words;
 
 pub use borrowed::parse_borrowed_str;

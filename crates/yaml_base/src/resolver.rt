@@ -4,8 +4,6 @@ mod float;
 mod integer;
 mod kind;
 mod sign;
-#[cfg(test)]
-mod tests;
 mod word;
 
 pub use float::{digits_but_not_number, is_float_text};

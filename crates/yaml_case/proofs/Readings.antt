@@ -19,7 +19,7 @@ use Rattle.yaml_shape.specs.PlainData.{PlainData}
 use Rattle.yaml_shape.specs.PlainShape.{PlainShape}
 use Rattle.serde_yaml.specs.PlainStream.{PlainStream}
 use Rattle.serde_yaml.specs.StreamReads.{Begins, IsOneWhole, IsFirstFault}
-use Rattle.yaml_case.specs.Reading.{IsReadAs, IsRefusedAs, IsFaultOf}
+use Rattle.yaml_case.specs.Reading.{IsReadAs, IsRefusedAs}
 use Rattle.yaml_case.specs.Reading.IsRefusedAs.{no_stream, no_data}
 
 events_again : (events : List (Event × Position)) → events_in (plain_marked events) ≡ plain_events events

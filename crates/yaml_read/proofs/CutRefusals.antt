@@ -9,7 +9,8 @@ use Rattle.yaml_shape.specs.PlainShape.{PlainShape, shape_at}
 use Rattle.yaml_shape.specs.PlainData.{PlainData, PlainItems, PlainEntries, item, entry}
 use Rattle.yaml_read.specs.PlainDocEvent.{PlainDocEvent, alias_to, a_scalar, sequence_begins, sequence_ends, mapping_begins, mapping_ends, a_void}
 use Rattle.yaml_read.specs.Scalars.{is_read, scalar_data, void_data}
-use Rattle.yaml_read.specs.Reader.{Spot, Reading, Events, no_meaning, not_built, after, is_sequence_end, is_mapping_end, items_step, entries_step, items_at, entries_at, shape_step, node_step, node_at}
+use Rattle.yaml_read.specs.Reader.{Spot, Reading, Events, after, is_sequence_end, is_mapping_end, items_step, entries_step, items_at, entries_at, shape_step, node_step, node_at}
+use Rattle.yaml_read.specs.ReadingFaults.{no_meaning, not_built}
 use Rattle.yaml_read.specs.Reads.{IsReadingFault, too_deep, too_often, meaningless, not_yet}
 use Rattle.yaml_read.proofs.Refusals.{bind_err, wrap_err, ended_err, pursue_err, no_such, deep, within_parts, sequence_err, mapping_err, by_read}
 

@@ -15,5 +15,6 @@ pub mod Gatherings
 pub mod PlainWalks
 pub mod StreamLaws
 pub mod StreamMachineLaws
+pub mod Targets
 pub mod TreeLaws
 pub mod WrongPlaces

@@ -10,7 +10,8 @@ use Rattle.yaml_shape.specs.PlainData.{PlainData, seq_data, map_data, item, entr
 use Rattle.yaml_read.specs.PlainDocEvent.{PlainDocEvent, alias_to, sequence_ends, mapping_ends}
 use Rattle.yaml_read.specs.DocTree.{DocNode, DocNodes, DocPairs, nothing, reference, word, list, mapping, no_nodes, node, no_pairs, pair, events_of, events_of_nodes, events_of_pairs, node_of}
 use Rattle.yaml_read.specs.Scalars.{is_read, scalar_data, void_data}
-use Rattle.yaml_read.specs.Reader.{Spot, Reading, Events, Reader, ◌>>=◌, no_meaning, after, or_no_meaning, ending, enter, pursue, items_at, entries_at, sequence_at, mapping_at, shape_step, node_step, node_at, not_built}
+use Rattle.yaml_read.specs.Reader.{Spot, Reading, Events, Reader, ◌>>=◌, after, or_no_meaning, ending, enter, pursue, items_at, entries_at, sequence_at, mapping_at, shape_step, node_step, node_at}
+use Rattle.yaml_read.specs.ReadingFaults.{no_meaning, not_built}
 use Rattle.yaml_read.specs.Reads.{IsReadingFault, too_deep, too_often, meaningless, not_yet}
 use Rattle.yaml_read.proofs.Turns.{items_end, entries_end}
 use Rattle.yaml_read.proofs.Shown.{Shows, shows_front, shows_rest, target_shown, starts}

@@ -9,7 +9,8 @@ use Rattle.yaml_read.specs.PlainDocEvent.{PlainDocEvent, alias_to, a_scalar, seq
 use Rattle.yaml_read.specs.DocTree.{DocNode, DocNodes, DocPairs, nothing, reference, word, list, mapping, no_nodes, node, no_pairs, pair, events_of, events_of_nodes, events_of_pairs, node_of}
 use Rattle.yaml_read.specs.Scalars.{is_read, scalar_data, void_data}
 use Rattle.yaml_read.specs.Meaning.{Means, MeanEach, MeanPairs, means_target, means_void, means_scalar, means_sequence, means_mapping, means_none, means_more, means_no_pairs, means_pair}
-use Rattle.yaml_read.specs.Reader.{Spot, Reading, Events, Reader, ◌>>=◌, after, or_no_meaning, ending, enter, pursue, items_at, entries_at, sequence_at, mapping_at, shape_step, node_step, node_at, not_built}
+use Rattle.yaml_read.specs.Reader.{Spot, Reading, Events, Reader, ◌>>=◌, after, or_no_meaning, ending, enter, pursue, items_at, entries_at, sequence_at, mapping_at, shape_step, node_step, node_at}
+use Rattle.yaml_read.specs.ReadingFaults.{not_built}
 use Rattle.yaml_read.proofs.Turns.{items_end, entries_end}
 use Rattle.yaml_read.proofs.Shown.{Shows, shows_front, shows_rest, target_shown, starts}
 use Rattle.yaml_read.proofs.Outcomes.{at_event, items_going, entries_going}

@@ -12,7 +12,8 @@ use Rattle.yaml_shape.specs.declared.data.Entry.{Entry, the_lemmas}
 use Rattle.yaml_read.specs.PlainDocEvent.{PlainDocEvent}
 use Rattle.yaml_read.specs.DocEventView.{doc_event_of}
 use Rattle.yaml_read.specs.Scalars.{is_read}
-use Rattle.yaml_read.specs.Reader.{Spot, Reading, no_meaning, not_built, ◌>>=◌, Events, after, is_sequence_end, is_mapping_end, items_at, entries_at, pursue, ending, Reader, sequence_at, mapping_at, event_at, node_at}
+use Rattle.yaml_read.specs.Reader.{Spot, Reading, ◌>>=◌, Events, after, is_sequence_end, is_mapping_end, items_at, entries_at, pursue, ending, Reader, sequence_at, mapping_at, event_at, node_at}
+use Rattle.yaml_read.specs.ReadingFaults.{no_meaning, not_built}
 use Rattle.yaml_read.specs.declared.doc_event.DocEvent.{DocEvent}
 use Rattle.yaml_read.specs.declared.doc_event.DocEvent.TheVariants as event
 use Rattle.yaml_read.proofs.Before.{items_front, items_before, entries_front, entries_before}

@@ -12,6 +12,7 @@ pub mod Meaning
 pub mod PlainDocEvent
 pub mod PlainDocument
 pub mod Reader
+pub mod ReadingFaults
 pub mod Reads
 pub mod Resolved
 pub mod Scalars

@@ -1,11 +1,12 @@
 -- A plain reader over positions: data, or the first fault from left to right.
-use Rattle.std.specs.Prelude.{ℕ, zero, suc, ◌+◌, List, Option, Some, None, Result, Ok, Err, Bool, true, false, if◌then◌else◌, codes}
+use Rattle.std.specs.Prelude.{ℕ, zero, suc, ◌+◌, List, Option, Some, None, Result, Ok, Err, Bool, true, false, if◌then◌else◌}
 use Rattle.yaml_base.specs.Position.{Position}
 use Rattle.yaml_base.specs.declared.error.Cause.{Cause}
-use Rattle.yaml_base.specs.declared.error.Cause.TheVariants.{EndOfStream, RecursionLimitExceeded, RepetitionLimitExceeded, Custom}
+use Rattle.yaml_base.specs.declared.error.Cause.TheVariants.{EndOfStream, RecursionLimitExceeded, RepetitionLimitExceeded}
 use Rattle.yaml_shape.specs.PlainShape.{PlainShape, seq_shape, map_shape, shape_at}
 use Rattle.yaml_shape.specs.PlainData.{PlainData, PlainItems, PlainEntries, seq_data, map_data, no_items, item, no_entries, entry}
 use Rattle.yaml_read.specs.PlainDocEvent.{PlainDocEvent, alias_to, a_scalar, sequence_begins, sequence_ends, mapping_begins, mapping_ends, a_void}
+use Rattle.yaml_read.specs.ReadingFaults.{no_meaning, not_built}
 use Rattle.yaml_read.specs.Scalars.{is_read, scalar_data, void_data}
 
 -- where a reading is: the place of its next event, and the follows that are left
@@ -16,14 +17,6 @@ pub record Spot : Type 0 where
 -- what reading answers: a value and where it ended, or a fault
 abbrev pub Reading : Type 0 → Type 0
 Reading A = Result (A × Spot) Cause
-
--- the fault of a shape that is not read yet
-unfoldable pub not_built : Cause
-not_built = Custom (codes "not built yet") None
-
--- the fault of a node without a meaning
-unfoldable pub no_meaning : Cause
-no_meaning = Custom (codes "not a value of its shape") None
 
 infixl 10 ◌>>=◌
 abbrev pub ◌>>=◌ : {A B : Type 0} → Result A Cause → (A → Result B Cause) → Result B Cause

@@ -9,7 +9,7 @@ use Rattle.yaml_read.specs.PlainDocEvent.{PlainDocEvent, alias_to, sequence_begi
 use Rattle.yaml_read.specs.PlainDocument.{PlainDocument}
 use Rattle.yaml_read.specs.DocTree.{DocNode, events_of, node_of}
 use Rattle.yaml_read.specs.Meaning.{Means}
-use Rattle.yaml_read.specs.Reader.{no_meaning, not_built}
+use Rattle.yaml_read.specs.ReadingFaults.{no_meaning, not_built}
 use Rattle.yaml_read.specs.Scalars.{is_read}
 
 -- how deep a reading goes, and how many aliases it follows for each event of the document

@@ -46,8 +46,7 @@ fn add(schema: Schema, shape: Shape) -> Result<(Schema, ShapeId), SchemaFault>
 }
 
 /// The schema with a sequence behind it whose elements are of the shape with this number, and the number of the
-/// sequence. Refused by
-/// `S4` where there is no room for it, and by `S5`.
+/// sequence. `Schema::has` is the test of what is asked. Refused by `S4` where there is no room for it, and by `S5`.
 pub fn seq_of(
     _alloc: Global,
     schema: Schema,
@@ -62,8 +61,7 @@ pub fn seq_of(
 }
 
 /// The schema with an optional behind it whose content is of the shape with this number, and the number of the
-/// optional. Refused by
-/// `S4` where there is no room for it, and by `S5`.
+/// optional. `Schema::has` is the test of what is asked. Refused by `S4` where there is no room for it, and by `S5`.
 pub fn option_of(
     _alloc: Global,
     schema: Schema,
@@ -78,9 +76,8 @@ pub fn option_of(
 }
 
 /// Both schemas in a row, the numbers in the second moved, with a mapping behind them from keys of the shape with
-/// this number in the
-/// first to values of that in the second; and the number of the mapping. Refused by `S4` where there are too many,
-/// and by `S5`.
+/// this number in the first to values of that in the second; and the number of the mapping. `Schema::has` is the test
+/// of what is asked. Refused by `S4` where there are too many, and by `S5`.
 pub fn map_of(
     _alloc: Global,
     keys: Schema,
@@ -102,8 +99,8 @@ pub fn map_of(
 }
 
 /// All schemas in a row, the numbers in each moved, with a tuple behind them whose elements are of the shapes with
-/// these numbers; and
-/// the number of the tuple. Without any it is the empty tuple. Refused by `S4` where there are too many, and by `S5`.
+/// these numbers; and the number of the tuple. Without any it is the empty tuple. `Schema::has` is the test of what is
+/// asked of each. Refused by `S4` where there are too many, and by `S5`.
 pub fn tuple_of(
     alloc: Global,
     parts: Vec<(Schema, ShapeId)>,

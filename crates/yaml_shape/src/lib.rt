@@ -25,6 +25,3 @@ pub use schema::Schema;
 pub use shape::{Shape, ShapeId, VariantShape};
 pub use text::Text;
 pub use typed::Typed;
-
-#[cfg(test)]
-mod tests;

@@ -41,8 +41,8 @@ impl Model for Schema {
 
 impl Schema {
     /// The schema of these shapes, each named by its place. Of several faults the first of `S4`, `S1`, `S3`, `S2` is
-    /// answered, with
-    /// the least shape concerned; `S5` may be answered in place of any. The shapes are dropped on refusal.
+    /// answered, with the least shape concerned; `S5` may be answered in place of any. The shapes are dropped on
+    /// refusal.
     pub fn new(alloc: Global, shapes: Vec<Shape>) -> Result<Schema, SchemaFault>
         ensures ok { IfOk result (λ schema. (schema ≡ map shape_of shapes.items) × IsValidSchema schema) }
         ensures refused { IfErr result (IsRefused (map shape_of shapes.items)) }

@@ -1,9 +1,8 @@
 //! Whether a walk through optionals alone comes back to its start.
 //!
 //! The steps of all shapes are doubled until they are more than a schema has shapes. Where a walk goes on so far, it
-//! has come to a
-//! cycle, and each shape on a cycle is the end of such a walk, the one that begins so many steps before it on the
-//! cycle.
+//! has come to a cycle, and each shape on a cycle is the end of such a walk, the one that begins so many steps before
+//! it on the cycle.
 
 ghost use Rattle.std.specs.Prelude.{◌≡◌, ◌≤◌, ℕ, map, length, None, IsNone, IfOk, IfSome};
 ghost use Rattle.yaml_shape.specs.ShapeView.{shape_of};

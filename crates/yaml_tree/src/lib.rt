@@ -14,6 +14,3 @@ pub use number::Number;
 pub use sequence::Sequence;
 pub use tag::Tag;
 pub use value::{TaggedValue, Value};
-
-#[cfg(test)]
-mod tests;

@@ -1,6 +1,6 @@
 //! Giving a fault its place.
 
-ghost use Rattle.std.specs.Prelude.{◌≡◌, IfOk, Some};
+ghost use Rattle.std.specs.Prelude.{◌≡◌, ◌≢◌, IfErr, IfOk, Some};
 ghost use Rattle.yaml_base.specs.CausePlace.{filled};
 ghost use Rattle.yaml_base.specs.PathText.{path_text};
 
@@ -24,15 +24,16 @@ fn place_at(alloc: Global, mark: Mark, path: &Path<'_>) -> Result<Option<Place>,
 
 impl Cause {
     // The cause with this mark and this path as its place, if it is one that has a place and has none yet, and else the
-    // cause as it is. The only error is want of memory.
+    // cause as it is. The only error is want of memory, where there is a place to fill.
     pub(crate) fn fill(
         self,
         alloc: Global,
         mark: Mark,
         path: &Path<'_>,
     ) -> Result<Cause, AllocError>
-        ensures { IfOk result (λ cause.
+        ensures filled { IfOk result (λ cause.
             cause ≡ filled self (record { mark = mark; path = path_text path.now })) }
+        ensures err { IfErr result (λ _. filled self (record { mark = mark; path = path_text path.now }) ≢ self) }
     {
         match self {
             Cause::InvalidType {

@@ -9,7 +9,8 @@ ghost use Rattle.yaml_shape.specs.DataView.{data_of};
 ghost use Rattle.yaml_shape.specs.PlainData.{bool_data, signed_data};
 ghost use Rattle.yaml_shape.specs.PlainShape.{bool_shape, integer_shape, i64, str_shape};
 ghost use Rattle.yaml_read.specs.Scalars.{is_read, is_plain, is_literal, is_tag, is_plain_or_tagged_literal, is_empty_plain, text_of, scalar_data, void_data};
-ghost use Rattle.yaml_read.specs.Reader.{no_meaning, not_built, or_no_meaning};
+ghost use Rattle.yaml_read.specs.Reader.{or_no_meaning};
+ghost use Rattle.yaml_read.specs.ReadingFaults.{no_meaning, not_built};
 
 use std::alloc::Global;
 use yaml_base::{
@@ -18,7 +19,7 @@ use yaml_base::{
 use yaml_shape::{Data, Shape, Text};
 
 /// The fault of a node without a meaning, or want of memory.
-#[tactic(auto, unfolding(crate::specs::Reader::no_meaning))]
+#[tactic(auto, unfolding(crate::specs::ReadingFaults::no_meaning))]
 pub(super) fn no_meaning<'de>(alloc: Global) -> Result<Data<'de>>
     ensures { Gives data_of result (Err no_meaning) }
 {
@@ -26,7 +27,7 @@ pub(super) fn no_meaning<'de>(alloc: Global) -> Result<Data<'de>>
 }
 
 /// The fault of a shape that is not read yet, or want of memory.
-#[tactic(auto, unfolding(crate::specs::Reader::not_built))]
+#[tactic(auto, unfolding(crate::specs::ReadingFaults::not_built))]
 pub(super) fn not_built<'de>(alloc: Global) -> Result<Data<'de>>
     ensures { Gives data_of result (Err not_built) }
 {

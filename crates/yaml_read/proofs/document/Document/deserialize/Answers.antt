@@ -8,30 +8,30 @@ use Rattle.yaml_read.proofs.document.Document.deserialize.Goals as goal
 pub returns-in-None-clause-found : goal.returns-in-None-clause-found
 returns-in-None-clause-found c = λ root is.
     read_only default_limits c.args.schema.now c.args.self.now root is c.args.id.0 _ _
-    (seen_whole default_limits c.args.schema.now c.args.self.now c.args.id.0 c.events-events.result.now _ c.events-events.ensures c.in-Ok.ensures.gives)
+    (seen_whole default_limits c.args.schema.now c.args.self.now c.args.id.0 c.events-events.result.now _ c.events-events.ensures.shown c.in-Ok.ensures.gives)
 
 pub returns-in-None-clause-only : goal.returns-in-None-clause-only
 returns-in-None-clause-only c = λ root v is r.
     ap Ok (sym (answered _ v (data_of c.in-Ok.data) _ _ _ _ r.nestings r.followed
     (means_only default_limits c.args.schema.now c.args.self.now root is c.args.id.0 v r.nestings r.followed r.means) r.nests_within r.follows_within
-    (seen_whole default_limits c.args.schema.now c.args.self.now c.args.id.0 c.events-events.result.now _ c.events-events.ensures c.in-Ok.ensures.gives)))
+    (seen_whole default_limits c.args.schema.now c.args.self.now c.args.id.0 c.events-events.result.now _ c.events-events.ensures.shown c.in-Ok.ensures.gives)))
 
 pub returns-in-None-error-clause-only : goal.returns-in-None-error-clause-only
 returns-in-None-error-clause-only c = λ root v is r fault.
     absurd (never_refused (whole_reading default_limits c.args.schema.now c.args.self.now c.args.id.0) v _ _ _ r.nestings r.followed c.in-Err.fault
     (means_only default_limits c.args.schema.now c.args.self.now root is c.args.id.0 v r.nestings r.followed r.means) r.nests_within r.follows_within
-    (seen_whole default_limits c.args.schema.now c.args.self.now c.args.id.0 c.events-events.result.now _ c.events-events.ensures (λ fuel lt. c.in-Err.ensures.gives fuel lt fault)))
+    (seen_whole default_limits c.args.schema.now c.args.self.now c.args.id.0 c.events-events.result.now _ c.events-events.ensures.shown (λ fuel lt. c.in-Err.ensures.gives fuel lt fault)))
 
 pub returns-in-None-error-clause-refused : goal.returns-in-None-error-clause-refused
 returns-in-None-error-clause-refused c = λ root v d k is m.
     refusal_or_memory default_limits (length c.args.self.now.events) (whole_reading default_limits c.args.schema.now c.args.self.now c.args.id.0) v _ d k c.in-Err.fault
     (means_only default_limits c.args.schema.now c.args.self.now root is c.args.id.0 v d k m)
-    (λ fault. seen_whole default_limits c.args.schema.now c.args.self.now c.args.id.0 c.events-events.result.now _ c.events-events.ensures (λ fuel lt. c.in-Err.ensures.gives fuel lt fault))
+    (λ fault. seen_whole default_limits c.args.schema.now c.args.self.now c.args.id.0 c.events-events.result.now _ c.events-events.ensures.shown (λ fuel lt. c.in-Err.ensures.gives fuel lt fault))
 
 pub returns-in-None-error-clause-faults : goal.returns-in-None-error-clause-faults
 returns-in-None-error-clause-faults c = λ root is fault.
     refused_only default_limits c.args.schema.now c.args.self.now root is c.args.id.0 c.in-Err.fault
-    (seen_whole default_limits c.args.schema.now c.args.self.now c.args.id.0 c.events-events.result.now _ c.events-events.ensures (λ fuel lt. c.in-Err.ensures.gives fuel lt fault))
+    (seen_whole default_limits c.args.schema.now c.args.self.now c.args.id.0 c.events-events.result.now _ c.events-events.ensures.shown (λ fuel lt. c.in-Err.ensures.gives fuel lt fault))
 
 pub returns-clause-cut : goal.returns-clause-cut
 returns-clause-cut c = λ cause cut here.
@@ -39,4 +39,4 @@ returns-clause-cut c = λ cause cut here.
     let same : c.in-Some-error.ending.now ≡ cause = cc in
     told_or_found default_limits c.args.schema.now c.args.self.now c.args.id.0 c.in-Err.fault c.told.result cause
     (λ e h. c.told.ensures.ended e h ∙ same) c.told.ensures.kept
-    (λ fault. seen_whole default_limits c.args.schema.now c.args.self.now c.args.id.0 c.events-events.result.now _ c.events-events.ensures (λ fuel lt. c.in-Err.ensures.gives fuel lt fault)) here
+    (λ fault. seen_whole default_limits c.args.schema.now c.args.self.now c.args.id.0 c.events-events.result.now _ c.events-events.ensures.shown (λ fuel lt. c.in-Err.ensures.gives fuel lt fault)) here
