@@ -6,10 +6,12 @@ use Rattle.yaml_base.specs.Answer.{Gives, is_memory}
 use Rattle.yaml_base.specs.declared.error.Cause.{Cause}
 use Rattle.yaml_base.specs.declared.error.Cause.TheVariants.{MoreThanOneDocument}
 use Rattle.yaml_shape.specs.PlainData.{PlainData}
-use Rattle.yaml_shape.specs.PlainShape.{PlainShape}
+use Rattle.yaml_shape.specs.PlainShape.{PlainShape, shape_at}
 use Rattle.yaml_read.specs.DocTree.{DocNode}
 use Rattle.yaml_read.specs.Meaning.{Means}
 use Rattle.yaml_read.specs.PlainDocument.{PlainDocument}
+use Rattle.yaml_read.specs.ReadingFaults.{not_built}
+use Rattle.yaml_read.specs.Scalars.{is_read}
 use Rattle.yaml_read.specs.Reads.{PlainLimits, IsTreeOf, Reads, IsRefusal, IsReadingFault, IsCutFault}
 use Rattle.serde_yaml.specs.PlainStream.{PlainStream}
 use Rattle.serde_yaml.specs.StreamReads.{Begins, IsOneWhole, IsFirstFault}
@@ -155,6 +157,12 @@ module _ (stream : PlainStream) (first : PlainDocument) (rest : List PlainDocume
       → Reads limits schema id tree (length document.events) v → Gives view result (Ok v)
   only_of view result only document tree v begins t r =
       only tree v (alone begins) (tree_of_first (same begins) t) (reads_first (same begins) r)
+
+  pub unbuilt_of : {X : Type 0} (view : X → PlainData) (result : Result X Cause)
+      → ((shape : PlainShape) → shape_at schema id ≡ Some shape → is_read shape ≡ false → Gives view result (Err not_built))
+      → (document : PlainDocument) (left : List PlainDocument) (shape : PlainShape) → Begins stream document left
+      → shape_at schema id ≡ Some shape → is_read shape ≡ false → Gives view result (Err not_built)
+  unbuilt_of view result unbuilt document left shape begins is r = unbuilt shape is r
 
   pub more_of : {X : Type 0} (view : X → PlainData) (result : Result X Cause)
       → ((tree : DocNode) (v : PlainData) → others ≡ true → IsTreeOf first tree

@@ -8,12 +8,15 @@ ghost use Rattle.yaml_base.specs.declared.error.Cause.{Cause};
 ghost use Rattle.yaml_base.specs.declared.error.Cause.TheVariants.{NotAStream, MoreThanOneDocument};
 ghost use Rattle.yaml_shape.specs.DataView.{data_of};
 ghost use Rattle.yaml_shape.specs.PlainData.{PlainData};
+ghost use Rattle.yaml_shape.specs.PlainShape.{PlainShape, shape_at};
 ghost use Rattle.yaml_read.specs.DocTree.{DocNode};
 ghost use Rattle.yaml_read.specs.Documents.{documents_of};
 ghost use Rattle.yaml_read.specs.MarkedEvents.{plain_events, plain_marked};
 ghost use Rattle.yaml_read.specs.Meaning.{Means};
 ghost use Rattle.yaml_read.specs.PlainDocument.{PlainDocument};
+ghost use Rattle.yaml_read.specs.ReadingFaults.{not_built};
 ghost use Rattle.yaml_read.specs.Reads.{default_limits, IsTreeOf, Reads, IsRefusal, IsReadingFault, IsCutFault};
+ghost use Rattle.yaml_read.specs.Scalars.{is_read};
 ghost use Rattle.yaml_read.specs.WrongPlace.{IsWrongAt};
 ghost use Rattle.serde_yaml.specs.StreamReads.{Begins, IsOneWhole, IsFirstFault};
 
@@ -67,6 +70,7 @@ fn read_first<'de>(
     ensures more { (tree : DocNode) (v : PlainData) → others ≡ true → IsTreeOf document.now tree
         → Reads default_limits schema.now id.0 tree (length document.now.events) v
         → Gives data_of result (Err MoreThanOneDocument) }
+    ensures unbuilt { (shape : PlainShape) → shape_at schema.now id.0 ≡ Some shape → is_read shape ≡ false → Gives data_of result (Err not_built) }
     ensures refused { IfErr result (λ fault. (tree : DocNode) (v : PlainData) (d k : ℕ) → others ≡ false → IsTreeOf document.now tree
         → Means schema.now tree id.0 tree false v d k → IsRefusal default_limits (length document.now.events) d k fault) }
     ensures faults { IfErr result (λ fault. (tree : DocNode) → IsTreeOf document.now tree → is_memory fault ≡ false
@@ -149,7 +153,12 @@ impl<'de> Deserializer<'de> {
             → Reads default_limits schema.now id.0 tree (length document.events) v → Gives data_of result (Err MoreThanOneDocument) }
         ensures iterated { self.entry.iterated ≡ true → Gives data_of result (Err MoreThanOneDocument) }
 
-        // A tree with a meaning is refused only past a limit, and a first document otherwise only for what its reading finds.
+        // Under a shape that is not read yet a first document is refused as such, whatever it holds.
+        ensures unbuilt { (document : PlainDocument) (others : List PlainDocument) (shape : PlainShape) → Begins self.entry document others
+            → shape_at schema.now id.0 ≡ Some shape → is_read shape ≡ false → Gives data_of result (Err not_built) }
+
+        // A tree with a meaning is refused only past a limit, and any tree only by a fault that a reading may find, or since other
+        // documents follow.
         ensures refused { IfErr result (λ fault. (document : PlainDocument) (tree : DocNode) (v : PlainData) (d k : ℕ)
             → Begins self.entry document [] → IsTreeOf document tree → Means schema.now tree id.0 tree false v d k
             → IsRefusal default_limits (length document.events) d k fault) }
@@ -157,7 +166,7 @@ impl<'de> Deserializer<'de> {
             → Begins self.entry document others → IsTreeOf document tree → is_memory fault ≡ false
             → IsFirstFault default_limits schema.now id.0 document tree others fault) }
 
-        // A first document that was cut off is refused by what cut it off, or by a fault that reading finds before that.
+        // A first document that was cut off is refused by what cut it off, or by a fault that a reading may find.
         ensures cut { IfErr result (λ fault. (document : PlainDocument) (others : List PlainDocument) (cause : Cause)
             → Begins self.entry document others → document.ending ≡ Some cause → is_memory fault ≡ false
             → IsCutFault schema.now document cause fault) }

@@ -1,5 +1,5 @@
 -- What reading any events may be refused by, also where they are the events of no tree.
-use Rattle.std.proofs.Common.{◌≡◌, ℕ, zero, suc, ◌⊎◌, List, Option, Some, None, Ok, Err, Bool, true, false, refl, sym, subst, ◌∙◌}
+use Rattle.std.proofs.Common.{◌≡◌, ◌≢◌, ℕ, zero, suc, ◌⊎◌, List, Option, Some, None, Ok, Err, Bool, true, false, refl, sym, subst, ◌∙◌}
 use Rattle.std.specs.Prelude.{if◌then◌else◌}
 use mathlib.Core.Logic.{inl, inr}
 use Rattle.yaml_base.specs.Position.{Position}
@@ -11,7 +11,7 @@ use Rattle.yaml_read.specs.PlainDocEvent.{PlainDocEvent, alias_to, a_scalar, seq
 use Rattle.yaml_read.specs.Scalars.{is_read, scalar_data, void_data}
 use Rattle.yaml_read.specs.Reader.{Spot, Reading, Events, after, is_sequence_end, is_mapping_end, items_step, entries_step, items_at, entries_at, shape_step, node_step, node_at}
 use Rattle.yaml_read.specs.ReadingFaults.{no_meaning, not_built}
-use Rattle.yaml_read.specs.Reads.{IsReadingFault, too_deep, too_often, meaningless, not_yet}
+use Rattle.yaml_read.specs.Reads.{IsReadingFault, too_deep, too_often, meaningless, nothing_there, not_yet}
 use Rattle.yaml_read.proofs.Refusals.{bind_err, wrap_err, ended_err, pursue_err, no_such, deep, within_parts, sequence_err, mapping_err, by_read}
 
 by_end : {A : Type 0} (b : Bool) (x : A × Spot) (r : Reading A) (y : Cause) → (if b then Ok x else r) ≡ Err y → r ≡ Err y
@@ -92,7 +92,7 @@ module _ (schema : List PlainShape) (events : Events) (size : ℕ) where
     | inl e ↦ found e (too_often at.place j mark is)
     | inr m ↦ r id nest false (record { place = j; left = m.0 }) y m.2
   ]
-  a_node fuel r sh id nest taken at (Some (a_scalar w, mark)) y is h = found (ended_err (after at) (scalar_data sh taken w) y h) meaningless
+  a_node fuel r sh id nest taken at (Some (a_scalar w, mark)) y is h = found (ended_err no_meaning (after at) (scalar_data sh taken w) y h) meaningless
   a_node fuel r sh id nest taken at (Some (sequence_begins tag, mark)) y is h = elim (sequence_err (node_at fuel schema events size) events size sh nest mark (after at) y h) [
     | no_such e ↦ found e meaningless
     | deep e ↦ found e (too_deep at.place _ mark is refl)
@@ -105,7 +105,7 @@ module _ (schema : List PlainShape) (events : Events) (size : ℕ) where
     | within_parts n e f ↦ entries_refused (node_at fuel schema events size f.0 n false) (node_at fuel schema events size f.1 n false) (r f.0 n false) (r f.1 n false) size (after at) y f.2
   ]
   a_node fuel r sh id nest taken at (Some (mapping_ends, mark)) y is h = inl cc
-  a_node fuel r sh id nest taken at (Some (a_void, mark)) y is h = found (ended_err (after at) (void_data sh) y h) meaningless
+  a_node fuel r sh id nest taken at (Some (a_void, mark)) y is h = inl (ended_err EndOfStream (after at) (void_data sh) y h)
 
   by_shape : (fuel : ℕ) → NodesAreRefused fuel → (o : Option PlainShape) (id nest : ℕ) (taken : Bool) (at : Spot) (y : Cause) → shape_at schema id ≡ o
       → node_step (node_at fuel schema events size) events size id nest taken at o (events at.place) ≡ Err y → IsRefused y
@@ -133,13 +133,14 @@ no_meaning_is_no_end : no_meaning ≡ EndOfStream → ⊥
 unfolding no_meaning
 no_meaning_is_no_end h = absurd cc
 
-not_built_is_no_end : not_built ≡ EndOfStream → ⊥
+pub not_built_is_no_end : not_built ≡ EndOfStream → ⊥
 unfolding not_built
 not_built_is_no_end h = absurd cc
 
--- a fault of reading never says that the events end too soon
-pub no_end : {schema : List PlainShape} {events : Events} {y : Cause} → IsReadingFault schema events y → y ≡ EndOfStream → ⊥
-no_end (too_deep p e m a b) h = absurd cc
-no_end (too_often p t m a) h = absurd cc
-no_end meaningless h = no_meaning_is_no_end h
-no_end (not_yet id s a b) h = not_built_is_no_end h
+-- a fault of reading tells that the stream is empty, or another thing than an end
+pub end_or_not : {schema : List PlainShape} {events : Events} {y : Cause} → IsReadingFault schema events y → (EndOfStream ≡ y) ⊎ (y ≢ EndOfStream)
+end_or_not (too_deep p e m a b) = inr (λ h. absurd cc)
+end_or_not (too_often p t m a) = inr (λ h. absurd cc)
+end_or_not meaningless = inr no_meaning_is_no_end
+end_or_not (nothing_there p m a) = inl refl
+end_or_not (not_yet id s a b) = inr not_built_is_no_end

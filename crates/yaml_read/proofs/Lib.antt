@@ -16,5 +16,4 @@ pub mod PlainWalks
 pub mod StreamLaws
 pub mod StreamMachineLaws
 pub mod Targets
-pub mod TreeLaws
 pub mod WrongPlaces

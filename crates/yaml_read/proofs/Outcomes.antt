@@ -2,7 +2,7 @@
 use Rattle.std.proofs.Common.{◌≡◌, ℕ, zero, suc, ◌+◌, ◌-◌, ◌<◌, ◌≤◌, List, [], ◌∷◌, ◌++◌, length, Some, Ok, Err, Bool, true, false, refl, ap, subst, ◌∙◌, arith, length-append, append_assoc}
 use Rattle.std.specs.Prelude.{max}
 use Rattle.yaml_base.specs.Position.{Position}
-use Rattle.yaml_base.specs.declared.error.Cause.TheVariants.{RecursionLimitExceeded, RepetitionLimitExceeded}
+use Rattle.yaml_base.specs.declared.error.Cause.TheVariants.{EndOfStream, RecursionLimitExceeded, RepetitionLimitExceeded}
 use Rattle.yaml_shape.specs.PlainShape.{PlainShape, i64, bool_shape, integer_shape, str_shape, shape_at, seq_shape, map_shape}
 use Rattle.yaml_shape.specs.PlainData.{PlainData, PlainItems, PlainEntries, seq_data, map_data, no_items, item, no_entries, entry}
 use Rattle.yaml_read.specs.PlainDocEvent.{PlainDocEvent, alias_to, a_scalar, sequence_begins, sequence_ends, mapping_begins, mapping_ends, a_void}
@@ -10,7 +10,8 @@ use Rattle.yaml_read.specs.DocTree.{DocNode, DocNodes, DocPairs, nothing, refere
 use Rattle.yaml_base.specs.PlainEvent.{PlainScalar}
 use Rattle.yaml_read.specs.Scalars.{is_read, scalar_data, void_data}
 use Rattle.yaml_read.specs.Meaning.{Means, MeanEach, MeanPairs, means_target, means_void, means_scalar, means_sequence, means_mapping, means_none, means_more, means_no_pairs, means_pair}
-use Rattle.yaml_read.specs.Reader.{Spot, Reading, Events, ◌>>=◌, after, or_no_meaning, ending, enter, pursue, is_sequence_end, is_mapping_end, items_at, entries_at, event_at, node_at}
+use Rattle.yaml_read.specs.Reader.{Spot, Reading, Events, ◌>>=◌, after, or_fault, ending, enter, pursue, is_sequence_end, is_mapping_end, items_at, entries_at, event_at, node_at}
+use Rattle.yaml_read.specs.ReadingFaults.{no_meaning}
 use Rattle.yaml_read.proofs.Turns.{items_end, entries_end}
 use Rattle.yaml_read.proofs.Shown.{Shows, shows_front, shows_rest, target_shown, starts}
 
@@ -119,8 +120,8 @@ module _ (schema : List PlainShape) (events : Events) (size : ℕ) where
           rw (at_event fuel id nest taken at sh.0 (alias_to j) s.0.0 sh.1 sh.2 s.0.1)
           (followed (node_at fuel schema events size id nest false) j at v (j + length (events_of n)) nest d k
           (λ f is. outcome m fuel nest (record { place = j; left = f }) (target_shown events root j n root_shown e) (omega arith)))
-      outcome (means_void {id} {s = sh} {taken} {v} e f) (suc fuel) nest at s lt = here v at nest _ (at_event fuel id nest taken at sh a_void s.0.0 e (void_read sh v f) s.0.1 ∙ ap (λ o. ending (after at) (or_no_meaning o)) f)
-      outcome (means_scalar {id} {s = sh} {w} {taken} {v} e f) (suc fuel) nest at s lt = here v at nest _ (at_event fuel id nest taken at sh (a_scalar w) s.0.0 e (scalar_read sh taken w v f) s.0.1 ∙ ap (λ o. ending (after at) (or_no_meaning o)) f)
+      outcome (means_void {id} {s = sh} {taken} {v} e f) (suc fuel) nest at s lt = here v at nest _ (at_event fuel id nest taken at sh a_void s.0.0 e (void_read sh v f) s.0.1 ∙ ap (λ o. ending (after at) (or_fault EndOfStream o)) f)
+      outcome (means_scalar {id} {s = sh} {w} {taken} {v} e f) (suc fuel) nest at s lt = here v at nest _ (at_event fuel id nest taken at sh (a_scalar w) s.0.0 e (scalar_read sh taken w v f) s.0.1 ∙ ap (λ o. ending (after at) (or_fault no_meaning o)) f)
       outcome (means_sequence {id} {e = a} {tag} {ns} {taken} {vs} {d} {k} e m) (suc fuel) nest at s lt =
           rw (at_event fuel id nest taken at (seq_shape a) (sequence_begins tag) s.0.0 e refl s.0.1)
           (entered nest d k (at.place + suc (length (events_of_nodes ns ++ sequence_ends ∷ []))) at.left s.0.0 _ (seq_data vs)

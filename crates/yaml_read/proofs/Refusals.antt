@@ -4,15 +4,15 @@ use Rattle.std.specs.Prelude.{if◌then◌else◌}
 use mathlib.Core.Logic.{inl, inr}
 use Rattle.yaml_base.specs.Position.{Position}
 use Rattle.yaml_base.specs.declared.error.Cause.{Cause}
-use Rattle.yaml_base.specs.declared.error.Cause.TheVariants.{RecursionLimitExceeded, RepetitionLimitExceeded}
+use Rattle.yaml_base.specs.declared.error.Cause.TheVariants.{EndOfStream, RecursionLimitExceeded, RepetitionLimitExceeded}
 use Rattle.yaml_shape.specs.PlainShape.{PlainShape, seq_shape, map_shape, shape_at}
 use Rattle.yaml_shape.specs.PlainData.{PlainData, seq_data, map_data, item, entry}
 use Rattle.yaml_read.specs.PlainDocEvent.{PlainDocEvent, alias_to, sequence_ends, mapping_ends}
 use Rattle.yaml_read.specs.DocTree.{DocNode, DocNodes, DocPairs, nothing, reference, word, list, mapping, no_nodes, node, no_pairs, pair, events_of, events_of_nodes, events_of_pairs, node_of}
 use Rattle.yaml_read.specs.Scalars.{is_read, scalar_data, void_data}
-use Rattle.yaml_read.specs.Reader.{Spot, Reading, Events, Reader, ◌>>=◌, after, or_no_meaning, ending, enter, pursue, items_at, entries_at, sequence_at, mapping_at, shape_step, node_step, node_at}
+use Rattle.yaml_read.specs.Reader.{Spot, Reading, Events, Reader, ◌>>=◌, after, or_fault, ending, enter, pursue, items_at, entries_at, sequence_at, mapping_at, shape_step, node_step, node_at}
 use Rattle.yaml_read.specs.ReadingFaults.{no_meaning, not_built}
-use Rattle.yaml_read.specs.Reads.{IsReadingFault, too_deep, too_often, meaningless, not_yet}
+use Rattle.yaml_read.specs.Reads.{IsReadingFault, too_deep, too_often, meaningless, nothing_there, not_yet}
 use Rattle.yaml_read.proofs.Turns.{items_end, entries_end}
 use Rattle.yaml_read.proofs.Shown.{Shows, shows_front, shows_rest, target_shown, starts}
 use Rattle.yaml_read.proofs.Outcomes.{items_going, entries_going, wide}
@@ -27,9 +27,9 @@ pub wrap_err : {A B : Type 0} (r : Reading A) (f : A → B) (y : Cause) → ◌>
 wrap_err (Ok x) f y h = absurd cc
 wrap_err (Err e) f y h = let same : e ≡ y = cc in ap Err same
 
-pub ended_err : (at : Spot) (o : Option PlainData) (y : Cause) → ending at (or_no_meaning o) ≡ Err y → no_meaning ≡ y
-ended_err at None y h = cc
-ended_err at (Some v) y h = absurd cc
+pub ended_err : (fault : Cause) (at : Spot) (o : Option PlainData) (y : Cause) → ending at (or_fault fault o) ≡ Err y → fault ≡ y
+ended_err fault at None y h = cc
+ended_err fault at (Some v) y h = absurd cc
 
 pub pursue_err : (read : Spot → Reading PlainData) (j p n : ℕ) (y : Cause) → pursue read j p n ≡ Err y
     → (RepetitionLimitExceeded ≡ y) ⊎ ((m : ℕ) × (n ≡ suc m) × (read (record { place = j; left = m }) ≡ Err y))
@@ -150,10 +150,10 @@ module _ (schema : List PlainShape) (events : Events) (size : ℕ) (root : DocNo
       → shape_step (node_at fuel schema events size) events size id nest taken at sh (events at.place) ≡ Err y → IsReadingFault schema events y
   a_node fuel faulty sh nothing id nest taken at y s lt h =
       let h' = rw s.0.1 at h in
-      subst (IsReadingFault schema events) (ended_err (after at) (void_data sh) y h') meaningless
+      subst (IsReadingFault schema events) (ended_err EndOfStream (after at) (void_data sh) y h') (nothing_there at.place s.0.0 s.0.1)
   a_node fuel faulty sh (word w) id nest taken at y s lt h =
       let h' = rw s.0.1 at h in
-      subst (IsReadingFault schema events) (ended_err (after at) (scalar_data sh taken w) y h') meaningless
+      subst (IsReadingFault schema events) (ended_err no_meaning (after at) (scalar_data sh taken w) y h') meaningless
   a_node fuel faulty sh (reference j) id nest taken at y s lt h =
       let h' = rw s.0.1 at h in
       let target = known at.place j s.0.0 s.0.1 in

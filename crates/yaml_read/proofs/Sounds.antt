@@ -3,14 +3,15 @@ use Rattle.std.proofs.Common.{◌≡◌, ℕ, zero, suc, ◌+◌, ◌≤◌, Lis
 use Rattle.std.specs.Prelude.{max, if◌then◌else◌}
 use Rattle.yaml_base.specs.Position.{Position}
 use Rattle.yaml_base.specs.declared.error.Cause.{Cause}
+use Rattle.yaml_base.specs.declared.error.Cause.TheVariants.{EndOfStream}
 use Rattle.yaml_shape.specs.PlainShape.{PlainShape, seq_shape, map_shape, shape_at}
 use Rattle.yaml_shape.specs.PlainData.{PlainData, PlainItems, PlainEntries, seq_data, map_data, no_items, item, no_entries, entry}
 use Rattle.yaml_read.specs.PlainDocEvent.{PlainDocEvent, alias_to, a_scalar, sequence_begins, sequence_ends, mapping_begins, mapping_ends, a_void}
 use Rattle.yaml_read.specs.DocTree.{DocNode, DocNodes, DocPairs, nothing, reference, word, list, mapping, no_nodes, node, no_pairs, pair, events_of, events_of_nodes, events_of_pairs, node_of}
 use Rattle.yaml_read.specs.Scalars.{is_read, scalar_data, void_data}
 use Rattle.yaml_read.specs.Meaning.{Means, MeanEach, MeanPairs, means_target, means_void, means_scalar, means_sequence, means_mapping, means_none, means_more, means_no_pairs, means_pair}
-use Rattle.yaml_read.specs.Reader.{Spot, Reading, Events, Reader, ◌>>=◌, after, or_no_meaning, ending, enter, pursue, items_at, entries_at, sequence_at, mapping_at, shape_step, node_step, node_at}
-use Rattle.yaml_read.specs.ReadingFaults.{not_built}
+use Rattle.yaml_read.specs.Reader.{Spot, Reading, Events, Reader, ◌>>=◌, after, or_fault, ending, enter, pursue, items_at, entries_at, sequence_at, mapping_at, shape_step, node_step, node_at}
+use Rattle.yaml_read.specs.ReadingFaults.{no_meaning, not_built}
 use Rattle.yaml_read.proofs.Turns.{items_end, entries_end}
 use Rattle.yaml_read.proofs.Shown.{Shows, shows_front, shows_rest, target_shown, starts}
 use Rattle.yaml_read.proofs.Outcomes.{at_event, items_going, entries_going}
@@ -22,9 +23,9 @@ bind_ok (Err e) f y h = absurd cc
 same_ok : {A : Type 0} (x y : A) → ◌≡◌ {A = Result A Cause} (Ok x) (Ok y) → x ≡ y
 same_ok x y h = cc
 
-ended_ok : (a next : Spot) (v : PlainData) (o : Option PlainData) → ending a (or_no_meaning o) ≡ Ok (v, next) → (o ≡ Some v) × (a ≡ next)
-ended_ok a next v None h = absurd cc
-ended_ok a next v (Some w) h =
+ended_ok : (fault : Cause) (a next : Spot) (v : PlainData) (o : Option PlainData) → ending a (or_fault fault o) ≡ Ok (v, next) → (o ≡ Some v) × (a ≡ next)
+ended_ok fault a next v None h = absurd cc
+ended_ok fault a next v (Some w) h =
     let same : (w, a) ≡ (v, next) = same_ok _ _ h in
     (ap (λ (x : PlainData × Spot). Some x.0) same, ap (λ (x : PlainData × Spot). x.1) same)
 
@@ -127,7 +128,7 @@ module _ (schema : List PlainShape) (events : Events) (size : ℕ) (root : DocNo
       subst (λ x. FoundEach e (node n ns) x nest at next) (ap (λ x. x.0) same) (subst (λ x. FoundEach e (node n ns) (item b.0.0 b'.0.0) nest at x) (ap (λ x. x.1) same) (record {
         d = max first.d others.d;
         k = first.k + others.k;
-        means = means_more first.means others.means;
+        means = means_more {d = first.d} {d' = others.d} {k = first.k} {k' = others.k} first.means others.means;
         nested = omega (arith, first.nested, others.nested);
         followed = omega (arith, first.followed, others.followed);
         ends = omega (arith, first.ends, others.ends, length-append (events_of n) (events_of_nodes ns ++ sequence_ends ∷ []), ap (length {A = PlainDocEvent}) (append_assoc (events_of n) (events_of_nodes ns) (sequence_ends ∷ [])));
@@ -161,7 +162,7 @@ module _ (schema : List PlainShape) (events : Events) (size : ℕ) (root : DocNo
       subst (λ z. FoundPairs a b (pair x y ps) z nest at next) (ap (λ z. z.0) same) (subst (λ z. FoundPairs a b (pair x y ps) (entry p.0.0 q.0.0 r.0.0) nest at z) (ap (λ z. z.1) same) (record {
         d = max first.d (max second.d others.d);
         k = first.k + (second.k + others.k);
-        means = means_pair first.means second.means others.means;
+        means = means_pair {d = first.d} {d' = second.d} {d'' = others.d} {k = first.k} {k' = second.k} {k'' = others.k} first.means second.means others.means;
         nested = omega (arith, first.nested, second.nested, others.nested);
         followed = omega (arith, first.followed, second.followed, others.followed);
         ends = omega (arith, first.ends, second.ends, others.ends, length-append (events_of x) after_key, ap (length {A = PlainDocEvent}) (append_assoc (events_of x) (events_of y ++ events_of_pairs ps) (mapping_ends ∷ [])), length-append (events_of y) after_value, ap (length {A = PlainDocEvent}) (append_assoc (events_of y) (events_of_pairs ps) (mapping_ends ∷ [])));
@@ -178,11 +179,11 @@ module _ (schema : List PlainShape) (events : Events) (size : ℕ) (root : DocNo
   sound zero n id nest taken at next v s h = absurd (none_sound id nest taken at (v, next) h)
   sound (suc fuel) nothing id nest taken at next v s h =
       let sh = has_shape fuel id nest taken at (v, next) h in
-      let e = ended_ok (after at) next v (void_data sh.0) (sym (at_event schema events size fuel id nest taken at sh.0 a_void s.0.0 sh.1 sh.2 s.0.1) ∙ h) in
+      let e = ended_ok EndOfStream (after at) next v (void_data sh.0) (sym (at_event schema events size fuel id nest taken at sh.0 a_void s.0.0 sh.1 sh.2 s.0.1) ∙ h) in
       at_end id nothing taken v nest at next e.1 refl (means_void sh.1 e.0)
   sound (suc fuel) (word w) id nest taken at next v s h =
       let sh = has_shape fuel id nest taken at (v, next) h in
-      let e = ended_ok (after at) next v (scalar_data sh.0 taken w) (sym (at_event schema events size fuel id nest taken at sh.0 (a_scalar w) s.0.0 sh.1 sh.2 s.0.1) ∙ h) in
+      let e = ended_ok no_meaning (after at) next v (scalar_data sh.0 taken w) (sym (at_event schema events size fuel id nest taken at sh.0 (a_scalar w) s.0.0 sh.1 sh.2 s.0.1) ∙ h) in
       at_end id (word w) taken v nest at next e.1 refl (means_scalar sh.1 e.0)
   sound (suc fuel) (reference j) id nest taken at next v s h =
       let sh = has_shape fuel id nest taken at (v, next) h in
@@ -192,7 +193,7 @@ module _ (schema : List PlainShape) (events : Events) (size : ℕ) (root : DocNo
       record {
         d = f.d;
         k = suc f.k;
-        means = means_target target.1 f.means;
+        means = means_target {d = f.d} {k = f.k} target.1 f.means;
         nested = f.nested;
         followed = omega (arith, f.followed, p.1, ap (λ (x : Spot). x.left) p.4);
         ends = omega (arith, ap (λ (x : Spot). x.place) p.4);

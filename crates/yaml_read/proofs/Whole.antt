@@ -1,5 +1,5 @@
 -- Reading a whole document.
-use Rattle.std.proofs.Common.{◌≡◌, ℕ, suc, ◌+◌, ◌*◌, ◌<◌, ◌≤◌, ◌⊎◌, List, [], ◌∷◌, map, length, Result, Ok, Err, Bool, true, false, refl, sym, ap, subst, ◌∙◌, arith}
+use Rattle.std.proofs.Common.{◌≡◌, ℕ, suc, ◌+◌, ◌*◌, ◌<◌, ◌≤◌, ◌⊎◌, List, [], ◌∷◌, map, length, Some, Result, Ok, Err, Bool, true, false, refl, sym, ap, subst, ◌∙◌, arith}
 use mathlib.Core.Logic.{inl, inr}
 use Rattle.std.specs.Prelude.{slice_get}
 use Rattle.std.proofs.lemmas.Option.{slice_get_within}
@@ -8,7 +8,7 @@ use Rattle.yaml_base.specs.Position.{Position}
 use Rattle.yaml_base.specs.Answer.{is_memory}
 use Rattle.yaml_base.specs.declared.error.Cause.{Cause}
 use Rattle.yaml_base.specs.declared.error.Cause.TheVariants.{Memory, EndOfStream}
-use Rattle.yaml_shape.specs.PlainShape.{PlainShape}
+use Rattle.yaml_shape.specs.PlainShape.{PlainShape, shape_at}
 use Rattle.yaml_shape.specs.PlainData.{PlainData}
 use Rattle.yaml_read.specs.PlainDocEvent.{PlainDocEvent}
 use Rattle.yaml_read.specs.PlainDocument.{PlainDocument}
@@ -17,12 +17,15 @@ use Rattle.yaml_read.specs.declared.doc_event.DocEvent.{DocEvent}
 use Rattle.yaml_read.specs.DocTree.{DocNode, events_of}
 use Rattle.yaml_read.specs.Meaning.{Means}
 use Rattle.yaml_read.specs.Reader.{Spot, Reading, Events, node_at}
+use Rattle.yaml_read.specs.ReadingFaults.{not_built}
+use Rattle.yaml_read.specs.Scalars.{is_read}
 use Rattle.yaml_read.specs.Reads.{PlainLimits, IsTreeOf, Reads, IsRefusal, IsReadingFault}
 use Rattle.yaml_read.proofs.Shown.{Shows}
 use Rattle.yaml_read.proofs.Outcomes.{Outcome, reads, deep, many, outcome}
 use Rattle.yaml_read.proofs.Sounds.{sound}
+use Rattle.yaml_read.proofs.Turns.{node_unread}
 use Rattle.yaml_read.proofs.Refusals.{faulty}
-use Rattle.yaml_read.proofs.CutRefusals.{node_refused, no_end}
+use Rattle.yaml_read.proofs.CutRefusals.{node_refused, end_or_not, not_built_is_no_end}
 
 shift : (f : Events) (p : ℕ) (es : List PlainDocEvent) → Shows (λ q. f (suc q)) p es → Shows f (suc p) es
 shift f p [] s = tt
@@ -104,6 +107,37 @@ no_memory fault e h = let bad = rw h at e in absurd cc
 both_ways : (b : Bool) → b ≡ true → b ≡ false → ⊥
 both_ways b e f = let bad = sym e ∙ f in absurd cc
 
+-- no reading goes into a shape that is not read yet
+pub unread : (limits : PlainLimits) (schema : List PlainShape) (document : PlainDocument) (id : ℕ) (s : PlainShape) → shape_at schema id ≡ Some s → is_read s ≡ false
+    → whole_reading limits schema document id ≡ Err not_built
+unread limits schema document id s is r =
+    node_unread (limits.follows * length document.events + limits.nesting + 1) schema (slice_get document.events) (length document.events) id limits.nesting false
+    (record { place = 0; left = limits.follows * length document.events }) s (omega arith) (sym is) r
+
+no_data : {A : Type 0} (r : Reading A) (x : A × Spot) (e : Cause) → r ≡ Err e → r ≡ Ok x → ⊥
+no_data r x e f h = let bad = sym f ∙ h in absurd cc
+
+-- its reading is no data, and a fault of it is that the shape is not read
+pub unread_data : (limits : PlainLimits) (schema : List PlainShape) (document : PlainDocument) (id : ℕ) (s : PlainShape) (x : PlainData × Spot) → shape_at schema id ≡ Some s → is_read s ≡ false
+    → whole_reading limits schema document id ≡ Ok x → ⊥
+unread_data limits schema document id s x is r h = no_data _ x not_built (unread limits schema document id s is r) h
+
+pub unread_fault : (limits : PlainLimits) (schema : List PlainShape) (document : PlainDocument) (id : ℕ) (s : PlainShape) (y : Cause) → shape_at schema id ≡ Some s → is_read s ≡ false
+    → whole_reading limits schema document id ≡ Err y → not_built ≡ y
+unread_fault limits schema document id s y is r h = err_is _ _ (sym (unread limits schema document id s is r) ∙ h)
+
+-- what is told under such a shape, of a document that was cut off too, is that it is not read
+pub told_unread : (limits : PlainLimits) (schema : List PlainShape) (document : PlainDocument) (id : ℕ) (s : PlainShape) (fault told : Cause) → shape_at schema id ≡ Some s → is_read s ≡ false
+    → ((fault ≡ EndOfStream → ⊥) → told ≡ fault)
+    → (is_memory fault ≡ false → whole_reading limits schema document id ≡ Err fault) → is_memory told ≡ false → not_built ≡ told
+told_unread limits schema document id s fault told is r kept gives here = by_memory (is_memory fault) refl
+  where
+    by_memory : (b : Bool) → is_memory fault ≡ b → not_built ≡ told
+    by_memory true e = absurd (both_ways (is_memory told) (ap is_memory (kept (no_memory fault e)) ∙ e) here)
+    by_memory false e =
+        let same = err_is _ _ (sym (unread limits schema document id s is r) ∙ gives e) in
+        same ∙ sym (kept (λ end. not_built_is_no_end (same ∙ end)))
+
 -- what is told of a document that was cut off: what cut it off, or a fault that reading found
 pub told_or_found : (limits : PlainLimits) (schema : List PlainShape) (document : PlainDocument) (id : ℕ) (fault told cut : Cause)
     → (fault ≡ EndOfStream → is_memory told ≡ false → told ≡ cut) → ((fault ≡ EndOfStream → ⊥) → told ≡ fault)
@@ -119,5 +153,8 @@ told_or_found limits schema document id fault told cut ended kept gives here = b
         elim (node_refused schema (slice_get document.events) (length document.events) (limits.follows * length document.events + limits.nesting + 1) id limits.nesting false
         (record { place = 0; left = limits.follows * length document.events }) fault (gives e)) [
           | inl f ↦ inl (ended (sym f) here)
-          | inr f ↦ inr (subst (IsReadingFault schema (slice_get document.events)) (sym (kept (no_end f))) f)
+          | inr f ↦ elim (end_or_not f) [
+            | inl is ↦ inl (ended (sym is) here)
+            | inr other ↦ inr (subst (IsReadingFault schema (slice_get document.events)) (sym (kept other)) f)
+          ]
         ]

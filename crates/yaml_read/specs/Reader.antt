@@ -31,10 +31,10 @@ Events = ℕ → Option (PlainDocEvent × Position)
 abbrev pub after : Spot → Spot
 after at = record { place = at.place + 1; left = at.left }
 
--- data that is there, or no meaning
-abbrev pub or_no_meaning : Option PlainData → Result PlainData Cause
-or_no_meaning None = Err no_meaning
-or_no_meaning (Some v) = Ok v
+-- data that is there, or else this fault
+abbrev pub or_fault : Cause → Option PlainData → Result PlainData Cause
+or_fault fault None = Err fault
+or_fault fault (Some v) = Ok v
 
 -- data, with where the reading ended
 abbrev pub ending : {A : Type 0} → Spot → Result A Cause → Reading A
@@ -53,6 +53,7 @@ pursue read j p (suc left) = do
   found ← read (record { place = j; left = left })
   Ok (found.0, record { place = p + 1; left = found.1.left })
 
+-- the event ends a sequence
 abbrev pub is_sequence_end : PlainDocEvent → Bool
 is_sequence_end (alias_to j) = false
 is_sequence_end (a_scalar s) = false
@@ -62,6 +63,7 @@ is_sequence_end (mapping_begins tag) = false
 is_sequence_end mapping_ends = false
 is_sequence_end a_void = false
 
+-- the event ends a mapping
 abbrev pub is_mapping_end : PlainDocEvent → Bool
 is_mapping_end (alias_to j) = false
 is_mapping_end (a_scalar s) = false
@@ -119,12 +121,12 @@ mapping_at read events size _ nest mark at = Err no_meaning
 -- a node that begins with an event
 abbrev pub event_at : Reader → Events → ℕ → ℕ → PlainShape → ℕ → Bool → Spot → PlainDocEvent → Position → Reading PlainData
 event_at read events size id s nest taken at (alias_to j) mark = pursue (read id nest false) j at.place at.left
-event_at read events size id s nest taken at (a_scalar w) mark = ending (after at) (or_no_meaning (scalar_data s taken w))
+event_at read events size id s nest taken at (a_scalar w) mark = ending (after at) (or_fault no_meaning (scalar_data s taken w))
 event_at read events size id s nest taken at (sequence_begins tag) mark = sequence_at read events size s nest mark (after at)
 event_at read events size id s nest taken at sequence_ends mark = Err EndOfStream
 event_at read events size id s nest taken at (mapping_begins tag) mark = mapping_at read events size s nest mark (after at)
 event_at read events size id s nest taken at mapping_ends mark = Err EndOfStream
-event_at read events size id s nest taken at a_void mark = ending (after at) (or_no_meaning (void_data s))
+event_at read events size id s nest taken at a_void mark = ending (after at) (or_fault EndOfStream (void_data s))
 
 -- a node under a shape that is read, whose first event was looked up
 abbrev pub shape_step : Reader → Events → ℕ → ℕ → ℕ → Bool → Spot → PlainShape → Option (PlainDocEvent × Position) → Reading PlainData

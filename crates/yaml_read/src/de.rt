@@ -3,15 +3,18 @@
 mod node;
 mod scalar;
 
-ghost use Rattle.std.specs.Prelude.{◌≡◌, ◌≢◌, ℕ, ◌<◌, length, Ok, Some, None, OnOk, IfOk, IfErr, false, slice_get};
+ghost use Rattle.std.specs.Prelude.{◌≡◌, ◌≢◌, ℕ, ◌<◌, length, Ok, Err, Some, None, OnOk, IfOk, IfErr, false, slice_get};
 ghost use Rattle.yaml_base.specs.Answer.{Gives, is_memory};
 ghost use Rattle.yaml_base.specs.declared.error.Cause.{Cause};
 ghost use Rattle.yaml_base.specs.declared.error.Cause.TheVariants.{EndOfStream};
 ghost use Rattle.yaml_shape.specs.DataView.{data_of};
 ghost use Rattle.yaml_shape.specs.PlainData.{PlainData};
+ghost use Rattle.yaml_shape.specs.PlainShape.{PlainShape, shape_at};
 ghost use Rattle.yaml_read.specs.DocTree.{DocNode};
 ghost use Rattle.yaml_read.specs.Meaning.{Means};
+ghost use Rattle.yaml_read.specs.ReadingFaults.{not_built};
 ghost use Rattle.yaml_read.specs.Reads.{default_limits, IsTreeOf, Reads, IsRefusal, IsReadingFault, IsCutFault};
+ghost use Rattle.yaml_read.specs.Scalars.{is_read};
 
 use crate::de::node::read_node;
 use crate::document::Document;
@@ -63,13 +66,17 @@ impl<'de> Document<'de> {
         ensures only { (root : DocNode) (v : PlainData) → IsTreeOf self.now root
             → Reads default_limits schema.now id.0 root (length self.now.events) v → Gives data_of result (Ok v) }
 
-        // A tree with a meaning is refused only past a limit, and no tree is refused otherwise than so or for want of a meaning.
+        // A shape that is not read yet is refused as such, whatever the document holds.
+        ensures unbuilt { (shape : PlainShape) → shape_at schema.now id.0 ≡ Some shape → is_read shape ≡ false
+            → Gives data_of result (Err not_built) }
+
+        // A tree with a meaning is refused only past a limit, and any tree only by a fault that a reading may find.
         ensures refused { IfErr result (λ fault. (root : DocNode) (v : PlainData) (d k : ℕ) → IsTreeOf self.now root
             → Means schema.now root id.0 root false v d k → IsRefusal default_limits (length self.now.events) d k fault) }
         ensures faults { IfErr result (λ fault. (root : DocNode) → IsTreeOf self.now root → is_memory fault ≡ false
             → IsReadingFault schema.now (slice_get self.now.events) fault) }
 
-        // A document that was cut off is refused by what cut it off, or by a fault that reading finds before that.
+        // A document that was cut off is refused by what cut it off, or by a fault that a reading may find.
         ensures cut { IfErr result (λ fault. (cause : Cause) → self.now.ending ≡ Some cause → is_memory fault ≡ false
             → IsCutFault schema.now self.now cause fault) }
     {

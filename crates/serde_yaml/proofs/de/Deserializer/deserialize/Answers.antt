@@ -3,7 +3,7 @@ use Rattle.std.proofs.Common.{ap, ◌∙◌}
 use Rattle.yaml_shape.specs.DataView.{data_of}
 use Rattle.yaml_read.specs.Reads.{default_limits}
 use Rattle.serde_yaml.specs.StreamView.{documents_in}
-use Rattle.serde_yaml.proofs.FirstDocument.{splits_one, splits_stream, whole_of, found_of, only_of, more_of, refused_of, faults_of, cut_of}
+use Rattle.serde_yaml.proofs.FirstDocument.{splits_one, splits_stream, whole_of, found_of, only_of, unbuilt_of, more_of, refused_of, faults_of, cut_of}
 use Rattle.serde_yaml.proofs.de.Deserializer.deserialize.Goals as goal
 
 pub returns-in-One-clause-whole : goal.returns-in-One-clause-whole
@@ -20,6 +20,11 @@ pub returns-in-One-clause-only : goal.returns-in-One-clause-only
 returns-in-One-clause-only c =
     only_of _ _ _ _ (splits_one c.self.view_is c.if-iterated.false (ap documents_in c.in-One.is))
     default_limits c.args.schema.now c.args.id.0 data_of c.read_first.result c.read_first.ensures.only
+
+pub returns-in-One-clause-unbuilt : goal.returns-in-One-clause-unbuilt
+returns-in-One-clause-unbuilt c =
+    unbuilt_of _ _ _ _ (splits_one c.self.view_is c.if-iterated.false (ap documents_in c.in-One.is))
+    default_limits c.args.schema.now c.args.id.0 data_of c.read_first.result c.read_first.ensures.unbuilt
 
 pub returns-in-One-clause-refused : goal.returns-in-One-clause-refused
 returns-in-One-clause-refused c =
@@ -53,6 +58,12 @@ returns-in-Some-clause-only c =
     only_of _ _ _ _ (splits_stream c.next_document-in-Some.result c.next_document-in-Some.new.self c.self.view_is c.if-iterated.false (ap documents_in c.in-Stream.is ∙ c.in-Some.ensures.items)
     c.next_document-in-Some.ensures.items c.next_document-in-Some.ensures.none c.is_there-others.ensures)
     default_limits c.args.schema.now c.args.id.0 data_of c.read_first-in-Some.result c.read_first-in-Some.ensures.only
+
+pub returns-in-Some-clause-unbuilt : goal.returns-in-Some-clause-unbuilt
+returns-in-Some-clause-unbuilt c =
+    unbuilt_of _ _ _ _ (splits_stream c.next_document-in-Some.result c.next_document-in-Some.new.self c.self.view_is c.if-iterated.false (ap documents_in c.in-Stream.is ∙ c.in-Some.ensures.items)
+    c.next_document-in-Some.ensures.items c.next_document-in-Some.ensures.none c.is_there-others.ensures)
+    default_limits c.args.schema.now c.args.id.0 data_of c.read_first-in-Some.result c.read_first-in-Some.ensures.unbuilt
 
 pub returns-in-Some-clause-more : goal.returns-in-Some-clause-more
 returns-in-Some-clause-more c =

@@ -1,8 +1,8 @@
 -- What a document gives, from what its reading gives.
-use Rattle.std.proofs.Common.{◌≡◌, length, Ok, Some, sym, ap, ◌∙◌}
+use Rattle.std.proofs.Common.{◌≡◌, length, Ok, Err, Some, sym, ap, ◌∙◌}
 use Rattle.yaml_shape.specs.DataView.{data_of}
 use Rattle.yaml_read.specs.Reads.{default_limits}
-use Rattle.yaml_read.proofs.Whole.{seen_whole, whole_reading, means_only, read_only, refused_only, told_or_found, answered, never_refused, refusal_or_memory}
+use Rattle.yaml_read.proofs.Whole.{seen_whole, whole_reading, means_only, read_only, refused_only, told_or_found, unread_data, told_unread, unread_fault, answered, never_refused, refusal_or_memory}
 use Rattle.yaml_read.proofs.document.Document.deserialize.Goals as goal
 
 pub returns-in-None-clause-found : goal.returns-in-None-clause-found
@@ -40,3 +40,23 @@ returns-clause-cut c = λ cause cut here.
     told_or_found default_limits c.args.schema.now c.args.self.now c.args.id.0 c.in-Err.fault c.told.result cause
     (λ e h. c.told.ensures.ended e h ∙ same) c.told.ensures.kept
     (λ fault. seen_whole default_limits c.args.schema.now c.args.self.now c.args.id.0 c.events-events.result.now _ c.events-events.ensures.shown (λ fuel lt. c.in-Err.ensures.gives fuel lt fault)) here
+
+pub returns-in-None-clause-unbuilt : goal.returns-in-None-clause-unbuilt
+returns-in-None-clause-unbuilt c = λ shape is r.
+    absurd (unread_data default_limits c.args.schema.now c.args.self.now c.args.id.0 shape _ is r
+    (seen_whole default_limits c.args.schema.now c.args.self.now c.args.id.0 c.events-events.result.now _ c.events-events.ensures.shown c.in-Ok.ensures.gives))
+
+pub returns-in-Ok-clause-unbuilt : goal.returns-in-Ok-clause-unbuilt
+returns-in-Ok-clause-unbuilt c = λ shape is r.
+    absurd (unread_data default_limits c.args.schema.now c.args.self.now c.args.id.0 shape _ is r
+    (seen_whole default_limits c.args.schema.now c.args.self.now c.args.id.0 c.events-events.result.now _ c.events-events.ensures.shown c.in-Ok.ensures.gives))
+
+pub returns-in-None-error-clause-unbuilt : goal.returns-in-None-error-clause-unbuilt
+returns-in-None-error-clause-unbuilt c = λ shape is r fault.
+    ap Err (unread_fault default_limits c.args.schema.now c.args.self.now c.args.id.0 shape c.in-Err.fault is r
+    (seen_whole default_limits c.args.schema.now c.args.self.now c.args.id.0 c.events-events.result.now _ c.events-events.ensures.shown (λ fuel lt. c.in-Err.ensures.gives fuel lt fault)))
+
+pub returns-clause-unbuilt : goal.returns-clause-unbuilt
+returns-clause-unbuilt c = λ shape is r here.
+    ap Err (told_unread default_limits c.args.schema.now c.args.self.now c.args.id.0 shape c.in-Err.fault c.told.result is r c.told.ensures.kept
+    (λ fault. seen_whole default_limits c.args.schema.now c.args.self.now c.args.id.0 c.events-events.result.now _ c.events-events.ensures.shown (λ fuel lt. c.in-Err.ensures.gives fuel lt fault)) here)
