@@ -28,17 +28,17 @@ lines_of-whole (x ∷ y ∷ line) l h =
     rw (ne_eqb x 10 (lacks-head 10 x (y ∷ line) l)) (ap (onto_first x) (lines_of-whole (y ∷ line) (lacks-tail 10 x (y ∷ line) l) (omega arith)))
 
 -- the heads and the tails of equal lists are equal
-head-same : {X : Type 0} (x y : X) (xs ys : List X) → x ∷ xs ≡ y ∷ ys → x ≡ y
+pub head-same : {X : Type 0} (x y : X) (xs ys : List X) → x ∷ xs ≡ y ∷ ys → x ≡ y
 head-same x y xs ys e = ap (λ l. get_or l 0 x) e
 
-tail-same : {X : Type 0} (x y : X) (xs ys : List X) → x ∷ xs ≡ y ∷ ys → xs ≡ ys
+pub tail-same : {X : Type 0} (x y : X) (xs ys : List X) → x ∷ xs ≡ y ∷ ys → xs ≡ ys
 tail-same x y xs ys e = ap (drop 1) e
 
 -- a list with an element is not empty, and one with two is not one with one
 pushed_some : {X : Type 0} (xs : List X) (x : X) → xs ++ x ∷ [] ≡ [] → ⊥
 pushed_some xs x e = let l : length (xs ++ x ∷ []) ≡ 0 = ap length e in omega (arith, length-append xs (x ∷ []))
 
-not_empty : {X : Type 0} (x : X) (xs : List X) → [] ≡ x ∷ xs → ⊥
+pub not_empty : {X : Type 0} (x : X) (xs : List X) → [] ≡ x ∷ xs → ⊥
 not_empty x xs e = let l : 0 ≡ length (x ∷ xs) = ap length e in omega arith
 
 pushed_two : {X : Type 0} (x y z : X) (xs : List X) → x ∷ (xs ++ y ∷ []) ≡ z ∷ [] → ⊥

@@ -4,6 +4,7 @@ pub mod EscapeLaws
 pub mod EventLaws
 pub mod FaultLaws
 pub mod LineLaws
+pub mod OneInput
 pub mod OneReading
 pub mod PlaceLaws
 pub mod WordLaws

@@ -20,7 +20,7 @@ pub enum Line {
     Fault(ParserFault),
 }
 
-// What stands behind the mark of a line says.
+// What the text behind a line's mark says.
 fn said(alloc: Global, text: &[u8], mark: Mark) -> Result<Option<Line>, AllocError>
     ensures { IfOk result (λ found. MatchOption found
         ((said : Said) → ¬ (IsSaid text.now mark said))

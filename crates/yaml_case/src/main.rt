@@ -3,6 +3,7 @@
 
 mod escape;
 mod input;
+mod laws;
 mod line;
 mod read;
 mod run;
