@@ -5,4 +5,4 @@ mod large;
 mod makers;
 mod schemas;
 mod texts;
-mod typed;
+pub mod typed;

@@ -6,3 +6,4 @@ mod letters;
 mod nesting;
 mod reading;
 mod texts;
+mod unread;

@@ -57,7 +57,8 @@ fn add_own_marks(table: &mut Table) -> Result<(), AllocError> {
     table.add(
         Ok(Cause::UnknownAnchor(mark(1, 0))),
         "unknown anchor at line 2 column 1",
-    )
+    )?;
+    table.add(Ok(Cause::UnknownAnchor(mark(0, 0))), "unknown anchor")
 }
 
 // A number where any value but such a number was expected.

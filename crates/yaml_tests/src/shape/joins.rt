@@ -4,7 +4,8 @@ use crate::shape::makers::{single, variant};
 use std::alloc::{AllocError, Global};
 use std::test::Fail;
 use yaml_shape::{
-    Data, Schema, Shape, ShapeId, Typed, VariantShape, map_of, option_of, seq_of, tuple_of,
+    Data, Entry, Schema, Shape, ShapeId, Text, Typed, VariantShape, map_of, option_of, seq_of,
+    tuple_of,
 };
 
 // An enum behind a boolean, whose one variant holds that boolean.
@@ -80,7 +81,31 @@ fn a_join_of_joins(rt: HostRuntime) -> Result<(), Fail> {
     Ok(())
 }
 
-// Whether no data is that of the tuple of no schemas.
+// A mapping from a text to data of the enum, behind a text.
+fn text_and_mapping(alloc: Global) -> Result<Data<'static>, AllocError> {
+    let entry = Entry {
+        key: Data::Str(Text::Borrowed("k")),
+        value: held(alloc)?,
+    };
+    let mapping = Data::Map(vec![in alloc; entry]?);
+    Ok(Data::Tuple(
+        vec![in alloc; Data::Str(Text::Borrowed("t")), mapping]?,
+    ))
+}
+
+#[test]
+fn a_joined_table_is_moved_again(rt: HostRuntime) -> Result<(), Fail> {
+    let alloc = rt.alloc();
+    let map = mapped(alloc, start(alloc, 0)?, start(alloc, 1)?)?;
+    let (all, id) = paired(alloc, start(alloc, 0)?, map)?;
+    assert!(rt; id == ShapeId(5));
+    assert!(rt; is_of(&all, id, &text_and_mapping(alloc)?));
+    assert!(rt; holds(alloc, &all, 3)?);
+    assert!(rt; !holds(alloc, &all, 2)?);
+    Ok(())
+}
+
+// Whether the empty tuple is data of the tuple of no schemas.
 fn is_empty_tuple(alloc: Global) -> Result<bool, Fail> {
     let (empty, id) = tuple_of(alloc, Vec::new(alloc))?;
     Ok(is_of(&empty, id, &Data::Tuple(Vec::new(alloc))))

@@ -3,7 +3,7 @@
 use crate::shape::makers::answers;
 use std::alloc::{AllocError, Global};
 use std::test::Fail;
-use yaml_shape::{Shape, ShapeId};
+use yaml_shape::{Schema, SchemaFault, Shape, ShapeId, seq_of};
 
 // So many shapes, each an optional whose content is the next, and a last one.
 fn chain(alloc: Global, count: u32, last: Shape) -> Result<Vec<Shape>, AllocError> {
@@ -87,6 +87,36 @@ fn long_tables(rt: HostRuntime) -> Result<(), Fail> {
             "table {number}"
         );
     }
+    Ok(())
+}
+
+// Whether there is no room for a sequence of the last of so many shapes.
+fn has_no_room_behind(alloc: Global, count: u32) -> Result<bool, Fail> {
+    let schema = Schema::new(alloc, nothings(alloc, count)?)?;
+    let last = ShapeId(count.wrapping_sub(1));
+    if !schema.has(last) {
+        return Ok(false);
+    }
+    Ok(matches!(
+        seq_of(alloc, schema, last),
+        Err(SchemaFault::S4)
+    ))
+}
+
+// Whether a sequence of the last of so many shapes stands behind them.
+fn has_room_behind(alloc: Global, count: u32) -> Result<bool, Fail> {
+    let schema = Schema::new(alloc, nothings(alloc, count)?)?;
+    let last = ShapeId(count.wrapping_sub(1));
+    if !schema.has(last) {
+        return Ok(false);
+    }
+    Ok(matches!(seq_of(alloc, schema, last), Ok((_, ShapeId(end))) if end == count))
+}
+
+#[test]
+fn a_join_past_the_limit(rt: HostRuntime) -> Result<(), Fail> {
+    assert!(rt; has_no_room_behind(rt.alloc(), 4096)?);
+    assert!(rt; has_room_behind(rt.alloc(), 4095)?);
     Ok(())
 }
 

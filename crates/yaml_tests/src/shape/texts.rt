@@ -8,7 +8,7 @@ use yaml_shape::{
     tuple_variant, tuple_variant_with,
 };
 
-// A shape without parts, and what is expected of it.
+// A shape without a name, and what is expected of it.
 fn plain(number: u32) -> (Shape, &'static str) {
     match number {
         0 => (Shape::Any, "any YAML value"),

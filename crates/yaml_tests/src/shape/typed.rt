@@ -6,8 +6,8 @@ use std::test::Fail;
 use yaml_shape::{Data, Entry, Schema, Shape, ShapeId, Text, Typed, VariantShape};
 use yaml_tree::Value;
 
-// The shapes that the rows below ask for.
-fn shapes(alloc: Global) -> Result<Vec<Shape>, AllocError> {
+/// The shapes that the rows below ask for.
+pub fn shapes(alloc: Global) -> Result<Vec<Shape>, AllocError> {
     let (any, small, text) = (ShapeId(0), ShapeId(1), ShapeId(2));
     Ok(vec![in alloc;
         Shape::Any,
@@ -36,8 +36,8 @@ fn shapes(alloc: Global) -> Result<Vec<Shape>, AllocError> {
     ]?)
 }
 
-// Further shapes, whose numbers are counted from 0 again.
-fn further_shapes(alloc: Global) -> Result<Vec<Shape>, AllocError> {
+/// Further shapes, whose numbers are counted from 0 again.
+pub fn further_shapes(alloc: Global) -> Result<Vec<Shape>, AllocError> {
     Ok(vec![in alloc;
         Shape::Bool,
         Shape::Char,
@@ -110,7 +110,7 @@ fn at(alloc: Global, place: usize, content: Data<'static>) -> Result<Data<'stati
     Ok(Data::Variant(place, Box::new(alloc, content)?))
 }
 
-// A shape without parts, data, and whether the data is of the shape.
+// Data of one part at most, with a shape, and whether the data is of the shape.
 fn leaf(alloc: Global, number: u32) -> Result<(u32, Data<'static>, bool), AllocError> {
     Ok(match number {
         0 => (0, Data::Any(Value::Null), true),
@@ -170,6 +170,24 @@ fn node(alloc: Global, number: u32) -> Result<(u32, Data<'static>, bool), AllocE
         10 => (9, Data::Struct(items(alloc, 2)?), true),
         11 => (9, Data::Struct(items(alloc, 1)?), false),
         _ => (9, Data::Tuple(items(alloc, 2)?), false),
+    })
+}
+
+// A shape, data with one part that is not of its shape or with one part too many, and that the data is not of the shape.
+fn misfit(alloc: Global, number: u32) -> Result<(u32, Data<'static>, bool), AllocError> {
+    Ok(match number {
+        0 => (
+            6,
+            Data::Seq(vec![in alloc; Data::Signed(1), Data::Signed(128)]?),
+            false,
+        ),
+        1 => (
+            7,
+            Data::Tuple(vec![in alloc; Data::Signed(1), text(alloc)?, Data::Signed(1)]?),
+            false,
+        ),
+        2 => (9, Data::Struct(items(alloc, 3)?), false),
+        _ => (11, Data::Some(Box::new(alloc, Data::Signed(1))?), false),
     })
 }
 
@@ -279,6 +297,12 @@ fn data_of_shapes(rt: HostRuntime) -> Result<(), Fail> {
         assert!(rt;
             is_right(&schema, node(rt.alloc(), number)?),
             "node {number}"
+        );
+    }
+    for number in 0..4 {
+        assert!(rt;
+            is_right(&schema, misfit(rt.alloc(), number)?),
+            "misfit {number}"
         );
     }
     for number in 0..11 {

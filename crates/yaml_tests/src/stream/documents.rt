@@ -103,8 +103,9 @@ fn the_first_document_is_read_alone(rt: HostRuntime) -> std::result::Result<(), 
         ("S([1", true, LIST, UNFINISHED),
         // None, and several.
         ("SE", false, LIST, "[]"),
-        ("SE", false, INTEGER, "not a value of its shape"),
-        ("SE", false, BOOLEAN, "not a value of its shape"),
+        ("SE", false, INTEGER, "EOF while parsing a value"),
+        ("SE", false, BOOLEAN, "EOF while parsing a value"),
+        ("SE", false, TEXT, "EOF while parsing a value"),
         ("S(a)E", false, LETTER, "not built yet"),
         ("S(0)(1)E", false, INTEGER, MORE),
         // A fault of reading comes first, then what cut the document off, and then that others follow.
