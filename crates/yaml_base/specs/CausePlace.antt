@@ -33,7 +33,7 @@ abbrev pub place_or : Option Place → Place → Option Place
 place_or None new = Some new
 place_or (Some old) new = Some old
 
--- the fault with the new place, if it is one that has a place and has none yet, and else the fault as it is
+-- the fault with the new place, if it is of a kind that carries a place, and carries none yet; else the fault as it is
 abbrev pub filled : Cause → Place → Cause
 filled (cause.InvalidType found expected place) new = cause.InvalidType found expected (place_or place new)
 filled (cause.InvalidValue found expected place) new = cause.InvalidValue found expected (place_or place new)

@@ -38,7 +38,7 @@ pub struct Mapping {
     pub tag: Option<String>,
 }
 
-/// An event for an emitter, in the order in which a document is written.
+/// An event for an emitter.
 #[derive(Debug, Drop)]
 pub enum EmitEvent {
     /// The first event of each stream.

@@ -270,8 +270,8 @@ impl Error {
         })
     }
 
-    /// The fault with this mark and this path as its place, if it is one that has a place and has none yet, and else
-    /// the fault as it is. The only error is want of memory, and it comes only where a place is filled.
+    /// The fault with this mark and this path as its place, if it is of a kind that carries a place, and carries none
+    /// yet; else the fault as it is. The only error is want of memory, and it comes only where a place is filled.
     pub fn fix_mark(self, alloc: Global, mark: Mark, path: &Path<'_>) -> Result<Error>
         ensures filled { IfOk result (λ e.
             e ≡ filled self (record { mark = mark; path = path_text path.now })) }

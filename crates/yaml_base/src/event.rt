@@ -117,7 +117,7 @@ pub struct MappingStart {
     pub tag: Option<Tag>,
 }
 
-/// An event of a parser, in the order in which a document is written.
+/// An event of a parser.
 #[derive(Debug, Drop)]
 pub enum Event<'de> {
     /// The first event of each stream.

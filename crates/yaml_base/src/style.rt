@@ -7,7 +7,8 @@ use crate::emitter::AskedStyle;
 use crate::resolver::{Kind, digits_but_not_number, resolve};
 
 /// The style to ask for the string, so that it reads back as a string: a literal block where it has a line feed, single
-/// quotes where it would be read as something else when plain, and otherwise any.
+/// quotes where it would be read as something else when plain or is digits behind a zero, such as `007`, and otherwise
+/// any.
 pub fn infer_style(scalar: &str) -> AskedStyle
     ensures { result ≡ asked_style scalar.now }
 {

@@ -51,11 +51,11 @@ expected_text ignored_shape = codes "anything at all"
 abbrev pub elements_text : ℕ → List ℕ
 elements_text count = decimal count ++ (if count == 1 then codes " element" else codes " elements")
 
--- where there are more elements than a shape has: so many
+-- where a node has more elements than its shape: so many
 abbrev pub sequence_text : ℕ → List ℕ
 sequence_text count = codes "sequence of " ++ elements_text count
 
--- where there are fewer elements than a tuple struct has: so many
+-- where a node has fewer elements than its tuple struct: so many
 abbrev pub tuple_struct_text : List ℕ → ℕ → List ℕ
 tuple_struct_text name count = codes "tuple struct " ++ (name ++ (codes " with " ++ elements_text count))
 
@@ -63,7 +63,7 @@ tuple_struct_text name count = codes "tuple struct " ++ (name ++ (codes " with "
 abbrev pub tuple_variant_text : List ℕ → List ℕ → List ℕ
 tuple_variant_text name variant = codes "tuple variant " ++ (name ++ (codes "::" ++ variant))
 
--- where there are fewer elements than a tuple variant has: so many
+-- where a node has fewer elements than its tuple variant: so many
 abbrev pub tuple_variant_with_text : List ℕ → List ℕ → ℕ → List ℕ
 tuple_variant_with_text name variant count =
     codes "tuple variant " ++ (name ++ (codes "::" ++ (variant ++ (codes " with " ++ elements_text count))))

@@ -3,7 +3,7 @@ use Rattle.std.specs.Prelude.{ℕ, List, ◌++◌, codes, decimal}
 use Rattle.yaml_shape.specs.declared.fault.SchemaFault.{SchemaFault}
 use Rattle.yaml_shape.specs.declared.fault.SchemaFault.TheVariants.{S1, S2, S3, S4, S5}
 
--- what is wrong, with the number of the shape
+-- what is wrong; S1, S2 and S3 tell the number of the shape too
 abbrev pub fault_text : SchemaFault → List ℕ
 fault_text (S1 number) = codes "shape " ++ (decimal number ++ codes " names a shape outside the table")
 fault_text (S2 number) = codes "shape " ++ (decimal number ++ codes " is a cycle of options")

@@ -77,7 +77,7 @@ pub record IsWith (shapes : List PlainShape) (shape : PlainShape) (answer : List
   pub table : answer.0 ≡ shapes ++ shape ∷ []
   pub start : answer.1.0 ≡ length shapes
 
--- a join of so many shapes is refused: for them, or for want of memory
+-- a join of so many shapes is refused: for being more than 4,096 shapes, or for want of memory
 abbrev pub IsTooLarge : ℕ → SchemaFault → Type 0
 IsTooLarge size (S1 number) = ⊥
 IsTooLarge size (S2 number) = ⊥

@@ -90,7 +90,8 @@ impl Schema {
     }
 }
 
-/// The text `sequence of k elements`, for where there are more than a shape has. The only fault is want of memory.
+/// The text `sequence of k elements`, or `sequence of 1 element`, for where a node has more elements than its shape.
+/// The only fault is want of memory.
 pub fn sequence_of(alloc: Global, count: usize) -> Result<String>
     ensures text { IfOk result (λ text. string_bytes text ≡ sequence_text count) }
     ensures memory { IfErr result (λ cause. cause ≡ Memory) }
@@ -99,7 +100,8 @@ pub fn sequence_of(alloc: Global, count: usize) -> Result<String>
     Ok(format!(in alloc; "sequence of {elements}")?)
 }
 
-/// The text `tuple struct N with k elements`, for where there are fewer than it has. The only fault is want of memory.
+/// The text `tuple struct N with k elements`, with `1 element` for one, for where a node has fewer elements than its
+/// tuple struct. The only fault is want of memory.
 pub fn tuple_struct_with(alloc: Global, name: &str, count: usize) -> Result<String>
     ensures text { IfOk result (λ text. string_bytes text ≡ tuple_struct_text name.now count) }
     ensures memory { IfErr result (λ cause. cause ≡ Memory) }
@@ -116,8 +118,8 @@ pub fn tuple_variant(alloc: Global, name: &str, variant: &str) -> Result<String>
     Ok(format!(in alloc; "tuple variant {name}::{variant}")?)
 }
 
-/// The text `tuple variant E::V with k elements`, for where there are fewer than it has. The only fault is want of
-/// memory.
+/// The text `tuple variant E::V with k elements`, with `1 element` for one, for where a node has fewer elements than
+/// its tuple variant. The only fault is want of memory.
 pub fn tuple_variant_with(alloc: Global, name: &str, variant: &str, count: usize) -> Result<String>
     ensures text { IfOk result
         (λ text. string_bytes text ≡ tuple_variant_with_text name.now variant.now count) }

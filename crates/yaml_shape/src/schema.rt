@@ -1,4 +1,4 @@
-//! Tables of shapes that name only each other.
+//! Valid tables of shapes: few enough, and without a number outside, a name twice or a cycle of optionals.
 
 ghost use Rattle.std.specs.Prelude.{◌≡◌, ◌<◌, ◌≤◌, ◌↔◌, ℕ, map, length, Some, IsTrue, IfOk, IfErr};
 ghost use Rattle.std.specs.Option.{option_map};
@@ -19,7 +19,8 @@ use std::marker::Model;
 /// The most shapes that a schema has.
 pub const SHAPES: usize = 4096;
 
-/// A table of shapes in which each number that a shape names is in the table. Contracts see it as its list of shapes.
+/// A valid table: at most 4,096 shapes that name only each other, with no name twice in a struct, an enum or a struct
+/// variant, and no walk through optionals alone back to its start. Contracts see it as its list of shapes.
 #[derive(Drop)]
 pub struct Schema {
     pub(crate) shapes: Vec<Shape>,

@@ -61,7 +61,7 @@ pub enum Shape {
     },
     /// A sequence whose elements have this shape.
     Seq(ShapeId),
-    /// A sequence of as many elements, each of its own shape.
+    /// A sequence of as many elements as there are shapes, each of its own shape.
     Tuple(Vec<ShapeId>),
     /// A struct whose fields have no names.
     TupleStruct {

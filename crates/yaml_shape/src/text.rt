@@ -3,12 +3,12 @@
 ghost use Rattle.std.specs.Prelude.{◌≡◌};
 ghost use Rattle.yaml_shape.specs.TextView.{text_bytes};
 
-/// A text: lent from the source where the source shows it, owned where it doesn't.
+/// A text: lent, or a text of its own. A reading lends it from the source where it can be lent.
 #[derive(Drop)]
 pub enum Text<'de> {
-    /// The source shows the text.
+    /// A text that is lent, as from the source that shows it.
     Borrowed(&'de str),
-    /// The source doesn't show the text, as where it has escapes.
+    /// A text of its own, where it can't be lent, as with escapes or in a block, or where a caller made it.
     Owned(String),
 }
 

@@ -23,8 +23,8 @@ fn place_at(alloc: Global, mark: Mark, path: &Path<'_>) -> Result<Option<Place>,
 }
 
 impl Cause {
-    // The cause with this mark and this path as its place, if it is one that has a place and has none yet, and else the
-    // cause as it is. The only error is want of memory, where there is a place to fill.
+    // The cause with this mark and this path as its place, if it is of a kind that carries a place, and carries none
+    // yet; else the cause as it is. The only error is want of memory, where there is a place to fill.
     pub(crate) fn fill(
         self,
         alloc: Global,

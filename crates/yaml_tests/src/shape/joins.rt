@@ -88,9 +88,7 @@ fn text_and_mapping(alloc: Global) -> Result<Data<'static>, AllocError> {
         value: held(alloc)?,
     };
     let mapping = Data::Map(vec![in alloc; entry]?);
-    Ok(Data::Tuple(
-        vec![in alloc; Data::Str(Text::Borrowed("t")), mapping]?,
-    ))
+    Ok(Data::Tuple(vec![in alloc; Data::Str(Text::Borrowed("t")), mapping]?))
 }
 
 #[test]

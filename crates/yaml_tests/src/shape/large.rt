@@ -97,10 +97,7 @@ fn has_no_room_behind(alloc: Global, count: u32) -> Result<bool, Fail> {
     if !schema.has(last) {
         return Ok(false);
     }
-    Ok(matches!(
-        seq_of(alloc, schema, last),
-        Err(SchemaFault::S4)
-    ))
+    Ok(matches!(seq_of(alloc, schema, last), Err(SchemaFault::S4)))
 }
 
 // Whether a sequence of the last of so many shapes stands behind them.

@@ -30,7 +30,10 @@ fn shapes_that_are_not_read_yet(rt: HostRuntime) -> Result<(), Fail> {
     let further = Schema::new(alloc, further_shapes(alloc)?)?;
     for number in 1..20 {
         let is_read = number == 4;
-        assert!(rt; is_refused(alloc, &further, number)? != is_read, "further shape {number}");
+        assert!(rt;
+            is_refused(alloc, &further, number)? != is_read,
+            "further shape {number}"
+        );
     }
     Ok(())
 }
