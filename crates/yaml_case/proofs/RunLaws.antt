@@ -1,6 +1,6 @@
 -- What a run prints, from what its parts say.
 use Rattle.std.specs.Prelude.{codes, Option, None, Some, IfSome}
-use Rattle.std.proofs.Common.{◌≡◌, ◌≢◌, ℕ, List, [], ◌∷◌, ◌++◌, false, length, map, subst, refl}
+use Rattle.std.proofs.Common.{◌≡◌, ◌≢◌, ℕ, List, [], ◌∷◌, ◌++◌, false, length, map, subst, refl, ap, ◌∙◌, get_or, arith}
 use Rattle.yaml_base.specs.Answer.{is_memory}
 use Rattle.yaml_base.specs.ErrorText.{error_text}
 use Rattle.yaml_base.specs.PlainFault.{PlainFault}
@@ -16,32 +16,39 @@ use Rattle.yaml_case.specs.InputText.{MarkedEvents, IsInput, lines_of}
 use Rattle.yaml_case.specs.Reading.{IsRefusedAs}
 use Rattle.yaml_case.specs.Shapes.{name_of, table_of, IsNoName}
 
+-- an input that is the known one, if one is known
+pub some_input : (known : Option (List ℕ)) → (input : List ℕ) × IfSome known (λ bytes. input ≡ bytes)
+some_input None = ([], tt)
+some_input (Some input) = (input, refl)
+
 -- no input matters to a bad argument
-pub refuses : (name : List ℕ) (known : Option (List ℕ)) (ended : Status) → IsNoName name → ended ≡ status.Refused
-    → IfSome known (λ input. IsAnswer name input ended (codes "bad argument"))
-refuses name None ended none e = tt
-refuses name (Some input) ended none e = bad_argument none e refl
+pub refuses : (name input : List ℕ) (ended : Status) → IsNoName name → ended ≡ status.Refused → IsAnswer name input ended (codes "bad argument")
+refuses name input ended none e = bad_argument none e refl
 
 -- nor to the want of memory
-pub wants_memory : (shape : Named) (name : List ℕ) (known : Option (List ℕ)) (ended : Status) → name_of shape ≡ name → ended ≡ status.Fault
-    → IfSome known (λ input. IsAnswer name input ended (codes "fault: out of memory"))
-wants_memory shape name None ended n e = tt
-wants_memory shape name (Some input) ended n e = reply shape n (out_of_memory e refl)
+pub wants_memory : (shape : Named) (name input : List ℕ) (ended : Status) → name_of shape ≡ name → ended ≡ status.Fault
+    → IsAnswer name input ended (codes "fault: out of memory")
+wants_memory shape name input ended n e = reply shape n (out_of_memory e refl)
 
--- what was read is what there is to read
-pub replies : (shape : Named) (name : List ℕ) (known : Option (List ℕ)) (read : List ℕ) (ended : Status) (text : List ℕ) → name_of shape ≡ name
-    → IfSome known (λ input. read ≡ input) → IsReply shape read ended text → IfSome known (λ input. IsAnswer name input ended text)
-replies shape name None read ended text n e r = tt
-replies shape name (Some input) read ended text n e r = reply shape n (subst (λ i. IsReply shape i ended text) e r)
+-- a reply to an input answers the name of its shape
+pub replies : (shape : Named) (name input : List ℕ) (ended : Status) (text : List ℕ) → name_of shape ≡ name
+    → IsReply shape input ended text → IsAnswer name input ended text
+replies shape name input ended text n r = reply shape n r
 
 -- any other number of arguments than one is refused
-pub refuses_count : {X : Type 0} (name_in : X → List ℕ) (arguments : List X) (known : Option (List ℕ)) (ended : Status)
-    → length arguments ≢ 1 → ended ≡ status.Refused
-    → IfSome known (λ input. IsAnswerTo (map name_in arguments) input ended (codes "bad argument"))
-refuses_count name_in arguments None ended n e = tt
-refuses_count name_in [] (Some input) ended n e = (e, refl)
-refuses_count name_in (x ∷ []) (Some input) ended n e = absurd (n refl)
-refuses_count name_in (x ∷ y ∷ more) (Some input) ended n e = (e, refl)
+pub refuses_count : {X : Type 0} (name_in : X → List ℕ) (arguments : List X) (input : List ℕ) (ended : Status)
+    → length arguments ≢ 1 → ended ≡ status.Refused → IsAnswerTo (map name_in arguments) input ended (codes "bad argument")
+refuses_count name_in [] input ended n e = (e, refl)
+refuses_count name_in (x ∷ []) input ended n e = absurd (n refl)
+refuses_count name_in (x ∷ y ∷ more) input ended n e = (e, refl)
+
+-- one argument is answered as the name that it is
+pub answers_one : {X : Type 0} (name_in : X → List ℕ) (arguments : List X) (first : X) (name input : List ℕ) (ended : Status) (text : List ℕ)
+    → length arguments ≡ 1 → first ≡ get_or arguments 0 first → name ≡ name_in first → IsAnswer name input ended text
+    → IsAnswerTo (map name_in arguments) input ended text
+answers_one name_in [] first name input ended text one at is a = absurd cc
+answers_one name_in (x ∷ []) first name input ended text one at is a = subst (λ n. IsAnswer n input ended text) (is ∙ ap name_in at) a
+answers_one name_in (x ∷ y ∷ more) first name input ended text one at is a = absurd (omega (arith, one))
 
 -- a fault is one that the events ask for, or want of memory
 pub fault_reply : (shape : Named) (input : List ℕ) (events : MarkedEvents) (fault : Option PlainFault) (cause : Cause) → IsInput (lines_of input) events fault

@@ -145,8 +145,9 @@ fn answer_to(alloc: Global, named: Named, input: &[u8]) -> Result<Answer, AllocE
 /// The argument is looked at first, and all of the input is read before any line is looked at. With
 /// the status `Failed` the reader or the writer failed, and part of a line may be written.
 pub fn run<R: Read, W: Write>(alloc: Global, name: &str, reader: &mut R, writer: &mut W) -> Status
-    ensures prints { result ≢ Status.Failed → (text : List ℕ)
-        × IfSome (R.remaining reader.old) (λ input. IsAnswer name.now input result text)
+    ensures prints { result ≢ Status.Failed → (text : List ℕ) × (input : List ℕ)
+        × IfSome (R.remaining reader.old) (λ bytes. input ≡ bytes)
+        × IsAnswer name.now input result text
         × Appends (W.contents writer.old) (W.contents writer.new) (text ++ 10 ∷ []) }
     ensures unread { IsNoName name.now → reader.new ≡ reader.old }
 {
@@ -171,9 +172,9 @@ pub fn start<R: Read, W: Write>(
     reader: &mut R,
     writer: &mut W,
 ) -> Status
-    ensures prints { result ≢ Status.Failed → (text : List ℕ)
-        × IfSome (R.remaining reader.old)
-        (λ input. IsAnswerTo (map string_bytes arguments.now) input result text)
+    ensures prints { result ≢ Status.Failed → (text : List ℕ) × (input : List ℕ)
+        × IfSome (R.remaining reader.old) (λ bytes. input ≡ bytes)
+        × IsAnswerTo (map string_bytes arguments.now) input result text
         × Appends (W.contents writer.old) (W.contents writer.new) (text ++ 10 ∷ []) }
     ensures unread { length arguments.now ≢ 1 → reader.new ≡ reader.old }
 {
