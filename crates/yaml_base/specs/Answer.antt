@@ -16,3 +16,8 @@ Fails cause given = is_memory cause ≡ false → given ≡ Err cause
 abbrev pub Gives : {X Y : Type 0} → (X → Y) → Result X Cause → Result Y Cause → Type 0
 Gives view (Ok x) given = given ≡ Ok (view x)
 Gives view (Err cause) given = Fails cause given
+
+-- The call answered one of the results that a statement allows, seen by a view; or want of memory.
+abbrev pub Answers : {X Y : Type 0} → (X → Y) → Result X Cause → (Result Y Cause → Type 0) → Type 0
+Answers view (Ok x) allowed = allowed (Ok (view x))
+Answers view (Err cause) allowed = is_memory cause ≡ false → allowed (Err cause)

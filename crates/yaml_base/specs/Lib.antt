@@ -4,6 +4,8 @@ pub mod AskedStyles
 pub mod Borrowable
 pub mod CausePlace
 pub mod CauseText
+pub mod EmitEvents
+pub mod EmitTree
 pub mod ErrorText
 pub mod FaultText
 pub mod Floats
@@ -18,6 +20,7 @@ pub mod PlainFault
 pub mod PlainWords
 pub mod Position
 pub mod Quoted
+pub mod Renders
 pub mod ScalarText
 pub mod Signs
 pub mod Stream

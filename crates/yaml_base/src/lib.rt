@@ -2,6 +2,7 @@
 #![tactic(auto)]
 
 mod borrowed;
+mod core_tags;
 pub mod emitter;
 mod entry_key;
 mod error;
@@ -19,6 +20,7 @@ mod tag;
 mod words;
 
 pub use borrowed::parse_borrowed_str;
+pub use core_tags::core_tags_have_their_texts;
 pub use entry_key::EntryKey;
 pub use error::{Cause, Error, Place, Result};
 pub use event::{Event, MappingStart, Scalar, ScalarStyle, SequenceStart};
