@@ -14,3 +14,4 @@ pub mod JoinCode
 pub mod PartLaws
 pub mod JoinData
 pub mod Stands
+pub mod EqualDataLaws

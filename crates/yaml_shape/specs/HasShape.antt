@@ -1,8 +1,7 @@
 -- Which data a shape has.
-use Rattle.std.specs.Prelude.{ℕ, ◌-◌, ◌^◌, ℤ, pos, negsuc, List, [], ◌∷◌, Bool, true, false, ◌&&◌}
-use Rattle.std.specs.Prelude.{nat_lt, IsTrue}
+use Rattle.std.specs.Prelude.{ℕ, ℤ, pos, List, [], ◌∷◌, Bool, true, false, not, ◌&&◌, IsTrue}
 use Rattle.std.specs.Prelude.{Option, Some, None, slice_get}
-use Rattle.yaml_shape.specs.PlainShape.{IntegerType, i8, i16, i32, i64, i128, isize, u8, u16, u32, u64, u128, usize}
+use Rattle.yaml_shape.specs.IntegerTypes.{has_sign, is_of_type}
 use Rattle.yaml_shape.specs.PlainShape.{PlainShape, any_shape, bool_shape, char_shape, integer_shape, str_shape}
 use Rattle.yaml_shape.specs.PlainShape.{identifier_shape, bytes_shape, option_shape, unit_shape, unit_struct_shape}
 use Rattle.yaml_shape.specs.PlainShape.{newtype_shape, seq_shape, tuple_shape, tuple_struct_shape, map_shape}
@@ -15,31 +14,6 @@ use Rattle.yaml_shape.specs.PlainData.{newtype_data}
 use Rattle.yaml_shape.specs.PlainData.{seq_data, tuple_data, map_data, struct_data, variant_data, ignored_data}
 use Rattle.yaml_shape.specs.PlainData.{no_items, item, no_entries, entry}
 use Rattle.yaml_shape.specs.Validity.{numbers_of}
-
--- how many bits an integer with a sign has
-abbrev pub signed_bits : IntegerType → Option ℕ
-signed_bits i8 = Some 8
-signed_bits i16 = Some 16
-signed_bits i32 = Some 32
-signed_bits i64 = Some 64
-signed_bits i128 = Some 128
-signed_bits isize = Some 64
-signed_bits _ = None
-
--- how many bits an integer without a sign has
-abbrev pub unsigned_bits : IntegerType → Option ℕ
-unsigned_bits u8 = Some 8
-unsigned_bits u16 = Some 16
-unsigned_bits u32 = Some 32
-unsigned_bits u64 = Some 64
-unsigned_bits u128 = Some 128
-unsigned_bits usize = Some 64
-unsigned_bits _ = None
-
--- the integer has so many bits at most, one for its sign
-abbrev pub fits_signed : ℕ → ℤ → Bool
-fits_signed bits (pos n) = nat_lt n (2 ^ (bits - 1))
-fits_signed bits (negsuc n) = nat_lt n (2 ^ (bits - 1))
 
 -- the value is there and passes the test
 abbrev pub passes : {A : Type 0} → Option A → (A → Bool) → Bool
@@ -63,12 +37,12 @@ is_char _ = false
 
 -- the shape is that of integers with a sign, this one among them
 abbrev pub takes_signed : ℤ → PlainShape → Bool
-takes_signed z (integer_shape i) = passes (signed_bits i) (λ bits. fits_signed bits z)
+takes_signed z (integer_shape i) = has_sign i && is_of_type i z
 takes_signed z _ = false
 
 -- the shape is that of integers without a sign, this one among them
 abbrev pub takes_unsigned : ℕ → PlainShape → Bool
-takes_unsigned n (integer_shape i) = passes (unsigned_bits i) (λ bits. nat_lt n (2 ^ bits))
+takes_unsigned n (integer_shape i) = not (has_sign i) && is_of_type i (pos n)
 takes_unsigned n _ = false
 
 -- the shape is that of texts or names

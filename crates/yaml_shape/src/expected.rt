@@ -76,6 +76,17 @@ impl fmt::Display for Elements {
     }
 }
 
+impl Shape {
+    /// What data of the shape is expected to be, as faults print it. The only fault is want of memory.
+    pub fn expected(&self, alloc: Global) -> Result<String>
+        ensures text { IfOk result (λ text. string_bytes text ≡ expected_text (shape_of self.now)) }
+        ensures memory { IfErr result (λ cause. cause ≡ Memory) }
+    {
+        let expected = Expected(self);
+        Ok(expected.to_string(alloc)?)
+    }
+}
+
 impl Schema {
     /// What data of the shape with this number is expected to be, as faults print it. `has` is the test of what is asked.
     /// The only fault is want of memory.
@@ -85,8 +96,7 @@ impl Schema {
             (λ text. IfSome (shape_at self.now id.0) (λ s. string_bytes text ≡ expected_text s)) }
         ensures memory { IfErr result (λ cause. cause ≡ Memory) }
     {
-        let expected = Expected(self.at(id));
-        Ok(expected.to_string(alloc)?)
+        self.get(id).expected(alloc)
     }
 }
 

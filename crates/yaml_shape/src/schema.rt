@@ -87,8 +87,8 @@ impl Schema {
         (id.0 as usize) < self.shapes.len()
     }
 
-    // The shape with this number.
-    pub(crate) fn at(&self, id: ShapeId) -> &Shape
+    /// The shape with this number, which this schema has. `has` is the test of what is asked.
+    pub fn get(&self, id: ShapeId) -> &Shape
         requires { id.0 < length self.now }
         ensures { shape_at self.now id.0 ≡ Some (shape_of result.now) }
     {
