@@ -1,0 +1,12 @@
+-- What contracts of this crate cite.
+pub mod DataText
+pub mod DataTextView
+pub mod Escape
+pub mod EventText
+pub mod FaultText
+pub mod InputText
+pub mod LineText
+pub mod Listed
+pub mod Parses
+pub mod Place
+pub mod TreeText
