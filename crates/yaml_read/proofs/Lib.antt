@@ -1,19 +1,20 @@
 -- Lemmas of this crate.
-mod Before
-mod CutRefusals
-mod MeaningShapes
-mod Meanings
-mod Outcomes
-mod Refusals
-mod Shown
-mod Sounds
-mod Turns
-mod Whole
 pub mod AnchorSearch
+pub mod CharacterLaws
 pub mod DocumentLaws
+pub mod DraftLaws
+pub mod FinishLaws
 pub mod Gatherings
+pub mod LoadingLaws
+pub mod OpenEndsLaws
 pub mod PlainWalks
+pub mod ScalarShapeLaws
+pub mod SettledLaws
+pub mod Settling
+pub mod SmallNumbers
 pub mod StreamLaws
 pub mod StreamMachineLaws
 pub mod Targets
+pub mod TextLaws
 pub mod WrongPlaces
+pub mod reading

@@ -1,27 +1,37 @@
 //! From a document to data, by a shape.
 
+mod found;
+mod integer;
+mod mapping;
 mod node;
+mod optional;
+mod placed;
+mod presence;
+mod refusal;
+mod row;
 mod scalar;
+mod sequence;
+mod skip;
+mod sort;
+mod source;
+mod text;
+mod tuple;
 
-ghost use Rattle.std.specs.Prelude.{◌≡◌, ◌≢◌, ℕ, ◌<◌, length, Ok, Err, Some, None, OnOk, IfOk, IfErr, false, slice_get};
-ghost use Rattle.yaml_base.specs.Answer.{Gives, is_memory};
-ghost use Rattle.yaml_base.specs.declared.error.Cause.{Cause};
+ghost use Rattle.std.specs.Prelude.{◌≡◌, ◌≢◌, ◌<◌, length, Some, false};
+ghost use Rattle.yaml_base.specs.Answer.{Answers, is_memory};
 ghost use Rattle.yaml_base.specs.declared.error.Cause.TheVariants.{EndOfStream};
 ghost use Rattle.yaml_shape.specs.DataView.{data_of};
-ghost use Rattle.yaml_shape.specs.PlainData.{PlainData};
 ghost use Rattle.yaml_shape.specs.PlainShape.{PlainShape, shape_at};
-ghost use Rattle.yaml_read.specs.DocTree.{DocNode};
-ghost use Rattle.yaml_read.specs.Meaning.{Means};
-ghost use Rattle.yaml_read.specs.ReadingFaults.{not_built};
-ghost use Rattle.yaml_read.specs.Reads.{default_limits, IsTreeOf, Reads, IsRefusal, IsReadingFault, IsCutFault};
-ghost use Rattle.yaml_read.specs.Scalars.{is_read};
+ghost use Rattle.yaml_read.specs.Reads.{DocumentGives};
+ghost use Rattle.yaml_read.specs.TreeReader.{default_limits};
 
-use crate::de::node::read_node;
+use crate::de::refusal::Refusal;
+use crate::de::source::Source;
 use crate::document::Document;
 use crate::tally::Tally;
 use crate::walk::Walk;
 use std::alloc::Global;
-use yaml_base::{Cause, Error, Result};
+use yaml_base::{Cause, Error, Path, Result};
 use yaml_shape::{Data, Schema, ShapeId};
 
 /// The most collections, one within another, that a reading goes into.
@@ -41,10 +51,11 @@ fn copied(fault: &Error, alloc: Global) -> Error
 }
 
 // The fault that cut a document off, where its events came to an end; else the fault itself.
-fn told(fault: Error, ending: &Error, alloc: Global) -> Error
-    ensures ended { fault ≡ EndOfStream → is_memory result ≡ false → result ≡ ending.now }
-    ensures kept { fault ≢ EndOfStream → result ≡ fault }
+fn told(refusal: Refusal, ending: &Error, alloc: Global) -> Error
+    ensures ended { refusal ≡ EndOfStream → is_memory result ≡ false → result ≡ ending.now }
+    ensures kept { refusal ≢ EndOfStream → result ≡ refusal }
 {
+    let fault = refusal.into_error();
     if matches!(fault.cause(), Cause::EndOfStream) {
         return copied(ending, alloc);
     }
@@ -56,44 +67,29 @@ impl<'de> Document<'de> {
     /// document. Texts are lent from the source where the source shows them. `Schema::has` is the test of what is asked.
     pub fn deserialize(&self, alloc: Global, schema: &Schema, id: ShapeId) -> Result<Data<'de>>
         requires { id.0 < length schema.now }
-
-        // A document that was cut off gives no data; what a whole one gives is what its tree means.
-        ensures whole { OnOk result (self.now.ending ≡ None) }
-        ensures found { IfOk result (λ v. (root : DocNode) → IsTreeOf self.now root
-            → Reads default_limits schema.now id.0 root (length self.now.events) (data_of v)) }
-
-        // What its tree means within the limits is given, unless memory runs out.
-        ensures only { (root : DocNode) (v : PlainData) → IsTreeOf self.now root
-            → Reads default_limits schema.now id.0 root (length self.now.events) v → Gives data_of result (Ok v) }
-
-        // A shape that is not read yet is refused as such, whatever the document holds.
-        ensures unbuilt { (shape : PlainShape) → shape_at schema.now id.0 ≡ Some shape → is_read shape ≡ false
-            → Gives data_of result (Err not_built) }
-
-        // A tree with a meaning is refused only past a limit, and any tree only by a fault that a reading may find.
-        ensures refused { IfErr result (λ fault. (root : DocNode) (v : PlainData) (d k : ℕ) → IsTreeOf self.now root
-            → Means schema.now root id.0 root false v d k → IsRefusal default_limits (length self.now.events) d k fault) }
-        ensures faults { IfErr result (λ fault. (root : DocNode) → IsTreeOf self.now root → is_memory fault ≡ false
-            → IsReadingFault schema.now (slice_get self.now.events) fault) }
-
-        // A document that was cut off is refused by what cut it off, or by a fault that a reading may find.
-        ensures cut { IfErr result (λ fault. (cause : Cause) → self.now.ending ≡ Some cause → is_memory fault ≡ false
-            → IsCutFault schema.now self.now cause fault) }
+        ensures { (s : PlainShape) → shape_at schema.now id.0 ≡ Some s
+            → Answers data_of result (DocumentGives default_limits schema.now s self.now) }
     {
-        let events = self.events();
+        schema.optionals_end();
+        let source = Source {
+            alloc,
+            schema,
+            events: self.events(),
+            ends: self.ends(),
+        };
         let mut walk = Walk {
             place: 0,
-            left: FOLLOWS * events.len() as u128,
+            left: FOLLOWS * source.events.len() as u128,
             steps: Tally::new(),
         };
-        match read_node(alloc, schema, events, id, NESTING, false, &mut walk) {
+        match source.read_node(&Path::Root, source.shape(id), NESTING, false, &mut walk) {
             Ok(data) => match self.error() {
                 None => Ok(data),
                 Some(fault) => Err(copied(fault, alloc)),
             },
-            Err(fault) => match self.error() {
-                None => Err(fault),
-                Some(ending) => Err(told(fault, ending, alloc)),
+            Err(refusal) => match self.error() {
+                None => Err(refusal.into_error()),
+                Some(ending) => Err(told(refusal, ending, alloc)),
             },
         }
     }

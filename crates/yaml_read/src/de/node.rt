@@ -1,210 +1,212 @@
 //! A node under a shape: the walk through a document.
 
-ghost use Rattle.std.specs.Prelude.{◌≡◌, ℕ, suc, ◌+◌, ◌<◌, ◌≤◌, length, map, OnOk, slice_get, false};
-ghost use Rattle.yaml_base.specs.Answer.{Gives};
+ghost use Rattle.std.specs.Prelude.{◌≡◌, ℕ, suc, ◌<◌, length, OnOk, true, false};
+ghost use Rattle.yaml_base.specs.Answer.{Gives, is_memory};
+ghost use Rattle.yaml_base.specs.Position.{Position};
+ghost use Rattle.yaml_base.specs.declared.error.Cause.TheVariants.{RecursionLimitExceeded};
+ghost use Rattle.yaml_shape.specs.DataView.{data_of};
 ghost use Rattle.yaml_shape.specs.ShapeView.{shape_of};
-ghost use Rattle.yaml_shape.specs.DataView.{data_of, items_view, entries_view};
-ghost use Rattle.yaml_read.specs.DocEventView.{marked_events_of};
-ghost use Rattle.yaml_read.specs.Reader.{items_at, entries_at, sequence_at, mapping_at, node_at};
-ghost use Rattle.yaml_read.specs.Walks.{spot_of, Moves, Costs};
+ghost use Rattle.yaml_shape.specs.Validity.{NamesWithin};
+ghost use Rattle.yaml_read.specs.DocEventView.{doc_event_of};
+ghost use Rattle.yaml_read.specs.Ends.{GoForward};
+ghost use Rattle.yaml_read.specs.Handing.{depth};
+ghost use Rattle.yaml_read.specs.Places.{way_of};
+ghost use Rattle.yaml_read.specs.inner.Reader.{event_at, node_step, takes, is_leaf};
+ghost use Rattle.yaml_read.specs.inner.Walks.{source_of, spot_of, reader_of, Moves, Costs};
 
-use crate::de::scalar::{is_read, no_meaning, not_built, read_scalar, read_void};
+use crate::de::found::{found_mapping, found_sequence};
+use crate::de::refusal::{Refusal, Result, ended, refuse};
+use crate::de::scalar::{not_built, read_scalar, read_void};
+use crate::de::source::Source;
 use crate::doc_event::DocEvent;
-use crate::walk::{Walk, event_here};
+use crate::walk::Walk;
 use std::alloc::Global;
-use yaml_base::{Cause, Error, Mark, Result};
-use yaml_shape::{Data, Entry, Schema, Shape, ShapeId};
+use yaml_base::{Cause, Error, Mark, Path};
+use yaml_shape::{Data, Shape};
 
-// A node at the walk's place, under the shape with a number, with so many nestings left.
-#[cycle(read)]
-pub(super) fn read_node<'de>(
-    alloc: Global,
-    schema: &Schema,
-    events: &[(DocEvent<'de>, Mark)],
-    id: ShapeId,
-    nest: u8,
-    taken: bool,
-    walk: &mut Walk,
-) -> Result<Data<'de>>
-    ensures gives { (fuel : ℕ) → walk.old.left + nest < fuel → Gives (λ x. (data_of x, spot_of walk.new)) result
-        (node_at fuel schema.now (slice_get (marked_events_of events.now)) (length events.now) id.0 nest taken (spot_of walk.old)) }
-    ensures moves { OnOk result (Moves (length events.now) walk.old walk.new) }
-    ensures cost { Costs (length events.now) walk.old walk.new }
+/// The refusal of a collection with this mark that is nested too deep, or want of memory.
+pub(super) fn too_deep(alloc: Global, mark: Mark) -> Refusal
+    ensures { is_memory result ≡ false → result ≡ RecursionLimitExceeded mark }
 {
-    let Some(shape) = schema.shape(id) else {
-        return no_meaning(alloc);
-    };
-    if !is_read(shape) {
-        return not_built(alloc);
+    refuse(alloc, Error::new(Cause::RecursionLimitExceeded(mark)))
+}
+
+/// Whether the shape reads scalars alone.
+pub(super) fn is_leaf(shape: &Shape) -> bool
+    ensures { result ≡ is_leaf (shape_of shape.now) }
+{
+    match shape {
+        Shape::Bool
+        | Shape::Char
+        | Shape::I8
+        | Shape::I16
+        | Shape::I32
+        | Shape::I64
+        | Shape::I128
+        | Shape::Isize
+        | Shape::U8
+        | Shape::U16
+        | Shape::U32
+        | Shape::U64
+        | Shape::U128
+        | Shape::Usize
+        | Shape::Str
+        | Shape::Identifier
+        | Shape::Unit
+        | Shape::UnitStruct { .. } => true,
+        _ => false,
     }
-    let Some((event, mark)) = event_here(events, walk.place) else {
-        return Err(Error::new(Cause::EndOfStream));
-    };
-    walk.step();
-    match event {
-        DocEvent::Alias(target) => {
-            if walk.left == 0 {
-                return Err(Error::new(Cause::RepetitionLimitExceeded));
+}
+
+impl<'s, 'de> Source<'s, 'de> {
+    /// The node at the walk's place, under a shape, with so many nestings left.
+    #[cycle(read)]
+    pub(super) fn read_node(
+        &self,
+        path: &Path<'_>,
+        shape: &Shape,
+        nest: u8,
+        taken: bool,
+        walk: &mut Walk,
+    ) -> Result<Data<'de>>
+        requires named { NamesWithin (length self.now.schema.now) (shape_of shape.now) }
+        requires forward { GoForward self.now.ends.now }
+        ensures gives { (fuel : ℕ) → depth self.now.schema.now (shape_of shape.now) nest walk.old.left < fuel
+            → Gives (λ x. (data_of x, spot_of walk.new)) result
+            (reader_of fuel self.now (way_of path.now) (shape_of shape.now) nest taken (spot_of walk.old)) }
+        ensures moves { OnOk result (Moves (length self.now.events.now) walk.old walk.new) }
+        ensures cost { Costs (length self.now.events.now) walk.old walk.new }
+    {
+        let start = walk.place;
+        match self.read_unplaced(path, shape, nest, taken, walk) {
+            Ok(data) => Ok(data),
+            Err(refusal) => Err(self.settled(path, shape, start, refusal)),
+        }
+    }
+
+    /// The same, where a fault is not placed yet.
+    #[cycle(read)]
+    pub(super) fn read_unplaced(
+        &self,
+        path: &Path<'_>,
+        shape: &Shape,
+        nest: u8,
+        taken: bool,
+        walk: &mut Walk,
+    ) -> Result<Data<'de>>
+        requires named { NamesWithin (length self.now.schema.now) (shape_of shape.now) }
+        requires forward { GoForward self.now.ends.now }
+        ensures gives { (fuel : ℕ) → depth self.now.schema.now (shape_of shape.now) nest walk.old.left < suc fuel
+            → Gives (λ x. (data_of x, spot_of walk.new)) result
+            (node_step (source_of self.now) (reader_of fuel self.now) (way_of path.now) (shape_of shape.now) nest taken (spot_of walk.old)) }
+        ensures moves { OnOk result (Moves (length self.now.events.now) walk.old walk.new) }
+        ensures cost { Costs (length self.now.events.now) walk.old walk.new }
+    {
+        match shape {
+            Shape::Any | Shape::Struct { .. } | Shape::StrictStruct { .. } | Shape::Enum { .. } => {
+                not_built(self.alloc)
             }
-            walk.left -= 1;
-            let back = walk.place;
-            walk.place = *target;
-            match read_node(alloc, schema, events, id, nest, false, walk) {
-                Ok(data) => {
-                    walk.place = back;
-                    Ok(data)
+            Shape::Bytes => Err(refuse(self.alloc, Error::new(Cause::BytesUnsupported))),
+            Shape::Option(content) => self.read_option(path, shape, *content, nest, taken, walk),
+            Shape::Newtype { name: _, inner } => self.read_newtype(path, *inner, nest, taken, walk),
+            Shape::Seq(element) => self.read_seq(path, shape, *element, nest, taken, walk),
+            Shape::Tuple(items) => self.read_tuple(path, shape, None, items, nest, taken, walk),
+            Shape::TupleStruct { name, items } => {
+                self.read_tuple(path, shape, Some(name), items, nest, taken, walk)
+            }
+            Shape::Map(key, value) => self.read_map(path, shape, *key, *value, nest, taken, walk),
+            Shape::IgnoredAny => self.read_ignored(walk),
+            Shape::Bool
+            | Shape::Char
+            | Shape::I8
+            | Shape::I16
+            | Shape::I32
+            | Shape::I64
+            | Shape::I128
+            | Shape::Isize
+            | Shape::U8
+            | Shape::U16
+            | Shape::U32
+            | Shape::U64
+            | Shape::U128
+            | Shape::Usize
+            | Shape::Str
+            | Shape::Identifier
+            | Shape::Unit
+            | Shape::UnitStruct { .. } => self.read_leaf(path, shape, nest, taken, walk),
+        }
+    }
+
+    /// A node that is no collection of its shape's own: an alias, a scalar, void, or a collection that the shape does not read.
+    #[cycle(read)]
+    pub(super) fn read_simple(
+        &self,
+        path: &Path<'_>,
+        shape: &Shape,
+        event: &DocEvent<'de>,
+        nest: u8,
+        taken: bool,
+        walk: &mut Walk,
+    ) -> Result<Data<'de>>
+        requires named { NamesWithin (length self.now.schema.now) (shape_of shape.now) }
+        requires forward { GoForward self.now.ends.now }
+        requires within { walk.old.place < length self.now.events.now }
+        requires other { takes (shape_of shape.now) (doc_event_of event.now) ≡ false }
+        ensures gives { (fuel : ℕ) (mark : Position) → depth self.now.schema.now (shape_of shape.now) nest walk.old.left < suc fuel
+            → Gives (λ x. (data_of x, spot_of walk.new)) result
+            (event_at (source_of self.now) (reader_of fuel self.now) (way_of path.now) (shape_of shape.now) nest taken
+            (spot_of walk.old) (doc_event_of event.now) mark) }
+        ensures moves { OnOk result (Moves (length self.now.events.now) walk.old walk.new) }
+        ensures cost { Costs (length self.now.events.now) walk.old walk.new }
+    {
+        walk.step();
+        match event {
+            DocEvent::Scalar(scalar) => read_scalar(self.alloc, shape, taken, scalar),
+            DocEvent::Alias(target) => {
+                if walk.left == 0 {
+                    return Err(refuse(self.alloc, Error::new(Cause::RepetitionLimitExceeded)));
                 }
-                Err(fault) => Err(fault),
+                walk.left -= 1;
+                let back = walk.place;
+                walk.place = *target;
+                let inner = Path::Alias { parent: &*path };
+                match self.read_node(&inner, shape, nest, false, walk) {
+                    Ok(data) => {
+                        walk.place = back;
+                        Ok(data)
+                    }
+                    Err(refusal) => Err(refusal),
+                }
             }
-        }
-        DocEvent::Scalar(scalar) => read_scalar(alloc, shape, taken, scalar),
-        DocEvent::Void => read_void(alloc, shape),
-        DocEvent::SequenceStart(_) => {
-            read_sequence(alloc, schema, events, shape, nest, *mark, walk)
-        }
-        DocEvent::MappingStart(_) => read_mapping(alloc, schema, events, shape, nest, *mark, walk),
-        DocEvent::SequenceEnd | DocEvent::MappingEnd => Err(Error::new(Cause::EndOfStream)),
-    }
-}
-
-// A sequence, behind its start, which has the mark.
-#[cycle(read)]
-fn read_sequence<'de>(
-    alloc: Global,
-    schema: &Schema,
-    events: &[(DocEvent<'de>, Mark)],
-    shape: &Shape,
-    nest: u8,
-    mark: Mark,
-    walk: &mut Walk,
-) -> Result<Data<'de>>
-    requires within { walk.old.place ≤ length events.now }
-    requires behind { 0 < walk.old.place }
-    ensures gives { (fuel : ℕ) → walk.old.left + nest < suc fuel → Gives (λ x. (data_of x, spot_of walk.new)) result
-        (sequence_at (node_at fuel schema.now (slice_get (marked_events_of events.now)) (length events.now))
-        (slice_get (marked_events_of events.now)) (length events.now) (shape_of shape.now) nest mark (spot_of walk.old)) }
-    ensures moves { OnOk result (Moves (length events.now) walk.old walk.new) }
-    ensures cost { Costs (length events.now) walk.old walk.new }
-{
-    match shape {
-        Shape::Seq(element) => {
-            if nest == 0 {
-                return Err(Error::new(Cause::RecursionLimitExceeded(mark)));
-            }
-            match read_items(alloc, schema, events, *element, nest - 1, walk) {
-                Ok(items) => Ok(Data::Seq(items)),
-                Err(fault) => Err(fault),
-            }
-        }
-        _ => no_meaning(alloc),
-    }
-}
-
-// A mapping, behind its start, which has the mark.
-#[cycle(read)]
-fn read_mapping<'de>(
-    alloc: Global,
-    schema: &Schema,
-    events: &[(DocEvent<'de>, Mark)],
-    shape: &Shape,
-    nest: u8,
-    mark: Mark,
-    walk: &mut Walk,
-) -> Result<Data<'de>>
-    requires within { walk.old.place ≤ length events.now }
-    requires behind { 0 < walk.old.place }
-    ensures gives { (fuel : ℕ) → walk.old.left + nest < suc fuel → Gives (λ x. (data_of x, spot_of walk.new)) result
-        (mapping_at (node_at fuel schema.now (slice_get (marked_events_of events.now)) (length events.now))
-        (slice_get (marked_events_of events.now)) (length events.now) (shape_of shape.now) nest mark (spot_of walk.old)) }
-    ensures moves { OnOk result (Moves (length events.now) walk.old walk.new) }
-    ensures cost { Costs (length events.now) walk.old walk.new }
-{
-    match shape {
-        Shape::Map(key, value) => {
-            if nest == 0 {
-                return Err(Error::new(Cause::RecursionLimitExceeded(mark)));
-            }
-            match read_entries(alloc, schema, events, *key, *value, nest - 1, walk) {
-                Ok(entries) => Ok(Data::Map(entries)),
-                Err(fault) => Err(fault),
-            }
-        }
-        _ => no_meaning(alloc),
-    }
-}
-
-// The elements of a sequence, to its end.
-#[cycle(read)]
-fn read_items<'de>(
-    alloc: Global,
-    schema: &Schema,
-    events: &[(DocEvent<'de>, Mark)],
-    element: ShapeId,
-    nest: u8,
-    walk: &mut Walk,
-) -> Result<Vec<Data<'de>>>
-    requires within { walk.old.place ≤ length events.now }
-    ensures gives { (fuel turns : ℕ) → walk.old.left + nest < fuel → length events.now < turns + walk.old.place → Gives (λ x. (items_view x.items, spot_of walk.new)) result
-        (items_at (node_at fuel schema.now (slice_get (marked_events_of events.now)) (length events.now) element.0 nest false)
-        (slice_get (marked_events_of events.now)) turns (spot_of walk.old)) }
-    ensures moves { OnOk result (Moves (length events.now) walk.old walk.new) }
-    ensures cost { Costs (length events.now) walk.old walk.new }
-{
-    let mut items = Vec::new(alloc);
-    loop {
-        let Some((event, _)) = event_here(events, walk.place) else {
-            return Err(Error::new(Cause::EndOfStream));
-        };
-        if let DocEvent::SequenceEnd = event {
-            walk.step();
-            return Ok(items);
-        }
-        match read_node(alloc, schema, events, element, nest, false, walk) {
-            Ok(item) => items.push(item)?,
-            Err(fault) => return Err(fault),
+            DocEvent::Void => read_void(self.alloc, shape),
+            DocEvent::SequenceStart(_) => Err(found_sequence(self.alloc, shape)),
+            DocEvent::MappingStart(_) => Err(found_mapping(self.alloc, shape)),
+            DocEvent::SequenceEnd | DocEvent::MappingEnd => Err(ended(self.alloc)),
         }
     }
-}
 
-// The entries of a mapping, to its end.
-#[cycle(read)]
-fn read_entries<'de>(
-    alloc: Global,
-    schema: &Schema,
-    events: &[(DocEvent<'de>, Mark)],
-    key: ShapeId,
-    value: ShapeId,
-    nest: u8,
-    walk: &mut Walk,
-) -> Result<Vec<Entry<'de>>>
-    requires within { walk.old.place ≤ length events.now }
-    ensures gives { (fuel turns : ℕ) → walk.old.left + nest < fuel → length events.now < turns + walk.old.place → Gives (λ x. (entries_view x.items, spot_of walk.new)) result
-        (entries_at (node_at fuel schema.now (slice_get (marked_events_of events.now)) (length events.now) key.0 nest false)
-        (node_at fuel schema.now (slice_get (marked_events_of events.now)) (length events.now) value.0 nest false)
-        (slice_get (marked_events_of events.now)) turns (spot_of walk.old)) }
-    ensures moves { OnOk result (Moves (length events.now) walk.old walk.new) }
-    ensures cost { Costs (length events.now) walk.old walk.new }
-{
-    let mut entries = Vec::new(alloc);
-    loop {
-        let Some((event, _)) = event_here(events, walk.place) else {
-            return Err(Error::new(Cause::EndOfStream));
+    /// A node under a shape that reads scalars alone.
+    #[cycle(read)]
+    pub(super) fn read_leaf(
+        &self,
+        path: &Path<'_>,
+        shape: &Shape,
+        nest: u8,
+        taken: bool,
+        walk: &mut Walk,
+    ) -> Result<Data<'de>>
+        requires leaf { is_leaf (shape_of shape.now) ≡ true }
+        requires named { NamesWithin (length self.now.schema.now) (shape_of shape.now) }
+        requires forward { GoForward self.now.ends.now }
+        ensures gives { (fuel : ℕ) → depth self.now.schema.now (shape_of shape.now) nest walk.old.left < suc fuel
+            → Gives (λ x. (data_of x, spot_of walk.new)) result
+            (node_step (source_of self.now) (reader_of fuel self.now) (way_of path.now) (shape_of shape.now) nest taken (spot_of walk.old)) }
+        ensures moves { OnOk result (Moves (length self.now.events.now) walk.old walk.new) }
+        ensures cost { Costs (length self.now.events.now) walk.old walk.new }
+    {
+        let Some((event, _)) = self.event(walk.place) else {
+            return Err(ended(self.alloc));
         };
-        if let DocEvent::MappingEnd = event {
-            walk.step();
-            return Ok(entries);
-        }
-        let name = match read_node(alloc, schema, events, key, nest, false, walk) {
-            Ok(name) => name,
-            Err(fault) => return Err(fault),
-        };
-        let content = match read_node(alloc, schema, events, value, nest, false, walk) {
-            Ok(content) => content,
-            Err(fault) => return Err(fault),
-        };
-        entries.push(Entry {
-            key: name,
-            value: content,
-        })?;
+        self.read_simple(path, shape, event, nest, taken, walk)
     }
 }

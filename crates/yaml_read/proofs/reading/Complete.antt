@@ -1,0 +1,210 @@
+-- What the tree means is answered within the limits, and refused only past one.
+use Rattle.std.proofs.Common.{◌≡◌, ℕ, zero, suc, ◌+◌, ◌-◌, ◌*◌, ◌<◌, ◌≤◌, List, [], ◌∷◌, ◌++◌, Option, Some, None, Ok, Err, Bool, true, false, refl, sym, ap, subst, ◌∙◌, arith, append_assoc, append-nil, Result, length}
+use Rattle.std.specs.Prelude.{max}
+use Rattle.yaml_base.specs.CausePlace.{filled}
+use Rattle.yaml_base.specs.Position.{Position}
+use Rattle.yaml_base.specs.declared.error.Cause.{Cause}
+use Rattle.yaml_base.specs.declared.error.Cause.TheVariants.{RecursionLimitExceeded, RepetitionLimitExceeded}
+use Rattle.yaml_base.specs.declared.error.Place.{Place}
+use Rattle.yaml_shape.specs.DataView.{items_of, entries_of}
+use Rattle.yaml_shape.specs.Expected.{tuple_text, tuple_struct_text}
+use Rattle.yaml_shape.specs.PlainData.{PlainData, PlainItems, PlainEntries, seq_data, map_data, tuple_data, some_data, newtype_data, ignored_data, no_items, item, no_entries, entry}
+use Rattle.yaml_shape.specs.PlainShape.{PlainShape, seq_shape, tuple_shape, tuple_struct_shape, map_shape, option_shape, newtype_shape, ignored_shape, shape_at}
+use Rattle.yaml_shape.specs.Walks.{rank}
+use Rattle.yaml_read.specs.DocTree.{DocNode, DocNodes, DocPairs, nothing, reference, word, list, mapping, no_nodes, node, no_pairs, pair, node_of, first_event}
+use Rattle.yaml_read.specs.Handing.{Handing, as_is, as_some, as_newtype, as_ignored, handed, early, reach, depth}
+use Rattle.yaml_read.specs.Meaning.{Means, means_node, MeansAs, means_some, means_newtype, means_ignored, means_target, means_void, means_scalar, means_list, means_mapping}
+use Rattle.yaml_read.specs.Meaning.{MeansList, means_seq, means_tuple, means_tuple_struct, MeansPairs, means_map, MeanEach, means_none, means_more, MeanRow, means_no_elements, means_element, MeanPairs, means_no_pairs, means_pair}
+use Rattle.yaml_read.specs.Places.{Way, element_under, value_under, places, placed, place}
+use Rattle.yaml_read.specs.Rows.{row_of, row_data}
+use Rattle.yaml_read.specs.Steps.{◌>>=◌, wrap, enter, follow, finish, with_shape, unless, ending}
+use Rattle.yaml_read.specs.TreeReader.{Spot, after, behind, Answer, each_node, each_pair, TreeReader, item_of, key_of, value_of, row_part, row_by, sequence_of, mapping_of, target_of, node_by, handed_by, read_tree}
+use Rattle.yaml_read.proofs.reading.Handings.{optional_from}
+
+-- It is the data, and a limit is passed where one has to be.
+pub data Outcome {A : Type 0} (r : Answer A) (v : A) (nest left d k : ℕ) : Type 0 where
+  reads : d ≤ nest → k ≤ left → r ≡ Ok (v, left - k) → Outcome r v nest left d k
+  deep : (m : Position) → nest < d → r ≡ Err (RecursionLimitExceeded m) → Outcome r v nest left d k
+  many : left < k → r ≡ Err RepetitionLimitExceeded → Outcome r v nest left d k
+
+here : {A : Type 0} (v : A) (nest left : ℕ) (r : Answer A) → r ≡ Ok (v, left) → Outcome r v nest left 0 0
+here v nest left r e = reads (omega arith) (omega arith) (e ∙ ap (λ l. Ok (v, l)) (omega arith))
+
+followed : {A : Type 0} (go : ℕ → Answer A) (v : A) (nest left d k : ℕ) → ((n : ℕ) → left ≡ suc n → Outcome (go n) v nest n d k) → Outcome (follow left go) v nest left d (suc k)
+followed go v nest zero d k h = many (omega arith) refl
+followed go v nest (suc n) d k h = elim (h n refl) [
+  | reads a b e ↦ reads a (omega arith) (e ∙ ap (λ l. Ok (v, l)) (omega arith))
+  | deep m a e ↦ deep m a e
+  | many a e ↦ many (omega arith) e
+]
+
+entered : {A : Type 0} (go : ℕ → Answer A) (v : A) (mark : Position) (nest left d k : ℕ) → ((n : ℕ) → nest ≡ suc n → Outcome (go n) v n left d k) → Outcome (enter nest mark go) v nest left (suc d) k
+entered go v mark zero left d k h = deep mark (omega arith) refl
+entered go v mark (suc n) left d k h = elim (h n refl) [
+  | reads a b e ↦ reads (omega arith) b e
+  | deep m a e ↦ deep m (omega arith) e
+  | many a e ↦ many a e
+]
+
+wrapped : {A B : Type 0} (f : A → B) (r : Answer A) (v : A) (nest left d k : ℕ) → Outcome r v nest left d k → Outcome (wrap f r) (f v) nest left d k
+wrapped f r v nest left d k (reads a b e) = reads a b (rw e)
+wrapped f r v nest left d k (deep m a e) = deep m a (rw e)
+wrapped f r v nest left d k (many a e) = many a (rw e)
+
+finished : {S A : Type 0} (f : S → Result A Cause) (r : Answer S) (s : S) (v : A) (nest left d k : ℕ) → Outcome r s nest left d k → f s ≡ Ok v → Outcome (finish f r) v nest left d k
+finished f r s v nest left d k (reads a b e) h = reads a b (rw (e, h))
+finished f r s v nest left d k (deep m a e) h = deep m a (rw e)
+finished f r s v nest left d k (many a e) h = many a (rw e)
+
+looked_up : {A : Type 0} (o : Option PlainShape) (s : PlainShape) (go : PlainShape → Answer A) (v : A) (nest left d k : ℕ) → o ≡ Some s → Outcome (go s) v nest left d k → Outcome (with_shape o go) v nest left d k
+looked_up o s go v nest left d k e h = rw e h
+
+kept : (here : Bool) (mark : Position) (way : Way) (y : Cause) → ((p : Place) → filled y p ≡ y) → placed here mark way y ≡ y
+kept true mark way y h = h (record { mark = mark; path = way.text })
+kept false mark way y h = refl
+
+placed_outcome : {A : Type 0} (here : Bool) (mark : Position) (way : Way) (r : Answer A) (v : A) (nest left d k : ℕ) → Outcome r v nest left d k → Outcome (place here mark way r) v nest left d k
+placed_outcome here mark way r v nest left d k (reads a b e) = reads a b (rw e)
+placed_outcome here mark way r v nest left d k (deep m a e) = deep m a (rw e (ap Err (kept here mark way (RecursionLimitExceeded m) (λ p. refl))))
+placed_outcome here mark way r v nest left d k (many a e) = many a (rw e (ap Err (kept here mark way RepetitionLimitExceeded (λ p. refl))))
+
+-- one part, and then the rest
+bound : {A B : Type 0} (r : Answer A) (g : A × ℕ → Answer B) (v : A) (w : B) (nest left d d' k k' : ℕ)
+    → Outcome r v nest left d k → Outcome (g (v, left - k)) w nest (left - k) d' k' → Outcome (r >>= g) w nest left (max d d') (k + k')
+bound r g v w nest left d d' k k' (deep m a e) h = deep m (omega arith) (rw e)
+bound r g v w nest left d d' k k' (many a e) h = many (omega arith) (rw e)
+bound r g v w nest left d d' k k' (reads a b e) h = elim h [
+  | reads a' b' e' ↦ reads (omega arith) (omega arith) (rw e (e' ∙ ap (λ l. Ok (w, l)) (omega arith)))
+  | deep m a' e' ↦ deep m (omega arith) (rw e e')
+  | many a' e' ↦ many (omega arith) (rw e e')
+]
+
+-- the elements of items, and the entries
+abbrev list_of : PlainItems → List PlainData
+list_of no_items = []
+list_of (item v vs) = v ∷ list_of vs
+
+items_listed : (vs : PlainItems) → items_of (list_of vs) ≡ vs
+items_listed no_items = refl
+items_listed (item v vs) = ap (item v) (items_listed vs)
+
+abbrev entry_list_of : PlainEntries → List (PlainData × PlainData)
+entry_list_of no_entries = []
+entry_list_of (entry k v vs) = (k, v) ∷ entry_list_of vs
+
+entries_listed : (vs : PlainEntries) → entries_of (entry_list_of vs) ≡ vs
+entries_listed no_entries = refl
+entries_listed (entry k v vs) = ap (entry k v) (entries_listed vs)
+
+-- walks through optionals end: how many may follow from a shape, by its number
+pub reach_rank : (table : List PlainShape) → ((id content : ℕ) → shape_at table id ≡ Some (option_shape content) → rank table content < rank table id)
+    → (id : ℕ) (s : PlainShape) → shape_at table id ≡ Some s → reach table s ≤ rank table id
+reach_rank table falls id (option_shape c) is = let less = falls id c is in omega arith
+reach_rank table falls id _ is = omega arith
+
+module _ (table : List PlainShape) (root : DocNode) (marks : ℕ → Position) (small : (id : ℕ) → rank table id ≤ 4096)
+    (falls : (id content : ℕ) → shape_at table id ≡ Some (option_shape content) → rank table content < rank table id) where
+  -- a shape that another names reaches no further than any does
+  low : (id : ℕ) (s : PlainShape) → shape_at table id ≡ Some s → reach table s ≤ 4096
+  low id s is = let a = reach_rank table falls id s is in let b = small id in omega arith
+
+  -- a node, where the fuel is not 0
+  at_node : (fuel : ℕ) (way : Way) (s : PlainShape) (nest : ℕ) (taken : Bool) (n : DocNode) (at : Spot) (h : Handing) → early s ≡ None → handed s taken (first_event n) ≡ h
+      → read_tree table (suc fuel) root marks way s nest taken n at
+      ≡ place (places s) (marks at.place) way (handed_by table h (read_tree table fuel root marks) way root marks s nest taken n at)
+  unfolding read_tree
+  at_node fuel way s nest taken n at h late to = rw (late, to)
+
+  -- a tuple, from its elements
+  row_outcome : (read : Way → TreeReader) (few ids : List ℕ) (ns : DocNodes) (vs : PlainItems) (way : Way) (nest : ℕ) (at : Spot) (mark : Position) (d k : ℕ)
+      → ((n : ℕ) → nest ≡ suc n → Outcome (each_node (row_part table read way n) (row_of ids) ns (after at)) (record { left = []; read = list_of vs; extra = 0 }) n at.left d k)
+      → Outcome (row_by table read way few ids nest mark ns (after at)) (tuple_data vs) nest at.left (suc d) k
+  row_outcome read few ids ns vs way nest at mark d k h =
+      entered _ (tuple_data vs) mark nest at.left d k (λ n is.
+      finished (row_data few (length ids)) _ (record { left = []; read = list_of vs; extra = 0 }) (tuple_data vs) n at.left d k (h n is) (ap (λ ws. Ok (tuple_data ws)) (items_listed vs)))
+
+  mutual
+    pub tree_outcome : {s : PlainShape} {n : DocNode} {taken : Bool} {v : PlainData} {d k : ℕ} → Means table root s n taken v d k
+        → (way : Way) (fuel nest : ℕ) (at : Spot) → depth table s nest at.left < fuel
+        → Outcome (read_tree table fuel root marks way s nest taken n at) v nest at.left d k
+    tree_outcome m way zero nest at lt = absurd (omega arith)
+    tree_outcome (means_node {s} {h} {n} {taken} {v} {d} {k} late to m) way (suc fuel) nest at lt =
+        rw (at_node fuel way s nest taken n at h late to)
+        (placed_outcome (places s) (marks at.place) way _ v nest at.left d k (as_outcome m way fuel nest at (λ c is. optional_from s taken (first_event n) c (to ∙ is)) (omega arith)))
+
+    as_outcome : {h : Handing} {s : PlainShape} {n : DocNode} {taken : Bool} {v : PlainData} {d k : ℕ} → MeansAs table root h s n taken v d k
+        → (way : Way) (fuel nest : ℕ) (at : Spot) → ((c : ℕ) → h ≡ as_some c → s ≡ option_shape c) → depth table s nest at.left < suc fuel
+        → Outcome (handed_by table h (read_tree table fuel root marks) way root marks s nest taken n at) v nest at.left d k
+    as_outcome (means_some {s} {t} {c} {n} {taken} {v} {d} {k} there m) way fuel nest at from lt =
+        let is = from c refl in
+        let less : reach table s ≡ rank table c + 1 = ap (reach table) is in
+        let low = reach_rank table falls c t there in
+        looked_up (shape_at table c) t _ (some_data v) nest at.left d k there (wrapped some_data _ v nest at.left d k (tree_outcome m way fuel nest at (omega (arith, less, low, lt))))
+    as_outcome (means_newtype {s} {t} {c} {n} {taken} {v} {d} {k} there m) way fuel nest at from lt =
+        entered _ (newtype_data v) (marks at.place) nest at.left d k (λ n' is.
+        looked_up (shape_at table c) t _ (newtype_data v) n' at.left d k there (wrapped newtype_data _ v n' at.left d k (tree_outcome m way fuel n' at (omega (arith, low c t there, lt, is)))))
+    as_outcome means_ignored way fuel nest at from lt = here ignored_data nest at.left _ refl
+    as_outcome (means_target {s} {j} {n} {taken} {v} {d} {k} e m) way fuel nest at from lt =
+        rw e (followed (target_of (read_tree table fuel root marks way) s nest (Some n) j) v nest at.left d k (λ left is. tree_outcome m way fuel nest (record { place = j; left = left }) (omega (arith, lt, is))))
+    as_outcome (means_void {s} {taken} {v} e) way fuel nest at from lt = here v nest at.left _ (ap (ending at.left) e)
+    as_outcome (means_scalar {s} {w} {taken} {v} e) way fuel nest at from lt = here v nest at.left _ (ap (ending at.left) e)
+    as_outcome (means_list {s} {tag} {ns} {taken} {v} {d} {k} m) way fuel nest at from lt = list_outcome m way fuel nest at (marks at.place) (omega arith)
+    as_outcome (means_mapping {s} {tag} {ps} {taken} {v} {d} {k} m) way fuel nest at from lt = mapping_outcome m way fuel nest at (marks at.place) (omega arith)
+
+    list_outcome : {s : PlainShape} {ns : DocNodes} {v : PlainData} {d k : ℕ} → MeansList table root s ns v d k → (way : Way) (fuel nest : ℕ) (at : Spot) (mark : Position)
+        → 4098 * (at.left + nest) < suc fuel
+        → Outcome (sequence_of table (read_tree table fuel root marks) way s nest mark ns (after at)) v nest at.left (suc d) k
+    list_outcome (means_seq {e} {s} {ns} {vs} {d} {k} there m) way fuel nest at mark lt =
+        entered _ (seq_data vs) mark nest at.left d k (λ n is.
+        looked_up (shape_at table e) s _ (seq_data vs) n at.left d k there
+        (subst (λ ws. Outcome (wrap (λ vs. seq_data (items_of vs)) (each_node (item_of (read_tree table fuel root marks) way s n) [] ns (after at))) (seq_data ws) n at.left d k) (items_listed vs)
+        (wrapped (λ vs. seq_data (items_of vs)) _ (list_of vs) n at.left d k (each_outcome m way fuel n [] (after at) (low e s there) (omega arith)))))
+    list_outcome (means_tuple {ids} {ns} {vs} {d} {k} m) way fuel nest at mark lt =
+        row_outcome (read_tree table fuel root marks) (tuple_text (length ids)) ids ns vs way nest at mark d k (λ n is. elements_outcome m way fuel n [] (after at) (omega (arith, is, lt)))
+    list_outcome (means_tuple_struct {name} {ids} {ns} {vs} {d} {k} m) way fuel nest at mark lt =
+        row_outcome (read_tree table fuel root marks) (tuple_struct_text name (length ids)) ids ns vs way nest at mark d k (λ n is. elements_outcome m way fuel n [] (after at) (omega (arith, is, lt)))
+
+    mapping_outcome : {s : PlainShape} {ps : DocPairs} {v : PlainData} {d k : ℕ} → MeansPairs table root s ps v d k → (way : Way) (fuel nest : ℕ) (at : Spot) (mark : Position)
+        → 4098 * (at.left + nest) < suc fuel
+        → Outcome (mapping_of table (read_tree table fuel root marks) way s nest mark ps (after at)) v nest at.left (suc d) k
+    mapping_outcome (means_map {a} {b} {s} {t} {ps} {vs} {d} {k} there there' m) way fuel nest at mark lt =
+        entered _ (map_data vs) mark nest at.left d k (λ n is.
+        looked_up (shape_at table a) s _ (map_data vs) n at.left d k there (looked_up (shape_at table b) t _ (map_data vs) n at.left d k there'
+        (subst (λ ws. Outcome (wrap (λ vs. map_data (entries_of vs)) (each_pair (key_of (read_tree table fuel root marks) way s n) (value_of (read_tree table fuel root marks) t n) [] ps (after at))) (map_data ws) n at.left d k) (entries_listed vs)
+        (wrapped (λ vs. map_data (entries_of vs)) _ (entry_list_of vs) n at.left d k (pairs_outcome m way fuel n [] (after at) (low a s there) (low b t there') (omega arith))))))
+
+    each_outcome : {s : PlainShape} {ns : DocNodes} {vs : PlainItems} {d k : ℕ} → MeanEach table root s ns vs d k → (way : Way) (fuel nest : ℕ) (before : List PlainData) (at : Spot)
+        → reach table s ≤ 4096 → 4098 * (at.left + nest) + 4096 < fuel
+        → Outcome (each_node (item_of (read_tree table fuel root marks) way s nest) before ns at) (before ++ list_of vs) nest at.left d k
+    each_outcome means_none way fuel nest before at few lt = here (before ++ []) nest at.left _ (ap (λ vs. Ok (vs, at.left)) (sym (append-nil before)))
+    each_outcome (means_more {s} {n} {ns} {v} {vs} {d} {d'} {k} {k'} m ms) way fuel nest before at few lt =
+        subst (λ ws. Outcome (each_node (item_of (read_tree table fuel root marks) way s nest) before (node n ns) at) ws nest at.left (max d d') (k + k')) (append_assoc before (v ∷ []) (list_of vs))
+        (bound (item_of (read_tree table fuel root marks) way s nest before n at) _ (before ++ v ∷ []) _ nest at.left d d' k k'
+        (wrapped (λ v. before ++ v ∷ []) _ v nest at.left d k (tree_outcome m (element_under way (length before)) fuel nest at (omega arith)))
+        (each_outcome ms way fuel nest (before ++ v ∷ []) (behind at n (at.left - k)) few (omega arith)))
+
+    elements_outcome : {ids : List ℕ} {ns : DocNodes} {vs : PlainItems} {d k : ℕ} → MeanRow table root ids ns vs d k → (way : Way) (fuel nest : ℕ) (before : List PlainData) (at : Spot)
+        → 4098 * (at.left + nest) + 4096 < fuel
+        → Outcome (each_node (row_part table (read_tree table fuel root marks) way nest) (record { left = ids; read = before; extra = 0 }) ns at) (record { left = []; read = before ++ list_of vs; extra = 0 }) nest at.left d k
+    elements_outcome means_no_elements way fuel nest before at lt =
+        here (record { left = []; read = before ++ []; extra = 0 }) nest at.left _ (ap (λ vs. Ok (record { left = []; read = vs; extra = 0 }, at.left)) (sym (append-nil before)))
+    elements_outcome (means_element {id} {s} {ids} {n} {ns} {v} {vs} {d} {d'} {k} {k'} there m ms) way fuel nest before at lt =
+        subst (λ ws. Outcome (each_node (row_part table (read_tree table fuel root marks) way nest) (record { left = id ∷ ids; read = before; extra = 0 }) (node n ns) at) (record { left = []; read = ws; extra = 0 }) nest at.left (max d d') (k + k')) (append_assoc before (v ∷ []) (list_of vs))
+        (bound (row_part table (read_tree table fuel root marks) way nest (record { left = id ∷ ids; read = before; extra = 0 }) n at) _ (record { left = ids; read = before ++ v ∷ []; extra = 0 }) _ nest at.left d d' k k'
+        (wrapped (λ v. record { left = ids; read = before ++ v ∷ []; extra = 0 }) _ v nest at.left d k
+        (looked_up (shape_at table id) s _ v nest at.left d k there (tree_outcome m (element_under way (length before)) fuel nest at (omega (arith, low id s there)))))
+        (elements_outcome ms way fuel nest (before ++ v ∷ []) (behind at n (at.left - k)) (omega arith)))
+
+    pairs_outcome : {s t : PlainShape} {ps : DocPairs} {vs : PlainEntries} {d k : ℕ} → MeanPairs table root s t ps vs d k → (way : Way) (fuel nest : ℕ) (before : List (PlainData × PlainData)) (at : Spot)
+        → reach table s ≤ 4096 → reach table t ≤ 4096 → 4098 * (at.left + nest) + 4096 < fuel
+        → Outcome (each_pair (key_of (read_tree table fuel root marks) way s nest) (value_of (read_tree table fuel root marks) t nest) before ps at) (before ++ entry_list_of vs) nest at.left d k
+    pairs_outcome means_no_pairs way fuel nest before at few few' lt = here (before ++ []) nest at.left _ (ap (λ vs. Ok (vs, at.left)) (sym (append-nil before)))
+    pairs_outcome (means_pair {s} {t} {m = x} {n = y} {ps} {u} {v} {vs} {d} {d'} {d''} {k} {k'} {k''} l m ms) way fuel nest before at few few' lt =
+        let mid = behind at x (at.left - k) in
+        let w = value_under way (first_event x) in
+        subst (λ ws. Outcome (each_pair (key_of (read_tree table fuel root marks) way s nest) (value_of (read_tree table fuel root marks) t nest) before (pair x y ps) at) ws nest at.left (max d (max d' d'')) (k + (k' + k'')))
+        (append_assoc before ((u, v) ∷ []) (entry_list_of vs))
+        (bound (key_of (read_tree table fuel root marks) way s nest before x at) _ (w, u) _ nest at.left d (max d' d'') k (k' + k'') (wrapped (λ k. (w, k)) _ u nest at.left d k (tree_outcome l way fuel nest at (omega arith)))
+        (bound (value_of (read_tree table fuel root marks) t nest before (w, u) y mid) _ (before ++ (u, v) ∷ []) _ nest (at.left - k) d' d'' k' k''
+        (wrapped (λ v. before ++ (u, v) ∷ []) _ v nest (at.left - k) d' k' (tree_outcome m w fuel nest mid (omega arith)))
+        (pairs_outcome ms way fuel nest (before ++ (u, v) ∷ []) (behind mid y (at.left - k - k')) few few' (omega arith))))

@@ -1,0 +1,208 @@
+-- What a node's reading comes to, once its shape and its first event are known.
+use Rattle.std.proofs.Common.{◌≡◌, ℕ, zero, suc, ◌+◌, ◌-◌, ◌<◌, ◌≤◌, Bool, true, false, List, [], ◌∷◌, ◌++◌, Some, None, Option, Result, Ok, Err, refl, sym, ap, subst, ◌∙◌, arith, rules, length}
+use Rattle.std.specs.Prelude.{if◌then◌else◌, slice_get, drop, All}
+use Rattle.std.proofs.lemmas.List.Elements.{All-get_or}
+use Rattle.std.proofs.lemmas.Option.{get_or_from_slice_get, slice_get_within}
+use Rattle.yaml_base.specs.Answer.{Gives}
+use Rattle.yaml_base.specs.Position.{Position}
+use Rattle.yaml_base.specs.declared.error.Cause.{Cause}
+use Rattle.yaml_base.specs.declared.error.Cause.TheVariants.{EndOfStream}
+use Rattle.yaml_shape.specs.DataView.{data_of, entry_of, items_of, entries_of}
+use Rattle.yaml_shape.specs.PlainData.{PlainData, seq_data, map_data, some_data, newtype_data, ignored_data}
+use Rattle.yaml_shape.specs.PlainShape.{PlainShape, bool_shape, char_shape, integer_shape, str_shape, identifier_shape, unit_shape, unit_struct_shape}
+use Rattle.yaml_shape.specs.PlainShape.{option_shape, newtype_shape, seq_shape, map_shape, shape_at}
+use Rattle.yaml_shape.specs.declared.data.Entry.{Entry, the_lemmas}
+use Rattle.yaml_read.specs.DocEventView.{doc_event_of}
+use Rattle.yaml_read.specs.Handing.{Handing, as_is, as_some, handed, early, is_content}
+use Rattle.yaml_read.specs.Places.{Way, place, places}
+use Rattle.yaml_read.specs.PlainDocEvent.{PlainDocEvent, a_scalar, sequence_begins, mapping_begins}
+use Rattle.yaml_base.specs.PlainEvent.{PlainScalar}
+use Rattle.yaml_read.specs.Rows.{Row, row_of, row_step, row_data}
+use Rattle.yaml_read.specs.ScalarShapes.{scalar_answer}
+use Rattle.yaml_read.specs.Steps.{◌>>=◌, ending, wrap, finish, with_shape}
+use Rattle.yaml_read.specs.TreeReader.{Spot, after}
+use Rattle.yaml_read.specs.declared.doc_event.DocEvent.{DocEvent}
+use Rattle.yaml_read.specs.declared.doc_event.DocEvent.TheVariants as event
+use Rattle.yaml_read.specs.inner.Reader.{Source, Reading, Reader, is_sequence_end, is_mapping_end, is_leaf, row_shape, few_text, value_at}
+use Rattle.yaml_read.specs.inner.Reader.{item_at, entry_at, row_at, skip_at, sequence_parts, mapping_parts, event_at, shape_step, node_step, node_at}
+use Rattle.yaml_read.proofs.reading.Loops.{entered, enough}
+
+-- spots with the same place and the same follows
+pub same_spot : (a b : Spot) → a.place ≡ b.place → a.left ≡ b.left → a ≡ b
+same_spot a b p l = λ i. record { place = p i; left = l i }
+
+-- what is given, with where it ended
+pub gives_ending_at : {X : Type 0} (view : X → PlainData) (p q : Spot) (result : Result X Cause) (r : Result PlainData Cause) → p ≡ q → Gives view result r
+    → Gives {X = X} {Y = PlainData × Spot} (λ x. (view x, p)) result (ending q r)
+gives_ending_at view p q (Ok x) r e g = rw (g, e)
+gives_ending_at view p q (Err y) r e g = λ m. ap (ending q) (g m)
+
+pub not_sequence_end : (e : DocEvent) → (e ≡ event.SequenceEnd → ⊥) → is_sequence_end (doc_event_of e) ≡ false
+not_sequence_end (event.Alias j) h = refl
+not_sequence_end (event.Scalar s) h = refl
+not_sequence_end (event.SequenceStart s) h = refl
+not_sequence_end event.SequenceEnd h = absurd (h refl)
+not_sequence_end (event.MappingStart s) h = refl
+not_sequence_end event.MappingEnd h = refl
+not_sequence_end event.Void h = refl
+
+pub not_mapping_end : (e : DocEvent) → (e ≡ event.MappingEnd → ⊥) → is_mapping_end (doc_event_of e) ≡ false
+not_mapping_end (event.Alias j) h = refl
+not_mapping_end (event.Scalar s) h = refl
+not_mapping_end (event.SequenceStart s) h = refl
+not_mapping_end event.SequenceEnd h = refl
+not_mapping_end (event.MappingStart s) h = refl
+not_mapping_end event.MappingEnd h = absurd (h refl)
+not_mapping_end event.Void h = refl
+
+-- an entry is seen by its key and its value
+pub entry_is : (e : Entry) → entry_of e ≡ (data_of e.key, data_of e.value)
+entry_is e = search (rules, the_lemmas)
+
+-- a shape that reads scalars alone hands nothing on, and places its faults
+pub leaf_as_is : (s : PlainShape) (taken : Bool) (e : PlainDocEvent) → is_leaf s ≡ true → handed s taken e ≡ as_is
+leaf_as_is bool_shape taken e h = refl
+leaf_as_is char_shape taken e h = refl
+leaf_as_is (integer_shape i) taken e h = refl
+leaf_as_is str_shape taken e h = refl
+leaf_as_is identifier_shape taken e h = refl
+leaf_as_is unit_shape taken e h = refl
+leaf_as_is (unit_struct_shape name) taken e h = refl
+leaf_as_is _ taken e h = absurd cc
+
+pub leaf_late : (s : PlainShape) → is_leaf s ≡ true → early s ≡ None
+leaf_late bool_shape h = refl
+leaf_late char_shape h = refl
+leaf_late (integer_shape i) h = refl
+leaf_late str_shape h = refl
+leaf_late identifier_shape h = refl
+leaf_late unit_shape h = refl
+leaf_late (unit_struct_shape name) h = refl
+leaf_late _ h = absurd cc
+
+pub leaf_places : (s : PlainShape) → is_leaf s ≡ true → places s ≡ true
+leaf_places bool_shape h = refl
+leaf_places char_shape h = refl
+leaf_places (integer_shape i) h = refl
+leaf_places str_shape h = refl
+leaf_places identifier_shape h = refl
+leaf_places unit_shape h = refl
+leaf_places (unit_struct_shape name) h = refl
+leaf_places _ h = absurd cc
+
+-- a tuple hands nothing on
+pub row_as_is : (s : PlainShape) (name : Option (List ℕ)) (ids : List ℕ) (taken : Bool) (e : PlainDocEvent) → s ≡ row_shape name ids → handed s taken e ≡ as_is
+row_as_is s None ids taken e h = rw h
+row_as_is s (Some name) ids taken e h = rw h
+
+pub row_late : (s : PlainShape) (name : Option (List ℕ)) (ids : List ℕ) → s ≡ row_shape name ids → early s ≡ None
+row_late s None ids h = rw h
+row_late s (Some name) ids h = rw h
+
+module _ (source : Source) (read : Way → Reader) (way : Way) (s : PlainShape) (nest : ℕ) (taken : Bool) (at : Spot) where
+  -- no fault comes first
+  pub step_late : early s ≡ None → node_step source read way s nest taken at ≡ shape_step source read way s nest taken at (source.events at.place)
+  step_late h = rw h
+
+  -- the events end
+  pub step_ended : source.events at.place ≡ None → shape_step source read way s nest taken at (source.events at.place) ≡ Err EndOfStream
+  step_ended h = rw h
+
+  -- a node that is not handed on is read by its first event
+  pub step_event : (e : PlainDocEvent) (m : Position) → Some (e, m) ≡ source.events at.place → handed s taken e ≡ as_is
+      → shape_step source read way s nest taken at (source.events at.place) ≡ event_at source read way s nest taken at e m
+  step_event e m is to = rw (← is, to)
+
+  -- an optional that is present
+  pub step_content : (c : ℕ) (t : PlainShape) (e : PlainDocEvent) (m : Position) → s ≡ option_shape c → Some (e, m) ≡ source.events at.place
+      → is_content taken e ≡ true → shape_at source.table c ≡ Some t
+      → shape_step source read way s nest taken at (source.events at.place) ≡ wrap some_data (read way t nest taken at)
+  step_content c t e m o is here there = rw (← is, o, here, there)
+
+  pub option_as_is : (c : ℕ) (e : PlainDocEvent) → s ≡ option_shape c → is_content taken e ≡ false → handed s taken e ≡ as_is
+  option_as_is c e o here = rw (o, here)
+
+  -- a newtype
+  pub step_newtype : (name : List ℕ) (c : ℕ) (t : PlainShape) (e : PlainDocEvent) (m : Position) → Some (e, m) ≡ source.events at.place → 0 < nest
+      → shape_at source.table c ≡ Some t
+      → shape_step source read way (newtype_shape name c) nest taken at (source.events at.place) ≡ wrap newtype_data (read way t (nest - 1) taken at)
+  step_newtype name c t e m is some there =
+      rw (← is) (entered m (λ n. with_shape (shape_at source.table c) (λ t. wrap newtype_data (read way t n taken at))) nest some ∙ (rw there))
+
+  -- a sequence
+  pub step_seq : (e : ℕ) (t : PlainShape) (tag : Option (List ℕ)) (m : Position) → s ≡ seq_shape e → Some (sequence_begins tag, m) ≡ source.events at.place → 0 < nest
+      → shape_at source.table e ≡ Some t
+      → shape_step source read way s nest taken at (source.events at.place)
+      ≡ wrap (λ vs. seq_data (items_of vs)) (sequence_parts source (item_at read way t (nest - 1)) source.size [] (after at))
+  step_seq e t tag m o is some there =
+      rw (← is, o) (entered m (λ n. with_shape (shape_at source.table e) (λ s. wrap (λ vs. seq_data (items_of vs)) (sequence_parts source (item_at read way s n) source.size [] (after at)))) nest some ∙ (rw there))
+
+  -- a tuple
+  pub step_row : (name : Option (List ℕ)) (ids : List ℕ) (tag : Option (List ℕ)) (m : Position) → s ≡ row_shape name ids → Some (sequence_begins tag, m) ≡ source.events at.place → 0 < nest
+      → shape_step source read way s nest taken at (source.events at.place)
+      ≡ finish (row_data (few_text name (length ids)) (length ids)) (sequence_parts source (row_at source read way (nest - 1)) source.size (row_of ids) (after at))
+  step_row None ids tag m o is some =
+      rw (← is, o) (entered m (λ n. finish (row_data (few_text None (length ids)) (length ids)) (sequence_parts source (row_at source read way n) source.size (row_of ids) (after at))) nest some)
+  step_row (Some name) ids tag m o is some =
+      rw (← is, o) (entered m (λ n. finish (row_data (few_text (Some name) (length ids)) (length ids)) (sequence_parts source (row_at source read way n) source.size (row_of ids) (after at))) nest some)
+
+  -- a mapping
+  pub step_map : (a b : ℕ) (t u : PlainShape) (tag : Option (List ℕ)) (m : Position) → s ≡ map_shape a b → Some (mapping_begins tag, m) ≡ source.events at.place → 0 < nest
+      → shape_at source.table a ≡ Some t → shape_at source.table b ≡ Some u
+      → shape_step source read way s nest taken at (source.events at.place)
+      ≡ wrap (λ vs. map_data (entries_of vs)) (mapping_parts source (entry_at source read way t u (nest - 1)) source.size [] (after at))
+  step_map a b t u tag m o is some there there' =
+      rw (← is, o) (entered m (λ n. with_shape (shape_at source.table a) (λ s. with_shape (shape_at source.table b) (λ t.
+      wrap (λ vs. map_data (entries_of vs)) (mapping_parts source (entry_at source read way s t n) source.size [] (after at))))) nest some ∙ (rw (there, there')))
+
+-- a scalar under a shape that reads scalars alone
+pub leaf_scalar : (source : Source) (way : Way) (s : PlainShape) (nest : ℕ) (taken : Bool) (at : Spot) (fuel : ℕ) (w : PlainScalar) (m : Position)
+    → 0 < fuel → is_leaf s ≡ true → source.events at.place ≡ Some (a_scalar w, m)
+    → node_at source fuel way s nest taken at ≡ place true m way (ending (after at) (scalar_answer s taken w))
+unfolding node_at
+leaf_scalar source way s nest taken at zero w m lt leaf is = absurd (omega arith)
+leaf_scalar source way s nest taken at (suc fuel) w m lt leaf is = rw (is, leaf_late s leaf, leaf_as_is s taken (a_scalar w) leaf, leaf_places s leaf)
+
+module _ (source : Source) (read : Way → Reader) (way : Way) (s t : PlainShape) (nest : ℕ) (vs : List (PlainData × PlainData)) (at : Spot) where
+  pub no_key : (x : Cause) → read way s nest false at ≡ Err x → entry_at source read way s t nest vs at ≡ Err x
+  no_key x h = rw h
+
+  pub no_value : (k : PlainData) (middle : Spot) (x : Cause) → read way s nest false at ≡ Ok (k, middle) → read (value_at way (source.events at.place)) t nest false middle ≡ Err x
+      → entry_at source read way s t nest vs at ≡ Err x
+  no_value k middle x h h' = rw (h, h')
+
+  pub one_entry : (k v : PlainData) (middle next : Spot) → read way s nest false at ≡ Ok (k, middle) → read (value_at way (source.events at.place)) t nest false middle ≡ Ok (v, next)
+      → entry_at source read way s t nest vs at ≡ Ok (vs ++ (k, v) ∷ [], next)
+  one_entry k v middle next h h' = rw (h, h')
+
+-- the step of a tuple that has no more elements, and of one that has
+pub row_skips : {C : Type 0} (vs : List PlainData) (extra : ℕ) (read : ℕ → Result (PlainData × C) Cause) (skip : Result (PlainData × C) Cause) (ids : List ℕ) → ids ≡ []
+    → row_step ids vs extra read skip ≡ wrap (λ v. record { left = []; read = vs; extra = extra + 1 }) skip
+row_skips vs extra read skip ids e = rw e
+
+pub row_reads : {C : Type 0} (vs : List PlainData) (extra : ℕ) (read : ℕ → Result (PlainData × C) Cause) (skip : Result (PlainData × C) Cause) (ids : List ℕ) (id : ℕ) (rest : List ℕ) → ids ≡ id ∷ rest
+    → row_step ids vs extra read skip ≡ wrap (λ v. record { left = rest; read = vs ++ v ∷ []; extra = extra }) (read id)
+row_reads vs extra read skip ids id rest e = rw e
+
+pub drop_here : (xs : List ℕ) (i x : ℕ) → Some x ≡ slice_get xs i → drop i xs ≡ x ∷ drop (suc i) xs
+drop_here [] i x h = absurd cc
+drop_here (y ∷ ys) zero x h = cc
+drop_here (y ∷ ys) (suc i) x h = drop_here ys i x h
+
+pub drop_none : (xs : List ℕ) (i : ℕ) → None ≡ slice_get xs i → drop i xs ≡ []
+drop_none [] zero h = refl
+drop_none [] (suc i) h = refl
+drop_none (y ∷ ys) zero h = absurd cc
+drop_none (y ∷ ys) (suc i) h = drop_none ys i h
+
+-- a number of a list meets what all of its numbers meet
+pub all_at : (P : ℕ → Type 0) (xs : List ℕ) (i x : ℕ) → All P xs → Some x ≡ slice_get xs i → P x
+all_at P xs i x a h = subst P (get_or_from_slice_get xs i x x (sym h)) (All-get_or P xs i x (slice_get_within xs i x (sym h)) a)
+
+pub finish_fails : {S A C : Type 0} (f : S → Result A Cause) (r : Result (S × C) Cause) (x : Cause) → r ≡ Err x → ◌≡◌ {A = Result (A × C) Cause} (finish f r) (Err x)
+finish_fails f r x h = rw h
+
+pub gives_finish : {X S : Type 0} (view : X → PlainData) (f : S → Result PlainData Cause) (result : Result X Cause) (r : Result (S × Spot) Cause) (s : S) (p : Spot) → r ≡ Ok (s, p)
+    → Gives view result (f s) → Gives {X = X} {Y = PlainData × Spot} (λ x. (view x, p)) result (finish f r)
+gives_finish view f (Ok x) r s p e g = rw (e, g)
+gives_finish view f (Err y) r s p e g = λ m. rw (e, g m)

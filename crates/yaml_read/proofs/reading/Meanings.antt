@@ -1,0 +1,91 @@
+-- A tree means at most one thing.
+use Rattle.std.proofs.Common.{◌≡◌, ℕ, suc, ◌+◌, Bool, refl, ap, ap₂, Ok, Some, sym, ◌∙◌, Result}
+use Rattle.std.specs.Prelude.{max, List}
+use Rattle.yaml_base.specs.declared.error.Cause.{Cause}
+use Rattle.yaml_shape.specs.PlainData.{PlainData, PlainItems, PlainEntries, seq_data, item, map_data, some_data, newtype_data, tuple_data}
+use Rattle.yaml_shape.specs.PlainShape.{PlainShape}
+use Rattle.yaml_read.specs.DocTree.{DocNode, DocNodes, DocPairs}
+use Rattle.yaml_read.specs.Handing.{Handing}
+use Rattle.yaml_read.specs.Meaning.{Means, means_node, MeansAs, means_some, means_newtype, means_ignored, means_target, means_void, means_scalar, means_list, means_mapping}
+use Rattle.yaml_read.specs.Meaning.{MeansList, means_seq, means_tuple, means_tuple_struct, MeansPairs, means_map, MeanEach, means_none, means_more, MeanRow, means_no_elements, means_element, MeanPairs, means_no_pairs, means_pair}
+
+-- the same data, with the same counts
+pub record Same {A : Type 0} (v v' : A) (d d' k k' : ℕ) : Type 0 where
+  pub data_is : v ≡ v'
+  pub nestings : d ≡ d'
+  pub follows : k ≡ k'
+
+ok_is : {x y : PlainData} → ◌≡◌ {A = Result PlainData Cause} (Ok x) (Ok y) → x ≡ y
+ok_is h = cc
+
+module _ (table : List PlainShape) (root : DocNode) where
+  mutual
+    pub one_meaning : {s : PlainShape} {n : DocNode} {taken : Bool} {v v' : PlainData} {d d' k k' : ℕ} → Means table root s n taken v d k → Means table root s n taken v' d' k' → Same v v' d d' k k'
+    one_meaning (means_node {h} late to m) (means_node {h = h'} late' to' m') =
+        let same : h ≡ h' = sym to ∙ to' in
+        one_meaning_as m (rw (← same) at m')
+
+    one_meaning_as : {h : Handing} {s : PlainShape} {n : DocNode} {taken : Bool} {v v' : PlainData} {d d' k k' : ℕ} → MeansAs table root h s n taken v d k → MeansAs table root h s n taken v' d' k' → Same v v' d d' k k'
+    one_meaning_as (means_some {t} is m) (means_some {t = t'} is' m') =
+        let same : t ≡ t' = cc in
+        let r = one_meaning m (rw (← same) at m') in
+        record { data_is = ap some_data r.data_is; nestings = r.nestings; follows = r.follows }
+    one_meaning_as (means_newtype {t} is m) (means_newtype {t = t'} is' m') =
+        let same : t ≡ t' = cc in
+        let r = one_meaning m (rw (← same) at m') in
+        record { data_is = ap newtype_data r.data_is; nestings = ap suc r.nestings; follows = r.follows }
+    one_meaning_as means_ignored means_ignored = record { data_is = refl; nestings = refl; follows = refl }
+    one_meaning_as (means_target {n} e m) (means_target {n = n'} e' m') =
+        let same : n ≡ n' = cc in
+        let r = one_meaning m (rw (← same) at m') in
+        record { data_is = r.data_is; nestings = r.nestings; follows = ap suc r.follows }
+    one_meaning_as (means_void e) (means_void e') = record { data_is = ok_is (sym e ∙ e'); nestings = refl; follows = refl }
+    one_meaning_as (means_scalar e) (means_scalar e') = record { data_is = ok_is (sym e ∙ e'); nestings = refl; follows = refl }
+    one_meaning_as (means_list m) (means_list m') =
+        let r = one_list m m' in
+        record { data_is = r.data_is; nestings = ap suc r.nestings; follows = r.follows }
+    one_meaning_as (means_mapping m) (means_mapping m') =
+        let r = one_mapping m m' in
+        record { data_is = r.data_is; nestings = ap suc r.nestings; follows = r.follows }
+
+    one_list : {s : PlainShape} {ns : DocNodes} {v v' : PlainData} {d d' k k' : ℕ} → MeansList table root s ns v d k → MeansList table root s ns v' d' k' → Same v v' d d' k k'
+    one_list (means_seq {s} is m) (means_seq {s = s'} is' m') =
+        let same : s ≡ s' = cc in
+        let r = each_means_one m (rw (← same) at m') in
+        record { data_is = ap seq_data r.data_is; nestings = r.nestings; follows = r.follows }
+    one_list (means_tuple m) (means_tuple m') =
+        let r = row_means_one m m' in
+        record { data_is = ap tuple_data r.data_is; nestings = r.nestings; follows = r.follows }
+    one_list (means_tuple_struct m) (means_tuple_struct m') =
+        let r = row_means_one m m' in
+        record { data_is = ap tuple_data r.data_is; nestings = r.nestings; follows = r.follows }
+
+    one_mapping : {s : PlainShape} {ps : DocPairs} {v v' : PlainData} {d d' k k' : ℕ} → MeansPairs table root s ps v d k → MeansPairs table root s ps v' d' k' → Same v v' d d' k k'
+    one_mapping (means_map {s} {t} is there m) (means_map {s = s'} {t = t'} is' there' m') =
+        let same : s ≡ s' = cc in
+        let same' : t ≡ t' = cc in
+        let r = pairs_mean_one m (rw (← same, ← same') at m') in
+        record { data_is = ap map_data r.data_is; nestings = r.nestings; follows = r.follows }
+
+    each_means_one : {s : PlainShape} {ns : DocNodes} {vs vs' : PlainItems} {d d' k k' : ℕ} → MeanEach table root s ns vs d k → MeanEach table root s ns vs' d' k' → Same vs vs' d d' k k'
+    each_means_one means_none means_none = record { data_is = refl; nestings = refl; follows = refl }
+    each_means_one (means_more m ms) (means_more m' ms') =
+        let r = one_meaning m m' in
+        let rs = each_means_one ms ms' in
+        record { data_is = ap₂ item r.data_is rs.data_is; nestings = ap₂ max r.nestings rs.nestings; follows = ap₂ ◌+◌ r.follows rs.follows }
+
+    row_means_one : {ids : List ℕ} {ns : DocNodes} {vs vs' : PlainItems} {d d' k k' : ℕ} → MeanRow table root ids ns vs d k → MeanRow table root ids ns vs' d' k' → Same vs vs' d d' k k'
+    row_means_one means_no_elements means_no_elements = record { data_is = refl; nestings = refl; follows = refl }
+    row_means_one (means_element {s} is m ms) (means_element {s = s'} is' m' ms') =
+        let same : s ≡ s' = cc in
+        let r = one_meaning m (rw (← same) at m') in
+        let rs = row_means_one ms ms' in
+        record { data_is = ap₂ item r.data_is rs.data_is; nestings = ap₂ max r.nestings rs.nestings; follows = ap₂ ◌+◌ r.follows rs.follows }
+
+    pairs_mean_one : {s t : PlainShape} {ps : DocPairs} {vs vs' : PlainEntries} {d d' k k' : ℕ} → MeanPairs table root s t ps vs d k → MeanPairs table root s t ps vs' d' k' → Same vs vs' d d' k k'
+    pairs_mean_one means_no_pairs means_no_pairs = record { data_is = refl; nestings = refl; follows = refl }
+    pairs_mean_one (means_pair l m ms) (means_pair l' m' ms') =
+        let q = one_meaning l l' in
+        let r = one_meaning m m' in
+        let rs = pairs_mean_one ms ms' in
+        record { data_is = cc; nestings = cc; follows = cc }

@@ -1,0 +1,59 @@
+-- Placing a fault changes no answer, no place where a reading ends, and no fault of a limit.
+use Rattle.std.proofs.Common.{◌≡◌, ℕ, Bool, true, false, Result, Ok, Err, refl, sym, ap, ◌∙◌, Option, Some, None, zero, suc, ◌<◌, ◌-◌, arith}
+use Rattle.yaml_base.specs.Answer.{is_memory}
+use Rattle.yaml_base.specs.CausePlace.{filled}
+use Rattle.yaml_base.specs.Position.{Position}
+use Rattle.yaml_base.specs.declared.error.Cause.{Cause}
+use Rattle.yaml_base.specs.declared.error.Cause.TheVariants.{Memory}
+use Rattle.yaml_base.specs.declared.error.Place.{Place}
+use Rattle.yaml_shape.specs.PlainShape.{PlainShape}
+use Rattle.yaml_read.specs.Places.{Way, placed, place, places}
+use Rattle.yaml_read.specs.PlainDocEvent.{PlainDocEvent}
+use Rattle.yaml_read.specs.TreeReader.{Answer, Spot}
+use Rattle.yaml_read.specs.inner.Reader.{Reading, Source, place_at, node_at, node_step}
+use Rattle.yaml_read.proofs.reading.Loops.{enough}
+use Rattle.yaml_read.proofs.reading.Steps.{IfData}
+use Rattle.yaml_read.proofs.reading.TreeWalks.{landed}
+
+module _ (here : Bool) (mark : Position) (way : Way) where
+  -- both readers place alike
+  pub landed_place : {A : Type 0} (end : ℕ) (q : Reading A) (r : Answer A) → q ≡ landed end r → place here mark way q ≡ landed end (place here mark way r)
+  landed_place end q (Ok x) e = rw e
+  landed_place end q (Err y) e = rw e
+
+  pub data_place : {A : Type 0} (Q : A → Type 0) (r : Result A Cause) → IfData Q r → IfData Q (place here mark way r)
+  data_place Q (Ok x) h y e = h y e
+  data_place Q (Err z) h y e = absurd cc
+
+-- want of memory stays, and nothing else becomes it
+pub filled_memory : (y : Cause) (p : Place) → is_memory (filled y p) ≡ is_memory y
+filled_memory Memory p = refl
+filled_memory _ p = refl
+
+-- a node's reading is its step, with its fault placed
+pub node_unfolds : (source : Source) (way : Way) (s : PlainShape) (nest : ℕ) (taken : Bool) (at : Spot) (fuel : ℕ) → 0 < fuel
+    → node_at source fuel way s nest taken at ≡ place_at way s (source.events at.place) (node_step source (node_at source (fuel - 1)) way s nest taken at)
+unfolding node_at
+node_unfolds source way s nest taken at zero lt = absurd (omega arith)
+node_unfolds source way s nest taken at (suc f) lt = rw (enough f)
+
+module _ (way : Way) (s : PlainShape) where
+  pub place_ok : {A : Type 0} (e : Option (PlainDocEvent × Position)) (x : A) → ◌≡◌ {A = Result A Cause} (place_at way s e (Ok x)) (Ok x)
+  place_ok None x = refl
+  place_ok (Some e) x = refl
+
+  err_is : {A : Type 0} {x y : Cause} → ◌≡◌ {A = Result A Cause} (Err x) (Err y) → x ≡ y
+  err_is h = cc
+
+  -- a fault is placed alike, whatever the answer would have been, and it is want of memory as before
+  pub place_moved : {A B : Type 0} (e : Option (PlainDocEvent × Position)) (f y : Cause) → place_at {A = A} way s e (Err f) ≡ Err y → place_at {A = B} way s e (Err f) ≡ Err y
+  place_moved None f y h = ap Err (err_is h)
+  place_moved (Some e) f y h = ap Err (err_is h)
+
+  pub place_memory : {A : Type 0} (e : Option (PlainDocEvent × Position)) (f y : Cause) → place_at {A = A} way s e (Err f) ≡ Err y → is_memory f ≡ is_memory y
+  place_memory None f y h = ap is_memory (err_is h)
+  place_memory (Some e) f y h = chosen (places s) ∙ ap is_memory (err_is h)
+    where
+      chosen : (b : Bool) → is_memory f ≡ is_memory (placed b e.1 way f)
+      chosen true = sym (filled_memory f (record { mark = e.1; path = way.text }))
+      chosen false = refl

@@ -1,0 +1,158 @@
+-- What reading a tree answers within limits: its data, or the first fault from left to right, with its place.
+use Rattle.std.specs.Prelude.{ℕ, zero, suc, ◌+◌, ◌*◌, List, [], ◌∷◌, ◌++◌, length, Option, Some, None, Result, Ok, Err}
+use Rattle.std.specs.Prelude.{Bool, false, slice_get}
+use Rattle.yaml_base.specs.Position.{Position}
+use Rattle.yaml_base.specs.declared.error.Cause.{Cause}
+use Rattle.yaml_base.specs.declared.error.Cause.TheVariants.{Memory, EndOfStream}
+use Rattle.yaml_shape.specs.DataView.{items_of, entries_of}
+use Rattle.yaml_shape.specs.Expected.{tuple_text, tuple_struct_text}
+use Rattle.yaml_shape.specs.PlainData.{PlainData, seq_data, map_data, ignored_data, some_data, newtype_data}
+use Rattle.yaml_shape.specs.PlainShape.{PlainShape, seq_shape, tuple_shape, tuple_struct_shape, map_shape, shape_at}
+use Rattle.yaml_read.specs.DocTree.{DocNode, DocNodes, DocPairs, nothing, reference, word, list, mapping}
+use Rattle.yaml_read.specs.DocTree.{no_nodes, node, no_pairs, pair, events_of, first_event, node_of}
+use Rattle.yaml_read.specs.Handing.{Handing, as_is, as_some, as_newtype, as_ignored, handed, early}
+use Rattle.yaml_read.specs.Places.{Way, element_under, value_under, places, place, root_way}
+use Rattle.yaml_read.specs.PlainDocEvent.{PlainDocEvent}
+use Rattle.yaml_read.specs.PlainDocument.{PlainDocument}
+use Rattle.yaml_read.specs.Rows.{Row, row_of, one_more, row_data}
+use Rattle.yaml_read.specs.ScalarFound.{sequence_fault, mapping_fault}
+use Rattle.yaml_read.specs.ScalarShapes.{scalar_answer, void_answer}
+use Rattle.yaml_read.specs.Steps.{◌>>=◌, ending, wrap, enter, follow, finish, with_shape, unless}
+
+-- where a reading is: the place of its next event, and the follows that are left
+pub record Spot : Type 0 where
+  pub place : ℕ
+  pub left : ℕ
+
+-- behind the event
+abbrev pub after : Spot → Spot
+after at = record { place = at.place + 1; left = at.left }
+
+-- behind a node, with so many follows left
+abbrev pub behind : Spot → DocNode → ℕ → Spot
+behind at n left = record { place = at.place + length (events_of n); left = left }
+
+-- what reading answers: a value and the follows that are left, or a fault
+abbrev pub Answer : Type 0 → Type 0
+Answer A = Result (A × ℕ) Cause
+
+-- The nodes from left to right. A part is read from what was gathered so far, and the spot is that of the first node.
+abbrev pub each_node : {S : Type 0} → (part : S → DocNode → Spot → Answer S) → S → DocNodes → Spot → Answer S
+each_node part s no_nodes at = Ok (s, at.left)
+each_node part s (node n ns) at = part s n at >>= λ x. each_node part x.0 ns (behind at n x.1)
+
+-- the pairs from left to right: each key, and then its value from what the key gave
+abbrev pub each_pair : {S T : Type 0} → (key : S → DocNode → Spot → Answer T) → (value : S → T → DocNode → Spot → Answer S)
+    → S → DocPairs → Spot → Answer S
+each_pair key value s no_pairs at = Ok (s, at.left)
+each_pair key value s (pair m n ps) at =
+    key s m at >>= λ k. value s k.0 n (behind at m k.1) >>= λ x. each_pair key value x.0 ps (behind (behind at m k.1) n x.1)
+
+-- reads a node under a shape, with so many nestings left, its tag taken or not; the spot is that of the node
+abbrev pub TreeReader : Type 0
+TreeReader = PlainShape → (nest : ℕ) → (taken : Bool) → DocNode → Spot → Answer PlainData
+
+-- one more element
+abbrev pub item_of : (Way → TreeReader) → Way → PlainShape → (nest : ℕ) → List PlainData → DocNode → Spot → Answer (List PlainData)
+item_of read way s nest vs n at = wrap (λ v. vs ++ v ∷ []) (read (element_under way (length vs)) s nest false n at)
+
+-- a key, with the way to its value
+abbrev pub key_of : (Way → TreeReader) → Way → PlainShape → (nest : ℕ) → List (PlainData × PlainData) → DocNode → Spot
+    → Answer (Way × PlainData)
+key_of read way s nest vs n at = wrap (λ k. (value_under way (first_event n), k)) (read way s nest false n at)
+
+-- one more value, behind its key
+abbrev pub value_of : (Way → TreeReader) → PlainShape → (nest : ℕ) → List (PlainData × PlainData) → Way × PlainData → DocNode → Spot
+    → Answer (List (PlainData × PlainData))
+value_of read s nest vs k n at = wrap (λ v. vs ++ (k.1, v) ∷ []) (read k.0 s nest false n at)
+
+-- the target of an alias, with its number
+abbrev pub target_of : TreeReader → PlainShape → (nest : ℕ) → Option DocNode → ℕ → ℕ → Answer PlainData
+target_of read s nest None j left = Err EndOfStream
+target_of read s nest (Some n) j left = read s nest false n (record { place = j; left = left })
+
+module _ (table : List PlainShape) where
+  -- one more element of a tuple
+  abbrev pub row_part : (Way → TreeReader) → Way → (nest : ℕ) → Row → DocNode → Spot → Answer Row
+  row_part read way nest row n at =
+      one_more (λ id. with_shape (shape_at table id) (λ s. read (element_under way (length row.read)) s nest false n at))
+      (Ok (ignored_data, at.left)) row
+
+  -- the elements of a tuple
+  abbrev pub row_by : (Way → TreeReader) → Way → (few ids : List ℕ) → ℕ → Position → DocNodes → Spot → Answer PlainData
+  row_by read way few ids nest mark ns at =
+      enter nest mark (λ n. finish (row_data few (length ids)) (each_node (row_part read way n) (row_of ids) ns at))
+
+  -- a sequence, whose parts begin at the spot
+  abbrev pub sequence_of : (Way → TreeReader) → Way → PlainShape → ℕ → Position → DocNodes → Spot → Answer PlainData
+  sequence_of read way (seq_shape e) nest mark ns at =
+      enter nest mark (λ n. with_shape (shape_at table e) (λ s.
+      wrap (λ vs. seq_data (items_of vs)) (each_node (item_of read way s n) [] ns at)))
+  sequence_of read way (tuple_shape ids) nest mark ns at = row_by read way (tuple_text (length ids)) ids nest mark ns at
+  sequence_of read way (tuple_struct_shape name ids) nest mark ns at =
+      row_by read way (tuple_struct_text name (length ids)) ids nest mark ns at
+  sequence_of read way s nest mark ns at = Err (sequence_fault s)
+
+  -- a mapping, likewise
+  abbrev pub mapping_of : (Way → TreeReader) → Way → PlainShape → ℕ → Position → DocPairs → Spot → Answer PlainData
+  mapping_of read way (map_shape a b) nest mark ps at =
+      enter nest mark (λ n. with_shape (shape_at table a) (λ s. with_shape (shape_at table b) (λ t.
+      wrap (λ vs. map_data (entries_of vs)) (each_pair (key_of read way s n) (value_of read t n) [] ps at))))
+  mapping_of read way s nest mark ps at = Err (mapping_fault s)
+
+  -- a node by its kind; each collection has its mark
+  abbrev pub node_by : (Way → TreeReader) → Way → DocNode → (ℕ → Position) → PlainShape → ℕ → Bool → DocNode → Spot → Answer PlainData
+  node_by read way root marks s nest taken nothing at = ending at.left (void_answer s)
+  node_by read way root marks s nest taken (reference j) at = follow at.left (target_of (read way) s nest (node_of root j) j)
+  node_by read way root marks s nest taken (word w) at = ending at.left (scalar_answer s taken w)
+  node_by read way root marks s nest taken (list tag ns) at = sequence_of read way s nest (marks at.place) ns (after at)
+  node_by read way root marks s nest taken (mapping tag ps) at = mapping_of read way s nest (marks at.place) ps (after at)
+
+  -- a node as it is handed on
+  abbrev pub handed_by : Handing → (Way → TreeReader) → Way → DocNode → (ℕ → Position) → PlainShape → ℕ → Bool → DocNode → Spot → Answer PlainData
+  handed_by as_is read way root marks s nest taken n at = node_by read way root marks s nest taken n at
+  handed_by (as_some c) read way root marks s nest taken n at =
+      with_shape (shape_at table c) (λ t. wrap some_data (read way t nest taken n at))
+  handed_by (as_newtype c) read way root marks s nest taken n at =
+      enter nest (marks at.place) (λ m. with_shape (shape_at table c) (λ t. wrap newtype_data (read way t m taken n at)))
+  handed_by as_ignored read way root marks s nest taken n at = Ok (ignored_data, at.left)
+
+  -- A node of the tree with this root, whose events have these marks. The first number bounds the depth: more than `depth` tells
+  -- is always enough, and beyond it the answer is want of memory.
+  unfoldable pub read_tree : (fuel : ℕ) → DocNode → (marks : ℕ → Position) → Way → TreeReader
+  read_tree zero root marks way s nest taken n at = Err Memory
+  read_tree (suc fuel) root marks way s nest taken n at =
+      place (places s) (marks at.place) way (unless (early s)
+      (handed_by (handed s taken (first_event n)) (read_tree fuel root marks) way root marks s nest taken n at))
+
+-- how deep a reading goes, and how many aliases it follows for each event of the document
+pub record PlainLimits : Type 0 where
+  pub nesting : ℕ
+  pub follows : ℕ
+
+-- the limits of a reading that names none
+abbrev pub default_limits : PlainLimits
+default_limits = record { nesting = 128; follows = 100 }
+
+-- the mark of an event that was looked up; where there is none, the very first
+abbrev pub mark_or_first : Option (PlainDocEvent × Position) → Position
+mark_or_first None = record { index = 0; line = 0; column = 0 }
+mark_or_first (Some e) = e.1
+
+-- the mark of the event at each place
+abbrev pub marks_of : List (PlainDocEvent × Position) → ℕ → Position
+marks_of events place = mark_or_first (slice_get events place)
+
+-- a fuel that is enough for a document of n events
+abbrev pub whole_fuel : PlainLimits → ℕ → ℕ
+whole_fuel limits n = 4098 * (limits.follows * n + limits.nesting + 1)
+
+-- the reading of the tree from its root, within the limits for a document with these events
+abbrev pub whole_tree : PlainLimits → List PlainShape → List (PlainDocEvent × Position) → PlainShape → DocNode → Answer PlainData
+whole_tree limits table events s root =
+    read_tree table (whole_fuel limits (length events)) root (marks_of events) root_way s limits.nesting false root
+    (record { place = 0; left = limits.follows * length events })
+
+-- what a whole document with this tree gives: its data, or the first fault
+abbrev pub answer_of : PlainLimits → List PlainShape → PlainShape → PlainDocument → DocNode → Result PlainData Cause
+answer_of limits table s document root = whole_tree limits table document.events s root >>= λ x. Ok x.0

@@ -1,0 +1,96 @@
+-- The events of a document before its end is reached: aliases wait for their targets.
+use Rattle.std.specs.Prelude.{ℕ, ◌≡◌, ◌+◌, ◌<◌, List, [], ◌∷◌, ◌++◌, map, length, Bool, true, false, IsTrue, All, Option, Some, None}
+use Rattle.std.specs.Prelude.{suc, zero}
+use Rattle.yaml_base.specs.Position.{Position}
+use Rattle.yaml_base.specs.PlainEvent.{PlainEvent, alias, scalar, sequence_start, sequence_end, mapping_start, mapping_end}
+use Rattle.yaml_base.specs.Tree.{anchor_at}
+use Rattle.yaml_read.specs.DocEventView.{marked_events_of}
+use Rattle.yaml_read.specs.Documents.{Find, Input, anchors_in}
+use Rattle.yaml_read.specs.Gathering.{AreCuts, documents_in}
+use Rattle.yaml_read.specs.PlainDocEvent.{PlainDocEvent, alias_to, a_scalar, sequence_begins, sequence_ends}
+use Rattle.yaml_read.specs.PlainDocEvent.{mapping_begins, mapping_ends, a_void}
+use Rattle.yaml_read.specs.PlainDocument.{PlainDocument}
+use Rattle.yaml_read.specs.Resolved.{without_anchor}
+use Rattle.yaml_read.specs.declared.doc_event.DocEvent.{DocEvent}
+use Rattle.yaml_read.specs.declared.loader.draft.Cut.{Cut}
+use Rattle.yaml_read.specs.declared.loader.draft.Draft.{Draft}
+use Rattle.yaml_read.specs.inner.OpenEnds.{HasNumbers}
+
+-- the event is part of a node
+abbrev pub is_of_node : PlainEvent → Bool
+is_of_node (alias anchor) = true
+is_of_node (scalar s) = true
+is_of_node (sequence_start anchor tag) = true
+is_of_node sequence_end = true
+is_of_node (mapping_start anchor tag) = true
+is_of_node mapping_end = true
+is_of_node _ = false
+
+-- what stands for an event until its document ends
+abbrev pub drafted : PlainEvent → PlainDocEvent
+drafted (alias anchor) = alias_to 0
+drafted (scalar s) = a_scalar (without_anchor s)
+drafted (sequence_start anchor tag) = sequence_begins tag
+drafted sequence_end = sequence_ends
+drafted (mapping_start anchor tag) = mapping_begins tag
+drafted mapping_end = mapping_ends
+drafted _ = a_void
+
+-- what stands for events
+abbrev pub all_drafted : Input → List (PlainDocEvent × Position)
+all_drafted input = map (λ e. (drafted e.0, e.1)) input
+
+-- the same, without marks
+abbrev pub drafts_of : Input → List PlainDocEvent
+drafts_of input = map (λ e. drafted e.0) input
+
+-- the anchor of an alias, beside its place
+abbrev pub alias_at : PlainEvent → ℕ → List (List ℕ × ℕ)
+alias_at (alias anchor) place = (anchor, place) ∷ []
+alias_at _ place = []
+
+-- the anchors of the aliases, in order, each beside the place of the alias
+abbrev pub aliases_in : ℕ → Input → List (List ℕ × ℕ)
+aliases_in place [] = []
+aliases_in place (e ∷ input) = alias_at e.0 place ++ aliases_in (place + 1) input
+
+-- an alias at a place gets its target
+abbrev pub aimed : ℕ → ℕ → List (PlainDocEvent × Position) → List (PlainDocEvent × Position)
+aimed place target [] = []
+aimed zero target (e ∷ events) = (alias_to target, e.1) ∷ events
+aimed (suc place) target (e ∷ events) = e ∷ aimed place target events
+
+-- events, and the place of the first unknown alias among them
+abbrev pub Settled : Type 0
+Settled = List (PlainDocEvent × Position) × Option ℕ
+
+-- one alias gets its target, and then the later ones; nothing is done where it is unknown
+abbrev pub settle : Option ℕ → ℕ → List (PlainDocEvent × Position) → (List (PlainDocEvent × Position) → Settled) → Settled
+settle None place events later = (events, Some place)
+settle (Some target) place events later = later (aimed place target events)
+
+-- the aliases up to the first unknown one get their targets
+abbrev pub settled : Find → List (List ℕ × ℕ) → List (PlainDocEvent × Position) → Settled
+settled find [] events = (events, None)
+settled find (x ∷ aliases) events = settle (find x.0 x.1) x.1 events (settled find aliases)
+
+-- a document is open behind these events and numbers, and these events of it were seen
+pub record IsDraft (events : List (DocEvent × Position)) (numbers : List ℕ) (seen : Input) (d : Draft) : Type 0 where
+  pub nodes : All (λ e. IsTrue (is_of_node e.0)) seen
+  pub long : length numbers ≡ length events
+  pub from : d.from ≡ length events
+  pub now : List (DocEvent × Position)
+  pub whole : d.events.items ≡ events ++ now
+  pub shown : marked_events_of now ≡ all_drafted seen
+  pub ends : HasNumbers numbers (drafts_of seen) d.ends
+  pub named : d.anchors.named.items ≡ anchors_in 0 seen
+  pub aliases : d.anchors.aliases.items ≡ aliases_in 0 seen
+
+-- no document is open, and those that were have their ranges
+pub record IsBetween (documents : List PlainDocument) (d : Draft) : Type 0 where
+  pub long : length d.ends.numbers ≡ length d.events.items
+  pub unended : d.ends.unended ≡ []
+  pub named : d.anchors.named.items ≡ []
+  pub aliases : d.anchors.aliases.items ≡ []
+  pub cuts : AreCuts d.events.items d.ends.numbers d.cuts.items
+  pub shown : documents_in d.events.items d.cuts.items ≡ documents

@@ -1,0 +1,209 @@
+-- Reading by the places of a document's events: what the code answers, step by step.
+use Rattle.std.specs.Prelude.{ℕ, zero, suc, ◌+◌, List, [], ◌∷◌, ◌++◌, length, Option, Some, None, Result, Ok, Err}
+use Rattle.std.specs.Prelude.{Bool, true, false, if◌then◌else◌, nat_lt}
+use Rattle.yaml_base.specs.Position.{Position}
+use Rattle.yaml_base.specs.declared.error.Cause.{Cause}
+use Rattle.yaml_base.specs.declared.error.Cause.TheVariants.{Memory, EndOfStream}
+use Rattle.yaml_shape.specs.DataView.{items_of, entries_of}
+use Rattle.yaml_shape.specs.Expected.{tuple_text, tuple_struct_text}
+use Rattle.yaml_shape.specs.PlainData.{PlainData, seq_data, map_data, ignored_data, some_data, newtype_data}
+use Rattle.yaml_shape.specs.PlainShape.{PlainShape, bool_shape, char_shape, integer_shape, str_shape, identifier_shape}
+use Rattle.yaml_shape.specs.PlainShape.{unit_shape, unit_struct_shape, seq_shape, tuple_shape, tuple_struct_shape, map_shape, shape_at}
+use Rattle.yaml_read.specs.Ends.{is_closing}
+use Rattle.yaml_read.specs.Handing.{Handing, as_is, as_some, as_newtype, as_ignored, handed, early}
+use Rattle.yaml_read.specs.Places.{Way, element_under, value_under, places, place}
+use Rattle.yaml_read.specs.PlainDocEvent.{PlainDocEvent, alias_to, a_scalar, a_void}
+use Rattle.yaml_read.specs.PlainDocEvent.{sequence_begins, sequence_ends, mapping_begins, mapping_ends}
+use Rattle.yaml_read.specs.Rows.{Row, row_of, one_more, row_data}
+use Rattle.yaml_read.specs.ScalarFound.{sequence_fault, mapping_fault}
+use Rattle.yaml_read.specs.ScalarShapes.{scalar_answer, void_answer}
+use Rattle.yaml_read.specs.Steps.{◌>>=◌, ending, wrap, enter, follow, finish, with_shape, unless}
+use Rattle.yaml_read.specs.TreeReader.{Spot, after}
+
+-- what reading answers: a value and where it ended, or a fault
+abbrev pub Reading : Type 0 → Type 0
+Reading A = Result (A × Spot) Cause
+
+-- the event at each place, with its mark
+abbrev pub Events : Type 0
+Events = ℕ → Option (PlainDocEvent × Position)
+
+-- what is read: the shapes, the events, where the collection ends that begins at each place, and how many events there are
+pub record Source : Type 0 where
+  pub table : List PlainShape
+  pub events : Events
+  pub ends : ℕ → Option ℕ
+  pub size : ℕ
+
+-- reads at another place, and comes back behind the alias
+abbrev pub pursue : (Spot → Reading PlainData) → ℕ → ℕ → ℕ → Reading PlainData
+pursue read j p left = follow left (λ n.
+    read (record { place = j; left = n }) >>= λ found. Ok (found.0, record { place = p + 1; left = found.1.left }))
+
+-- the event ends a sequence
+abbrev pub is_sequence_end : PlainDocEvent → Bool
+is_sequence_end sequence_ends = true
+is_sequence_end _ = false
+
+-- the event ends a mapping
+abbrev pub is_mapping_end : PlainDocEvent → Bool
+is_mapping_end mapping_ends = true
+is_mapping_end _ = false
+
+-- one turn of going over the parts of a collection: a step goes on from what was gathered so far
+abbrev pub turn : {S : Type 0} → (PlainDocEvent → Bool) → (S → Spot → Reading S) → (S → Spot → Reading S) → S → Spot
+    → Option (PlainDocEvent × Position) → Reading S
+turn is_end step more s at None = Err EndOfStream
+turn is_end step more s at (Some e) = if is_end e.0 then Ok (s, after at) else (step s at >>= λ x. more x.0 x.1)
+
+-- the parts of a collection to its end, in at most so many turns; the number of the events is always enough
+unfoldable pub each_at : {S : Type 0} → (PlainDocEvent → Bool) → (S → Spot → Reading S) → Events → ℕ → S → Spot → Reading S
+each_at is_end step events zero s at = Err Memory
+each_at is_end step events (suc n) s at = turn is_end step (each_at is_end step events n) s at (events at.place)
+
+-- reads what a shape, a number of nestings left, whether the tag is taken, and a spot ask for
+abbrev pub Reader : Type 0
+Reader = PlainShape → (nest : ℕ) → (taken : Bool) → Spot → Reading PlainData
+
+-- the shape reads sequences as its own, and mappings
+abbrev pub takes_sequence : PlainShape → Bool
+takes_sequence (seq_shape e) = true
+takes_sequence (tuple_shape ids) = true
+takes_sequence (tuple_struct_shape name ids) = true
+takes_sequence _ = false
+
+abbrev pub takes_mapping : PlainShape → Bool
+takes_mapping (map_shape a b) = true
+takes_mapping _ = false
+
+-- the shape reads the collection that begins with the event as its own
+abbrev pub takes : PlainShape → PlainDocEvent → Bool
+takes s (sequence_begins tag) = takes_sequence s
+takes s (mapping_begins tag) = takes_mapping s
+takes s _ = false
+
+-- the shape reads scalars alone
+abbrev pub is_leaf : PlainShape → Bool
+is_leaf bool_shape = true
+is_leaf char_shape = true
+is_leaf (integer_shape i) = true
+is_leaf str_shape = true
+is_leaf identifier_shape = true
+is_leaf unit_shape = true
+is_leaf (unit_struct_shape name) = true
+is_leaf _ = false
+
+-- the shape of a tuple, or of the tuple struct of a name
+abbrev pub row_shape : (name : Option (List ℕ)) → List ℕ → PlainShape
+row_shape None ids = tuple_shape ids
+row_shape (Some name) ids = tuple_struct_shape name ids
+
+-- what a node with too few elements is expected to be
+abbrev pub few_text : (name : Option (List ℕ)) → ℕ → List ℕ
+few_text None count = tuple_text count
+few_text (Some name) count = tuple_struct_text name count
+
+-- the way to the value behind a key whose first event was looked up
+abbrev pub value_at : Way → Option (PlainDocEvent × Position) → Way
+value_at way None = way
+value_at way (Some e) = value_under way e.0
+
+-- one more element
+abbrev pub item_at : (Way → Reader) → Way → PlainShape → (nest : ℕ) → List PlainData → Spot → Reading (List PlainData)
+item_at read way s nest vs at = wrap (λ v. vs ++ v ∷ []) (read (element_under way (length vs)) s nest false at)
+
+-- places a fault of a node whose first event was looked up
+abbrev pub place_at : {A : Type 0} → Way → PlainShape → Option (PlainDocEvent × Position) → Result A Cause → Result A Cause
+place_at way s None r = r
+place_at way s (Some e) r = place (places s) e.1 way r
+
+module _ (source : Source) where
+  -- one more entry
+  abbrev pub entry_at : (Way → Reader) → Way → (key value : PlainShape) → (nest : ℕ) → List (PlainData × PlainData) → Spot
+      → Reading (List (PlainData × PlainData))
+  entry_at read way s t nest vs at =
+      wrap {B = Way × PlainData} (λ k. (value_at way (source.events at.place), k)) (read way s nest false at)
+      >>= λ k. wrap (λ v. vs ++ (k.0.1, v) ∷ []) (read k.0.0 t nest false k.1)
+
+  -- steps over a node, whose end the numbers of the events tell
+  abbrev pub skip_to : Option ℕ → ℕ → Reading PlainData
+  skip_to None left = Err EndOfStream
+  skip_to (Some end) left =
+      if nat_lt end source.size then Ok (ignored_data, record { place = end + 1; left = left }) else Err EndOfStream
+
+  abbrev pub skip_event : Spot → Option (PlainDocEvent × Position) → Reading PlainData
+  skip_event at None = Err EndOfStream
+  skip_event at (Some e) = if is_closing e.0 then Err EndOfStream else skip_to (source.ends at.place) at.left
+
+  abbrev pub skip_at : Spot → Reading PlainData
+  skip_at at = skip_event at (source.events at.place)
+
+  -- one more element of a tuple
+  abbrev pub row_at : (Way → Reader) → Way → (nest : ℕ) → Row → Spot → Reading Row
+  row_at read way nest row at =
+      one_more (λ id. with_shape (shape_at source.table id) (λ s. read (element_under way (length row.read)) s nest false at))
+      (skip_at at) row
+
+  -- the parts of a sequence, and those of a mapping, behind what was gathered
+  abbrev pub sequence_parts : {S : Type 0} → (S → Spot → Reading S) → (turns : ℕ) → S → Spot → Reading S
+  sequence_parts step = each_at is_sequence_end step source.events
+
+  abbrev pub mapping_parts : {S : Type 0} → (S → Spot → Reading S) → (turns : ℕ) → S → Spot → Reading S
+  mapping_parts step = each_at is_mapping_end step source.events
+
+  -- the elements of a tuple
+  abbrev pub rows_at : (Way → Reader) → Way → (few ids : List ℕ) → ℕ → Position → Spot → Reading PlainData
+  rows_at read way few ids nest mark at =
+      enter nest mark (λ n. finish (row_data few (length ids)) (sequence_parts (row_at read way n) source.size (row_of ids) at))
+
+  -- a sequence, behind its start
+  abbrev pub sequence_at : (Way → Reader) → Way → PlainShape → ℕ → Position → Spot → Reading PlainData
+  sequence_at read way (seq_shape e) nest mark at =
+      enter nest mark (λ n. with_shape (shape_at source.table e) (λ s.
+      wrap (λ vs. seq_data (items_of vs)) (sequence_parts (item_at read way s n) source.size [] at)))
+  sequence_at read way (tuple_shape ids) nest mark at = rows_at read way (tuple_text (length ids)) ids nest mark at
+  sequence_at read way (tuple_struct_shape name ids) nest mark at =
+      rows_at read way (tuple_struct_text name (length ids)) ids nest mark at
+  sequence_at read way s nest mark at = Err (sequence_fault s)
+
+  -- a mapping, behind its start
+  abbrev pub mapping_at : (Way → Reader) → Way → PlainShape → ℕ → Position → Spot → Reading PlainData
+  mapping_at read way (map_shape a b) nest mark at =
+      enter nest mark (λ n. with_shape (shape_at source.table a) (λ s. with_shape (shape_at source.table b) (λ t.
+      wrap (λ vs. map_data (entries_of vs)) (mapping_parts (entry_at read way s t n) source.size [] at))))
+  mapping_at read way s nest mark at = Err (mapping_fault s)
+
+  -- a node that begins with an event, by its kind
+  abbrev pub event_at : (Way → Reader) → Way → PlainShape → ℕ → Bool → Spot → PlainDocEvent → Position → Reading PlainData
+  event_at read way s nest taken at (alias_to j) mark = pursue (read way s nest false) j at.place at.left
+  event_at read way s nest taken at (a_scalar w) mark = ending (after at) (scalar_answer s taken w)
+  event_at read way s nest taken at (sequence_begins tag) mark = sequence_at read way s nest mark (after at)
+  event_at read way s nest taken at sequence_ends mark = Err EndOfStream
+  event_at read way s nest taken at (mapping_begins tag) mark = mapping_at read way s nest mark (after at)
+  event_at read way s nest taken at mapping_ends mark = Err EndOfStream
+  event_at read way s nest taken at a_void mark = ending (after at) (void_answer s)
+
+  -- the same, as it is handed on
+  abbrev pub handed_at : Handing → (Way → Reader) → Way → PlainShape → ℕ → Bool → Spot → PlainDocEvent → Position → Reading PlainData
+  handed_at as_is read way s nest taken at e mark = event_at read way s nest taken at e mark
+  handed_at (as_some c) read way s nest taken at e mark =
+      with_shape (shape_at source.table c) (λ t. wrap some_data (read way t nest taken at))
+  handed_at (as_newtype c) read way s nest taken at e mark =
+      enter nest mark (λ m. with_shape (shape_at source.table c) (λ t. wrap newtype_data (read way t m taken at)))
+  handed_at as_ignored read way s nest taken at e mark = skip_at at
+
+  -- a node whose first event was looked up
+  abbrev pub shape_step : (Way → Reader) → Way → PlainShape → ℕ → Bool → Spot → Option (PlainDocEvent × Position) → Reading PlainData
+  shape_step read way s nest taken at None = Err EndOfStream
+  shape_step read way s nest taken at (Some e) = handed_at (handed s taken e.0) read way s nest taken at e.0 e.1
+
+  -- the same, where no fault comes first
+  abbrev pub node_step : (Way → Reader) → Way → PlainShape → ℕ → Bool → Spot → Reading PlainData
+  node_step read way s nest taken at = unless (early s) (shape_step read way s nest taken at (source.events at.place))
+
+  -- A node. The first number bounds the depth; more than `depth` tells is always enough. Beyond it, as beyond
+  -- the turns of a loop, the answer is want of memory.
+  unfoldable pub node_at : ℕ → Way → Reader
+  node_at zero way s nest taken at = Err Memory
+  node_at (suc fuel) way s nest taken at =
+      place_at way s (source.events at.place) (node_step (node_at fuel) way s nest taken at)

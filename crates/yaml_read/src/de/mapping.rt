@@ -1,0 +1,114 @@
+//! A mapping whose keys have one shape, and whose values have another.
+
+ghost use Rattle.std.specs.Prelude.{◌≡◌, ℕ, suc, ◌+◌, ◌*◌, ◌<◌, ◌≤◌, [], length, map, OnOk};
+ghost use Rattle.yaml_base.specs.Answer.{Gives};
+ghost use Rattle.yaml_shape.specs.DataView.{data_of, entry_of};
+ghost use Rattle.yaml_shape.specs.PlainShape.{map_shape};
+ghost use Rattle.yaml_shape.specs.ShapeView.{shape_of};
+ghost use Rattle.yaml_shape.specs.Validity.{NamesWithin};
+ghost use Rattle.yaml_read.specs.Ends.{GoForward};
+ghost use Rattle.yaml_read.specs.Handing.{depth, reach};
+ghost use Rattle.yaml_read.specs.Places.{way_of};
+ghost use Rattle.yaml_read.specs.inner.Reader.{shape_step, entry_at, mapping_parts};
+ghost use Rattle.yaml_read.specs.inner.Walks.{source_of, spot_of, reader_of, seen, Moves, Costs};
+
+use crate::de::node::{is_leaf, too_deep};
+use crate::de::placed::value_path;
+use crate::de::refusal::{Result, ended};
+use crate::de::source::Source;
+use crate::doc_event::DocEvent;
+use crate::walk::Walk;
+use yaml_base::Path;
+use yaml_shape::{Data, Entry, Shape, ShapeId};
+
+impl<'s, 'de> Source<'s, 'de> {
+    /// A mapping whose keys have one shape, and whose values have another.
+    #[cycle(read)]
+    pub(super) fn read_map(
+        &self,
+        path: &Path<'_>,
+        shape: &Shape,
+        key: ShapeId,
+        value: ShapeId,
+        nest: u8,
+        taken: bool,
+        walk: &mut Walk,
+    ) -> Result<Data<'de>>
+        requires mapping { shape_of shape.now ≡ map_shape key.0 value.0 }
+        requires named { NamesWithin (length self.now.schema.now) (shape_of shape.now) }
+        requires forward { GoForward self.now.ends.now }
+        ensures gives { (fuel : ℕ) → depth self.now.schema.now (shape_of shape.now) nest walk.old.left < suc fuel
+            → Gives (λ x. (data_of x, spot_of walk.new)) result
+            (shape_step (source_of self.now) (reader_of fuel self.now) (way_of path.now) (shape_of shape.now) nest taken
+            (spot_of walk.old) (seen self.now.events.now walk.old.place)) }
+        ensures moves { OnOk result (Moves (length self.now.events.now) walk.old walk.new) }
+        ensures cost { Costs (length self.now.events.now) walk.old walk.new }
+    {
+        let Some((event, mark)) = self.event(walk.place) else {
+            return Err(ended(self.alloc));
+        };
+        let DocEvent::MappingStart(_) = event else {
+            return self.read_simple(path, shape, event, nest, taken, walk);
+        };
+        if nest == 0 {
+            return Err(too_deep(self.alloc, *mark));
+        }
+        walk.step();
+        match self.read_entries(path, self.shape(key), self.shape(value), nest - 1, walk) {
+            Ok(entries) => Ok(Data::Map(entries)),
+            Err(refusal) => Err(refusal),
+        }
+    }
+
+    /// The entries of a mapping, to its end.
+    #[cycle(read)]
+    pub(super) fn read_entries(
+        &self,
+        path: &Path<'_>,
+        key: &Shape,
+        value: &Shape,
+        nest: u8,
+        walk: &mut Walk,
+    ) -> Result<Vec<Entry<'de>>>
+        requires within { walk.old.place ≤ length self.now.events.now }
+        requires named { NamesWithin (length self.now.schema.now) (shape_of key.now) }
+        requires named_value { NamesWithin (length self.now.schema.now) (shape_of value.now) }
+        requires reach { reach self.now.schema.now (shape_of key.now) ≤ 4096 }
+        requires reach_value { reach self.now.schema.now (shape_of value.now) ≤ 4096 }
+        requires forward { GoForward self.now.ends.now }
+        ensures gives { (fuel turns : ℕ) → 4098 * (walk.old.left + nest) + 4096 < fuel
+            → length self.now.events.now < turns + walk.old.place
+            → Gives (λ x. (map entry_of x.items, spot_of walk.new)) result
+            (mapping_parts (source_of self.now)
+            (entry_at (source_of self.now) (reader_of fuel self.now) (way_of path.now) (shape_of key.now) (shape_of value.now) nest)
+            turns [] (spot_of walk.old)) }
+        ensures moves { OnOk result (Moves (length self.now.events.now) walk.old walk.new) }
+        ensures cost { Costs (length self.now.events.now) walk.old walk.new }
+    {
+        let key_leaf = is_leaf(key);
+        let value_leaf = is_leaf(value);
+        let mut entries = Vec::new(self.alloc);
+        loop {
+            let Some((event, mark)) = self.event(walk.place) else {
+                return Err(ended(self.alloc));
+            };
+            if let DocEvent::MappingEnd = event {
+                walk.step();
+                return Ok(entries);
+            }
+            let name = match self.read_part(path, key, key_leaf, event, *mark, nest, walk) {
+                Ok(name) => name,
+                Err(refusal) => return Err(refusal),
+            };
+            let inner = value_path(&*path, event);
+            let content = match self.read_next(&inner, value, value_leaf, nest, walk) {
+                Ok(content) => content,
+                Err(refusal) => return Err(refusal),
+            };
+            entries.push(Entry {
+                key: name,
+                value: content,
+            })?;
+        }
+    }
+}

@@ -1,0 +1,83 @@
+//! Giving faults their places.
+
+ghost use Rattle.std.specs.Prelude.{◌≡◌, true, false, Err};
+ghost use Rattle.yaml_base.specs.Answer.{is_memory, Fails};
+ghost use Rattle.yaml_shape.specs.ShapeView.{shape_of};
+ghost use Rattle.yaml_read.specs.DocEventView.{doc_event_of};
+ghost use Rattle.yaml_read.specs.Places.{way_of, placed, places, value_under};
+ghost use Rattle.yaml_read.specs.TreeReader.{Spot};
+ghost use Rattle.yaml_read.specs.inner.Reader.{place_at};
+ghost use Rattle.yaml_read.specs.inner.Walks.{seen};
+
+use crate::de::refusal::{Refusal, refuse};
+use crate::de::sort::text_of;
+use crate::de::source::Source;
+use crate::doc_event::DocEvent;
+use std::alloc::Global;
+use yaml_base::{Mark, Path};
+use yaml_shape::Shape;
+
+/// The fault at this place, if it has none yet, or want of memory.
+pub(super) fn at_place(alloc: Global, refusal: Refusal, mark: Mark, path: &Path<'_>) -> Refusal
+    ensures { is_memory result ≡ false → result ≡ placed true mark (way_of path.now) refusal }
+{
+    match refusal.into_error().fix_mark(alloc, mark, path) {
+        Ok(fault) => refuse(alloc, fault),
+        Err(_) => Refusal::memory(),
+    }
+}
+
+// Whether the call for this shape places faults.
+fn places(shape: &Shape) -> bool
+    ensures { result ≡ places (shape_of shape.now) }
+{
+    match shape {
+        Shape::Option(_)
+        | Shape::Newtype { .. }
+        | Shape::IgnoredAny
+        | Shape::Bytes
+        | Shape::Any
+        | Shape::Struct { .. }
+        | Shape::StrictStruct { .. }
+        | Shape::Enum { .. } => false,
+        _ => true,
+    }
+}
+
+impl<'s, 'de> Source<'s, 'de> {
+    /// The fault of the node at a place, with its place, if it has none yet; or want of memory.
+    pub(super) fn settled(
+        &self,
+        path: &Path<'_>,
+        shape: &Shape,
+        place: usize,
+        refusal: Refusal,
+    ) -> Refusal
+        ensures { Fails result (place_at {A = Spot} (way_of path.now) (shape_of shape.now)
+            (seen self.now.events.now place) (Err refusal)) }
+    {
+        let Some((_, mark)) = self.event(place) else {
+            return refusal;
+        };
+        if places(shape) {
+            return at_place(self.alloc, refusal, *mark, path);
+        }
+        refusal
+    }
+}
+
+/// The way to the value behind a key that begins with the event.
+pub(super) fn value_path<'a>(path: &'a Path<'a>, event: &'a DocEvent<'_>) -> Path<'a>
+    ensures { way_of result ≡ value_under (way_of path.now) (doc_event_of event.now) }
+{
+    match event {
+        DocEvent::Scalar(scalar) => match text_of(scalar) {
+            Some(text) => Path::Map {
+                parent: path,
+                key: text,
+            },
+            None => Path::Unknown { parent: path },
+        },
+        _ => Path::Unknown { parent: path },
+    }
+}

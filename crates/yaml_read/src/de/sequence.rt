@@ -1,0 +1,166 @@
+//! A sequence whose elements have one shape, and the parts of collections.
+
+ghost use Rattle.std.specs.Prelude.{◌≡◌, ℕ, suc, ◌+◌, ◌*◌, ◌<◌, ◌≤◌, [], length, map, OnOk, Some, false};
+ghost use Rattle.yaml_base.specs.Answer.{Gives};
+ghost use Rattle.yaml_shape.specs.DataView.{data_of};
+ghost use Rattle.yaml_shape.specs.PlainShape.{seq_shape};
+ghost use Rattle.yaml_shape.specs.ShapeView.{shape_of};
+ghost use Rattle.yaml_shape.specs.Validity.{NamesWithin};
+ghost use Rattle.yaml_read.specs.DocEventView.{doc_event_of};
+ghost use Rattle.yaml_read.specs.Ends.{GoForward};
+ghost use Rattle.yaml_read.specs.Handing.{depth, reach};
+ghost use Rattle.yaml_read.specs.Places.{way_of};
+ghost use Rattle.yaml_read.specs.inner.Reader.{shape_step, item_at, sequence_parts, is_leaf};
+ghost use Rattle.yaml_read.specs.inner.Walks.{source_of, spot_of, reader_of, seen, Moves, Costs};
+
+use crate::de::node::{is_leaf, too_deep};
+use crate::de::placed::at_place;
+use crate::de::refusal::{Result, ended};
+use crate::de::scalar::read_scalar;
+use crate::de::source::Source;
+use crate::doc_event::DocEvent;
+use crate::walk::Walk;
+use yaml_base::{Mark, Path};
+use yaml_shape::{Data, Shape, ShapeId};
+
+impl<'s, 'de> Source<'s, 'de> {
+    /// A sequence whose elements have one shape.
+    #[cycle(read)]
+    pub(super) fn read_seq(
+        &self,
+        path: &Path<'_>,
+        shape: &Shape,
+        element: ShapeId,
+        nest: u8,
+        taken: bool,
+        walk: &mut Walk,
+    ) -> Result<Data<'de>>
+        requires seq { shape_of shape.now ≡ seq_shape element.0 }
+        requires named { NamesWithin (length self.now.schema.now) (shape_of shape.now) }
+        requires forward { GoForward self.now.ends.now }
+        ensures gives { (fuel : ℕ) → depth self.now.schema.now (shape_of shape.now) nest walk.old.left < suc fuel
+            → Gives (λ x. (data_of x, spot_of walk.new)) result
+            (shape_step (source_of self.now) (reader_of fuel self.now) (way_of path.now) (shape_of shape.now) nest taken
+            (spot_of walk.old) (seen self.now.events.now walk.old.place)) }
+        ensures moves { OnOk result (Moves (length self.now.events.now) walk.old walk.new) }
+        ensures cost { Costs (length self.now.events.now) walk.old walk.new }
+    {
+        let Some((event, mark)) = self.event(walk.place) else {
+            return Err(ended(self.alloc));
+        };
+        let DocEvent::SequenceStart(_) = event else {
+            return self.read_simple(path, shape, event, nest, taken, walk);
+        };
+        if nest == 0 {
+            return Err(too_deep(self.alloc, *mark));
+        }
+        walk.step();
+        match self.read_items(path, self.shape(element), nest - 1, walk) {
+            Ok(items) => Ok(Data::Seq(items)),
+            Err(refusal) => Err(refusal),
+        }
+    }
+
+    /// The elements of a sequence, to its end.
+    #[cycle(read)]
+    pub(super) fn read_items(
+        &self,
+        path: &Path<'_>,
+        element: &Shape,
+        nest: u8,
+        walk: &mut Walk,
+    ) -> Result<Vec<Data<'de>>>
+        requires within { walk.old.place ≤ length self.now.events.now }
+        requires named { NamesWithin (length self.now.schema.now) (shape_of element.now) }
+        requires reach { reach self.now.schema.now (shape_of element.now) ≤ 4096 }
+        requires forward { GoForward self.now.ends.now }
+        ensures gives { (fuel turns : ℕ) → 4098 * (walk.old.left + nest) + 4096 < fuel
+            → length self.now.events.now < turns + walk.old.place
+            → Gives (λ x. (map data_of x.items, spot_of walk.new)) result
+            (sequence_parts (source_of self.now) (item_at (reader_of fuel self.now) (way_of path.now) (shape_of element.now) nest)
+            turns [] (spot_of walk.old)) }
+        ensures moves { OnOk result (Moves (length self.now.events.now) walk.old walk.new) }
+        ensures cost { Costs (length self.now.events.now) walk.old walk.new }
+    {
+        let leaf = is_leaf(element);
+        let mut items = Vec::new(self.alloc);
+        loop {
+            let Some((event, mark)) = self.event(walk.place) else {
+                return Err(ended(self.alloc));
+            };
+            if let DocEvent::SequenceEnd = event {
+                walk.step();
+                return Ok(items);
+            }
+            let count = items.len();
+            let inner = Path::Seq {
+                parent: &*path,
+                index: count,
+            };
+            match self.read_part(&inner, element, leaf, event, *mark, nest, walk) {
+                Ok(item) => items.push(item)?,
+                Err(refusal) => return Err(refusal),
+            }
+        }
+    }
+
+    /// A part of a collection, which begins with the event; of a scalar it is known at once what it gives.
+    #[cycle(read)]
+    pub(super) fn read_part(
+        &self,
+        path: &Path<'_>,
+        shape: &Shape,
+        leaf: bool,
+        event: &DocEvent<'de>,
+        mark: Mark,
+        nest: u8,
+        walk: &mut Walk,
+    ) -> Result<Data<'de>>
+        requires leaf { leaf ≡ is_leaf (shape_of shape.now) }
+        requires here { seen self.now.events.now walk.old.place ≡ Some (doc_event_of event.now, mark) }
+        requires within { walk.old.place < length self.now.events.now }
+        requires named { NamesWithin (length self.now.schema.now) (shape_of shape.now) }
+        requires forward { GoForward self.now.ends.now }
+        ensures gives { (fuel : ℕ) → depth self.now.schema.now (shape_of shape.now) nest walk.old.left < fuel
+            → Gives (λ x. (data_of x, spot_of walk.new)) result
+            (reader_of fuel self.now (way_of path.now) (shape_of shape.now) nest false (spot_of walk.old)) }
+        ensures moves { OnOk result (Moves (length self.now.events.now) walk.old walk.new) }
+        ensures cost { Costs (length self.now.events.now) walk.old walk.new }
+    {
+        if leaf {
+            if let DocEvent::Scalar(scalar) = event {
+                walk.step();
+                return match read_scalar(self.alloc, shape, false, scalar) {
+                    Ok(data) => Ok(data),
+                    Err(refusal) => Err(at_place(self.alloc, refusal, mark, path)),
+                };
+            }
+        }
+        self.read_node(path, shape, nest, false, walk)
+    }
+
+    /// The same as a part, where it is not known yet with which event it begins.
+    #[cycle(read)]
+    pub(super) fn read_next(
+        &self,
+        path: &Path<'_>,
+        shape: &Shape,
+        leaf: bool,
+        nest: u8,
+        walk: &mut Walk,
+    ) -> Result<Data<'de>>
+        requires leaf { leaf ≡ is_leaf (shape_of shape.now) }
+        requires named { NamesWithin (length self.now.schema.now) (shape_of shape.now) }
+        requires forward { GoForward self.now.ends.now }
+        ensures gives { (fuel : ℕ) → depth self.now.schema.now (shape_of shape.now) nest walk.old.left < fuel
+            → Gives (λ x. (data_of x, spot_of walk.new)) result
+            (reader_of fuel self.now (way_of path.now) (shape_of shape.now) nest false (spot_of walk.old)) }
+        ensures moves { OnOk result (Moves (length self.now.events.now) walk.old walk.new) }
+        ensures cost { Costs (length self.now.events.now) walk.old walk.new }
+    {
+        match self.event(walk.place) {
+            Some((event, mark)) => self.read_part(path, shape, leaf, event, *mark, nest, walk),
+            None => self.read_node(path, shape, nest, false, walk),
+        }
+    }
+}
