@@ -1,0 +1,5 @@
+pub mod AddLaws
+pub mod ValueLaws
+pub mod DataLaws
+pub mod PlaceLaws
+pub mod BegunLaws

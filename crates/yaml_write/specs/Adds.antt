@@ -1,0 +1,20 @@
+-- How a call that writes is tied to what a definition says is written.
+use Rattle.std.specs.Prelude.{◌≡◌, List, ◌++◌, Result, Ok, Err}
+use Rattle.yaml_base.specs.Answer.{Fails}
+use Rattle.yaml_base.specs.EmitEvents.{PlainEmit}
+use Rattle.yaml_base.specs.declared.error.Cause.{Cause}
+use Rattle.yaml_write.specs.Outcomes.{made}
+use Rattle.yaml_write.specs.Writing.{Writing}
+
+-- The call put the events of what is given behind those that were there. Else it answers the cause that is given, or
+-- want of memory, and what is there then is not said.
+abbrev pub Adds : {A B : Type 0} → (B → List PlainEmit) → Result B Cause → (old new : List PlainEmit) → Result A Cause
+    → Type 0
+Adds view given old new (Ok a) = made (λ part. old ++ view part) given ≡ Ok new
+Adds view given old new (Err cause) = Fails cause given
+
+-- The call left what is given, placed into what was there. Else it answers the cause that is given, or want of
+-- memory, and all is as it was.
+abbrev pub Writes : {A B : Type 0} → (B → Writing) → Result B Cause → (old new : Writing) → Result A Cause → Type 0
+Writes placed given old new (Ok a) = made placed given ≡ Ok new
+Writes placed given old new (Err cause) = Fails cause given × (new ≡ old)

@@ -1,0 +1,84 @@
+-- What a serializer holds: events, and the collections that are still open.
+use Rattle.std.specs.Prelude.{ℕ, List, [], ◌∷◌, ◌++◌, Bool, true, false, not, ◌&&◌, if◌then◌else◌, Option}
+use Rattle.yaml_base.specs.EmitEvents.{PlainEmit, emit_document_start, emit_document_end, emit_sequence_start}
+use Rattle.yaml_base.specs.EmitEvents.{emit_sequence_end, emit_mapping_start, emit_mapping_end}
+use Rattle.yaml_base.specs.EmitTree.{EmitNode, emit_node_events}
+use Rattle.yaml_write.specs.declared.open.Open.{Open}
+use Rattle.yaml_write.specs.declared.open.OpenKind.{OpenKind}
+use Rattle.yaml_write.specs.declared.open.OpenKind.TheVariants.{Map, Struct}
+use Rattle.yaml_write.specs.declared.open.OpenKind.TheVariants.{StructVariant}
+
+-- the events so far, and the open collections, the innermost first
+pub record Writing : Type 0 where
+  pub events : List PlainEmit
+  pub opened : List Open
+
+-- the collection has keys and values
+abbrev pub is_mapping : OpenKind → Bool
+is_mapping Map = true
+is_mapping Struct = true
+is_mapping StructVariant = true
+is_mapping _ = false
+
+-- a collection as it is once a node in it has begun: in a mapping a key and a value take turns
+abbrev pub turned : Open → Open
+turned o = record { kind = o.kind; awaits_value = is_mapping o.kind && not o.awaits_value }
+
+-- the open collections once a node in the innermost has begun
+abbrev pub with_begun : List Open → List Open
+with_begun [] = []
+with_begun (o ∷ outer) = turned o ∷ outer
+
+-- the start of a document, where nothing is open
+abbrev pub document_start_in : List Open → List PlainEmit
+document_start_in [] = emit_document_start ∷ []
+document_start_in (o ∷ outer) = []
+
+-- the end of a document, where nothing is open
+abbrev pub document_end_in : List Open → List PlainEmit
+document_end_in [] = emit_document_end ∷ []
+document_end_in (o ∷ outer) = []
+
+-- with the events of a part, begun in a document of its own where nothing is open, and that document ended
+abbrev pub with_part : Writing → List PlainEmit → Writing
+with_part w part = record {
+  events = w.events ++ (part ++ document_end_in w.opened);
+  opened = with_begun w.opened;
+}
+
+-- with one node more: a document of its own where nothing is open, else a part of the innermost collection
+abbrev pub with_node : Writing → EmitNode → Writing
+with_node w node = with_part w (document_start_in w.opened ++ emit_node_events node)
+
+-- with two nodes more
+abbrev pub with_both : Writing → EmitNode × EmitNode → Writing
+with_both w p = with_node (with_node w p.0) p.1
+
+-- the start of a collection
+abbrev pub start_of : OpenKind → (tag : Option (List ℕ)) → PlainEmit
+start_of kind tag = if is_mapping kind then emit_mapping_start tag else emit_sequence_start tag
+
+-- the end of a collection
+abbrev pub end_of : OpenKind → PlainEmit
+end_of kind = if is_mapping kind then emit_mapping_end else emit_sequence_end
+
+-- with a collection opened, in a document of its own where nothing was open
+abbrev pub with_opened : Writing → OpenKind → (tag : Option (List ℕ)) → Writing
+with_opened w kind tag = record {
+  events = w.events ++ (document_start_in w.opened ++ start_of kind tag ∷ []);
+  opened = record { kind = kind; awaits_value = false } ∷ with_begun w.opened;
+}
+
+-- the end of the innermost collection, and of the document where no other is open
+abbrev pub ending_in : List Open → List PlainEmit
+ending_in [] = []
+ending_in (o ∷ outer) = end_of o.kind ∷ document_end_in outer
+
+-- the collections around the innermost
+abbrev pub outer_of : List Open → List Open
+outer_of [] = []
+outer_of (o ∷ outer) = outer
+
+-- with the innermost collection closed, and the document where nothing is left open
+abbrev pub with_closed : Writing → Writing
+with_closed w = record { events = w.events ++ ending_in w.opened; opened = outer_of w.opened }

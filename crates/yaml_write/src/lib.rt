@@ -1,0 +1,14 @@
+//! Data to events for an emitter.
+#![tactic(auto)]
+
+mod buffer;
+mod content;
+mod data;
+mod in_shape;
+mod local_tag;
+mod open;
+mod ser;
+mod value;
+
+pub use open::OpenKind;
+pub use ser::Serializer;
