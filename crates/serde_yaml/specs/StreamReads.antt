@@ -1,12 +1,17 @@
--- What a stream is read as.
-use Rattle.std.specs.Prelude.{◌≡◌, ◌≢◌, ◌⊎◌, ℕ, List, [], ◌∷◌, length, false, None, slice_get}
+-- What a stream gives, read under a shape within limits.
+use Rattle.std.specs.Prelude.{◌≡◌, List, [], ◌∷◌, Option, is_some, Bool, true, false, Result, Ok, Err, ℕ}
+use Rattle.yaml_base.specs.PlainFault.{PlainFault}
+use Rattle.yaml_base.specs.Stream.{IsWellFormed}
 use Rattle.yaml_base.specs.declared.error.Cause.{Cause}
-use Rattle.yaml_base.specs.declared.error.Cause.TheVariants.{MoreThanOneDocument}
+use Rattle.yaml_base.specs.declared.error.Cause.TheVariants.{MoreThanOneDocument, NotAStream}
 use Rattle.yaml_shape.specs.PlainData.{PlainData}
 use Rattle.yaml_shape.specs.PlainShape.{PlainShape}
-use Rattle.yaml_read.specs.DocTree.{DocNode}
+use Rattle.yaml_read.specs.Documents.{Input, documents_of}
+use Rattle.yaml_read.specs.MarkedEvents.{events_in}
 use Rattle.yaml_read.specs.PlainDocument.{PlainDocument}
-use Rattle.yaml_read.specs.Reads.{PlainLimits, Reads, IsReadingFault}
+use Rattle.yaml_read.specs.Reads.{DocumentGives}
+use Rattle.yaml_read.specs.TreeReader.{PlainLimits}
+use Rattle.yaml_read.specs.WrongPlace.{IsWrongAt}
 use Rattle.serde_yaml.specs.PlainStream.{PlainStream}
 
 -- the stream was not gone through, its first document is this one, and others follow
@@ -14,14 +19,33 @@ pub record Begins (stream : PlainStream) (document : PlainDocument) (others : Li
   pub fresh : stream.iterated ≡ false
   pub documents : stream.documents ≡ document ∷ others
 
--- the stream is just one document, and nothing cut that off
-pub record IsOneWhole (stream : PlainStream) : Type 0 where
-  pub document : PlainDocument
-  pub begins : Begins stream document []
-  pub whole : document.ending ≡ None
+-- other documents follow
+abbrev pub follow : List PlainDocument → Bool
+follow [] = false
+follow (document ∷ others) = true
 
--- the refusal is one of reading the document, or the document reads as data and others follow
-abbrev pub IsFirstFault : PlainLimits → List PlainShape → ℕ → PlainDocument → DocNode → List PlainDocument → Cause → Type 0
-IsFirstFault limits schema id document tree others cause =
-    IsReadingFault schema (slice_get document.events) cause
-    ⊎ ((cause ≡ MoreThanOneDocument) × (others ≢ []) × (v : PlainData) × Reads limits schema id tree (length document.events) v)
+-- what a first document gives, by whether others follow: then its data is refused, and its fault stays
+abbrev pub unless_more : Bool → Result PlainData Cause → Result PlainData Cause
+unless_more true (Ok v) = Err MoreThanOneDocument
+unless_more more given = given
+
+-- What a stream gives, read under a shape of the table within limits: what its first document gives, unless others follow; and
+-- once it was gone through, nothing.
+pub record StreamGives (limits : PlainLimits) (table : List PlainShape) (s : PlainShape) (stream : PlainStream)
+    (given : Result PlainData Cause) : Type 0 where
+  pub first : (document : PlainDocument) (others : List PlainDocument) → Begins stream document others
+      → (found : Result PlainData Cause) × DocumentGives limits table s document found × (given ≡ unless_more (follow others) found)
+  pub iterated : stream.iterated ≡ true → given ≡ Err MoreThanOneDocument
+
+-- the stream of an input, before it is gone through
+abbrev pub stream_of : Input → Option PlainFault → PlainStream
+stream_of input fault = record { documents = documents_of input fault; is_document = false; iterated = false }
+
+-- What an input gives: a list of events that is no stream, or with the parser's fault no beginning of one, is refused with the
+-- least place that is wrong; of a stream, what the stream gives.
+pub data InputGives (limits : PlainLimits) (table : List PlainShape) (s : PlainShape) (input : Input) (fault : Option PlainFault)
+    : Result PlainData Cause → Type 0 where
+  no_stream : (place : ℕ) → IsWrongAt (is_some fault) (events_in input) place
+      → InputGives limits table s input fault (Err (NotAStream place))
+  a_stream : {given : Result PlainData Cause} → IsWellFormed (is_some fault) (events_in input)
+      → StreamGives limits table s (stream_of input fault) given → InputGives limits table s input fault given

@@ -1,24 +1,18 @@
 //! Reading a stream of events.
 
-ghost use Rattle.std.specs.Prelude.{◌≡◌, ◌≢◌, ℕ, ◌<◌, ◌∷◌, [], List, length, Ok, Err, Some, None, IfOk, IfErr, OnOk, true, false};
-ghost use Rattle.std.specs.Prelude.{is_some, slice_get, ◌⊎◌};
-ghost use Rattle.yaml_base.specs.Answer.{Gives, is_memory};
+ghost use Rattle.std.specs.Prelude.{◌≡◌, ℕ, ◌<◌, length, Result, Some, IfOk, IfErr, false, is_some};
+ghost use Rattle.yaml_base.specs.Answer.{Answers, is_memory};
 ghost use Rattle.yaml_base.specs.Stream.{IsWellFormed};
 ghost use Rattle.yaml_base.specs.declared.error.Cause.{Cause};
-ghost use Rattle.yaml_base.specs.declared.error.Cause.TheVariants.{NotAStream, MoreThanOneDocument};
+ghost use Rattle.yaml_base.specs.declared.error.Cause.TheVariants.{NotAStream};
 ghost use Rattle.yaml_shape.specs.DataView.{data_of};
 ghost use Rattle.yaml_shape.specs.PlainData.{PlainData};
 ghost use Rattle.yaml_shape.specs.PlainShape.{PlainShape, shape_at};
-ghost use Rattle.yaml_read.specs.DocTree.{DocNode};
-ghost use Rattle.yaml_read.specs.Documents.{documents_of};
 ghost use Rattle.yaml_read.specs.MarkedEvents.{plain_events, plain_marked};
-ghost use Rattle.yaml_read.specs.Meaning.{Means};
-ghost use Rattle.yaml_read.specs.PlainDocument.{PlainDocument};
-ghost use Rattle.yaml_read.specs.ReadingFaults.{not_built};
-ghost use Rattle.yaml_read.specs.Reads.{default_limits, IsTreeOf, Reads, IsRefusal, IsReadingFault, IsCutFault};
-ghost use Rattle.yaml_read.specs.Scalars.{is_read};
+ghost use Rattle.yaml_read.specs.Reads.{DocumentGives};
+ghost use Rattle.yaml_read.specs.TreeReader.{default_limits};
 ghost use Rattle.yaml_read.specs.WrongPlace.{IsWrongAt};
-ghost use Rattle.serde_yaml.specs.StreamReads.{Begins, IsOneWhole, IsFirstFault};
+ghost use Rattle.serde_yaml.specs.StreamReads.{StreamGives, stream_of, unless_more};
 
 use std::alloc::Global;
 use std::marker::Model;
@@ -62,22 +56,9 @@ fn read_first<'de>(
     others: bool,
 ) -> Result<Data<'de>>
     requires { id.0 < length schema.now }
-    ensures whole { OnOk result ((others ≡ false) × (document.now.ending ≡ None)) }
-    ensures found { IfOk result (λ v. (tree : DocNode) → IsTreeOf document.now tree
-        → Reads default_limits schema.now id.0 tree (length document.now.events) (data_of v)) }
-    ensures only { (tree : DocNode) (v : PlainData) → others ≡ false → IsTreeOf document.now tree
-        → Reads default_limits schema.now id.0 tree (length document.now.events) v → Gives data_of result (Ok v) }
-    ensures more { (tree : DocNode) (v : PlainData) → others ≡ true → IsTreeOf document.now tree
-        → Reads default_limits schema.now id.0 tree (length document.now.events) v
-        → Gives data_of result (Err MoreThanOneDocument) }
-    ensures unbuilt { (shape : PlainShape) → shape_at schema.now id.0 ≡ Some shape → is_read shape ≡ false → Gives data_of result (Err not_built) }
-    ensures refused { IfErr result (λ fault. (tree : DocNode) (v : PlainData) (d k : ℕ) → others ≡ false → IsTreeOf document.now tree
-        → Means schema.now tree id.0 tree false v d k → IsRefusal default_limits (length document.now.events) d k fault) }
-    ensures faults { IfErr result (λ fault. (tree : DocNode) → IsTreeOf document.now tree → is_memory fault ≡ false
-        → IsReadingFault schema.now (slice_get document.now.events) fault
-        ⊎ ((fault ≡ MoreThanOneDocument) × (others ≡ true) × (v : PlainData) × Reads default_limits schema.now id.0 tree (length document.now.events) v)) }
-    ensures cut { IfErr result (λ fault. (cause : Cause) → document.now.ending ≡ Some cause → is_memory fault ≡ false
-        → IsCutFault schema.now document.now cause fault) }
+    ensures { (s : PlainShape) → shape_at schema.now id.0 ≡ Some s → Answers data_of result (λ given.
+        (found : Result PlainData Cause) × DocumentGives default_limits schema.now s document.now found
+        × (given ≡ unless_more others found)) }
 {
     match document.deserialize(alloc, schema, id) {
         Ok(found) => {
@@ -110,11 +91,7 @@ impl<'de> Deserializer<'de> {
         fault: Option<ParserFault>,
     ) -> Result<Deserializer<'de>>
         ensures accepted { IfOk result (λ _. IsWellFormed (is_some fault) (plain_events events.entry.items)) }
-        ensures documents { IfOk result (λ stream. stream ≡ (record {
-          documents = documents_of (plain_marked events.entry.items) fault;
-          is_document = false;
-          iterated = false;
-        })) }
+        ensures documents { IfOk result (λ stream. stream ≡ stream_of (plain_marked events.entry.items) fault) }
 
         ensures refused { IfErr result (λ cause. is_memory cause ≡ false
             → IsWellFormed (is_some fault) (plain_events events.entry.items) → ⊥) }
@@ -138,38 +115,8 @@ impl<'de> Deserializer<'de> {
     pub fn deserialize(self, alloc: Global, schema: &Schema, id: ShapeId) -> Result<Data<'de>>
         requires { id.0 < length schema.now }
 
-        // Data comes of one whole document alone, and is what its tree means.
-        ensures whole { OnOk result (IsOneWhole self.entry) }
-        ensures found { IfOk result (λ v. (document : PlainDocument) (tree : DocNode) → Begins self.entry document [] → IsTreeOf document tree
-            → Reads default_limits schema.now id.0 tree (length document.events) (data_of v)) }
-
-        // What the tree means within the limits is given, unless memory runs out.
-        ensures only { (document : PlainDocument) (tree : DocNode) (v : PlainData) → Begins self.entry document [] → IsTreeOf document tree
-            → Reads default_limits schema.now id.0 tree (length document.events) v → Gives data_of result (Ok v) }
-
-        // More than one document is refused so where the first reads as data, and where the stream was gone through.
-        ensures more { (document second : PlainDocument) (others : List PlainDocument) (tree : DocNode) (v : PlainData)
-            → Begins self.entry document (second ∷ others) → IsTreeOf document tree
-            → Reads default_limits schema.now id.0 tree (length document.events) v → Gives data_of result (Err MoreThanOneDocument) }
-        ensures iterated { self.entry.iterated ≡ true → Gives data_of result (Err MoreThanOneDocument) }
-
-        // Under a shape that is not read yet a first document is refused as such, whatever it holds.
-        ensures unbuilt { (document : PlainDocument) (others : List PlainDocument) (shape : PlainShape) → Begins self.entry document others
-            → shape_at schema.now id.0 ≡ Some shape → is_read shape ≡ false → Gives data_of result (Err not_built) }
-
-        // A tree with a meaning is refused only past a limit, and any tree only by a fault that a reading may find, or since other
-        // documents follow.
-        ensures refused { IfErr result (λ fault. (document : PlainDocument) (tree : DocNode) (v : PlainData) (d k : ℕ)
-            → Begins self.entry document [] → IsTreeOf document tree → Means schema.now tree id.0 tree false v d k
-            → IsRefusal default_limits (length document.events) d k fault) }
-        ensures faults { IfErr result (λ fault. (document : PlainDocument) (others : List PlainDocument) (tree : DocNode)
-            → Begins self.entry document others → IsTreeOf document tree → is_memory fault ≡ false
-            → IsFirstFault default_limits schema.now id.0 document tree others fault) }
-
-        // A first document that was cut off is refused by what cut it off, or by a fault that a reading may find.
-        ensures cut { IfErr result (λ fault. (document : PlainDocument) (others : List PlainDocument) (cause : Cause)
-            → Begins self.entry document others → document.ending ≡ Some cause → is_memory fault ≡ false
-            → IsCutFault schema.now document cause fault) }
+        ensures { (s : PlainShape) → shape_at schema.now id.0 ≡ Some s
+            → Answers data_of result (StreamGives default_limits schema.now s self.entry) }
     {
         let Deserializer { source, iterated } = self;
         if iterated {

@@ -1,5 +1,7 @@
--- What a document reads as, where no other follows.
+-- What a document gives, where others may follow.
+use Rattle.std.proofs.Common.{Err}
+use Rattle.serde_yaml.proofs.FirstDocument.{fault_stays}
 use Rattle.serde_yaml.proofs.de.read_first.Goals as goal
 
-pub returns-else-others-clause-only : goal.returns-else-others-clause-only
-returns-else-others-clause-only c = λ tree v alone is_tree reads. c.in-Ok.ensures.only tree v is_tree reads
+pub returns-in-Err : goal.returns-in-Err
+returns-in-Err c = λ s is m. (Err c.in-Err.fault, c.in-Err.ensures s is m, fault_stays c.args.others c.in-Err.fault)
