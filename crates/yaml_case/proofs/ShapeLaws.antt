@@ -2,7 +2,8 @@
 use Rattle.std.specs.Prelude.{Option, Some, None, IfSome, All}
 use Rattle.std.specs.Option.{option_and_then}
 use Rattle.std.proofs.Common.{◌≡◌, ℕ, zero, suc, ◌<◌, ◌≤◌, List, [], ◌∷◌, refl, ap, arith, length}
-use Rattle.yaml_shape.specs.PlainShape.{PlainShape, shape_at, i64, bool_shape, integer_shape, str_shape, seq_shape, map_shape}
+use Rattle.yaml_shape.specs.PlainShape.{PlainShape, shape_at, i64, bool_shape, integer_shape, str_shape, seq_shape}
+use Rattle.yaml_shape.specs.PlainShape.{map_shape}
 use Rattle.yaml_shape.specs.Refusal.{IsRefused}
 use Rattle.yaml_shape.specs.Validity.{NamesWithin, AllNameWithin, HasDistinctNames, step_from, walk}
 use Rattle.yaml_shape.specs.declared.fault.SchemaFault.{SchemaFault}
@@ -34,7 +35,8 @@ closed named.Bool = one_more (NamesWithin 1) bool_shape [] (no_name 1) (no_part 
 closed named.I64 = one_more (NamesWithin 1) (integer_shape i64) [] (no_name 1) (no_part (NamesWithin 1))
 closed named.Str = one_more (NamesWithin 1) str_shape [] (no_name 1) (no_part (NamesWithin 1))
 closed named.List =
-    one_more (NamesWithin 2) (seq_shape 1) (integer_shape i64 ∷ []) (one_more (λ id. id < 2) 1 [] (omega arith) (no_name 2))
+    one_more (NamesWithin 2) (seq_shape 1) (integer_shape i64 ∷ [])
+    (one_more (λ id. id < 2) 1 [] (omega arith) (no_name 2))
     (one_more (NamesWithin 2) (integer_shape i64) [] (no_name 2) (no_part (NamesWithin 2)))
 closed named.Map =
     one_more (NamesWithin 3) (map_shape 1 2) (str_shape ∷ integer_shape i64 ∷ [])
@@ -72,7 +74,8 @@ no_step named.Map (suc (suc (suc i))) = refl
 no_some : (o : Option ℕ) (id : ℕ) → o ≡ None → o ≡ Some id → ⊥
 no_some o id e s = cc
 
-no_cycle : (shapes : List PlainShape) (id : ℕ) → step_from shapes id ≡ None → (n : ℕ) → 0 < n → walk shapes n id ≡ Some id → ⊥
+no_cycle : (shapes : List PlainShape) (id : ℕ) → step_from shapes id ≡ None → (n : ℕ) → 0 < n
+    → walk shapes n id ≡ Some id → ⊥
 no_cycle shapes id none zero h e = absurd (omega arith)
 no_cycle shapes id none (suc n) h e = no_some _ id (ap (option_and_then (walk shapes n)) none) e
 
@@ -80,7 +83,8 @@ not_without : (P : PlainShape → Type 0) (shapes : List PlainShape) (number : �
     → IfSome (shape_at shapes number) (λ shape. P shape → ⊥) → ⊥
 not_without P [] number all h w = absurd (omega arith)
 not_without P (shape ∷ shapes) zero all h w = w (all zero shape (omega arith))
-not_without P (shape ∷ shapes) (suc number) all h w = not_without P shapes number (λ k d lt. all (suc k) d (omega arith)) (omega arith) w
+not_without P (shape ∷ shapes) (suc number) all h w =
+    not_without P shapes number (λ k d lt. all (suc k) d (omega arith)) (omega arith) w
 
 -- a named shape's table is refused for want of memory alone
 pub only_memory : (n : Named) (fault : SchemaFault) → IsRefused (table_of n) fault → fault ≡ S5

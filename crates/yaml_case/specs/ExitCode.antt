@@ -8,4 +8,5 @@ abbrev pub code_of : Status → ℕ
 code_of status.Read = 0
 code_of status.Fault = 1
 code_of status.Refused = 2
-code_of status.Failed = 2
+code_of status.ReadFailed = 2
+code_of status.WriteFailed = 2

@@ -16,6 +16,19 @@ name_of named.Map = codes "map"
 abbrev pub IsNoName : List ℕ → Type 0
 IsNoName name = (shape : Named) → name_of shape ≢ name
 
+-- the arguments are not one, or the one that they are is no shape's name
+abbrev pub NamesNoShape : List (List ℕ) → Type 0
+NamesNoShape (name ∷ []) = IsNoName name
+NamesNoShape arguments = Unit {0}
+
+-- the shape with a name
+abbrev pub first_shape : Named → PlainShape
+first_shape named.Bool = bool_shape
+first_shape named.I64 = integer_shape i64
+first_shape named.Str = str_shape
+first_shape named.List = seq_shape 1
+first_shape named.Map = map_shape 1 2
+
 -- the table of a shape, which is its first one
 abbrev pub table_of : Named → List PlainShape
 table_of named.Bool = bool_shape ∷ []

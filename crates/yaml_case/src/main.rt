@@ -1,29 +1,27 @@
 //! The program: it reads events, a line each, as data of a named shape, and prints what was read.
 #![tactic(auto)]
 
-mod escape;
-mod input;
-mod laws;
-mod line;
 mod read;
 mod run;
 mod shapes;
-mod show;
 mod status;
 
-use run::start;
-use std::env;
+use run::{refuse, start};
+use std::env::{self, Env};
+use std::io;
 use std::process::ExitCode;
+
+// The arguments behind the program's name.
+fn arguments(rt: &(impl Env + AllocGlobal)) -> io::Result<Vec<String>> {
+    Ok(env::args(rt)?.skip(1).collect(rt.alloc())?)
+}
 
 fn main(rt: HostRuntime) -> ExitCode {
     let mut reader = rt.stdin();
     let mut writer = rt.stdout();
-    let status = match env::args(&rt) {
-        Ok(all) => match all.skip(1).collect::<Vec<String>>(rt.alloc()) {
-            Ok(arguments) => start(rt.alloc(), arguments.as_slice(), &mut reader, &mut writer),
-            Err(_) => run::out_of_memory(&mut writer),
-        },
-        Err(_) => start(rt.alloc(), &[], &mut reader, &mut writer),
+    let status = match arguments(&rt) {
+        Ok(arguments) => start(rt.alloc(), arguments.as_slice(), &mut reader, &mut writer),
+        Err(why) => refuse(&why, &mut writer),
     };
     ExitCode::from(status.code())
 }

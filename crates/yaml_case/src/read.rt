@@ -1,11 +1,11 @@
 //! Reading events as data of a named shape.
 
-ghost use Rattle.std.specs.Prelude.{◌≡◌, IfOk, IfErr, false};
-ghost use Rattle.yaml_base.specs.Answer.{is_memory};
+ghost use Rattle.yaml_base.specs.Answer.{Answers};
 ghost use Rattle.yaml_shape.specs.DataView.{data_of};
-ghost use Rattle.yaml_case.specs.InputText.{events_of};
-ghost use Rattle.yaml_case.specs.Reading.{IsReadAs, IsRefusedAs};
-ghost use Rattle.yaml_case.specs.Shapes.{table_of};
+ghost use Rattle.yaml_lines.specs.InputText.{events_of};
+ghost use Rattle.yaml_read.specs.TreeReader.{default_limits};
+ghost use Rattle.serde_yaml.specs.StreamReads.{InputGives};
+ghost use Rattle.yaml_case.specs.Shapes.{table_of, first_shape};
 
 use crate::shapes::Named;
 use serde_yaml::Deserializer;
@@ -20,10 +20,8 @@ pub fn read<'de>(
     events: Vec<(Event<'de>, Mark)>,
     fault: Option<ParserFault>,
 ) -> Result<Data<'de>>
-    ensures read { IfOk result (λ v.
-        IsReadAs (table_of named) (events_of events.entry.items) fault (data_of v)) }
-    ensures refused { IfErr result (λ cause. is_memory cause ≡ false
-        → IsRefusedAs (table_of named) (events_of events.entry.items) fault cause) }
+    ensures { Answers data_of result
+        (InputGives default_limits (table_of named) (first_shape named) (events_of events.entry.items) fault) }
 {
     let Ok(schema) = named.schema(alloc) else {
         return Err(Error::new(Cause::Memory));

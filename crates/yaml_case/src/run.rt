@@ -1,25 +1,25 @@
 //! A run of the program: its input is read whole, and one line is written.
 
-ghost use Rattle.std.specs.Prelude.{◌≡◌, ◌≢◌, ◌∷◌, [], ◌++◌, List, ℕ, codes, decimal, map, length};
+ghost use Rattle.std.specs.Prelude.{◌≡◌, ◌≢◌, ◌∷◌, [], ◌++◌, List, ℕ, codes, decimal, map};
 ghost use Rattle.std.specs.Prelude.{string_bytes, IfOk, IfSome};
+ghost use Rattle.std.specs.IoError.{error_kind};
 ghost use Rattle.std.specs.Io.KnownBytes.{Appends};
 ghost use Rattle.yaml_base.specs.ErrorText.{error_text};
 ghost use Rattle.yaml_shape.specs.DataView.{data_of};
+ghost use Rattle.yaml_lines.specs.DataText.{data_text};
 ghost use Rattle.yaml_case.specs.Answers.{IsReply, IsAnswer, IsAnswerTo};
-ghost use Rattle.yaml_case.specs.DataText.{data_text};
-ghost use Rattle.yaml_case.specs.Shapes.{IsNoName};
+ghost use Rattle.yaml_case.specs.Shapes.{IsNoName, NamesNoShape};
 
 #[cfg(test)]
 mod tests;
 
-use crate::input::{self, Input};
 use crate::read::read;
 use crate::shapes::Named;
-use crate::show::show;
 use crate::status::Status;
 use std::alloc::{AllocError, Global};
-use std::io::{Read, Write};
+use std::io::{self, ErrorKind, Read, Write};
 use yaml_base::Error;
+use yaml_lines::{Input, InputFault, show};
 use yaml_shape::Data;
 
 // The most calls of `read`. An input that hasn't ended by then counts as one that can't be read.
@@ -41,7 +41,7 @@ struct Answer {
     line: String,
 }
 
-// All that the reader gives.
+// All that the reader gives. A read that was interrupted is tried again.
 fn read_input<R: Read>(alloc: Global, reader: &mut R) -> Result<Vec<u8>, Unread>
     ensures { IfOk result (λ input.
         IfSome (R.remaining reader.old) (λ bytes. input.items ≡ bytes)) }
@@ -49,14 +49,15 @@ fn read_input<R: Read>(alloc: Global, reader: &mut R) -> Result<Vec<u8>, Unread>
     let mut input = Vec::new(alloc);
     let mut buffer = [0u8; 4096];
     for _ in 0..READ_CALLS {
-        let Ok(count) = reader.read(&mut buffer) else {
-            return Err(Unread::Failed);
-        };
-        if count == 0 {
-            return Ok(input);
-        }
-        if input.extend_from_slice(&buffer[..count]).is_err() {
-            return Err(Unread::Memory);
+        match reader.read(&mut buffer) {
+            Ok(0) => return Ok(input),
+            Ok(count) => {
+                if input.extend_from_slice(&buffer[..count]).is_err() {
+                    return Err(Unread::Memory);
+                }
+            }
+            Err(error) if error.kind() == ErrorKind::Interrupted => {}
+            Err(_) => return Err(Unread::Failed),
         }
     }
     Err(Unread::Failed)
@@ -64,27 +65,30 @@ fn read_input<R: Read>(alloc: Global, reader: &mut R) -> Result<Vec<u8>, Unread>
 
 // Writes a line with its line feed. The status is the one that is given, unless the writer fails.
 fn print<W: Write>(writer: &mut W, line: &[u8], status: Status) -> Status
-    ensures { result ≢ Status.Failed
+    ensures written { result ≢ Status.WriteFailed
         → (result ≡ status) × Appends (W.contents writer.old) (W.contents writer.new) line.now }
+    ensures read { result ≡ Status.ReadFailed → status ≡ Status.ReadFailed }
 {
     if writer.write_all(line).is_err() || writer.flush().is_err() {
-        return Status::Failed;
+        return Status::WriteFailed;
     }
     status
 }
 
-/// Prints that memory ran out.
-pub fn out_of_memory<W: Write>(writer: &mut W) -> Status
-    ensures { result ≢ Status.Failed → (result ≡ Status.Fault)
+// Prints that memory ran out.
+fn out_of_memory<W: Write>(writer: &mut W) -> Status
+    ensures written { result ≢ Status.WriteFailed → (result ≡ Status.Fault)
         × Appends (W.contents writer.old) (W.contents writer.new) (codes "fault: out of memory\n") }
+    ensures read { result ≢ Status.ReadFailed }
 {
     print(writer, b"fault: out of memory\n", Status::Fault)
 }
 
 // Prints that the argument is none that the program takes.
 fn bad_argument<W: Write>(writer: &mut W) -> Status
-    ensures { result ≢ Status.Failed → (result ≡ Status.Refused)
+    ensures written { result ≢ Status.WriteFailed → (result ≡ Status.Refused)
         × Appends (W.contents writer.old) (W.contents writer.new) (codes "bad argument\n") }
+    ensures read { result ≢ Status.ReadFailed }
 {
     print(writer, b"bad argument\n", Status::Refused)
 }
@@ -121,34 +125,42 @@ fn answer_to(alloc: Global, named: Named, input: &[u8]) -> Result<Answer, AllocE
         × (string_bytes answer.line ≡ text ++ 10 ∷ [])
         × IsReply named input.now answer.status text) }
 {
-    let lines = input::parse(alloc, input)?;
-    match lines {
-        Input::BadLine(number) => Ok(Answer {
-            status: Status::Refused,
-            line: bad_line(alloc, number)?,
+    let input = match Input::parse(alloc, input) {
+        Ok(input) => input,
+        Err(InputFault::BadLine(number)) => {
+            return Ok(Answer {
+                status: Status::Refused,
+                line: bad_line(alloc, number)?,
+            });
+        }
+        Err(InputFault::Memory) => return Err(AllocError),
+    };
+    match read(alloc, named, input.events, input.fault) {
+        Ok(content) => Ok(Answer {
+            status: Status::Read,
+            line: data_line(alloc, &content)?,
         }),
-        Input::Events(events, fault) => match read(alloc, named, events, fault) {
-            Ok(content) => Ok(Answer {
-                status: Status::Read,
-                line: data_line(alloc, &content)?,
-            }),
-            Err(error) => Ok(Answer {
-                status: Status::Fault,
-                line: fault_line(alloc, error)?,
-            }),
-        },
+        Err(error) => Ok(Answer {
+            status: Status::Fault,
+            line: fault_line(alloc, error)?,
+        }),
     }
 }
 
 /// Reads the input as the shape with this name, and prints what was read, or why nothing was.
 ///
-/// The argument is looked at first, and all of the input is read before any line is looked at. With
-/// the status `Failed` the reader or the writer failed, and part of a line may be written.
+/// The argument is looked at first, and all of the input is read before any line is looked at.
 pub fn run<R: Read, W: Write>(alloc: Global, name: &str, reader: &mut R, writer: &mut W) -> Status
-    ensures prints { result ≢ Status.Failed → (text : List ℕ) × (input : List ℕ)
+    ensures prints { result ≢ Status.ReadFailed → result ≢ Status.WriteFailed
+        → (text : List ℕ) × (input : List ℕ)
         × IfSome (R.remaining reader.old) (λ bytes. input ≡ bytes)
         × IsAnswer name.now input result text
         × Appends (W.contents writer.old) (W.contents writer.new) (text ++ 10 ∷ []) }
+
+    // Where the reader failed, nothing is written.
+    ensures unwritten { result ≡ Status.ReadFailed → writer.new ≡ writer.old }
+
+    // Where the name is unknown, nothing is read.
     ensures unread { IsNoName name.now → reader.new ≡ reader.old }
 {
     let Some(named) = Named::find(name) else {
@@ -156,7 +168,7 @@ pub fn run<R: Read, W: Write>(alloc: Global, name: &str, reader: &mut R, writer:
     };
     let input = match read_input(alloc, reader) {
         Ok(input) => input,
-        Err(Unread::Failed) => return Status::Failed,
+        Err(Unread::Failed) => return Status::ReadFailed,
         Err(Unread::Memory) => return out_of_memory(writer),
     };
     match answer_to(alloc, named, input.as_slice()) {
@@ -172,14 +184,31 @@ pub fn start<R: Read, W: Write>(
     reader: &mut R,
     writer: &mut W,
 ) -> Status
-    ensures prints { result ≢ Status.Failed → (text : List ℕ) × (input : List ℕ)
+    ensures prints { result ≢ Status.ReadFailed → result ≢ Status.WriteFailed
+        → (text : List ℕ) × (input : List ℕ)
         × IfSome (R.remaining reader.old) (λ bytes. input ≡ bytes)
         × IsAnswerTo (map string_bytes arguments.now) input result text
         × Appends (W.contents writer.old) (W.contents writer.new) (text ++ 10 ∷ []) }
-    ensures unread { length arguments.now ≢ 1 → reader.new ≡ reader.old }
+    ensures unwritten { result ≡ Status.ReadFailed → writer.new ≡ writer.old }
+    ensures unread { NamesNoShape (map string_bytes arguments.now) → reader.new ≡ reader.old }
 {
     if arguments.len() != 1 {
         return bad_argument(writer);
     }
     run(alloc, arguments[0].as_str(), reader, writer)
+}
+
+/// Prints why the arguments were not gathered: memory ran out, or one of them is no text.
+pub fn refuse<W: Write>(why: &io::Error, writer: &mut W) -> Status
+    ensures memory { error_kind why.now ≡ ErrorKind.OutOfMemory → result ≢ Status.WriteFailed
+        → (result ≡ Status.Fault)
+        × Appends (W.contents writer.old) (W.contents writer.new) (codes "fault: out of memory\n") }
+    ensures other { error_kind why.now ≢ ErrorKind.OutOfMemory → result ≢ Status.WriteFailed
+        → (result ≡ Status.Refused)
+        × Appends (W.contents writer.old) (W.contents writer.new) (codes "bad argument\n") }
+{
+    if why.kind() == ErrorKind::OutOfMemory {
+        return out_of_memory(writer);
+    }
+    bad_argument(writer)
 }

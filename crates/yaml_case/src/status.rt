@@ -12,8 +12,10 @@ pub enum Status {
     Fault,
     /// The argument or a line of the input was refused, and that was printed.
     Refused,
-    /// The input could not be read or the output not be written.
-    Failed,
+    /// The input could not be read, and nothing was printed.
+    ReadFailed,
+    /// The output could not be written. Part of it may be.
+    WriteFailed,
 }
 
 impl Status {
@@ -24,7 +26,7 @@ impl Status {
         match self {
             Status::Read => 0,
             Status::Fault => 1,
-            Status::Refused | Status::Failed => 2,
+            Status::Refused | Status::ReadFailed | Status::WriteFailed => 2,
         }
     }
 }

@@ -1,24 +1,21 @@
 -- What is answered of the input's events.
-use Rattle.std.proofs.Common.{◌≡◌, IfErr, IfOk, false, subst}
-use Rattle.yaml_base.specs.Answer.{is_memory}
+use Rattle.std.proofs.Common.{◌≡◌, subst, sym, ◌∙◌, ap}
+use Rattle.yaml_base.specs.Answer.{Answers}
+use Rattle.yaml_lines.specs.InputText.{events_of}
+use Rattle.yaml_read.specs.TreeReader.{default_limits}
 use Rattle.yaml_shape.specs.DataView.{data_of}
-use Rattle.yaml_case.specs.InputText.{events_of}
-use Rattle.yaml_case.specs.Reading.{IsReadAs, IsRefusedAs}
-use Rattle.yaml_case.proofs.Readings.{found_of, refused_of, refused_stream}
+use Rattle.yaml_shape.specs.PlainShape.{shape_at}
+use Rattle.serde_yaml.specs.StreamReads.{InputGives}
+use Rattle.yaml_case.specs.Shapes.{first_shape}
+use Rattle.yaml_case.proofs.Readings.{is_first, refused_stream, stream_answers}
 use Rattle.yaml_case.proofs.read.read.Goals as goal
 
-pub returns-in-Ok-from_events-clause-read : goal.returns-in-Ok-from_events-clause-read
-returns-in-Ok-from_events-clause-read c =
-    subst (λ table. IfOk c.deserialize.result (λ v. IsReadAs table (events_of c.args.events.items) c.args.fault (data_of v))) c.in-Ok.ensures.ok
-    (found_of data_of _ c.args.events.items c.args.fault c.in-Ok-from_events.documents c.deserialize.result
-    c.in-Ok-from_events.ensures.accepted c.in-Ok-from_events.ensures.documents c.deserialize.ensures.whole c.deserialize.ensures.found)
+pub returns-in-Ok-from_events : goal.returns-in-Ok-from_events
+returns-in-Ok-from_events c =
+    subst (λ table. Answers data_of c.deserialize.result (InputGives default_limits table (first_shape c.args.named) (events_of c.args.events.items) c.args.fault)) c.in-Ok.ensures.ok
+    (stream_answers default_limits _ (first_shape c.args.named) c.args.events.items c.args.fault data_of c.in-Ok-from_events.documents c.deserialize.result
+    c.in-Ok-from_events.ensures.accepted c.in-Ok-from_events.ensures.documents
+    (c.deserialize.ensures (first_shape c.args.named) (ap (λ t. shape_at t 0) c.in-Ok.ensures.ok ∙ is_first c.args.named)))
 
-pub returns-in-Ok-from_events-clause-refused : goal.returns-in-Ok-from_events-clause-refused
-returns-in-Ok-from_events-clause-refused c =
-    subst (λ table. IfErr c.deserialize.result (λ cause. is_memory cause ≡ false → IsRefusedAs table (events_of c.args.events.items) c.args.fault cause)) c.in-Ok.ensures.ok
-    (refused_of data_of _ c.args.events.items c.args.fault c.in-Ok-from_events.documents c.deserialize.result
-    c.in-Ok-from_events.ensures.accepted c.in-Ok-from_events.ensures.documents c.deserialize.ensures.faults c.deserialize.ensures.cut c.deserialize.ensures.only)
-
-pub returns-clause-refused : goal.returns-clause-refused
-returns-clause-refused c = λ other.
-    refused_stream _ c.args.events.items c.args.fault c.in-Err.fault (c.in-Err.ensures.wrong other)
+pub returns : goal.returns
+returns c = λ other. refused_stream default_limits _ (first_shape c.args.named) c.args.events.items c.args.fault c.in-Err.fault (c.in-Err.ensures.wrong other)

@@ -5,4 +5,5 @@ use Rattle.yaml_case.proofs.run.read_input.Given as goal
 
 abbrev pub invariant-loop : goal.invariant-loop
 invariant-loop g l =
-    Consumes (g.R.Read.remaining l.initial.reader) (g.R.Read.remaining l.reader) l.input.items × (length l.buffer ≡ 4096)
+    Consumes (g.R.Read.remaining l.initial.reader) (g.R.Read.remaining l.reader) l.input.items
+    × (length l.buffer ≡ 4096)

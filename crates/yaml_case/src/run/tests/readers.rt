@@ -1,0 +1,152 @@
+//! Readers that give one byte a call, that fail, and that are interrupted; and large inputs.
+
+use super::stream;
+use crate::run::run;
+use crate::status::Status;
+use std::alloc::{AllocError, Global};
+use std::io::{self, ErrorKind, Read};
+use std::process::Abort;
+use std::test::Fail;
+
+// A reader that gives one byte a call, and fails after so many calls. Each further error interrupts a call alone.
+#[derive(Drop)]
+struct SlowReader<'a> {
+    rest: &'a [u8],
+    calls: usize,
+    interrupts: bool,
+}
+
+impl Read for SlowReader<'_> {
+    fn read(&mut self, buffer: &mut [u8]) -> io::Result<usize> {
+        if self.calls == 0 {
+            return Err(io::Error::from(ErrorKind::ConnectionReset));
+        }
+        self.calls -= 1;
+        if self.interrupts && self.calls % 2 == 0 {
+            return Err(io::Error::from(ErrorKind::Interrupted));
+        }
+        let count = buffer.len().min(1);
+        self.rest.read(&mut buffer[..count])
+    }
+}
+
+// Runs the program on a reader, and compares what it writes and its status.
+fn expect(
+    rt: &(impl Abort + AllocGlobal),
+    name: &str,
+    reader: SlowReader<'_>,
+    output: &str,
+    status: Status,
+) {
+    let mut reader = reader;
+    let calls = reader.calls;
+    let mut writer = Vec::new(rt.alloc());
+    let ended = run(rt.alloc(), name, &mut reader, &mut writer);
+    assert_eq!(rt; ended, status, "{name} in {calls} calls");
+    assert_eq!(rt;
+        writer.as_slice(),
+        output.as_bytes(),
+        "{name} in {calls} calls"
+    );
+}
+
+#[test]
+fn a_reader_that_fails_ends_the_run(rt: HostRuntime) -> Result<(), Fail> {
+    let map = "0:0:0 +MAP\n0:0:0 =VAL :k\n3:0:3 =VAL :107\n7:1:0 -MAP\n";
+    let good = stream(rt.alloc(), map)?;
+    // A failed read comes before a bad line, wherever that is.
+    for (text, output, status) in [
+        (good.as_str(), "{\"k\": 107}\n", Status::Read),
+        ("0:0:0 +SEQX\n0:0:0 +STR\n", "bad line 1\n", Status::Refused),
+    ] {
+        // One call for each byte, and one that finds the end.
+        let reached = text.len() + 1;
+        for calls in 0..=reached {
+            let reader = SlowReader {
+                rest: text.as_bytes(),
+                calls,
+                interrupts: false,
+            };
+            if calls < reached {
+                expect(&rt, "map", reader, "", Status::ReadFailed);
+            } else {
+                expect(&rt, "map", reader, output, status);
+            }
+        }
+    }
+    Ok(())
+}
+
+#[test]
+fn an_interrupted_read_is_tried_again(rt: HostRuntime) -> Result<(), Fail> {
+    let text = stream(rt.alloc(), "0:0:0 =VAL :true\n")?;
+    let reader = SlowReader {
+        rest: text.as_bytes(),
+        calls: usize::MAX,
+        interrupts: true,
+    };
+    expect(&rt, "bool", reader, "true\n", Status::Read);
+    Ok(())
+}
+
+// The lines of a stream of `true`, made longer to so many bytes by its tag.
+fn long_stream(alloc: Global, length: usize) -> Result<String, AllocError> {
+    let mut text = String::from_str(alloc, "0:0:0 +STR\n0:0:0 +DOC\n0:0:0 =VAL <")?;
+    let rest = "> :true\n0:0:0 -DOC\n0:0:0 -STR\n";
+    for _ in 0..length.saturating_sub(text.len()).saturating_sub(rest.len()) {
+        text.push('x')?;
+    }
+    text.push_str(rest)?;
+    Ok(text)
+}
+
+#[test]
+fn so_many_calls_read_an_input(rt: HostRuntime) -> Result<(), Fail> {
+    for (calls, interrupts, output, status) in [
+        // The last call finds the end.
+        (1_048_575, false, "true\n", Status::Read),
+        (1_048_576, false, "", Status::ReadFailed),
+        (524_288, true, "", Status::ReadFailed),
+    ] {
+        let text = long_stream(rt.alloc(), calls)?;
+        assert_eq!(rt; text.len(), calls);
+        let reader = SlowReader {
+            rest: text.as_bytes(),
+            calls: usize::MAX,
+            interrupts,
+        };
+        expect(&rt, "bool", reader, output, status);
+    }
+    Ok(())
+}
+
+// The lines of a stream of so many integers in a sequence, each on a line of 200 bytes, and what is printed of them.
+fn long_lines(alloc: Global, count: usize) -> Result<(String, String), AllocError> {
+    let mut line = String::from_str(alloc, "0:0:0 =VAL <")?;
+    for _ in 0..183 {
+        line.push('x')?;
+    }
+    line.push_str("> :7\n")?;
+    let mut text = String::from_str(alloc, "0:0:0 +STR\n0:0:0 +DOC\n0:0:0 +SEQ\n")?;
+    let mut output = String::from_str(alloc, "[7")?;
+    text.push_str(&line)?;
+    for _ in 1..count {
+        text.push_str(&line)?;
+        output.push_str(", 7")?;
+    }
+    text.push_str("0:0:0 -SEQ\n0:0:0 -DOC\n0:0:0 -STR\n")?;
+    output.push_str("]\n")?;
+    Ok((text, output))
+}
+
+#[test]
+fn an_input_of_twenty_million_bytes_is_read(rt: HostRuntime) -> Result<(), Fail> {
+    let (text, output) = long_lines(rt.alloc(), 100_000)?;
+    assert!(rt; text.len() > 20_000_000);
+    let mut reader = text.as_bytes();
+    let mut writer = Vec::new(rt.alloc());
+    let ended = run(rt.alloc(), "list", &mut reader, &mut writer);
+    assert_eq!(rt; ended, Status::Read);
+    assert!(rt; writer.as_slice() == output.as_bytes());
+    Ok(())
+}
