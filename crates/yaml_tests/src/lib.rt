@@ -5,12 +5,22 @@
 #[cfg(test)]
 mod base;
 #[cfg(test)]
+mod data_text;
+#[cfg(test)]
+mod lines;
+#[cfg(test)]
 mod loader;
 #[cfg(test)]
 mod plain_text;
+#[cfg(test)]
+mod readme;
+#[cfg(test)]
+mod scalars;
 #[cfg(test)]
 mod shape;
 #[cfg(test)]
 mod stream;
 #[cfg(test)]
 mod tree;
+#[cfg(test)]
+mod write;

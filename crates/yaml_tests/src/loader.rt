@@ -1,4 +1,4 @@
 //! What no contract shows: that calls succeed, worked inputs, and inputs that are deep or wide.
 mod cuts;
-mod events;
+mod documents;
 mod large;

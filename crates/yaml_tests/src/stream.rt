@@ -1,9 +1,9 @@
 //! What no clause says: worked streams, from the events to the data.
 
 mod documents;
-mod events;
-mod letters;
+pub(crate) mod events;
+mod large;
 mod nesting;
-mod reading;
+pub(crate) mod reading;
 mod texts;
 mod unread;

@@ -8,6 +8,7 @@ use yaml_base::{Error, FaultKind, ParserFault};
 
 fn add_without_context(alloc: Global, table: &mut Table) -> Result<(), AllocError> {
     let offset = "did not find expected ',' or ']' at position 10";
+    let last = "did not find expected ',' or ']' at position 18446744073709551615";
     let placed = "did not find expected ',' or ']' at line 2 column 1";
     let kind = FaultKind::Parser;
     table.add(
@@ -15,6 +16,10 @@ fn add_without_context(alloc: Global, table: &mut Table) -> Result<(), AllocErro
         "did not find expected ',' or ']'",
     )?;
     table.add(of_parser(bare_fault(alloc, kind, 10, mark(0, 0))), offset)?;
+    table.add(
+        of_parser(bare_fault(alloc, kind, u64::MAX, mark(0, 0))),
+        last,
+    )?;
     table.add(of_parser(bare_fault(alloc, kind, 10, mark(1, 0))), placed)
 }
 

@@ -21,6 +21,10 @@ fn add_fixed_texts(table: &mut Table) -> Result<(), AllocError> {
         Ok(Cause::NotAStream(2)),
         "event list is not a stream at event 2",
     )?;
+    table.add(
+        Ok(Cause::NotAStream(usize::MAX)),
+        "event list is not a stream at event 18446744073709551615",
+    )?;
     table.add(Ok(Cause::EndOfStream), "EOF while parsing a value")?;
     table.add(Ok(Cause::MoreThanOneDocument), many)?;
     table.add(
@@ -85,7 +89,7 @@ fn add_found_numbers(alloc: Global, table: &mut Table) -> Result<(), AllocError>
 
 fn add_found_others(alloc: Global, table: &mut Table) -> Result<(), AllocError> {
     let boolean = "invalid type: boolean `true`, expected a boolean";
-    let quoted = "invalid type: string \"x\\\"\\\\\\xc3\\xa9\\x0a\", expected a sequence";
+    let quoted = "invalid type: string \"x\\\"\\\\\\xc3\\xa9\\x0a\\x7f\", expected a sequence";
     let bytes = "invalid type: byte array, expected a string";
     let unit = "invalid type: unit value, expected a boolean";
     let map = "invalid type: map, expected a YAML tag starting with '!'";
@@ -95,7 +99,7 @@ fn add_found_others(alloc: Global, table: &mut Table) -> Result<(), AllocError> 
         boolean,
     )?;
     table.add(
-        invalid_text(alloc, "x\"\\\u{e9}\n", "a sequence", None),
+        invalid_text(alloc, "x\"\\\u{e9}\n\u{7f}", "a sequence", None),
         quoted,
     )?;
     table.add(invalid_type(alloc, Found::Bytes, "a string", None), bytes)?;

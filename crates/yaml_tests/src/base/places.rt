@@ -1,7 +1,7 @@
 //! Marks, paths, and the places of faults.
 
 use crate::base::build::{Table, list, mark, words};
-use crate::base::causes::custom;
+use crate::base::causes::{custom, missing_field};
 use std::alloc::{AllocError, Global};
 use std::process::Abort;
 use std::test::Fail;
@@ -19,6 +19,18 @@ fn marks_count_from_one(rt: HostRuntime) -> Result<(), Fail> {
         (4, 0, 4, "line 1 column 5 Mark { line: 1, column: 5 }"),
         (0, 3, 0, "line 4 column 1 Mark { line: 4, column: 1 }"),
         (7, 0, 0, "position 7 Mark { index: 7 }"),
+        (
+            u64::MAX,
+            0,
+            0,
+            "position 18446744073709551615 Mark { index: 18446744073709551615 }",
+        ),
+        (
+            u64::MAX,
+            u64::MAX - 1,
+            u64::MAX - 1,
+            "line 18446744073709551615 column 18446744073709551615 Mark { line: 18446744073709551615, column: 18446744073709551615 }",
+        ),
     ] {
         let mark = Mark::new(index, line, column).ok_or("mark")?;
         assert_eq!(rt; printed(rt.alloc(), mark)?.as_str(), expected);
@@ -98,7 +110,8 @@ fn paths_of_keys_leave_aliases_out(rt: HostRuntime) -> Result<(), Fail> {
     let through = Path::Alias { parent: &serde };
     let typo = entry(&through, "typo1");
     prints(&rt, &typo, "dependencies.serde.typo1")?;
-    prints(&rt, &element(&typo, 12), "dependencies.serde.typo1[12]")
+    prints(&rt, &element(&typo, 12), "dependencies.serde.typo1[12]")?;
+    prints(&rt, &element(&root, usize::MAX), ".[18446744073709551615]")
 }
 
 // The fault with this mark and this key of the root as its place, if it has none yet.
@@ -177,6 +190,44 @@ fn texts_of_ones_own_stand_as_they_are(rt: HostRuntime) -> Result<(), Fail> {
         assert!(rt; is_custom(&row.fault));
     }
     table.prints_with_copies(&rt)
+}
+
+// So many letters.
+fn letters(alloc: Global, count: u32) -> Result<String, AllocError> {
+    let mut text = String::new(alloc);
+    for _ in 0..count {
+        text.push('x')?;
+    }
+    Ok(text)
+}
+
+// The fault of a field with this name that is not there, at the root's key of the same name.
+fn missing_at(alloc: Global, name: &str) -> yaml_base::Result<Error> {
+    placed(
+        alloc,
+        Error::new(missing_field(alloc, name, None)?),
+        mark(0, 0),
+        name,
+    )
+}
+
+// What a fault and a copy of it print.
+fn printed_twice(alloc: Global, fault: &Error) -> yaml_base::Result<(String, String)> {
+    Ok((
+        fault.to_string(alloc)?,
+        fault.copy(alloc)?.to_string(alloc)?,
+    ))
+}
+
+#[test]
+fn long_names_are_printed_whole(rt: HostRuntime) -> Result<(), Fail> {
+    let name = letters(rt.alloc(), 5_000)?;
+    let fault = missing_at(rt.alloc(), name.as_str())?;
+    let (text, again) = printed_twice(rt.alloc(), &fault)?;
+    let expected = format!(in rt.alloc(); "{name}: missing field `{name}`")?;
+    assert!(rt; text.as_str() == expected.as_str());
+    assert!(rt; again.as_str() == expected.as_str());
+    Ok(())
 }
 
 // The text of words made of a text.

@@ -1,5 +1,6 @@
 //! Streams, and what they are cut into.
-use crate::loader::events::{events, load, shows};
+use crate::lines::{FAULT, events};
+use crate::loader::documents::{load, shows};
 use std::alloc::Global;
 use std::test::Fail;
 use yaml_base::Mark;
@@ -8,17 +9,32 @@ use yaml_read::{DocEvent, Loader};
 // Documents one after another, and the parser's fault within, between and in front of them.
 #[test]
 fn documents_and_faults(rt: HostRuntime) -> Result<(), Fail> {
-    for (text, faulted, expected) in [
-        ("S(a)(b)E", false, "a.b."),
-        ("S({ka})({jb})E", false, "{ka}.{jb}."),
-        ("S(a)", true, "a.!"),
-        ("S([a", true, "[a!"),
-        ("S(a", true, "a!"),
-        ("S", true, "!"),
-        ("", true, "!"),
-        ("SE", false, "~."),
+    for (text, expected) in [
+        (
+            "+STR; +DOC; =VAL :a; -DOC; +DOC; =VAL :b; -DOC; -STR",
+            "=VAL :a / =VAL :b",
+        ),
+        (
+            "+STR; +DOC; +MAP; =VAL :k; =VAL :a; -MAP; -DOC; +DOC; +MAP; =VAL :j; =VAL :b; -MAP; -DOC; -STR",
+            "+MAP; =VAL :k; =VAL :a; -MAP / +MAP; =VAL :j; =VAL :b; -MAP",
+        ),
+        (
+            "+STR; +DOC; =VAL :a; -DOC; 10:1:0 !ERR PARSER 0 bad",
+            "=VAL :a / bad at line 2 column 1",
+        ),
+        (
+            "+STR; +DOC; +SEQ; =VAL :a; 10:1:0 !ERR PARSER 0 bad",
+            "+SEQ; =VAL :a; bad at line 2 column 1",
+        ),
+        (
+            "+STR; +DOC; =VAL :a; 10:1:0 !ERR PARSER 0 bad",
+            "=VAL :a; bad at line 2 column 1",
+        ),
+        ("+STR; 10:1:0 !ERR PARSER 0 bad", "bad at line 2 column 1"),
+        ("10:1:0 !ERR PARSER 0 bad", "bad at line 2 column 1"),
+        ("+STR; -STR", "void"),
     ] {
-        assert!(rt; shows(rt.alloc(), text, faulted, expected)?, "{text}");
+        assert!(rt; shows(rt.alloc(), text, expected)?, "{text}");
     }
     Ok(())
 }
@@ -26,16 +42,37 @@ fn documents_and_faults(rt: HostRuntime) -> Result<(), Fail> {
 // Unknown anchors cut, and what follows them in their document belongs to none.
 #[test]
 fn unknown_anchors(rt: HostRuntime) -> Result<(), Fail> {
-    for (text, faulted, expected) in [
-        ("S([*x])(h)E", false, "[?Dh."),
-        ("S([*x", true, "[?D"),
-        ("S([*x[a", true, "[?D"),
-        ("S([*x])", true, "[?D!"),
-        ("S({b[*ac]d}e)(h)E", false, "#J"),
-        ("S({b[*ac]de})(h)E", false, "{b[?Fh."),
-        ("S(&ap)([&aq*a])(*a)E", false, "p.[q*B].?L"),
+    for (text, expected) in [
+        (
+            "+STR; +DOC; +SEQ; =ALI *x; -SEQ; -DOC; +DOC; =VAL :h; -DOC; -STR",
+            "+SEQ; unknown anchor at line 1 column 2 / =VAL :h",
+        ),
+        (
+            "+STR; +DOC; +SEQ; =ALI *x; 10:1:0 !ERR PARSER 0 bad",
+            "+SEQ; unknown anchor at line 1 column 2",
+        ),
+        (
+            "+STR; +DOC; +SEQ; =ALI *x; +SEQ; =VAL :a; 10:1:0 !ERR PARSER 0 bad",
+            "+SEQ; unknown anchor at line 1 column 2",
+        ),
+        (
+            "+STR; +DOC; +SEQ; =ALI *x; -SEQ; -DOC; 10:1:0 !ERR PARSER 0 bad",
+            "+SEQ; unknown anchor at line 1 column 2 / bad at line 2 column 1",
+        ),
+        (
+            "+STR; +DOC; +MAP; =VAL :b; +SEQ; =ALI *a; -SEQ; =VAL :d; -MAP; =VAL :e; -DOC; +DOC; =VAL :h; -DOC; -STR",
+            "event list is not a stream at event 8",
+        ),
+        (
+            "+STR; +DOC; +MAP; =VAL :b; +SEQ; =ALI *a; -SEQ; =VAL :d; =VAL :e; -MAP; -DOC; +DOC; =VAL :h; -DOC; -STR",
+            "+MAP; =VAL :b; +SEQ; unknown anchor at line 1 column 4 / =VAL :h",
+        ),
+        (
+            "+STR; +DOC; =VAL &a :p; -DOC; +DOC; +SEQ; =VAL &a :q; =ALI *a; -SEQ; -DOC; +DOC; =ALI *a; -DOC; -STR",
+            "=VAL :p / +SEQ; =VAL :q; =ALI 1; -SEQ / unknown anchor at line 1 column 10",
+        ),
     ] {
-        assert!(rt; shows(rt.alloc(), text, faulted, expected)?, "{text}");
+        assert!(rt; shows(rt.alloc(), text, expected)?, "{text}");
     }
     Ok(())
 }
@@ -43,16 +80,37 @@ fn unknown_anchors(rt: HostRuntime) -> Result<(), Fail> {
 // The last node so anchored counts, by the starts of nodes.
 #[test]
 fn anchors_named_again(rt: HostRuntime) -> Result<(), Fail> {
-    for (text, faulted, expected) in [
-        ("S([&ap&aq&ar*a])E", false, "[pqr*D]."),
-        ("S([&ap*a&aq*a&ar*a])E", false, "[p*Bq*Dr*F]."),
-        ("S([&cp&cq*c&cr])E", false, "[pq*Cr]."),
-        ("S([&ap&aq&br*a])E", false, "[pqr*C]."),
-        ("S(&a[*a])E", false, "[*A]."),
-        ("S({&ka*k&kb})E", false, "#G"),
-        ("S({&ka*k&kb*k})E", false, "{a*Bb*D}."),
+    for (text, expected) in [
+        (
+            "+STR; +DOC; +SEQ; =VAL &a :p; =VAL &a :q; =VAL &a :r; =ALI *a; -SEQ; -DOC; -STR",
+            "+SEQ; =VAL :p; =VAL :q; =VAL :r; =ALI 3; -SEQ",
+        ),
+        (
+            "+STR; +DOC; +SEQ; =VAL &a :p; =ALI *a; =VAL &a :q; =ALI *a; =VAL &a :r; =ALI *a; -SEQ; -DOC; -STR",
+            "+SEQ; =VAL :p; =ALI 1; =VAL :q; =ALI 3; =VAL :r; =ALI 5; -SEQ",
+        ),
+        (
+            "+STR; +DOC; +SEQ; =VAL &c :p; =VAL &c :q; =ALI *c; =VAL &c :r; -SEQ; -DOC; -STR",
+            "+SEQ; =VAL :p; =VAL :q; =ALI 2; =VAL :r; -SEQ",
+        ),
+        (
+            "+STR; +DOC; +SEQ; =VAL &a :p; =VAL &a :q; =VAL &b :r; =ALI *a; -SEQ; -DOC; -STR",
+            "+SEQ; =VAL :p; =VAL :q; =VAL :r; =ALI 2; -SEQ",
+        ),
+        (
+            "+STR; +DOC; +SEQ &a; =ALI *a; -SEQ; -DOC; -STR",
+            "+SEQ; =ALI 0; -SEQ",
+        ),
+        (
+            "+STR; +DOC; +MAP; =VAL &k :a; =ALI *k; =VAL &k :b; -MAP; -DOC; -STR",
+            "event list is not a stream at event 6",
+        ),
+        (
+            "+STR; +DOC; +MAP; =VAL &k :a; =ALI *k; =VAL &k :b; =ALI *k; -MAP; -DOC; -STR",
+            "+MAP; =VAL :a; =ALI 1; =VAL :b; =ALI 3; -MAP",
+        ),
     ] {
-        assert!(rt; shows(rt.alloc(), text, faulted, expected)?, "{text}");
+        assert!(rt; shows(rt.alloc(), text, expected)?, "{text}");
     }
     Ok(())
 }
@@ -60,48 +118,125 @@ fn anchors_named_again(rt: HostRuntime) -> Result<(), Fail> {
 // Lists that are no streams.
 #[test]
 fn no_streams(rt: HostRuntime) -> Result<(), Fail> {
-    for (text, faulted, expected) in [
-        ("S(]", false, "#C"),
-        ("S({abc})E", false, "#G"),
-        ("SE", true, "#C"),
-        ("S(a)E", true, "#F"),
-        ("", false, "#A"),
-        ("S(a)", false, "#E"),
-        ("S(ab)E", false, "#D"),
-        ("S()E", false, "#C"),
-        ("S(a)EE", false, "#F"),
-        ("a", false, "#A"),
+    for (text, expected) in [
+        ("+STR; +DOC; -SEQ", "event list is not a stream at event 2"),
+        (
+            "+STR; +DOC; +MAP; =VAL :a; =VAL :b; =VAL :c; -MAP; -DOC; -STR",
+            "event list is not a stream at event 6",
+        ),
+        (
+            "+STR; -STR; 10:1:0 !ERR PARSER 0 bad",
+            "event list is not a stream at event 2",
+        ),
+        (
+            "+STR; +DOC; =VAL :a; -DOC; -STR; 10:1:0 !ERR PARSER 0 bad",
+            "event list is not a stream at event 5",
+        ),
+        ("", "event list is not a stream at event 0"),
+        (
+            "+STR; +DOC; =VAL :a; -DOC",
+            "event list is not a stream at event 4",
+        ),
+        (
+            "+STR; +DOC; =VAL :a; =VAL :b; -DOC; -STR",
+            "event list is not a stream at event 3",
+        ),
+        (
+            "+STR; +DOC; -DOC; -STR",
+            "event list is not a stream at event 2",
+        ),
+        (
+            "+STR; +DOC; =VAL :a; -DOC; -STR; -STR",
+            "event list is not a stream at event 5",
+        ),
+        ("=VAL :a", "event list is not a stream at event 0"),
     ] {
-        assert!(rt; shows(rt.alloc(), text, faulted, expected)?, "{text}");
+        assert!(rt; shows(rt.alloc(), text, expected)?, "{text}");
     }
     Ok(())
 }
 
+// One stream, cut in front of each of its events and behind the last, with a fault and with none.
 #[test]
 fn cut_everywhere(rt: HostRuntime) -> Result<(), Fail> {
-    let cases = [
-        ("", "!", "#A"),
-        ("S", "!", "#B"),
-        ("S(", "!", "#C"),
-        ("S({", "{!", "#D"),
-        ("S({f", "{f!", "#E"),
-        ("S({f&ap", "{fp!", "#F"),
-        ("S({f&aps", "{fps!", "#G"),
-        ("S({f&aps*a", "{fps*C!", "#H"),
-        ("S({f&aps*at", "{fps*Ct!", "#I"),
-        ("S({f&aps*atr", "{fps*Ctr!", "#J"),
-        ("S({f&aps*atr}", "{fps*Ctr}!", "#K"),
-        ("S({f&aps*atr})", "{fps*Ctr}.!", "#L"),
-        ("S({f&aps*atr})E", "#M", "{fps*Ctr}."),
-    ];
-    for (text, faulted, faultless) in cases {
+    let mut text = String::new(rt.alloc());
+    for (next, faulted, faultless) in [
+        (
+            "",
+            "bad at line 2 column 1",
+            "event list is not a stream at event 0",
+        ),
+        (
+            "+STR",
+            "bad at line 2 column 1",
+            "event list is not a stream at event 1",
+        ),
+        (
+            "+DOC",
+            "bad at line 2 column 1",
+            "event list is not a stream at event 2",
+        ),
+        (
+            "+MAP",
+            "+MAP; bad at line 2 column 1",
+            "event list is not a stream at event 3",
+        ),
+        (
+            "=VAL :f",
+            "+MAP; =VAL :f; bad at line 2 column 1",
+            "event list is not a stream at event 4",
+        ),
+        (
+            "=VAL &a :p",
+            "+MAP; =VAL :f; =VAL :p; bad at line 2 column 1",
+            "event list is not a stream at event 5",
+        ),
+        (
+            "=VAL :s",
+            "+MAP; =VAL :f; =VAL :p; =VAL :s; bad at line 2 column 1",
+            "event list is not a stream at event 6",
+        ),
+        (
+            "=ALI *a",
+            "+MAP; =VAL :f; =VAL :p; =VAL :s; =ALI 2; bad at line 2 column 1",
+            "event list is not a stream at event 7",
+        ),
+        (
+            "=VAL :t",
+            "+MAP; =VAL :f; =VAL :p; =VAL :s; =ALI 2; =VAL :t; bad at line 2 column 1",
+            "event list is not a stream at event 8",
+        ),
+        (
+            "=VAL :r",
+            "+MAP; =VAL :f; =VAL :p; =VAL :s; =ALI 2; =VAL :t; =VAL :r; bad at line 2 column 1",
+            "event list is not a stream at event 9",
+        ),
+        (
+            "-MAP",
+            "+MAP; =VAL :f; =VAL :p; =VAL :s; =ALI 2; =VAL :t; =VAL :r; -MAP; bad at line 2 column 1",
+            "event list is not a stream at event 10",
+        ),
+        (
+            "-DOC",
+            "+MAP; =VAL :f; =VAL :p; =VAL :s; =ALI 2; =VAL :t; =VAL :r; -MAP / bad at line 2 column 1",
+            "event list is not a stream at event 11",
+        ),
+        (
+            "-STR",
+            "event list is not a stream at event 12",
+            "+MAP; =VAL :f; =VAL :p; =VAL :s; =ALI 2; =VAL :t; =VAL :r; -MAP",
+        ),
+    ] {
+        text.push_str(next)?;
         assert!(rt;
-            shows(rt.alloc(), text, true, faulted)?,
-            "{text} with a fault"
+            shows(rt.alloc(), text.as_str(), faultless)?,
+            "{text} with no fault"
         );
+        text.push_str("; ")?;
+        let with_fault = format!(in rt.alloc(); "{text}{FAULT}")?;
         assert!(rt;
-            shows(rt.alloc(), text, false, faultless)?,
-            "{text} with none"
+            shows(rt.alloc(), with_fault.as_str(), faulted)?,
+            "{with_fault}"
         );
     }
     Ok(())
@@ -134,7 +269,7 @@ type Row = (&'static [u64], &'static [usize]);
 
 // Whether the documents of a text begin as these.
 fn begins_as(alloc: Global, text: &str, rows: &[Row]) -> Result<bool, Fail> {
-    let mut loader = load(alloc, events(alloc, text.as_bytes())?, false)?;
+    let mut loader = load(alloc, events(alloc, text)?, None)?;
     let mut same = true;
     for (marks, ends) in rows {
         same = same && next_is(&mut loader, marks, ends);
@@ -142,17 +277,24 @@ fn begins_as(alloc: Global, text: &str, rows: &[Row]) -> Result<bool, Fail> {
     Ok(same)
 }
 
+// Two documents.
+const TWO: &str =
+    "+STR; +DOC; =VAL :a; -DOC; +DOC; +SEQ; +MAP; =VAL :b; =VAL :c; -MAP; +SEQ; =VAL :d; -SEQ; -SEQ; -DOC; -STR";
+
 #[test]
 fn marks_and_ends(rt: HostRuntime) -> Result<(), Fail> {
     let empty: Row = (&[1], &[0]);
-    assert!(rt; begins_as(rt.alloc(), "SE", &[empty])?, "the empty stream");
+    assert!(rt;
+        begins_as(rt.alloc(), "+STR; -STR", &[empty])?,
+        "the empty stream"
+    );
     let first: Row = (&[2], &[0]);
     let second: Row = (
         &[5, 6, 7, 8, 9, 10, 11, 12, 13],
         &[8, 4, 2, 3, 4, 7, 6, 7, 8],
     );
     assert!(rt;
-        begins_as(rt.alloc(), "S(a)([{bc}[d]])E", &[first, second])?,
+        begins_as(rt.alloc(), TWO, &[first, second])?,
         "two documents"
     );
     Ok(())

@@ -1,9 +1,15 @@
 //! Inputs that are deep or wide.
-use crate::loader::events::{load, mark};
+use crate::lines::fault;
+use crate::loader::documents::load;
 use std::alloc::{AllocError, Global};
 use std::test::Fail;
 use yaml_base::{Anchor, Cause, Error, Event, Mark, SequenceStart};
 use yaml_read::{DocEvent, Document, Loader};
+
+// The mark of an event that is made a great many times.
+fn mark(number: u64) -> Mark {
+    Mark::new(number, 0, 0).unwrap()
+}
 
 // The event of a sequence's start.
 fn sequence(anchor: Option<Anchor>) -> Event<'static> {
@@ -58,7 +64,7 @@ fn next_is_cut_off(loader: &mut Loader<'_>, count: usize) -> bool {
 
 // Whether the events are refused with this place.
 fn is_wrong_at(alloc: Global, events: Vec<(Event<'_>, Mark)>, place: usize) -> bool {
-    match load(alloc, events, false) {
+    match load(alloc, events, None) {
         Ok(_) => false,
         Err(error) => is_no_stream(&error, place),
     }
@@ -75,7 +81,7 @@ fn is_no_stream(error: &Error, place: usize) -> bool {
 #[test]
 fn deep_starts(rt: HostRuntime) -> Result<(), Fail> {
     let events = starts(rt.alloc(), 1_000_000)?;
-    let mut loader = load(rt.alloc(), events, true)?;
+    let mut loader = load(rt.alloc(), events, fault(rt.alloc())?)?;
     assert!(rt; next_is_cut_off(&mut loader, 1_000_000));
     assert_eq!(rt; next_length(&mut loader), None);
     let unended = starts(rt.alloc(), 1_000_000)?;
@@ -150,7 +156,11 @@ fn next_ends_with_alias(loader: &mut Loader<'_>, count: usize, target: usize) ->
 #[test]
 fn many_anchors(rt: HostRuntime) -> Result<(), Fail> {
     for falling in [false, true] {
-        let mut loader = load(rt.alloc(), anchored(rt.alloc(), 100_000, falling)?, true)?;
+        let mut loader = load(
+            rt.alloc(),
+            anchored(rt.alloc(), 100_000, falling)?,
+            fault(rt.alloc())?,
+        )?;
         assert!(rt;
             next_ends_with_alias(&mut loader, 300_001, 299_998),
             "falling: {falling}"
@@ -182,7 +192,7 @@ fn documents(alloc: Global, count: u32) -> Result<Vec<(Event<'static>, Mark)>, A
 
 #[test]
 fn many_documents(rt: HostRuntime) -> Result<(), Fail> {
-    let mut loader = load(rt.alloc(), documents(rt.alloc(), 100_000)?, false)?;
+    let mut loader = load(rt.alloc(), documents(rt.alloc(), 100_000)?, None)?;
     for number in 0..100_000 {
         assert_eq!(rt; next_length(&mut loader), Some(2), "{number}");
     }

@@ -8,9 +8,9 @@ use yaml_shape::{
     tuple_variant, tuple_variant_with,
 };
 
-// A shape without a name, and what is expected of it.
-fn plain(number: u32) -> (Shape, &'static str) {
-    match number {
+// A shape without a name, and what is expected of it, or nothing behind the last row.
+fn plain(number: u32) -> Option<(Shape, &'static str)> {
+    Some(match number {
         0 => (Shape::Any, "any YAML value"),
         1 => (Shape::IgnoredAny, "anything at all"),
         2 => (Shape::Bool, "a boolean"),
@@ -33,14 +33,15 @@ fn plain(number: u32) -> (Shape, &'static str) {
         19 => (Shape::Option(ShapeId(0)), "option"),
         20 => (Shape::Seq(ShapeId(0)), "a sequence"),
         21 => (Shape::Map(ShapeId(0), ShapeId(0)), "a map"),
-        _ => (Shape::Unit, "unit"),
-    }
+        22 => (Shape::Unit, "unit"),
+        _ => return None,
+    })
 }
 
-// A shape with names or parts, and what is expected of it.
-fn named(alloc: Global, number: u32) -> Result<(Shape, &'static str), AllocError> {
+// A shape with names or parts, and what is expected of it, or nothing behind the last row.
+fn named(alloc: Global, number: u32) -> Result<Option<(Shape, &'static str)>, AllocError> {
     let one = ShapeId(0);
-    Ok(match number {
+    Ok(Some(match number {
         0 => (
             Shape::UnitStruct {
                 name: name(alloc, "N")?,
@@ -75,8 +76,9 @@ fn named(alloc: Global, number: u32) -> Result<(Shape, &'static str), AllocError
             },
             "struct N",
         ),
-        _ => (units(alloc, &["A"])?, "enum E"),
-    })
+        8 => (units(alloc, &["A"])?, "enum E"),
+        _ => return Ok(None),
+    }))
 }
 
 // Whether there is a text, and it says this.
@@ -100,20 +102,24 @@ fn expects(alloc: Global, shape: Shape, text: &str) -> Result<bool, Fail> {
 
 #[test]
 fn texts_of_shapes(rt: HostRuntime) -> Result<(), Fail> {
-    for number in 0..23 {
-        let (shape, text) = plain(number);
+    for number in 0..u32::MAX {
+        let Some((shape, text)) = plain(number) else {
+            break;
+        };
         assert!(rt; expects(rt.alloc(), shape, text)?, "{text}");
     }
-    for number in 0..9 {
-        let (shape, text) = named(rt.alloc(), number)?;
+    for number in 0..u32::MAX {
+        let Some((shape, text)) = named(rt.alloc(), number)? else {
+            break;
+        };
         assert!(rt; expects(rt.alloc(), shape, text)?, "{text}");
     }
     Ok(())
 }
 
-// A text with a number of elements or the name of a variant, and what it says.
-fn counted(alloc: Global, number: u32) -> (yaml_base::Result<String>, &'static str) {
-    match number {
+// A text with a number of elements or the name of a variant, and what it says, or nothing behind the last row.
+fn counted(alloc: Global, number: u32) -> Option<(yaml_base::Result<String>, &'static str)> {
+    Some(match number {
         0 => (sequence_of(alloc, 1), "sequence of 1 element"),
         1 => (sequence_of(alloc, 2), "sequence of 2 elements"),
         2 => (
@@ -137,14 +143,17 @@ fn counted(alloc: Global, number: u32) -> (yaml_base::Result<String>, &'static s
             tuple_variant_with(alloc, "E", "V", 3),
             "tuple variant E::V with 3 elements",
         ),
-        _ => (struct_variant(alloc, "E", "V"), "struct variant E::V"),
-    }
+        8 => (struct_variant(alloc, "E", "V"), "struct variant E::V"),
+        _ => return None,
+    })
 }
 
 #[test]
 fn texts_of_numbers_of_elements(rt: HostRuntime) -> Result<(), Fail> {
-    for number in 0..9 {
-        let (text, expected) = counted(rt.alloc(), number);
+    for number in 0..u32::MAX {
+        let Some((text, expected)) = counted(rt.alloc(), number) else {
+            break;
+        };
         assert!(rt; says(text, expected), "{expected}");
     }
     assert_eq!(rt;

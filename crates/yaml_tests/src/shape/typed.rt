@@ -110,9 +110,12 @@ fn at(alloc: Global, place: usize, content: Data<'static>) -> Result<Data<'stati
     Ok(Data::Variant(place, Box::new(alloc, content)?))
 }
 
+// A shape's number, data, and whether the data is of the shape. Each function of rows answers none behind its last one.
+type Row = (u32, Data<'static>, bool);
+
 // Data of one part at most, with a shape, and whether the data is of the shape.
-fn leaf(alloc: Global, number: u32) -> Result<(u32, Data<'static>, bool), AllocError> {
-    Ok(match number {
+fn leaf(alloc: Global, number: u32) -> Result<Option<Row>, AllocError> {
+    Ok(Some(match number {
         0 => (0, Data::Any(Value::Null), true),
         1 => (2, Data::Any(Value::Null), false),
         2 => (1, Data::Signed(-128), true),
@@ -128,13 +131,14 @@ fn leaf(alloc: Global, number: u32) -> Result<(u32, Data<'static>, bool), AllocE
         12 => (4, Data::None, true),
         13 => (1, Data::None, false),
         14 => (99, Data::Unit, false),
-        _ => (2, Data::Str(Text::Borrowed("lent")), true),
-    })
+        15 => (2, Data::Str(Text::Borrowed("lent")), true),
+        _ => return Ok(None),
+    }))
 }
 
 // A shape with parts, data, and whether the data is of the shape.
-fn node(alloc: Global, number: u32) -> Result<(u32, Data<'static>, bool), AllocError> {
-    Ok(match number {
+fn node(alloc: Global, number: u32) -> Result<Option<Row>, AllocError> {
+    Ok(Some(match number {
         0 => (4, Data::Some(Box::new(alloc, Data::Signed(1))?), true),
         1 => (4, Data::Some(Box::new(alloc, Data::Signed(128))?), false),
         2 => (5, Data::Newtype(Box::new(alloc, text(alloc)?)?), true),
@@ -169,13 +173,14 @@ fn node(alloc: Global, number: u32) -> Result<(u32, Data<'static>, bool), AllocE
         ),
         10 => (9, Data::Struct(items(alloc, 2)?), true),
         11 => (9, Data::Struct(items(alloc, 1)?), false),
-        _ => (9, Data::Tuple(items(alloc, 2)?), false),
-    })
+        12 => (9, Data::Tuple(items(alloc, 2)?), false),
+        _ => return Ok(None),
+    }))
 }
 
-// A shape, data with one part that is not of its shape or with one part too many, and that the data is not of the shape.
-fn misfit(alloc: Global, number: u32) -> Result<(u32, Data<'static>, bool), AllocError> {
-    Ok(match number {
+// A shape, and data with one part that is not of its shape, or with one part too many.
+fn misfit(alloc: Global, number: u32) -> Result<Option<Row>, AllocError> {
+    Ok(Some(match number {
         0 => (
             6,
             Data::Seq(vec![in alloc; Data::Signed(1), Data::Signed(128)]?),
@@ -187,13 +192,14 @@ fn misfit(alloc: Global, number: u32) -> Result<(u32, Data<'static>, bool), Allo
             false,
         ),
         2 => (9, Data::Struct(items(alloc, 3)?), false),
-        _ => (11, Data::Some(Box::new(alloc, Data::Signed(1))?), false),
-    })
+        3 => (11, Data::Some(Box::new(alloc, Data::Signed(1))?), false),
+        _ => return Ok(None),
+    }))
 }
 
 // A variant, and whether it is one of the enum.
-fn variant(alloc: Global, number: u32) -> Result<(u32, Data<'static>, bool), AllocError> {
-    Ok(match number {
+fn variant(alloc: Global, number: u32) -> Result<Option<Row>, AllocError> {
+    Ok(Some(match number {
         0 => (10, at(alloc, 0, Data::Unit)?, true),
         1 => (10, at(alloc, 0, Data::Signed(1))?, false),
         2 => (10, at(alloc, 1, Data::Signed(1))?, true),
@@ -204,13 +210,14 @@ fn variant(alloc: Global, number: u32) -> Result<(u32, Data<'static>, bool), All
         7 => (10, at(alloc, 3, Data::Struct(items(alloc, 2)?))?, false),
         8 => (10, at(alloc, 4, Data::Struct(items(alloc, 1)?))?, true),
         9 => (10, at(alloc, 4, Data::Tuple(items(alloc, 1)?))?, false),
-        _ => (10, at(alloc, 5, Data::Unit)?, false),
-    })
+        10 => (10, at(alloc, 5, Data::Unit)?, false),
+        _ => return Ok(None),
+    }))
 }
 
 // An integer at an end of its shape, or just past one.
-fn integer(number: u32) -> (u32, Data<'static>, bool) {
-    match number {
+fn integer(number: u32) -> Option<Row> {
+    Some(match number {
         0 => (2, Data::Signed(-32_768), true),
         1 => (2, Data::Signed(32_768), false),
         2 => (3, Data::Signed(2_147_483_647), true),
@@ -228,13 +235,14 @@ fn integer(number: u32) -> (u32, Data<'static>, bool) {
         14 => (9, Data::Unsigned(18_446_744_073_709_551_616), false),
         15 => (10, Data::Unsigned(18_446_744_073_709_551_615), true),
         16 => (10, Data::Unsigned(18_446_744_073_709_551_616), false),
-        _ => (11, Data::Signed(0), false),
-    }
+        17 => (11, Data::Signed(0), false),
+        _ => return None,
+    })
 }
 
 // One of the other shapes, data, and whether the data is of the shape.
-fn other(alloc: Global, number: u32) -> Result<(u32, Data<'static>, bool), AllocError> {
-    Ok(match number {
+fn other(alloc: Global, number: u32) -> Result<Option<Row>, AllocError> {
+    Ok(Some(match number {
         0 => (0, Data::Bool(true), true),
         1 => (0, Data::Signed(1), false),
         2 => (1, Data::Char('t'), true),
@@ -249,13 +257,14 @@ fn other(alloc: Global, number: u32) -> Result<(u32, Data<'static>, bool), Alloc
         11 => (15, Data::Struct(items(alloc, 0)?), false),
         12 => (18, Data::Ignored, true),
         13 => (18, Data::Unit, false),
-        _ => (19, Data::Unit, false),
-    })
+        14 => (19, Data::Unit, false),
+        _ => return Ok(None),
+    }))
 }
 
 // Data of structs, and data one part short.
-fn parted(alloc: Global, number: u32) -> Result<(u32, Data<'static>, bool), AllocError> {
-    Ok(match number {
+fn parted(alloc: Global, number: u32) -> Result<Option<Row>, AllocError> {
+    Ok(Some(match number {
         0 => (
             16,
             Data::Tuple(vec![in alloc; Data::Bool(true), Data::Signed(1)]?),
@@ -263,8 +272,9 @@ fn parted(alloc: Global, number: u32) -> Result<(u32, Data<'static>, bool), Allo
         ),
         1 => (16, Data::Tuple(vec![in alloc; Data::Bool(true)]?), false),
         2 => (17, Data::Struct(items(alloc, 2)?), true),
-        _ => (17, Data::Struct(items(alloc, 1)?), false),
-    })
+        3 => (17, Data::Struct(items(alloc, 1)?), false),
+        _ => return Ok(None),
+    }))
 }
 
 // Whether the data is of the shape with this number.
@@ -280,36 +290,36 @@ fn is_of(schema: &Schema, id: u32, data: &Data) -> bool {
 }
 
 // Whether a row is right that says whether data is of a shape.
-fn is_right(schema: &Schema, row: (u32, Data<'static>, bool)) -> bool {
+fn is_right(schema: &Schema, row: Row) -> bool {
     is_of(schema, row.0, &row.1) == row.2
 }
 
 #[test]
 fn data_of_shapes(rt: HostRuntime) -> Result<(), Fail> {
     let schema = Schema::new(rt.alloc(), shapes(rt.alloc())?)?;
-    for number in 0..16 {
-        assert!(rt;
-            is_right(&schema, leaf(rt.alloc(), number)?),
-            "leaf {number}"
-        );
+    for number in 0..u32::MAX {
+        let Some(row) = leaf(rt.alloc(), number)? else {
+            break;
+        };
+        assert!(rt; is_right(&schema, row), "leaf {number}");
     }
-    for number in 0..13 {
-        assert!(rt;
-            is_right(&schema, node(rt.alloc(), number)?),
-            "node {number}"
-        );
+    for number in 0..u32::MAX {
+        let Some(row) = node(rt.alloc(), number)? else {
+            break;
+        };
+        assert!(rt; is_right(&schema, row), "node {number}");
     }
-    for number in 0..4 {
-        assert!(rt;
-            is_right(&schema, misfit(rt.alloc(), number)?),
-            "misfit {number}"
-        );
+    for number in 0..u32::MAX {
+        let Some(row) = misfit(rt.alloc(), number)? else {
+            break;
+        };
+        assert!(rt; is_right(&schema, row), "misfit {number}");
     }
-    for number in 0..11 {
-        assert!(rt;
-            is_right(&schema, variant(rt.alloc(), number)?),
-            "variant {number}"
-        );
+    for number in 0..u32::MAX {
+        let Some(row) = variant(rt.alloc(), number)? else {
+            break;
+        };
+        assert!(rt; is_right(&schema, row), "variant {number}");
     }
     Ok(())
 }
@@ -317,20 +327,23 @@ fn data_of_shapes(rt: HostRuntime) -> Result<(), Fail> {
 #[test]
 fn data_of_further_shapes(rt: HostRuntime) -> Result<(), Fail> {
     let schema = Schema::new(rt.alloc(), further_shapes(rt.alloc())?)?;
-    for number in 0..18 {
-        assert!(rt; is_right(&schema, integer(number)), "integer {number}");
+    for number in 0..u32::MAX {
+        let Some(row) = integer(number) else {
+            break;
+        };
+        assert!(rt; is_right(&schema, row), "integer {number}");
     }
-    for number in 0..15 {
-        assert!(rt;
-            is_right(&schema, other(rt.alloc(), number)?),
-            "other {number}"
-        );
+    for number in 0..u32::MAX {
+        let Some(row) = other(rt.alloc(), number)? else {
+            break;
+        };
+        assert!(rt; is_right(&schema, row), "other {number}");
     }
-    for number in 0..4 {
-        assert!(rt;
-            is_right(&schema, parted(rt.alloc(), number)?),
-            "parted {number}"
-        );
+    for number in 0..u32::MAX {
+        let Some(row) = parted(rt.alloc(), number)? else {
+            break;
+        };
+        assert!(rt; is_right(&schema, row), "parted {number}");
     }
     Ok(())
 }

@@ -2,13 +2,12 @@
 
 ghost use Rattle.std.specs.Prelude.{◌<◌, length};
 
-use super::events::{at, schema_of};
-use super::letters::events;
+use super::events::schema_of;
 use super::reading::{next_of, reading_of, stream_of, write_reading};
+use crate::lines::{BAD, FAULT, input};
 use serde_yaml::Deserializer;
 use std::alloc::{AllocError, Global};
 use std::test::Fail;
-use yaml_base::{FaultKind, ParserFault, Result};
 use yaml_shape::{Schema, Shape, ShapeId};
 
 // The shapes of the tests, by their numbers.
@@ -24,7 +23,7 @@ const LETTER: ShapeId = ShapeId(4);
 
 const BOOLEAN: ShapeId = ShapeId(5);
 
-fn schema(alloc: Global) -> std::result::Result<Schema, Fail> {
+fn schema(alloc: Global) -> Result<Schema, Fail> {
     let shapes = vec![in alloc;
         Shape::I64,
         Shape::Str,
@@ -36,93 +35,102 @@ fn schema(alloc: Global) -> std::result::Result<Schema, Fail> {
     schema_of(alloc, shapes)
 }
 
-// The fault of a parser that missed the end of a sequence.
-fn unfinished(alloc: Global) -> std::result::Result<ParserFault, AllocError> {
-    let problem = String::from_str(alloc, "did not find expected ',' or ']'")?;
-    let context = String::from_str(alloc, "while parsing a flow sequence")?;
-    Ok(ParserFault::new(
-        FaultKind::Parser,
-        problem,
-        0,
-        at(1, 0),
-        Some(context),
-        at(0, 0),
-    ))
-}
-
-// The message of that fault.
-const UNFINISHED: &str =
-    "did not find expected ',' or ']' at line 2 column 1, while parsing a flow sequence";
-
 // The message of a stream that is not just one document.
 const MORE: &str = "deserializing from YAML containing more than one document is not supported";
 
-// A stream of the events of a text, with that fault where it is wanted.
-fn stream_of_text(alloc: Global, text: &str, faulted: bool) -> Result<Deserializer<'static>> {
-    let fault = if faulted {
-        Some(unfinished(alloc)?)
-    } else {
-        None
-    };
-    stream_of(alloc, events(alloc, text)?, fault)
+// The stream of the lines of a text.
+fn stream_of_text(alloc: Global, text: &str) -> Result<Deserializer<'static>, Fail> {
+    let input = input(alloc, text)?;
+    Ok(stream_of(alloc, input.events, input.fault)?)
 }
 
 // What the stream of a text reads as under a shape.
-fn reading_of_text(
-    alloc: Global,
-    text: &str,
-    faulted: bool,
-    schema: &Schema,
-    id: ShapeId,
-) -> Result<Vec<u8>>
+fn reading_of_text(alloc: Global, text: &str, schema: &Schema, id: ShapeId) -> Result<String, Fail>
     requires { id.0 < length schema.now }
 {
-    let stream = stream_of_text(alloc, text, faulted)?;
+    let stream = stream_of_text(alloc, text)?;
     Ok(reading_of(alloc, stream, schema, id)?)
 }
 
 #[test]
-fn the_first_document_is_read_alone(rt: HostRuntime) -> std::result::Result<(), Fail> {
+fn the_first_document_is_read_alone(rt: HostRuntime) -> Result<(), Fail> {
     let alloc = rt.alloc();
     let schema = schema(alloc)?;
-    for &(text, faulted, id, expected) in &[
-        // One document, cut at each of its events.
-        ("", true, MAP, UNFINISHED),
-        ("S", true, MAP, UNFINISHED),
-        ("S(", true, MAP, UNFINISHED),
-        ("S({", true, MAP, UNFINISHED),
-        ("S({f", true, MAP, UNFINISHED),
-        ("S({f&a1", true, MAP, UNFINISHED),
-        ("S({f&a1s", true, MAP, UNFINISHED),
-        ("S({f&a1s*a", true, MAP, UNFINISHED),
-        ("S({f&a1s*at", true, MAP, UNFINISHED),
-        ("S({f&a1s*at3", true, MAP, UNFINISHED),
-        ("S({f&a1s*at3}", true, MAP, UNFINISHED),
-        ("S({f&a1s*at3})", true, MAP, MORE),
-        ("S({f&a1s*at3})E", false, MAP, "{f1s1t3}"),
-        ("S([1", true, LIST, UNFINISHED),
-        // None, and several.
-        ("SE", false, LIST, "[]"),
-        ("SE", false, INTEGER, "EOF while parsing a value"),
-        ("SE", false, BOOLEAN, "EOF while parsing a value"),
-        ("SE", false, TEXT, "EOF while parsing a value"),
-        ("S(a)E", false, LETTER, "not built yet"),
-        ("S(0)(1)E", false, INTEGER, MORE),
-        // A fault of reading comes first, then what cut the document off, and then that others follow.
-        ("S([x", true, LIST, "not a value of its shape"),
-        ("S([x*y])(1)E", false, LIST, "not a value of its shape"),
+    for &(text, id, expected) in &[
         (
-            "S([*y])(1)E",
-            false,
+            "+STR; +DOC; +SEQ; =VAL :1; 10:1:0 !ERR PARSER 0 bad",
+            LIST,
+            BAD,
+        ),
+        // None, and several.
+        ("+STR; -STR", LIST, "[]"),
+        ("+STR; -STR", INTEGER, "EOF while parsing a value"),
+        ("+STR; -STR", BOOLEAN, "EOF while parsing a value"),
+        ("+STR; -STR", TEXT, "EOF while parsing a value"),
+        ("+STR; +DOC; =VAL :a; -DOC; -STR", LETTER, "\"a\""),
+        (
+            "+STR; +DOC; =VAL :0; -DOC; +DOC; =VAL :1; -DOC; -STR",
+            INTEGER,
+            MORE,
+        ),
+        // A fault of reading comes first, then what cut the document off, and then that others follow.
+        (
+            "+STR; +DOC; +SEQ; =VAL :x; 10:1:0 !ERR PARSER 0 bad",
+            LIST,
+            ".[0]: invalid type: string \"x\", expected i64 at line 1 column 2",
+        ),
+        (
+            "+STR; +DOC; +SEQ; =VAL :x; =ALI *y; -SEQ; -DOC; +DOC; =VAL :1; -DOC; -STR",
+            LIST,
+            ".[0]: invalid type: string \"x\", expected i64 at line 1 column 2",
+        ),
+        (
+            "+STR; +DOC; +SEQ; =ALI *y; -SEQ; -DOC; +DOC; =VAL :1; -DOC; -STR",
             LIST,
             "unknown anchor at line 1 column 2",
         ),
-        ("S(x)(1)E", false, INTEGER, "not a value of its shape"),
+        (
+            "+STR; +DOC; =VAL :x; -DOC; +DOC; =VAL :1; -DOC; -STR",
+            INTEGER,
+            "invalid type: string \"x\", expected i64",
+        ),
     ] {
         assert!(rt; schema.has(id));
-        let out = reading_of_text(alloc, text, faulted, &schema, id)?;
-        assert!(rt; out.as_slice() == expected.as_bytes(), "{text}");
+        let out = reading_of_text(alloc, text, &schema, id)?;
+        assert!(rt; out.as_str() == expected, "{text}");
     }
+    Ok(())
+}
+
+// A document cut in front of each of its events, and its stream behind the last.
+#[test]
+fn a_document_that_is_cut_is_not_read(rt: HostRuntime) -> Result<(), Fail> {
+    let alloc = rt.alloc();
+    let schema = schema(alloc)?;
+    assert!(rt; schema.has(MAP));
+    let mut text = String::new(alloc);
+    for &(next, expected) in &[
+        ("", BAD),
+        ("+STR; ", BAD),
+        ("+DOC; ", BAD),
+        ("+MAP; ", BAD),
+        ("=VAL :f; ", BAD),
+        ("=VAL &a :1; ", BAD),
+        ("=VAL :s; ", BAD),
+        ("=ALI *a; ", BAD),
+        ("=VAL :t; ", BAD),
+        ("=VAL :3; ", BAD),
+        ("-MAP; ", BAD),
+        ("-DOC; ", MORE),
+    ] {
+        text.push_str(next)?;
+        let cut = format!(in alloc; "{text}{FAULT}")?;
+        let out = reading_of_text(alloc, cut.as_str(), &schema, MAP)?;
+        assert!(rt; out.as_str() == expected, "{cut}");
+    }
+    text.push_str("-STR")?;
+    let out = reading_of_text(alloc, text.as_str(), &schema, MAP)?;
+    assert!(rt; out.as_str() == "{\"f\": 1, \"s\": 1, \"t\": 3}", "{text}");
     Ok(())
 }
 
@@ -132,13 +140,13 @@ fn write_document(
     document: Option<Deserializer<'_>>,
     schema: &Schema,
     id: ShapeId,
-    out: &mut Vec<u8>,
-) -> std::result::Result<(), AllocError>
+    out: &mut String,
+) -> Result<(), AllocError>
     requires { id.0 < length schema.now }
 {
     match document {
         Some(document) => write_reading(alloc, document, schema, id, out),
-        None => Ok(out.push(b'-')?),
+        None => out.push_str("none"),
     }
 }
 
@@ -148,8 +156,8 @@ fn write_next(
     stream: &mut Deserializer<'_>,
     schema: &Schema,
     id: ShapeId,
-    out: &mut Vec<u8>,
-) -> std::result::Result<(), AllocError>
+    out: &mut String,
+) -> Result<(), AllocError>
     requires { id.0 < length schema.now }
 {
     write_document(alloc, next_of(stream), schema, id, out)
@@ -161,12 +169,14 @@ fn write_four(
     stream: &mut Deserializer<'_>,
     schema: &Schema,
     shapes: &[ShapeId; 4],
-    out: &mut Vec<u8>,
-) -> std::result::Result<(), AllocError> {
+    out: &mut String,
+) -> Result<(), AllocError> {
+    let mut between = "";
     for &id in shapes {
         if schema.has(id) {
+            out.push_str(between)?;
             write_next(alloc, stream, schema, id, out)?;
-            out.push(b';')?;
+            between = " / ";
         }
     }
     Ok(())
@@ -176,74 +186,74 @@ fn write_four(
 fn four_documents(
     alloc: Global,
     text: &str,
-    faulted: bool,
     schema: &Schema,
     shapes: &[ShapeId; 4],
-) -> Result<Vec<u8>> {
-    let mut stream = stream_of_text(alloc, text, faulted)?;
-    let mut out = Vec::new(alloc);
+) -> Result<String, Fail> {
+    let mut stream = stream_of_text(alloc, text)?;
+    let mut out = String::new(alloc);
     write_four(alloc, &mut stream, schema, shapes, &mut out)?;
     Ok(out)
 }
 
 #[test]
-fn documents_come_one_by_one(rt: HostRuntime) -> std::result::Result<(), Fail> {
+fn documents_come_one_by_one(rt: HostRuntime) -> Result<(), Fail> {
     let alloc = rt.alloc();
     let schema = schema(alloc)?;
-    for (text, faulted, shapes, expected) in &[
+    for (text, shapes, expected) in &[
         (
-            "S({kG})({jF})E",
-            false,
+            "+STR; +DOC; +MAP; =VAL :k; =VAL :107; -MAP; -DOC; +DOC; +MAP; =VAL :j; =VAL :106; -MAP; -DOC; -STR",
             [MAP, MAP, MAP, MAP],
-            "{kG};{jF};-;-;",
+            "{\"k\": 107} / {\"j\": 106} / none / none",
         ),
         (
-            "S(0)(1)E",
-            false,
+            "+STR; +DOC; =VAL :0; -DOC; +DOC; =VAL :1; -DOC; -STR",
             [INTEGER, INTEGER, LIST, LIST],
-            "0;1;-;-;",
-        ),
-        ("SE", false, [LIST, LIST, LIST, LIST], "[];-;-;-;"),
-        (
-            "S([*x])(7)E",
-            false,
-            [LIST, INTEGER, INTEGER, INTEGER],
-            "unknown anchor at line 1 column 2;7;-;-;",
+            "0 / 1 / none / none",
         ),
         (
-            "S([*x",
-            true,
+            "+STR; -STR",
             [LIST, LIST, LIST, LIST],
-            "unknown anchor at line 1 column 2;-;-;-;",
+            "[] / none / none / none",
         ),
         (
-            "S(0)",
-            true,
+            "+STR; +DOC; +SEQ; =ALI *x; -SEQ; -DOC; +DOC; =VAL :7; -DOC; -STR",
+            [LIST, INTEGER, INTEGER, INTEGER],
+            "unknown anchor at line 1 column 2 / 7 / none / none",
+        ),
+        (
+            "+STR; +DOC; +SEQ; =ALI *x; 10:1:0 !ERR PARSER 0 bad",
+            [LIST, LIST, LIST, LIST],
+            "unknown anchor at line 1 column 2 / none / none / none",
+        ),
+        (
+            "+STR; +DOC; =VAL :0; -DOC; 10:1:0 !ERR PARSER 0 bad",
             [INTEGER, INTEGER, INTEGER, INTEGER],
-            "0;did not find expected ',' or ']' at line 2 column 1, while parsing a flow sequence;-;-;",
+            "0 / bad at line 2 column 1 / none / none",
         ),
         (
-            "S(&a1)([&a2*a])(*a)E",
-            false,
+            "+STR; +DOC; =VAL &a :1; -DOC; +DOC; +SEQ; =VAL &a :2; =ALI *a; -SEQ; -DOC; +DOC; =ALI *a; -DOC; -STR",
             [INTEGER, LIST, INTEGER, INTEGER],
-            "1;[22];unknown anchor at line 1 column 10;-;",
+            "1 / [2, 2] / unknown anchor at line 1 column 10 / none",
         ),
         (
-            "S(1)([x",
-            true,
+            "+STR; +DOC; =VAL :1; -DOC; +DOC; +SEQ; =VAL :x; 10:1:0 !ERR PARSER 0 bad",
             [INTEGER, LIST, INTEGER, INTEGER],
-            "1;not a value of its shape;-;-;",
+            "1 / .[0]: invalid type: string \"x\", expected i64 at line 1 column 5 / none / none",
         ),
         // The last node so anchored counts, and never a later one.
         (
-            "S([&a1&a2&b3*a])([&c1&c2*c&c3])E",
-            false,
+            "+STR; +DOC; +SEQ; =VAL &a :1; =VAL &a :2; =VAL &b :3; =ALI *a; -SEQ; -DOC; -STR",
             [LIST, LIST, LIST, LIST],
-            "[1232];[1223];-;-;",
+            "[1, 2, 3, 2] / none / none / none",
+        ),
+        (
+            "+STR; +DOC; +SEQ; =VAL &c :1; =VAL &c :2; =ALI *c; =VAL &c :3; -SEQ; -DOC; -STR",
+            [LIST, LIST, LIST, LIST],
+            "[1, 2, 2, 3] / none / none / none",
         ),
     ] {
-        let out = four_documents(alloc, text, *faulted, &schema, shapes)?;
-        assert!(rt; out.as_slice() == expected.as_bytes(), "{text}");
+        let out = four_documents(alloc, text, &schema, shapes)?;
+        assert!(rt; out.as_str() == *expected, "{text}");
     }
     Ok(())
 }
@@ -279,30 +289,33 @@ fn write_last(
     document: Deserializer<'_>,
     schema: &Schema,
     id: ShapeId,
-    out: &mut Vec<u8>,
-) -> std::result::Result<(), AllocError>
+    out: &mut String,
+) -> Result<(), AllocError>
     requires { id.0 < length schema.now }
 {
     let mut document = document;
     if is_at_its_end(&mut document) {
         write_reading(alloc, document, schema, id, out)
     } else {
-        Ok(out.push(b'+')?)
+        out.push_str("one more")
     }
 }
 
 #[test]
-fn a_document_outlives_its_stream(rt: HostRuntime) -> std::result::Result<(), Fail> {
+fn a_document_outlives_its_stream(rt: HostRuntime) -> Result<(), Fail> {
     let alloc = rt.alloc();
     let schema = schema(alloc)?;
     assert!(rt; schema.has(LIST));
-    let stream = stream_of_text(alloc, "S(&a1)([&a2*a])(*a)E", false)?;
-    let mut out = Vec::new(alloc);
+    let stream = stream_of_text(
+        alloc,
+        "+STR; +DOC; =VAL &a :1; -DOC; +DOC; +SEQ; =VAL &a :2; =ALI *a; -SEQ; -DOC; +DOC; =ALI *a; -DOC; -STR",
+    )?;
+    let mut out = String::new(alloc);
     match second_of(stream) {
         Some(second) => write_last(alloc, second, &schema, LIST, &mut out)?,
-        None => out.push(b'-')?,
+        None => out.push_str("none")?,
     }
-    assert!(rt; out.as_slice() == b"[22]".as_slice());
+    assert!(rt; out.as_str() == "[2, 2]");
     Ok(())
 }
 
@@ -312,22 +325,26 @@ fn reading_behind_the_first(
     text: &str,
     schema: &Schema,
     id: ShapeId,
-) -> Result<Vec<u8>>
+) -> Result<String, Fail>
     requires { id.0 < length schema.now }
 {
-    let mut stream = stream_of_text(alloc, text, false)?;
+    let mut stream = stream_of_text(alloc, text)?;
     skip(&mut stream);
     Ok(reading_of(alloc, stream, schema, id)?)
 }
 
 #[test]
-fn a_stream_is_not_read_once_gone_through(rt: HostRuntime) -> std::result::Result<(), Fail> {
+fn a_stream_is_not_read_once_gone_through(rt: HostRuntime) -> Result<(), Fail> {
     let alloc = rt.alloc();
     let schema = schema(alloc)?;
     assert!(rt; schema.has(INTEGER));
-    for &text in &["SE", "S(1)E", "S(1)(2)E"] {
+    for &text in &[
+        "+STR; -STR",
+        "+STR; +DOC; =VAL :1; -DOC; -STR",
+        "+STR; +DOC; =VAL :1; -DOC; +DOC; =VAL :2; -DOC; -STR",
+    ] {
         let out = reading_behind_the_first(alloc, text, &schema, INTEGER)?;
-        assert!(rt; out.as_slice() == MORE.as_bytes(), "{text}");
+        assert!(rt; out.as_str() == MORE, "{text}");
     }
     Ok(())
 }

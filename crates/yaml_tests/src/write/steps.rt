@@ -1,0 +1,195 @@
+//! Calls of a serializer as rows of a table.
+
+use super::shown::shown;
+use super::values::{Literal, value};
+use std::alloc::Global;
+use std::test::Fail;
+use yaml_base::Error;
+use yaml_shape::{Data, Schema, Shape, ShapeId, Typed};
+use yaml_tree::Tag;
+use yaml_write::{OpenKind, Serializer};
+
+/// One call. What is written by a shape is written by that of any value.
+#[derive(Clone, Copy)]
+pub enum Step {
+    Typed(Literal),
+    Some(Literal),
+    NewtypeStruct(Literal),
+    NewtypeVariant(&'static str, Literal),
+    Tagged(&'static str, Literal),
+    Bool(bool),
+    Char(char),
+    Str(&'static str),
+    Bytes,
+    Unit,
+    UnitStruct,
+    UnitVariant(&'static str),
+    None,
+    Open(OpenKind),
+    Element(Literal),
+    Field(Literal),
+    NamedField(&'static str, Literal),
+    Key(Literal),
+    Value(Literal),
+    Entry(Literal, Literal),
+    End,
+}
+
+// What a call answers, or that it may not be made now.
+type Answer = Option<yaml_base::Result<()>>;
+
+// The calls that have no condition, and write by a shape.
+fn typed(out: &mut Serializer, step: &Step, value: &Typed<'_, '_>) -> Answer {
+    match step {
+        Step::Typed(_) => Some(out.serialize_typed(value)),
+        Step::Some(_) => Some(out.serialize_some(value)),
+        Step::NewtypeStruct(_) => Some(out.serialize_newtype_struct("N", value)),
+        Step::NewtypeVariant(name, _) => Some(out.serialize_newtype_variant("E", 0, name, value)),
+        _ => None,
+    }
+}
+
+// The calls that ask for an open collection, and write one part by a shape. The test is `open_kind`.
+fn part(out: &mut Serializer, step: &Step, value: &Typed<'_, '_>) -> Answer {
+    match (step, out.open_kind()) {
+        (Step::Element(_), Some((OpenKind::Seq | OpenKind::Tuple, _))) => {
+            Some(out.serialize_element(value))
+        }
+        (Step::Field(_), Some((OpenKind::TupleStruct | OpenKind::TupleVariant, _))) => {
+            Some(out.serialize_field(value))
+        }
+        (Step::NamedField(key, _), Some((OpenKind::Struct | OpenKind::StructVariant, false))) => {
+            Some(out.serialize_struct_field(key, value))
+        }
+        (Step::Key(_), Some((OpenKind::Map, false))) => Some(out.serialize_key(value)),
+        (Step::Value(_), Some((OpenKind::Map, true))) => Some(out.serialize_value(value)),
+        _ => None,
+    }
+}
+
+// The calls that write one scalar.
+fn scalar(out: &mut Serializer, step: &Step) -> Answer {
+    match step {
+        Step::Bool(truth) => Some(out.serialize_bool(*truth)),
+        Step::Char(letter) => Some(out.serialize_char(*letter)),
+        Step::Str(text) => Some(out.serialize_str(text)),
+        Step::Bytes => Some(out.serialize_bytes(b"bytes".as_slice())),
+        Step::Unit => Some(out.serialize_unit()),
+        Step::UnitStruct => Some(out.serialize_unit_struct("U")),
+        Step::UnitVariant(name) => Some(out.serialize_unit_variant("E", 0, name)),
+        Step::None => Some(out.serialize_none()),
+        _ => None,
+    }
+}
+
+// Opens a collection.
+fn open(out: &mut Serializer, kind: OpenKind) -> yaml_base::Result<()> {
+    match kind {
+        OpenKind::Seq => out.serialize_seq(Some(7)),
+        OpenKind::Tuple => out.serialize_tuple(7),
+        OpenKind::TupleStruct => out.serialize_tuple_struct("T", 7),
+        OpenKind::TupleVariant => out.serialize_tuple_variant("E", 0, "V", 7),
+        OpenKind::Map => out.serialize_map(Some(1)),
+        OpenKind::Struct => out.serialize_struct("S", 7),
+        OpenKind::StructVariant => out.serialize_struct_variant("E", 0, "!V", 7),
+    }
+}
+
+// Closes the innermost collection, if it can end.
+fn end(out: &mut Serializer) -> Answer {
+    match out.open_kind() {
+        Some((_, false)) => Some(out.end()),
+        _ => None,
+    }
+}
+
+// The literal that a call writes by a shape, if there is one.
+fn literal(step: &Step) -> Option<Literal> {
+    match step {
+        Step::Typed(literal)
+        | Step::Some(literal)
+        | Step::NewtypeStruct(literal)
+        | Step::NewtypeVariant(_, literal)
+        | Step::Element(literal)
+        | Step::Field(literal)
+        | Step::NamedField(_, literal)
+        | Step::Key(literal)
+        | Step::Value(literal) => Some(*literal),
+        _ => None,
+    }
+}
+
+// A schema of the shape of any value.
+fn any(alloc: Global) -> Result<Schema, Fail> {
+    Ok(Schema::new(alloc, vec![in alloc; Shape::Any]?)?)
+}
+
+// One call that writes by a shape.
+fn write(out: &mut Serializer, step: &Step, schema: &Schema, data: &Data<'_>) -> Answer {
+    let value = Typed::new(schema, ShapeId(0), data)?;
+    match typed(out, step, &value) {
+        Some(answer) => Some(answer),
+        None => part(out, step, &value),
+    }
+}
+
+// An entry, where a key is awaited.
+fn entry(out: &mut Serializer, schema: &Schema, key: &Data<'_>, value: &Data<'_>) -> Answer {
+    let key = Typed::new(schema, ShapeId(0), key)?;
+    let value = Typed::new(schema, ShapeId(0), value)?;
+    match out.open_kind() {
+        Some((OpenKind::Map, false)) => Some(out.serialize_entry(&key, &value)),
+        _ => None,
+    }
+}
+
+// One call.
+fn make(alloc: Global, out: &mut Serializer, step: &Step) -> Result<Answer, Fail> {
+    if let Some(found) = literal(step) {
+        let data = Data::Any(value(alloc, &found)?);
+        return Ok(write(out, step, &any(alloc)?, &data));
+    }
+    match step {
+        Step::Tagged(tag, content) => {
+            let value = value(alloc, content)?;
+            let tag = Tag::new(alloc, tag)?;
+            Ok(Some(out.serialize_tagged(&tag, &value)))
+        }
+        Step::Entry(key, content) => {
+            let key = Data::Any(value(alloc, key)?);
+            let content = Data::Any(value(alloc, content)?);
+            Ok(entry(out, &any(alloc)?, &key, &content))
+        }
+        Step::Open(kind) => Ok(Some(open(out, *kind))),
+        Step::End => Ok(end(out)),
+        _ => Ok(scalar(out, step)),
+    }
+}
+
+// What is there: the events, and what is open.
+fn state(alloc: Global, out: &Serializer) -> Result<(String, Option<(OpenKind, bool)>), Fail> {
+    Ok((shown(alloc, out.events())?, out.open_kind()))
+}
+
+// Whether the fault has this text.
+fn says(alloc: Global, error: &Error, text: &str) -> Result<bool, Fail> {
+    Ok(error.to_string(alloc)?.as_str() == text)
+}
+
+/// Makes a call. It answers whether it did what is said: it was made, with success, or it was refused by a fault of this
+/// text, and then all is as before.
+pub fn does(
+    alloc: Global,
+    out: &mut Serializer,
+    step: &Step,
+    refusal: Option<&str>,
+) -> Result<bool, Fail> {
+    let before = state(alloc, out)?;
+    match (make(alloc, out, step)?, refusal) {
+        (Some(Ok(())), None) => Ok(true),
+        (Some(Err(error)), Some(text)) => {
+            Ok(says(alloc, &error, text)? && state(alloc, out)? == before)
+        }
+        _ => Ok(false),
+    }
+}
