@@ -1,0 +1,150 @@
+#!/bin/sh
+# Tries the wrong bodies crates/NAME/wrong/*.edit, of each crate or of those named: a contract has to refuse each.
+#
+#     sh wrong.sh [--jobs N] [NAME | NAME/EDIT]..
+#
+# Each edit is made in a copy of the tree over the work that earlier checks kept, and the whole crate is checked
+# there. A line an edit says how it ended; the last line counts them. Ends with status 0 only if a goal that did not
+# prove refused each edit. An edit that is not read, one that breaks types or borrows, and one that only takes away a
+# name that a proof file cites show nothing of a contract, and are told apart. `--jobs` is how many are tried side by
+# side, at first as many as there are processors, and memory for 3 GB each. Where WRONG_LOGS names a folder, the
+# output of each check is kept there.
+set -u
+export LC_ALL=C
+root=$(cd "$(dirname "$0")" && pwd)
+cd "$root" || exit 1
+
+jobs=
+if [ "${1-}" = --jobs ]; then
+    jobs=${2:?--jobs wants a number}
+    shift 2
+fi
+if [ -z "$jobs" ]; then
+    jobs=$(nproc)
+    room=$(awk '/^MemAvailable:/ { print int($2 / 3000000) }' /proc/meminfo)
+    [ "$room" -ge "$jobs" ] || jobs=$room
+    [ "$jobs" -ge 1 ] || jobs=1
+fi
+if [ $# = 0 ]; then
+    for folder in crates/*/wrong; do
+        set -- "$@" "$(basename "$(dirname "$folder")")"
+    done
+fi
+
+# kept work is linked where this folder lies on the file system of the tree, else copied; TMPDIR says where it lies
+work=$(mktemp -d)
+trap 'rm -rf "$work"' EXIT
+trap 'exit 1' HUP INT TERM
+
+# Lists the edits, and proves the crates as they stand, since a refusal of an edit says nothing of a crate that is
+# refused itself.
+for named in "$@"; do
+    name=${named%%/*}
+    found=0
+    one=${named#"$name"}
+    for edit in "crates/$name/wrong"${one:-/*}.edit; do
+        [ -e "$edit" ] || continue
+        found=1
+        printf '%s\n' "$edit" >> "$work/edits"
+    done
+    if [ "$found" = 0 ]; then
+        echo "$named: there is no such edit below wrong/"
+        exit 1
+    fi
+    if ! (cd "crates/$name" && rt check) > "$work/log" 2>&1; then
+        echo "$name: it is not proved without an edit"
+        tail -n 3 "$work/log"
+        exit 1
+    fi
+done
+
+# Copies the crate $1 to the tree $2: its files, and links to the work that is kept, which a check replaces and never
+# writes to.
+copy_crate() {
+    rm -rf "$2/crates/$1"
+    mkdir -p "$2/crates/$1"
+    for part in "crates/$1"/*; do
+        case $part in
+            */out) cp -al "$part" "$2/crates/$1/" 2> /dev/null || cp -a "$part" "$2/crates/$1/" ;;
+            *) cp -a "$part" "$2/crates/$1/" ;;
+        esac
+    done
+}
+
+# Prints how the check ended whose status is $1, whose output is the file $2, and whose edit is $3.
+verdict() {
+    awk -v status="$1" '
+        FNR == NR { if (/^file: /) edited[substr($0, 7)] = 1; next }
+        { last = $0 }
+        /^logic=not-proved/ { judged = 1 }
+        !/^(note: )?[^ ]+:[0-9]+:[0-9]+: / { next }
+        {
+            said = $0
+            sub(/^note: /, "", said)
+            place = said
+            sub(/:.*/, "", place)
+        }
+        / error\[/ { if (broken == "") broken = said }
+        /^note: .*(: it is not proved that|found no proof)/ { if (goal == "") goal = said }
+        / error: / {
+            if (first == "") first = said
+            # the prover names the declaration that it refused, unless it could not read the text; and a written
+            # answer may name what the edit took away, or stand on one that does
+            named = said ~ / error: `[^`]*`: /
+            lost = said ~ /is not in scope|has no field|has no `|is no name|was not admitted/
+            lost = lost || said ~ /\(nearest: |which was rejected/
+            if ((place in edited || place ~ /^(src|specs)\//) && (!named || lost)) { if (unread == "") unread = said }
+            else if (!lost && goal == "") goal = said
+        }
+        END {
+            if (status == 0) print "NOT REFUSED: the crate is still proved"
+            else if (broken != "") print "NOT READ: " broken
+            else if (!judged) print "NO VERDICT: " last
+            else if (unread != "") print "NOT READ: " unread
+            else if (goal != "") print "refused: " goal
+            else print "NO GOAL: " (first == "" ? last : first)
+        }' "$3" "$2" | cut -c 1-240
+}
+
+# Tries edits until none is left that no other job has taken.
+try_edits() {
+    tree=$work/tree.$1
+    mkdir "$tree"
+    cp crates.txt HANDLES "$tree/"
+    for folder in crates/*/; do
+        copy_crate "$(basename "$folder")" "$tree"
+    done
+    while IFS= read -r edit; do
+        name=$(basename "$(dirname "$(dirname "$edit")")")
+        title="$name: $(basename "$edit" .edit)"
+        mkdir "$work/$name.$(basename "$edit")" 2> /dev/null || continue
+        cd "$tree/crates/$name" || exit 1
+        if why=$(awk -f "$root/.ci/apply.awk" "$root/$edit"); then
+            rt check --jobs 1 > "$tree/log" 2>&1
+            line=$(verdict $? "$tree/log" "$root/$edit")
+        else
+            line="NOT READ: $why"
+        fi
+        cd "$root" || exit 1
+        printf '%s: %s\n' "$title" "$line" | tee -a "$work/said"
+        if [ -n "${WRONG_LOGS-}" ] && [ -e "$tree/log" ]; then
+            mv "$tree/log" "$WRONG_LOGS/$name.$(basename "$edit" .edit).log"
+        fi
+        # the next edit may be of a crate that stands on this one
+        copy_crate "$name" "$tree"
+    done < "$work/edits"
+}
+
+: > "$work/said"
+job=0
+while [ "$job" -lt "$jobs" ]; do
+    job=$((job + 1))
+    try_edits "$job" &
+done
+wait
+awk -v wanted="$(wc -l < "$work/edits")" '
+    / refused: / { refused++ }
+    END {
+        printf "wrong: %d edits, %d refused by a goal, %d not\n", wanted, refused, wanted - refused
+        exit refused != wanted
+    }' "$work/said"
