@@ -38,6 +38,7 @@ trap 'exit 1' HUP INT TERM
 
 # Lists the edits, and proves the crates as they stand, since a refusal of an edit says nothing of a crate that is
 # refused itself.
+proved=' '
 for named in "$@"; do
     name=${named%%/*}
     found=0
@@ -51,11 +52,15 @@ for named in "$@"; do
         echo "$named: there is no such edit below wrong/"
         exit 1
     fi
+    case $proved in
+        *" $name "*) continue ;;
+    esac
     if ! (cd "crates/$name" && rt check) > "$work/log" 2>&1; then
         echo "$name: it is not proved without an edit"
         tail -n 3 "$work/log"
         exit 1
     fi
+    proved="$proved$name "
 done
 
 # Copies the crate $1 to the tree $2: its files, and links to the work that is kept, which a check replaces and never

@@ -85,7 +85,7 @@ refuse "a second name that is no text" list "$(printf 'a\200')"
 
 want "data" 0 "[7]$line_feed" "$good" list
 want "a last line without its line feed" 0 "[7]$line_feed" "${good%"$line_feed"}" list
-want "a fault" 1 "fault: not a value of its shape$line_feed" "$good" map
+want "a fault" 1 "fault: invalid type: sequence, expected a map$line_feed" "$good" map
 want "no input" 1 "fault: event list is not a stream at event 0$line_feed" "" list
 want "a bad line" 2 "bad line 8$line_feed" "${good}0:0:0 +SEQX" list
 
