@@ -31,6 +31,14 @@ is_first named.I64 = refl
 is_first named.Str = refl
 is_first named.List = refl
 is_first named.Map = refl
+is_first named.Any = refl
+is_first named.Ignored = refl
+is_first named.U64 = refl
+is_first named.Option = refl
+is_first named.Pair = refl
+is_first named.Basic = refl
+is_first named.Strict = refl
+is_first named.Outer = refl
 
 module _ (limits : PlainLimits) (table : List PlainShape) (s : PlainShape) (events : List (Event × Position)) (fault : Option PlainFault) where
   -- an input that is no stream gives its refusal

@@ -1,11 +1,19 @@
 -- Lemmas of this crate.
 pub mod AnchorSearch
+pub mod AnyCode
+pub mod AnyLaws
 pub mod CharacterLaws
+pub mod CutLaws
 pub mod DocumentLaws
 pub mod DraftLaws
+pub mod EntryKeys
+pub mod FieldLaws
 pub mod FinishLaws
+pub mod FieldCode
+pub mod FoundLaws
 pub mod Gatherings
 pub mod LoadingLaws
+pub mod OfShape
 pub mod OpenEndsLaws
 pub mod PlainWalks
 pub mod ScalarShapeLaws
@@ -16,5 +24,7 @@ pub mod StreamLaws
 pub mod StreamMachineLaws
 pub mod Targets
 pub mod TextLaws
+pub mod VariantCode
+pub mod VariantLaws
 pub mod WrongPlaces
 pub mod reading

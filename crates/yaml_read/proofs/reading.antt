@@ -13,4 +13,5 @@ pub mod Complete
 pub mod Steps
 pub mod TreeLaws
 pub mod TreeWalks
+pub mod ValueExits
 pub mod Whole

@@ -1,13 +1,16 @@
 -- What contracts of this crate, and of those above it, cite.
+pub mod AnyData
 pub mod CoreTags
 pub mod DocEventView
 pub mod DocTree
 pub mod Documents
 pub mod Ends
+pub mod Fields
 pub mod Gathering
 pub mod Handing
 pub mod MarkedEvents
 pub mod Meaning
+pub mod NodeTags
 pub mod Places
 pub mod PlainDocEvent
 pub mod PlainDocument
@@ -16,6 +19,7 @@ pub mod ReadingFaults
 pub mod Reads
 pub mod Resolved
 pub mod Rows
+pub mod ScalarAny
 pub mod ScalarFound
 pub mod ScalarShapes
 pub mod ScalarSorts
@@ -23,5 +27,6 @@ pub mod Steps
 pub mod StreamLaw
 pub mod StreamMachine
 pub mod TreeReader
+pub mod Variants
 pub mod WrongPlace
 pub mod inner

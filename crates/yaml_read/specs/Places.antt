@@ -1,5 +1,6 @@
 -- Where a fault is placed: the mark of a node, and the way to it.
 use Rattle.std.specs.Prelude.{ℕ, List, ◌++◌, Bool, true, false, if◌then◌else◌, Result, Ok, Err, codes, decimal}
+use Rattle.std.specs.Option.{is_none}
 use Rattle.std.specs.Str.{is_utf8}
 use Rattle.yaml_base.specs.CausePlace.{filled}
 use Rattle.yaml_base.specs.PathText.{is_root, path_text, under}
@@ -7,8 +8,9 @@ use Rattle.yaml_base.specs.Position.{Position}
 use Rattle.yaml_base.specs.declared.error.Cause.{Cause}
 use Rattle.yaml_base.specs.declared.path.Path.{Path}
 use Rattle.yaml_shape.specs.PlainShape.{PlainShape, option_shape, newtype_shape, ignored_shape, bytes_shape}
-use Rattle.yaml_shape.specs.PlainShape.{any_shape, struct_shape, enum_shape}
-use Rattle.yaml_read.specs.PlainDocEvent.{PlainDocEvent, a_scalar}
+use Rattle.yaml_shape.specs.PlainShape.{enum_shape}
+use Rattle.yaml_read.specs.NodeTags.{untaken_name}
+use Rattle.yaml_read.specs.PlainDocEvent.{PlainDocEvent, alias_to, a_scalar}
 
 -- the way from the root to a node, as far as faults print it: whether it is empty, and its text
 pub record Way : Type 0 where
@@ -36,16 +38,20 @@ abbrev pub value_under : Way → PlainDocEvent → Way
 value_under way (a_scalar s) = named_under way (if is_utf8 s.text then s.text else codes "?")
 value_under way _ = named_under way (codes "?")
 
--- the calls that place a fault
-abbrev pub places : PlainShape → Bool
-places (option_shape content) = false
-places (newtype_shape name inner) = false
-places ignored_shape = false
-places bytes_shape = false
-places any_shape = false
-places (struct_shape strict name fields) = false
-places (enum_shape name variants) = false
-places _ = true
+-- where the text of a key stands that begins with the event at a place: an alias leads to its target
+abbrev pub text_place : PlainDocEvent → (place : ℕ) → ℕ
+text_place (alias_to target) place = target
+text_place e place = place
+
+-- The calls that place a fault of a node that begins with the event, where its tag is taken or not. That of an enum
+-- does not, where the tag is local and has a name.
+abbrev pub places : PlainShape → (taken : Bool) → PlainDocEvent → Bool
+places (option_shape content) taken e = false
+places (newtype_shape name inner) taken e = false
+places ignored_shape taken e = false
+places bytes_shape taken e = false
+places (enum_shape name variants) taken e = is_none (untaken_name taken e)
+places _ taken e = true
 
 -- a fault that has no place is given this one, where the call gives one
 abbrev pub placed : Bool → Position → Way → Cause → Cause

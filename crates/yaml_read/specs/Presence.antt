@@ -1,5 +1,5 @@
 -- Whether a scalar stands for nothing: for an absent optional, for a unit, for an empty collection.
-use Rattle.std.specs.Prelude.{ℕ, List, [], ◌∷◌, Bool, true, false, not, ◌&&◌, ◌||◌, if◌then◌else◌, codes}
+use Rattle.std.specs.Prelude.{ℕ, List, [], ◌∷◌, Bool, true, false, not, ◌&&◌, ◌||◌, codes}
 use Rattle.std.specs.Option.{is_none}
 use Rattle.yaml_base.specs.Kinds.{is_null_text}
 use Rattle.yaml_base.specs.PlainEvent.{PlainScalar}

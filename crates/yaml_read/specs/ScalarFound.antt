@@ -1,5 +1,5 @@
 -- What a node was found to be where its shape asks for something else.
-use Rattle.std.specs.Prelude.{ℕ, ◌-◌, ◌^◌, pos, neg_ℤ, List, Option, Some, None, Bool, if◌then◌else◌, codes}
+use Rattle.std.specs.Prelude.{ℕ, ◌-◌, ◌^◌, pos, neg_ℤ, List, Option, None, Bool, if◌then◌else◌, codes}
 use Rattle.std.specs.Option.{option_map, option_map_or, option_or}
 use Rattle.std.specs.Str.{is_utf8}
 use Rattle.yaml_base.specs.Floats.{is_float}
@@ -14,7 +14,7 @@ use Rattle.yaml_base.specs.declared.found.Found.TheVariants as found
 use Rattle.yaml_base.specs.declared.resolver.kind.Kind.{Kind}
 use Rattle.yaml_base.specs.declared.resolver.kind.Kind.TheVariants as kind
 use Rattle.yaml_shape.specs.Expected.{expected_text}
-use Rattle.yaml_shape.specs.PlainShape.{PlainShape}
+use Rattle.yaml_shape.specs.PlainShape.{PlainShape, enum_shape}
 use Rattle.yaml_read.specs.ScalarSorts.{sort_of}
 use Rattle.yaml_read.specs.declared.de.sort.ScalarSort.{ScalarSort}
 use Rattle.yaml_read.specs.declared.de.sort.ScalarSort.TheVariants.{NoText, TaggedBool, TaggedInt, TaggedFloat}
@@ -68,10 +68,15 @@ scalar_fault shape taken s = fault_in (sort_of taken s) s.text (expected_text sh
 abbrev pub void_fault : Cause
 void_fault = EndOfStream
 
+-- what is expected where a collection stands: under an enum a tag
+abbrev pub wanted_text : PlainShape → List ℕ
+wanted_text (enum_shape name variants) = codes "a YAML tag starting with '!'"
+wanted_text shape = expected_text shape
+
 -- the fault of a sequence that its shape has no meaning for
 abbrev pub sequence_fault : PlainShape → Cause
-sequence_fault shape = wrong_type found.Seq (expected_text shape)
+sequence_fault shape = wrong_type found.Seq (wanted_text shape)
 
 -- the fault of a mapping that its shape has no meaning for
 abbrev pub mapping_fault : PlainShape → Cause
-mapping_fault shape = wrong_type found.Map (expected_text shape)
+mapping_fault shape = wrong_type found.Map (wanted_text shape)

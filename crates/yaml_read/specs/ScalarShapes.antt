@@ -1,5 +1,5 @@
 -- What a scalar, and the node of an empty stream, give under a shape: data, or the first fault, without its place.
-use Rattle.std.specs.Prelude.{ℕ, ◌-◌, ◌^◌, ℤ, List, [], ◌∷◌, length, Option, Some, None, Bool, true, false}
+use Rattle.std.specs.Prelude.{ℕ, ◌-◌, ◌^◌, ℤ, List, [], ◌∷◌, length, codes, Option, Some, None, Bool, true, false}
 use Rattle.std.specs.Prelude.{◌&&◌, ◌||◌, if◌then◌else◌, int_le, nat_le, option_and_then, Result, Ok, Err}
 use Rattle.std.specs.Option.{option_map_or}
 use Rattle.std.specs.Str.{is_utf8, chars}
@@ -9,20 +9,24 @@ use Rattle.yaml_base.specs.PlainEvent.{PlainScalar}
 use Rattle.yaml_base.specs.PlainWords.{boolean_of}
 use Rattle.yaml_base.specs.declared.error.Cause.{Cause}
 use Rattle.yaml_base.specs.declared.error.Cause.TheVariants.{BytesUnsupported, InvalidLength}
-use Rattle.yaml_base.specs.declared.found.Found.TheVariants.{Signed, Unsigned, Str}
-use Rattle.yaml_shape.specs.Expected.{expected_text, integer_text, tuple_struct_text}
+use Rattle.yaml_base.specs.declared.found.Found.TheVariants.{Signed, Unsigned, Str, Bytes}
+use Rattle.yaml_shape.specs.Expected.{expected_text, integer_text, tuple_struct_text, tuple_variant_with_text}
 use Rattle.yaml_shape.specs.IntegerTypes.{bits_of, has_sign, least, greatest}
-use Rattle.yaml_shape.specs.PlainData.{PlainData, bool_data, char_data, signed_data, unsigned_data, text_data, none_data}
+use Rattle.yaml_shape.specs.PlainData.{PlainData, any_data, bool_data, char_data, signed_data, unsigned_data, text_data}
+use Rattle.yaml_shape.specs.PlainData.{none_data}
 use Rattle.yaml_shape.specs.PlainData.{unit_data, seq_data, tuple_data, map_data, no_items, no_entries}
 use Rattle.yaml_shape.specs.PlainShape.{IntegerType, i64, i128, u64, u128, PlainShape, any_shape, bool_shape, char_shape}
 use Rattle.yaml_shape.specs.PlainShape.{integer_shape, str_shape, identifier_shape, bytes_shape, option_shape, unit_shape}
-use Rattle.yaml_shape.specs.PlainShape.{unit_struct_shape, newtype_shape, seq_shape, tuple_shape, tuple_struct_shape}
-use Rattle.yaml_shape.specs.PlainShape.{map_shape, struct_shape, enum_shape, ignored_shape}
+use Rattle.yaml_shape.specs.PlainShape.{unit_struct_shape, seq_shape, tuple_shape, tuple_struct_shape}
+use Rattle.yaml_shape.specs.PlainShape.{map_shape, enum_shape, tuple_variant_shape}
+use Rattle.yaml_tree.specs.Tree.{null}
 use Rattle.yaml_read.specs.CoreTags.{bool_tag, int_tag}
 use Rattle.yaml_read.specs.Presence.{is_absent, is_empty_plain, null_fault}
-use Rattle.yaml_read.specs.ReadingFaults.{not_built}
-use Rattle.yaml_read.specs.ScalarFound.{wrong_value, scalar_fault, void_fault}
+use Rattle.yaml_read.specs.ScalarAny.{any_scalar}
+use Rattle.yaml_read.specs.ScalarFound.{wrong_type, wrong_value, scalar_fault, void_fault}
 use Rattle.yaml_read.specs.ScalarSorts.{is_plain, is_literal, has_untaken}
+use Rattle.yaml_read.specs.Steps.{◌>>=◌}
+use Rattle.yaml_read.specs.Variants.{named_variant}
 
 -- ---- words
 -- the scalar is plain, whatever its tag, or literal with just this tag, which is not taken
@@ -88,9 +92,10 @@ one_character text = option_map_or (λ c. Ok (char_data c)) (only_one (chars tex
 abbrev pub lent_text : PlainScalar → List ℕ → PlainData
 lent_text s text = text_data (is_borrowable text s.source s.style) text
 
--- what is expected where a node has fewer elements than its tuple or tuple struct
+-- what is expected where a node has fewer elements than its tuple, tuple struct or tuple variant
 abbrev pub too_few_text : PlainShape → List ℕ
 too_few_text (tuple_struct_shape name ids) = tuple_struct_text name (length ids)
+too_few_text (tuple_variant_shape name variant ids) = tuple_variant_with_text name variant (length ids)
 too_few_text shape = expected_text shape
 
 -- no elements, where none are asked for
@@ -100,9 +105,9 @@ no_elements (id ∷ ids) shape = Err (InvalidLength 0 (too_few_text shape) None)
 
 -- ---- the rows
 -- What a scalar gives under a shape; the flag says whether its tag is taken. Under an optional it is asked only of a
--- scalar that is not the optional's content.
+-- scalar that is not the optional's content, and under a newtype, or where nodes are stepped over, of none.
 abbrev pub scalar_answer : PlainShape → (taken : Bool) → PlainScalar → Result PlainData Cause
-scalar_answer any_shape taken s = Err not_built
+scalar_answer any_shape taken s = any_scalar taken s >>= λ t. Ok (any_data t)
 scalar_answer bool_shape taken s =
     option_map_or (λ b. Ok (bool_data b)) (option_and_then boolean_of (plain_text bool_tag taken s))
     (Err (scalar_fault bool_shape taken s))
@@ -118,7 +123,6 @@ scalar_answer bytes_shape taken s = Err BytesUnsupported
 scalar_answer (option_shape content) taken s = if is_absent taken s then Ok none_data else Err (null_fault s)
 scalar_answer unit_shape taken s = if is_absent taken s then Ok unit_data else Err (null_fault s)
 scalar_answer (unit_struct_shape name) taken s = if is_absent taken s then Ok unit_data else Err (null_fault s)
-scalar_answer (newtype_shape name inner) taken s = Err not_built
 scalar_answer (seq_shape element) taken s =
     if is_empty_plain s then Ok (seq_data no_items) else Err (scalar_fault (seq_shape element) taken s)
 scalar_answer (tuple_shape ids) taken s =
@@ -129,25 +133,25 @@ scalar_answer (tuple_struct_shape name ids) taken s =
     else Err (scalar_fault (tuple_struct_shape name ids) taken s)
 scalar_answer (map_shape key value) taken s =
     if is_empty_plain s then Ok (map_data no_entries) else Err (scalar_fault (map_shape key value) taken s)
-scalar_answer (struct_shape strict name fields) taken s = Err not_built
-scalar_answer (enum_shape name variants) taken s = Err not_built
-scalar_answer ignored_shape taken s = Err not_built
+scalar_answer (enum_shape name variants) taken s =
+    option_map_or (named_variant variants) (text_of s) (Err (wrong_type Bytes (codes "variant identifier")))
+scalar_answer (tuple_variant_shape name variant ids) taken s =
+    if is_empty_plain s then no_elements ids (tuple_variant_shape name variant ids)
+    else Err (scalar_fault (tuple_variant_shape name variant ids) taken s)
+scalar_answer shape taken s = Err (scalar_fault shape taken s)
 
 -- what the node of an empty stream gives under a shape
 abbrev pub void_answer : PlainShape → Result PlainData Cause
-void_answer any_shape = Err not_built
+void_answer any_shape = Ok (any_data null)
 void_answer bytes_shape = Err BytesUnsupported
 void_answer (option_shape content) = Ok none_data
 void_answer unit_shape = Ok unit_data
 void_answer (unit_struct_shape name) = Ok unit_data
-void_answer (newtype_shape name inner) = Err not_built
 void_answer (seq_shape element) = Ok (seq_data no_items)
 void_answer (tuple_shape ids) = no_elements ids (tuple_shape ids)
 void_answer (tuple_struct_shape name ids) = no_elements ids (tuple_struct_shape name ids)
 void_answer (map_shape key value) = Ok (map_data no_entries)
-void_answer (struct_shape strict name fields) = Err not_built
-void_answer (enum_shape name variants) = Err not_built
-void_answer ignored_shape = Err not_built
+void_answer (tuple_variant_shape name variant ids) = no_elements ids (tuple_variant_shape name variant ids)
 void_answer _ = Err void_fault
 
 -- the data of the scalar under the shape takes no memory: a boolean, an integer, a unit, a text that the source shows

@@ -1,6 +1,7 @@
 -- What private contracts alone cite: the loader at work, reading by places, and the walk of the code.
 pub mod AnchorOrder
 pub mod Drafts
+pub mod Expectations
 pub mod Loading
 pub mod OpenEnds
 pub mod Reader

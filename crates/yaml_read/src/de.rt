@@ -1,9 +1,17 @@
 //! From a document to data, by a shape.
 
+mod any;
+mod around;
+mod character;
+mod expected;
+mod field_index;
+mod fields;
 mod found;
+mod found_text;
 mod integer;
 mod mapping;
 mod node;
+mod numbers;
 mod optional;
 mod placed;
 mod presence;
@@ -14,8 +22,10 @@ mod sequence;
 mod skip;
 mod sort;
 mod source;
+mod structs;
 mod text;
 mod tuple;
+mod variants;
 
 ghost use Rattle.std.specs.Prelude.{◌≡◌, ◌≢◌, ◌<◌, length, Some, false};
 ghost use Rattle.yaml_base.specs.Answer.{Answers, is_memory};
@@ -82,7 +92,7 @@ impl<'de> Document<'de> {
             left: FOLLOWS * source.events.len() as u128,
             steps: Tally::new(),
         };
-        match source.read_node(&Path::Root, source.shape(id), NESTING, false, &mut walk) {
+        match source.read_node(&Path::Root, source.shape(id), NESTING, None, &mut walk) {
             Ok(data) => match self.error() {
                 None => Ok(data),
                 Some(fault) => Err(copied(fault, alloc)),

@@ -10,6 +10,7 @@ use Rattle.yaml_shape.specs.PlainShape.{newtype_shape, seq_shape, tuple_shape, t
 use Rattle.yaml_shape.specs.PlainShape.{struct_shape}
 use Rattle.yaml_shape.specs.PlainShape.{enum_shape, ignored_shape, shape_at}
 use Rattle.yaml_shape.specs.PlainShape.{PlainVariant, unit_variant, newtype_variant, tuple_variant, struct_variant}
+use Rattle.yaml_shape.specs.PlainShape.{tuple_variant_shape, struct_variant_shape}
 use Rattle.yaml_shape.specs.PlainData.{PlainData, PlainItems, PlainEntries, any_data, bool_data, char_data, signed_data}
 use Rattle.yaml_shape.specs.PlainData.{unsigned_data, text_data, bytes_data, none_data, some_data, unit_data}
 use Rattle.yaml_shape.specs.PlainData.{newtype_data}
@@ -96,12 +97,15 @@ tuple-raised : (by size : ℕ) (f g : List ℕ → Bool) (s : PlainShape) → Na
     → on_tuple f (raised by s) ≡ on_tuple g s
 tuple-raised by size f g (tuple_shape items) within agree = agree items within
 tuple-raised by size f g (tuple_struct_shape name items) within agree = agree items within
+tuple-raised by size f g (tuple_variant_shape name variant items) within agree = agree items within
 tuple-raised by size f g _ within agree = refl
 
 struct-raised : (by size : ℕ) (f g : List ℕ → Bool) (s : PlainShape) → NamesWithin size s
     → ((ids : List ℕ) → All (λ id. id < size) ids → f (raised_ids by ids) ≡ g ids)
     → on_struct f (raised by s) ≡ on_struct g s
 struct-raised by size f g (struct_shape strict name fields) within
+    agree = ap f (numbers-raised by fields) ∙ agree (numbers_of fields) within
+struct-raised by size f g (struct_variant_shape strict name variant fields) within
     agree = ap f (numbers-raised by fields) ∙ agree (numbers_of fields) within
 struct-raised by size f g _ within agree = refl
 

@@ -13,6 +13,7 @@ use Rattle.yaml_shape.specs.PlainShape.{newtype_shape, seq_shape, tuple_shape, t
 use Rattle.yaml_shape.specs.PlainShape.{struct_shape}
 use Rattle.yaml_shape.specs.PlainShape.{enum_shape, ignored_shape, shape_at}
 use Rattle.yaml_shape.specs.PlainShape.{PlainVariant, unit_variant, newtype_variant, tuple_variant, struct_variant}
+use Rattle.yaml_shape.specs.PlainShape.{tuple_variant_shape, struct_variant_shape}
 use Rattle.yaml_shape.specs.Validity.{names_of, numbers_of, named_in, named, NamesWithin, AllNameWithin, AreDistinct}
 use Rattle.yaml_shape.specs.Validity.{IsDistinctInside, HasDistinctNames}
 use Rattle.yaml_shape.specs.Validity.{optional_content, step_from}
@@ -83,6 +84,8 @@ named-raised by (map_shape key value) = refl
 named-raised by (struct_shape strict name fields) = numbers-raised by fields
 named-raised by (enum_shape name variants) = named_each-raised by variants
 named-raised by ignored_shape = refl
+named-raised by (tuple_variant_shape name variant items) = refl
+named-raised by (struct_variant_shape strict name variant fields) = numbers-raised by fields
 
 distinct_inside-raised : (by : ℕ) (content : PlainVariant) → IsDistinctInside content
     → IsDistinctInside (raised_content by content)
@@ -116,6 +119,9 @@ distinct-raised by (enum_shape name variants) h = (
       (λ v d. distinct_inside-raised by v.1 d) variants h.1),
 )
 distinct-raised by ignored_shape h = tt
+distinct-raised by (tuple_variant_shape name variant items) h = tt
+distinct-raised by (struct_variant_shape strict name variant fields) h =
+    subst AreDistinct (sym (names-raised by fields)) h
 
 -- a shape of a table names only its numbers
 pub names_at : (size : ℕ) (shapes : List PlainShape) (id : ℕ) (shape : PlainShape) → AllNameWithin

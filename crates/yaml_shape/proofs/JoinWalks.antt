@@ -12,6 +12,7 @@ use Rattle.yaml_shape.specs.PlainShape.{identifier_shape, bytes_shape, option_sh
 use Rattle.yaml_shape.specs.PlainShape.{newtype_shape, seq_shape, tuple_shape, tuple_struct_shape, map_shape}
 use Rattle.yaml_shape.specs.PlainShape.{struct_shape}
 use Rattle.yaml_shape.specs.PlainShape.{enum_shape, ignored_shape, shape_at}
+use Rattle.yaml_shape.specs.PlainShape.{tuple_variant_shape, struct_variant_shape}
 use Rattle.yaml_shape.specs.Validity.{named, NamesWithin, AllNameWithin, HasDistinctNames}
 use Rattle.yaml_shape.specs.Validity.{optional_content, step_from, walk, IsCycle, IsValidSchema}
 use Rattle.yaml_shape.specs.Join.{raised, joined}
@@ -61,6 +62,8 @@ content-raised by (map_shape key value) = refl
 content-raised by (struct_shape strict name fields) = refl
 content-raised by (enum_shape name variants) = refl
 content-raised by ignored_shape = refl
+content-raised by (tuple_variant_shape name variant items) = refl
+content-raised by (struct_variant_shape strict name variant fields) = refl
 
 -- the shape of the second table in the join
 pub at_joined : (first second : List PlainShape) (id : ℕ)

@@ -9,6 +9,7 @@ use Rattle.yaml_shape.specs.PlainShape.{option_shape}
 use Rattle.yaml_shape.specs.PlainShape.{newtype_shape, seq_shape, tuple_shape, tuple_struct_shape, map_shape}
 use Rattle.yaml_shape.specs.PlainShape.{struct_shape}
 use Rattle.yaml_shape.specs.PlainShape.{enum_shape, shape_at}
+use Rattle.yaml_shape.specs.PlainShape.{tuple_variant_shape, struct_variant_shape}
 use Rattle.yaml_shape.specs.PlainShape.{PlainVariant, unit_variant, newtype_variant, tuple_variant, struct_variant}
 use Rattle.yaml_shape.specs.Validity.{AllNameWithin, IsValidSchema}
 use Rattle.yaml_shape.specs.Join.{raised_ids, raised_fields, raised_content, raised_variants, raised, joined}
@@ -52,6 +53,9 @@ raised_zero (map_shape key value) = ap (λ k. map_shape k (0 + value)) (same_sum
     ∙ ap (map_shape key) (same_sum value)
 raised_zero (struct_shape strict name fields) = ap (struct_shape strict name) (fields_zero fields)
 raised_zero (enum_shape name variants) = ap (enum_shape name) (variants_zero variants)
+raised_zero (tuple_variant_shape name variant items) = ap (tuple_variant_shape name variant) (ids_zero items)
+raised_zero (struct_variant_shape strict name variant fields) =
+    ap (struct_variant_shape strict name variant) (fields_zero fields)
 raised_zero _ = refl
 
 option_zero : (o : Option PlainShape) → option_map (raised 0) o ≡ o

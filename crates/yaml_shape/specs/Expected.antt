@@ -6,6 +6,7 @@ use Rattle.yaml_shape.specs.PlainShape.{identifier_shape, bytes_shape, option_sh
 use Rattle.yaml_shape.specs.PlainShape.{newtype_shape, seq_shape, tuple_shape, tuple_struct_shape, map_shape}
 use Rattle.yaml_shape.specs.PlainShape.{struct_shape}
 use Rattle.yaml_shape.specs.PlainShape.{enum_shape, ignored_shape}
+use Rattle.yaml_shape.specs.PlainShape.{tuple_variant_shape, struct_variant_shape}
 
 -- an integer type's name
 abbrev pub integer_text : IntegerType → List ℕ
@@ -25,6 +26,14 @@ integer_text usize = codes "usize"
 -- a tuple of so many elements
 abbrev pub tuple_text : ℕ → List ℕ
 tuple_text count = codes "a tuple of size " ++ decimal count
+
+-- a tuple variant of an enum
+abbrev pub tuple_variant_text : List ℕ → List ℕ → List ℕ
+tuple_variant_text name variant = codes "tuple variant " ++ (name ++ (codes "::" ++ variant))
+
+-- a struct variant of an enum
+abbrev pub struct_variant_text : List ℕ → List ℕ → List ℕ
+struct_variant_text name variant = codes "struct variant " ++ (name ++ (codes "::" ++ variant))
 
 -- what data of a shape is expected to be
 abbrev pub expected_text : PlainShape → List ℕ
@@ -46,6 +55,8 @@ expected_text (map_shape key value) = codes "a map"
 expected_text (struct_shape strict name fields) = codes "struct " ++ name
 expected_text (enum_shape name variants) = codes "enum " ++ name
 expected_text ignored_shape = codes "anything at all"
+expected_text (tuple_variant_shape name variant items) = tuple_variant_text name variant
+expected_text (struct_variant_shape strict name variant fields) = struct_variant_text name variant
 
 -- so many elements
 abbrev pub elements_text : ℕ → List ℕ
@@ -59,15 +70,7 @@ sequence_text count = codes "sequence of " ++ elements_text count
 abbrev pub tuple_struct_text : List ℕ → ℕ → List ℕ
 tuple_struct_text name count = codes "tuple struct " ++ (name ++ (codes " with " ++ elements_text count))
 
--- a tuple variant of an enum
-abbrev pub tuple_variant_text : List ℕ → List ℕ → List ℕ
-tuple_variant_text name variant = codes "tuple variant " ++ (name ++ (codes "::" ++ variant))
-
 -- where a node has fewer elements than its tuple variant: so many
 abbrev pub tuple_variant_with_text : List ℕ → List ℕ → ℕ → List ℕ
 tuple_variant_with_text name variant count =
     codes "tuple variant " ++ (name ++ (codes "::" ++ (variant ++ (codes " with " ++ elements_text count))))
-
--- a struct variant of an enum
-abbrev pub struct_variant_text : List ℕ → List ℕ → List ℕ
-struct_variant_text name variant = codes "struct variant " ++ (name ++ (codes "::" ++ variant))

@@ -7,6 +7,7 @@ use Rattle.yaml_shape.specs.PlainShape.{identifier_shape, bytes_shape, option_sh
 use Rattle.yaml_shape.specs.PlainShape.{newtype_shape, seq_shape, tuple_shape, tuple_struct_shape, map_shape}
 use Rattle.yaml_shape.specs.PlainShape.{struct_shape}
 use Rattle.yaml_shape.specs.PlainShape.{enum_shape, ignored_shape, shape_at}
+use Rattle.yaml_shape.specs.PlainShape.{tuple_variant_shape, struct_variant_shape}
 use Rattle.yaml_shape.specs.PlainShape.{PlainVariant, unit_variant, newtype_variant, tuple_variant, struct_variant}
 use Rattle.yaml_shape.specs.PlainData.{PlainData, PlainItems, PlainEntries, any_data, bool_data, char_data, signed_data}
 use Rattle.yaml_shape.specs.PlainData.{unsigned_data, text_data, bytes_data, none_data, some_data, unit_data}
@@ -77,10 +78,11 @@ abbrev pub on_seq : (ℕ → Bool) → PlainShape → Bool
 on_seq test (seq_shape element) = test element
 on_seq test _ = false
 
--- the shape is a tuple or a tuple struct, whose shapes pass the test
+-- the shape is a tuple, a tuple struct or a tuple variant, whose shapes pass the test
 abbrev pub on_tuple : (List ℕ → Bool) → PlainShape → Bool
 on_tuple test (tuple_shape items) = test items
 on_tuple test (tuple_struct_shape name items) = test items
+on_tuple test (tuple_variant_shape name variant items) = test items
 on_tuple test _ = false
 
 -- the shape is a mapping, whose keys and values pass the test
@@ -88,9 +90,10 @@ abbrev pub on_map : (ℕ → ℕ → Bool) → PlainShape → Bool
 on_map test (map_shape key value) = test key value
 on_map test _ = false
 
--- the shape is a struct, the shapes of whose fields pass the test
+-- the shape is a struct or a struct variant, the shapes of whose fields pass the test
 abbrev pub on_struct : (List ℕ → Bool) → PlainShape → Bool
 on_struct test (struct_shape strict name fields) = test (numbers_of fields)
+on_struct test (struct_variant_shape strict name variant fields) = test (numbers_of fields)
 on_struct test _ = false
 
 -- the shape is an enum, whose variant at this place has a content that passes the test

@@ -5,6 +5,7 @@ use Rattle.yaml_shape.specs.PlainShape.{identifier_shape, bytes_shape, option_sh
 use Rattle.yaml_shape.specs.PlainShape.{newtype_shape, seq_shape, tuple_shape, tuple_struct_shape, map_shape}
 use Rattle.yaml_shape.specs.PlainShape.{struct_shape}
 use Rattle.yaml_shape.specs.PlainShape.{enum_shape, ignored_shape}
+use Rattle.yaml_shape.specs.PlainShape.{tuple_variant_shape, struct_variant_shape}
 use Rattle.yaml_shape.specs.PlainShape.{PlainVariant, unit_variant, newtype_variant, tuple_variant, struct_variant}
 use Rattle.yaml_shape.specs.declared.shape.ShapeId.{ShapeId}
 use Rattle.yaml_shape.specs.declared.fault.SchemaFault.{SchemaFault}
@@ -49,6 +50,9 @@ raised by (map_shape key value) = map_shape (by + key) (by + value)
 raised by (struct_shape strict name fields) = struct_shape strict name (raised_fields by fields)
 raised by (enum_shape name variants) = enum_shape name (raised_variants by variants)
 raised by ignored_shape = ignored_shape
+raised by (tuple_variant_shape name variant items) = tuple_variant_shape name variant (raised_ids by items)
+raised by (struct_variant_shape strict name variant fields) =
+    struct_variant_shape strict name variant (raised_fields by fields)
 
 -- the second table behind the first, with the numbers in it raised past the first
 abbrev pub joined : List PlainShape → List PlainShape → List PlainShape

@@ -1,5 +1,5 @@
 -- Shapes without where they lie in memory, and the table that they form.
-use Rattle.std.specs.Prelude.{ℕ, List, Bool, Option, slice_get}
+use Rattle.std.specs.Prelude.{ℕ, List, Bool, Option, Some, slice_get}
 
 -- the integers that a shape may ask for
 pub data IntegerType : Type 0 where
@@ -23,7 +23,8 @@ pub data PlainVariant : Type 0 where
   tuple_variant : (items : List ℕ) → PlainVariant
   struct_variant : (strict : Bool) → (fields : List (List ℕ × ℕ)) → PlainVariant
 
--- a shape, which names others by their places in the table; a name is its bytes
+-- A shape, which names others by their places in the table; a name is its bytes. The last two are the contents of
+-- variants as they are read, with the name of the enum and then that of the variant; no table has them.
 pub data PlainShape : Type 0 where
   any_shape : PlainShape
   bool_shape : PlainShape
@@ -43,7 +44,18 @@ pub data PlainShape : Type 0 where
   struct_shape : (strict : Bool) → (name : List ℕ) → (fields : List (List ℕ × ℕ)) → PlainShape
   enum_shape : (name : List ℕ) → (variants : List (List ℕ × PlainVariant)) → PlainShape
   ignored_shape : PlainShape
+  tuple_variant_shape : (name : List ℕ) → (variant : List ℕ) → (items : List ℕ) → PlainShape
+  struct_variant_shape : (strict : Bool) → (name : List ℕ) → (variant : List ℕ) → (fields : List (List ℕ × ℕ))
+      → PlainShape
 
 -- the shape with a number
 abbrev pub shape_at : List PlainShape → ℕ → Option PlainShape
 shape_at shapes id = slice_get shapes id
+
+-- the shape of the content of a variant of an enum, both with their names
+abbrev pub content_shape : List PlainShape → (name : List ℕ) → (variant : List ℕ) → PlainVariant → Option PlainShape
+content_shape shapes name variant unit_variant = Some unit_shape
+content_shape shapes name variant (newtype_variant inner) = shape_at shapes inner
+content_shape shapes name variant (tuple_variant items) = Some (tuple_variant_shape name variant items)
+content_shape shapes name variant (struct_variant strict fields) =
+    Some (struct_variant_shape strict name variant fields)

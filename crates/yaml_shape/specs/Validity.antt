@@ -8,6 +8,7 @@ use Rattle.yaml_shape.specs.PlainShape.{identifier_shape, bytes_shape, option_sh
 use Rattle.yaml_shape.specs.PlainShape.{newtype_shape, seq_shape, tuple_shape, tuple_struct_shape, map_shape}
 use Rattle.yaml_shape.specs.PlainShape.{struct_shape}
 use Rattle.yaml_shape.specs.PlainShape.{enum_shape, ignored_shape, shape_at}
+use Rattle.yaml_shape.specs.PlainShape.{tuple_variant_shape, struct_variant_shape}
 use Rattle.yaml_shape.specs.PlainShape.{PlainVariant, unit_variant, newtype_variant, tuple_variant, struct_variant}
 
 -- the names of fields or variants
@@ -45,6 +46,8 @@ named (map_shape key value) = key ∷ value ∷ []
 named (struct_shape strict name fields) = numbers_of fields
 named (enum_shape name variants) = flat_map (λ v. named_in v.1) variants
 named ignored_shape = []
+named (tuple_variant_shape name variant items) = items
+named (struct_variant_shape strict name variant fields) = numbers_of fields
 
 -- each number that the shape names is below the size
 abbrev pub NamesWithin : ℕ → PlainShape → Type 0
@@ -69,6 +72,7 @@ IsDistinctInside (struct_variant strict fields) = AreDistinct (names_of fields)
 abbrev pub HasDistinctNames : PlainShape → Type 0
 HasDistinctNames (struct_shape strict name fields) = AreDistinct (names_of fields)
 HasDistinctNames (enum_shape name variants) = AreDistinct (names_of variants) × All (λ v. IsDistinctInside v.1) variants
+HasDistinctNames (struct_variant_shape strict name variant fields) = AreDistinct (names_of fields)
 HasDistinctNames _ = Unit {0}
 
 -- where an optional leads: the number of its content

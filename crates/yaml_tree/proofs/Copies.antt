@@ -1,12 +1,15 @@
 -- Lists of values that are seen alike stay so with one more at the end of each.
-use Rattle.std.specs.Prelude.{◌≡◌, ℕ, ◌+◌, ◌<◌, List, [], ◌∷◌, ◌++◌, length}
-use Rattle.std.proofs.Common.{ap, sym, ◌∙◌, get_or, take}
-use Rattle.std.proofs.lemmas.List.{take_more}
+use Rattle.std.specs.Prelude.{◌≡◌, ℕ, ◌+◌, ◌<◌, ◌≤◌, true, List, [], ◌∷◌, ◌++◌, length, map}
+use Rattle.std.proofs.Common.{ap, sym, ◌∙◌, subst, get_or, take}
+use Rattle.std.proofs.lemmas.List.{map_push, take_all, take_more}
 use Rattle.yaml_tree.specs.Entries.{SameEntry}
+use Rattle.yaml_tree.specs.Index.{IsIndexed, lasts_of, earliers_of}
+use Rattle.yaml_tree.specs.Mapping.{keys_distinct}
 use Rattle.yaml_tree.specs.Tree.{Tree, Trees, no_trees, tree, Pairs, no_pairs, pair}
 use Rattle.yaml_tree.specs.View.{tree_of, trees_of, entry_pairs}
 use Rattle.yaml_tree.specs.declared.mapping.Entry.{Entry}
 use Rattle.yaml_tree.specs.declared.value.Value.{Value}
+use Rattle.yaml_tree.proofs.Indexed.{SameEntries, indexed-copies}
 
 -- ---- values
 first_tree : {a b : Tree} {xs ys : Trees} → tree a xs ≡ tree b ys → a ≡ b
@@ -48,10 +51,26 @@ entry_pairs-alike (x ∷ vs) [] v w e f = absurd (cc)
 entry_pairs-alike (x ∷ vs) (y ∷ ws) v w e f =
     λ i. pair (first_key e i) (first_value e i) (entry_pairs-alike vs ws v w (other_pairs e) f i)
 
+numbers-alike : (f : Entry → ℕ) (vs ws : List Entry) (v w : Entry) → map f vs ≡ map f ws → f v ≡ f w
+    → map f (vs ++ v ∷ []) ≡ map f (ws ++ w ∷ [])
+numbers-alike f vs ws v w e g = map_push f vs v ∙ ((λ i. e i ++ g i ∷ []) ∙ sym (map_push f ws w))
+
 -- copies of the first entries, with a copy of the next one
-pub entry_pairs-more : (copies es : List Entry) (i : ℕ) (v w : Entry) → entry_pairs copies ≡ entry_pairs (take i es)
+pub entries-more : (copies es : List Entry) (i : ℕ) (v w : Entry) → SameEntries copies (take i es)
     → i < length es → w ≡ get_or es i w → SameEntry v w
-    → entry_pairs (copies ++ v ∷ []) ≡ entry_pairs (take (i + 1) es)
-entry_pairs-more copies es i v w e lt is f =
-    entry_pairs-alike copies (take i es) v w e f
-    ∙ ap entry_pairs (ap (λ x. take i es ++ x ∷ []) is ∙ sym (take_more es i w lt))
+    → SameEntries (copies ++ v ∷ []) (take (i + 1) es)
+entries-more copies es i v w e lt is f =
+    let more : take i es ++ w ∷ [] ≡ take (i + 1) es =
+    ap (λ x. take i es ++ x ∷ []) is ∙ sym (take_more es i w lt) in (
+      entry_pairs-alike copies (take i es) v w e.0 f ∙ ap entry_pairs more,
+      numbers-alike (λ x. x.last) copies (take i es) v w e.1 f.2 ∙ ap lasts_of more,
+      numbers-alike (λ x. x.earlier) copies (take i es) v w e.2 f.3 ∙ ap earliers_of more,
+    )
+
+-- copies of all entries have distinct keys and are in their chains, as the entries are
+pub copied-all : (copies xs es : List Entry) (i : ℕ) → xs ≡ es → length xs ≤ i → SameEntries copies (take i xs)
+    → (keys_distinct (entry_pairs es) ≡ true) × IsIndexed es
+    → (keys_distinct (entry_pairs copies) ≡ true) × IsIndexed copies
+copied-all copies xs es i is end same kept =
+    let whole : SameEntries copies es = subst (SameEntries copies) (take_all i xs end ∙ is) same in
+    (ap keys_distinct whole.0 ∙ kept.0, indexed-copies es copies whole kept.1)

@@ -9,19 +9,28 @@ use Rattle.yaml_tree.specs.declared.value.Value.{Value}
 
 -- an entry with another value
 abbrev pub with_value : Entry → Value → Entry
-with_value e v = record { key = e.key; value = v }
+with_value e v = record { key = e.key; value = v; last = e.last; earlier = e.earlier }
 
--- an entry of a key and a value
+-- an entry that keeps another place for the last entry of a chain
+abbrev pub with_last : Entry → ℕ → Entry
+with_last e i = record { key = e.key; value = e.value; last = i; earlier = e.earlier }
+
+-- an entry that keeps another place for the entry before it in its chain
+abbrev pub with_earlier : Entry → ℕ → Entry
+with_earlier e i = record { key = e.key; value = e.value; last = e.last; earlier = i }
+
+-- an entry of a key and a value that is in no chain
 abbrev pub new_entry : Value → Value → Entry
-new_entry k v = record { key = k; value = v }
+new_entry k v = record { key = k; value = v; last = 0; earlier = 0 }
 
 -- the entry at this place, if there is one, has another key than this
 abbrev pub IsOtherKey : Tree → List Entry → ℕ → Type 0
 IsOtherKey k es i = (d : Entry) → i < length es → tree_eq k (tree_of (slice_index_or es i d).key) ≡ false
 
--- two entries stand for one pair
+-- two entries stand for one pair, and keep the same places
 abbrev pub SameEntry : Entry → Entry → Type 0
-SameEntry e f = (tree_of e.key ≡ tree_of f.key) × (tree_of e.value ≡ tree_of f.value)
+SameEntry e f =
+    (tree_of e.key ≡ tree_of f.key) × (tree_of e.value ≡ tree_of f.value) × (e.last ≡ f.last) × (e.earlier ≡ f.earlier)
 
 -- two tagged values have one text of the tag, and one value
 abbrev pub SameTagged : TaggedTree → TaggedTree → Type 0

@@ -3,6 +3,7 @@ pub mod Integer
 pub mod Number
 pub mod Tag
 pub mod Equal
+pub mod Hash
 pub mod TakeOut
 pub mod EqualLaws
 pub mod Mapping
@@ -11,5 +12,6 @@ pub mod Valid
 pub mod TagView
 pub mod View
 pub mod Entries
+pub mod Index
 pub mod Lookup
 pub mod Falls

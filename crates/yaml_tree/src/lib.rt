@@ -2,6 +2,7 @@
 #![tactic(auto)]
 
 mod fault;
+mod index;
 mod mapping;
 mod number;
 mod sequence;

@@ -1,24 +1,28 @@
 //! Mappings of values to values.
-ghost use Rattle.std.specs.Prelude.{◌≡◌, ◌<◌, ◌++◌, ◌∷◌, [], None, length};
+ghost use Rattle.std.specs.Prelude.{◌≡◌, ◌<◌, ◌++◌, ◌∷◌, [], None, length, true};
 ghost use Rattle.std.specs.Prelude.{option_map, slice_index_or, slice_set};
 ghost use Rattle.std.specs.Prelude.{IfErr, IfOk, OnErr, OnOk};
 ghost use Rattle.yaml_tree.specs.Entries.{new_entry, with_value};
-ghost use Rattle.yaml_tree.specs.Mapping.{value_at, with_pair};
+ghost use Rattle.yaml_tree.specs.Index.{IsIndexed};
+ghost use Rattle.yaml_tree.specs.Mapping.{keys_distinct, value_at, with_pair};
 ghost use Rattle.yaml_tree.specs.View.{entry_pairs, tree_of};
 
 use crate::fault::TreeFault;
+use crate::index::index_last;
 use crate::value::Value;
 use crate::value::equal::find;
 use std::alloc::Global;
 use std::marker::Model;
 use std::mem;
 
-/// One pair of a mapping.
+/// One pair of a mapping, and what it keeps for the mapping's index.
 #[cycle(value)]
 #[derive(Drop)]
 pub(crate) struct Entry {
     pub(crate) key: Value,
     pub(crate) value: Value,
+    pub(crate) last: usize,
+    pub(crate) earlier: usize,
 }
 
 /// Pairs of a key and a value, in order, no two of whose keys are equal.
@@ -39,13 +43,15 @@ impl Model for Mapping {
 
     ghost coded = { value_pairs_code };
 
+    ghost use Rattle.yaml_tree.specs.Index.{IsIndexed};
     ghost use Rattle.yaml_tree.specs.View.{entry_pairs, are_pairs-entry_pairs};
 
     ghost view = { λ m.
         let es = m.entries.items in
         value_pairs (entry_pairs es) (are_pairs-entry_pairs es) };
 
-    ghost invariant = { λ m. keys_distinct (entry_pairs m.entries.items) ≡ true };
+    ghost invariant = { λ m. let es = m.entries.items in
+        (keys_distinct (entry_pairs es) ≡ true) × IsIndexed es };
 
     ghost size = { λ m. pairs_size (pairs_of m) };
 
@@ -54,7 +60,7 @@ impl Model for Mapping {
 
     ghost size_decreases = { λ m h.
         let es = m.entries.items in
-        rw (pairs_of-value_pairs (entry_pairs es) (are_pairs-entry_pairs es) h)
+        rw (pairs_of-value_pairs (entry_pairs es) (are_pairs-entry_pairs es) h.0)
         (omega (arith, most-Entry_le es)) };
 }
 
@@ -129,6 +135,8 @@ impl Mapping {
 }
 
 fn put(entries: &mut Vec<Entry>, key: Value, value: Value) -> Result<Option<Value>, TreeFault>
+    requires distinct { keys_distinct (entry_pairs entries.old.items) ≡ true }
+    requires indexed { IsIndexed entries.old.items }
     ensures ok { let old = entry_pairs entries.old.items in
         OnOk result (entry_pairs entries.new.items ≡ with_pair (tree_of key) (tree_of value) old) }
     ensures replaced { let found = value_at (tree_of key) (entry_pairs entries.old.items) in
@@ -137,6 +145,7 @@ fn put(entries: &mut Vec<Entry>, key: Value, value: Value) -> Result<Option<Valu
     ensures only_new { let found = value_at (tree_of key) (entry_pairs entries.old.items) in
         OnErr result (found ≡ None) }
     ensures err { OnErr result (entries.new.items ≡ entries.old.items) }
+    ensures still_indexed { IsIndexed entries.new.items }
 {
     match find(&key, entries.as_slice()) {
         Some(i) => {
@@ -161,12 +170,24 @@ fn replace_value(entries: &mut Vec<Entry>, i: usize, value: Value) -> Value
 }
 
 fn add(entries: &mut Vec<Entry>, key: Value, value: Value) -> Result<(), TreeFault>
-    ensures ok { OnOk result (entries.new.items ≡ entries.old.items ++ new_entry key value ∷ []) }
+    requires { IsIndexed entries.old.items }
+    ensures ok { let more = entries.old.items ++ new_entry key value ∷ [] in
+        OnOk result (entry_pairs entries.new.items ≡ entry_pairs more) }
     ensures memory { IfErr result (λ e. e ≡ TreeFault.Memory) }
     ensures err { OnErr result (entries.new.items ≡ entries.old.items) }
+    ensures still_indexed { IsIndexed entries.new.items }
 {
-    match entries.push(Entry { key, value }) {
-        Ok(()) => Ok(()),
+    let entry = Entry {
+        key,
+        value,
+        last: 0,
+        earlier: 0,
+    };
+    match entries.push(entry) {
+        Ok(()) => {
+            index_last(entries);
+            Ok(())
+        }
         Err(_) => Err(TreeFault::Memory),
     }
 }

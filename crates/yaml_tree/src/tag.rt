@@ -14,6 +14,7 @@ pub struct Tag {
 
 impl Tag {
     ghost use Rattle.std.specs.Prelude.{◌≡◌, ◌↔◌, [], Err, IfOk, IsErrOf};
+    ghost use Rattle.yaml_tree.specs.Tag.{tag_name};
     ghost use Rattle.yaml_tree.specs.TagView.{tag_text};
 
     /// The tag with this text, which is copied.
@@ -39,6 +40,13 @@ impl Tag {
         })
     }
 
+    // The part of the text that tells the tag from others.
+    pub(crate) fn name(&self) -> &[u8]
+        ensures { result.now ≡ tag_name (tag_text self.now) }
+    {
+        name_in(self.text.as_bytes())
+    }
+
     /// The text that the tag was made of.
     pub fn as_str(&self) -> &str
         ensures { result.now ≡ tag_text self.now }
@@ -58,7 +66,7 @@ impl PartialEq for Tag {
     ghost laws = { on_per tag_text (partial_equiv_from_equiv tag_equiv) };
 
     fn eq(&self, other: &Tag) -> bool {
-        name(self.text.as_bytes()) == name(other.text.as_bytes())
+        self.name() == other.name()
     }
 }
 
@@ -71,7 +79,7 @@ impl Eq for Tag {
 }
 
 // The text without one leading `!` that has something behind it.
-fn name(text: &[u8]) -> &[u8]
+fn name_in(text: &[u8]) -> &[u8]
     ensures { result.now ≡ tag_name text.now }
 {
     match text {

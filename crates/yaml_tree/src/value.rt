@@ -1,6 +1,7 @@
 //! Values of a document.
 mod copy;
 pub(crate) mod equal;
+pub(crate) mod hash;
 
 use crate::mapping::Mapping;
 use crate::number::Number;

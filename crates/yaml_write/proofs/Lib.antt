@@ -3,3 +3,4 @@ pub mod ValueLaws
 pub mod DataLaws
 pub mod PlaceLaws
 pub mod BegunLaws
+pub mod PartsLaws

@@ -3,6 +3,7 @@ use Rattle.std.specs.Prelude.{◌≡◌, List, ◌++◌, Result, Ok, Err}
 use Rattle.yaml_base.specs.Answer.{Fails}
 use Rattle.yaml_base.specs.EmitEvents.{PlainEmit}
 use Rattle.yaml_base.specs.declared.error.Cause.{Cause}
+use Rattle.yaml_base.specs.declared.error.Cause.TheVariants.{Memory}
 use Rattle.yaml_write.specs.Outcomes.{made}
 use Rattle.yaml_write.specs.Writing.{Writing}
 
@@ -18,3 +19,8 @@ Adds view given old new (Err cause) = Fails cause given
 abbrev pub Writes : {A B : Type 0} → (B → Writing) → Result B Cause → (old new : Writing) → Result A Cause → Type 0
 Writes placed given old new (Ok a) = made placed given ≡ Ok new
 Writes placed given old new (Err cause) = Fails cause given × (new ≡ old)
+
+-- The call left this. Else it answers want of memory, and all is as it was.
+abbrev pub Leaves : {A : Type 0} → (left old new : Writing) → Result A Cause → Type 0
+Leaves left old new (Ok a) = new ≡ left
+Leaves left old new (Err cause) = (cause ≡ Memory) × (new ≡ old)

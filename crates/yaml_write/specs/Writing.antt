@@ -1,8 +1,8 @@
 -- What a serializer holds: events, and the collections that are still open.
-use Rattle.std.specs.Prelude.{ℕ, List, [], ◌∷◌, ◌++◌, Bool, true, false, not, ◌&&◌, if◌then◌else◌, Option}
-use Rattle.yaml_base.specs.EmitEvents.{PlainEmit, emit_document_start, emit_document_end, emit_sequence_start}
-use Rattle.yaml_base.specs.EmitEvents.{emit_sequence_end, emit_mapping_start, emit_mapping_end}
+use Rattle.std.specs.Prelude.{ℕ, List, [], ◌∷◌, ◌++◌, Bool, true, false, not, ◌&&◌, Option}
+use Rattle.yaml_base.specs.EmitEvents.{PlainEmit, emit_document_start, emit_document_end}
 use Rattle.yaml_base.specs.EmitTree.{EmitNode, emit_node_events}
+use Rattle.yaml_write.specs.Brackets.{start_by, end_by}
 use Rattle.yaml_write.specs.declared.open.Open.{Open}
 use Rattle.yaml_write.specs.declared.open.OpenKind.{OpenKind}
 use Rattle.yaml_write.specs.declared.open.OpenKind.TheVariants.{Map, Struct}
@@ -56,11 +56,11 @@ with_both w p = with_node (with_node w p.0) p.1
 
 -- the start of a collection
 abbrev pub start_of : OpenKind → (tag : Option (List ℕ)) → PlainEmit
-start_of kind tag = if is_mapping kind then emit_mapping_start tag else emit_sequence_start tag
+start_of kind tag = start_by (is_mapping kind) tag
 
 -- the end of a collection
 abbrev pub end_of : OpenKind → PlainEmit
-end_of kind = if is_mapping kind then emit_mapping_end else emit_sequence_end
+end_of kind = end_by (is_mapping kind)
 
 -- with a collection opened, in a document of its own where nothing was open
 abbrev pub with_opened : Writing → OpenKind → (tag : Option (List ℕ)) → Writing

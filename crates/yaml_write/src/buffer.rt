@@ -1,19 +1,22 @@
 //! Events that are made one after another.
 
-ghost use Rattle.std.specs.Prelude.{◌≡◌, ◌++◌, ◌∷◌, [], Ok, codes, map, string_bytes, IfErr, OnErr, OnOk};
+ghost use Rattle.std.specs.Prelude.{◌≡◌, ◌++◌, ◌∷◌, [], Ok, codes, length, map, string_bytes};
+ghost use Rattle.std.specs.Prelude.{IfErr, OnErr, OnOk};
 ghost use Rattle.std.specs.Char.{encode_utf8};
 ghost use Rattle.yaml_base.specs.EmitEvents.{emit_of, tag_bytes, emit_sequence_start, emit_sequence_end};
 ghost use Rattle.yaml_base.specs.EmitEvents.{emit_mapping_start, emit_mapping_end};
 ghost use Rattle.yaml_base.specs.EmitTree.{emit_node_events, emit_scalar_node};
 ghost use Rattle.yaml_base.specs.declared.error.Cause.TheVariants.{Memory};
 ghost use Rattle.yaml_write.specs.Adds.{Adds};
+ghost use Rattle.yaml_write.specs.Brackets.{start_by, end_by};
 ghost use Rattle.yaml_write.specs.Outcomes.{plain_node, null_node, string_node};
 
+use crate::refusal::Result;
 use itoa::Integer;
 use std::alloc::Global;
 use std::marker::Model;
 use yaml_base::emitter::{AskedStyle, EmitEvent, EmitScalar, Mapping, Sequence};
-use yaml_base::{Result, infer_style};
+use yaml_base::infer_style;
 
 /// Events in order, and the allocator of all that is made for them. Contracts see it as its list of plain events.
 #[derive(Drop)]
@@ -29,6 +32,23 @@ impl Model for EventBuffer {
     ghost Value = { List PlainEmit };
 
     ghost view = { λ b. map emit_of b.events.items };
+}
+
+// Puts the only event that is there before others.
+fn put_first(events: &mut Vec<EmitEvent>, others: Vec<EmitEvent>) -> Result<()>
+    requires { length events.old.items ≡ 1 }
+    ensures ok { OnOk result (events.new.items ≡ events.old.items ++ others.items) }
+    ensures memory { IfErr result (λ cause. cause ≡ Memory) }
+    ensures err { OnErr result (events.new.items ≡ events.old.items) }
+{
+    let mut others = others;
+    others.reserve(1)?;
+    if let Some(first) = events.pop() {
+        if let Ok(()) = others.insert(0, first) {
+            *events = others;
+        }
+    }
+    Ok(())
 }
 
 impl EventBuffer {
@@ -160,12 +180,39 @@ impl EventBuffer {
         self.push(EmitEvent::MappingEnd)
     }
 
-    // Moves all events of the other behind these, or none.
+    // The start of a mapping where parts are keys with values, else of a sequence.
+    pub(crate) fn start(&mut self, paired: bool, tag: Option<String>) -> Result<()>
+        ensures { Adds (λ e. e ∷ []) (Ok (start_by paired (tag_bytes tag)))
+            self.old self.new result }
+    {
+        if paired {
+            self.start_mapping(tag)
+        } else {
+            self.start_sequence(tag)
+        }
+    }
+
+    // The end of it.
+    pub(crate) fn end(&mut self, paired: bool) -> Result<()>
+        ensures { Adds (λ e. e ∷ []) (Ok (end_by paired)) self.old self.new result }
+    {
+        if paired {
+            self.end_mapping()
+        } else {
+            self.end_sequence()
+        }
+    }
+
+    // Moves all events of the other behind these, or none. One that stands alone, as the start of a stream does, goes
+    // before the others, so that many events are not moved to new memory.
     pub(crate) fn append(&mut self, added: EventBuffer) -> Result<()>
         ensures ok { OnOk result (self.new ≡ self.old ++ added) }
         ensures memory { IfErr result (λ cause. cause ≡ Memory) }
         ensures err { OnErr result (self.new ≡ self.old) }
     {
+        if self.events.len() == 1 {
+            return put_first(&mut self.events, added.events);
+        }
         let mut added = added;
         self.events.append(&mut added.events)?;
         Ok(())

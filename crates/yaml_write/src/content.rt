@@ -10,8 +10,8 @@ ghost use Rattle.yaml_write.specs.WrittenValue.{pair_node};
 
 use crate::buffer::EventBuffer;
 use crate::data::write_data;
+use crate::refusal::Result;
 use crate::value::{write_bool, write_value};
-use yaml_base::Result;
 use yaml_shape::{Data, Schema, ShapeId};
 use yaml_tree::Value;
 

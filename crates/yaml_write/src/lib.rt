@@ -7,6 +7,8 @@ mod data;
 mod in_shape;
 mod local_tag;
 mod open;
+mod part_shapes;
+mod refusal;
 mod ser;
 mod value;
 

@@ -101,7 +101,7 @@ impl Serializer {
         let mut serializer = self;
         match serializer.written.push(EmitEvent::StreamEnd) {
             Ok(()) => Ok(serializer.written.into_events()),
-            Err(error) => Err((error, serializer)),
+            Err(refusal) => Err((refusal.into_error(), serializer)),
         }
     }
 }

@@ -16,7 +16,7 @@ ghost use Rattle.yaml_write.specs.WrittenValue.{pair_node, truth_text};
 
 use crate::buffer::EventBuffer;
 use crate::local_tag::value_tag;
-use yaml_base::{Cause, Error, Result};
+use crate::refusal::{Refusal, Result};
 use yaml_tree::{Mapping, Number, Sequence, TaggedValue, Value};
 
 // A boolean.
@@ -115,7 +115,7 @@ fn write_tagged(out: &mut EventBuffer, tag: Option<String>, tagged: &TaggedValue
         (written_value (tag_bytes tag) (tree_of_tagged tagged.now)) out.old out.new result }
 {
     if tag.is_some() {
-        return Err(Error::new(Cause::SerializeNestedEnum));
+        return Err(Refusal::tag_on_tag());
     }
     let tag = value_tag(out.alloc(), &tagged.tag)?;
     write_value(out, Some(tag), &tagged.value)

@@ -1,25 +1,39 @@
 -- What the tree means is answered within the limits, and refused only past one.
 use Rattle.std.proofs.Common.{◌≡◌, ℕ, zero, suc, ◌+◌, ◌-◌, ◌*◌, ◌<◌, ◌≤◌, List, [], ◌∷◌, ◌++◌, Option, Some, None, Ok, Err, Bool, true, false, refl, sym, ap, subst, ◌∙◌, arith, append_assoc, append-nil, Result, length}
-use Rattle.std.specs.Prelude.{max}
+use Rattle.std.specs.Prelude.{max, set}
+use Rattle.std.specs.Option.{is_some}
 use Rattle.yaml_base.specs.CausePlace.{filled}
 use Rattle.yaml_base.specs.Position.{Position}
 use Rattle.yaml_base.specs.declared.error.Cause.{Cause}
 use Rattle.yaml_base.specs.declared.error.Cause.TheVariants.{RecursionLimitExceeded, RepetitionLimitExceeded}
 use Rattle.yaml_base.specs.declared.error.Place.{Place}
 use Rattle.yaml_shape.specs.DataView.{items_of, entries_of}
-use Rattle.yaml_shape.specs.Expected.{tuple_text, tuple_struct_text}
-use Rattle.yaml_shape.specs.PlainData.{PlainData, PlainItems, PlainEntries, seq_data, map_data, tuple_data, some_data, newtype_data, ignored_data, no_items, item, no_entries, entry}
-use Rattle.yaml_shape.specs.PlainShape.{PlainShape, seq_shape, tuple_shape, tuple_struct_shape, map_shape, option_shape, newtype_shape, ignored_shape, shape_at}
+use Rattle.yaml_shape.specs.Expected.{tuple_text, tuple_struct_text, tuple_variant_with_text}
+use Rattle.yaml_shape.specs.PlainData.{PlainData, PlainItems, PlainEntries, any_data, variant_data, seq_data, map_data, tuple_data, some_data, newtype_data, ignored_data, no_items, item, no_entries, entry}
+use Rattle.yaml_shape.specs.PlainShape.{PlainShape, PlainVariant, unit_variant, newtype_variant, tuple_variant, struct_variant}
+use Rattle.yaml_shape.specs.PlainShape.{any_shape, unit_shape, tuple_variant_shape, struct_variant_shape, option_shape, shape_at, content_shape}
+use Rattle.yaml_tree.specs.Mapping.{keys_distinct}
+use Rattle.yaml_tree.specs.Tree.{sequence, tagged}
+use Rattle.yaml_tree.specs.Tree as tree_of
+use Rattle.yaml_read.specs.AnyData.{tree_in, trees_in, pairs_in}
 use Rattle.yaml_shape.specs.Walks.{rank}
-use Rattle.yaml_read.specs.DocTree.{DocNode, DocNodes, DocPairs, nothing, reference, word, list, mapping, no_nodes, node, no_pairs, pair, node_of, first_event}
-use Rattle.yaml_read.specs.Handing.{Handing, as_is, as_some, as_newtype, as_ignored, handed, early, reach, depth}
+use Rattle.yaml_read.specs.DocTree.{DocNode, DocNodes, DocPairs, node, pair, first_event}
+use Rattle.yaml_read.specs.Fields.{Fields, Slots, no_slots, name_in, struct_of}
+use Rattle.yaml_read.specs.Handing.{Handing, handed, early, reach, untaken_reach, depth}
+use Rattle.yaml_read.specs.NodeTags.{Around, around_value}
 use Rattle.yaml_read.specs.Meaning.{Means, means_node, MeansAs, means_some, means_newtype, means_ignored, means_target, means_void, means_scalar, means_list, means_mapping}
+use Rattle.yaml_read.specs.Meaning.{means_bare, means_struct, MeanFields, means_no_fields, means_field, means_unknown}
+use Rattle.yaml_read.specs.Meaning.{means_variant, means_tagged, means_tuple_variant, means_any_list, means_struct_variant, means_any_mapping}
 use Rattle.yaml_read.specs.Meaning.{MeansList, means_seq, means_tuple, means_tuple_struct, MeansPairs, means_map, MeanEach, means_none, means_more, MeanRow, means_no_elements, means_element, MeanPairs, means_no_pairs, means_pair}
-use Rattle.yaml_read.specs.Places.{Way, element_under, value_under, places, placed, place}
+use Rattle.yaml_read.specs.Places.{Way, element_under, value_under, text_place, places, placed, place}
 use Rattle.yaml_read.specs.Rows.{row_of, row_data}
-use Rattle.yaml_read.specs.Steps.{◌>>=◌, wrap, enter, follow, finish, with_shape, unless, ending}
-use Rattle.yaml_read.specs.TreeReader.{Spot, after, behind, Answer, each_node, each_pair, TreeReader, item_of, key_of, value_of, row_part, row_by, sequence_of, mapping_of, target_of, node_by, handed_by, read_tree}
-use Rattle.yaml_read.proofs.reading.Handings.{optional_from}
+use Rattle.yaml_read.specs.ScalarShapes.{scalar_answer}
+use Rattle.yaml_read.specs.Steps.{◌>>=◌, wrap, enter, follow, finish, with_shape, ending}
+use Rattle.yaml_read.specs.TreeReader.{field_key, field_value, any_key_of, fields_by}
+use Rattle.yaml_read.specs.TreeReader.{Spot, after, behind, Answer, each_node, each_pair, TreeReader, item_of, key_of, value_of, row_part, row_by, sequence_of, mapping_of, target_of, handed_by, read_tree}
+use Rattle.yaml_read.proofs.AnyLaws.{pairs_of, first_apart, new_is_key}
+use Rattle.yaml_read.proofs.FieldLaws.{found_named, unknown_named}
+use Rattle.yaml_read.proofs.reading.Handings.{From, from_handing}
 
 -- It is the data, and a limit is passed where one has to be.
 pub data Outcome {A : Type 0} (r : Answer A) (v : A) (nest left d k : ℕ) : Type 0 where
@@ -102,16 +116,33 @@ pub reach_rank : (table : List PlainShape) → ((id content : ℕ) → shape_at 
 reach_rank table falls id (option_shape c) is = let less = falls id c is in omega arith
 reach_rank table falls id _ is = omega arith
 
+-- shapes that are there are the same only where they are
+shape_is : (s t : PlainShape) → ◌≡◌ {A = Option PlainShape} (Some s) (Some t) → s ≡ t
+shape_is s t e = cc
+
+-- a tag that is not taken leads to as many as it may
+few_untaken : (taken : Bool) → untaken_reach taken ≤ 4100
+few_untaken true = omega arith
+few_untaken false = omega arith
+
 module _ (table : List PlainShape) (root : DocNode) (marks : ℕ → Position) (small : (id : ℕ) → rank table id ≤ 4096)
     (falls : (id content : ℕ) → shape_at table id ≡ Some (option_shape content) → rank table content < rank table id) where
   -- a shape that another names reaches no further than any does
   low : (id : ℕ) (s : PlainShape) → shape_at table id ≡ Some s → reach table s ≤ 4096
   low id s is = let a = reach_rank table falls id s is in let b = small id in omega arith
 
+  -- so does what a variant holds
+  low_content : (name variant : List ℕ) (content : PlainVariant) (s : PlainShape) → content_shape table name variant content ≡ Some s → reach table s ≤ 4096
+  low_content name variant unit_variant s is = let e = ap (reach table) (shape_is unit_shape s is) in omega (arith, e)
+  low_content name variant (newtype_variant inner) s is = low inner s is
+  low_content name variant (tuple_variant items) s is = let e = ap (reach table) (shape_is (tuple_variant_shape name variant items) s is) in omega (arith, e)
+  low_content name variant (struct_variant strict fields) s is =
+      let e = ap (reach table) (shape_is (struct_variant_shape strict name variant fields) s is) in omega (arith, e)
+
   -- a node, where the fuel is not 0
-  at_node : (fuel : ℕ) (way : Way) (s : PlainShape) (nest : ℕ) (taken : Bool) (n : DocNode) (at : Spot) (h : Handing) → early s ≡ None → handed s taken (first_event n) ≡ h
+  at_node : (fuel : ℕ) (way : Way) (s : PlainShape) (nest : ℕ) (taken : Option Around) (n : DocNode) (at : Spot) (h : Handing) → early s ≡ None → handed s (is_some taken) (first_event n) ≡ h
       → read_tree table (suc fuel) root marks way s nest taken n at
-      ≡ place (places s) (marks at.place) way (handed_by table h (read_tree table fuel root marks) way root marks s nest taken n at)
+      ≡ place (places s (is_some taken) (first_event n)) (marks at.place) way (handed_by table h (read_tree table fuel root marks) way root marks s nest taken n at)
   unfolding read_tree
   at_node fuel way s nest taken n at h late to = rw (late, to)
 
@@ -123,36 +154,58 @@ module _ (table : List PlainShape) (root : DocNode) (marks : ℕ → Position) (
       entered _ (tuple_data vs) mark nest at.left d k (λ n is.
       finished (row_data few (length ids)) _ (record { left = []; read = list_of vs; extra = 0 }) (tuple_data vs) n at.left d k (h n is) (ap (λ ws. Ok (tuple_data ws)) (items_listed vs)))
 
+  -- the fields of a struct, from its pairs
+  struct_outcome : (read : Way → TreeReader) (strict : Bool) (fields : Fields) (ps : DocPairs) (slots : Slots) (v : PlainData) (way : Way) (nest : ℕ) (at : Spot) (mark : Position) (d k : ℕ)
+      → struct_of table fields slots ≡ Ok v
+      → ((n : ℕ) → nest ≡ suc n → Outcome (each_pair (field_key read marks way strict fields n) (field_value table read n) (no_slots fields) ps (after at)) slots n at.left d k)
+      → Outcome (fields_by table read marks way strict fields nest mark ps (after at)) v nest at.left (suc d) k
+  struct_outcome read strict fields ps slots v way nest at mark d k made h =
+      entered _ v mark nest at.left d k (λ n is. finished (struct_of table fields) _ slots v n at.left d k (h n is) made)
+
   mutual
     pub tree_outcome : {s : PlainShape} {n : DocNode} {taken : Bool} {v : PlainData} {d k : ℕ} → Means table root s n taken v d k
-        → (way : Way) (fuel nest : ℕ) (at : Spot) → depth table s nest at.left < fuel
-        → Outcome (read_tree table fuel root marks way s nest taken n at) v nest at.left d k
-    tree_outcome m way zero nest at lt = absurd (omega arith)
-    tree_outcome (means_node {s} {h} {n} {taken} {v} {d} {k} late to m) way (suc fuel) nest at lt =
-        rw (at_node fuel way s nest taken n at h late to)
-        (placed_outcome (places s) (marks at.place) way _ v nest at.left d k (as_outcome m way fuel nest at (λ c is. optional_from s taken (first_event n) c (to ∙ is)) (omega arith)))
+        → (way : Way) (fuel nest : ℕ) (around : Option Around) (at : Spot) → is_some around ≡ taken → depth table s taken nest at.left < fuel
+        → Outcome (read_tree table fuel root marks way s nest around n at) v nest at.left d k
+    tree_outcome m way zero nest around at is lt = absurd (omega arith)
+    tree_outcome (means_node {s} {h} {n} {taken} {v} {d} {k} late to m) way (suc fuel) nest around at is lt =
+        let to' : handed s (is_some around) (first_event n) ≡ h = ap (λ b. handed s b (first_event n)) is ∙ to in
+        rw (at_node fuel way s nest around n at h late to')
+        (placed_outcome (places s (is_some around) (first_event n)) (marks at.place) way _ v nest at.left d k
+        (as_outcome m way fuel nest around at is (from_handing s taken (first_event n) h to) (omega arith)))
 
     as_outcome : {h : Handing} {s : PlainShape} {n : DocNode} {taken : Bool} {v : PlainData} {d k : ℕ} → MeansAs table root h s n taken v d k
-        → (way : Way) (fuel nest : ℕ) (at : Spot) → ((c : ℕ) → h ≡ as_some c → s ≡ option_shape c) → depth table s nest at.left < suc fuel
-        → Outcome (handed_by table h (read_tree table fuel root marks) way root marks s nest taken n at) v nest at.left d k
-    as_outcome (means_some {s} {t} {c} {n} {taken} {v} {d} {k} there m) way fuel nest at from lt =
-        let is = from c refl in
-        let less : reach table s ≡ rank table c + 1 = ap (reach table) is in
+        → (way : Way) (fuel nest : ℕ) (around : Option Around) (at : Spot) → is_some around ≡ taken → From s taken (first_event n) h
+        → depth table s taken nest at.left < suc fuel
+        → Outcome (handed_by table h (read_tree table fuel root marks) way root marks s nest around n at) v nest at.left d k
+    as_outcome (means_some {s} {t} {c} {n} {taken} {v} {d} {k} there m) way fuel nest around at is from lt =
+        let less : reach table s ≡ rank table c + 1 = ap (reach table) from in
         let low = reach_rank table falls c t there in
-        looked_up (shape_at table c) t _ (some_data v) nest at.left d k there (wrapped some_data _ v nest at.left d k (tree_outcome m way fuel nest at (omega (arith, less, low, lt))))
-    as_outcome (means_newtype {s} {t} {c} {n} {taken} {v} {d} {k} there m) way fuel nest at from lt =
-        entered _ (newtype_data v) (marks at.place) nest at.left d k (λ n' is.
-        looked_up (shape_at table c) t _ (newtype_data v) n' at.left d k there (wrapped newtype_data _ v n' at.left d k (tree_outcome m way fuel n' at (omega (arith, low c t there, lt, is)))))
-    as_outcome means_ignored way fuel nest at from lt = here ignored_data nest at.left _ refl
-    as_outcome (means_target {s} {j} {n} {taken} {v} {d} {k} e m) way fuel nest at from lt =
-        rw e (followed (target_of (read_tree table fuel root marks way) s nest (Some n) j) v nest at.left d k (λ left is. tree_outcome m way fuel nest (record { place = j; left = left }) (omega (arith, lt, is))))
-    as_outcome (means_void {s} {taken} {v} e) way fuel nest at from lt = here v nest at.left _ (ap (ending at.left) e)
-    as_outcome (means_scalar {s} {w} {taken} {v} e) way fuel nest at from lt = here v nest at.left _ (ap (ending at.left) e)
-    as_outcome (means_list {s} {tag} {ns} {taken} {v} {d} {k} m) way fuel nest at from lt = list_outcome m way fuel nest at (marks at.place) (omega arith)
-    as_outcome (means_mapping {s} {tag} {ps} {taken} {v} {d} {k} m) way fuel nest at from lt = mapping_outcome m way fuel nest at (marks at.place) (omega arith)
+        looked_up (shape_at table c) t _ (some_data v) nest at.left d k there (wrapped some_data _ v nest at.left d k (tree_outcome m way fuel nest around at is (omega (arith, less, low, lt))))
+    as_outcome (means_newtype {s} {t} {c} {n} {taken} {v} {d} {k} there m) way fuel nest around at is from lt =
+        entered _ (newtype_data v) (marks at.place) nest at.left d k (λ n' one.
+        looked_up (shape_at table c) t _ (newtype_data v) n' at.left d k there (wrapped newtype_data _ v n' at.left d k (tree_outcome m way fuel n' around at is (omega (arith, low c t there, lt, one)))))
+    as_outcome means_ignored way fuel nest around at is from lt = here ignored_data nest at.left _ refl
+    as_outcome (means_bare {fields} {s} {n} {taken} {v} e) way fuel nest around at is from lt =
+        here v nest at.left _ (ap (ending at.left) e)
+    as_outcome (means_variant {place} {around = outer} {content} {s} {t} {n} {taken} {v} {d} {k} there m) way fuel nest around at is from lt =
+        let untaken : untaken_reach taken ≡ 4100 = ap untaken_reach from.3 in
+        looked_up (content_shape table outer.name outer.variant content) t _ (variant_data place v) nest at.left d k there
+        (wrapped (variant_data place) _ v nest at.left d k
+        (tree_outcome m way fuel nest (Some outer) at refl (omega (arith, low_content outer.name outer.variant content t there, untaken, lt))))
+    as_outcome (means_tagged {name} {s} {n} {taken} {v} {d} {k} m) way fuel nest around at is from lt =
+        let untaken : untaken_reach taken ≡ 4100 = ap untaken_reach from.1 in
+        wrapped (λ v. any_data (tagged name (tree_in v))) _ v nest at.left d k
+        (tree_outcome m way fuel nest (Some around_value) at refl (omega (arith, untaken, lt)))
+    as_outcome (means_target {s} {j} {n} {taken} {v} {d} {k} e m) way fuel nest around at is from lt =
+        rw e (followed (target_of (read_tree table fuel root marks way) s nest (Some n) j) v nest at.left d k (λ left one. tree_outcome m way fuel nest None (record { place = j; left = left }) refl (omega (arith, lt, one))))
+    as_outcome (means_void {s} {taken} {v} e) way fuel nest around at is from lt = here v nest at.left _ (ap (ending at.left) e)
+    as_outcome (means_scalar {s} {w} {taken} {v} e) way fuel nest around at is from lt =
+        here v nest at.left _ (ap (ending at.left) (ap (λ b. scalar_answer s b w) is ∙ e))
+    as_outcome (means_list {s} {tag} {ns} {taken} {v} {d} {k} m) way fuel nest around at is from lt = list_outcome m way fuel nest at (marks at.place) (omega arith)
+    as_outcome (means_mapping {s} {tag} {ps} {taken} {v} {d} {k} m) way fuel nest around at is from lt = mapping_outcome m way fuel nest at (marks at.place) (omega arith)
 
     list_outcome : {s : PlainShape} {ns : DocNodes} {v : PlainData} {d k : ℕ} → MeansList table root s ns v d k → (way : Way) (fuel nest : ℕ) (at : Spot) (mark : Position)
-        → 4098 * (at.left + nest) < suc fuel
+        → 8200 * (at.left + nest) < suc fuel
         → Outcome (sequence_of table (read_tree table fuel root marks) way s nest mark ns (after at)) v nest at.left (suc d) k
     list_outcome (means_seq {e} {s} {ns} {vs} {d} {k} there m) way fuel nest at mark lt =
         entered _ (seq_data vs) mark nest at.left d k (λ n is.
@@ -163,28 +216,46 @@ module _ (table : List PlainShape) (root : DocNode) (marks : ℕ → Position) (
         row_outcome (read_tree table fuel root marks) (tuple_text (length ids)) ids ns vs way nest at mark d k (λ n is. elements_outcome m way fuel n [] (after at) (omega (arith, is, lt)))
     list_outcome (means_tuple_struct {name} {ids} {ns} {vs} {d} {k} m) way fuel nest at mark lt =
         row_outcome (read_tree table fuel root marks) (tuple_struct_text name (length ids)) ids ns vs way nest at mark d k (λ n is. elements_outcome m way fuel n [] (after at) (omega (arith, is, lt)))
+    list_outcome (means_tuple_variant {name} {variant} {ids} {ns} {vs} {d} {k} m) way fuel nest at mark lt =
+        row_outcome (read_tree table fuel root marks) (tuple_variant_with_text name variant (length ids)) ids ns vs way nest at mark d k
+        (λ n is. elements_outcome m way fuel n [] (after at) (omega (arith, is, lt)))
+    list_outcome (means_any_list {ns} {vs} {d} {k} m) way fuel nest at mark lt =
+        entered _ (any_data (sequence (trees_in vs))) mark nest at.left d k (λ n is.
+        subst (λ ws. Outcome (wrap (λ vs. any_data (sequence (trees_in (items_of vs)))) (each_node (item_of (read_tree table fuel root marks) way any_shape n) [] ns (after at))) (any_data (sequence (trees_in ws))) n at.left d k) (items_listed vs)
+        (wrapped (λ vs. any_data (sequence (trees_in (items_of vs)))) _ (list_of vs) n at.left d k (each_outcome m way fuel n [] (after at) (omega arith) (omega (arith, is, lt)))))
 
     mapping_outcome : {s : PlainShape} {ps : DocPairs} {v : PlainData} {d k : ℕ} → MeansPairs table root s ps v d k → (way : Way) (fuel nest : ℕ) (at : Spot) (mark : Position)
-        → 4098 * (at.left + nest) < suc fuel
-        → Outcome (mapping_of table (read_tree table fuel root marks) way s nest mark ps (after at)) v nest at.left (suc d) k
+        → 8200 * (at.left + nest) < suc fuel
+        → Outcome (mapping_of table (read_tree table fuel root marks) marks way s nest mark ps (after at)) v nest at.left (suc d) k
     mapping_outcome (means_map {a} {b} {s} {t} {ps} {vs} {d} {k} there there' m) way fuel nest at mark lt =
         entered _ (map_data vs) mark nest at.left d k (λ n is.
         looked_up (shape_at table a) s _ (map_data vs) n at.left d k there (looked_up (shape_at table b) t _ (map_data vs) n at.left d k there'
         (subst (λ ws. Outcome (wrap (λ vs. map_data (entries_of vs)) (each_pair (key_of (read_tree table fuel root marks) way s n) (value_of (read_tree table fuel root marks) t n) [] ps (after at))) (map_data ws) n at.left d k) (entries_listed vs)
         (wrapped (λ vs. map_data (entries_of vs)) _ (entry_list_of vs) n at.left d k (pairs_outcome m way fuel n [] (after at) (low a s there) (low b t there') (omega arith))))))
+    mapping_outcome (means_struct {strict} {name} {fields} {ps} {slots} {v} {d} {k} m made) way fuel nest at mark lt =
+        struct_outcome (read_tree table fuel root marks) strict fields ps slots v way nest at mark d k made
+        (λ n is. fields_outcome m way fuel n (after at) (omega (arith, is, lt)))
+    mapping_outcome (means_struct_variant {strict} {name} {variant} {fields} {ps} {slots} {v} {d} {k} m made) way fuel nest at mark lt =
+        struct_outcome (read_tree table fuel root marks) strict fields ps slots v way nest at mark d k made
+        (λ n is. fields_outcome m way fuel n (after at) (omega (arith, is, lt)))
+    mapping_outcome (means_any_mapping {ps} {vs} {d} {k} m apart) way fuel nest at mark lt =
+        entered _ (any_data (tree_of.mapping (pairs_in vs))) mark nest at.left d k (λ n is.
+        subst (λ ws. Outcome (wrap (λ vs. any_data (tree_of.mapping (pairs_in (entries_of vs)))) (each_pair (any_key_of (read_tree table fuel root marks) way n) (value_of (read_tree table fuel root marks) any_shape n) [] ps (after at))) (any_data (tree_of.mapping (pairs_in ws))) n at.left d k) (entries_listed vs)
+        (wrapped (λ vs. any_data (tree_of.mapping (pairs_in (entries_of vs)))) _ (entry_list_of vs) n at.left d k
+        (any_pairs_outcome m way fuel n [] (after at) (subst (λ ws. keys_distinct (pairs_in ws) ≡ true) (sym (entries_listed vs)) apart) (omega (arith, is, lt)))))
 
     each_outcome : {s : PlainShape} {ns : DocNodes} {vs : PlainItems} {d k : ℕ} → MeanEach table root s ns vs d k → (way : Way) (fuel nest : ℕ) (before : List PlainData) (at : Spot)
-        → reach table s ≤ 4096 → 4098 * (at.left + nest) + 4096 < fuel
+        → reach table s ≤ 4096 → 8200 * (at.left + nest) + 8196 < fuel
         → Outcome (each_node (item_of (read_tree table fuel root marks) way s nest) before ns at) (before ++ list_of vs) nest at.left d k
     each_outcome means_none way fuel nest before at few lt = here (before ++ []) nest at.left _ (ap (λ vs. Ok (vs, at.left)) (sym (append-nil before)))
     each_outcome (means_more {s} {n} {ns} {v} {vs} {d} {d'} {k} {k'} m ms) way fuel nest before at few lt =
         subst (λ ws. Outcome (each_node (item_of (read_tree table fuel root marks) way s nest) before (node n ns) at) ws nest at.left (max d d') (k + k')) (append_assoc before (v ∷ []) (list_of vs))
         (bound (item_of (read_tree table fuel root marks) way s nest before n at) _ (before ++ v ∷ []) _ nest at.left d d' k k'
-        (wrapped (λ v. before ++ v ∷ []) _ v nest at.left d k (tree_outcome m (element_under way (length before)) fuel nest at (omega arith)))
+        (wrapped (λ v. before ++ v ∷ []) _ v nest at.left d k (tree_outcome m (element_under way (length before)) fuel nest None at refl (omega arith)))
         (each_outcome ms way fuel nest (before ++ v ∷ []) (behind at n (at.left - k)) few (omega arith)))
 
     elements_outcome : {ids : List ℕ} {ns : DocNodes} {vs : PlainItems} {d k : ℕ} → MeanRow table root ids ns vs d k → (way : Way) (fuel nest : ℕ) (before : List PlainData) (at : Spot)
-        → 4098 * (at.left + nest) + 4096 < fuel
+        → 8200 * (at.left + nest) + 8196 < fuel
         → Outcome (each_node (row_part table (read_tree table fuel root marks) way nest) (record { left = ids; read = before; extra = 0 }) ns at) (record { left = []; read = before ++ list_of vs; extra = 0 }) nest at.left d k
     elements_outcome means_no_elements way fuel nest before at lt =
         here (record { left = []; read = before ++ []; extra = 0 }) nest at.left _ (ap (λ vs. Ok (record { left = []; read = vs; extra = 0 }, at.left)) (sym (append-nil before)))
@@ -192,11 +263,11 @@ module _ (table : List PlainShape) (root : DocNode) (marks : ℕ → Position) (
         subst (λ ws. Outcome (each_node (row_part table (read_tree table fuel root marks) way nest) (record { left = id ∷ ids; read = before; extra = 0 }) (node n ns) at) (record { left = []; read = ws; extra = 0 }) nest at.left (max d d') (k + k')) (append_assoc before (v ∷ []) (list_of vs))
         (bound (row_part table (read_tree table fuel root marks) way nest (record { left = id ∷ ids; read = before; extra = 0 }) n at) _ (record { left = ids; read = before ++ v ∷ []; extra = 0 }) _ nest at.left d d' k k'
         (wrapped (λ v. record { left = ids; read = before ++ v ∷ []; extra = 0 }) _ v nest at.left d k
-        (looked_up (shape_at table id) s _ v nest at.left d k there (tree_outcome m (element_under way (length before)) fuel nest at (omega (arith, low id s there)))))
+        (looked_up (shape_at table id) s _ v nest at.left d k there (tree_outcome m (element_under way (length before)) fuel nest None at refl (omega (arith, low id s there)))))
         (elements_outcome ms way fuel nest (before ++ v ∷ []) (behind at n (at.left - k)) (omega arith)))
 
     pairs_outcome : {s t : PlainShape} {ps : DocPairs} {vs : PlainEntries} {d k : ℕ} → MeanPairs table root s t ps vs d k → (way : Way) (fuel nest : ℕ) (before : List (PlainData × PlainData)) (at : Spot)
-        → reach table s ≤ 4096 → reach table t ≤ 4096 → 4098 * (at.left + nest) + 4096 < fuel
+        → reach table s ≤ 4096 → reach table t ≤ 4096 → 8200 * (at.left + nest) + 8196 < fuel
         → Outcome (each_pair (key_of (read_tree table fuel root marks) way s nest) (value_of (read_tree table fuel root marks) t nest) before ps at) (before ++ entry_list_of vs) nest at.left d k
     pairs_outcome means_no_pairs way fuel nest before at few few' lt = here (before ++ []) nest at.left _ (ap (λ vs. Ok (vs, at.left)) (sym (append-nil before)))
     pairs_outcome (means_pair {s} {t} {m = x} {n = y} {ps} {u} {v} {vs} {d} {d'} {d''} {k} {k'} {k''} l m ms) way fuel nest before at few few' lt =
@@ -204,7 +275,62 @@ module _ (table : List PlainShape) (root : DocNode) (marks : ℕ → Position) (
         let w = value_under way (first_event x) in
         subst (λ ws. Outcome (each_pair (key_of (read_tree table fuel root marks) way s nest) (value_of (read_tree table fuel root marks) t nest) before (pair x y ps) at) ws nest at.left (max d (max d' d'')) (k + (k' + k'')))
         (append_assoc before ((u, v) ∷ []) (entry_list_of vs))
-        (bound (key_of (read_tree table fuel root marks) way s nest before x at) _ (w, u) _ nest at.left d (max d' d'') k (k' + k'') (wrapped (λ k. (w, k)) _ u nest at.left d k (tree_outcome l way fuel nest at (omega arith)))
+        (bound (key_of (read_tree table fuel root marks) way s nest before x at) _ (w, u) _ nest at.left d (max d' d'') k (k' + k'') (wrapped (λ k. (w, k)) _ u nest at.left d k (tree_outcome l way fuel nest None at refl (omega arith)))
         (bound (value_of (read_tree table fuel root marks) t nest before (w, u) y mid) _ (before ++ (u, v) ∷ []) _ nest (at.left - k) d' d'' k' k''
-        (wrapped (λ v. before ++ (u, v) ∷ []) _ v nest (at.left - k) d' k' (tree_outcome m w fuel nest mid (omega arith)))
+        (wrapped (λ v. before ++ (u, v) ∷ []) _ v nest (at.left - k) d' k' (tree_outcome m w fuel nest None mid refl (omega arith)))
         (pairs_outcome ms way fuel nest (before ++ (u, v) ∷ []) (behind mid y (at.left - k - k')) few few' (omega arith))))
+
+    any_pairs_outcome : {ps : DocPairs} {vs : PlainEntries} {d k : ℕ} → MeanPairs table root any_shape any_shape ps vs d k → (way : Way) (fuel nest : ℕ) (before : List (PlainData × PlainData)) (at : Spot)
+        → keys_distinct (pairs_of (before ++ entry_list_of vs)) ≡ true → 8200 * (at.left + nest) + 8196 < fuel
+        → Outcome (each_pair (any_key_of (read_tree table fuel root marks) way nest) (value_of (read_tree table fuel root marks) any_shape nest) before ps at) (before ++ entry_list_of vs) nest at.left d k
+    any_pairs_outcome means_no_pairs way fuel nest before at apart lt = here (before ++ []) nest at.left _ (ap (λ vs. Ok (vs, at.left)) (sym (append-nil before)))
+    any_pairs_outcome (means_pair {m = x} {n = y} {ps} {u} {v} {vs} {d} {d'} {d''} {k} {k'} {k''} l m ms) way fuel nest before at apart lt =
+        let mid = behind at x (at.left - k) in
+        let w = value_under way (first_event x) in
+        let read = read_tree table fuel root marks in
+        let new = new_is_key before u (first_apart before (entry_list_of vs) u v apart) in
+        let joined = append_assoc before ((u, v) ∷ []) (entry_list_of vs) in
+        subst (λ ws. Outcome (each_pair (any_key_of read way nest) (value_of read any_shape nest) before (pair x y ps) at) ws nest at.left (max d (max d' d'')) (k + (k' + k'')))
+        joined
+        (bound (any_key_of read way nest before x at) _ (w, u) _ nest at.left d (max d' d'') k (k' + k'')
+        (finished _ _ u (w, u) nest at.left d k (tree_outcome l way fuel nest None at refl (omega arith)) (ap (λ o. o >>= λ k. Ok (w, k)) new))
+        (bound (value_of read any_shape nest before (w, u) y mid) _ (before ++ (u, v) ∷ []) _ nest (at.left - k) d' d'' k' k''
+        (wrapped (λ v. before ++ (u, v) ∷ []) _ v nest (at.left - k) d' k' (tree_outcome m w fuel nest None mid refl (omega arith)))
+        (any_pairs_outcome ms way fuel nest (before ++ (u, v) ∷ []) (behind mid y (at.left - k - k'))
+        (subst (λ ws. keys_distinct (pairs_of ws) ≡ true) (sym joined) apart) (omega arith))))
+
+    -- from what was read before, what is read after is the answer
+    fields_outcome : {strict : Bool} {fields : Fields} {slots done : Slots} {ps : DocPairs} {d k : ℕ}
+        → MeanFields table root strict fields slots ps done d k → (way : Way) (fuel nest : ℕ) (at : Spot)
+        → 8200 * (at.left + nest) + 8196 < fuel
+        → Outcome (each_pair (field_key (read_tree table fuel root marks) marks way strict fields nest)
+        (field_value table (read_tree table fuel root marks) nest) slots ps at) done nest at.left d k
+    fields_outcome (means_no_fields {slots}) way fuel nest at lt = here slots nest at.left _ refl
+    fields_outcome (means_field {strict} {fields} {before = slots} {m = x} {n = y} {u} {v} {place} {id} {s} {d} {d'}
+        {d''} {k} {k'} {k''} l found free there m ms) way fuel nest at lt =
+        let mid = behind at x (at.left - k) in
+        let w = value_under way (first_event x) in
+        let key : Place = record { mark = marks (text_place (first_event x) at.place); path = way.text } in
+        let named = found_named strict fields slots (name_in u) key place id found free in
+        let read = read_tree table fuel root marks in
+        bound (field_key read marks way strict fields nest slots x at) _ (Some (place, id), w) _
+        nest at.left d (max d' d'') k (k' + k'')
+        (finished _ _ u (Some (place, id), w) nest at.left d k (tree_outcome l way fuel nest None at refl (omega arith))
+        (ap (λ o. o >>= λ f. Ok (f, w)) named))
+        (bound (field_value table read nest slots (Some (place, id), w) y mid) _ (set slots place (Some v)) _
+        nest (at.left - k) d' d'' k' k''
+        (wrapped (λ v. set slots place (Some v)) _ v nest (at.left - k) d' k'
+        (looked_up (shape_at table id) s _ v nest (at.left - k) d' k' there
+        (tree_outcome m w fuel nest None mid refl (omega (arith, low id s there)))))
+        (fields_outcome ms way fuel nest (behind mid y (at.left - k - k')) (omega arith)))
+    fields_outcome (means_unknown {strict} {fields} {before = slots} {m = x} {n = y} {u} {d} {d'} {k} {k'}
+        loose l found ms) way fuel nest at lt =
+        let mid = behind at x (at.left - k) in
+        let w = value_under way (first_event x) in
+        let key : Place = record { mark = marks (text_place (first_event x) at.place); path = way.text } in
+        let named = unknown_named strict fields slots (name_in u) key found loose in
+        bound (field_key (read_tree table fuel root marks) marks way strict fields nest slots x at) _ (None, w) _
+        nest at.left d d' k k'
+        (finished _ _ u (None, w) nest at.left d k (tree_outcome l way fuel nest None at refl (omega arith))
+        (ap (λ o. o >>= λ f. Ok (f, w)) named))
+        (fields_outcome ms way fuel nest (behind mid y (at.left - k)) (omega arith))

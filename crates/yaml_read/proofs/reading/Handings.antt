@@ -1,39 +1,73 @@
 -- Which shapes hand a node on, and as what.
-use Rattle.std.proofs.Common.{◌≡◌, ℕ, List, Bool, true, false, refl, ap}
-use Rattle.std.specs.Prelude.{if◌then◌else◌}
-use Rattle.yaml_shape.specs.PlainShape.{PlainShape, option_shape, newtype_shape, ignored_shape}
-use Rattle.yaml_read.specs.Handing.{Handing, as_is, as_some, as_newtype, as_ignored, handed, is_content}
+use Rattle.std.proofs.Common.{◌≡◌, ℕ, List, Option, Some, None, Bool, true, false, refl, subst, if◌then◌else◌}
+use Rattle.yaml_shape.specs.PlainShape.{PlainShape, any_shape, option_shape, newtype_shape, ignored_shape, struct_shape}
+use Rattle.yaml_shape.specs.PlainShape.{struct_variant_shape, enum_shape, PlainVariant}
+use Rattle.yaml_read.specs.Handing.{Handing, as_is, as_some, as_newtype, as_ignored, as_bare, as_variant, as_tagged}
+use Rattle.yaml_read.specs.Handing.{as_refused}
+use Rattle.yaml_read.specs.Handing.{handed, is_content, is_bare, is_filled_scalar, any_by, enum_by, variant_by}
+use Rattle.yaml_read.specs.NodeTags.{untaken_name}
 use Rattle.yaml_read.specs.PlainDocEvent.{PlainDocEvent}
+use Rattle.yaml_read.specs.Variants.{Variants, variant_named}
+use Rattle.yaml_read.specs.inner.Reader.{fields_in}
 
-chosen_some : (b : Bool) (c content : ℕ) → ◌≡◌ {A = Handing} (if b then as_some content else as_is) (as_some c) → content ≡ c
-chosen_some true c content h = cc
-chosen_some false c content h = absurd cc
+-- what is handed on as something is handed on by a shape that has it, from an event that has it
+abbrev pub From : PlainShape → (taken : Bool) → PlainDocEvent → Handing → Type 0
+From s taken e as_is = Unit {0}
+From s taken e (as_some c) = s ≡ option_shape c
+From s taken e (as_newtype c) = (name : List ℕ) × (s ≡ newtype_shape name c)
+From s taken e as_ignored = s ≡ ignored_shape
+From s taken e (as_bare fields) = (strict : Bool) × (fields_in s ≡ Some (strict, fields)) × (is_bare e ≡ true)
+From s taken e (as_variant place around content) =
+    (variants : Variants) × (s ≡ enum_shape around.name variants)
+    × (variant_named variants around.variant ≡ Some (place, content)) × (taken ≡ false)
+From s taken e (as_tagged name) = (s ≡ any_shape) × (taken ≡ false)
+From s taken e as_refused = Unit {0}
 
-no_newtype : (b : Bool) (c content : ℕ) → ◌≡◌ {A = Handing} (if b then as_some content else as_is) (as_newtype c) → ⊥
-no_newtype true c content h = cc
-no_newtype false c content h = cc
+-- a node that a shape hands on comes from that shape
+pub handed_from : (s : PlainShape) (taken : Bool) (e : PlainDocEvent) → From s taken e (handed s taken e)
+handed_from (option_shape c) taken e = chosen (is_content taken e)
+  where
+    chosen : (b : Bool) → From (option_shape c) taken e (if b then as_some c else as_is)
+    chosen true = refl
+    chosen false = tt
+handed_from (newtype_shape name inner) taken e = (name, refl)
+handed_from ignored_shape taken e = refl
+handed_from (struct_shape strict name fields) taken e = chosen (is_bare e) refl
+  where
+    chosen : (b : Bool) → is_bare e ≡ b
+        → From (struct_shape strict name fields) taken e (if b then as_bare fields else as_is)
+    chosen true is = (strict, refl, is)
+    chosen false is = tt
+handed_from (struct_variant_shape strict name variant fields) taken e = chosen (is_bare e) refl
+  where
+    chosen : (b : Bool) → is_bare e ≡ b
+        → From (struct_variant_shape strict name variant fields) taken e (if b then as_bare fields else as_is)
+    chosen true is = (strict, refl, is)
+    chosen false is = tt
+handed_from any_shape true e = tt
+handed_from any_shape false e = by_name (untaken_name false e)
+  where
+    by_name : (o : Option (List ℕ)) → From any_shape false e (any_by o)
+    by_name None = tt
+    by_name (Some name) = (refl, refl)
+handed_from (enum_shape name variants) true e = chosen (is_filled_scalar e)
+  where
+    chosen : (b : Bool) → From (enum_shape name variants) true e (if b then as_is else as_refused)
+    chosen true = tt
+    chosen false = tt
+handed_from (enum_shape name variants) false e = by_name (untaken_name false e)
+  where
+    by_variant : (tag : List ℕ) (o : Option (ℕ × PlainVariant)) → variant_named variants tag ≡ o
+        → From (enum_shape name variants) false e (variant_by (record { name = name; variant = tag }) o)
+    by_variant tag None is = tt
+    by_variant tag (Some v) is = (variants, refl, is, refl)
 
-not_ignored : (b : Bool) (content : ℕ) → ◌≡◌ {A = Handing} (if b then as_some content else as_is) as_ignored → ⊥
-not_ignored true content h = cc
-not_ignored false content h = cc
+    by_name : (o : Option (List ℕ)) → From (enum_shape name variants) false e (enum_by name variants o)
+    by_name None = tt
+    by_name (Some tag) = by_variant tag (variant_named variants tag) refl
+handed_from _ taken e = tt
 
--- what is handed on as an optional's content is that content
-pub optional_from : (s : PlainShape) (taken : Bool) (e : PlainDocEvent) (c : ℕ) → handed s taken e ≡ as_some c → s ≡ option_shape c
-optional_from (option_shape c') taken e c h = ap option_shape (chosen_some (is_content taken e) c c' h)
-optional_from (newtype_shape name inner) taken e c h = absurd cc
-optional_from ignored_shape taken e c h = absurd cc
-optional_from _ taken e c h = absurd cc
-
--- what is handed on as a newtype's content is that content
-pub newtype_from : (s : PlainShape) (taken : Bool) (e : PlainDocEvent) (c : ℕ) → handed s taken e ≡ as_newtype c → (name : List ℕ) × (s ≡ newtype_shape name c)
-newtype_from (newtype_shape name inner) taken e c h = (name, cc)
-newtype_from (option_shape c') taken e c h = absurd (no_newtype (is_content taken e) c c' h)
-newtype_from ignored_shape taken e c h = absurd cc
-newtype_from _ taken e c h = absurd cc
-
--- what is stepped over is stepped over by its shape
-pub ignored_from : (s : PlainShape) (taken : Bool) (e : PlainDocEvent) → handed s taken e ≡ as_ignored → s ≡ ignored_shape
-ignored_from ignored_shape taken e h = refl
-ignored_from (option_shape c') taken e h = absurd (not_ignored (is_content taken e) c' h)
-ignored_from (newtype_shape name inner) taken e h = absurd cc
-ignored_from _ taken e h = absurd cc
+-- the same of what is known to be handed on as something
+pub from_handing : (s : PlainShape) (taken : Bool) (e : PlainDocEvent) (h : Handing) → handed s taken e ≡ h
+    → From s taken e h
+from_handing s taken e h to = subst (From s taken e) to (handed_from s taken e)

@@ -1,13 +1,20 @@
 -- A tree means at most one thing.
 use Rattle.std.proofs.Common.{◌≡◌, ℕ, suc, ◌+◌, Bool, refl, ap, ap₂, Ok, Some, sym, ◌∙◌, Result}
-use Rattle.std.specs.Prelude.{max, List}
+use Rattle.std.specs.Prelude.{max, set, List}
 use Rattle.yaml_base.specs.declared.error.Cause.{Cause}
-use Rattle.yaml_shape.specs.PlainData.{PlainData, PlainItems, PlainEntries, seq_data, item, map_data, some_data, newtype_data, tuple_data}
-use Rattle.yaml_shape.specs.PlainShape.{PlainShape}
+use Rattle.yaml_shape.specs.PlainData.{PlainData, PlainItems, PlainEntries, any_data, variant_data, ignored_data, seq_data, item, map_data, some_data, newtype_data, tuple_data}
+use Rattle.yaml_shape.specs.PlainShape.{PlainShape, ignored_shape}
+use Rattle.yaml_tree.specs.Tree.{sequence, tagged}
+use Rattle.yaml_tree.specs.Tree as tree
+use Rattle.yaml_read.specs.AnyData.{tree_in, trees_in, pairs_in}
 use Rattle.yaml_read.specs.DocTree.{DocNode, DocNodes, DocPairs}
-use Rattle.yaml_read.specs.Handing.{Handing}
+use Rattle.yaml_read.specs.Fields.{Fields, Slots, find, name_in, struct_of}
+use Rattle.yaml_read.specs.Handing.{Handing, as_ignored}
 use Rattle.yaml_read.specs.Meaning.{Means, means_node, MeansAs, means_some, means_newtype, means_ignored, means_target, means_void, means_scalar, means_list, means_mapping}
+use Rattle.yaml_read.specs.Meaning.{means_bare, means_struct, MeanFields, means_no_fields, means_field, means_unknown}
+use Rattle.yaml_read.specs.Meaning.{means_variant, means_tagged, means_tuple_variant, means_any_list, means_struct_variant, means_any_mapping}
 use Rattle.yaml_read.specs.Meaning.{MeansList, means_seq, means_tuple, means_tuple_struct, MeansPairs, means_map, MeanEach, means_none, means_more, MeanRow, means_no_elements, means_element, MeanPairs, means_no_pairs, means_pair}
+use Rattle.yaml_read.proofs.FieldLaws.{same_place, same_number}
 
 -- the same data, with the same counts
 pub record Same {A : Type 0} (v v' : A) (d d' k k' : ℕ) : Type 0 where
@@ -35,6 +42,15 @@ module _ (table : List PlainShape) (root : DocNode) where
         let r = one_meaning m (rw (← same) at m') in
         record { data_is = ap newtype_data r.data_is; nestings = ap suc r.nestings; follows = r.follows }
     one_meaning_as means_ignored means_ignored = record { data_is = refl; nestings = refl; follows = refl }
+    one_meaning_as (means_bare e) (means_bare e') =
+        record { data_is = ok_is (sym e ∙ e'); nestings = refl; follows = refl }
+    one_meaning_as (means_variant {place} {t} is m) (means_variant {t = t'} is' m') =
+        let same : t ≡ t' = cc in
+        let r = one_meaning m (rw (← same) at m') in
+        record { data_is = ap (variant_data place) r.data_is; nestings = r.nestings; follows = r.follows }
+    one_meaning_as (means_tagged {name} m) (means_tagged m') =
+        let r = one_meaning m m' in
+        record { data_is = ap (λ v. any_data (tagged name (tree_in v))) r.data_is; nestings = r.nestings; follows = r.follows }
     one_meaning_as (means_target {n} e m) (means_target {n = n'} e' m') =
         let same : n ≡ n' = cc in
         let r = one_meaning m (rw (← same) at m') in
@@ -59,6 +75,12 @@ module _ (table : List PlainShape) (root : DocNode) where
     one_list (means_tuple_struct m) (means_tuple_struct m') =
         let r = row_means_one m m' in
         record { data_is = ap tuple_data r.data_is; nestings = r.nestings; follows = r.follows }
+    one_list (means_tuple_variant m) (means_tuple_variant m') =
+        let r = row_means_one m m' in
+        record { data_is = ap tuple_data r.data_is; nestings = r.nestings; follows = r.follows }
+    one_list (means_any_list m) (means_any_list m') =
+        let r = each_means_one m m' in
+        record { data_is = ap (λ vs. any_data (sequence (trees_in vs))) r.data_is; nestings = r.nestings; follows = r.follows }
 
     one_mapping : {s : PlainShape} {ps : DocPairs} {v v' : PlainData} {d d' k k' : ℕ} → MeansPairs table root s ps v d k → MeansPairs table root s ps v' d' k' → Same v v' d d' k k'
     one_mapping (means_map {s} {t} is there m) (means_map {s = s'} {t = t'} is' there' m') =
@@ -66,6 +88,17 @@ module _ (table : List PlainShape) (root : DocNode) where
         let same' : t ≡ t' = cc in
         let r = pairs_mean_one m (rw (← same, ← same') at m') in
         record { data_is = ap map_data r.data_is; nestings = r.nestings; follows = r.follows }
+    one_mapping (means_struct {fields} m e) (means_struct m' e') =
+        let r = fields_mean_one m m' in
+        let made = sym e ∙ ap (struct_of table fields) r.data_is ∙ e' in
+        record { data_is = ok_is made; nestings = r.nestings; follows = r.follows }
+    one_mapping (means_struct_variant {fields} m e) (means_struct_variant m' e') =
+        let r = fields_mean_one m m' in
+        let made = sym e ∙ ap (struct_of table fields) r.data_is ∙ e' in
+        record { data_is = ok_is made; nestings = r.nestings; follows = r.follows }
+    one_mapping (means_any_mapping m apart) (means_any_mapping m' apart') =
+        let r = pairs_mean_one m m' in
+        record { data_is = ap (λ vs. any_data (tree.mapping (pairs_in vs))) r.data_is; nestings = r.nestings; follows = r.follows }
 
     each_means_one : {s : PlainShape} {ns : DocNodes} {vs vs' : PlainItems} {d d' k k' : ℕ} → MeanEach table root s ns vs d k → MeanEach table root s ns vs' d' k' → Same vs vs' d d' k k'
     each_means_one means_none means_none = record { data_is = refl; nestings = refl; follows = refl }
@@ -89,3 +122,36 @@ module _ (table : List PlainShape) (root : DocNode) where
         let r = one_meaning m m' in
         let rs = pairs_mean_one ms ms' in
         record { data_is = cc; nestings = cc; follows = cc }
+
+    -- from what was read before, what is read after is one
+    fields_mean_one : {strict : Bool} {fields : Fields} {before after after' : Slots} {ps : DocPairs} {d d' k k' : ℕ}
+        → MeanFields table root strict fields before ps after d k
+        → MeanFields table root strict fields before ps after' d' k' → Same after after' d d' k k'
+    fields_mean_one means_no_fields means_no_fields = record { data_is = refl; nestings = refl; follows = refl }
+    fields_mean_one (means_field {fields} {before} {u} {v} {place} {id} {s} l found free is m ms)
+        (means_field {u = u'} {v = v'} {place = place'} {id = id'} {s = s'} l' found' free' is' m' ms') =
+        let q = one_meaning l l' in
+        let field = sym found ∙ ap (λ u. find fields (name_in u)) q.data_is ∙ found' in
+        let places = same_place place id place' id' field in
+        let numbers = same_number place id place' id' field in
+        let shapes : s ≡ s' = cc in
+        let r = one_meaning m (rw (← shapes) at m') in
+        let slots : set before place' (Some v') ≡ set before place (Some v) = cc in
+        let rs = fields_mean_one ms (rw slots at ms') in
+        record { data_is = rs.data_is; nestings = cc; follows = cc }
+    fields_mean_one (means_field {fields} {u} l found free is m ms) (means_unknown {u = u'} loose l' found' ms') =
+        let q = one_meaning l l' in absurd cc
+    fields_mean_one (means_unknown {fields} {u} loose l found ms) (means_field {u = u'} l' found' free' is' m' ms') =
+        let q = one_meaning l l' in absurd cc
+    fields_mean_one (means_unknown loose l found ms) (means_unknown loose' l' found' ms') =
+        let q = one_meaning l l' in
+        let rs = fields_mean_one ms ms' in
+        record { data_is = rs.data_is; nestings = cc; follows = cc }
+
+  -- a node that is stepped over costs nothing
+  free_as : {h : Handing} {s : PlainShape} {n : DocNode} {taken : Bool} {v : PlainData} {d k : ℕ} → h ≡ as_ignored → MeansAs table root h s n taken v d k → (v ≡ ignored_data) × (d ≡ 0) × (k ≡ 0)
+  free_as e means_ignored = (refl, refl, refl)
+  free_as e _ = absurd cc
+
+  pub ignored_is_free : {n : DocNode} {taken : Bool} {v : PlainData} {d k : ℕ} → Means table root ignored_shape n taken v d k → (v ≡ ignored_data) × (d ≡ 0) × (k ≡ 0)
+  ignored_is_free (means_node late to m) = free_as (sym to) m

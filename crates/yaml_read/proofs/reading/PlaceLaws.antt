@@ -7,6 +7,8 @@ use Rattle.yaml_base.specs.declared.error.Cause.{Cause}
 use Rattle.yaml_base.specs.declared.error.Cause.TheVariants.{Memory}
 use Rattle.yaml_base.specs.declared.error.Place.{Place}
 use Rattle.yaml_shape.specs.PlainShape.{PlainShape}
+use Rattle.std.specs.Option.{is_some}
+use Rattle.yaml_read.specs.NodeTags.{Around}
 use Rattle.yaml_read.specs.Places.{Way, placed, place, places}
 use Rattle.yaml_read.specs.PlainDocEvent.{PlainDocEvent}
 use Rattle.yaml_read.specs.TreeReader.{Answer, Spot}
@@ -31,14 +33,14 @@ filled_memory Memory p = refl
 filled_memory _ p = refl
 
 -- a node's reading is its step, with its fault placed
-pub node_unfolds : (source : Source) (way : Way) (s : PlainShape) (nest : ℕ) (taken : Bool) (at : Spot) (fuel : ℕ) → 0 < fuel
-    → node_at source fuel way s nest taken at ≡ place_at way s (source.events at.place) (node_step source (node_at source (fuel - 1)) way s nest taken at)
+pub node_unfolds : (source : Source) (way : Way) (s : PlainShape) (nest : ℕ) (taken : Option Around) (at : Spot) (fuel : ℕ) → 0 < fuel
+    → node_at source fuel way s nest taken at ≡ place_at way s (is_some taken) (source.events at.place) (node_step source (node_at source (fuel - 1)) way s nest taken at)
 unfolding node_at
 node_unfolds source way s nest taken at zero lt = absurd (omega arith)
 node_unfolds source way s nest taken at (suc f) lt = rw (enough f)
 
-module _ (way : Way) (s : PlainShape) where
-  pub place_ok : {A : Type 0} (e : Option (PlainDocEvent × Position)) (x : A) → ◌≡◌ {A = Result A Cause} (place_at way s e (Ok x)) (Ok x)
+module _ (way : Way) (s : PlainShape) (taken : Bool) where
+  pub place_ok : {A : Type 0} (e : Option (PlainDocEvent × Position)) (x : A) → ◌≡◌ {A = Result A Cause} (place_at way s taken e (Ok x)) (Ok x)
   place_ok None x = refl
   place_ok (Some e) x = refl
 
@@ -46,13 +48,13 @@ module _ (way : Way) (s : PlainShape) where
   err_is h = cc
 
   -- a fault is placed alike, whatever the answer would have been, and it is want of memory as before
-  pub place_moved : {A B : Type 0} (e : Option (PlainDocEvent × Position)) (f y : Cause) → place_at {A = A} way s e (Err f) ≡ Err y → place_at {A = B} way s e (Err f) ≡ Err y
+  pub place_moved : {A B : Type 0} (e : Option (PlainDocEvent × Position)) (f y : Cause) → place_at {A = A} way s taken e (Err f) ≡ Err y → place_at {A = B} way s taken e (Err f) ≡ Err y
   place_moved None f y h = ap Err (err_is h)
   place_moved (Some e) f y h = ap Err (err_is h)
 
-  pub place_memory : {A : Type 0} (e : Option (PlainDocEvent × Position)) (f y : Cause) → place_at {A = A} way s e (Err f) ≡ Err y → is_memory f ≡ is_memory y
+  pub place_memory : {A : Type 0} (e : Option (PlainDocEvent × Position)) (f y : Cause) → place_at {A = A} way s taken e (Err f) ≡ Err y → is_memory f ≡ is_memory y
   place_memory None f y h = ap is_memory (err_is h)
-  place_memory (Some e) f y h = chosen (places s) ∙ ap is_memory (err_is h)
+  place_memory (Some e) f y h = chosen (places s taken e.0) ∙ ap is_memory (err_is h)
     where
       chosen : (b : Bool) → is_memory f ≡ is_memory (placed b e.1 way f)
       chosen true = sym (filled_memory f (record { mark = e.1; path = way.text }))

@@ -1,9 +1,8 @@
 -- What a document gives, from what its reading gives.
-use Rattle.std.proofs.Common.{◌≡◌, ℕ, suc, ◌+◌, ◌*◌, ◌<◌, ◌≤◌, List, [], ◌∷◌, map, length, Option, Some, None, Result, Ok, Err, Bool, true, false, refl, sym, ap, subst, ◌∙◌, arith}
+use Rattle.std.proofs.Common.{◌≡◌, ℕ, suc, ◌+◌, ◌*◌, ◌<◌, ◌≤◌, List, [], ◌∷◌, map, length, Some, None, Result, Ok, Err, false, refl, sym, ap, subst, ◌∙◌, arith}
 use Rattle.std.specs.Prelude.{slice_get}
 use Rattle.std.proofs.lemmas.List.{length-map}
 use Rattle.std.proofs.lemmas.Option.{slice_get_within}
-use Rattle.yaml_base.specs.Answer.{is_memory}
 use Rattle.yaml_base.specs.Position.{Position}
 use Rattle.yaml_base.specs.declared.error.Cause.{Cause}
 use Rattle.yaml_shape.specs.PlainData.{PlainData}
@@ -19,10 +18,10 @@ use Rattle.yaml_read.specs.PlainDocEvent.{PlainDocEvent}
 use Rattle.yaml_read.specs.PlainDocument.{PlainDocument}
 use Rattle.yaml_read.specs.Reads.{IsTreeOf, Reads, IsRefusal, DocumentGives}
 use Rattle.yaml_read.specs.Steps.{◌>>=◌}
-use Rattle.yaml_read.specs.TreeReader.{PlainLimits, Spot, Answer, marks_of, mark_or_first, whole_fuel, whole_tree, answer_of}
+use Rattle.yaml_read.specs.TreeReader.{PlainLimits, Spot, Answer, marks_of, whole_fuel, whole_tree, answer_of}
 use Rattle.yaml_read.specs.declared.doc_event.DocEvent.{DocEvent}
 use Rattle.yaml_read.specs.inner.Reader.{Source, Reading, Events, node_at}
-use Rattle.yaml_read.proofs.reading.Complete.{Outcome, reads, deep, many, tree_outcome, reach_rank}
+use Rattle.yaml_read.proofs.reading.Complete.{Outcome, reads, deep, many, tree_outcome}
 use Rattle.yaml_read.proofs.reading.EndLaws.{node_ends}
 use Rattle.yaml_read.proofs.reading.Shown.{Shows}
 use Rattle.yaml_read.proofs.reading.Sound.{tree_sound}
@@ -49,14 +48,14 @@ whole_source table document = record {
 -- the reading of a document from its start, by places
 abbrev pub whole_reading : PlainLimits → List PlainShape → PlainDocument → PlainShape → Reading PlainData
 whole_reading limits table document s =
-    node_at (whole_source table document) (whole_fuel limits (length document.events)) root_way s limits.nesting false
+    node_at (whole_source table document) (whole_fuel limits (length document.events)) root_way s limits.nesting None
     (record { place = 0; left = limits.follows * length document.events })
 
 -- what the walk over a document's events gives is that reading
 pub seen_whole : (limits : PlainLimits) (table : List PlainShape) (s : PlainShape) → reach table s ≤ 4096 → (document : PlainDocument)
     (es : List (DocEvent × Position)) (ends : List ℕ) (r : Reading PlainData) → marked_events_of es ≡ document.events → ends ≡ ends_of (map (λ e. e.0) document.events)
-    → ((fuel : ℕ) → depth table s limits.nesting (limits.follows * length es) < fuel
-    → node_at (record { table = table; events = slice_get (marked_events_of es); ends = slice_get ends; size = length es }) fuel root_way s limits.nesting false
+    → ((fuel : ℕ) → depth table s false limits.nesting (limits.follows * length es) < fuel
+    → node_at (record { table = table; events = slice_get (marked_events_of es); ends = slice_get ends; size = length es }) fuel root_way s limits.nesting None
     (record { place = 0; left = limits.follows * length es }) ≡ r)
     → whole_reading limits table document s ≡ r
 seen_whole limits table s small document es ends r seen numbers gives =
@@ -86,28 +85,22 @@ answer_err : (r : Answer PlainData) (y : Cause) → (r >>= λ x. Ok x.0) ≡ Err
 answer_err (Ok x) y h = absurd cc
 answer_err (Err z) y h = ap Err (err_is _ _ h)
 
-marked : (o : Option (PlainDocEvent × Position)) (e : PlainDocEvent × Position) → o ≡ Some e → e.1 ≡ mark_or_first o
-marked o e h = rw h
-
 module _ (limits : PlainLimits) (table : List PlainShape) (s : PlainShape) (document : PlainDocument) where
   module _ (root : DocNode) (is : IsTreeOf document root) where
     shown : Shows (slice_get document.events) 0 (events_of root)
     shown = subst (Shows (slice_get document.events) 0) is.events (shows_list document.events)
 
-    at_marks : (p : ℕ) (e : PlainDocEvent × Position) → slice_get document.events p ≡ Some e → e.1 ≡ marks_of document.events p
-    at_marks p e h = marked (slice_get document.events p) e h
-
     -- what reading by places answers is what reading the tree answers
     tied : whole_reading limits table document s ≡ landed (0 + length (events_of root)) (whole_tree limits table document.events s root)
     tied =
-        reader_tied (whole_source table document) (λ p e. slice_get_within document.events p e) (node_ends document.events) (marks_of document.events) at_marks root shown is.known
-        (whole_fuel limits (length document.events)) root_way s limits.nesting false root (record { place = 0; left = limits.follows * length document.events }) shown
+        reader_tied (whole_source table document) (λ p e. slice_get_within document.events p e) (node_ends document.events) (marks_of document.events) (λ p. refl) root shown is.known
+        (whole_fuel limits (length document.events)) root_way s limits.nesting None root (record { place = 0; left = limits.follows * length document.events }) shown
 
     -- an answer is what the tree means
     answer_read : (v : PlainData) → answer_of limits table s document root ≡ Ok v → Reads limits table s root (length document.events) v
     answer_read v h =
         let r = answer_ok (whole_tree limits table document.events s root) v h in
-        let f = tree_sound table root (marks_of document.events) (whole_fuel limits (length document.events)) root_way s limits.nesting false root
+        let f = tree_sound table root (marks_of document.events) (whole_fuel limits (length document.events)) root_way s limits.nesting None root
         (record { place = 0; left = limits.follows * length document.events }) (v, r.0) r.1 in
         record { nestings = f.d; followed = f.k; means = f.meaning; nests_within = f.nested; follows_within = omega (arith, f.followed) }
 
@@ -124,8 +117,8 @@ module _ (limits : PlainLimits) (table : List PlainShape) (s : PlainShape) (docu
     outcome : (root : DocNode) (v : PlainData) (d k : ℕ) → Means table root s root false v d k
         → Outcome (whole_tree limits table document.events s root) v limits.nesting (limits.follows * length document.events) d k
     outcome root v d k m =
-        tree_outcome table root (marks_of document.events) small falls m root_way (whole_fuel limits (length document.events)) limits.nesting
-        (record { place = 0; left = limits.follows * length document.events }) (omega (arith, low))
+        tree_outcome table root (marks_of document.events) small falls m root_way (whole_fuel limits (length document.events)) limits.nesting None
+        (record { place = 0; left = limits.follows * length document.events }) refl (omega (arith, low))
 
     -- within the limits what the tree means is answered
     read_answer : (root : DocNode) (v : PlainData) → Reads limits table s root (length document.events) v → answer_of limits table s document root ≡ Ok v

@@ -1,24 +1,34 @@
 -- Reading by the places of a document's events: what the code answers, step by step.
 use Rattle.std.specs.Prelude.{ℕ, zero, suc, ◌+◌, List, [], ◌∷◌, ◌++◌, length, Option, Some, None, Result, Ok, Err}
 use Rattle.std.specs.Prelude.{Bool, true, false, if◌then◌else◌, nat_lt}
+use Rattle.std.specs.Option.{is_some}
 use Rattle.yaml_base.specs.Position.{Position}
 use Rattle.yaml_base.specs.declared.error.Cause.{Cause}
 use Rattle.yaml_base.specs.declared.error.Cause.TheVariants.{Memory, EndOfStream}
 use Rattle.yaml_shape.specs.DataView.{items_of, entries_of}
-use Rattle.yaml_shape.specs.Expected.{tuple_text, tuple_struct_text}
-use Rattle.yaml_shape.specs.PlainData.{PlainData, seq_data, map_data, ignored_data, some_data, newtype_data}
+use Rattle.yaml_shape.specs.Expected.{tuple_text, tuple_struct_text, tuple_variant_with_text}
+use Rattle.yaml_shape.specs.PlainData.{PlainData, any_data, variant_data, seq_data, map_data, ignored_data, some_data}
+use Rattle.yaml_shape.specs.PlainData.{newtype_data}
 use Rattle.yaml_shape.specs.PlainShape.{PlainShape, bool_shape, char_shape, integer_shape, str_shape, identifier_shape}
-use Rattle.yaml_shape.specs.PlainShape.{unit_shape, unit_struct_shape, seq_shape, tuple_shape, tuple_struct_shape, map_shape, shape_at}
+use Rattle.yaml_shape.specs.PlainShape.{unit_shape, unit_struct_shape, seq_shape, tuple_shape, tuple_struct_shape, map_shape, struct_shape}
+use Rattle.yaml_shape.specs.PlainShape.{any_shape, tuple_variant_shape, struct_variant_shape, shape_at, content_shape}
+use Rattle.yaml_tree.specs.Tree.{sequence, tagged}
+use Rattle.yaml_tree.specs.Tree as tree
+use Rattle.yaml_read.specs.AnyData.{tree_in, trees_in, pairs_in, new_key}
 use Rattle.yaml_read.specs.Ends.{is_closing}
-use Rattle.yaml_read.specs.Handing.{Handing, as_is, as_some, as_newtype, as_ignored, handed, early}
-use Rattle.yaml_read.specs.Places.{Way, element_under, value_under, places, place}
+use Rattle.yaml_read.specs.Fields.{Fields, Slots, no_slots, name_in, field_named, field_step, struct_of}
+use Rattle.yaml_read.specs.Handing.{Handing, as_is, as_some, as_newtype, as_ignored, as_bare, as_variant, as_tagged}
+use Rattle.yaml_read.specs.Handing.{as_refused}
+use Rattle.yaml_read.specs.Handing.{handed, early, refusal}
+use Rattle.yaml_read.specs.NodeTags.{Around, around_value}
+use Rattle.yaml_read.specs.Places.{Way, element_under, value_under, places, place, text_place}
 use Rattle.yaml_read.specs.PlainDocEvent.{PlainDocEvent, alias_to, a_scalar, a_void}
 use Rattle.yaml_read.specs.PlainDocEvent.{sequence_begins, sequence_ends, mapping_begins, mapping_ends}
 use Rattle.yaml_read.specs.Rows.{Row, row_of, one_more, row_data}
 use Rattle.yaml_read.specs.ScalarFound.{sequence_fault, mapping_fault}
 use Rattle.yaml_read.specs.ScalarShapes.{scalar_answer, void_answer}
 use Rattle.yaml_read.specs.Steps.{◌>>=◌, ending, wrap, enter, follow, finish, with_shape, unless}
-use Rattle.yaml_read.specs.TreeReader.{Spot, after}
+use Rattle.yaml_read.specs.TreeReader.{Spot, after, mark_or_first}
 
 -- what reading answers: a value and where it ended, or a fault
 abbrev pub Reading : Type 0 → Type 0
@@ -61,19 +71,24 @@ unfoldable pub each_at : {S : Type 0} → (PlainDocEvent → Bool) → (S → Sp
 each_at is_end step events zero s at = Err Memory
 each_at is_end step events (suc n) s at = turn is_end step (each_at is_end step events n) s at (events at.place)
 
--- reads what a shape, a number of nestings left, whether the tag is taken, and a spot ask for
+-- reads what a shape, a number of nestings left, what took the tag, if it is taken, and a spot ask for
 abbrev pub Reader : Type 0
-Reader = PlainShape → (nest : ℕ) → (taken : Bool) → Spot → Reading PlainData
+Reader = PlainShape → (nest : ℕ) → (taken : Option Around) → Spot → Reading PlainData
 
 -- the shape reads sequences as its own, and mappings
 abbrev pub takes_sequence : PlainShape → Bool
 takes_sequence (seq_shape e) = true
 takes_sequence (tuple_shape ids) = true
 takes_sequence (tuple_struct_shape name ids) = true
+takes_sequence (tuple_variant_shape name variant ids) = true
+takes_sequence any_shape = true
 takes_sequence _ = false
 
 abbrev pub takes_mapping : PlainShape → Bool
 takes_mapping (map_shape a b) = true
+takes_mapping (struct_shape strict name fields) = true
+takes_mapping (struct_variant_shape strict name variant fields) = true
+takes_mapping any_shape = true
 takes_mapping _ = false
 
 -- the shape reads the collection that begins with the event as its own
@@ -93,37 +108,80 @@ is_leaf unit_shape = true
 is_leaf (unit_struct_shape name) = true
 is_leaf _ = false
 
+-- the fields that a shape reads of a mapping, and whether others are refused
+abbrev pub fields_in : PlainShape → Option (Bool × Fields)
+fields_in (struct_shape strict name fields) = Some (strict, fields)
+fields_in (struct_variant_shape strict name variant fields) = Some (strict, fields)
+fields_in _ = None
+
+-- the shapes of the elements that a shape reads of a sequence as a row, behind what too few of them are told to lack
+abbrev pub rows_in : PlainShape → Option (List ℕ × List ℕ)
+rows_in (tuple_shape ids) = Some (tuple_text (length ids), ids)
+rows_in (tuple_struct_shape name ids) = Some (tuple_struct_text name (length ids), ids)
+rows_in (tuple_variant_shape name variant ids) = Some (tuple_variant_with_text name variant (length ids), ids)
+rows_in _ = None
+
 -- the shape of a tuple, or of the tuple struct of a name
 abbrev pub row_shape : (name : Option (List ℕ)) → List ℕ → PlainShape
 row_shape None ids = tuple_shape ids
 row_shape (Some name) ids = tuple_struct_shape name ids
 
+-- whose elements are read: a tuple's, those of a tuple struct, or those of a variant of an enum
+pub data Owner : Type 0 where
+  of_tuple : Owner
+  of_tuple_struct : (name : List ℕ) → Owner
+  of_tuple_variant : (name variant : List ℕ) → Owner
+
+-- a tuple, or the tuple struct of a name
+abbrev pub owner_named : (name : Option (List ℕ)) → Owner
+owner_named None = of_tuple
+owner_named (Some name) = of_tuple_struct name
+
 -- what a node with too few elements is expected to be
-abbrev pub few_text : (name : Option (List ℕ)) → ℕ → List ℕ
-few_text None count = tuple_text count
-few_text (Some name) count = tuple_struct_text name count
+abbrev pub few_text : Owner → ℕ → List ℕ
+few_text of_tuple count = tuple_text count
+few_text (of_tuple_struct name) count = tuple_struct_text name count
+few_text (of_tuple_variant name variant) count = tuple_variant_with_text name variant count
 
 -- the way to the value behind a key whose first event was looked up
 abbrev pub value_at : Way → Option (PlainDocEvent × Position) → Way
 value_at way None = way
 value_at way (Some e) = value_under way e.0
 
+-- where the text of a key stands whose first event was looked up
+abbrev pub text_at : ℕ → Option (PlainDocEvent × Position) → ℕ
+text_at place None = place
+text_at place (Some e) = text_place e.0 place
+
 -- one more element
 abbrev pub item_at : (Way → Reader) → Way → PlainShape → (nest : ℕ) → List PlainData → Spot → Reading (List PlainData)
-item_at read way s nest vs at = wrap (λ v. vs ++ v ∷ []) (read (element_under way (length vs)) s nest false at)
+item_at read way s nest vs at = wrap (λ v. vs ++ v ∷ []) (read (element_under way (length vs)) s nest None at)
 
 -- places a fault of a node whose first event was looked up
-abbrev pub place_at : {A : Type 0} → Way → PlainShape → Option (PlainDocEvent × Position) → Result A Cause → Result A Cause
-place_at way s None r = r
-place_at way s (Some e) r = place (places s) e.1 way r
+abbrev pub place_at : {A : Type 0} → Way → PlainShape → (taken : Bool) → Option (PlainDocEvent × Position)
+    → Result A Cause → Result A Cause
+place_at way s taken None r = r
+place_at way s taken (Some e) r = place (places s taken e.0) e.1 way r
 
 module _ (source : Source) where
   -- one more entry
   abbrev pub entry_at : (Way → Reader) → Way → (key value : PlainShape) → (nest : ℕ) → List (PlainData × PlainData) → Spot
       → Reading (List (PlainData × PlainData))
   entry_at read way s t nest vs at =
-      wrap {B = Way × PlainData} (λ k. (value_at way (source.events at.place), k)) (read way s nest false at)
-      >>= λ k. wrap (λ v. vs ++ (k.0.1, v) ∷ []) (read k.0.0 t nest false k.1)
+      wrap {B = Way × PlainData} (λ k. (value_at way (source.events at.place), k)) (read way s nest None at)
+      >>= λ k. wrap (λ v. vs ++ (k.0.1, v) ∷ []) (read k.0.0 t nest None k.1)
+
+  -- a key of any values, no two of which are equal, and then its value
+  abbrev pub any_key_at : (Way → Reader) → Way → (nest : ℕ) → List (PlainData × PlainData) → Spot
+      → Reading (Way × PlainData)
+  any_key_at read way nest vs at =
+      finish (λ k. new_key vs k >>= λ k. Ok (value_at way (source.events at.place), k))
+      (read way any_shape nest None at)
+
+  abbrev pub any_entry_at : (Way → Reader) → Way → (nest : ℕ) → List (PlainData × PlainData) → Spot
+      → Reading (List (PlainData × PlainData))
+  any_entry_at read way nest vs at =
+      any_key_at read way nest vs at >>= λ k. wrap (λ v. vs ++ (k.0.1, v) ∷ []) (read k.0.0 any_shape nest None k.1)
 
   -- steps over a node, whose end the numbers of the events tell
   abbrev pub skip_to : Option ℕ → ℕ → Reading PlainData
@@ -141,8 +199,24 @@ module _ (source : Source) where
   -- one more element of a tuple
   abbrev pub row_at : (Way → Reader) → Way → (nest : ℕ) → Row → Spot → Reading Row
   row_at read way nest row at =
-      one_more (λ id. with_shape (shape_at source.table id) (λ s. read (element_under way (length row.read)) s nest false at))
+      one_more (λ id. with_shape (shape_at source.table id)
+      (λ s. read (element_under way (length row.read)) s nest None at))
       (skip_at at) row
+
+  -- the key of a field, and then its value
+  abbrev pub field_key_at : (Way → Reader) → Way → (strict : Bool) → Fields → (nest : ℕ) → Slots → Spot → Reading (Option (ℕ × ℕ) × Way)
+  field_key_at read way strict fields nest slots at =
+      finish (λ k. field_named strict fields slots (name_in k)
+      (record { mark = mark_or_first (source.events (text_at at.place (source.events at.place))); path = way.text })
+      >>= λ f. Ok (f, value_at way (source.events at.place))) (read way identifier_shape nest None at)
+
+  abbrev pub field_value_at : (Way → Reader) → (nest : ℕ) → Slots → Option (ℕ × ℕ) × Way → Spot → Reading Slots
+  field_value_at read nest slots k at =
+      field_step slots k.0 (λ id. with_shape (shape_at source.table id) (λ s. read k.1 s nest None at)) (skip_at at)
+
+  abbrev pub field_at : (Way → Reader) → Way → (strict : Bool) → Fields → (nest : ℕ) → Slots → Spot → Reading Slots
+  field_at read way strict fields nest slots at =
+      field_key_at read way strict fields nest slots at >>= λ k. field_value_at read nest slots k.0 k.1
 
   -- the parts of a sequence, and those of a mapping, behind what was gathered
   abbrev pub sequence_parts : {S : Type 0} → (S → Spot → Reading S) → (turns : ℕ) → S → Spot → Reading S
@@ -156,6 +230,12 @@ module _ (source : Source) where
   rows_at read way few ids nest mark at =
       enter nest mark (λ n. finish (row_data few (length ids)) (sequence_parts (row_at read way n) source.size (row_of ids) at))
 
+  -- the fields of a struct
+  abbrev pub fields_at : (Way → Reader) → Way → (strict : Bool) → Fields → ℕ → Position → Spot → Reading PlainData
+  fields_at read way strict fields nest mark at =
+      enter nest mark (λ n. finish (struct_of source.table fields)
+      (mapping_parts (field_at read way strict fields n) source.size (no_slots fields) at))
+
   -- a sequence, behind its start
   abbrev pub sequence_at : (Way → Reader) → Way → PlainShape → ℕ → Position → Spot → Reading PlainData
   sequence_at read way (seq_shape e) nest mark at =
@@ -164,6 +244,11 @@ module _ (source : Source) where
   sequence_at read way (tuple_shape ids) nest mark at = rows_at read way (tuple_text (length ids)) ids nest mark at
   sequence_at read way (tuple_struct_shape name ids) nest mark at =
       rows_at read way (tuple_struct_text name (length ids)) ids nest mark at
+  sequence_at read way (tuple_variant_shape name variant ids) nest mark at =
+      rows_at read way (tuple_variant_with_text name variant (length ids)) ids nest mark at
+  sequence_at read way any_shape nest mark at =
+      enter nest mark (λ n. wrap (λ vs. any_data (sequence (trees_in (items_of vs))))
+      (sequence_parts (item_at read way any_shape n) source.size [] at))
   sequence_at read way s nest mark at = Err (sequence_fault s)
 
   -- a mapping, behind its start
@@ -171,12 +256,19 @@ module _ (source : Source) where
   mapping_at read way (map_shape a b) nest mark at =
       enter nest mark (λ n. with_shape (shape_at source.table a) (λ s. with_shape (shape_at source.table b) (λ t.
       wrap (λ vs. map_data (entries_of vs)) (mapping_parts (entry_at read way s t n) source.size [] at))))
+  mapping_at read way (struct_shape strict name fields) nest mark at = fields_at read way strict fields nest mark at
+  mapping_at read way (struct_variant_shape strict name variant fields) nest mark at =
+      fields_at read way strict fields nest mark at
+  mapping_at read way any_shape nest mark at =
+      enter nest mark (λ n. wrap (λ vs. any_data (tree.mapping (pairs_in (entries_of vs))))
+      (mapping_parts (any_entry_at read way n) source.size [] at))
   mapping_at read way s nest mark at = Err (mapping_fault s)
 
   -- a node that begins with an event, by its kind
-  abbrev pub event_at : (Way → Reader) → Way → PlainShape → ℕ → Bool → Spot → PlainDocEvent → Position → Reading PlainData
-  event_at read way s nest taken at (alias_to j) mark = pursue (read way s nest false) j at.place at.left
-  event_at read way s nest taken at (a_scalar w) mark = ending (after at) (scalar_answer s taken w)
+  abbrev pub event_at : (Way → Reader) → Way → PlainShape → ℕ → Option Around → Spot → PlainDocEvent → Position
+      → Reading PlainData
+  event_at read way s nest taken at (alias_to j) mark = pursue (read way s nest None) j at.place at.left
+  event_at read way s nest taken at (a_scalar w) mark = ending (after at) (scalar_answer s (is_some taken) w)
   event_at read way s nest taken at (sequence_begins tag) mark = sequence_at read way s nest mark (after at)
   event_at read way s nest taken at sequence_ends mark = Err EndOfStream
   event_at read way s nest taken at (mapping_begins tag) mark = mapping_at read way s nest mark (after at)
@@ -184,21 +276,31 @@ module _ (source : Source) where
   event_at read way s nest taken at a_void mark = ending (after at) (void_answer s)
 
   -- the same, as it is handed on
-  abbrev pub handed_at : Handing → (Way → Reader) → Way → PlainShape → ℕ → Bool → Spot → PlainDocEvent → Position → Reading PlainData
+  abbrev pub handed_at : Handing → (Way → Reader) → Way → PlainShape → ℕ → Option Around → Spot → PlainDocEvent
+      → Position → Reading PlainData
   handed_at as_is read way s nest taken at e mark = event_at read way s nest taken at e mark
   handed_at (as_some c) read way s nest taken at e mark =
       with_shape (shape_at source.table c) (λ t. wrap some_data (read way t nest taken at))
   handed_at (as_newtype c) read way s nest taken at e mark =
       enter nest mark (λ m. with_shape (shape_at source.table c) (λ t. wrap newtype_data (read way t m taken at)))
   handed_at as_ignored read way s nest taken at e mark = skip_at at
+  handed_at (as_bare fields) read way s nest taken at e mark = ending (after at) (struct_of source.table fields (no_slots fields))
+  handed_at (as_variant place around content) read way s nest taken at e mark =
+      with_shape (content_shape source.table around.name around.variant content) (λ t.
+      wrap (variant_data place) (read way t nest (Some around) at))
+  handed_at (as_tagged name) read way s nest taken at e mark =
+      wrap (λ v. any_data (tagged name (tree_in v))) (read way any_shape nest (Some around_value) at)
+  handed_at as_refused read way s nest taken at e mark = Err (refusal s taken e)
 
   -- a node whose first event was looked up
-  abbrev pub shape_step : (Way → Reader) → Way → PlainShape → ℕ → Bool → Spot → Option (PlainDocEvent × Position) → Reading PlainData
+  abbrev pub shape_step : (Way → Reader) → Way → PlainShape → ℕ → Option Around → Spot
+      → Option (PlainDocEvent × Position) → Reading PlainData
   shape_step read way s nest taken at None = Err EndOfStream
-  shape_step read way s nest taken at (Some e) = handed_at (handed s taken e.0) read way s nest taken at e.0 e.1
+  shape_step read way s nest taken at (Some e) =
+      handed_at (handed s (is_some taken) e.0) read way s nest taken at e.0 e.1
 
   -- the same, where no fault comes first
-  abbrev pub node_step : (Way → Reader) → Way → PlainShape → ℕ → Bool → Spot → Reading PlainData
+  abbrev pub node_step : (Way → Reader) → Way → PlainShape → ℕ → Option Around → Spot → Reading PlainData
   node_step read way s nest taken at = unless (early s) (shape_step read way s nest taken at (source.events at.place))
 
   -- A node. The first number bounds the depth; more than `depth` tells is always enough. Beyond it, as beyond
@@ -206,4 +308,4 @@ module _ (source : Source) where
   unfoldable pub node_at : ℕ → Way → Reader
   node_at zero way s nest taken at = Err Memory
   node_at (suc fuel) way s nest taken at =
-      place_at way s (source.events at.place) (node_step (node_at fuel) way s nest taken at)
+      place_at way s (is_some taken) (source.events at.place) (node_step (node_at fuel) way s nest taken at)

@@ -1,15 +1,31 @@
 -- What the code reads, where its walk stands, and how many steps it may still take.
-use Rattle.std.specs.Prelude.{ℕ, ◌+◌, ◌-◌, ◌*◌, ◌<◌, ◌≤◌, List, map, length, drop, slice_get}
+use Rattle.std.specs.Prelude.{◌≡◌, ℕ, ◌+◌, ◌-◌, ◌*◌, ◌<◌, ◌≤◌, List, Option, Some, map, length, drop}
+use Rattle.std.specs.Prelude.{slice_get, [], ◌∷◌}
+use Rattle.std.specs.Option.{option_map}
+use denote.Ref.{Bor}
 use Rattle.yaml_base.specs.Position.{Position}
 use Rattle.yaml_shape.specs.DataView.{data_of}
+use Rattle.yaml_shape.specs.PlainData.{PlainData, any_data}
+use Rattle.yaml_shape.specs.Validity.{numbers_of}
+use Rattle.yaml_shape.specs.declared.data.Data.{Data}
+use Rattle.yaml_shape.specs.declared.shape.ShapeId.{ShapeId}
+use Rattle.yaml_tree.specs.Tree.{Trees, no_trees, tree, Pairs, no_pairs, pair}
+use Rattle.yaml_shape.specs.PlainShape.{PlainVariant}
+use Rattle.yaml_shape.specs.ShapeView.{content_of}
+use Rattle.yaml_shape.specs.declared.shape.VariantShape.{VariantShape}
 use Rattle.yaml_read.specs.DocEventView.{marked_events_of}
+use Rattle.yaml_read.specs.Fields.{Fields, Slots}
+use Rattle.yaml_read.specs.NodeTags.{Around}
+use Rattle.yaml_read.specs.declared.de.around.Around.{Around as CodeAround}
 use Rattle.yaml_read.specs.Rows.{Row}
 use Rattle.yaml_read.specs.TreeReader.{Spot}
 use Rattle.yaml_read.specs.declared.doc_event.DocEvent.{DocEvent}
 use Rattle.yaml_read.specs.declared.walk.Walk.{Walk}
 use Rattle.yaml_read.specs.declared.de.row.Elements.{Elements}
+use Rattle.yaml_read.specs.declared.de.row.Owner.{Owner as CodeOwner}
+use Rattle.yaml_read.specs.declared.de.row.Owner.TheVariants as owner
 use Rattle.yaml_read.specs.declared.de.source.Source.{Source as CodeSource}
-use Rattle.yaml_read.specs.inner.Reader.{Source, Events, Reader, node_at}
+use Rattle.yaml_read.specs.inner.Reader.{Source, Events, Reader, node_at, Owner, of_tuple, of_tuple_struct, of_tuple_variant}
 use Rattle.yaml_read.specs.Places.{Way}
 
 -- the event at each place
@@ -29,6 +45,13 @@ source_of c = record {
 abbrev pub reader_of : ℕ → CodeSource → Way → Reader
 reader_of fuel c = node_at (source_of c) fuel
 
+-- what took a tag, where something did
+abbrev pub plain_around : CodeAround → Around
+plain_around a = record { name = a.name.now; variant = a.variant.now }
+
+abbrev pub around_of : Option (Bor CodeAround) → Option Around
+around_of = option_map (λ a. plain_around a.now)
+
 -- the spot of a walk
 abbrev pub spot_of : Walk → Spot
 spot_of w = record { place = w.place; left = w.left }
@@ -36,6 +59,38 @@ spot_of w = record { place = w.place; left = w.left }
 -- the elements that were read of a tuple with these shapes
 abbrev pub row_view : List ℕ → Elements → Row
 row_view ids row = record { left = drop (length row.read.items) ids; read = map data_of row.read.items; extra = row.extra }
+
+-- whose elements are read
+abbrev pub owner_of : CodeOwner → Owner
+owner_of owner.Tuple = of_tuple
+owner_of (owner.TupleStruct name) = of_tuple_struct name.now
+owner_of (owner.TupleVariant name variant) = of_tuple_variant name.now variant.now
+
+-- what was read of the fields of a struct
+abbrev pub slots_of : List (Option Data) → Slots
+slots_of = map (option_map data_of)
+
+-- the values of a list that was read as far, as the data that they were read as
+abbrev pub any_items : Trees → List PlainData
+any_items no_trees = []
+any_items (tree t ts) = any_data t ∷ any_items ts
+
+-- the pairs of a mapping that was read as far, likewise
+abbrev pub any_entries : Pairs → List (PlainData × PlainData)
+any_entries no_pairs = []
+any_entries (pair k v ps) = (any_data k, any_data v) ∷ any_entries ps
+
+-- the place of a field, and the number of its shape
+abbrev pub field_view : Option (ℕ × ShapeId) → Option (ℕ × ℕ)
+field_view = option_map (λ f. (f.0, f.1.0))
+
+-- the place of a variant, and what it holds
+abbrev pub variant_view : Option (ℕ × Bor VariantShape) → Option (ℕ × PlainVariant)
+variant_view = option_map (λ v. (v.0, content_of v.1.now))
+
+-- the field is in its place among these
+abbrev pub IsAmong : Fields → ℕ × ShapeId → Type 0
+IsAmong fields f = slice_get (numbers_of fields) f.0 ≡ Some f.1.0
 
 -- The most steps that may follow among n events: the rest of the way, and the whole way for each follow that is left, each twice.
 abbrev pub potential : (n : ℕ) → Walk → ℕ

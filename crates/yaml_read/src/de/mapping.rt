@@ -1,6 +1,7 @@
 //! A mapping whose keys have one shape, and whose values have another.
 
 ghost use Rattle.std.specs.Prelude.{◌≡◌, ℕ, suc, ◌+◌, ◌*◌, ◌<◌, ◌≤◌, [], length, map, OnOk};
+ghost use Rattle.std.specs.Option.{is_some};
 ghost use Rattle.yaml_base.specs.Answer.{Gives};
 ghost use Rattle.yaml_shape.specs.DataView.{data_of, entry_of};
 ghost use Rattle.yaml_shape.specs.PlainShape.{map_shape};
@@ -10,8 +11,9 @@ ghost use Rattle.yaml_read.specs.Ends.{GoForward};
 ghost use Rattle.yaml_read.specs.Handing.{depth, reach};
 ghost use Rattle.yaml_read.specs.Places.{way_of};
 ghost use Rattle.yaml_read.specs.inner.Reader.{shape_step, entry_at, mapping_parts};
-ghost use Rattle.yaml_read.specs.inner.Walks.{source_of, spot_of, reader_of, seen, Moves, Costs};
+ghost use Rattle.yaml_read.specs.inner.Walks.{around_of, source_of, spot_of, reader_of, seen, Moves, Costs};
 
+use crate::de::around::Around;
 use crate::de::node::{is_leaf, too_deep};
 use crate::de::placed::value_path;
 use crate::de::refusal::{Result, ended};
@@ -31,15 +33,15 @@ impl<'s, 'de> Source<'s, 'de> {
         key: ShapeId,
         value: ShapeId,
         nest: u8,
-        taken: bool,
+        taken: Option<&Around<'_>>,
         walk: &mut Walk,
     ) -> Result<Data<'de>>
         requires mapping { shape_of shape.now ≡ map_shape key.0 value.0 }
         requires named { NamesWithin (length self.now.schema.now) (shape_of shape.now) }
         requires forward { GoForward self.now.ends.now }
-        ensures gives { (fuel : ℕ) → depth self.now.schema.now (shape_of shape.now) nest walk.old.left < suc fuel
+        ensures gives { (fuel : ℕ) → depth self.now.schema.now (shape_of shape.now) (is_some (around_of taken.entry)) nest walk.old.left < suc fuel
             → Gives (λ x. (data_of x, spot_of walk.new)) result
-            (shape_step (source_of self.now) (reader_of fuel self.now) (way_of path.now) (shape_of shape.now) nest taken
+            (shape_step (source_of self.now) (reader_of fuel self.now) (way_of path.now) (shape_of shape.now) nest (around_of taken.entry)
             (spot_of walk.old) (seen self.now.events.now walk.old.place)) }
         ensures moves { OnOk result (Moves (length self.now.events.now) walk.old walk.new) }
         ensures cost { Costs (length self.now.events.now) walk.old walk.new }
@@ -76,7 +78,7 @@ impl<'s, 'de> Source<'s, 'de> {
         requires reach { reach self.now.schema.now (shape_of key.now) ≤ 4096 }
         requires reach_value { reach self.now.schema.now (shape_of value.now) ≤ 4096 }
         requires forward { GoForward self.now.ends.now }
-        ensures gives { (fuel turns : ℕ) → 4098 * (walk.old.left + nest) + 4096 < fuel
+        ensures gives { (fuel turns : ℕ) → 8200 * (walk.old.left + nest) + 8196 < fuel
             → length self.now.events.now < turns + walk.old.place
             → Gives (λ x. (map entry_of x.items, spot_of walk.new)) result
             (mapping_parts (source_of self.now)

@@ -1,6 +1,7 @@
 //! A node under a shape: the walk through a document.
 
 ghost use Rattle.std.specs.Prelude.{◌≡◌, ℕ, suc, ◌<◌, length, OnOk, true, false};
+ghost use Rattle.std.specs.Option.{is_some};
 ghost use Rattle.yaml_base.specs.Answer.{Gives, is_memory};
 ghost use Rattle.yaml_base.specs.Position.{Position};
 ghost use Rattle.yaml_base.specs.declared.error.Cause.TheVariants.{RecursionLimitExceeded};
@@ -12,8 +13,9 @@ ghost use Rattle.yaml_read.specs.Ends.{GoForward};
 ghost use Rattle.yaml_read.specs.Handing.{depth};
 ghost use Rattle.yaml_read.specs.Places.{way_of};
 ghost use Rattle.yaml_read.specs.inner.Reader.{event_at, node_step, takes, is_leaf};
-ghost use Rattle.yaml_read.specs.inner.Walks.{source_of, spot_of, reader_of, Moves, Costs};
+ghost use Rattle.yaml_read.specs.inner.Walks.{around_of, source_of, spot_of, reader_of, Moves, Costs};
 
+use crate::de::around::{Around, is_taken};
 use crate::de::found::{found_mapping, found_sequence};
 use crate::de::refusal::{Refusal, Result, ended, refuse};
 use crate::de::scalar::{not_built, read_scalar, read_void};
@@ -66,21 +68,21 @@ impl<'s, 'de> Source<'s, 'de> {
         path: &Path<'_>,
         shape: &Shape,
         nest: u8,
-        taken: bool,
+        taken: Option<&Around<'_>>,
         walk: &mut Walk,
     ) -> Result<Data<'de>>
         requires named { NamesWithin (length self.now.schema.now) (shape_of shape.now) }
         requires forward { GoForward self.now.ends.now }
-        ensures gives { (fuel : ℕ) → depth self.now.schema.now (shape_of shape.now) nest walk.old.left < fuel
+        ensures gives { (fuel : ℕ) → depth self.now.schema.now (shape_of shape.now) (is_some (around_of taken.entry)) nest walk.old.left < fuel
             → Gives (λ x. (data_of x, spot_of walk.new)) result
-            (reader_of fuel self.now (way_of path.now) (shape_of shape.now) nest taken (spot_of walk.old)) }
+            (reader_of fuel self.now (way_of path.now) (shape_of shape.now) nest (around_of taken.entry) (spot_of walk.old)) }
         ensures moves { OnOk result (Moves (length self.now.events.now) walk.old walk.new) }
         ensures cost { Costs (length self.now.events.now) walk.old walk.new }
     {
         let start = walk.place;
         match self.read_unplaced(path, shape, nest, taken, walk) {
             Ok(data) => Ok(data),
-            Err(refusal) => Err(self.settled(path, shape, start, refusal)),
+            Err(refusal) => Err(self.settled(path, shape, taken, start, refusal)),
         }
     }
 
@@ -91,21 +93,19 @@ impl<'s, 'de> Source<'s, 'de> {
         path: &Path<'_>,
         shape: &Shape,
         nest: u8,
-        taken: bool,
+        taken: Option<&Around<'_>>,
         walk: &mut Walk,
     ) -> Result<Data<'de>>
         requires named { NamesWithin (length self.now.schema.now) (shape_of shape.now) }
         requires forward { GoForward self.now.ends.now }
-        ensures gives { (fuel : ℕ) → depth self.now.schema.now (shape_of shape.now) nest walk.old.left < suc fuel
+        ensures gives { (fuel : ℕ) → depth self.now.schema.now (shape_of shape.now) (is_some (around_of taken.entry)) nest walk.old.left < suc fuel
             → Gives (λ x. (data_of x, spot_of walk.new)) result
-            (node_step (source_of self.now) (reader_of fuel self.now) (way_of path.now) (shape_of shape.now) nest taken (spot_of walk.old)) }
+            (node_step (source_of self.now) (reader_of fuel self.now) (way_of path.now) (shape_of shape.now) nest (around_of taken.entry) (spot_of walk.old)) }
         ensures moves { OnOk result (Moves (length self.now.events.now) walk.old walk.new) }
         ensures cost { Costs (length self.now.events.now) walk.old walk.new }
     {
         match shape {
-            Shape::Any | Shape::Struct { .. } | Shape::StrictStruct { .. } | Shape::Enum { .. } => {
-                not_built(self.alloc)
-            }
+            Shape::Any | Shape::Enum { .. } => not_built(self.alloc),
             Shape::Bytes => Err(refuse(self.alloc, Error::new(Cause::BytesUnsupported))),
             Shape::Option(content) => self.read_option(path, shape, *content, nest, taken, walk),
             Shape::Newtype { name: _, inner } => self.read_newtype(path, *inner, nest, taken, walk),
@@ -115,6 +115,12 @@ impl<'s, 'de> Source<'s, 'de> {
                 self.read_tuple(path, shape, Some(name), items, nest, taken, walk)
             }
             Shape::Map(key, value) => self.read_map(path, shape, *key, *value, nest, taken, walk),
+            Shape::Struct { name: _, fields } => {
+                self.read_struct(path, shape, fields, false, nest, taken, walk)
+            }
+            Shape::StrictStruct { name: _, fields } => {
+                self.read_struct(path, shape, fields, true, nest, taken, walk)
+            }
             Shape::IgnoredAny => self.read_ignored(walk),
             Shape::Bool
             | Shape::Char
@@ -145,23 +151,23 @@ impl<'s, 'de> Source<'s, 'de> {
         shape: &Shape,
         event: &DocEvent<'de>,
         nest: u8,
-        taken: bool,
+        taken: Option<&Around<'_>>,
         walk: &mut Walk,
     ) -> Result<Data<'de>>
         requires named { NamesWithin (length self.now.schema.now) (shape_of shape.now) }
         requires forward { GoForward self.now.ends.now }
         requires within { walk.old.place < length self.now.events.now }
         requires other { takes (shape_of shape.now) (doc_event_of event.now) ≡ false }
-        ensures gives { (fuel : ℕ) (mark : Position) → depth self.now.schema.now (shape_of shape.now) nest walk.old.left < suc fuel
+        ensures gives { (fuel : ℕ) (mark : Position) → depth self.now.schema.now (shape_of shape.now) (is_some (around_of taken.entry)) nest walk.old.left < suc fuel
             → Gives (λ x. (data_of x, spot_of walk.new)) result
-            (event_at (source_of self.now) (reader_of fuel self.now) (way_of path.now) (shape_of shape.now) nest taken
+            (event_at (source_of self.now) (reader_of fuel self.now) (way_of path.now) (shape_of shape.now) nest (around_of taken.entry)
             (spot_of walk.old) (doc_event_of event.now) mark) }
         ensures moves { OnOk result (Moves (length self.now.events.now) walk.old walk.new) }
         ensures cost { Costs (length self.now.events.now) walk.old walk.new }
     {
         walk.step();
         match event {
-            DocEvent::Scalar(scalar) => read_scalar(self.alloc, shape, taken, scalar),
+            DocEvent::Scalar(scalar) => read_scalar(self.alloc, shape, is_taken(taken), scalar),
             DocEvent::Alias(target) => {
                 if walk.left == 0 {
                     return Err(refuse(self.alloc, Error::new(Cause::RepetitionLimitExceeded)));
@@ -170,7 +176,7 @@ impl<'s, 'de> Source<'s, 'de> {
                 let back = walk.place;
                 walk.place = *target;
                 let inner = Path::Alias { parent: &*path };
-                match self.read_node(&inner, shape, nest, false, walk) {
+                match self.read_node(&inner, shape, nest, None, walk) {
                     Ok(data) => {
                         walk.place = back;
                         Ok(data)
@@ -192,15 +198,15 @@ impl<'s, 'de> Source<'s, 'de> {
         path: &Path<'_>,
         shape: &Shape,
         nest: u8,
-        taken: bool,
+        taken: Option<&Around<'_>>,
         walk: &mut Walk,
     ) -> Result<Data<'de>>
         requires leaf { is_leaf (shape_of shape.now) ≡ true }
         requires named { NamesWithin (length self.now.schema.now) (shape_of shape.now) }
         requires forward { GoForward self.now.ends.now }
-        ensures gives { (fuel : ℕ) → depth self.now.schema.now (shape_of shape.now) nest walk.old.left < suc fuel
+        ensures gives { (fuel : ℕ) → depth self.now.schema.now (shape_of shape.now) (is_some (around_of taken.entry)) nest walk.old.left < suc fuel
             → Gives (λ x. (data_of x, spot_of walk.new)) result
-            (node_step (source_of self.now) (reader_of fuel self.now) (way_of path.now) (shape_of shape.now) nest taken (spot_of walk.old)) }
+            (node_step (source_of self.now) (reader_of fuel self.now) (way_of path.now) (shape_of shape.now) nest (around_of taken.entry) (spot_of walk.old)) }
         ensures moves { OnOk result (Moves (length self.now.events.now) walk.old walk.new) }
         ensures cost { Costs (length self.now.events.now) walk.old walk.new }
     {

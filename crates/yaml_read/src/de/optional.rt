@@ -1,6 +1,7 @@
 //! An optional, and a newtype: content on the same node.
 
 ghost use Rattle.std.specs.Prelude.{◌≡◌, ℕ, suc, ◌+◌, ◌*◌, ◌<◌, length, List, OnOk};
+ghost use Rattle.std.specs.Option.{is_some};
 ghost use Rattle.yaml_base.specs.Answer.{Gives};
 ghost use Rattle.yaml_shape.specs.DataView.{data_of};
 ghost use Rattle.yaml_shape.specs.PlainShape.{option_shape, newtype_shape};
@@ -8,11 +9,12 @@ ghost use Rattle.yaml_shape.specs.ShapeView.{shape_of};
 ghost use Rattle.yaml_shape.specs.Validity.{NamesWithin};
 ghost use Rattle.yaml_read.specs.DocEventView.{doc_event_of};
 ghost use Rattle.yaml_read.specs.Ends.{GoForward};
-ghost use Rattle.yaml_read.specs.Handing.{depth, is_content};
+ghost use Rattle.yaml_read.specs.Handing.{depth, is_content, untaken_reach};
 ghost use Rattle.yaml_read.specs.Places.{way_of};
 ghost use Rattle.yaml_read.specs.inner.Reader.{shape_step};
-ghost use Rattle.yaml_read.specs.inner.Walks.{source_of, spot_of, reader_of, seen, Moves, Costs};
+ghost use Rattle.yaml_read.specs.inner.Walks.{around_of, source_of, spot_of, reader_of, seen, Moves, Costs};
 
+use crate::de::around::{Around, is_taken};
 use crate::de::node::too_deep;
 use crate::de::presence::is_present;
 use crate::de::refusal::{Result, ended};
@@ -42,15 +44,15 @@ impl<'s, 'de> Source<'s, 'de> {
         shape: &Shape,
         content: ShapeId,
         nest: u8,
-        taken: bool,
+        taken: Option<&Around<'_>>,
         walk: &mut Walk,
     ) -> Result<Data<'de>>
         requires option { shape_of shape.now ≡ option_shape content.0 }
         requires named { NamesWithin (length self.now.schema.now) (shape_of shape.now) }
         requires forward { GoForward self.now.ends.now }
-        ensures gives { (fuel : ℕ) → depth self.now.schema.now (shape_of shape.now) nest walk.old.left < suc fuel
+        ensures gives { (fuel : ℕ) → depth self.now.schema.now (shape_of shape.now) (is_some (around_of taken.entry)) nest walk.old.left < suc fuel
             → Gives (λ x. (data_of x, spot_of walk.new)) result
-            (shape_step (source_of self.now) (reader_of fuel self.now) (way_of path.now) (shape_of shape.now) nest taken
+            (shape_step (source_of self.now) (reader_of fuel self.now) (way_of path.now) (shape_of shape.now) nest (around_of taken.entry)
             (spot_of walk.old) (seen self.now.events.now walk.old.place)) }
         ensures moves { OnOk result (Moves (length self.now.events.now) walk.old walk.new) }
         ensures cost { Costs (length self.now.events.now) walk.old walk.new }
@@ -58,7 +60,7 @@ impl<'s, 'de> Source<'s, 'de> {
         let Some((event, _)) = self.event(walk.place) else {
             return Err(ended(self.alloc));
         };
-        if !is_content(event, taken) {
+        if !is_content(event, is_taken(taken)) {
             return self.read_simple(path, shape, event, nest, taken, walk);
         }
         match self.read_node(path, self.shape(content), nest, taken, walk) {
@@ -74,14 +76,14 @@ impl<'s, 'de> Source<'s, 'de> {
         path: &Path<'_>,
         inner: ShapeId,
         nest: u8,
-        taken: bool,
+        taken: Option<&Around<'_>>,
         walk: &mut Walk,
     ) -> Result<Data<'de>>
         requires named { inner.0 < length self.now.schema.now }
         requires forward { GoForward self.now.ends.now }
-        ensures gives { (fuel : ℕ) (name : List ℕ) → 4098 * (walk.old.left + nest) < suc fuel
+        ensures gives { (fuel : ℕ) (name : List ℕ) → 8200 * (walk.old.left + nest) + untaken_reach (is_some (around_of taken.entry)) < suc fuel
             → Gives (λ x. (data_of x, spot_of walk.new)) result
-            (shape_step (source_of self.now) (reader_of fuel self.now) (way_of path.now) (newtype_shape name inner.0) nest taken
+            (shape_step (source_of self.now) (reader_of fuel self.now) (way_of path.now) (newtype_shape name inner.0) nest (around_of taken.entry)
             (spot_of walk.old) (seen self.now.events.now walk.old.place)) }
         ensures moves { OnOk result (Moves (length self.now.events.now) walk.old walk.new) }
         ensures cost { Costs (length self.now.events.now) walk.old walk.new }

@@ -1,14 +1,16 @@
 //! Giving faults their places.
 
 ghost use Rattle.std.specs.Prelude.{◌≡◌, true, false, Err};
+ghost use Rattle.std.specs.Option.{is_some};
 ghost use Rattle.yaml_base.specs.Answer.{is_memory, Fails};
 ghost use Rattle.yaml_shape.specs.ShapeView.{shape_of};
 ghost use Rattle.yaml_read.specs.DocEventView.{doc_event_of};
 ghost use Rattle.yaml_read.specs.Places.{way_of, placed, places, value_under};
 ghost use Rattle.yaml_read.specs.TreeReader.{Spot};
 ghost use Rattle.yaml_read.specs.inner.Reader.{place_at};
-ghost use Rattle.yaml_read.specs.inner.Walks.{seen};
+ghost use Rattle.yaml_read.specs.inner.Walks.{around_of, seen};
 
+use crate::de::around::{Around, is_taken, untaken_name};
 use crate::de::refusal::{Refusal, refuse};
 use crate::de::sort::text_of;
 use crate::de::source::Source;
@@ -27,19 +29,13 @@ pub(super) fn at_place(alloc: Global, refusal: Refusal, mark: Mark, path: &Path<
     }
 }
 
-// Whether the call for this shape places faults.
-fn places(shape: &Shape) -> bool
-    ensures { result ≡ places (shape_of shape.now) }
+// Whether the call for this shape places faults of a node that begins with the event, where its tag is taken or not.
+fn places(shape: &Shape, taken: bool, event: &DocEvent<'_>) -> bool
+    ensures { result ≡ places (shape_of shape.now) taken (doc_event_of event.now) }
 {
     match shape {
-        Shape::Option(_)
-        | Shape::Newtype { .. }
-        | Shape::IgnoredAny
-        | Shape::Bytes
-        | Shape::Any
-        | Shape::Struct { .. }
-        | Shape::StrictStruct { .. }
-        | Shape::Enum { .. } => false,
+        Shape::Option(_) | Shape::Newtype { .. } | Shape::IgnoredAny | Shape::Bytes => false,
+        Shape::Enum { .. } => untaken_name(event, taken).is_none(),
         _ => true,
     }
 }
@@ -50,16 +46,17 @@ impl<'s, 'de> Source<'s, 'de> {
         &self,
         path: &Path<'_>,
         shape: &Shape,
+        taken: Option<&Around<'_>>,
         place: usize,
         refusal: Refusal,
     ) -> Refusal
-        ensures { Fails result (place_at {A = Spot} (way_of path.now) (shape_of shape.now)
+        ensures { Fails result (place_at {A = Spot} (way_of path.now) (shape_of shape.now) (is_some (around_of taken.entry))
             (seen self.now.events.now place) (Err refusal)) }
     {
-        let Some((_, mark)) = self.event(place) else {
+        let Some((event, mark)) = self.event(place) else {
             return refusal;
         };
-        if places(shape) {
+        if places(shape, is_taken(taken), event) {
             return at_place(self.alloc, refusal, *mark, path);
         }
         refusal

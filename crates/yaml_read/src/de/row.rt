@@ -7,19 +7,42 @@ ghost use Rattle.yaml_base.specs.declared.error.Cause.TheVariants.{InvalidLength
 ghost use Rattle.yaml_shape.specs.DataView.{data_of};
 ghost use Rattle.yaml_shape.specs.ShapeView.{ids_of};
 ghost use Rattle.yaml_read.specs.Rows.{row_data};
-ghost use Rattle.yaml_read.specs.inner.Reader.{few_text};
-ghost use Rattle.yaml_read.specs.inner.Walks.{row_view};
+ghost use Rattle.yaml_read.specs.inner.Reader.{few_text, owner_named};
+ghost use Rattle.yaml_read.specs.inner.Walks.{owner_of, row_view};
 
 use crate::de::refusal::{Refusal, Result, refuse};
 use std::alloc::Global;
 use yaml_base::{Cause, Error, Words};
-use yaml_shape::{Data, ShapeId, sequence_of, tuple_struct_with};
+use yaml_shape::{Data, ShapeId, sequence_of, tuple_struct_with, tuple_variant_with};
 
 /// The elements that were read, and how many more there are.
 #[derive(Drop)]
 pub(super) struct Elements<'de> {
     pub(super) read: Vec<Data<'de>>,
     pub(super) extra: usize,
+}
+
+/// Whose elements are read.
+#[derive(Clone, Copy)]
+pub(super) enum Owner<'a> {
+    /// A tuple's.
+    Tuple,
+    /// Those of the tuple struct of this name.
+    TupleStruct(&'a str),
+    /// Those of a variant: the names of its enum and of itself.
+    TupleVariant { name: &'a str, variant: &'a str },
+}
+
+impl<'a> Owner<'a> {
+    /// A tuple, or the tuple struct of a name.
+    pub(super) fn named(name: Option<&'a str>) -> Owner<'a>
+        ensures { owner_of result ≡ owner_named (option_copied name.entry) }
+    {
+        match name {
+            None => Owner::Tuple,
+            Some(name) => Owner::TupleStruct(name),
+        }
+    }
 }
 
 /// The shape of an element.
@@ -29,34 +52,40 @@ pub(super) fn item_here(items: &[ShapeId], place: usize) -> Option<ShapeId>
     items.get(place).copied()
 }
 
-// What a node with too few elements is expected to be: a tuple, or the tuple struct of a name.
-fn expected(alloc: Global, name: Option<&str>, count: usize) -> Result<String>
-    ensures { Gives string_bytes result (Ok (few_text (option_copied name.entry) count)) }
+// What a node with too few elements is expected to be.
+fn expected(alloc: Global, owner: Owner<'_>, count: usize) -> Result<String>
+    ensures { Gives string_bytes result (Ok (few_text (owner_of owner.entry) count)) }
 {
-    match name {
-        None => Ok(format!(in alloc; "a tuple of size {count}")?),
-        Some(name) => match tuple_struct_with(alloc, name, count) {
+    match owner {
+        Owner::Tuple => Ok(format!(in alloc; "a tuple of size {count}")?),
+        Owner::TupleStruct(name) => match tuple_struct_with(alloc, name, count) {
             Ok(text) => Ok(text),
             Err(_) => Err(Refusal::memory()),
         },
+        Owner::TupleVariant { name, variant } => {
+            match tuple_variant_with(alloc, name, variant, count) {
+                Ok(text) => Ok(text),
+                Err(_) => Err(Refusal::memory()),
+            }
+        }
     }
 }
 
-/// The tuple of these elements, or the tuple struct of a name, where it has exactly one for each shape.
+/// The tuple of these elements, where it has exactly one for each shape.
 pub(super) fn finish<'de>(
     alloc: Global,
-    name: Option<&str>,
+    owner: Owner<'_>,
     items: &[ShapeId],
     elements: Elements<'de>,
 ) -> Result<Data<'de>>
     requires few { length elements.read.items + elements.extra < 2 ^ 64 }
-    ensures { Gives data_of result (row_data (few_text (option_copied name.entry) (length (ids_of items.now)))
+    ensures { Gives data_of result (row_data (few_text (owner_of owner.entry) (length (ids_of items.now)))
         (length (ids_of items.now)) (row_view (ids_of items.now) elements.entry)) }
 {
     let count = items.len();
     let length = elements.read.len();
     if length < count {
-        return Err(refuse(alloc, wrong_length(length, expected(alloc, name, count)?)));
+        return Err(refuse(alloc, wrong_length(length, expected(alloc, owner, count)?)));
     }
     if elements.extra == 0 {
         return Ok(Data::Tuple(elements.read));

@@ -1,6 +1,7 @@
 //! A sequence whose elements have one shape, and the parts of collections.
 
 ghost use Rattle.std.specs.Prelude.{◌≡◌, ℕ, suc, ◌+◌, ◌*◌, ◌<◌, ◌≤◌, [], length, map, OnOk, Some, false};
+ghost use Rattle.std.specs.Option.{is_some};
 ghost use Rattle.yaml_base.specs.Answer.{Gives};
 ghost use Rattle.yaml_shape.specs.DataView.{data_of};
 ghost use Rattle.yaml_shape.specs.PlainShape.{seq_shape};
@@ -11,8 +12,9 @@ ghost use Rattle.yaml_read.specs.Ends.{GoForward};
 ghost use Rattle.yaml_read.specs.Handing.{depth, reach};
 ghost use Rattle.yaml_read.specs.Places.{way_of};
 ghost use Rattle.yaml_read.specs.inner.Reader.{shape_step, item_at, sequence_parts, is_leaf};
-ghost use Rattle.yaml_read.specs.inner.Walks.{source_of, spot_of, reader_of, seen, Moves, Costs};
+ghost use Rattle.yaml_read.specs.inner.Walks.{around_of, source_of, spot_of, reader_of, seen, Moves, Costs};
 
+use crate::de::around::Around;
 use crate::de::node::{is_leaf, too_deep};
 use crate::de::placed::at_place;
 use crate::de::refusal::{Result, ended};
@@ -32,15 +34,15 @@ impl<'s, 'de> Source<'s, 'de> {
         shape: &Shape,
         element: ShapeId,
         nest: u8,
-        taken: bool,
+        taken: Option<&Around<'_>>,
         walk: &mut Walk,
     ) -> Result<Data<'de>>
         requires seq { shape_of shape.now ≡ seq_shape element.0 }
         requires named { NamesWithin (length self.now.schema.now) (shape_of shape.now) }
         requires forward { GoForward self.now.ends.now }
-        ensures gives { (fuel : ℕ) → depth self.now.schema.now (shape_of shape.now) nest walk.old.left < suc fuel
+        ensures gives { (fuel : ℕ) → depth self.now.schema.now (shape_of shape.now) (is_some (around_of taken.entry)) nest walk.old.left < suc fuel
             → Gives (λ x. (data_of x, spot_of walk.new)) result
-            (shape_step (source_of self.now) (reader_of fuel self.now) (way_of path.now) (shape_of shape.now) nest taken
+            (shape_step (source_of self.now) (reader_of fuel self.now) (way_of path.now) (shape_of shape.now) nest (around_of taken.entry)
             (spot_of walk.old) (seen self.now.events.now walk.old.place)) }
         ensures moves { OnOk result (Moves (length self.now.events.now) walk.old walk.new) }
         ensures cost { Costs (length self.now.events.now) walk.old walk.new }
@@ -74,7 +76,7 @@ impl<'s, 'de> Source<'s, 'de> {
         requires named { NamesWithin (length self.now.schema.now) (shape_of element.now) }
         requires reach { reach self.now.schema.now (shape_of element.now) ≤ 4096 }
         requires forward { GoForward self.now.ends.now }
-        ensures gives { (fuel turns : ℕ) → 4098 * (walk.old.left + nest) + 4096 < fuel
+        ensures gives { (fuel turns : ℕ) → 8200 * (walk.old.left + nest) + 8196 < fuel
             → length self.now.events.now < turns + walk.old.place
             → Gives (λ x. (map data_of x.items, spot_of walk.new)) result
             (sequence_parts (source_of self.now) (item_at (reader_of fuel self.now) (way_of path.now) (shape_of element.now) nest)
@@ -121,9 +123,9 @@ impl<'s, 'de> Source<'s, 'de> {
         requires within { walk.old.place < length self.now.events.now }
         requires named { NamesWithin (length self.now.schema.now) (shape_of shape.now) }
         requires forward { GoForward self.now.ends.now }
-        ensures gives { (fuel : ℕ) → depth self.now.schema.now (shape_of shape.now) nest walk.old.left < fuel
+        ensures gives { (fuel : ℕ) → depth self.now.schema.now (shape_of shape.now) false nest walk.old.left < fuel
             → Gives (λ x. (data_of x, spot_of walk.new)) result
-            (reader_of fuel self.now (way_of path.now) (shape_of shape.now) nest false (spot_of walk.old)) }
+            (reader_of fuel self.now (way_of path.now) (shape_of shape.now) nest None (spot_of walk.old)) }
         ensures moves { OnOk result (Moves (length self.now.events.now) walk.old walk.new) }
         ensures cost { Costs (length self.now.events.now) walk.old walk.new }
     {
@@ -136,7 +138,7 @@ impl<'s, 'de> Source<'s, 'de> {
                 };
             }
         }
-        self.read_node(path, shape, nest, false, walk)
+        self.read_node(path, shape, nest, None, walk)
     }
 
     /// The same as a part, where it is not known yet with which event it begins.
@@ -152,15 +154,15 @@ impl<'s, 'de> Source<'s, 'de> {
         requires leaf { leaf ≡ is_leaf (shape_of shape.now) }
         requires named { NamesWithin (length self.now.schema.now) (shape_of shape.now) }
         requires forward { GoForward self.now.ends.now }
-        ensures gives { (fuel : ℕ) → depth self.now.schema.now (shape_of shape.now) nest walk.old.left < fuel
+        ensures gives { (fuel : ℕ) → depth self.now.schema.now (shape_of shape.now) false nest walk.old.left < fuel
             → Gives (λ x. (data_of x, spot_of walk.new)) result
-            (reader_of fuel self.now (way_of path.now) (shape_of shape.now) nest false (spot_of walk.old)) }
+            (reader_of fuel self.now (way_of path.now) (shape_of shape.now) nest None (spot_of walk.old)) }
         ensures moves { OnOk result (Moves (length self.now.events.now) walk.old walk.new) }
         ensures cost { Costs (length self.now.events.now) walk.old walk.new }
     {
         match self.event(walk.place) {
             Some((event, mark)) => self.read_part(path, shape, leaf, event, *mark, nest, walk),
-            None => self.read_node(path, shape, nest, false, walk),
+            None => self.read_node(path, shape, nest, None, walk),
         }
     }
 }

@@ -1,7 +1,7 @@
 //! A tuple, or a tuple struct: as many elements as there are shapes.
 
 ghost use Rattle.std.specs.Prelude.{◌≡◌, ℕ, suc, ◌+◌, ◌*◌, ◌<◌, ◌≤◌, length, All, OnOk, IfOk};
-ghost use Rattle.std.specs.Option.{option_copied};
+ghost use Rattle.std.specs.Option.{is_some, option_copied};
 ghost use Rattle.yaml_base.specs.Answer.{Gives};
 ghost use Rattle.yaml_shape.specs.DataView.{data_of};
 ghost use Rattle.yaml_shape.specs.ShapeView.{shape_of, ids_of};
@@ -11,11 +11,12 @@ ghost use Rattle.yaml_read.specs.Handing.{depth};
 ghost use Rattle.yaml_read.specs.Places.{way_of};
 ghost use Rattle.yaml_read.specs.Rows.{row_of};
 ghost use Rattle.yaml_read.specs.inner.Reader.{shape_step, row_at, sequence_parts, row_shape};
-ghost use Rattle.yaml_read.specs.inner.Walks.{source_of, spot_of, reader_of, seen, row_view, Moves, Costs};
+ghost use Rattle.yaml_read.specs.inner.Walks.{around_of, source_of, spot_of, reader_of, seen, row_view, Moves, Costs};
 
+use crate::de::around::Around;
 use crate::de::node::too_deep;
 use crate::de::refusal::{Result, ended};
-use crate::de::row::{Elements, finish, item_here};
+use crate::de::row::{Elements, Owner, finish, item_here};
 use crate::de::source::Source;
 use crate::doc_event::DocEvent;
 use crate::walk::Walk;
@@ -32,15 +33,15 @@ impl<'s, 'de> Source<'s, 'de> {
         name: Option<&str>,
         items: &[ShapeId],
         nest: u8,
-        taken: bool,
+        taken: Option<&Around<'_>>,
         walk: &mut Walk,
     ) -> Result<Data<'de>>
         requires tuple { shape_of shape.now ≡ row_shape (option_copied name) (ids_of items.now) }
         requires named { NamesWithin (length self.now.schema.now) (shape_of shape.now) }
         requires forward { GoForward self.now.ends.now }
-        ensures gives { (fuel : ℕ) → depth self.now.schema.now (shape_of shape.now) nest walk.old.left < suc fuel
+        ensures gives { (fuel : ℕ) → depth self.now.schema.now (shape_of shape.now) (is_some (around_of taken.entry)) nest walk.old.left < suc fuel
             → Gives (λ x. (data_of x, spot_of walk.new)) result
-            (shape_step (source_of self.now) (reader_of fuel self.now) (way_of path.now) (shape_of shape.now) nest taken
+            (shape_step (source_of self.now) (reader_of fuel self.now) (way_of path.now) (shape_of shape.now) nest (around_of taken.entry)
             (spot_of walk.old) (seen self.now.events.now walk.old.place)) }
         ensures moves { OnOk result (Moves (length self.now.events.now) walk.old walk.new) }
         ensures cost { Costs (length self.now.events.now) walk.old walk.new }
@@ -56,7 +57,7 @@ impl<'s, 'de> Source<'s, 'de> {
         }
         walk.step();
         match self.read_elements(path, items, nest - 1, walk) {
-            Ok(elements) => finish(self.alloc, name, items, elements),
+            Ok(elements) => finish(self.alloc, Owner::named(name), items, elements),
             Err(refusal) => Err(refusal),
         }
     }
@@ -73,7 +74,7 @@ impl<'s, 'de> Source<'s, 'de> {
         requires within { walk.old.place ≤ length self.now.events.now }
         requires named { All (λ id. id < length self.now.schema.now) (ids_of items.now) }
         requires forward { GoForward self.now.ends.now }
-        ensures gives { (fuel turns : ℕ) → 4098 * (walk.old.left + nest) + 4096 < fuel
+        ensures gives { (fuel turns : ℕ) → 8200 * (walk.old.left + nest) + 8196 < fuel
             → length self.now.events.now < turns + walk.old.place
             → Gives (λ x. (row_view (ids_of items.now) x, spot_of walk.new)) result
             (sequence_parts (source_of self.now) (row_at (source_of self.now) (reader_of fuel self.now) (way_of path.now) nest)
@@ -105,7 +106,7 @@ impl<'s, 'de> Source<'s, 'de> {
                 parent: &*path,
                 index: count,
             };
-            match self.read_node(&inner, self.shape(id), nest, false, walk) {
+            match self.read_node(&inner, self.shape(id), nest, None, walk) {
                 Ok(item) => read.push(item)?,
                 Err(refusal) => return Err(refusal),
             }

@@ -84,5 +84,10 @@ fn copy_entry(alloc: Global, entry: &Entry) -> Result<Entry, AllocError>
 {
     let key = copy_value(alloc, &entry.key)?;
     let value = copy_value(alloc, &entry.value)?;
-    Ok(Entry { key, value })
+    Ok(Entry {
+        key,
+        value,
+        last: entry.last,
+        earlier: entry.earlier,
+    })
 }

@@ -1,12 +1,14 @@
 //! Equality of values.
-ghost use Rattle.std.specs.Prelude.{◌≡◌, true, ◌<◌, length, IfSome};
+ghost use Rattle.std.specs.Prelude.{◌≡◌, true, ◌<◌, ◌≤◌, length, IfSome};
 ghost use Rattle.yaml_tree.specs.Entries.{IsOtherKey};
 ghost use Rattle.yaml_tree.specs.Equal.{pairs_eq, tree_eq, trees_eq};
+ghost use Rattle.yaml_tree.specs.Index.{IsChained, IsIndexed};
 ghost use Rattle.yaml_tree.specs.Lookup.{has_all_pairs, has_pair, place_of};
 ghost use Rattle.yaml_tree.specs.Mapping.{keys_distinct};
 ghost use Rattle.yaml_tree.specs.Valid.{items_of, pairs_of, tree_of_tagged};
 ghost use Rattle.yaml_tree.specs.View.{entry_pairs, tree_of};
 
+use crate::index::{chain_count, chain_of};
 use crate::mapping::{Entry, Mapping};
 use crate::sequence::Sequence;
 use crate::value::{TaggedValue, Value};
@@ -158,7 +160,8 @@ fn same_pairs(a: &Mapping, b: &Mapping) -> bool
 // Whether each of these entries is among the others, whose keys are distinct.
 #[cycle(same)]
 fn has_all_entries(wanted: &[Entry], entries: &[Entry]) -> bool
-    requires { keys_distinct (entry_pairs entries.now) ≡ true }
+    requires distinct { keys_distinct (entry_pairs entries.now) ≡ true }
+    requires indexed { IsIndexed entries.now }
     ensures { result ≡ has_all_pairs (entry_pairs wanted.now) (entry_pairs entries.now) }
 {
     for (i, entry) in wanted.iter().enumerate() {
@@ -172,7 +175,8 @@ fn has_all_entries(wanted: &[Entry], entries: &[Entry]) -> bool
 // Whether an entry is among these, whose keys are distinct. It is looked for at the guess first.
 #[cycle(same)]
 fn is_among(wanted: &Entry, entries: &[Entry], guess: usize) -> bool
-    requires { keys_distinct (entry_pairs entries.now) ≡ true }
+    requires distinct { keys_distinct (entry_pairs entries.now) ≡ true }
+    requires indexed { IsIndexed entries.now }
     ensures { let key = tree_of wanted.now.key in
         result ≡ has_pair key (tree_of wanted.now.value) (entry_pairs entries.now) }
 {
@@ -186,7 +190,8 @@ fn is_among(wanted: &Entry, entries: &[Entry], guess: usize) -> bool
 // key is compared twice, since a comparison of deep keys makes such comparisons again.
 #[cycle(same)]
 fn find_near(key: &Value, entries: &[Entry], guess: usize) -> Option<usize>
-    requires { keys_distinct (entry_pairs entries.now) ≡ true }
+    requires distinct { keys_distinct (entry_pairs entries.now) ≡ true }
+    requires indexed { IsIndexed entries.now }
     ensures place { result ≡ place_of (tree_of key.now) (entry_pairs entries.now) }
     ensures within { IfSome result (λ i. i < length entries.now) }
 {
@@ -199,9 +204,27 @@ fn find_near(key: &Value, entries: &[Entry], guess: usize) -> Option<usize>
     find_besides(key, entries, guess)
 }
 
-// The place of the first entry with this key, where the entry at one place has another key.
+// The place of a key among entries with distinct keys, where the entry at one place has another
+// key.
 #[cycle(same)]
 fn find_besides(key: &Value, entries: &[Entry], other: usize) -> Option<usize>
+    requires distinct { keys_distinct (entry_pairs entries.now) ≡ true }
+    requires indexed { IsIndexed entries.now }
+    requires other { IsOtherKey (tree_of key.now) entries.now other }
+    ensures place { result ≡ place_of (tree_of key.now) (entry_pairs entries.now) }
+    ensures within { IfSome result (λ i. i < length entries.now) }
+{
+    let chains = chain_count(entries.len());
+    if chains == 0 {
+        find_in_order(key, entries, other)
+    } else {
+        find_in_chain(key, entries, other, chains)
+    }
+}
+
+// The place of the first entry with this key, where the entry at one place has another key.
+#[cycle(same)]
+fn find_in_order(key: &Value, entries: &[Entry], other: usize) -> Option<usize>
     requires { IsOtherKey (tree_of key.now) entries.now other }
     ensures place { result ≡ place_of (tree_of key.now) (entry_pairs entries.now) }
     ensures within { IfSome result (λ i. i < length entries.now) }
@@ -214,8 +237,34 @@ fn find_besides(key: &Value, entries: &[Entry], other: usize) -> Option<usize>
     None
 }
 
-/// The place of the first entry with this key.
+// The same of entries with distinct keys in so many chains: only the key's chain is gone along,
+// from its last entry to its first.
+#[cycle(same)]
+fn find_in_chain(key: &Value, entries: &[Entry], other: usize, chains: usize) -> Option<usize>
+    requires distinct { keys_distinct (entry_pairs entries.now) ≡ true }
+    requires some { 0 < chains }
+    requires within { chains ≤ length entries.now }
+    requires chained { IsChained chains (length entries.now) entries.now }
+    requires other { IsOtherKey (tree_of key.now) entries.now other }
+    ensures place { result ≡ place_of (tree_of key.now) (entry_pairs entries.now) }
+    ensures within { IfSome result (λ i. i < length entries.now) }
+{
+    let mut left = entries[chain_of(key, chains)].last;
+    while left > 0 {
+        let place = left - 1;
+        let entry = &entries[place];
+        if place != other && same_value(key, &entry.key) {
+            return Some(place);
+        }
+        left = entry.earlier;
+    }
+    None
+}
+
+/// The place of a key among entries with distinct keys.
 pub(crate) fn find(key: &Value, entries: &[Entry]) -> Option<usize>
+    requires distinct { keys_distinct (entry_pairs entries.now) ≡ true }
+    requires indexed { IsIndexed entries.now }
     ensures place { result ≡ place_of (tree_of key.now) (entry_pairs entries.now) }
     ensures within { IfSome result (λ i. i < length entries.now) }
 {

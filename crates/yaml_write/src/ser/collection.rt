@@ -1,43 +1,33 @@
 //! The calls that open a collection, and the one that closes it.
 
-ghost use Rattle.std.specs.Prelude.{◌≡◌, None, Some, IfErr, OnErr, OnOk};
-ghost use Rattle.yaml_base.specs.declared.error.Cause.TheVariants.{Memory};
+ghost use Rattle.std.specs.Prelude.{None, Some};
+ghost use Rattle.yaml_write.specs.Adds.{Leaves};
 ghost use Rattle.yaml_write.specs.LocalTags.{local_tag};
 ghost use Rattle.yaml_write.specs.Opened.{CanEnd};
 ghost use Rattle.yaml_write.specs.Writing.{with_closed, with_opened};
 
 use super::Serializer;
-use crate::local_tag::local_tag;
 use crate::open::OpenKind;
 use yaml_base::Result;
 
 impl Serializer {
     /// Opens a sequence, of elements.
     pub fn serialize_seq(&mut self, _len: Option<usize>) -> Result<()>
-        ensures ok { OnOk result
-            (self.new ≡ with_opened self.old OpenKind.Seq None) }
-        ensures memory { IfErr result (λ cause. cause ≡ Memory) }
-        ensures err { OnErr result (self.new ≡ self.old) }
+        ensures { Leaves (with_opened self.old OpenKind.Seq None) self.old self.new result }
     {
         self.open(OpenKind::Seq, None)
     }
 
     /// Opens a tuple, of elements.
     pub fn serialize_tuple(&mut self, _len: usize) -> Result<()>
-        ensures ok { OnOk result
-            (self.new ≡ with_opened self.old OpenKind.Tuple None) }
-        ensures memory { IfErr result (λ cause. cause ≡ Memory) }
-        ensures err { OnErr result (self.new ≡ self.old) }
+        ensures { Leaves (with_opened self.old OpenKind.Tuple None) self.old self.new result }
     {
         self.open(OpenKind::Tuple, None)
     }
 
     /// Opens a tuple struct, of fields without names.
     pub fn serialize_tuple_struct(&mut self, _name: &str, _len: usize) -> Result<()>
-        ensures ok { OnOk result
-            (self.new ≡ with_opened self.old OpenKind.TupleStruct None) }
-        ensures memory { IfErr result (λ cause. cause ≡ Memory) }
-        ensures err { OnErr result (self.new ≡ self.old) }
+        ensures { Leaves (with_opened self.old OpenKind.TupleStruct None) self.old self.new result }
     {
         self.open(OpenKind::TupleStruct, None)
     }
@@ -50,31 +40,23 @@ impl Serializer {
         variant: &str,
         _len: usize,
     ) -> Result<()>
-        ensures ok { OnOk result
-            (self.new ≡ with_opened self.old OpenKind.TupleVariant (Some (local_tag variant.now))) }
-        ensures memory { IfErr result (λ cause. cause ≡ Memory) }
-        ensures err { OnErr result (self.new ≡ self.old) }
+        ensures { Leaves
+            (with_opened self.old OpenKind.TupleVariant (Some (local_tag variant.now)))
+            self.old self.new result }
     {
-        let tag = local_tag(self.alloc, variant)?;
-        self.open(OpenKind::TupleVariant, Some(tag))
+        self.open_variant(OpenKind::TupleVariant, variant)
     }
 
     /// Opens a mapping, of keys with values.
     pub fn serialize_map(&mut self, _len: Option<usize>) -> Result<()>
-        ensures ok { OnOk result
-            (self.new ≡ with_opened self.old OpenKind.Map None) }
-        ensures memory { IfErr result (λ cause. cause ≡ Memory) }
-        ensures err { OnErr result (self.new ≡ self.old) }
+        ensures { Leaves (with_opened self.old OpenKind.Map None) self.old self.new result }
     {
         self.open(OpenKind::Map, None)
     }
 
     /// Opens a struct, of fields with names.
     pub fn serialize_struct(&mut self, _name: &str, _len: usize) -> Result<()>
-        ensures ok { OnOk result
-            (self.new ≡ with_opened self.old OpenKind.Struct None) }
-        ensures memory { IfErr result (λ cause. cause ≡ Memory) }
-        ensures err { OnErr result (self.new ≡ self.old) }
+        ensures { Leaves (with_opened self.old OpenKind.Struct None) self.old self.new result }
     {
         self.open(OpenKind::Struct, None)
     }
@@ -87,22 +69,18 @@ impl Serializer {
         variant: &str,
         _len: usize,
     ) -> Result<()>
-        ensures ok { OnOk result
-            (self.new ≡ with_opened self.old OpenKind.StructVariant (Some (local_tag variant.now))) }
-        ensures memory { IfErr result (λ cause. cause ≡ Memory) }
-        ensures err { OnErr result (self.new ≡ self.old) }
+        ensures { Leaves
+            (with_opened self.old OpenKind.StructVariant (Some (local_tag variant.now)))
+            self.old self.new result }
     {
-        let tag = local_tag(self.alloc, variant)?;
-        self.open(OpenKind::StructVariant, Some(tag))
+        self.open_variant(OpenKind::StructVariant, variant)
     }
 
     /// Closes the innermost collection, and ends the document where none is left open. Asks that one is open, and
     /// that it awaits no value.
     pub fn end(&mut self) -> Result<()>
         requires { CanEnd self.old.opened }
-        ensures ok { OnOk result (self.new ≡ with_closed self.old) }
-        ensures memory { IfErr result (λ cause. cause ≡ Memory) }
-        ensures err { OnErr result (self.new ≡ self.old) }
+        ensures { Leaves (with_closed self.old) self.old self.new result }
     {
         self.close()
     }

@@ -1,15 +1,16 @@
 //! The one way in which events get into a serializer: all events of a call together, or none.
 
-ghost use Rattle.std.specs.Prelude.{◌≡◌, ◌≢◌, ◌∷◌, ◌++◌, [], Ok, reverse, vec_len, vec_capacity};
-ghost use Rattle.std.specs.Prelude.{IfErr, IfOk, OnErr, OnOk};
+ghost use Rattle.std.specs.Prelude.{◌≡◌, ◌≢◌, ◌∷◌, ◌++◌, [], Some, reverse, vec_len, vec_capacity};
+ghost use Rattle.std.specs.Prelude.{IfErr, IfOk};
 ghost use Rattle.yaml_base.specs.EmitEvents.{tag_bytes};
 ghost use Rattle.yaml_base.specs.EmitTree.{EmitNode, emit_node_events};
 ghost use Rattle.yaml_base.specs.declared.error.Cause.TheVariants.{Memory};
-ghost use Rattle.yaml_write.specs.Adds.{Adds, Writes};
+ghost use Rattle.yaml_write.specs.Adds.{Leaves, Writes};
 ghost use Rattle.yaml_write.specs.Content.{content_written};
+ghost use Rattle.yaml_write.specs.LocalTags.{local_tag};
 ghost use Rattle.yaml_write.specs.Opened.{CanEnd};
 ghost use Rattle.yaml_write.specs.Outcomes.{joined};
-ghost use Rattle.yaml_write.specs.Writing.{document_start_in, document_end_in, end_of, ending_in, is_mapping};
+ghost use Rattle.yaml_write.specs.Writing.{document_start_in, document_end_in, ending_in, is_mapping};
 ghost use Rattle.yaml_write.specs.Writing.{start_of, turned, with_begun, with_both, with_closed};
 ghost use Rattle.yaml_write.specs.Writing.{with_node, with_opened, with_part};
 ghost use Rattle.yaml_write.specs.WrittenValue.{pair_node};
@@ -17,8 +18,9 @@ ghost use Rattle.yaml_write.specs.WrittenValue.{pair_node};
 use super::Serializer;
 use crate::buffer::EventBuffer;
 use crate::content::{Content, write_both, write_content};
+use crate::local_tag::local_tag;
 use crate::open::{Open, OpenKind};
-use yaml_base::Result;
+use crate::refusal::Result;
 use yaml_base::emitter::EmitEvent;
 
 // Whether the collection has keys and values.
@@ -52,28 +54,6 @@ fn begin_part(opened: &mut Vec<Open>)
     }
 }
 
-// The start of a collection.
-fn start(out: &mut EventBuffer, kind: OpenKind, tag: Option<String>) -> Result<()>
-    ensures { Adds (λ e. e ∷ []) (Ok (start_of kind (tag_bytes tag))) out.old out.new result }
-{
-    if is_mapping(kind) {
-        out.start_mapping(tag)
-    } else {
-        out.start_sequence(tag)
-    }
-}
-
-// The end of a collection.
-fn end(out: &mut EventBuffer, kind: OpenKind) -> Result<()>
-    ensures { Adds (λ e. e ∷ []) (Ok (end_of kind)) out.old out.new result }
-{
-    if is_mapping(kind) {
-        out.end_mapping()
-    } else {
-        out.end_sequence()
-    }
-}
-
 impl Serializer {
     // The events that are to be added, with the start of a document where nothing is open.
     fn begin(&self) -> Result<EventBuffer>
@@ -100,12 +80,10 @@ impl Serializer {
     }
 
     // Adds the events of a node, with the end of the document where nothing is open.
-    fn add_part(&mut self, part: EventBuffer) -> Result<()>
+    fn add_part(&mut self, part: EventBuffer) -> yaml_base::Result<()>
         requires { (node : EmitNode)
             × (part ≡ document_start_in self.old.opened ++ emit_node_events node) }
-        ensures ok { OnOk result (self.new ≡ with_part self.old part) }
-        ensures memory { IfErr result (λ cause. cause ≡ Memory) }
-        ensures err { OnErr result (self.new ≡ self.old) }
+        ensures { Leaves (with_part self.old part) self.old self.new result }
     {
         let added = self.ended(part)?;
         self.written.append(added)?;
@@ -114,7 +92,7 @@ impl Serializer {
     }
 
     // Adds one node.
-    pub(super) fn place(&mut self, content: Content<'_, '_>) -> Result<()>
+    pub(super) fn place(&mut self, content: Content<'_, '_>) -> yaml_base::Result<()>
         ensures { Writes (with_node self.old) (content_written content.entry)
             self.old self.new result }
     {
@@ -128,7 +106,7 @@ impl Serializer {
         &mut self,
         first: Content<'_, '_>,
         second: Content<'_, '_>,
-    ) -> Result<()>
+    ) -> yaml_base::Result<()>
         requires { self.old.opened ≢ [] }
         ensures { Writes (with_both self.old)
             (joined pair_node (content_written first.entry) (content_written second.entry))
@@ -149,15 +127,13 @@ impl Serializer {
         ensures err { IfErr result (λ cause. cause ≡ Memory) }
     {
         let mut added = self.begin()?;
-        start(&mut added, kind, tag)?;
+        added.start(is_mapping(kind), tag)?;
         Ok(added)
     }
 
     // Opens a collection.
-    pub(super) fn open(&mut self, kind: OpenKind, tag: Option<String>) -> Result<()>
-        ensures ok { OnOk result (self.new ≡ with_opened self.old kind (tag_bytes tag)) }
-        ensures memory { IfErr result (λ cause. cause ≡ Memory) }
-        ensures err { OnErr result (self.new ≡ self.old) }
+    pub(super) fn open(&mut self, kind: OpenKind, tag: Option<String>) -> yaml_base::Result<()>
+        ensures { Leaves (with_opened self.old kind (tag_bytes tag)) self.old self.new result }
     {
         let added = self.starting(kind, tag)?;
         self.opened.reserve(1)?;
@@ -170,6 +146,15 @@ impl Serializer {
         Ok(())
     }
 
+    // Opens the collection of a variant, under its name as a tag.
+    pub(super) fn open_variant(&mut self, kind: OpenKind, variant: &str) -> yaml_base::Result<()>
+        ensures { Leaves (with_opened self.old kind (Some (local_tag variant.now)))
+            self.old self.new result }
+    {
+        let tag = local_tag(self.alloc, variant)?;
+        self.open(kind, Some(tag))
+    }
+
     // The end of the innermost collection, if there is one, and of the document where no other is open.
     fn ending(&self) -> Result<EventBuffer>
         ensures ok { IfOk result (λ added. added ≡ ending_in self.now.opened) }
@@ -177,7 +162,7 @@ impl Serializer {
     {
         let mut added = EventBuffer::new(self.alloc);
         if let Some((kind, _)) = self.open_kind() {
-            end(&mut added, kind)?;
+            added.end(is_mapping(kind))?;
             if self.opened.len() == 1 {
                 added.push(EmitEvent::DocumentEnd)?;
             }
@@ -186,11 +171,9 @@ impl Serializer {
     }
 
     // Closes the innermost collection.
-    pub(super) fn close(&mut self) -> Result<()>
+    pub(super) fn close(&mut self) -> yaml_base::Result<()>
         requires { CanEnd self.old.opened }
-        ensures ok { OnOk result (self.new ≡ with_closed self.old) }
-        ensures memory { IfErr result (λ cause. cause ≡ Memory) }
-        ensures err { OnErr result (self.new ≡ self.old) }
+        ensures { Leaves (with_closed self.old) self.old self.new result }
     {
         let added = self.ending()?;
         self.written.append(added)?;

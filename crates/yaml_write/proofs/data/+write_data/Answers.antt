@@ -1,19 +1,23 @@
 -- Data is written part by part.
-use Rattle.std.proofs.Common.{◌++◌, ◌+◌, drop, None, Ok, arith, rules, ap, sym, ◌∙◌, refl, string_bytes}
+use Rattle.std.proofs.Common.{◌≡◌, ◌++◌, ◌∷◌, [], ◌+◌, drop, subst, None, Ok, arith, rules, ap, sym, ◌∙◌, refl, string_bytes}
 use Rattle.std.specs.Prelude.{slice_get}
 use Rattle.yaml_base.specs.Answer.{Fails}
-use Rattle.yaml_base.specs.EmitEvents.{tag_bytes, emit_mapping_start, emit_mapping_end}
-use Rattle.yaml_base.specs.EmitTree.{emit_node_events, emit_nodes_events, emit_pairs_events, emit_mapping_node, emit_node, no_emit_nodes, no_emit_pairs}
+use Rattle.yaml_base.specs.EmitEvents.{tag_bytes}
+use Rattle.yaml_base.specs.EmitTree.{emit_node_events, emit_nodes_events, emit_pairs_events, emit_node, no_emit_nodes, no_emit_pairs}
 use Rattle.yaml_shape.specs.DataView.{data_of, items_view, entries_view}
 use Rattle.yaml_shape.specs.ShapeView.{ids_of, fields_of}
+use Rattle.yaml_write.specs.Adds.{Adds}
+use Rattle.yaml_write.specs.Brackets.{start_by, end_by}
 use Rattle.yaml_write.specs.InShape.{named_variants}
 use Rattle.yaml_write.specs.Outcomes.{made, string_node}
+use Rattle.yaml_write.specs.PartsOf.{are_named, collection_written}
 use Rattle.yaml_write.specs.Written.{written, written_elements, written_items, written_entries, written_fields}
 use Rattle.yaml_write.specs.WrittenEvents.{pair_events}
 use Rattle.yaml_write.specs.WrittenParts.{written_entry}
 use Rattle.yaml_write.specs.WrittenValue.{pair_node, pair_before}
-use Rattle.yaml_write.proofs.AddLaws.{adds-joined, adds-between, left-joined, fails-left}
+use Rattle.yaml_write.proofs.AddLaws.{adds-joined, left-joined, fails-left}
 use Rattle.yaml_write.proofs.DataLaws.{written-text, data_of-Str, data_of-Variant, elements-left, items-left, entries-left, fields-left, items-done, fields-done}
+use Rattle.yaml_write.proofs.PartsLaws.{adds-collection, fails-collection}
 use Rattle.yaml_write.proofs.ValueLaws.{pair-row, pairs-row, node-row, none-left}
 use Rattle.yaml_write.proofs.data.+write_data.Goals as goal
 
@@ -21,11 +25,18 @@ pub write_data-returns-in-Str : goal.write_data-returns-in-Str
 write_data-returns-in-Str t c =
     rw (c.in-Str.is, data_of-Str c.in-Str.text, written-text c.args.schema.now c.args.id.0 (tag_bytes c.args.tag) c.in-Str.text, ← c.as_str.ensures) c.string.ensures
 
-pub write_struct-returns : goal.write_struct-returns
-write_struct-returns t c =
-    adds-between (emit_mapping_node (tag_bytes c.args.tag)) emit_pairs_events emit_node_events (emit_mapping_start (tag_bytes c.args.tag)) emit_mapping_end (λ ns. refl)
-    (written_fields c.args.schema.now (fields_of c.args.fields.now) (items_view c.args.items.now)) c.args.out.now c.start_mapping.new.self c.write_fields.new.out c.end_mapping.new.self c.end_mapping.result
-    c.in_ok-start_mapping.ensures c.in_ok-write_fields.ensures c.end_mapping.ensures
+pub write_collection-returns : goal.write_collection-returns
+write_collection-returns t c =
+    let named : c.are_named-named.result ≡ are_named c.args.shapes = c.are_named-named.ensures in
+    adds-collection c.args.schema.now c.args.shapes (tag_bytes c.args.tag) (items_view c.args.items.now) c.args.out.now c.start.new.self c.write_parts.new.out c.end.new.self c.end.result
+    (subst (λ b. made (λ e. c.args.out.now ++ e ∷ []) (Ok (start_by b (tag_bytes c.args.tag))) ≡ Ok c.start.new.self) named c.in_ok-start.ensures) c.in_ok-write_parts.ensures
+    (subst (λ b. Adds (λ e. e ∷ []) (Ok (end_by b)) c.write_parts.new.out c.end.new.self c.end.result) named c.end.ensures)
+
+pub write_collection-returns-in_err-write_parts : goal.write_collection-returns-in_err-write_parts
+write_collection-returns-in_err-write_parts t c =
+    let refused : Fails c.in_err-write_parts.field-0.0 (collection_written c.args.schema.now c.args.shapes (tag_bytes c.args.tag) (items_view c.args.items.now)) =
+    fails-collection c.args.schema.now c.args.shapes (tag_bytes c.args.tag) (items_view c.args.items.now) c.in_err-write_parts.field-0.0 c.in_err-write_parts.ensures in
+    search rules
 
 pub write_elements-loop-item-preserved : goal.write_elements-loop-item-preserved
 write_elements-loop-item-preserved t c =

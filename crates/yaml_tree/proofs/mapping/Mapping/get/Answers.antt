@@ -11,7 +11,7 @@ returns-in-Some c =
     let k = tree_of c.args.key.now in
     let es = c.as_slice-entries.result.now in
     let held = holds_at_found k es es (Some c.in-Some.i) refl c.in-Some.ensures.place in
-    let seen = ap entry_pairs c.as_slice-entries.ensures.value ∙ pairs_of-view _ _ c.self.view_is c.self.invariant in
+    let seen = ap entry_pairs c.as_slice-entries.ensures.value ∙ pairs_of-view _ _ c.self.view_is c.self.invariant.0 in
     sym (held c.index-entries-i.result).0 ∙ ap (value_at k) seen
 
 pub returns-in-None : goal.returns-in-None
@@ -19,5 +19,5 @@ returns-in-None c =
     let k = tree_of c.args.key.now in
     let es = c.as_slice-entries.result.now in
     let held = holds_at_found k es es None refl c.in-None.ensures.place in
-    let seen = ap entry_pairs c.as_slice-entries.ensures.value ∙ pairs_of-view _ _ c.self.view_is c.self.invariant in
+    let seen = ap entry_pairs c.as_slice-entries.ensures.value ∙ pairs_of-view _ _ c.self.view_is c.self.invariant.0 in
     sym held.0 ∙ ap (value_at k) seen

@@ -18,10 +18,13 @@ distinct : (r : Result (Option Value) TreeFault) (old new : List Entry) (k v : T
 distinct (Ok o) old new k v d ok err = ap keys_distinct ok ∙ keys_distinct-with_pair k v (entry_pairs old) d
 distinct (Err f) old new k v d ok err = ap (λ es. keys_distinct (entry_pairs es)) err ∙ d
 
-pub invariant_of-self : goal.invariant_of-self
-invariant_of-self c =
+still_distinct : (c : goal.After-put) → keys_distinct (entry_pairs c.put.new.entries.items) ≡ true
+still_distinct c =
     distinct c.put.result c.self.inside.entries.items c.put.new.entries.items
-    (tree_of c.args.key) (tree_of c.args.value) c.self.invariant c.put.ensures.ok c.put.ensures.err
+    (tree_of c.args.key) (tree_of c.args.value) c.self.invariant.0 c.put.ensures.ok c.put.ensures.err
+
+pub invariant_of-self : goal.invariant_of-self
+invariant_of-self c = (still_distinct c, c.put.ensures.still_indexed)
 
 pub returns-clause-ok : goal.returns-clause-ok
 returns-clause-ok c =
@@ -29,8 +32,8 @@ returns-clause-ok c =
     let k = tree_of c.args.key in
     let v = tree_of c.args.value in
     on_ok_weaker c.put.result
-    (λ e. pairs_of-value_pairs (entry_pairs es) (are_pairs-entry_pairs es) (invariant_of-self c)
-    ∙ (e ∙ ap (with_pair k v) (pairs_of-view _ _ c.self.view_is c.self.invariant)))
+    (λ e. pairs_of-value_pairs (entry_pairs es) (are_pairs-entry_pairs es) (still_distinct c)
+    ∙ (e ∙ ap (with_pair k v) (pairs_of-view _ _ c.self.view_is c.self.invariant.0)))
     c.put.ensures.ok
 
 pub returns-clause-err : goal.returns-clause-err

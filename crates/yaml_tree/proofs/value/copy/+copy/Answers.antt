@@ -1,7 +1,8 @@
 -- Each turn copies one more.
 use Rattle.std.proofs.Common.{ap, ◌∙◌}
-use Rattle.yaml_tree.specs.View.{trees_of, entry_pairs}
-use Rattle.yaml_tree.proofs.Copies.{trees_of-more, entry_pairs-more}
+use Rattle.yaml_tree.specs.View.{trees_of}
+use Rattle.yaml_tree.proofs.Indexed.{same-is}
+use Rattle.yaml_tree.proofs.Copies.{copied-all, entries-more, trees_of-more}
 use Rattle.yaml_tree.proofs.value.copy.+copy.Goals as goal
 
 pub copy_items-loop-item-preserved : goal.copy_items-loop-item-preserved
@@ -12,6 +13,11 @@ copy_items-loop-item-preserved t c =
 
 pub copy_mapping-loop-entry-preserved : goal.copy_mapping-loop-entry-preserved
 copy_mapping-loop-entry-preserved t c =
-    ap entry_pairs c.in_ok-push.ensures.items
-    ∙ entry_pairs-more _ _ _ c.in_ok-copied.copied c.entry-item.result c.loop-entry.invariant c.loop-entry-test.true
-    c.entry-item.is c.in_ok-copied.ensures
+    same-is _ _ _ c.in_ok-push.ensures.items
+    (entries-more _ _ _ c.in_ok-copied.copied c.entry-item.result c.loop-entry.invariant c.loop-entry-test.true
+    c.entry-item.is c.in_ok-copied.ensures)
+
+pub copy_mapping-invariant_of-result : goal.copy_mapping-invariant_of-result
+copy_mapping-invariant_of-result t c =
+    copied-all _ _ _ c.loop-entry.entry-index c.deref-entry-items.ensures.value c.loop-entry-test.false
+    c.loop-entry.invariant c.mapping.invariant

@@ -1,8 +1,9 @@
 -- What the reader's functions give at each exit.
 use Rattle.std.proofs.Common.{Ok, Err, Some, None, ◌≡◌, ℕ, suc, ◌+◌, ◌*◌, ◌-◌, ◌<◌, ◌≤◌, [], ◌∷◌, ◌++◌, map, length, true, false, sym, ap, ap₂, ◌∙◌, arith, rules, length-append, refl, Result}
-use Rattle.std.specs.Option.{option_copied}
+use Rattle.std.specs.Option.{is_some, option_copied, option_map}
 use Rattle.std.specs.Prelude.{slice_get, drop}
 use Rattle.std.proofs.lemmas.List.{map-append, length-map}
+use Rattle.std.proofs.lemmas.Option.{slice_get_within}
 use mathlib.Core.Logic.{inl, inr}
 use Rattle.yaml_base.specs.Answer.{Gives, is_memory}
 use Rattle.yaml_base.specs.PathText.{path_text}
@@ -10,21 +11,25 @@ use Rattle.yaml_base.specs.declared.error.Cause.{Cause}
 use Rattle.yaml_shape.specs.DataView.{data_of, entry_of, items_of, entries_of}
 use Rattle.yaml_shape.specs.PlainData.{PlainData, seq_data, map_data, some_data, newtype_data}
 use Rattle.yaml_shape.specs.PlainShape.{bool_shape, shape_at}
-use Rattle.yaml_shape.specs.ShapeView.{shape_of, ids_of}
+use Rattle.yaml_shape.specs.ShapeView.{shape_of, ids_of, field_of, fields_of}
+use Rattle.yaml_shape.specs.Validity.{numbers_of}
 use Rattle.yaml_shape.specs.Walks.{rank}
 use Rattle.yaml_shape.specs.declared.data.Data.{Seq, Map, Some as SomeData, Newtype, the_lemmas}
 use Rattle.yaml_shape.specs.declared.data.Entry.{Entry}
 use Rattle.yaml_read.specs.DocEventView.{doc_event_of, doc_scalar_of}
-use Rattle.yaml_read.specs.Handing.{early, handed, is_content, reach}
+use Rattle.yaml_read.specs.Fields.{no_slots, struct_of}
+use Rattle.yaml_read.specs.Handing.{early, handed, is_content, is_bare, reach}
 use Rattle.yaml_read.specs.Places.{way_of, element_under, place, placed}
 use Rattle.yaml_read.specs.Rows.{row_of, row_data}
-use Rattle.yaml_read.specs.ScalarShapes.{scalar_answer}
+use Rattle.yaml_read.specs.PlainDocEvent.{a_scalar}
+use Rattle.yaml_read.specs.ScalarShapes.{scalar_answer, text_of, lent_text}
 use Rattle.yaml_read.specs.Steps.{ending, with_shape}
 use Rattle.yaml_read.specs.TreeReader.{Spot, after}
-use Rattle.yaml_read.specs.inner.Reader.{is_sequence_end, is_mapping_end, is_leaf, few_text, value_at, item_at, entry_at, row_at, skip_at, sequence_parts, mapping_parts, place_at, event_at}
-use Rattle.yaml_read.specs.inner.Walks.{source_of, spot_of, seen, reader_of, row_view}
+use Rattle.yaml_read.specs.inner.Reader.{is_sequence_end, is_mapping_end, is_leaf, few_text, owner_named, value_at, item_at, entry_at, row_at, skip_at, field_at, field_key_at, sequence_parts, mapping_parts, place_at, event_at}
+use Rattle.yaml_read.specs.inner.Walks.{around_of, source_of, spot_of, seen, reader_of, row_view, slots_of, field_view, IsAmong}
 use Rattle.yaml_read.proofs.reading.Exits.{same_spot, not_sequence_end, not_mapping_end, entry_is, leaf_as_is, leaf_late, row_as_is, row_late, option_as_is, all_at}
 use Rattle.yaml_read.proofs.reading.Exits.{step_late, step_ended, step_event, step_content, step_newtype, step_seq, step_row, step_map, leaf_scalar, no_key, no_value, one_entry}
+use Rattle.yaml_read.proofs.reading.Exits.{fields_late, fields_as_is, step_struct, step_too_deep, step_bare, no_name, unknown_name, known_name, key_looked_up, key_fails, gives_key, gives_wrapped, name_scalar, scalar_mark}
 use Rattle.yaml_read.proofs.reading.Exits.{row_skips, row_reads, drop_here, drop_none, finish_fails, gives_finish}
 use Rattle.yaml_read.proofs.reading.Loops.{each_ended, each_end, each_fails, each_more, wrap_fails, wrap_finds, pursue_fails, pursue_finds}
 use Rattle.yaml_read.proofs.reading.PlaceLaws.{filled_memory, node_unfolds, place_ok, place_moved, place_memory}
@@ -32,102 +37,102 @@ use Rattle.yaml_read.proofs.de.source.Source.+read.Goals as goal
 
 pub read_node-returns-in-Ok-clause-gives : goal.read_node-returns-in-Ok-clause-gives
 read_node-returns-in-Ok-clause-gives t c = λ fuel lt.
-    node_unfolds (source_of c.args.self.now) (way_of c.args.path.now) (shape_of c.args.shape.now) c.args.nest c.args.taken (spot_of c.args.walk.now) fuel (omega arith)
-    ∙ ap (place_at (way_of c.args.path.now) (shape_of c.args.shape.now) (seen c.args.self.now.events.now c.args.walk.now.place)) (c.in-Ok.ensures.gives (fuel - 1) (omega arith))
-    ∙ place_ok (way_of c.args.path.now) (shape_of c.args.shape.now) (seen c.args.self.now.events.now c.args.walk.now.place) _
+    node_unfolds (source_of c.args.self.now) (way_of c.args.path.now) (shape_of c.args.shape.now) c.args.nest (around_of c.args.taken) (spot_of c.args.walk.now) fuel (omega arith)
+    ∙ ap (place_at (way_of c.args.path.now) (shape_of c.args.shape.now) (is_some (around_of c.args.taken)) (seen c.args.self.now.events.now c.args.walk.now.place)) (c.in-Ok.ensures.gives (fuel - 1) (omega arith))
+    ∙ place_ok (way_of c.args.path.now) (shape_of c.args.shape.now) (is_some (around_of c.args.taken)) (seen c.args.self.now.events.now c.args.walk.now.place) _
 
 pub read_node-returns-in-Err-clause-gives : goal.read_node-returns-in-Err-clause-gives
 read_node-returns-in-Err-clause-gives t c = λ fuel lt m.
     let told = c.settled.ensures m in
-    node_unfolds (source_of c.args.self.now) (way_of c.args.path.now) (shape_of c.args.shape.now) c.args.nest c.args.taken (spot_of c.args.walk.now) fuel (omega arith)
-    ∙ ap (place_at (way_of c.args.path.now) (shape_of c.args.shape.now) (seen c.args.self.now.events.now c.args.walk.now.place)) (c.in-Err.ensures.gives (fuel - 1) (omega arith) (place_memory (way_of c.args.path.now) (shape_of c.args.shape.now) (seen c.args.self.now.events.now c.args.walk.now.place) c.in-Err.refusal c.settled.result told ∙ m))
-    ∙ place_moved (way_of c.args.path.now) (shape_of c.args.shape.now) (seen c.args.self.now.events.now c.args.walk.now.place) c.in-Err.refusal c.settled.result told
+    node_unfolds (source_of c.args.self.now) (way_of c.args.path.now) (shape_of c.args.shape.now) c.args.nest (around_of c.args.taken) (spot_of c.args.walk.now) fuel (omega arith)
+    ∙ ap (place_at (way_of c.args.path.now) (shape_of c.args.shape.now) (is_some (around_of c.args.taken)) (seen c.args.self.now.events.now c.args.walk.now.place)) (c.in-Err.ensures.gives (fuel - 1) (omega arith) (place_memory (way_of c.args.path.now) (shape_of c.args.shape.now) (is_some (around_of c.args.taken)) (seen c.args.self.now.events.now c.args.walk.now.place) c.in-Err.refusal c.settled.result told ∙ m))
+    ∙ place_moved (way_of c.args.path.now) (shape_of c.args.shape.now) (is_some (around_of c.args.taken)) (seen c.args.self.now.events.now c.args.walk.now.place) c.in-Err.refusal c.settled.result told
 
 pub read_unplaced-returns-in-Option-clause-gives : goal.read_unplaced-returns-in-Option-clause-gives
 read_unplaced-returns-in-Option-clause-gives t c = λ fuel lt.
-    rw (step_late (source_of c.args.self.now) (reader_of fuel c.args.self.now) (way_of c.args.path.now) (shape_of c.args.shape.now) c.args.nest c.args.taken (spot_of c.args.walk.now) (ap (λ x. early (shape_of x)) c.in-Option.is)) (c.read_option.ensures.gives fuel lt)
+    rw (step_late (source_of c.args.self.now) (reader_of fuel c.args.self.now) (way_of c.args.path.now) (shape_of c.args.shape.now) c.args.nest (around_of c.args.taken) (spot_of c.args.walk.now) (ap (λ x. early (shape_of x)) c.in-Option.is)) (c.read_option.ensures.gives fuel lt)
 
 pub read_unplaced-returns-in-Newtype-clause-gives : goal.read_unplaced-returns-in-Newtype-clause-gives
 read_unplaced-returns-in-Newtype-clause-gives t c = λ fuel lt.
-    rw (step_late (source_of c.args.self.now) (reader_of fuel c.args.self.now) (way_of c.args.path.now) (shape_of c.args.shape.now) c.args.nest c.args.taken (spot_of c.args.walk.now) (ap (λ x. early (shape_of x)) c.in-Newtype.is), c.in-Newtype.is) (c.read_newtype.ensures.gives fuel [] (omega arith))
+    rw (step_late (source_of c.args.self.now) (reader_of fuel c.args.self.now) (way_of c.args.path.now) (shape_of c.args.shape.now) c.args.nest (around_of c.args.taken) (spot_of c.args.walk.now) (ap (λ x. early (shape_of x)) c.in-Newtype.is), c.in-Newtype.is) (c.read_newtype.ensures.gives fuel [] (omega arith))
 
 pub read_unplaced-returns-in-Seq-clause-gives : goal.read_unplaced-returns-in-Seq-clause-gives
 read_unplaced-returns-in-Seq-clause-gives t c = λ fuel lt.
-    rw (step_late (source_of c.args.self.now) (reader_of fuel c.args.self.now) (way_of c.args.path.now) (shape_of c.args.shape.now) c.args.nest c.args.taken (spot_of c.args.walk.now) (ap (λ x. early (shape_of x)) c.in-Seq.is)) (c.read_seq.ensures.gives fuel lt)
+    rw (step_late (source_of c.args.self.now) (reader_of fuel c.args.self.now) (way_of c.args.path.now) (shape_of c.args.shape.now) c.args.nest (around_of c.args.taken) (spot_of c.args.walk.now) (ap (λ x. early (shape_of x)) c.in-Seq.is)) (c.read_seq.ensures.gives fuel lt)
 
 pub read_unplaced-returns-in-Tuple-clause-gives : goal.read_unplaced-returns-in-Tuple-clause-gives
 read_unplaced-returns-in-Tuple-clause-gives t c = λ fuel lt.
-    rw (step_late (source_of c.args.self.now) (reader_of fuel c.args.self.now) (way_of c.args.path.now) (shape_of c.args.shape.now) c.args.nest c.args.taken (spot_of c.args.walk.now) (ap (λ x. early (shape_of x)) c.in-Tuple.is)) (c.read_tuple.ensures.gives fuel lt)
+    rw (step_late (source_of c.args.self.now) (reader_of fuel c.args.self.now) (way_of c.args.path.now) (shape_of c.args.shape.now) c.args.nest (around_of c.args.taken) (spot_of c.args.walk.now) (ap (λ x. early (shape_of x)) c.in-Tuple.is)) (c.read_tuple.ensures.gives fuel lt)
 
 pub read_unplaced-returns-in-TupleStruct-clause-gives : goal.read_unplaced-returns-in-TupleStruct-clause-gives
 read_unplaced-returns-in-TupleStruct-clause-gives t c = λ fuel lt.
-    rw (step_late (source_of c.args.self.now) (reader_of fuel c.args.self.now) (way_of c.args.path.now) (shape_of c.args.shape.now) c.args.nest c.args.taken (spot_of c.args.walk.now) (ap (λ x. early (shape_of x)) c.in-TupleStruct.is)) (c.read_tuple-in-TupleStruct.ensures.gives fuel lt)
+    rw (step_late (source_of c.args.self.now) (reader_of fuel c.args.self.now) (way_of c.args.path.now) (shape_of c.args.shape.now) c.args.nest (around_of c.args.taken) (spot_of c.args.walk.now) (ap (λ x. early (shape_of x)) c.in-TupleStruct.is)) (c.read_tuple-in-TupleStruct.ensures.gives fuel lt)
 
 pub read_unplaced-returns-in-Map-clause-gives : goal.read_unplaced-returns-in-Map-clause-gives
 read_unplaced-returns-in-Map-clause-gives t c = λ fuel lt.
-    rw (step_late (source_of c.args.self.now) (reader_of fuel c.args.self.now) (way_of c.args.path.now) (shape_of c.args.shape.now) c.args.nest c.args.taken (spot_of c.args.walk.now) (ap (λ x. early (shape_of x)) c.in-Map.is)) (c.read_map.ensures.gives fuel lt)
+    rw (step_late (source_of c.args.self.now) (reader_of fuel c.args.self.now) (way_of c.args.path.now) (shape_of c.args.shape.now) c.args.nest (around_of c.args.taken) (spot_of c.args.walk.now) (ap (λ x. early (shape_of x)) c.in-Map.is)) (c.read_map.ensures.gives fuel lt)
 
 pub read_leaf-returns-clause-gives : goal.read_leaf-returns-clause-gives
 read_leaf-returns-clause-gives t c = λ fuel lt.
-    rw (step_late (source_of c.args.self.now) (reader_of fuel c.args.self.now) (way_of c.args.path.now) (shape_of c.args.shape.now) c.args.nest c.args.taken (spot_of c.args.walk.now) (leaf_late (shape_of c.args.shape.now) c.requires.leaf), step_event (source_of c.args.self.now) (reader_of fuel c.args.self.now) (way_of c.args.path.now) (shape_of c.args.shape.now) c.args.nest c.args.taken (spot_of c.args.walk.now) _ _ c.in-Some.ensures.found (leaf_as_is (shape_of c.args.shape.now) c.args.taken _ c.requires.leaf)) (c.read_simple.ensures.gives fuel _ lt)
+    rw (step_late (source_of c.args.self.now) (reader_of fuel c.args.self.now) (way_of c.args.path.now) (shape_of c.args.shape.now) c.args.nest (around_of c.args.taken) (spot_of c.args.walk.now) (leaf_late (shape_of c.args.shape.now) c.requires.leaf), step_event (source_of c.args.self.now) (reader_of fuel c.args.self.now) (way_of c.args.path.now) (shape_of c.args.shape.now) c.args.nest (around_of c.args.taken) (spot_of c.args.walk.now) _ _ c.in-Some.ensures.found (leaf_as_is (shape_of c.args.shape.now) (is_some (around_of c.args.taken)) _ c.requires.leaf)) (c.read_simple.ensures.gives fuel _ lt)
 
 pub read_leaf-returns-in_default-clause-gives : goal.read_leaf-returns-in_default-clause-gives
 read_leaf-returns-in_default-clause-gives t c = λ fuel lt fault.
-    step_late (source_of c.args.self.now) (reader_of fuel c.args.self.now) (way_of c.args.path.now) (shape_of c.args.shape.now) c.args.nest c.args.taken (spot_of c.args.walk.now) (leaf_late (shape_of c.args.shape.now) c.requires.leaf)
-    ∙ step_ended (source_of c.args.self.now) (reader_of fuel c.args.self.now) (way_of c.args.path.now) (shape_of c.args.shape.now) c.args.nest c.args.taken (spot_of c.args.walk.now) (sym c.in_default.ensures.found) ∙ ap Err (sym (c.ended.ensures fault))
+    step_late (source_of c.args.self.now) (reader_of fuel c.args.self.now) (way_of c.args.path.now) (shape_of c.args.shape.now) c.args.nest (around_of c.args.taken) (spot_of c.args.walk.now) (leaf_late (shape_of c.args.shape.now) c.requires.leaf)
+    ∙ step_ended (source_of c.args.self.now) (reader_of fuel c.args.self.now) (way_of c.args.path.now) (shape_of c.args.shape.now) c.args.nest (around_of c.args.taken) (spot_of c.args.walk.now) (sym c.in_default.ensures.found) ∙ ap Err (sym (c.ended.ensures fault))
 
 pub read_option-returns-then-not-is_content-clause-gives : goal.read_option-returns-then-not-is_content-clause-gives
 read_option-returns-then-not-is_content-clause-gives t c = λ fuel lt.
-    let absent : is_content c.args.taken (doc_event_of c.in-Some.field-0.now.0) ≡ false = sym c.is_content.ensures ∙ c.if-not-is_content.true in
-    rw (step_event (source_of c.args.self.now) (reader_of fuel c.args.self.now) (way_of c.args.path.now) (shape_of c.args.shape.now) c.args.nest c.args.taken (spot_of c.args.walk.now) _ _ c.in-Some.ensures.found (option_as_is (source_of c.args.self.now) (reader_of fuel c.args.self.now) (way_of c.args.path.now) (shape_of c.args.shape.now) c.args.nest c.args.taken (spot_of c.args.walk.now) c.args.content.0 _ c.requires.option absent)) (c.read_simple.ensures.gives fuel _ lt)
+    let absent : is_content (is_some (around_of c.args.taken)) (doc_event_of c.in-Some.field-0.now.0) ≡ false = ap (λ b. is_content b (doc_event_of c.in-Some.field-0.now.0)) (sym c.is_taken.ensures) ∙ sym c.is_content.ensures ∙ c.if-not-is_content.true in
+    rw (step_event (source_of c.args.self.now) (reader_of fuel c.args.self.now) (way_of c.args.path.now) (shape_of c.args.shape.now) c.args.nest (around_of c.args.taken) (spot_of c.args.walk.now) _ _ c.in-Some.ensures.found (option_as_is (source_of c.args.self.now) (reader_of fuel c.args.self.now) (way_of c.args.path.now) (shape_of c.args.shape.now) c.args.nest (around_of c.args.taken) (spot_of c.args.walk.now) c.args.content.0 _ c.requires.option absent)) (c.read_simple.ensures.gives fuel _ lt)
 
 pub read_option-returns-in_ok-new-in-Ok-clause-gives : goal.read_option-returns-in_ok-new-in-Ok-clause-gives
 read_option-returns-in_ok-new-in-Ok-clause-gives t c = λ fuel lt.
     let seen_as : data_of (SomeData c.in_ok-new-in-Ok.field-0) ≡ some_data (data_of c.in_ok-new-in-Ok.field-0.value) = search (rules, the_lemmas) in
-    let present : is_content c.args.taken (doc_event_of c.in-Some.field-0.now.0) ≡ true = sym c.is_content.ensures ∙ c.if-not-is_content.false in
+    let present : is_content (is_some (around_of c.args.taken)) (doc_event_of c.in-Some.field-0.now.0) ≡ true = ap (λ b. is_content b (doc_event_of c.in-Some.field-0.now.0)) (sym c.is_taken.ensures) ∙ sym c.is_content.ensures ∙ c.if-not-is_content.false in
     let option : reach c.args.self.now.schema.now (shape_of c.args.shape.now) ≡ rank c.args.self.now.schema.now c.args.content.0 + 1 = ap (reach c.args.self.now.schema.now) c.requires.option in
-    step_content (source_of c.args.self.now) (reader_of fuel c.args.self.now) (way_of c.args.path.now) (shape_of c.args.shape.now) c.args.nest c.args.taken (spot_of c.args.walk.now) c.args.content.0 _ _ _ c.requires.option c.in-Some.ensures.found present c.shape.ensures.found
+    step_content (source_of c.args.self.now) (reader_of fuel c.args.self.now) (way_of c.args.path.now) (shape_of c.args.shape.now) c.args.nest (around_of c.args.taken) (spot_of c.args.walk.now) c.args.content.0 _ _ _ c.requires.option c.in-Some.ensures.found present c.shape.ensures.found
     ∙ wrap_finds some_data _ _ _ (c.in-Ok.ensures.gives fuel (omega (arith, option, c.shape.ensures.reach)))
     ∙ ap (λ v. Ok (v, spot_of c.read_node.new.walk)) (ap some_data (ap data_of (sym c.in_ok-new-in-Ok.ensures.ok)) ∙ sym seen_as)
 
 pub read_option-returns-in-Err-clause-gives : goal.read_option-returns-in-Err-clause-gives
 read_option-returns-in-Err-clause-gives t c = λ fuel lt fault.
-    let present : is_content c.args.taken (doc_event_of c.in-Some.field-0.now.0) ≡ true = sym c.is_content.ensures ∙ c.if-not-is_content.false in
+    let present : is_content (is_some (around_of c.args.taken)) (doc_event_of c.in-Some.field-0.now.0) ≡ true = ap (λ b. is_content b (doc_event_of c.in-Some.field-0.now.0)) (sym c.is_taken.ensures) ∙ sym c.is_content.ensures ∙ c.if-not-is_content.false in
     let option : reach c.args.self.now.schema.now (shape_of c.args.shape.now) ≡ rank c.args.self.now.schema.now c.args.content.0 + 1 = ap (reach c.args.self.now.schema.now) c.requires.option in
-    step_content (source_of c.args.self.now) (reader_of fuel c.args.self.now) (way_of c.args.path.now) (shape_of c.args.shape.now) c.args.nest c.args.taken (spot_of c.args.walk.now) c.args.content.0 _ _ _ c.requires.option c.in-Some.ensures.found present c.shape.ensures.found
+    step_content (source_of c.args.self.now) (reader_of fuel c.args.self.now) (way_of c.args.path.now) (shape_of c.args.shape.now) c.args.nest (around_of c.args.taken) (spot_of c.args.walk.now) c.args.content.0 _ _ _ c.requires.option c.in-Some.ensures.found present c.shape.ensures.found
     ∙ wrap_fails some_data _ _ (c.in-Err.ensures.gives fuel (omega (arith, option, c.shape.ensures.reach)) fault)
 
 pub read_newtype-returns-in_ok-new-in-Ok-clause-gives : goal.read_newtype-returns-in_ok-new-in-Ok-clause-gives
 read_newtype-returns-in_ok-new-in-Ok-clause-gives t c = λ fuel name lt.
     let seen_as : data_of (Newtype c.in_ok-new-in-Ok.field-0) ≡ newtype_data (data_of c.in_ok-new-in-Ok.field-0.value) = search (rules, the_lemmas) in
     let some : 0 < c.args.nest = omega (arith, c.if-nest-eq0.false) in
-    step_newtype (source_of c.args.self.now) (reader_of fuel c.args.self.now) (way_of c.args.path.now) bool_shape c.args.nest c.args.taken (spot_of c.args.walk.now) name c.args.inner.0 _ _ _ c.in-Some.ensures.found some c.shape.ensures.found
+    step_newtype (source_of c.args.self.now) (reader_of fuel c.args.self.now) (way_of c.args.path.now) bool_shape c.args.nest (around_of c.args.taken) (spot_of c.args.walk.now) name c.args.inner.0 _ _ _ c.in-Some.ensures.found some c.shape.ensures.found
     ∙ wrap_finds newtype_data _ _ _ (c.in-Ok.ensures.gives fuel (omega (arith, some, c.shape.ensures.small)))
     ∙ ap (λ v. Ok (v, spot_of c.read_node.new.walk)) (ap newtype_data (ap data_of (sym c.in_ok-new-in-Ok.ensures.ok)) ∙ sym seen_as)
 
 pub read_newtype-returns-in-Err-clause-gives : goal.read_newtype-returns-in-Err-clause-gives
 read_newtype-returns-in-Err-clause-gives t c = λ fuel name lt fault.
     let some : 0 < c.args.nest = omega (arith, c.if-nest-eq0.false) in
-    step_newtype (source_of c.args.self.now) (reader_of fuel c.args.self.now) (way_of c.args.path.now) bool_shape c.args.nest c.args.taken (spot_of c.args.walk.now) name c.args.inner.0 _ _ _ c.in-Some.ensures.found some c.shape.ensures.found
+    step_newtype (source_of c.args.self.now) (reader_of fuel c.args.self.now) (way_of c.args.path.now) bool_shape c.args.nest (around_of c.args.taken) (spot_of c.args.walk.now) name c.args.inner.0 _ _ _ c.in-Some.ensures.found some c.shape.ensures.found
     ∙ wrap_fails newtype_data _ _ (c.in-Err.ensures.gives fuel (omega (arith, some, c.shape.ensures.small)) fault)
 
 pub read_seq-returns-in_default-event : goal.read_seq-returns-in_default-event
 read_seq-returns-in_default-event t c = record {
-  gives = λ fuel lt. rw (step_event (source_of c.args.self.now) (reader_of fuel c.args.self.now) (way_of c.args.path.now) (shape_of c.args.shape.now) c.args.nest c.args.taken (spot_of c.args.walk.now) _ _ c.in-Some.ensures.found (ap (λ s. handed s c.args.taken (doc_event_of c.in-Some.field-0.now.0)) c.requires.seq)) (c.read_simple.ensures.gives fuel _ lt);
+  gives = λ fuel lt. rw (step_event (source_of c.args.self.now) (reader_of fuel c.args.self.now) (way_of c.args.path.now) (shape_of c.args.shape.now) c.args.nest (around_of c.args.taken) (spot_of c.args.walk.now) _ _ c.in-Some.ensures.found (ap (λ s. handed s (is_some (around_of c.args.taken)) (doc_event_of c.in-Some.field-0.now.0)) c.requires.seq)) (c.read_simple.ensures.gives fuel _ lt);
   moves = c.read_simple.ensures.moves;
   cost = c.read_simple.ensures.cost;
 }
 
 pub read_map-returns-in_default-event : goal.read_map-returns-in_default-event
 read_map-returns-in_default-event t c = record {
-  gives = λ fuel lt. rw (step_event (source_of c.args.self.now) (reader_of fuel c.args.self.now) (way_of c.args.path.now) (shape_of c.args.shape.now) c.args.nest c.args.taken (spot_of c.args.walk.now) _ _ c.in-Some.ensures.found (ap (λ s. handed s c.args.taken (doc_event_of c.in-Some.field-0.now.0)) c.requires.mapping)) (c.read_simple.ensures.gives fuel _ lt);
+  gives = λ fuel lt. rw (step_event (source_of c.args.self.now) (reader_of fuel c.args.self.now) (way_of c.args.path.now) (shape_of c.args.shape.now) c.args.nest (around_of c.args.taken) (spot_of c.args.walk.now) _ _ c.in-Some.ensures.found (ap (λ s. handed s (is_some (around_of c.args.taken)) (doc_event_of c.in-Some.field-0.now.0)) c.requires.mapping)) (c.read_simple.ensures.gives fuel _ lt);
   moves = c.read_simple.ensures.moves;
   cost = c.read_simple.ensures.cost;
 }
 
 pub read_tuple-returns-in_default-event : goal.read_tuple-returns-in_default-event
 read_tuple-returns-in_default-event t c = record {
-  gives = λ fuel lt. rw (step_event (source_of c.args.self.now) (reader_of fuel c.args.self.now) (way_of c.args.path.now) (shape_of c.args.shape.now) c.args.nest c.args.taken (spot_of c.args.walk.now) _ _ c.in-Some.ensures.found (row_as_is (shape_of c.args.shape.now) (option_copied c.args.name) (ids_of c.args.items.now) c.args.taken _ c.requires.tuple)) (c.read_simple.ensures.gives fuel _ lt);
+  gives = λ fuel lt. rw (step_event (source_of c.args.self.now) (reader_of fuel c.args.self.now) (way_of c.args.path.now) (shape_of c.args.shape.now) c.args.nest (around_of c.args.taken) (spot_of c.args.walk.now) _ _ c.in-Some.ensures.found (row_as_is (shape_of c.args.shape.now) (option_copied c.args.name) (ids_of c.args.items.now) (is_some (around_of c.args.taken)) _ c.requires.tuple)) (c.read_simple.ensures.gives fuel _ lt);
   moves = c.read_simple.ensures.moves;
   cost = c.read_simple.ensures.cost;
 }
@@ -137,7 +142,7 @@ read_seq-returns-in-Ok-clause-gives t c = λ fuel lt.
     let some : 0 < c.args.nest = omega (arith, c.if-nest-eq0.false) in
     let left = c.step.ensures.left in
     let seen_as : data_of (Seq c.in-Ok.items) ≡ seq_data (items_of (map data_of c.in-Ok.items.items)) = search (rules, the_lemmas) in
-    step_seq (source_of c.args.self.now) (reader_of fuel c.args.self.now) (way_of c.args.path.now) (shape_of c.args.shape.now) c.args.nest c.args.taken (spot_of c.args.walk.now) c.args.element.0 _ _ _ c.requires.seq (rw c.in-SequenceStart.is at c.in-Some.ensures.found) some c.shape.ensures.found
+    step_seq (source_of c.args.self.now) (reader_of fuel c.args.self.now) (way_of c.args.path.now) (shape_of c.args.shape.now) c.args.nest (around_of c.args.taken) (spot_of c.args.walk.now) c.args.element.0 _ _ _ c.requires.seq (rw c.in-SequenceStart.is at c.in-Some.ensures.found) some c.shape.ensures.found
     ∙ wrap_finds (λ vs. seq_data (items_of vs)) _ _ _ (rw (same_spot (spot_of c.step.new.self) (after (spot_of c.args.walk.now)) c.step.ensures.place c.step.ensures.left) at (c.in-Ok.ensures.gives fuel (length c.args.self.now.events.now) (omega (arith, some, left)) (omega (arith, c.step.ensures.place))))
     ∙ ap (λ v. Ok (v, spot_of c.read_items.new.walk)) (sym seen_as)
 
@@ -145,28 +150,28 @@ pub read_seq-returns-in-Err-clause-gives : goal.read_seq-returns-in-Err-clause-g
 read_seq-returns-in-Err-clause-gives t c = λ fuel lt fault.
     let some : 0 < c.args.nest = omega (arith, c.if-nest-eq0.false) in
     let left = c.step.ensures.left in
-    step_seq (source_of c.args.self.now) (reader_of fuel c.args.self.now) (way_of c.args.path.now) (shape_of c.args.shape.now) c.args.nest c.args.taken (spot_of c.args.walk.now) c.args.element.0 _ _ _ c.requires.seq (rw c.in-SequenceStart.is at c.in-Some.ensures.found) some c.shape.ensures.found
+    step_seq (source_of c.args.self.now) (reader_of fuel c.args.self.now) (way_of c.args.path.now) (shape_of c.args.shape.now) c.args.nest (around_of c.args.taken) (spot_of c.args.walk.now) c.args.element.0 _ _ _ c.requires.seq (rw c.in-SequenceStart.is at c.in-Some.ensures.found) some c.shape.ensures.found
     ∙ wrap_fails (λ vs. seq_data (items_of vs)) _ _ (rw (same_spot (spot_of c.step.new.self) (after (spot_of c.args.walk.now)) c.step.ensures.place c.step.ensures.left) at (c.in-Err.ensures.gives fuel (length c.args.self.now.events.now) (omega (arith, some, left)) (omega (arith, c.step.ensures.place)) fault))
 
 pub read_tuple-returns-in-Ok-clause-gives : goal.read_tuple-returns-in-Ok-clause-gives
 read_tuple-returns-in-Ok-clause-gives t c = λ fuel lt.
     let some : 0 < c.args.nest = omega (arith, c.if-nest-eq0.false) in
     let left = c.step.ensures.left in
-    rw (step_row (source_of c.args.self.now) (reader_of fuel c.args.self.now) (way_of c.args.path.now) (shape_of c.args.shape.now) c.args.nest c.args.taken (spot_of c.args.walk.now) (option_copied c.args.name) (ids_of c.args.items.now) _ _ c.requires.tuple (rw c.in-SequenceStart.is at c.in-Some.ensures.found) some) (gives_finish data_of (row_data (few_text (option_copied c.args.name) (length (ids_of c.args.items.now))) (length (ids_of c.args.items.now))) c.finish.result _ _ (spot_of c.read_elements.new.walk) (rw (same_spot (spot_of c.step.new.self) (after (spot_of c.args.walk.now)) c.step.ensures.place c.step.ensures.left) at (c.in-Ok.ensures.gives fuel (length c.args.self.now.events.now) (omega (arith, some, left)) (omega (arith, c.step.ensures.place)))) c.finish.ensures)
+    rw (step_row (source_of c.args.self.now) (reader_of fuel c.args.self.now) (way_of c.args.path.now) (shape_of c.args.shape.now) c.args.nest (around_of c.args.taken) (spot_of c.args.walk.now) (option_copied c.args.name) (ids_of c.args.items.now) _ _ c.requires.tuple (rw c.in-SequenceStart.is at c.in-Some.ensures.found) some) (gives_finish data_of (row_data (few_text (owner_named (option_copied c.args.name)) (length (ids_of c.args.items.now))) (length (ids_of c.args.items.now))) c.finish.result _ _ (spot_of c.read_elements.new.walk) (rw (same_spot (spot_of c.step.new.self) (after (spot_of c.args.walk.now)) c.step.ensures.place c.step.ensures.left) at (c.in-Ok.ensures.gives fuel (length c.args.self.now.events.now) (omega (arith, some, left)) (omega (arith, c.step.ensures.place)))) (rw c.named.ensures at c.finish.ensures))
 
 pub read_tuple-returns-in-Err-clause-gives : goal.read_tuple-returns-in-Err-clause-gives
 read_tuple-returns-in-Err-clause-gives t c = λ fuel lt fault.
     let some : 0 < c.args.nest = omega (arith, c.if-nest-eq0.false) in
     let left = c.step.ensures.left in
-    step_row (source_of c.args.self.now) (reader_of fuel c.args.self.now) (way_of c.args.path.now) (shape_of c.args.shape.now) c.args.nest c.args.taken (spot_of c.args.walk.now) (option_copied c.args.name) (ids_of c.args.items.now) _ _ c.requires.tuple (rw c.in-SequenceStart.is at c.in-Some.ensures.found) some
-    ∙ finish_fails (row_data (few_text (option_copied c.args.name) (length (ids_of c.args.items.now))) (length (ids_of c.args.items.now))) _ _ (rw (same_spot (spot_of c.step.new.self) (after (spot_of c.args.walk.now)) c.step.ensures.place c.step.ensures.left) at (c.in-Err.ensures.gives fuel (length c.args.self.now.events.now) (omega (arith, some, left)) (omega (arith, c.step.ensures.place)) fault))
+    step_row (source_of c.args.self.now) (reader_of fuel c.args.self.now) (way_of c.args.path.now) (shape_of c.args.shape.now) c.args.nest (around_of c.args.taken) (spot_of c.args.walk.now) (option_copied c.args.name) (ids_of c.args.items.now) _ _ c.requires.tuple (rw c.in-SequenceStart.is at c.in-Some.ensures.found) some
+    ∙ finish_fails (row_data (few_text (owner_named (option_copied c.args.name)) (length (ids_of c.args.items.now))) (length (ids_of c.args.items.now))) _ _ (rw (same_spot (spot_of c.step.new.self) (after (spot_of c.args.walk.now)) c.step.ensures.place c.step.ensures.left) at (c.in-Err.ensures.gives fuel (length c.args.self.now.events.now) (omega (arith, some, left)) (omega (arith, c.step.ensures.place)) fault))
 
 pub read_map-returns-in-Ok-clause-gives : goal.read_map-returns-in-Ok-clause-gives
 read_map-returns-in-Ok-clause-gives t c = λ fuel lt.
     let some : 0 < c.args.nest = omega (arith, c.if-nest-eq0.false) in
     let left = c.step.ensures.left in
     let seen_as : data_of (Map c.in-Ok.entries) ≡ map_data (entries_of (map entry_of c.in-Ok.entries.items)) = search (rules, the_lemmas) in
-    step_map (source_of c.args.self.now) (reader_of fuel c.args.self.now) (way_of c.args.path.now) (shape_of c.args.shape.now) c.args.nest c.args.taken (spot_of c.args.walk.now) c.args.key.0 c.args.value.0 _ _ _ _ c.requires.mapping (rw c.in-MappingStart.is at c.in-Some.ensures.found) some c.shape.ensures.found c.shape-2.ensures.found
+    step_map (source_of c.args.self.now) (reader_of fuel c.args.self.now) (way_of c.args.path.now) (shape_of c.args.shape.now) c.args.nest (around_of c.args.taken) (spot_of c.args.walk.now) c.args.key.0 c.args.value.0 _ _ _ _ c.requires.mapping (rw c.in-MappingStart.is at c.in-Some.ensures.found) some c.shape.ensures.found c.shape-2.ensures.found
     ∙ wrap_finds (λ vs. map_data (entries_of vs)) _ _ _ (rw (same_spot (spot_of c.step.new.self) (after (spot_of c.args.walk.now)) c.step.ensures.place c.step.ensures.left) at (c.in-Ok.ensures.gives fuel (length c.args.self.now.events.now) (omega (arith, some, left)) (omega (arith, c.step.ensures.place))))
     ∙ ap (λ v. Ok (v, spot_of c.read_entries.new.walk)) (sym seen_as)
 
@@ -174,32 +179,32 @@ pub read_map-returns-in-Err-clause-gives : goal.read_map-returns-in-Err-clause-g
 read_map-returns-in-Err-clause-gives t c = λ fuel lt fault.
     let some : 0 < c.args.nest = omega (arith, c.if-nest-eq0.false) in
     let left = c.step.ensures.left in
-    step_map (source_of c.args.self.now) (reader_of fuel c.args.self.now) (way_of c.args.path.now) (shape_of c.args.shape.now) c.args.nest c.args.taken (spot_of c.args.walk.now) c.args.key.0 c.args.value.0 _ _ _ _ c.requires.mapping (rw c.in-MappingStart.is at c.in-Some.ensures.found) some c.shape.ensures.found c.shape-2.ensures.found
+    step_map (source_of c.args.self.now) (reader_of fuel c.args.self.now) (way_of c.args.path.now) (shape_of c.args.shape.now) c.args.nest (around_of c.args.taken) (spot_of c.args.walk.now) c.args.key.0 c.args.value.0 _ _ _ _ c.requires.mapping (rw c.in-MappingStart.is at c.in-Some.ensures.found) some c.shape.ensures.found c.shape-2.ensures.found
     ∙ wrap_fails (λ vs. map_data (entries_of vs)) _ _ (rw (same_spot (spot_of c.step.new.self) (after (spot_of c.args.walk.now)) c.step.ensures.place c.step.ensures.left) at (c.in-Err.ensures.gives fuel (length c.args.self.now.events.now) (omega (arith, some, left)) (omega (arith, c.step.ensures.place)) fault))
 
 pub read_simple-returns-in-Ok-clause-gives : goal.read_simple-returns-in-Ok-clause-gives
 read_simple-returns-in-Ok-clause-gives t c = λ fuel mark lt.
     let left = c.step.ensures.left in
     let some : 0 < c.step.new.self.left = omega (arith, c.if-walk-eq0.false) in
-    rw c.in-Alias.is (pursue_finds ((reader_of fuel c.args.self.now) (way_of c.args.path.now) (shape_of c.args.shape.now) c.args.nest false) c.in-Alias.target c.args.walk.now.place c.args.walk.now.left (data_of c.in-Ok.data) (spot_of c.read_node.new.walk) (omega (arith, left, some)) (rw (← left) (c.in-Ok.ensures.gives fuel (omega (arith, left, some)))))
+    rw c.in-Alias.is (pursue_finds ((reader_of fuel c.args.self.now) (way_of c.args.path.now) (shape_of c.args.shape.now) c.args.nest None) c.in-Alias.target c.args.walk.now.place c.args.walk.now.left (data_of c.in-Ok.data) (spot_of c.read_node.new.walk) (omega (arith, left, some)) (rw (← left) (c.in-Ok.ensures.gives fuel (omega (arith, left, some)))))
     ∙ ap (λ (q : ℕ). Ok (data_of c.in-Ok.data, record { place = q; left = c.read_node.new.walk.left })) (sym c.step.ensures.place)
 
 pub read_simple-returns-in-Err-clause-gives : goal.read_simple-returns-in-Err-clause-gives
 read_simple-returns-in-Err-clause-gives t c = λ fuel mark lt fault.
     let left = c.step.ensures.left in
     let some : 0 < c.step.new.self.left = omega (arith, c.if-walk-eq0.false) in
-    rw c.in-Alias.is (pursue_fails ((reader_of fuel c.args.self.now) (way_of c.args.path.now) (shape_of c.args.shape.now) c.args.nest false) c.in-Alias.target c.args.walk.now.place c.args.walk.now.left _ (omega (arith, left, some)) (rw (← left) (c.in-Err.ensures.gives fuel (omega (arith, left, some)) fault)))
+    rw c.in-Alias.is (pursue_fails ((reader_of fuel c.args.self.now) (way_of c.args.path.now) (shape_of c.args.shape.now) c.args.nest None) c.in-Alias.target c.args.walk.now.place c.args.walk.now.left _ (omega (arith, left, some)) (rw (← left) (c.in-Err.ensures.gives fuel (omega (arith, left, some)) fault)))
 
 pub read_part-returns-in-Ok-clause-gives : goal.read_part-returns-in-Ok-clause-gives
 read_part-returns-in-Ok-clause-gives t c = λ fuel lt.
-    leaf_scalar (source_of c.args.self.now) (way_of c.args.path.now) (shape_of c.args.shape.now) c.args.nest false (spot_of c.args.walk.now) fuel (doc_scalar_of c.in-Scalar.scalar) c.args.mark (omega arith) (sym c.requires.leaf ∙ c.if-leaf.true) (c.requires.here ∙ ap (λ e. Some (doc_event_of e, c.args.mark)) c.in-Scalar.is)
+    leaf_scalar (source_of c.args.self.now) (way_of c.args.path.now) (shape_of c.args.shape.now) c.args.nest None (spot_of c.args.walk.now) fuel (doc_scalar_of c.in-Scalar.scalar) c.args.mark (omega arith) (sym c.requires.leaf ∙ c.if-leaf.true) (c.requires.here ∙ ap (λ e. Some (doc_event_of e, c.args.mark)) c.in-Scalar.is)
     ∙ ap (λ r. place true c.args.mark (way_of c.args.path.now) (ending (after (spot_of c.args.walk.now)) r)) c.in-Ok.ensures.gives
     ∙ ap (λ p. Ok (data_of c.in-Ok.data, p)) (sym (same_spot (spot_of c.step.new.self) (after (spot_of c.args.walk.now)) c.step.ensures.place c.step.ensures.left))
 
 pub read_part-returns-in-Err-clause-gives : goal.read_part-returns-in-Err-clause-gives
 read_part-returns-in-Err-clause-gives t c = λ fuel lt m.
     let told = c.at_place.ensures m in
-    leaf_scalar (source_of c.args.self.now) (way_of c.args.path.now) (shape_of c.args.shape.now) c.args.nest false (spot_of c.args.walk.now) fuel (doc_scalar_of c.in-Scalar.scalar) c.args.mark (omega arith) (sym c.requires.leaf ∙ c.if-leaf.true) (c.requires.here ∙ ap (λ e. Some (doc_event_of e, c.args.mark)) c.in-Scalar.is)
+    leaf_scalar (source_of c.args.self.now) (way_of c.args.path.now) (shape_of c.args.shape.now) c.args.nest None (spot_of c.args.walk.now) fuel (doc_scalar_of c.in-Scalar.scalar) c.args.mark (omega arith) (sym c.requires.leaf ∙ c.if-leaf.true) (c.requires.here ∙ ap (λ e. Some (doc_event_of e, c.args.mark)) c.in-Scalar.is)
     ∙ ap (λ r. place true c.args.mark (way_of c.args.path.now) (ending (after (spot_of c.args.walk.now)) r)) (c.in-Err.ensures.gives (sym (filled_memory c.in-Err.refusal (record { mark = c.args.mark; path = path_text c.args.path.now })) ∙ ap is_memory (sym told) ∙ m))
     ∙ ap Err (sym told)
 
@@ -375,7 +380,7 @@ read_elements-returns-in-Err t c =
           ap (λ (m : ℕ). sequence_parts (source_of c.args.self.now) (row_at (source_of c.args.self.now) (reader_of fuel c.args.self.now) (way_of c.args.path.now) c.args.nest) m (row_of (ids_of c.args.items.now)) (spot_of c.args.walk.now)) split
           ∙ l.invariant.rest fuel (suc n) lt
           ∙ each_fails is_sequence_end (row_at (source_of c.args.self.now) (reader_of fuel c.args.self.now) (way_of c.args.path.now) c.args.nest) (seen c.args.self.now.events.now) n _ (spot_of l.walk) _ _ (sym c.in-Some.ensures.found) (not_sequence_end _ c.in_default-event.not-SequenceEnd)
-          (row_skips (map data_of l.read.items) l.extra (λ id. with_shape (shape_at c.args.self.now.schema.now id) (λ s. (reader_of fuel c.args.self.now) (element_under (way_of c.args.path.now) (length (map data_of l.read.items))) s c.args.nest false (spot_of l.walk))) (skip_at (source_of c.args.self.now) (spot_of l.walk)) (drop (length l.read.items) (ids_of c.args.items.now)) (drop_none (ids_of c.args.items.now) (length l.read.items) (rw len at c.in_default-item_here.ensures))
+          (row_skips (map data_of l.read.items) l.extra (λ id. with_shape (shape_at c.args.self.now.schema.now id) (λ s. (reader_of fuel c.args.self.now) (element_under (way_of c.args.path.now) (length (map data_of l.read.items))) s c.args.nest None (spot_of l.walk))) (skip_at (source_of c.args.self.now) (spot_of l.walk)) (drop (length l.read.items) (ids_of c.args.items.now)) (drop_none (ids_of c.args.items.now) (length l.read.items) (rw len at c.in_default-item_here.ensures))
           ∙ wrap_fails _ _ _ (c.in-Err.ensures.gives fault));
       few = tt;
       moves = tt;
@@ -400,8 +405,8 @@ read_elements-returns-in-Err-read_node t c =
           ap (λ (m : ℕ). sequence_parts (source_of c.args.self.now) (row_at (source_of c.args.self.now) (reader_of fuel c.args.self.now) (way_of c.args.path.now) c.args.nest) m (row_of (ids_of c.args.items.now)) (spot_of c.args.walk.now)) split
           ∙ l.invariant.rest fuel (suc n) lt
           ∙ each_fails is_sequence_end (row_at (source_of c.args.self.now) (reader_of fuel c.args.self.now) (way_of c.args.path.now) c.args.nest) (seen c.args.self.now.events.now) n _ (spot_of l.walk) _ _ (sym c.in-Some.ensures.found) (not_sequence_end _ c.in_default-event.not-SequenceEnd)
-          (row_reads (map data_of l.read.items) l.extra (λ id. with_shape (shape_at c.args.self.now.schema.now id) (λ s. (reader_of fuel c.args.self.now) (element_under (way_of c.args.path.now) (length (map data_of l.read.items))) s c.args.nest false (spot_of l.walk))) (skip_at (source_of c.args.self.now) (spot_of l.walk)) (drop (length l.read.items) (ids_of c.args.items.now)) _ _ (drop_here (ids_of c.args.items.now) (length l.read.items) c.in-Some-item_here.id.0 (rw len at c.in-Some-item_here.ensures))
-          ∙ wrap_fails _ _ _ (ap (λ o. with_shape o (λ s. (reader_of fuel c.args.self.now) (element_under (way_of c.args.path.now) (length (map data_of l.read.items))) s c.args.nest false (spot_of l.walk))) c.shape.ensures.found ∙ rw (len, idx) at (c.in-Err-read_node.ensures.gives fuel (omega (arith, l.invariant.left, c.shape.ensures.small)) fault)));
+          (row_reads (map data_of l.read.items) l.extra (λ id. with_shape (shape_at c.args.self.now.schema.now id) (λ s. (reader_of fuel c.args.self.now) (element_under (way_of c.args.path.now) (length (map data_of l.read.items))) s c.args.nest None (spot_of l.walk))) (skip_at (source_of c.args.self.now) (spot_of l.walk)) (drop (length l.read.items) (ids_of c.args.items.now)) _ _ (drop_here (ids_of c.args.items.now) (length l.read.items) c.in-Some-item_here.id.0 (rw len at c.in-Some-item_here.ensures))
+          ∙ wrap_fails _ _ _ (ap (λ o. with_shape o (λ s. (reader_of fuel c.args.self.now) (element_under (way_of c.args.path.now) (length (map data_of l.read.items))) s c.args.nest None (spot_of l.walk))) c.shape.ensures.found ∙ rw (len, idx) at (c.in-Err-read_node.ensures.gives fuel (omega (arith, l.invariant.left, c.shape.ensures.small)) fault)));
       few = tt;
       moves = tt;
       cost = omega (arith, l.invariant.cost, c.in-Err-read_node.ensures.cost);
@@ -425,7 +430,7 @@ read_elements-loop-event-preserved-in_default-item_here t c =
           ap (λ (m : ℕ). sequence_parts (source_of c.args.self.now) (row_at (source_of c.args.self.now) (reader_of fuel c.args.self.now) (way_of c.args.path.now) c.args.nest) m (row_of (ids_of c.args.items.now)) (spot_of c.args.walk.now)) split
           ∙ l.invariant.rest fuel (suc n) lt
           ∙ each_more is_sequence_end (row_at (source_of c.args.self.now) (reader_of fuel c.args.self.now) (way_of c.args.path.now) c.args.nest) (seen c.args.self.now.events.now) n _ (record { left = []; read = map data_of l.read.items; extra = l.extra + 1 }) (spot_of l.walk) (spot_of c.pass_over.new.walk) _ (sym c.in-Some.ensures.found) (not_sequence_end _ c.in_default-event.not-SequenceEnd)
-          (row_skips (map data_of l.read.items) l.extra (λ id. with_shape (shape_at c.args.self.now.schema.now id) (λ s. (reader_of fuel c.args.self.now) (element_under (way_of c.args.path.now) (length (map data_of l.read.items))) s c.args.nest false (spot_of l.walk))) (skip_at (source_of c.args.self.now) (spot_of l.walk)) (drop (length l.read.items) (ids_of c.args.items.now)) none ∙ wrap_finds _ _ _ _ c.in-Ok.ensures.gives)
+          (row_skips (map data_of l.read.items) l.extra (λ id. with_shape (shape_at c.args.self.now.schema.now id) (λ s. (reader_of fuel c.args.self.now) (element_under (way_of c.args.path.now) (length (map data_of l.read.items))) s c.args.nest None (spot_of l.walk))) (skip_at (source_of c.args.self.now) (spot_of l.walk)) (drop (length l.read.items) (ids_of c.args.items.now)) none ∙ wrap_finds _ _ _ _ c.in-Ok.ensures.gives)
           ∙ ap (λ left. sequence_parts (source_of c.args.self.now) (row_at (source_of c.args.self.now) (reader_of fuel c.args.self.now) (way_of c.args.path.now) c.args.nest) n (record { left = left; read = map data_of l.read.items; extra = l.extra + 1 }) (spot_of c.pass_over.new.walk)) (sym none);
     }
 
@@ -449,8 +454,182 @@ read_elements-loop-event-preserved t c =
           ap (λ (m : ℕ). sequence_parts (source_of c.args.self.now) (row_at (source_of c.args.self.now) (reader_of fuel c.args.self.now) (way_of c.args.path.now) c.args.nest) m (row_of (ids_of c.args.items.now)) (spot_of c.args.walk.now)) split
           ∙ l.invariant.rest fuel (suc n) lt
           ∙ each_more is_sequence_end (row_at (source_of c.args.self.now) (reader_of fuel c.args.self.now) (way_of c.args.path.now) c.args.nest) (seen c.args.self.now.events.now) n _ (record { left = drop (suc (length l.read.items)) (ids_of c.args.items.now); read = map data_of l.read.items ++ data_of c.in-Ok-read_node.item ∷ []; extra = l.extra }) (spot_of l.walk) (spot_of c.read_node.new.walk) _ (sym c.in-Some.ensures.found) (not_sequence_end _ c.in_default-event.not-SequenceEnd)
-          (row_reads (map data_of l.read.items) l.extra (λ id. with_shape (shape_at c.args.self.now.schema.now id) (λ s. (reader_of fuel c.args.self.now) (element_under (way_of c.args.path.now) (length (map data_of l.read.items))) s c.args.nest false (spot_of l.walk))) (skip_at (source_of c.args.self.now) (spot_of l.walk)) (drop (length l.read.items) (ids_of c.args.items.now)) _ _ (drop_here (ids_of c.args.items.now) (length l.read.items) c.in-Some-item_here.id.0 (rw len at c.in-Some-item_here.ensures))
-          ∙ wrap_finds _ _ _ _ (ap (λ o. with_shape o (λ s. (reader_of fuel c.args.self.now) (element_under (way_of c.args.path.now) (length (map data_of l.read.items))) s c.args.nest false (spot_of l.walk))) c.shape.ensures.found ∙ rw (len, idx) at (c.in-Ok-read_node.ensures.gives fuel (omega (arith, l.invariant.left, c.shape.ensures.small)))))
+          (row_reads (map data_of l.read.items) l.extra (λ id. with_shape (shape_at c.args.self.now.schema.now id) (λ s. (reader_of fuel c.args.self.now) (element_under (way_of c.args.path.now) (length (map data_of l.read.items))) s c.args.nest None (spot_of l.walk))) (skip_at (source_of c.args.self.now) (spot_of l.walk)) (drop (length l.read.items) (ids_of c.args.items.now)) _ _ (drop_here (ids_of c.args.items.now) (length l.read.items) c.in-Some-item_here.id.0 (rw len at c.in-Some-item_here.ensures))
+          ∙ wrap_finds _ _ _ _ (ap (λ o. with_shape o (λ s. (reader_of fuel c.args.self.now) (element_under (way_of c.args.path.now) (length (map data_of l.read.items))) s c.args.nest None (spot_of l.walk))) c.shape.ensures.found ∙ rw (len, idx) at (c.in-Ok-read_node.ensures.gives fuel (omega (arith, l.invariant.left, c.shape.ensures.small)))))
           ∙ ap (λ (m : ℕ). sequence_parts (source_of c.args.self.now) (row_at (source_of c.args.self.now) (reader_of fuel c.args.self.now) (way_of c.args.path.now) c.args.nest) n (record { left = drop m (ids_of c.args.items.now); read = map data_of l.read.items ++ data_of c.in-Ok-read_node.item ∷ []; extra = l.extra }) (spot_of c.read_node.new.walk)) (sym longer)
           ∙ ap (λ vs. sequence_parts (source_of c.args.self.now) (row_at (source_of c.args.self.now) (reader_of fuel c.args.self.now) (way_of c.args.path.now) c.args.nest) n (record { left = drop (length c.push.new.self.items) (ids_of c.args.items.now); read = vs; extra = l.extra }) (spot_of c.read_node.new.walk)) seen_as;
     }
+
+pub read_fields-loop-event-init : goal.read_fields-loop-event-init
+read_fields-loop-event-init t c = (
+  0,
+  record {
+    within = c.requires.within;
+    wide = sym (length-map c.in_ok-slots.slots.items (option_map data_of)) ∙ ap length c.in_ok-slots.ensures ∙ ap (λ f. length (no_slots (fields_of f))) c.fields.ensures ∙ length-map (fields_of c.args.fields.now) (λ f. None) ∙ length-map c.args.fields.now field_of;
+    turned = omega arith;
+    left = omega arith;
+    counted = omega arith;
+    cost = omega arith;
+    rest = λ fuel n lt.
+        let none : n + 0 ≡ n = omega arith in
+        ap (λ (m : ℕ). mapping_parts (source_of c.args.self.now) (field_at (source_of c.args.self.now) (reader_of fuel c.args.self.now) (way_of c.args.path.now) c.args.strict (fields_of c.args.fields.now) c.args.nest) m (no_slots (fields_of c.args.fields.now)) (spot_of c.args.walk.now)) none
+        ∙ ap (λ slots. mapping_parts (source_of c.args.self.now) (field_at (source_of c.args.self.now) (reader_of fuel c.args.self.now) (way_of c.args.path.now) c.args.strict (fields_of c.args.fields.now) c.args.nest) n slots (spot_of c.args.walk.now)) (sym (c.in_ok-slots.ensures ∙ ap (λ f. no_slots (fields_of f)) c.fields.ensures));
+  },
+)
+
+pub read_fields-returns-in_default-clause-gives : goal.read_fields-returns-in_default-clause-gives
+read_fields-returns-in_default-clause-gives t c = λ fuel turns lt big fault.
+    let l = c.loop-event in
+    let v = l.invariant.1 in
+    let n = turns - l.invariant.0 - 1 in
+    let split : turns ≡ suc n + l.invariant.0 = omega (arith, v.turned, v.within) in
+    ap (λ (m : ℕ). mapping_parts (source_of c.args.self.now) (field_at (source_of c.args.self.now) (reader_of fuel c.args.self.now) (way_of c.args.path.now) c.args.strict (fields_of c.args.fields.now) c.args.nest) m (no_slots (fields_of c.args.fields.now)) (spot_of c.args.walk.now)) split
+    ∙ v.rest fuel (suc n) lt
+    ∙ each_ended is_mapping_end (field_at (source_of c.args.self.now) (reader_of fuel c.args.self.now) (way_of c.args.path.now) c.args.strict (fields_of c.args.fields.now) c.args.nest) (seen c.args.self.now.events.now) n _ (spot_of l.walk) (sym c.in_default.ensures.found)
+    ∙ ap Err (sym (c.ended.ensures fault))
+
+pub read_fields-returns-in-MappingEnd-clause-gives : goal.read_fields-returns-in-MappingEnd-clause-gives
+read_fields-returns-in-MappingEnd-clause-gives t c = λ fuel turns lt big.
+    let l = c.loop-event in
+    let v = l.invariant.1 in
+    let n = turns - l.invariant.0 - 1 in
+    let split : turns ≡ suc n + l.invariant.0 = omega (arith, v.turned, v.within) in
+    ap (λ (m : ℕ). mapping_parts (source_of c.args.self.now) (field_at (source_of c.args.self.now) (reader_of fuel c.args.self.now) (way_of c.args.path.now) c.args.strict (fields_of c.args.fields.now) c.args.nest) m (no_slots (fields_of c.args.fields.now)) (spot_of c.args.walk.now)) split
+    ∙ v.rest fuel (suc n) lt
+    ∙ each_end is_mapping_end (field_at (source_of c.args.self.now) (reader_of fuel c.args.self.now) (way_of c.args.path.now) c.args.strict (fields_of c.args.fields.now) c.args.nest) (seen c.args.self.now.events.now) n _ (spot_of l.walk) _ (sym c.in-Some.ensures.found) (ap (λ e. is_mapping_end (doc_event_of e)) c.in-MappingEnd.is)
+    ∙ ap (λ (s : Spot). Ok (slots_of l.slots.items, s)) (sym (same_spot (spot_of c.step.new.self) (after (spot_of l.walk)) c.step.ensures.place c.step.ensures.left))
+
+pub read_fields-returns-in-Err : goal.read_fields-returns-in-Err
+read_fields-returns-in-Err t c =
+    let l = c.loop-event in
+    let v = l.invariant.1 in
+    record {
+      gives = λ fuel turns lt big fault.
+          let n = turns - l.invariant.0 - 1 in
+          let split : turns ≡ suc n + l.invariant.0 = omega (arith, v.turned, v.within, c.in-Some.ensures.within) in
+          ap (λ (m : ℕ). mapping_parts (source_of c.args.self.now) (field_at (source_of c.args.self.now) (reader_of fuel c.args.self.now) (way_of c.args.path.now) c.args.strict (fields_of c.args.fields.now) c.args.nest) m (no_slots (fields_of c.args.fields.now)) (spot_of c.args.walk.now)) split
+          ∙ v.rest fuel (suc n) lt
+          ∙ each_fails is_mapping_end (field_at (source_of c.args.self.now) (reader_of fuel c.args.self.now) (way_of c.args.path.now) c.args.strict (fields_of c.args.fields.now) c.args.nest) (seen c.args.self.now.events.now) n _ (spot_of l.walk) _ _ (sym c.in-Some.ensures.found) (not_mapping_end _ c.in_default-event.not-MappingEnd)
+          (c.in-Err.ensures.gives fuel (omega (arith, v.left, lt)) fault);
+      moves = tt;
+      cost = omega (arith, v.cost, c.in-Err.ensures.cost);
+    }
+
+pub read_fields-loop-event-preserved : goal.read_fields-loop-event-preserved
+read_fields-loop-event-preserved t c =
+    let l = c.loop-event in
+    let v = l.invariant.1 in
+    let moves = c.in-Ok.ensures.moves in (
+      suc l.invariant.0,
+      record {
+        within = omega (arith, moves);
+        wide = c.in-Ok.ensures.wide;
+        turned = omega (arith, moves, v.turned);
+        left = omega (arith, moves, v.left);
+        counted = omega (arith, moves, v.counted);
+        cost = omega (arith, moves, v.cost);
+        rest = λ fuel n lt.
+            let split : n + suc l.invariant.0 ≡ suc n + l.invariant.0 = omega arith in
+            ap (λ (m : ℕ). mapping_parts (source_of c.args.self.now) (field_at (source_of c.args.self.now) (reader_of fuel c.args.self.now) (way_of c.args.path.now) c.args.strict (fields_of c.args.fields.now) c.args.nest) m (no_slots (fields_of c.args.fields.now)) (spot_of c.args.walk.now)) split
+            ∙ v.rest fuel (suc n) lt
+            ∙ each_more is_mapping_end (field_at (source_of c.args.self.now) (reader_of fuel c.args.self.now) (way_of c.args.path.now) c.args.strict (fields_of c.args.fields.now) c.args.nest) (seen c.args.self.now.events.now) n _ _ (spot_of l.walk) _ _ (sym c.in-Some.ensures.found) (not_mapping_end _ c.in_default-event.not-MappingEnd)
+            (c.in-Ok.ensures.gives fuel (omega (arith, v.left, lt)));
+      },
+    )
+
+pub read_struct-returns-in_default-event : goal.read_struct-returns-in_default-event
+read_struct-returns-in_default-event t c =
+    let bare : is_bare (doc_event_of c.in-Some.field-0.now.0) ≡ false = sym c.is_bare.ensures ∙ c.if-is_bare.false in
+    record {
+      gives = λ fuel lt. rw (step_event (source_of c.args.self.now) (reader_of fuel c.args.self.now) (way_of c.args.path.now) (shape_of c.args.shape.now) c.args.nest (around_of c.args.taken) (spot_of c.args.walk.now) _ _ c.in-Some.ensures.found (fields_as_is (shape_of c.args.shape.now) (c.args.strict, fields_of c.args.fields.now) (is_some (around_of c.args.taken)) _ c.requires.struct_of bare)) (c.read_simple.ensures.gives fuel _ lt);
+      moves = c.read_simple.ensures.moves;
+      cost = c.read_simple.ensures.cost;
+    }
+
+pub read_struct-returns-in-Ok-clause-gives : goal.read_struct-returns-in-Ok-clause-gives
+read_struct-returns-in-Ok-clause-gives t c = λ fuel lt.
+    let some : 0 < c.args.nest = omega (arith, c.if-nest-eq0.false) in
+    let left = c.step-2.ensures.left in
+    rw (step_struct (source_of c.args.self.now) (reader_of fuel c.args.self.now) (way_of c.args.path.now) (shape_of c.args.shape.now) c.args.strict (fields_of c.args.fields.now) c.args.nest (around_of c.args.taken) (spot_of c.args.walk.now) _ _ c.requires.struct_of (rw c.in-MappingStart.is at c.in-Some.ensures.found) some)
+    (gives_finish data_of (struct_of c.args.self.now.schema.now (fields_of c.args.fields.now)) _ _ _ _
+    (rw (c.in_ok-index.ensures, same_spot (spot_of c.step-2.new.self) (after (spot_of c.args.walk.now)) c.step-2.ensures.place c.step-2.ensures.left) at (c.in-Ok.ensures.gives fuel (length c.args.self.now.events.now) (omega (arith, some, left)) (omega (arith, c.step-2.ensures.place)))) c.finish_struct.ensures)
+
+pub read_struct-returns-clause-gives : goal.read_struct-returns-clause-gives
+read_struct-returns-clause-gives t c = λ fuel lt fault.
+    let some : 0 < c.args.nest = omega (arith, c.if-nest-eq0.false) in
+    let left = c.step-2.ensures.left in
+    step_struct (source_of c.args.self.now) (reader_of fuel c.args.self.now) (way_of c.args.path.now) (shape_of c.args.shape.now) c.args.strict (fields_of c.args.fields.now) c.args.nest (around_of c.args.taken) (spot_of c.args.walk.now) _ _ c.requires.struct_of (rw c.in-MappingStart.is at c.in-Some.ensures.found) some
+    ∙ finish_fails (struct_of c.args.self.now.schema.now (fields_of c.args.fields.now)) _ _ (rw (c.in_ok-index.ensures, same_spot (spot_of c.step-2.new.self) (after (spot_of c.args.walk.now)) c.step-2.ensures.place c.step-2.ensures.left) at (c.in-Err.ensures.gives fuel (length c.args.self.now.events.now) (omega (arith, some, left)) (omega (arith, c.step-2.ensures.place)) fault))
+
+pub read_unplaced-returns-in-Struct-clause-gives : goal.read_unplaced-returns-in-Struct-clause-gives
+read_unplaced-returns-in-Struct-clause-gives t c = λ fuel lt.
+    rw (step_late (source_of c.args.self.now) (reader_of fuel c.args.self.now) (way_of c.args.path.now) (shape_of c.args.shape.now) c.args.nest (around_of c.args.taken) (spot_of c.args.walk.now) (ap (λ x. early (shape_of x)) c.in-Struct.is)) (c.read_struct.ensures.gives fuel lt)
+
+pub read_unplaced-returns-in-StrictStruct-clause-gives : goal.read_unplaced-returns-in-StrictStruct-clause-gives
+read_unplaced-returns-in-StrictStruct-clause-gives t c = λ fuel lt.
+    rw (step_late (source_of c.args.self.now) (reader_of fuel c.args.self.now) (way_of c.args.path.now) (shape_of c.args.shape.now) c.args.nest (around_of c.args.taken) (spot_of c.args.walk.now) (ap (λ x. early (shape_of x)) c.in-StrictStruct.is)) (c.read_struct-in-StrictStruct.ensures.gives fuel lt)
+
+pub read_field-returns-in-Err-clause-gives : goal.read_field-returns-in-Err-clause-gives
+read_field-returns-in-Err-clause-gives t c = λ fuel lt fault.
+    no_name (source_of c.args.self.now) (reader_of fuel c.args.self.now) (way_of c.args.path.now) c.args.strict (fields_of c.args.fields.now) c.args.nest (slots_of c.args.slots.now.items) (spot_of c.args.walk.now) _ (rw c.deref.ensures.value at (c.in-Err.ensures.gives fuel (omega (arith, lt)) fault))
+
+pub read_field-returns-in_default-clause-gives : goal.read_field-returns-in_default-clause-gives
+read_field-returns-in_default-clause-gives t c = λ fuel lt.
+    let found : field_key_at (source_of c.args.self.now) (reader_of fuel c.args.self.now) (way_of c.args.path.now) c.args.strict (fields_of c.args.fields.now) c.args.nest (slots_of c.args.slots.now.items) (spot_of c.args.walk.now) ≡ Ok ((None, (value_at (way_of c.args.path.now) (seen c.args.self.now.events.now c.args.walk.now.place))), spot_of c.read_name.new.walk) =
+    rw c.deref.ensures.value at (c.in-Ok.ensures.gives fuel (omega (arith, lt))) ∙ ap (λ o. Ok ((field_view o, (value_at (way_of c.args.path.now) (seen c.args.self.now.events.now c.args.walk.now.place))), spot_of c.read_name.new.walk)) c.in_default.is in
+    rw (unknown_name (source_of c.args.self.now) (reader_of fuel c.args.self.now) (way_of c.args.path.now) c.args.strict (fields_of c.args.fields.now) c.args.nest (slots_of c.args.slots.now.items) (spot_of c.args.walk.now) (value_at (way_of c.args.path.now) (seen c.args.self.now.events.now c.args.walk.now.place)) (spot_of c.read_name.new.walk) found)
+    (gives_wrapped _ (λ v. slots_of c.args.slots.now.items) c.pass_over.result _ c.pass_over.ensures.gives)
+
+pub read_field-shape-shape-requires : goal.read_field-shape-shape-requires
+read_field-shape-shape-requires t c =
+    let among : IsAmong (fields_of c.args.fields.now) (c.in-Some.place, c.in-Some.id) = rw c.in-Some.is at c.in-Ok.ensures.found in
+    all_at (λ id. id < length c.args.self.now.schema.now) (numbers_of (fields_of c.args.fields.now)) c.in-Some.place c.in-Some.id.0 c.requires.named (sym among)
+
+pub read_field-put-requires : goal.read_field-put-requires
+read_field-put-requires t c =
+    let among : IsAmong (fields_of c.args.fields.now) (c.in-Some.place, c.in-Some.id) = rw c.in-Some.is at c.in-Ok.ensures.found in
+    let within = slice_get_within (numbers_of (fields_of c.args.fields.now)) c.in-Some.place c.in-Some.id.0 among in
+    let many : length (numbers_of (fields_of c.args.fields.now)) ≡ length c.args.fields.now = length-map (fields_of c.args.fields.now) (λ f. f.1) ∙ length-map c.args.fields.now field_of in
+    omega (arith, within, many, c.requires.wide)
+
+pub read_field-returns-in-Ok-read_next-clause-gives : goal.read_field-returns-in-Ok-read_next-clause-gives
+read_field-returns-in-Ok-read_next-clause-gives t c = λ fuel lt.
+    let found : field_key_at (source_of c.args.self.now) (reader_of fuel c.args.self.now) (way_of c.args.path.now) c.args.strict (fields_of c.args.fields.now) c.args.nest (slots_of c.args.slots.now.items) (spot_of c.args.walk.now) ≡ Ok ((Some (c.in-Some.place, c.in-Some.id.0), (value_at (way_of c.args.path.now) (seen c.args.self.now.events.now c.args.walk.now.place))), spot_of c.read_name.new.walk) =
+    rw c.deref.ensures.value at (c.in-Ok.ensures.gives fuel (omega (arith, lt))) ∙ ap (λ o. Ok ((field_view o, (value_at (way_of c.args.path.now) (seen c.args.self.now.events.now c.args.walk.now.place))), spot_of c.read_name.new.walk)) c.in-Some.is in
+    let there : way_of c.value_path-inner.result ≡ (value_at (way_of c.args.path.now) (seen c.args.self.now.events.now c.args.walk.now.place)) = c.value_path-inner.ensures ∙ ap (value_at (way_of c.args.path.now)) (sym c.requires.here) in
+    let moves = c.in-Ok.ensures.moves in
+    known_name (source_of c.args.self.now) (reader_of fuel c.args.self.now) (way_of c.args.path.now) c.args.strict (fields_of c.args.fields.now) c.args.nest (slots_of c.args.slots.now.items) (spot_of c.args.walk.now) c.in-Some.place c.in-Some.id.0 _ (value_at (way_of c.args.path.now) (seen c.args.self.now.events.now c.args.walk.now.place)) (spot_of c.read_name.new.walk) found c.shape-shape.ensures.found
+    ∙ wrap_finds _ _ _ _ (rw there at (c.in-Ok-read_next.ensures.gives fuel (omega (arith, lt, moves, c.shape-shape.ensures.small))))
+    ∙ ap (λ slots. Ok (slots, spot_of c.read_next.new.walk)) (sym c.put.ensures.slots)
+
+pub read_field-returns-in-Err-read_next-clause-gives : goal.read_field-returns-in-Err-read_next-clause-gives
+read_field-returns-in-Err-read_next-clause-gives t c = λ fuel lt fault.
+    let found : field_key_at (source_of c.args.self.now) (reader_of fuel c.args.self.now) (way_of c.args.path.now) c.args.strict (fields_of c.args.fields.now) c.args.nest (slots_of c.args.slots.now.items) (spot_of c.args.walk.now) ≡ Ok ((Some (c.in-Some.place, c.in-Some.id.0), (value_at (way_of c.args.path.now) (seen c.args.self.now.events.now c.args.walk.now.place))), spot_of c.read_name.new.walk) =
+    rw c.deref.ensures.value at (c.in-Ok.ensures.gives fuel (omega (arith, lt))) ∙ ap (λ o. Ok ((field_view o, (value_at (way_of c.args.path.now) (seen c.args.self.now.events.now c.args.walk.now.place))), spot_of c.read_name.new.walk)) c.in-Some.is in
+    let there : way_of c.value_path-inner.result ≡ (value_at (way_of c.args.path.now) (seen c.args.self.now.events.now c.args.walk.now.place)) = c.value_path-inner.ensures ∙ ap (value_at (way_of c.args.path.now)) (sym c.requires.here) in
+    let moves = c.in-Ok.ensures.moves in
+    known_name (source_of c.args.self.now) (reader_of fuel c.args.self.now) (way_of c.args.path.now) c.args.strict (fields_of c.args.fields.now) c.args.nest (slots_of c.args.slots.now.items) (spot_of c.args.walk.now) c.in-Some.place c.in-Some.id.0 _ (value_at (way_of c.args.path.now) (seen c.args.self.now.events.now c.args.walk.now.place)) (spot_of c.read_name.new.walk) found c.shape-shape.ensures.found
+    ∙ wrap_fails _ _ _ (rw there at (c.in-Err-read_next.ensures.gives fuel (omega (arith, lt, moves, c.shape-shape.ensures.small)) fault))
+
+pub read_name-returns-in-Some-clause-gives : goal.read_name-returns-in-Some-clause-gives
+read_name-returns-in-Some-clause-gives t c = λ fuel lt.
+    let scalar = doc_scalar_of c.in-Scalar.scalar in
+    let here : seen c.args.self.now.events.now c.args.walk.now.place ≡ Some (a_scalar scalar, c.args.mark) =
+    c.requires.here ∙ ap (λ e. Some (doc_event_of e, c.args.mark)) c.in-Scalar.is in
+    let text : text_of scalar ≡ Some c.in-Some.name.now = sym c.text_of.ensures ∙ ap option_copied c.in-Some.is in
+    rw (key_looked_up (source_of c.args.self.now) (reader_of fuel c.args.self.now) (way_of c.args.path.now) c.args.strict (fields_of c.args.fields.now) c.args.nest (slots_of c.args.slots.now) (spot_of c.args.walk.now) (lent_text scalar c.in-Some.name.now) (after (spot_of c.args.walk.now)) c.args.mark
+    (name_scalar (source_of c.args.self.now) (way_of c.args.path.now) c.args.nest (spot_of c.args.walk.now) fuel scalar c.args.mark c.in-Some.name.now (omega (arith, lt)) here text)
+    (scalar_mark (source_of c.args.self.now) c.args.walk.now.place scalar c.args.mark here))
+    (gives_key field_view (value_at (way_of c.args.path.now) (seen c.args.self.now.events.now c.args.walk.now.place)) (spot_of c.step.new.self) (after (spot_of c.args.walk.now)) c.field_named.result _
+    (same_spot (spot_of c.step.new.self) (after (spot_of c.args.walk.now)) c.step.ensures.place c.step.ensures.left) c.field_named.ensures.gives)
+
+pub read_name-returns-in-Err-clause-gives : goal.read_name-returns-in-Err-clause-gives
+read_name-returns-in-Err-clause-gives t c = λ fuel lt fault.
+    key_fails (source_of c.args.self.now) (reader_of fuel c.args.self.now) (way_of c.args.path.now) c.args.strict (fields_of c.args.fields.now) c.args.nest (slots_of c.args.slots.now) (spot_of c.args.walk.now) _ (c.in-Err.ensures.gives fuel (omega (arith, lt)) fault)
+
+pub read_name-returns-clause-gives : goal.read_name-returns-clause-gives
+read_name-returns-clause-gives t c = λ fuel lt.
+    rw (key_looked_up (source_of c.args.self.now) (reader_of fuel c.args.self.now) (way_of c.args.path.now) c.args.strict (fields_of c.args.fields.now) c.args.nest (slots_of c.args.slots.now) (spot_of c.args.walk.now) (data_of c.in-Ok.key) (spot_of c.read_node.new.walk) c.text_mark-at.result
+    (c.in-Ok.ensures.gives fuel (omega (arith, lt))) (c.text_mark-at.ensures c.args.walk.now.place c.requires.here))
+    (gives_key field_view (value_at (way_of c.args.path.now) (seen c.args.self.now.events.now c.args.walk.now.place)) (spot_of c.read_node.new.walk) (spot_of c.read_node.new.walk) c.field_named-2.result _ refl
+    (rw c.name_in.ensures at c.field_named-2.ensures.gives))

@@ -1,0 +1,9 @@
+-- Each line has a byte at least.
+use Rattle.std.proofs.Common.{◌+◌, ◌≤◌, length}
+use Rattle.yaml_probe.proofs.table.Table.parse.Given as goal
+
+abbrev pub invariant-loop-rest : goal.invariant-loop-rest
+invariant-loop-rest l = l.number + length l.rest ≤ length l.text
+
+abbrev pub decreases-loop-rest : goal.decreases-loop-rest
+decreases-loop-rest l = length l.rest

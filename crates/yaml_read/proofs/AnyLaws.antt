@@ -1,0 +1,112 @@
+-- A key that is new to each before it keeps the keys of a mapping distinct, and keys that are distinct are new.
+use Rattle.std.proofs.Common.{◌≡◌, List, [], ◌∷◌, ◌++◌, Result, Ok, Err, Bool, true, false, not, ◌&&◌, ◌||◌}
+use Rattle.std.proofs.Common.{refl, ◌∙◌, ap}
+use Rattle.std.specs.Prelude.{if◌then◌else◌}
+use Rattle.yaml_base.specs.declared.error.Cause.{Cause}
+use Rattle.yaml_shape.specs.DataView.{items_of, entries_of}
+use Rattle.yaml_shape.specs.PlainData.{PlainData, any_data}
+use Rattle.yaml_tree.specs.Equal.{tree_eq}
+use Rattle.yaml_tree.specs.EqualLaws.{tree_eq-symm}
+use Rattle.yaml_tree.specs.Mapping.{has_key, keys_distinct, with_pair}
+use Rattle.yaml_tree.specs.Tree.{Tree, Trees, no_trees, tree, with_tree, Pairs, no_pairs, pair, with_last}
+use Rattle.yaml_read.specs.AnyData.{tree_in, trees_in, pairs_in, new_key}
+use Rattle.yaml_read.specs.inner.Walks.{any_items, any_entries}
+
+-- the pairs that a list of keys with values is
+abbrev pub pairs_of : List (PlainData × PlainData) → Pairs
+pairs_of vs = pairs_in (entries_of vs)
+
+neither : (a b : Bool) → (a || b) ≡ false → (a ≡ false) × (b ≡ false)
+neither true b h = absurd cc
+neither false b h = (refl, h)
+
+both_hold : (a b : Bool) → (a && b) ≡ true → (a ≡ true) × (b ≡ true)
+both_hold true b h = (refl, h)
+both_hold false b h = absurd cc
+
+is_not : (b : Bool) → not b ≡ true → b ≡ false
+is_not true h = absurd cc
+is_not false h = refl
+
+-- another key behind
+apart_end : (vs : List (PlainData × PlainData)) (j : Tree) (k v : PlainData) → has_key j (pairs_of vs) ≡ false
+    → tree_eq j (tree_in k) ≡ false → has_key j (pairs_of (vs ++ (k, v) ∷ [])) ≡ false
+apart_end [] j k v h e = rw e refl
+apart_end (w ∷ vs) j k v h e =
+    let n = neither (tree_eq j (tree_in w.0)) (has_key j (pairs_of vs)) h in rw (n.0, apart_end vs j k v n.1 e) refl
+
+-- a new key behind distinct ones
+pub distinct_end : (vs : List (PlainData × PlainData)) (k v : PlainData) → keys_distinct (pairs_of vs) ≡ true
+    → has_key (tree_in k) (pairs_of vs) ≡ false → keys_distinct (pairs_of (vs ++ (k, v) ∷ [])) ≡ true
+distinct_end [] k v d h = refl
+distinct_end (w ∷ vs) k v d h =
+    let apart = both_hold (not (has_key (tree_in w.0) (pairs_of vs))) (keys_distinct (pairs_of vs)) d in
+    let n = neither (tree_eq (tree_in k) (tree_in w.0)) (has_key (tree_in k) (pairs_of vs)) h in
+    let other : tree_eq (tree_in w.0) (tree_in k) ≡ false = tree_eq-symm (tree_in w.0) (tree_in k) ∙ n.0 in
+    rw (
+      apart_end vs (tree_in w.0) k v
+          (is_not (has_key (tree_in w.0) (pairs_of vs)) apart.0) other,
+      distinct_end vs k v apart.1 n.1,
+    ) refl
+
+-- a key that stands nowhere among pairs is not that of one
+in_middle : (vs more : List (PlainData × PlainData)) (j : Tree) (k v : PlainData)
+    → has_key j (pairs_of (vs ++ (k, v) ∷ more)) ≡ false → tree_eq j (tree_in k) ≡ false
+in_middle [] more j k v h = (neither (tree_eq j (tree_in k)) (has_key j (pairs_of more)) h).0
+in_middle (w ∷ vs) more j k v h =
+    in_middle vs more j k v (neither (tree_eq j (tree_in w.0)) (has_key j (pairs_of (vs ++ (k, v) ∷ more))) h).1
+
+-- among distinct keys each is new to those before it
+pub first_apart : (vs more : List (PlainData × PlainData)) (k v : PlainData)
+    → keys_distinct (pairs_of (vs ++ (k, v) ∷ more)) ≡ true → has_key (tree_in k) (pairs_of vs) ≡ false
+first_apart [] more k v d = refl
+first_apart (w ∷ vs) more k v d =
+    let apart = both_hold (not (has_key (tree_in w.0) (pairs_of (vs ++ (k, v) ∷ more))))
+    (keys_distinct (pairs_of (vs ++ (k, v) ∷ more))) d in
+    let other : tree_eq (tree_in k) (tree_in w.0) ≡ false =
+    tree_eq-symm (tree_in k) (tree_in w.0)
+    ∙ in_middle vs more (tree_in w.0) k v (is_not (has_key (tree_in w.0) (pairs_of (vs ++ (k, v) ∷ more))) apart.0) in
+    rw (other, first_apart vs more k v apart.1) refl
+
+-- a key that is taken for new is new
+pub key_is_new : (before : List (PlainData × PlainData)) (k u : PlainData) → new_key before k ≡ Ok u
+    → (has_key (tree_in k) (pairs_of before) ≡ false) × (k ≡ u)
+key_is_new before k u h = chosen (has_key (tree_in k) (pairs_of before)) _ h
+  where
+    chosen : (b : Bool) (y : Cause) → ◌≡◌ {A = Result PlainData Cause} (if b then Err y else Ok k) (Ok u)
+        → (b ≡ false) × (k ≡ u)
+    chosen true y e = absurd cc
+    chosen false y e = (refl, cc)
+
+-- a new key is taken for new
+pub new_is_key : (before : List (PlainData × PlainData)) (k : PlainData) → has_key (tree_in k) (pairs_of before) ≡ false
+    → new_key before k ≡ Ok k
+new_is_key before k h = rw h refl
+
+-- ---- values that were read as far
+-- they are the values of the list
+pub items_again : (ts : Trees) → trees_in (items_of (any_items ts)) ≡ ts
+items_again no_trees = refl
+items_again (tree t ts) = ap (tree t) (items_again ts)
+
+-- and the pairs those of the mapping
+pub entries_again : (ps : Pairs) → pairs_of (any_entries ps) ≡ ps
+entries_again no_pairs = refl
+entries_again (pair k v ps) = ap (pair k v) (entries_again ps)
+
+-- one more value
+pub items_more : (ts : Trees) (t : Tree) → any_items (with_tree ts t) ≡ any_items ts ++ any_data t ∷ []
+items_more no_trees t = refl
+items_more (tree u ts) t = ap (λ l. any_data u ∷ l) (items_more ts t)
+
+-- one more pair
+pub entries_more : (ps : Pairs) (k v : Tree)
+    → any_entries (with_last ps k v) ≡ any_entries ps ++ (any_data k, any_data v) ∷ []
+entries_more no_pairs k v = refl
+entries_more (pair l w ps) k v = ap (λ l'. (any_data l, any_data w) ∷ l') (entries_more ps k v)
+
+-- a pair whose key no other is equal to goes behind them
+pub pair_behind : (k v : Tree) (ps : Pairs) → has_key k ps ≡ false → with_pair k v ps ≡ with_last ps k v
+pair_behind k v no_pairs h = refl
+pair_behind k v (pair l w ps) h =
+    let n = neither (tree_eq k l) (has_key k ps) h in rw (n.0) (ap (pair l w) (pair_behind k v ps n.1))

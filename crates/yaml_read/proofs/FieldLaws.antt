@@ -1,0 +1,202 @@
+-- What is found and held of a struct's fields, and what becomes of it.
+use Rattle.std.proofs.Common.{◌≡◌, ℕ, zero, suc, List, [], ◌∷◌, set, Option, Some, None, Result, Ok, Err}
+use Rattle.std.proofs.Common.{Bool, true, false, ◌&&◌, bytes_eq, refl, ap, subst, if◌then◌else◌}
+use Rattle.std.specs.Option.{option_map}
+use Rattle.yaml_base.specs.declared.error.Cause.{Cause}
+use Rattle.yaml_base.specs.declared.error.Place.{Place}
+use Rattle.yaml_shape.specs.DataView.{items_of}
+use Rattle.yaml_shape.specs.HasShape.{has_shape, each_has, passes, on_option}
+use Rattle.yaml_shape.specs.PlainData.{PlainData, struct_data, none_data}
+use Rattle.yaml_shape.specs.PlainShape.{PlainShape, struct_shape, struct_variant_shape, option_shape, shape_at}
+use Rattle.yaml_shape.specs.Validity.{numbers_of}
+use Rattle.yaml_read.specs.Fields.{Fields, Slots, no_slots, find, is_free, known_field, field_named, is_option}
+use Rattle.yaml_read.specs.Fields.{field_data, all_fields, struct_of}
+use Rattle.yaml_read.specs.Steps.{◌>>=◌}
+use Rattle.yaml_read.specs.inner.Reader.{fields_in}
+use Rattle.yaml_read.proofs.OfShape.{is_of}
+
+-- answers are the same only where their data is
+ok_is : {A : Type 0} {x y : A} → ◌≡◌ {A = Result A Cause} (Ok x) (Ok y) → x ≡ y
+ok_is h = cc
+
+-- two answers to where a name is looked up are the same
+abbrev Looked : (answer other : Result (Option (ℕ × ℕ)) Cause) → Type 0
+Looked answer other = answer ≡ other
+
+-- a name that is looked up as a field is that of a field of which nothing was read
+pub named_found : (strict : Bool) (fields : Fields) (slots : Slots) (name : List ℕ) (key : Place) (f : ℕ × ℕ)
+    → field_named strict fields slots name key ≡ Ok (Some f) → (find fields name ≡ Some f) × (is_free slots f.0 ≡ true)
+named_found strict fields slots name key f h = known (find fields name) h
+  where
+    chosen : (b : Bool) (g : ℕ × ℕ) (y : Cause) → Looked (if b then Ok (Some g) else Err y) (Ok (Some f))
+        → (g ≡ f) × (b ≡ true)
+    chosen true g y e = let same : Some g ≡ Some f = ok_is e in (cc, refl)
+    chosen false g y e = absurd cc
+
+    other : (b : Bool) (y : Cause) → Looked (if b then Err y else Ok None) (Ok (Some f)) → ⊥
+    other true y e = cc
+    other false y e = let same : None ≡ Some f = ok_is e in cc
+
+    known : (o : Option (ℕ × ℕ)) → known_field strict fields slots name key o ≡ Ok (Some f)
+        → (o ≡ Some f) × (is_free slots f.0 ≡ true)
+    known None e = absurd (other strict _ e)
+    known (Some g) e =
+        let c = chosen (is_free slots g.0) g _ e in
+        (ap Some c.0, subst (λ (f : ℕ × ℕ). is_free slots f.0 ≡ true) c.0 c.1)
+
+-- a name that is looked up as none is that of no field, and the struct is not strict
+pub named_unknown : (strict : Bool) (fields : Fields) (slots : Slots) (name : List ℕ) (key : Place)
+    → field_named strict fields slots name key ≡ Ok None → (find fields name ≡ None) × (strict ≡ false)
+named_unknown strict fields slots name key h = known (find fields name) h
+  where
+    chosen : (b : Bool) (g : ℕ × ℕ) (y : Cause) → Looked (if b then Ok (Some g) else Err y) (Ok None) → ⊥
+    chosen true g y e = let same : Some g ≡ None = ok_is e in cc
+    chosen false g y e = cc
+
+    other : (b : Bool) (y : Cause) → Looked (if b then Err y else Ok None) (Ok None) → b ≡ false
+    other true y e = absurd cc
+    other false y e = refl
+
+    known : (o : Option (ℕ × ℕ)) → known_field strict fields slots name key o ≡ Ok None
+        → (◌≡◌ {A = Option (ℕ × ℕ)} o None) × (strict ≡ false)
+    known None e = (refl, other strict _ e)
+    known (Some g) e = absurd (chosen (is_free slots g.0) g _ e)
+
+-- the name of a field of which nothing was read is looked up as that field
+pub found_named : (strict : Bool) (fields : Fields) (slots : Slots) (name : List ℕ) (key : Place) (place id : ℕ)
+    → find fields name ≡ Some (place, id) → is_free slots place ≡ true
+    → field_named strict fields slots name key ≡ Ok (Some (place, id))
+found_named strict fields slots name key place id found free = rw (found, free)
+
+-- another name is looked up as none, where the struct is not strict
+pub unknown_named : (strict : Bool) (fields : Fields) (slots : Slots) (name : List ℕ) (key : Place)
+    → find fields name ≡ None → strict ≡ false → field_named strict fields slots name key ≡ Ok None
+unknown_named strict fields slots name key found loose = rw (found, loose)
+
+-- values that are there are the same only where they are
+some_is : {A : Type 0} {x y : A} → Some x ≡ Some y → x ≡ y
+some_is h = cc
+
+-- a place and a number that are found are those that were to be found
+pub same_place : (place id place' id' : ℕ) → ◌≡◌ {A = Option (ℕ × ℕ)} (Some (place, id)) (Some (place', id'))
+    → place ≡ place'
+same_place place id place' id' h = ap (λ (x : ℕ × ℕ). x.0) (some_is h)
+
+pub same_number : (place id place' id' : ℕ) → ◌≡◌ {A = Option (ℕ × ℕ)} (Some (place, id)) (Some (place', id'))
+    → id ≡ id'
+same_number place id place' id' h = ap (λ (x : ℕ × ℕ). x.1) (some_is h)
+
+-- one place on
+abbrev further : ℕ × ℕ → ℕ × ℕ
+further x = (suc x.0, x.1)
+
+-- a field that is found behind the first is found among the others
+found_later : (o : Option (ℕ × ℕ)) (place id : ℕ) → option_map further o ≡ Some (place, id)
+    → (p : ℕ) × (o ≡ Some (p, id)) × (suc p ≡ place)
+found_later None place id e = absurd cc
+found_later (Some x) place id e =
+    (x.0, ap (λ j. Some (x.0, j)) (same_number (suc x.0) x.1 place id e), same_place (suc x.0) x.1 place id e)
+
+-- fields that are there are the same only where they are
+fields_are : (strict other : Bool) (fields others : Fields)
+    → ◌≡◌ {A = Option (Bool × Fields)} (Some (strict, fields)) (Some (other, others)) → fields ≡ others
+fields_are strict other fields others h = ap (λ (x : Bool × Fields). x.1) (some_is h)
+
+module _ (table : List PlainShape) where
+  -- what was read of each field is data of its shape
+  abbrev pub Fit : Fields → Slots → Type 0
+  Fit [] slots = Unit {0}
+  Fit (f ∷ fs) [] = Unit {0}
+  Fit (f ∷ fs) (s ∷ slots) = ((v : PlainData) → s ≡ Some v → has_shape table f.1 v ≡ true) × Fit fs slots
+
+  -- nothing was read before the first
+  pub none_fit : (fields : Fields) → Fit fields (no_slots fields)
+  none_fit [] = tt
+  none_fit (f ∷ fs) = ((λ v e. absurd cc), none_fit fs)
+
+  -- data of the shape of a field fits into its place
+  pub set_fit : (fields : Fields) (slots : Slots) (name : List ℕ) (place id : ℕ) (v : PlainData)
+      → find fields name ≡ Some (place, id) → has_shape table id v ≡ true → Fit fields slots
+      → Fit fields (set slots place (Some v))
+  set_fit [] slots name place id v found has fit = tt
+  set_fit (f ∷ fs) [] name place id v found has fit = tt
+  set_fit (f ∷ fs) (s ∷ slots) name place id v found has fit =
+      chosen (bytes_eq f.0 name) place found (λ p is. set_fit fs slots name p id v is has fit.1)
+    where
+      chosen : (b : Bool) (place : ℕ)
+          → (if b then Some (zero, f.1) else option_map further (find fs name)) ≡ Some (place, id)
+          → ((p : ℕ) → find fs name ≡ Some (p, id) → Fit fs (set slots p (Some v)))
+          → Fit (f ∷ fs) (set (s ∷ slots) place (Some v))
+      chosen true place e later =
+          let number = same_number zero f.1 place id e in
+          subst (λ p. Fit (f ∷ fs) (set (s ∷ slots) p (Some v))) (same_place zero f.1 place id e)
+          ((λ w is. subst (λ x. has_shape table f.1 x ≡ true) (some_is is) (rw number has)), fit.1)
+      chosen false place e later =
+          let there = found_later (find fs name) place id e in
+          subst (λ p. Fit (f ∷ fs) (set (s ∷ slots) p (Some v))) there.2 (fit.0, later there.0 there.1)
+
+  -- the data of a field is of its shape
+  data_has : (f : List ℕ × ℕ) (o : Option PlainData) (v : PlainData)
+      → ((w : PlainData) → o ≡ Some w → has_shape table f.1 w ≡ true)
+      → field_data table f o ≡ Ok v → has_shape table f.1 v ≡ true
+  data_has f (Some w) v fit h = subst (λ x. has_shape table f.1 x ≡ true) (ok_is h) (fit w refl)
+  data_has f None v fit h = chosen (passes (shape_at table f.1) is_option) _ refl h
+    where
+      absent : (o : Option PlainShape) → passes o is_option ≡ true → passes o (on_option (λ content. true)) ≡ true
+      absent None e = absurd cc
+      absent (Some (option_shape content)) e = refl
+      absent (Some _) e = absurd cc
+
+      chosen : (b : Bool) (y : Cause) → passes (shape_at table f.1) is_option ≡ b
+          → ◌≡◌ {A = Result PlainData Cause} (if b then Ok none_data else Err y) (Ok v) → has_shape table f.1 v ≡ true
+      chosen true y is e = subst (λ x. has_shape table f.1 x ≡ true) (ok_is e) (absent (shape_at table f.1) is)
+      chosen false y is e = absurd cc
+
+  -- one field and then the others
+  apart : (r : Result PlainData Cause) (rs : Result (List PlainData) Cause) (vs : List PlainData)
+      → (r >>= λ v. rs >>= λ ws. Ok (v ∷ ws)) ≡ Ok vs
+      → (v : PlainData) × (ws : List PlainData) × (r ≡ Ok v) × (rs ≡ Ok ws) × (v ∷ ws ≡ vs)
+  apart (Ok v) (Ok ws) vs h = (v, ws, refl, refl, ok_is h)
+  apart (Ok v) (Err y) vs h = absurd cc
+  apart (Err y) rs vs h = absurd cc
+
+  both : (a b : Bool) → a ≡ true → b ≡ true → (a && b) ≡ true
+  both a b p q = rw (p, q) refl
+
+  -- the data of all fields is of their shapes
+  all_have : (fields : Fields) (slots : Slots) (vs : List PlainData) → Fit fields slots
+      → all_fields table fields slots ≡ Ok vs → each_has table (numbers_of fields) (items_of vs) ≡ true
+  all_have [] slots vs fit h = subst (λ vs. each_has table [] (items_of vs) ≡ true) (ok_is h) refl
+  all_have (f ∷ fs) [] vs fit h =
+      let a = apart (field_data table f None) (all_fields table fs []) vs h in
+      subst (λ vs. each_has table (numbers_of (f ∷ fs)) (items_of vs) ≡ true) a.4
+      (both (has_shape table f.1 a.0) (each_has table (numbers_of fs) (items_of a.1))
+      (data_has f None a.0 (λ w e. absurd cc) a.2) (all_have fs [] a.1 (none_left fs) a.3))
+    where
+      none_left : (fs : Fields) → Fit fs []
+      none_left [] = tt
+      none_left (f ∷ fs) = tt
+  all_have (f ∷ fs) (s ∷ slots) vs fit h =
+      let a = apart (field_data table f s) (all_fields table fs slots) vs h in
+      subst (λ vs. each_has table (numbers_of (f ∷ fs)) (items_of vs) ≡ true) a.4
+      (both (has_shape table f.1 a.0) (each_has table (numbers_of fs) (items_of a.1)) (data_has f s a.0 fit.0 a.2)
+      (all_have fs slots a.1 fit.1 a.3))
+
+  -- a struct of what fits its fields is data of its shape
+  pub struct_has_shape : (s : PlainShape) (strict : Bool) (fields : Fields) (slots : Slots) (v : PlainData)
+      → fields_in s ≡ Some (strict, fields) → Fit fields slots → struct_of table fields slots ≡ Ok v
+      → is_of table s v ≡ true
+  struct_has_shape s strict fields slots v is fit h = made (all_fields table fields slots) refl h
+    where
+      of_fields : (s : PlainShape) (vs : List PlainData) → fields_in s ≡ Some (strict, fields)
+          → each_has table (numbers_of fields) (items_of vs) ≡ true → is_of table s (struct_data (items_of vs)) ≡ true
+      of_fields (struct_shape strict' name fields') vs is h = rw (fields_are strict' strict fields' fields is) h
+      of_fields (struct_variant_shape strict' name variant fields') vs is h = rw
+          (fields_are strict' strict fields' fields is) h
+      of_fields _ vs is h = absurd cc
+
+      made : (r : Result (List PlainData) Cause) → all_fields table fields slots ≡ r
+          → (r >>= λ vs. Ok (struct_data (items_of vs))) ≡ Ok v → is_of table s v ≡ true
+      made (Ok vs) e h = subst (λ v. is_of table s v ≡ true) (ok_is h)
+          (of_fields s vs is (all_have fields slots vs fit e))
+      made (Err y) e h = absurd cc

@@ -1,0 +1,58 @@
+-- What a scalar is found to be tells its fault, and the value that it is.
+use Rattle.std.proofs.Common.{◌≡◌, List, ℕ, Option, Some, None, Bool, true, false, Result, Ok, Err, refl}
+use Rattle.std.specs.Prelude.{if◌then◌else◌}
+use Rattle.std.specs.Option.{option_map_or}
+use Rattle.yaml_base.specs.Floats.{is_float}
+use Rattle.yaml_base.specs.PlainWords.{boolean_of, is_null_word}
+use Rattle.yaml_base.specs.declared.error.Cause.{Cause}
+use Rattle.yaml_base.specs.declared.found.Found.{Found}
+use Rattle.yaml_base.specs.declared.found.Found.TheVariants as found
+use Rattle.yaml_tree.specs.Tree.{Tree}
+use Rattle.yaml_read.specs.ScalarAny.{any_found, any_in}
+use Rattle.yaml_read.specs.ScalarFound.{wrong_type, found_integer, fault_in}
+use Rattle.yaml_read.specs.Steps.{◌>>=◌}
+use Rattle.yaml_read.specs.declared.de.sort.ScalarSort.{ScalarSort}
+use Rattle.yaml_read.specs.declared.de.sort.ScalarSort.TheVariants.{NoText, TaggedBool, TaggedInt, TaggedFloat}
+use Rattle.yaml_read.specs.declared.de.sort.ScalarSort.TheVariants.{TaggedNull, Resolved, String}
+use Rattle.yaml_read.specs.inner.Expectations.{found_in, fault_by}
+
+fault_some : {A : Type 0} (f : A → Found) (o : Option A) (e : Cause) (expected : List ℕ)
+    → option_map_or (λ x. wrong_type (f x) expected) o e ≡ fault_by expected (option_map_or (λ x. Ok (f x)) o (Err e))
+fault_some f None e expected = refl
+fault_some f (Some x) e expected = refl
+
+fault_if : (b : Bool) (f : Found) (e : Cause) (expected : List ℕ)
+    → (if b then wrong_type f expected else e) ≡ fault_by expected (if b then Ok f else Err e)
+fault_if true f e expected = refl
+fault_if false f e expected = refl
+
+-- the fault of a scalar in a row
+pub fault_found : (sort : ScalarSort) (text expected : List ℕ)
+    → fault_in sort text expected ≡ fault_by expected (found_in sort text)
+fault_found NoText text expected = refl
+fault_found TaggedBool text expected = fault_some (λ b. found.Bool b) (boolean_of text) _ expected
+fault_found TaggedInt text expected = fault_some (λ f. f) (found_integer text) _ expected
+fault_found TaggedFloat text expected = fault_if (is_float text) _ _ expected
+fault_found TaggedNull text expected = fault_if (is_null_word text) _ _ expected
+fault_found Resolved text expected = refl
+fault_found String text expected = refl
+
+any_some : {A : Type 0} (f : A → Found) (o : Option A) (e : Cause)
+    → option_map_or (λ x. any_found (f x)) o (Err e) ≡ (option_map_or (λ x. Ok (f x)) o (Err e) >>= any_found)
+any_some f None e = refl
+any_some f (Some x) e = refl
+
+any_if : (b : Bool) (f : Found) (e : Cause)
+    → (if b then any_found f else Err e) ≡ ((if b then Ok f else Err e) >>= any_found)
+any_if true f e = refl
+any_if false f e = refl
+
+-- the value that a scalar in a row is
+pub any_found_in : (sort : ScalarSort) (text : List ℕ) → any_in sort text ≡ (found_in sort text >>= any_found)
+any_found_in NoText text = refl
+any_found_in TaggedBool text = any_some (λ b. found.Bool b) (boolean_of text) _
+any_found_in TaggedInt text = any_some (λ f. f) (found_integer text) _
+any_found_in TaggedFloat text = any_if (is_float text) _ _
+any_found_in TaggedNull text = any_if (is_null_word text) _ _
+any_found_in Resolved text = refl
+any_found_in String text = refl

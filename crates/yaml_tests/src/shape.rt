@@ -1,8 +1,0 @@
-//! Schemas, texts, data and joins by example.
-
-mod joins;
-mod large;
-mod makers;
-mod schemas;
-mod texts;
-pub mod typed;
