@@ -1,15 +1,17 @@
 -- A key that is new to each before it keeps the keys of a mapping distinct, and keys that are distinct are new.
 use Rattle.std.proofs.Common.{◌≡◌, List, [], ◌∷◌, ◌++◌, Result, Ok, Err, Bool, true, false, not, ◌&&◌, ◌||◌}
-use Rattle.std.proofs.Common.{refl, ◌∙◌, ap}
+use Rattle.std.proofs.Common.{refl, sym, ◌∙◌, ap, Some, None}
+use Rattle.std.specs.Option.{is_some}
 use Rattle.std.specs.Prelude.{if◌then◌else◌}
 use Rattle.yaml_base.specs.declared.error.Cause.{Cause}
+use Rattle.yaml_base.specs.declared.error.Cause.TheVariants.{DuplicateEntry}
 use Rattle.yaml_shape.specs.DataView.{items_of, entries_of}
 use Rattle.yaml_shape.specs.PlainData.{PlainData, any_data}
 use Rattle.yaml_tree.specs.Equal.{tree_eq}
 use Rattle.yaml_tree.specs.EqualLaws.{tree_eq-symm}
-use Rattle.yaml_tree.specs.Mapping.{has_key, keys_distinct, with_pair}
+use Rattle.yaml_tree.specs.Mapping.{has_key, keys_distinct, value_at, with_pair}
 use Rattle.yaml_tree.specs.Tree.{Tree, Trees, no_trees, tree, with_tree, Pairs, no_pairs, pair, with_last}
-use Rattle.yaml_read.specs.AnyData.{tree_in, trees_in, pairs_in, new_key}
+use Rattle.yaml_read.specs.AnyData.{tree_in, trees_in, pairs_in, entry_key, new_key}
 use Rattle.yaml_read.specs.inner.Walks.{any_items, any_entries}
 
 -- the pairs that a list of keys with values is
@@ -110,3 +112,32 @@ pub pair_behind : (k v : Tree) (ps : Pairs) → has_key k ps ≡ false → with_
 pair_behind k v no_pairs h = refl
 pair_behind k v (pair l w ps) h =
     let n = neither (tree_eq k l) (has_key k ps) h in rw (n.0) (ap (pair l w) (pair_behind k v ps n.1))
+
+-- a key is there where it has a value
+pub key_there : (k : Tree) (ps : Pairs) → is_some (value_at k ps) ≡ has_key k ps
+key_there k no_pairs = refl
+key_there k (pair l w ps) = chosen (tree_eq k l) (key_there k ps)
+  where
+    chosen : (b : Bool) → is_some (value_at k ps) ≡ has_key k ps
+        → is_some (if b then Some w else value_at k ps) ≡ (b || has_key k ps)
+    chosen true h = refl
+    chosen false h = h
+
+-- one more pair of data
+pub pairs_more : (vs : List (PlainData × PlainData)) (k v : PlainData)
+    → pairs_of (vs ++ (k, v) ∷ []) ≡ with_last (pairs_of vs) (tree_in k) (tree_in v)
+pairs_more [] k v = refl
+pairs_more (w ∷ vs) k v = ap (pair (tree_in w.0) (tree_in w.1)) (pairs_more vs k v)
+
+-- a new key with its value, behind those that were read
+pub pairs_grow : (vs : List (PlainData × PlainData)) (k v : PlainData) (ps : Pairs) → pairs_of vs ≡ ps
+    → has_key (tree_in k) ps ≡ false
+    → pairs_of (vs ++ (k, v) ∷ []) ≡ with_pair (tree_in k) (tree_in v) ps
+pairs_grow vs k v ps same new =
+    pairs_more vs k v ∙ (ap (λ qs. with_last qs (tree_in k) (tree_in v)) same
+    ∙ sym (pair_behind (tree_in k) (tree_in v) ps new))
+
+-- a key that is there already is refused
+pub key_again : (vs : List (PlainData × PlainData)) (k : PlainData) (ps : Pairs) → pairs_of vs ≡ ps
+    → has_key (tree_in k) ps ≡ true → new_key vs k ≡ Err (DuplicateEntry (entry_key (tree_in k)) None)
+key_again vs k ps same there = rw (same, there) refl

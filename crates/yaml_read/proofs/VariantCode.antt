@@ -1,12 +1,16 @@
 -- The variants of an enum as the code goes over them.
 use Rattle.std.proofs.Common.{◌≡◌, ℕ, zero, suc, ◌+◌, ◌<◌, List, [], ◌∷◌, length, get_or}
-use Rattle.std.proofs.Common.{Option, Some, None, true, false, refl, sym, ap, ◌∙◌, arith, add-one, String, string_bytes}
+use Rattle.std.proofs.Common.{Option, Some, None, Bool, true, false, refl, sym, ap, subst, ◌∙◌, ◌++◌, arith, add-one, All, length-append}
+use Rattle.std.proofs.Common.{String, string_bytes, if◌then◌else◌}
+use Rattle.std.specs.List.{flat_map}
+use Rattle.std.proofs.lemmas.List.{get_or_append_left, get_or-append-add}
 use Rattle.std.specs.Prelude.{drop, slice_get, bytes_eq}
 use Rattle.std.specs.Option.{option_map}
 use Rattle.std.specs.declared.alloc.Global.{Global}
 use Rattle.std.proofs.lemmas.Option.{slice_get-get_or, slice_get-map}
 use Rattle.yaml_shape.specs.PlainShape.{PlainVariant}
 use Rattle.yaml_shape.specs.ShapeView.{content_of, variant_of, variants_of}
+use Rattle.yaml_shape.specs.Validity.{named_in}
 use Rattle.yaml_shape.specs.declared.shape.VariantShape.{VariantShape}
 use Rattle.yaml_read.specs.Variants.{Variants, variant_named}
 
@@ -80,3 +84,26 @@ found variants name place d e within same before =
     same_some (sym (slice_get-get_or variants place e within) ∙ slice_get-get_or variants place d within) in
     ap (λ (f : String Global × VariantShape). Some (place, content_of f.1)) one
     ∙ sym (before ∙ find_here (variants_of variants) name place _ (seen_at variants place d within) same)
+
+-- ---- the numbers that a variant's content names
+all_front : (P : ℕ → Type 0) (xs ys : List ℕ) → All P (xs ++ ys) → All P xs
+all_front P xs ys a k d lt =
+    subst P (get_or_append_left xs ys d k lt) (a k d (omega (arith, lt, length-append xs ys)))
+
+all_back : (P : ℕ → Type 0) (xs ys : List ℕ) → All P (xs ++ ys) → All P ys
+all_back P xs ys a k d lt =
+    subst P (get_or-append-add xs ys k d) (a (length xs + k) d (omega (arith, lt, length-append xs ys)))
+
+-- what all numbers of an enum meet, those of each of its variants meet
+pub content_all : (P : ℕ → Type 0) (variants : Variants) (name : List ℕ) (v : ℕ × PlainVariant)
+    → variant_named variants name ≡ Some v → All P (flat_map (λ v. named_in v.1) variants) → All P (named_in v.1)
+content_all P [] name v is a = absurd cc
+content_all P (x ∷ xs) name v is a = chosen (bytes_eq x.0 name) (variant_named xs name) is
+    (λ u e. content_all P xs name u e (all_back P (named_in x.1) (flat_map (λ v. named_in v.1) xs) a))
+  where
+    chosen : (b : Bool) (o : Option (ℕ × PlainVariant)) → (if b then Some (zero, x.1) else one_further o) ≡ Some v
+        → ((u : ℕ × PlainVariant) → o ≡ Some u → All P (named_in u.1)) → All P (named_in v.1)
+    chosen true o e later = subst (λ (u : ℕ × PlainVariant). All P (named_in u.1)) (same_some e)
+        (all_front P (named_in x.1) (flat_map (λ v. named_in v.1) xs) a)
+    chosen false None e later = absurd cc
+    chosen false (Some u) e later = subst (λ (u : ℕ × PlainVariant). All P (named_in u.1)) (same_some e) (later u refl)

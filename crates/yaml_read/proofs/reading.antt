@@ -10,6 +10,7 @@ pub mod Rows
 pub mod Shown
 pub mod Sound
 pub mod Complete
+pub mod ContentExits
 pub mod Steps
 pub mod TreeLaws
 pub mod TreeWalks

@@ -10,14 +10,11 @@ use Rattle.yaml_read.specs.Fields.{Fields}
 use Rattle.yaml_read.specs.NodeTags.{Around, untaken_name}
 use Rattle.yaml_read.specs.PlainDocEvent.{PlainDocEvent, a_scalar, a_void, sequence_begins, mapping_begins}
 use Rattle.yaml_read.specs.Presence.{is_present, is_empty_plain, is_empty}
-use Rattle.yaml_read.specs.ReadingFaults.{not_built}
 use Rattle.yaml_read.specs.Variants.{Variants, variant_named, unknown_variant}
 
 -- the fault of a shape that reads no node, whatever stands there
 abbrev pub early : PlainShape → Option Cause
 early bytes_shape = Some BytesUnsupported
-early any_shape = Some not_built
-early (enum_shape name variants) = Some not_built
 early _ = None
 
 -- what a node is handed on as

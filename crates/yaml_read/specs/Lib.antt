@@ -15,7 +15,6 @@ pub mod Places
 pub mod PlainDocEvent
 pub mod PlainDocument
 pub mod Presence
-pub mod ReadingFaults
 pub mod Reads
 pub mod Resolved
 pub mod Rows

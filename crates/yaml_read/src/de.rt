@@ -3,6 +3,8 @@
 mod any;
 mod around;
 mod character;
+mod contents;
+mod enums;
 mod expected;
 mod field_index;
 mod fields;
@@ -25,6 +27,7 @@ mod source;
 mod structs;
 mod text;
 mod tuple;
+mod values;
 mod variants;
 
 ghost use Rattle.std.specs.Prelude.{◌≡◌, ◌≢◌, ◌<◌, length, Some, false};

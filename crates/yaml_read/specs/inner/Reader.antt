@@ -108,6 +108,13 @@ is_leaf unit_shape = true
 is_leaf (unit_struct_shape name) = true
 is_leaf _ = false
 
+-- what a node whose tag is taken gives under a shape, where it is no collection that the shape reads
+abbrev pub other_answer : PlainShape → PlainDocEvent → Result PlainData Cause
+other_answer s (a_scalar w) = scalar_answer s true w
+other_answer s (sequence_begins tag) = Err (sequence_fault s)
+other_answer s (mapping_begins tag) = Err (mapping_fault s)
+other_answer s _ = Err EndOfStream
+
 -- the fields that a shape reads of a mapping, and whether others are refused
 abbrev pub fields_in : PlainShape → Option (Bool × Fields)
 fields_in (struct_shape strict name fields) = Some (strict, fields)

@@ -1,14 +1,16 @@
 //! Any values: what a scalar is as one, and the values that data are.
 
-ghost use Rattle.std.specs.Prelude.{◌≡◌, IfOk, None, Ok, false, map, pos};
+ghost use Rattle.std.specs.Prelude.{◌≡◌, IfErr, IfOk, None, Ok, OnOk, false, map, pos};
 ghost use Rattle.yaml_base.specs.Answer.{Gives, is_memory};
-ghost use Rattle.yaml_base.specs.declared.error.Cause.TheVariants.{DuplicateEntry};
+ghost use Rattle.yaml_base.specs.declared.error.Cause.TheVariants.{DuplicateEntry, Memory};
 ghost use Rattle.yaml_base.specs.declared.found.Found.TheVariants.{Signed, Unsigned};
 ghost use Rattle.yaml_shape.specs.DataView.{data_of, items_of};
 ghost use Rattle.yaml_shape.specs.Expected.{expected_text};
 ghost use Rattle.yaml_shape.specs.PlainData.{any_data};
 ghost use Rattle.yaml_shape.specs.PlainShape.{any_shape};
-ghost use Rattle.yaml_tree.specs.Tree.{sequence};
+ghost use Rattle.yaml_tree.specs.Mapping.{has_key, with_pair};
+ghost use Rattle.yaml_tree.specs.Tree.{sequence, tagged};
+ghost use Rattle.yaml_tree.specs.Valid.{pairs_of};
 ghost use Rattle.yaml_tree.specs.View.{tree_of, trees_of};
 ghost use Rattle.yaml_read.specs.AnyData.{entry_key, tree_in, trees_in};
 ghost use Rattle.yaml_read.specs.DocEventView.{doc_scalar_of};
@@ -23,7 +25,7 @@ use crate::doc_event::DocScalar;
 use std::alloc::{AllocError, Global};
 use yaml_base::{Cause, EntryKey, Error, Found};
 use yaml_shape::{Data, Shape};
-use yaml_tree::{Number, Sequence, Value};
+use yaml_tree::{Mapping, Number, Sequence, Tag, TaggedValue, Value};
 
 // The fault of what is no value, or want of memory.
 fn no_value(alloc: Global, found: Found) -> Refusal
@@ -148,4 +150,36 @@ pub(super) fn any_list<'de>(alloc: Global, items: Vec<Data<'de>>) -> Result<Data
         (Ok (any_data (sequence (trees_in (items_of (map data_of items.entry.items)))))) }
 {
     Ok(Data::Any(Value::Sequence(Sequence::from(values_in(alloc, items)?))))
+}
+
+/// The data under the tag of a name, as a value.
+pub(super) fn any_tagged<'de>(alloc: Global, name: &str, data: Data<'_>) -> Result<Data<'de>>
+    ensures { Gives data_of result (Ok (any_data (tagged name.now (tree_in (data_of data.entry))))) }
+{
+    match Tag::new(alloc, name) {
+        Ok(tag) => {
+            let value = value_in(data);
+            Ok(Data::Any(Value::Tagged(Box::new(alloc, TaggedValue { tag, value })?)))
+        }
+        Err(_) => Err(Refusal::memory()),
+    }
+}
+
+/// Whether a pair of the mapping has an equal key.
+pub(super) fn has_key(pairs: &Mapping, key: &Value) -> bool
+    ensures { result ≡ has_key (tree_of key.now) (pairs_of pairs.now) }
+{
+    pairs.get(key).is_some()
+}
+
+/// Puts the value at the key.
+pub(super) fn put_pair(pairs: &mut Mapping, key: Value, value: Value) -> Result<()>
+    ensures put { OnOk result
+        (pairs_of pairs.new ≡ with_pair (tree_of key) (tree_of value) (pairs_of pairs.old)) }
+    ensures memory { IfErr result (λ refusal. refusal ≡ Memory) }
+{
+    match pairs.insert(key, value) {
+        Ok(_) => Ok(()),
+        Err(_) => Err(Refusal::memory()),
+    }
 }

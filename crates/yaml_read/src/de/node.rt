@@ -18,7 +18,7 @@ ghost use Rattle.yaml_read.specs.inner.Walks.{around_of, source_of, spot_of, rea
 use crate::de::around::{Around, is_taken};
 use crate::de::found::{found_mapping, found_sequence};
 use crate::de::refusal::{Refusal, Result, ended, refuse};
-use crate::de::scalar::{not_built, read_scalar, read_void};
+use crate::de::scalar::{read_scalar, read_void};
 use crate::de::source::Source;
 use crate::doc_event::DocEvent;
 use crate::walk::Walk;
@@ -105,7 +105,10 @@ impl<'s, 'de> Source<'s, 'de> {
         ensures cost { Costs (length self.now.events.now) walk.old walk.new }
     {
         match shape {
-            Shape::Any | Shape::Enum { .. } => not_built(self.alloc),
+            Shape::Any => self.read_any(path, shape, nest, taken, walk),
+            Shape::Enum { name, variants } => {
+                self.read_enum(path, shape, name, variants, nest, taken, walk)
+            }
             Shape::Bytes => Err(refuse(self.alloc, Error::new(Cause::BytesUnsupported))),
             Shape::Option(content) => self.read_option(path, shape, *content, nest, taken, walk),
             Shape::Newtype { name: _, inner } => self.read_newtype(path, *inner, nest, taken, walk),

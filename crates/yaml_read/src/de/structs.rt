@@ -30,8 +30,8 @@ use crate::walk::Walk;
 use yaml_base::{Mark, Path};
 use yaml_shape::{Data, Shape, ShapeId};
 
-// Whether the event is that of an empty plain scalar, or of an empty stream.
-fn is_bare(event: &DocEvent<'_>) -> bool
+/// Whether the event is that of an empty plain scalar, or of an empty stream.
+pub(super) fn is_bare(event: &DocEvent<'_>) -> bool
     ensures { result ≡ is_bare (doc_event_of event.now) }
 {
     match event {
@@ -245,8 +245,8 @@ impl<'s, 'de> Source<'s, 'de> {
         }
     }
 
-    // The struct of the fields that were read.
-    fn finish_struct(
+    /// The struct of the fields that were read.
+    pub(super) fn finish_struct(
         &self,
         fields: &[(String, ShapeId)],
         slots: Vec<Option<Data<'de>>>,
@@ -263,8 +263,8 @@ impl<'s, 'de> Source<'s, 'de> {
         Ok(Data::Struct(items))
     }
 
-    // A struct of which no field is there.
-    fn bare_struct(&self, fields: &[(String, ShapeId)]) -> Result<Data<'de>>
+    /// A struct of which no field is there.
+    pub(super) fn bare_struct(&self, fields: &[(String, ShapeId)]) -> Result<Data<'de>>
         requires named { All (λ id. id < length self.now.schema.now) (numbers_of (fields_of fields.now)) }
         ensures { Gives data_of result
             (struct_of self.now.schema.now (fields_of fields.now) (no_slots (fields_of fields.now))) }

@@ -3,7 +3,7 @@
 ghost use Rattle.std.specs.Prelude.{◌≡◌, ℕ, Err, IfOk, None, codes, false};
 ghost use Rattle.std.specs.Option.{option_map_or};
 ghost use Rattle.yaml_base.specs.Answer.{Gives, is_memory};
-ghost use Rattle.yaml_base.specs.declared.error.Cause.TheVariants.{UnknownVariant};
+ghost use Rattle.yaml_base.specs.declared.error.Cause.TheVariants.{NestedEnum, UnknownVariant};
 ghost use Rattle.yaml_base.specs.declared.found.Found.TheVariants.{Bytes, UnitVariant};
 ghost use Rattle.yaml_shape.specs.DataView.{data_of};
 ghost use Rattle.yaml_shape.specs.ShapeView.{content_of, variants_of};
@@ -14,6 +14,7 @@ ghost use Rattle.yaml_read.specs.ScalarShapes.{text_of};
 ghost use Rattle.yaml_read.specs.Variants.{bare_variant, named_variant, unknown_variant, variant_named};
 ghost use Rattle.yaml_read.specs.inner.Walks.{variant_view};
 
+use crate::de::around::Around;
 use crate::de::expected::words;
 use crate::de::found_text::told;
 use crate::de::refusal::{Refusal, Result};
@@ -96,6 +97,26 @@ fn without_content(alloc: Global, expected: &str) -> Refusal
     ensures { is_memory result ≡ false → result ≡ wrong_type UnitVariant expected.now }
 {
     told(alloc, wrong_type(alloc, Found::UnitVariant, expected))
+}
+
+// The fault of an enum in a node whose tag is taken.
+fn nested(alloc: Global, around: &Around<'_>) -> std::result::Result<Cause, AllocError>
+    ensures { IfOk result
+        (λ cause. cause ≡ NestedEnum around.now.name.now around.now.variant.now None) }
+{
+    Ok(Cause::NestedEnum {
+        name: words(alloc, around.name)?,
+        tag: words(alloc, around.variant)?,
+        place: None,
+    })
+}
+
+/// The fault of an enum in a node whose tag is taken, or want of memory.
+pub(super) fn nested_enum(alloc: Global, around: &Around<'_>) -> Refusal
+    ensures { is_memory result ≡ false
+        → result ≡ NestedEnum around.now.name.now around.now.variant.now None }
+{
+    told(alloc, nested(alloc, around))
 }
 
 // The variant in a place, named without a content.

@@ -9,25 +9,39 @@ use Rattle.yaml_base.specs.Answer.{Gives, is_memory}
 use Rattle.yaml_base.specs.PathText.{path_text}
 use Rattle.yaml_base.specs.declared.error.Cause.{Cause}
 use Rattle.yaml_shape.specs.DataView.{data_of, entry_of, items_of, entries_of}
-use Rattle.yaml_shape.specs.PlainData.{PlainData, seq_data, map_data, some_data, newtype_data}
-use Rattle.yaml_shape.specs.PlainShape.{bool_shape, shape_at}
-use Rattle.yaml_shape.specs.ShapeView.{shape_of, ids_of, field_of, fields_of}
+use Rattle.yaml_shape.specs.PlainData.{PlainData, any_data, variant_data, seq_data, map_data, some_data, newtype_data}
+use Rattle.yaml_shape.specs.Expected.{tuple_variant_with_text}
+use Rattle.yaml_shape.specs.PlainShape.{bool_shape, shape_at, tuple_variant_shape, struct_variant_shape}
+use Rattle.yaml_shape.specs.ShapeView.{shape_of, content_of, ids_of, field_of, fields_of, variants_of}
 use Rattle.yaml_shape.specs.Validity.{numbers_of}
 use Rattle.yaml_shape.specs.Walks.{rank}
-use Rattle.yaml_shape.specs.declared.data.Data.{Seq, Map, Some as SomeData, Newtype, the_lemmas}
+use Rattle.yaml_shape.specs.declared.data.Data.{Any as AnyValue, Seq, Map, Some as SomeData, Newtype, Variant, the_lemmas}
 use Rattle.yaml_shape.specs.declared.data.Entry.{Entry}
+use Rattle.yaml_tree.specs.Mapping.{has_key}
+use Rattle.yaml_tree.specs.Tree.{sequence, tagged}
+use Rattle.yaml_tree.specs.Tree as tree
+use Rattle.yaml_tree.specs.Valid.{pairs_of}
+use Rattle.yaml_tree.specs.declared.value.Value.TheVariants as value
+use Rattle.yaml_read.specs.AnyData.{tree_in, trees_in, pairs_in, new_key}
 use Rattle.yaml_read.specs.DocEventView.{doc_event_of, doc_scalar_of}
 use Rattle.yaml_read.specs.Fields.{no_slots, struct_of}
-use Rattle.yaml_read.specs.Handing.{early, handed, is_content, is_bare, reach}
+use Rattle.yaml_read.specs.Handing.{early, handed, is_content, is_bare, reach, untaken_reach}
+use Rattle.yaml_read.specs.NodeTags.{untaken_name}
 use Rattle.yaml_read.specs.Places.{way_of, element_under, place, placed}
 use Rattle.yaml_read.specs.Rows.{row_of, row_data}
 use Rattle.yaml_read.specs.PlainDocEvent.{a_scalar}
 use Rattle.yaml_read.specs.ScalarShapes.{scalar_answer, text_of, lent_text}
-use Rattle.yaml_read.specs.Steps.{ending, with_shape}
+use Rattle.yaml_read.specs.Steps.{ending, wrap, with_shape}
+use Rattle.yaml_read.specs.Variants.{variant_named}
 use Rattle.yaml_read.specs.TreeReader.{Spot, after}
-use Rattle.yaml_read.specs.inner.Reader.{is_sequence_end, is_mapping_end, is_leaf, few_text, owner_named, value_at, item_at, entry_at, row_at, skip_at, field_at, field_key_at, sequence_parts, mapping_parts, place_at, event_at}
-use Rattle.yaml_read.specs.inner.Walks.{around_of, source_of, spot_of, seen, reader_of, row_view, slots_of, field_view, IsAmong}
-use Rattle.yaml_read.proofs.reading.Exits.{same_spot, not_sequence_end, not_mapping_end, entry_is, leaf_as_is, leaf_late, row_as_is, row_late, option_as_is, all_at}
+use Rattle.yaml_read.specs.inner.Reader.{is_sequence_end, is_mapping_end, is_leaf, few_text, owner_named, value_at, item_at, entry_at, any_entry_at, row_at, skip_at, field_at, field_key_at, sequence_parts, mapping_parts, place_at, event_at}
+use Rattle.yaml_read.specs.inner.Walks.{around_of, plain_around, variant_view, source_of, spot_of, seen, reader_of, row_view, slots_of, field_view, IsAmong}
+use Rattle.yaml_read.proofs.AnyLaws.{new_is_key, pairs_grow, key_again}
+use Rattle.yaml_read.proofs.VariantCode.{content_all}
+use Rattle.yaml_read.proofs.reading.ContentExits.{enum_content, enum_plain, enum_taken, node_placed, other_in_row, other_in_fields, no_mapping_starts, only_untaken}
+use Rattle.yaml_read.proofs.reading.ContentExits.{any_tagged_step, any_list_step, any_mapping_step, any_plain_step, wrap_onto_finds, wrap_onto_fails}
+use Rattle.yaml_read.proofs.reading.ValueExits.{step_rows, any_no_key, any_repeated, any_no_value, any_entry}
+use Rattle.yaml_read.proofs.reading.Exits.{gives_ending_at, same_spot, not_sequence_end, not_mapping_end, entry_is, leaf_as_is, leaf_late, row_as_is, row_late, option_as_is, all_at}
 use Rattle.yaml_read.proofs.reading.Exits.{step_late, step_ended, step_event, step_content, step_newtype, step_seq, step_row, step_map, leaf_scalar, no_key, no_value, one_entry}
 use Rattle.yaml_read.proofs.reading.Exits.{fields_late, fields_as_is, step_struct, step_too_deep, step_bare, no_name, unknown_name, known_name, key_looked_up, key_fails, gives_key, gives_wrapped, name_scalar, scalar_mark}
 use Rattle.yaml_read.proofs.reading.Exits.{row_skips, row_reads, drop_here, drop_none, finish_fails, gives_finish}
@@ -633,3 +647,349 @@ read_name-returns-clause-gives t c = λ fuel lt.
     (c.in-Ok.ensures.gives fuel (omega (arith, lt))) (c.text_mark-at.ensures c.args.walk.now.place c.requires.here))
     (gives_key field_view (value_at (way_of c.args.path.now) (seen c.args.self.now.events.now c.args.walk.now.place)) (spot_of c.read_node.new.walk) (spot_of c.read_node.new.walk) c.field_named-2.result _ refl
     (rw c.name_in.ensures at c.field_named-2.ensures.gives))
+
+-- ---- enums and any values
+pub read_unplaced-returns-in-Any-clause-gives : goal.read_unplaced-returns-in-Any-clause-gives
+read_unplaced-returns-in-Any-clause-gives t c = λ fuel lt.
+    rw (step_late (source_of c.args.self.now) (reader_of fuel c.args.self.now) (way_of c.args.path.now) (shape_of c.args.shape.now) c.args.nest (around_of c.args.taken) (spot_of c.args.walk.now) (ap (λ x. early (shape_of x)) c.in-Any.is)) (c.read_any.ensures.gives fuel lt)
+
+pub read_unplaced-returns-in-Enum-clause-gives : goal.read_unplaced-returns-in-Enum-clause-gives
+read_unplaced-returns-in-Enum-clause-gives t c = λ fuel lt.
+    rw (step_late (source_of c.args.self.now) (reader_of fuel c.args.self.now) (way_of c.args.path.now) (shape_of c.args.shape.now) c.args.nest (around_of c.args.taken) (spot_of c.args.walk.now) (ap (λ x. early (shape_of x)) c.in-Enum.is)) (c.read_enum.ensures.gives fuel lt)
+
+pub read_any-returns-in-Ok-clause-gives : goal.read_any-returns-in-Ok-clause-gives
+read_any-returns-in-Ok-clause-gives t c = λ fuel lt.
+    let name = sym c.untaken_name.ensures ∙ ap option_copied c.in-Some-untaken_name.is in
+    let own : untaken_name (is_some (around_of c.args.taken)) (doc_event_of c.in-Some.field-0.now.0) ≡ Some c.in-Some-untaken_name.name.now = ap (λ b. untaken_name b (doc_event_of c.in-Some.field-0.now.0)) (sym c.is_taken.ensures) ∙ name in
+    let free : is_some (around_of c.args.taken) ≡ false = only_untaken (is_some (around_of c.args.taken)) (doc_event_of c.in-Some.field-0.now.0) c.in-Some-untaken_name.name.now own in
+    let left : untaken_reach (is_some (around_of c.args.taken)) ≡ 4100 = ap untaken_reach free in
+    let flat : reach c.args.self.now.schema.now (shape_of c.args.shape.now) ≡ 0 = ap (reach c.args.self.now.schema.now) c.requires.shape in
+    rw (any_tagged_step (source_of c.args.self.now) (reader_of fuel c.args.self.now) (way_of c.args.path.now) (shape_of c.args.shape.now) c.args.nest (around_of c.args.taken) (spot_of c.args.walk.now) c.in-Some-untaken_name.name.now _ _ c.requires.shape c.in-Some.ensures.found own
+    ∙ wrap_finds (λ v. any_data (tagged c.in-Some-untaken_name.name.now (tree_in v))) _ (data_of c.in-Ok.data) (spot_of c.read_node.new.walk) (rw c.requires.shape at (c.in-Ok.ensures.gives fuel (omega (arith, lt, left, flat)))))
+    (gives_ending_at data_of (spot_of c.read_node.new.walk) (spot_of c.read_node.new.walk) c.any_tagged.result (Ok (any_data (tagged c.in-Some-untaken_name.name.now (tree_in (data_of c.in-Ok.data))))) refl c.any_tagged.ensures)
+
+pub read_any-returns-in-Err-clause-gives : goal.read_any-returns-in-Err-clause-gives
+read_any-returns-in-Err-clause-gives t c = λ fuel lt fault.
+    let name = sym c.untaken_name.ensures ∙ ap option_copied c.in-Some-untaken_name.is in
+    let own : untaken_name (is_some (around_of c.args.taken)) (doc_event_of c.in-Some.field-0.now.0) ≡ Some c.in-Some-untaken_name.name.now = ap (λ b. untaken_name b (doc_event_of c.in-Some.field-0.now.0)) (sym c.is_taken.ensures) ∙ name in
+    let free : is_some (around_of c.args.taken) ≡ false = only_untaken (is_some (around_of c.args.taken)) (doc_event_of c.in-Some.field-0.now.0) c.in-Some-untaken_name.name.now own in
+    let left : untaken_reach (is_some (around_of c.args.taken)) ≡ 4100 = ap untaken_reach free in
+    let flat : reach c.args.self.now.schema.now (shape_of c.args.shape.now) ≡ 0 = ap (reach c.args.self.now.schema.now) c.requires.shape in
+    any_tagged_step (source_of c.args.self.now) (reader_of fuel c.args.self.now) (way_of c.args.path.now) (shape_of c.args.shape.now) c.args.nest (around_of c.args.taken) (spot_of c.args.walk.now) c.in-Some-untaken_name.name.now _ _ c.requires.shape c.in-Some.ensures.found own
+    ∙ wrap_fails (λ v. any_data (tagged c.in-Some-untaken_name.name.now (tree_in v))) _ _ (rw c.requires.shape at (c.in-Err.ensures.gives fuel (omega (arith, lt, left, flat)) fault))
+
+pub read_any-returns-in-Ok-read_items-clause-gives : goal.read_any-returns-in-Ok-read_items-clause-gives
+read_any-returns-in-Ok-read_items-clause-gives t c = λ fuel lt.
+    let none : untaken_name (is_some (around_of c.args.taken)) (doc_event_of c.in-Some.field-0.now.0) ≡ None = ap (λ b. untaken_name b (doc_event_of c.in-Some.field-0.now.0)) (sym c.is_taken.ensures) ∙ sym c.untaken_name.ensures ∙ ap option_copied c.in_default-untaken_name.is in
+    let flat : reach c.args.self.now.schema.now (shape_of c.args.shape.now) ≡ 0 = ap (reach c.args.self.now.schema.now) c.requires.shape in
+    let some : 0 < c.args.nest = omega (arith, c.if-nest-eq0.false) in
+    let left = c.step.ensures.left in
+    rw (any_list_step (source_of c.args.self.now) (reader_of fuel c.args.self.now) (way_of c.args.path.now) (shape_of c.args.shape.now) c.args.nest (around_of c.args.taken) (spot_of c.args.walk.now) _ c.in-SequenceStart.field-0.tag _ c.requires.shape c.in-Some.ensures.found (ap doc_event_of c.in-SequenceStart.is) none some
+    ∙ wrap_finds (λ vs. any_data (sequence (trees_in (items_of vs)))) _ _ (spot_of c.read_items.new.walk) (rw (c.requires.shape, (same_spot (spot_of c.step.new.self) (after (spot_of c.args.walk.now)) c.step.ensures.place c.step.ensures.left)) at (c.in-Ok-read_items.ensures.gives fuel (length c.args.self.now.events.now) (omega (arith, lt, some, left)) (omega (arith, c.step.ensures.place)))))
+    (gives_ending_at data_of (spot_of c.read_items.new.walk) (spot_of c.read_items.new.walk) c.any_list.result (Ok (any_data (sequence (trees_in (items_of (map data_of c.in-Ok-read_items.items.items)))))) refl c.any_list.ensures)
+
+pub read_any-returns-in-Err-read_items-clause-gives : goal.read_any-returns-in-Err-read_items-clause-gives
+read_any-returns-in-Err-read_items-clause-gives t c = λ fuel lt fault.
+    let none : untaken_name (is_some (around_of c.args.taken)) (doc_event_of c.in-Some.field-0.now.0) ≡ None = ap (λ b. untaken_name b (doc_event_of c.in-Some.field-0.now.0)) (sym c.is_taken.ensures) ∙ sym c.untaken_name.ensures ∙ ap option_copied c.in_default-untaken_name.is in
+    let flat : reach c.args.self.now.schema.now (shape_of c.args.shape.now) ≡ 0 = ap (reach c.args.self.now.schema.now) c.requires.shape in
+    let some : 0 < c.args.nest = omega (arith, c.if-nest-eq0.false) in
+    let left = c.step.ensures.left in
+    any_list_step (source_of c.args.self.now) (reader_of fuel c.args.self.now) (way_of c.args.path.now) (shape_of c.args.shape.now) c.args.nest (around_of c.args.taken) (spot_of c.args.walk.now) _ c.in-SequenceStart.field-0.tag _ c.requires.shape c.in-Some.ensures.found (ap doc_event_of c.in-SequenceStart.is) none some
+    ∙ wrap_fails (λ vs. any_data (sequence (trees_in (items_of vs)))) _ _ (rw (c.requires.shape, (same_spot (spot_of c.step.new.self) (after (spot_of c.args.walk.now)) c.step.ensures.place c.step.ensures.left)) at (c.in-Err-read_items.ensures.gives fuel (length c.args.self.now.events.now) (omega (arith, lt, some, left)) (omega (arith, c.step.ensures.place)) fault))
+
+pub read_any-returns-in-Ok-read_pairs-clause-gives : goal.read_any-returns-in-Ok-read_pairs-clause-gives
+read_any-returns-in-Ok-read_pairs-clause-gives t c = λ fuel lt.
+    let none : untaken_name (is_some (around_of c.args.taken)) (doc_event_of c.in-Some.field-0.now.0) ≡ None = ap (λ b. untaken_name b (doc_event_of c.in-Some.field-0.now.0)) (sym c.is_taken.ensures) ∙ sym c.untaken_name.ensures ∙ ap option_copied c.in_default-untaken_name.is in
+    let flat : reach c.args.self.now.schema.now (shape_of c.args.shape.now) ≡ 0 = ap (reach c.args.self.now.schema.now) c.requires.shape in
+    let seen_as : data_of (AnyValue (value.Mapping c.in-Ok-read_pairs.pairs)) ≡ any_data (tree.mapping (pairs_of c.in-Ok-read_pairs.pairs)) = search (rules, the_lemmas) in
+    let some : 0 < c.args.nest = omega (arith, c.if-nest-eq0-2.false) in
+    let left = c.step-in-MappingStart.ensures.left in
+    any_mapping_step (source_of c.args.self.now) (reader_of fuel c.args.self.now) (way_of c.args.path.now) (shape_of c.args.shape.now) c.args.nest (around_of c.args.taken) (spot_of c.args.walk.now) _ c.in-MappingStart.field-0.tag _ c.requires.shape c.in-Some.ensures.found (ap doc_event_of c.in-MappingStart.is) none some
+    ∙ wrap_onto_finds (λ vs. pairs_in (entries_of vs)) (λ ps. any_data (tree.mapping ps)) _ _ _ (rw (same_spot (spot_of c.step-in-MappingStart.new.self) (after (spot_of c.args.walk.now)) c.step-in-MappingStart.ensures.place c.step-in-MappingStart.ensures.left) at (c.in-Ok-read_pairs.ensures.gives fuel (length c.args.self.now.events.now) (omega (arith, lt, some, left)) (omega (arith, c.step-in-MappingStart.ensures.place))))
+    ∙ ap (λ v. Ok (v, spot_of c.read_pairs.new.walk)) (sym seen_as)
+
+pub read_any-returns-in-Err-read_pairs-clause-gives : goal.read_any-returns-in-Err-read_pairs-clause-gives
+read_any-returns-in-Err-read_pairs-clause-gives t c = λ fuel lt fault.
+    let none : untaken_name (is_some (around_of c.args.taken)) (doc_event_of c.in-Some.field-0.now.0) ≡ None = ap (λ b. untaken_name b (doc_event_of c.in-Some.field-0.now.0)) (sym c.is_taken.ensures) ∙ sym c.untaken_name.ensures ∙ ap option_copied c.in_default-untaken_name.is in
+    let flat : reach c.args.self.now.schema.now (shape_of c.args.shape.now) ≡ 0 = ap (reach c.args.self.now.schema.now) c.requires.shape in
+    let some : 0 < c.args.nest = omega (arith, c.if-nest-eq0-2.false) in
+    let left = c.step-in-MappingStart.ensures.left in
+    any_mapping_step (source_of c.args.self.now) (reader_of fuel c.args.self.now) (way_of c.args.path.now) (shape_of c.args.shape.now) c.args.nest (around_of c.args.taken) (spot_of c.args.walk.now) _ c.in-MappingStart.field-0.tag _ c.requires.shape c.in-Some.ensures.found (ap doc_event_of c.in-MappingStart.is) none some
+    ∙ wrap_onto_fails (λ vs. pairs_in (entries_of vs)) (λ ps. any_data (tree.mapping ps)) _ _ (rw (same_spot (spot_of c.step-in-MappingStart.new.self) (after (spot_of c.args.walk.now)) c.step-in-MappingStart.ensures.place c.step-in-MappingStart.ensures.left) at (c.in-Err-read_pairs.ensures.gives fuel (length c.args.self.now.events.now) (omega (arith, lt, some, left)) (omega (arith, c.step-in-MappingStart.ensures.place)) fault))
+
+pub read_any-returns-in_default-event : goal.read_any-returns-in_default-event
+read_any-returns-in_default-event t c =
+    let none : untaken_name (is_some (around_of c.args.taken)) (doc_event_of c.in-Some.field-0.now.0) ≡ None = ap (λ b. untaken_name b (doc_event_of c.in-Some.field-0.now.0)) (sym c.is_taken.ensures) ∙ sym c.untaken_name.ensures ∙ ap option_copied c.in_default-untaken_name.is in
+    let flat : reach c.args.self.now.schema.now (shape_of c.args.shape.now) ≡ 0 = ap (reach c.args.self.now.schema.now) c.requires.shape in
+    record {
+      gives = λ fuel lt. rw (any_plain_step (source_of c.args.self.now) (reader_of fuel c.args.self.now) (way_of c.args.path.now) (shape_of c.args.shape.now) c.args.nest (around_of c.args.taken) (spot_of c.args.walk.now) _ _ c.requires.shape c.in-Some.ensures.found none) (c.read_simple.ensures.gives fuel _ lt);
+      moves = c.read_simple.ensures.moves;
+      cost = c.read_simple.ensures.cost;
+    }
+
+pub read_enum-returns-then-is_filled_scalar-clause-gives : goal.read_enum-returns-then-is_filled_scalar-clause-gives
+read_enum-returns-then-is_filled_scalar-clause-gives t c = λ fuel lt.
+    rw (enum_taken (source_of c.args.self.now) (reader_of fuel c.args.self.now) (way_of c.args.path.now) (shape_of c.args.shape.now) c.args.nest (around_of c.args.taken) (spot_of c.args.walk.now) c.args.name.now (variants_of c.args.variants.now) (plain_around c.in-Some-taken.around.now) _ _ c.requires.1.1.0 (ap around_of c.in-Some-taken.is) c.in-Some.ensures.found (sym c.is_filled_scalar.ensures ∙ c.if-is_filled_scalar.true)) (c.read_simple.ensures.gives fuel _ lt)
+
+pub read_enum-returns-in_default-untaken_name-clause-gives : goal.read_enum-returns-in_default-untaken_name-clause-gives
+read_enum-returns-in_default-untaken_name-clause-gives t c = λ fuel lt.
+    rw (enum_plain (source_of c.args.self.now) (reader_of fuel c.args.self.now) (way_of c.args.path.now) (shape_of c.args.shape.now) c.args.nest (around_of c.args.taken) (spot_of c.args.walk.now) c.args.name.now (variants_of c.args.variants.now) _ _ c.requires.1.1.0 (ap around_of c.in_default-taken.is) c.in-Some.ensures.found (sym c.untaken_name.ensures ∙ ap option_copied c.in_default-untaken_name.is)) (c.read_simple-in_default-untaken_name.ensures.gives fuel _ lt)
+
+pub read_enum-read_content-requires : goal.read_enum-read_content-requires
+read_enum-read_content-requires t c =
+    let tag : untaken_name false (doc_event_of c.in-Some.field-0.now.0) ≡ Some c.in-Some-untaken_name.tag.now = sym c.untaken_name.ensures ∙ ap option_copied c.in-Some-untaken_name.is in
+    let found : variant_named (variants_of c.args.variants.now) c.in-Some-untaken_name.tag.now ≡ Some (c.in-Some-variant_named.place, content_of c.in-Some-variant_named.content.now) = sym c.variant_named.ensures ∙ ap variant_view c.in-Some-variant_named.is in
+    let left : untaken_reach (is_some (around_of c.args.taken)) ≡ 4100 = ap (λ o. untaken_reach (is_some (around_of o))) c.in_default-taken.is in
+    let flat : reach c.args.self.now.schema.now (shape_of c.args.shape.now) ≡ 0 = ap (reach c.args.self.now.schema.now) c.requires.1.1.0 in (
+      omega (arith, left, flat),
+      (
+        sym c.in-Some.ensures.found,
+        (
+          tag,
+          (
+            c.in-Some.ensures.within,
+            (
+              content_all (λ id. id < length c.args.self.now.schema.now) (variants_of c.args.variants.now) c.in-Some-untaken_name.tag.now _ found (rw c.requires.1.1.0 at c.requires.1.1.1.0),
+              c.requires.1.1.1.1,
+            ),
+          ),
+        ),
+      ),
+    )
+
+pub read_enum-returns-in_ok-new-in-Ok-clause-gives : goal.read_enum-returns-in_ok-new-in-Ok-clause-gives
+read_enum-returns-in_ok-new-in-Ok-clause-gives t c = λ fuel lt.
+    let tag : untaken_name false (doc_event_of c.in-Some.field-0.now.0) ≡ Some c.in-Some-untaken_name.tag.now = sym c.untaken_name.ensures ∙ ap option_copied c.in-Some-untaken_name.is in
+    let found : variant_named (variants_of c.args.variants.now) c.in-Some-untaken_name.tag.now ≡ Some (c.in-Some-variant_named.place, content_of c.in-Some-variant_named.content.now) = sym c.variant_named.ensures ∙ ap variant_view c.in-Some-variant_named.is in
+    let left : untaken_reach (is_some (around_of c.args.taken)) ≡ 4100 = ap (λ o. untaken_reach (is_some (around_of o))) c.in_default-taken.is in
+    let flat : reach c.args.self.now.schema.now (shape_of c.args.shape.now) ≡ 0 = ap (reach c.args.self.now.schema.now) c.requires.1.1.0 in
+    let seen_as : data_of (Variant c.in-Some-variant_named.place c.in_ok-new-in-Ok.field-0) ≡ variant_data c.in-Some-variant_named.place (data_of c.in_ok-new-in-Ok.field-0.value) = search (rules, the_lemmas) in
+    enum_content (source_of c.args.self.now) (reader_of fuel c.args.self.now) (way_of c.args.path.now) (shape_of c.args.shape.now) c.args.nest (around_of c.args.taken) (spot_of c.args.walk.now) c.args.name.now (variants_of c.args.variants.now) _ _ c.in-Some-untaken_name.tag.now c.in-Some-variant_named.place (content_of c.in-Some-variant_named.content.now) c.requires.1.1.0 (ap around_of c.in_default-taken.is) c.in-Some.ensures.found tag found
+    ∙ wrap_finds (variant_data c.in-Some-variant_named.place) _ _ _ (c.in-Ok.ensures.gives fuel (omega (arith, lt, left, flat)))
+    ∙ ap (λ v. Ok (v, spot_of c.read_content.new.walk)) (ap (variant_data c.in-Some-variant_named.place) (ap data_of (sym c.in_ok-new-in-Ok.ensures.ok)) ∙ sym seen_as)
+
+pub read_enum-returns-in-Err-clause-gives : goal.read_enum-returns-in-Err-clause-gives
+read_enum-returns-in-Err-clause-gives t c = λ fuel lt fault.
+    let tag : untaken_name false (doc_event_of c.in-Some.field-0.now.0) ≡ Some c.in-Some-untaken_name.tag.now = sym c.untaken_name.ensures ∙ ap option_copied c.in-Some-untaken_name.is in
+    let found : variant_named (variants_of c.args.variants.now) c.in-Some-untaken_name.tag.now ≡ Some (c.in-Some-variant_named.place, content_of c.in-Some-variant_named.content.now) = sym c.variant_named.ensures ∙ ap variant_view c.in-Some-variant_named.is in
+    let left : untaken_reach (is_some (around_of c.args.taken)) ≡ 4100 = ap (λ o. untaken_reach (is_some (around_of o))) c.in_default-taken.is in
+    let flat : reach c.args.self.now.schema.now (shape_of c.args.shape.now) ≡ 0 = ap (reach c.args.self.now.schema.now) c.requires.1.1.0 in
+    enum_content (source_of c.args.self.now) (reader_of fuel c.args.self.now) (way_of c.args.path.now) (shape_of c.args.shape.now) c.args.nest (around_of c.args.taken) (spot_of c.args.walk.now) c.args.name.now (variants_of c.args.variants.now) _ _ c.in-Some-untaken_name.tag.now c.in-Some-variant_named.place (content_of c.in-Some-variant_named.content.now) c.requires.1.1.0 (ap around_of c.in_default-taken.is) c.in-Some.ensures.found tag found
+    ∙ wrap_fails (variant_data c.in-Some-variant_named.place) _ _ (c.in-Err.ensures.gives fuel (omega (arith, lt, left, flat)) fault)
+
+pub read_content-returns-in-Unit-clause-gives : goal.read_content-returns-in-Unit-clause-gives
+read_content-returns-in-Unit-clause-gives t c = λ fuel lt.
+    rw c.in-Unit.is (c.read_node.ensures.gives fuel (omega (arith, lt)))
+
+pub read_content-returns-in-Newtype-clause-gives : goal.read_content-returns-in-Newtype-clause-gives
+read_content-returns-in-Newtype-clause-gives t c = λ fuel lt.
+    rw (c.in-Newtype.is, c.shape.ensures.found) (c.read_node-in-Newtype.ensures.gives fuel (omega (arith, lt, c.shape.ensures.small)))
+
+pub read_content-returns-in-Ok-clause-gives : goal.read_content-returns-in-Ok-clause-gives
+read_content-returns-in-Ok-clause-gives t c = λ fuel lt.
+    rw (c.in-Tuple.is, ← c.deref.ensures.value) (node_placed (source_of c.args.self.now) (way_of c.args.path.now) (tuple_variant_shape c.args.around.now.name.now c.args.around.now.variant.now (ids_of c.deref.result.now)) c.args.nest (Some (plain_around c.args.around.now)) (spot_of c.args.walk.now) fuel _ _ (omega (arith, lt)) c.requires.here refl
+    ∙ ap (place true c.args.mark (way_of c.args.path.now)) (c.in-Ok.ensures.gives (fuel - 1) (omega (arith, lt))))
+
+pub read_content-returns-in-Err-clause-gives : goal.read_content-returns-in-Err-clause-gives
+read_content-returns-in-Err-clause-gives t c = λ fuel lt fault.
+    let told = c.at_place.ensures fault in
+    rw (c.in-Tuple.is, ← c.deref.ensures.value) (node_placed (source_of c.args.self.now) (way_of c.args.path.now) (tuple_variant_shape c.args.around.now.name.now c.args.around.now.variant.now (ids_of c.deref.result.now)) c.args.nest (Some (plain_around c.args.around.now)) (spot_of c.args.walk.now) fuel _ _ (omega (arith, lt)) c.requires.here refl
+    ∙ ap (place true c.args.mark (way_of c.args.path.now)) (c.in-Err.ensures.gives (fuel - 1) (omega (arith, lt)) (sym (filled_memory _ _) ∙ ap is_memory (sym told) ∙ fault))
+    ∙ ap Err (sym told))
+
+pub read_content-returns-in-Ok-read_variant_fields-clause-gives : goal.read_content-returns-in-Ok-read_variant_fields-clause-gives
+read_content-returns-in-Ok-read_variant_fields-clause-gives t c = λ fuel lt.
+    rw (c.in-Struct.is, ← c.deref-in-Struct.ensures.value) (node_placed (source_of c.args.self.now) (way_of c.args.path.now) (struct_variant_shape false c.args.around.now.name.now c.args.around.now.variant.now (fields_of c.deref-in-Struct.result.now)) c.args.nest (Some (plain_around c.args.around.now)) (spot_of c.args.walk.now) fuel _ _ (omega (arith, lt)) c.requires.here refl
+    ∙ ap (place true c.args.mark (way_of c.args.path.now)) (c.in-Ok-read_variant_fields.ensures.gives (fuel - 1) (omega (arith, lt))))
+
+pub read_content-returns-in-Err-read_variant_fields-clause-gives : goal.read_content-returns-in-Err-read_variant_fields-clause-gives
+read_content-returns-in-Err-read_variant_fields-clause-gives t c = λ fuel lt fault.
+    let told = c.at_place-in-Err-read_variant_fields.ensures fault in
+    rw (c.in-Struct.is, ← c.deref-in-Struct.ensures.value) (node_placed (source_of c.args.self.now) (way_of c.args.path.now) (struct_variant_shape false c.args.around.now.name.now c.args.around.now.variant.now (fields_of c.deref-in-Struct.result.now)) c.args.nest (Some (plain_around c.args.around.now)) (spot_of c.args.walk.now) fuel _ _ (omega (arith, lt)) c.requires.here refl
+    ∙ ap (place true c.args.mark (way_of c.args.path.now)) (c.in-Err-read_variant_fields.ensures.gives (fuel - 1) (omega (arith, lt)) (sym (filled_memory _ _) ∙ ap is_memory (sym told) ∙ fault))
+    ∙ ap Err (sym told))
+
+pub read_content-returns-in-Ok-read_variant_fields-2-clause-gives : goal.read_content-returns-in-Ok-read_variant_fields-2-clause-gives
+read_content-returns-in-Ok-read_variant_fields-2-clause-gives t c = λ fuel lt.
+    rw (c.in-StrictStruct.is, ← c.deref-in-StrictStruct.ensures.value) (node_placed (source_of c.args.self.now) (way_of c.args.path.now) (struct_variant_shape true c.args.around.now.name.now c.args.around.now.variant.now (fields_of c.deref-in-StrictStruct.result.now)) c.args.nest (Some (plain_around c.args.around.now)) (spot_of c.args.walk.now) fuel _ _ (omega (arith, lt)) c.requires.here refl
+    ∙ ap (place true c.args.mark (way_of c.args.path.now)) (c.in-Ok-read_variant_fields-2.ensures.gives (fuel - 1) (omega (arith, lt))))
+
+pub read_content-returns-in-Err-read_variant_fields-2-clause-gives : goal.read_content-returns-in-Err-read_variant_fields-2-clause-gives
+read_content-returns-in-Err-read_variant_fields-2-clause-gives t c = λ fuel lt fault.
+    let told = c.at_place-in-Err-read_variant_fields-2.ensures fault in
+    rw (c.in-StrictStruct.is, ← c.deref-in-StrictStruct.ensures.value) (node_placed (source_of c.args.self.now) (way_of c.args.path.now) (struct_variant_shape true c.args.around.now.name.now c.args.around.now.variant.now (fields_of c.deref-in-StrictStruct.result.now)) c.args.nest (Some (plain_around c.args.around.now)) (spot_of c.args.walk.now) fuel _ _ (omega (arith, lt)) c.requires.here refl
+    ∙ ap (place true c.args.mark (way_of c.args.path.now)) (c.in-Err-read_variant_fields-2.ensures.gives (fuel - 1) (omega (arith, lt)) (sym (filled_memory _ _) ∙ ap is_memory (sym told) ∙ fault))
+    ∙ ap Err (sym told))
+
+pub read_variant_row-returns-in-Ok-clause-gives : goal.read_variant_row-returns-in-Ok-clause-gives
+read_variant_row-returns-in-Ok-clause-gives t c = λ fuel lt.
+    let some : 0 < c.args.nest = omega (arith, c.if-nest-eq0.false) in
+    let left = c.step-2.ensures.left in
+    rw (step_rows (source_of c.args.self.now) (reader_of fuel c.args.self.now) (way_of c.args.path.now) c.args.nest (spot_of c.args.walk.now) (tuple_variant_shape c.args.around.now.name.now c.args.around.now.variant.now (ids_of c.args.items.now)) (tuple_variant_with_text c.args.around.now.name.now c.args.around.now.variant.now (length (ids_of c.args.items.now))) (ids_of c.args.items.now) (Some (plain_around c.args.around.now)) _ _ refl (sym (c.requires.here ∙ ap (λ e. Some (doc_event_of e, c.args.mark)) c.in-SequenceStart.is)) some) (gives_finish data_of (row_data (tuple_variant_with_text c.args.around.now.name.now c.args.around.now.variant.now (length (ids_of c.args.items.now))) (length (ids_of c.args.items.now))) c.finish.result _ _ (spot_of c.read_elements.new.walk) (rw (same_spot (spot_of c.step-2.new.self) (after (spot_of c.args.walk.now)) c.step-2.ensures.place c.step-2.ensures.left) at (c.in-Ok.ensures.gives fuel (length c.args.self.now.events.now) (omega (arith, lt, some, left)) (omega (arith, c.step-2.ensures.place)))) c.finish.ensures)
+
+pub read_variant_row-returns-in-Err-clause-gives : goal.read_variant_row-returns-in-Err-clause-gives
+read_variant_row-returns-in-Err-clause-gives t c = λ fuel lt fault.
+    let some : 0 < c.args.nest = omega (arith, c.if-nest-eq0.false) in
+    let left = c.step-2.ensures.left in
+    step_rows (source_of c.args.self.now) (reader_of fuel c.args.self.now) (way_of c.args.path.now) c.args.nest (spot_of c.args.walk.now) (tuple_variant_shape c.args.around.now.name.now c.args.around.now.variant.now (ids_of c.args.items.now)) (tuple_variant_with_text c.args.around.now.name.now c.args.around.now.variant.now (length (ids_of c.args.items.now))) (ids_of c.args.items.now) (Some (plain_around c.args.around.now)) _ _ refl (sym (c.requires.here ∙ ap (λ e. Some (doc_event_of e, c.args.mark)) c.in-SequenceStart.is)) some
+    ∙ finish_fails (row_data (tuple_variant_with_text c.args.around.now.name.now c.args.around.now.variant.now (length (ids_of c.args.items.now))) (length (ids_of c.args.items.now))) _ _ (rw (same_spot (spot_of c.step-2.new.self) (after (spot_of c.args.walk.now)) c.step-2.ensures.place c.step-2.ensures.left) at (c.in-Err.ensures.gives fuel (length c.args.self.now.events.now) (omega (arith, lt, some, left)) (omega (arith, c.step-2.ensures.place)) fault))
+
+pub read_variant_fields-returns-in_default : goal.read_variant_fields-returns-in_default
+read_variant_fields-returns-in_default t c =
+    let bare : is_bare (doc_event_of c.args.event.now) ≡ false = sym c.is_bare.ensures ∙ c.if-is_bare.false in
+    record {
+      gives = λ fuel lt fault.
+          step_event (source_of c.args.self.now) (reader_of fuel c.args.self.now) (way_of c.args.path.now) (struct_variant_shape c.args.strict c.args.around.now.name.now c.args.around.now.variant.now (fields_of c.args.fields.now)) c.args.nest (Some (plain_around c.args.around.now)) (spot_of c.args.walk.now) (doc_event_of c.args.event.now) c.args.mark (sym c.requires.here) (fields_as_is (struct_variant_shape c.args.strict c.args.around.now.name.now c.args.around.now.variant.now (fields_of c.args.fields.now)) (c.args.strict, (fields_of c.args.fields.now)) true (doc_event_of c.args.event.now) refl bare)
+          ∙ other_in_fields (source_of c.args.self.now) (reader_of fuel c.args.self.now) (way_of c.args.path.now) c.args.nest (plain_around c.args.around.now) (spot_of c.args.walk.now) c.args.strict c.args.around.now.name.now c.args.around.now.variant.now (fields_of c.args.fields.now) (doc_event_of c.args.event.now) c.args.mark c.args.around.now.variant.now c.requires.tagged (no_mapping_starts c.args.event.now c.in_default.not-MappingStart c.args.strict c.args.around.now.name.now c.args.around.now.variant.now (fields_of c.args.fields.now))
+          ∙ ap (ending (after (spot_of c.args.walk.now))) (c.found_in_fields.ensures c.args.strict (fields_of c.args.fields.now) fault);
+      moves = tt;
+      cost = omega (arith, c.step-in_default.ensures.steps, c.step-in_default.ensures.place, c.step-in_default.ensures.left, c.requires.within);
+    }
+
+pub read_variant_fields-returns-in-Ok-clause-gives : goal.read_variant_fields-returns-in-Ok-clause-gives
+read_variant_fields-returns-in-Ok-clause-gives t c = λ fuel lt.
+    let some : 0 < c.args.nest = omega (arith, c.if-nest-eq0.false) in
+    let left = c.step-2.ensures.left in
+    rw (step_struct (source_of c.args.self.now) (reader_of fuel c.args.self.now) (way_of c.args.path.now) (struct_variant_shape c.args.strict c.args.around.now.name.now c.args.around.now.variant.now (fields_of c.args.fields.now)) c.args.strict (fields_of c.args.fields.now) c.args.nest (Some (plain_around c.args.around.now)) (spot_of c.args.walk.now) _ _ refl (sym (c.requires.here ∙ ap (λ e. Some (doc_event_of e, c.args.mark)) c.in-MappingStart.is)) some)
+    (gives_finish data_of (struct_of c.args.self.now.schema.now (fields_of c.args.fields.now)) _ _ _ _
+    (rw (c.in_ok-index.ensures, (same_spot (spot_of c.step-2.new.self) (after (spot_of c.args.walk.now)) c.step-2.ensures.place c.step-2.ensures.left)) at (c.in-Ok.ensures.gives fuel (length c.args.self.now.events.now) (omega (arith, lt, some, left)) (omega (arith, c.step-2.ensures.place)))) c.finish_struct.ensures)
+
+pub read_variant_fields-returns-clause-gives : goal.read_variant_fields-returns-clause-gives
+read_variant_fields-returns-clause-gives t c = λ fuel lt fault.
+    let some : 0 < c.args.nest = omega (arith, c.if-nest-eq0.false) in
+    let left = c.step-2.ensures.left in
+    step_struct (source_of c.args.self.now) (reader_of fuel c.args.self.now) (way_of c.args.path.now) (struct_variant_shape c.args.strict c.args.around.now.name.now c.args.around.now.variant.now (fields_of c.args.fields.now)) c.args.strict (fields_of c.args.fields.now) c.args.nest (Some (plain_around c.args.around.now)) (spot_of c.args.walk.now) _ _ refl (sym (c.requires.here ∙ ap (λ e. Some (doc_event_of e, c.args.mark)) c.in-MappingStart.is)) some
+    ∙ finish_fails (struct_of c.args.self.now.schema.now (fields_of c.args.fields.now)) _ _ (rw (c.in_ok-index.ensures, (same_spot (spot_of c.step-2.new.self) (after (spot_of c.args.walk.now)) c.step-2.ensures.place c.step-2.ensures.left)) at (c.in-Err.ensures.gives fuel (length c.args.self.now.events.now) (omega (arith, lt, some, left)) (omega (arith, c.step-2.ensures.place)) fault))
+
+pub read_pairs-loop-event-init : goal.read_pairs-loop-event-init
+read_pairs-loop-event-init t c = (
+  [],
+  record {
+    same = sym c.new-pairs.ensures;
+    within = c.requires.within;
+    turned = omega arith;
+    left = omega arith;
+    counted = omega arith;
+    cost = omega arith;
+    rest = λ fuel n lt.
+        let none : n + 0 ≡ n = omega arith in
+        ap (λ (m : ℕ). mapping_parts (source_of c.args.self.now) (any_entry_at (source_of c.args.self.now) (reader_of fuel c.args.self.now) (way_of c.args.path.now) c.args.nest) m [] (spot_of c.args.walk.now)) none;
+  },
+)
+
+pub read_pairs-returns-in_default-clause-gives : goal.read_pairs-returns-in_default-clause-gives
+read_pairs-returns-in_default-clause-gives t c = λ fuel turns lt big fault.
+    let l = c.loop-event in
+    let vs = l.invariant.0 in
+    let v = l.invariant.1 in
+    let n = turns - length vs - 1 in
+    let split : turns ≡ suc n + length vs = omega (arith, v.turned, v.within) in
+    ap (λ (m : ℕ). wrap (λ vs. pairs_in (entries_of vs)) (mapping_parts (source_of c.args.self.now) (any_entry_at (source_of c.args.self.now) (reader_of fuel c.args.self.now) (way_of c.args.path.now) c.args.nest) m [] (spot_of c.args.walk.now))) split
+    ∙ ap (wrap (λ vs. pairs_in (entries_of vs))) (v.rest fuel (suc n) lt)
+    ∙ wrap_fails (λ vs. pairs_in (entries_of vs)) _ _ (each_ended is_mapping_end (any_entry_at (source_of c.args.self.now) (reader_of fuel c.args.self.now) (way_of c.args.path.now) c.args.nest) (seen c.args.self.now.events.now) n vs (spot_of l.walk) (sym c.in_default.ensures.found))
+    ∙ ap Err (sym (c.ended.ensures fault))
+
+pub read_pairs-returns-in-MappingEnd-clause-gives : goal.read_pairs-returns-in-MappingEnd-clause-gives
+read_pairs-returns-in-MappingEnd-clause-gives t c = λ fuel turns lt big.
+    let l = c.loop-event in
+    let vs = l.invariant.0 in
+    let v = l.invariant.1 in
+    let n = turns - length vs - 1 in
+    let split : turns ≡ suc n + length vs = omega (arith, v.turned, v.within) in
+    ap (λ (m : ℕ). wrap (λ vs. pairs_in (entries_of vs)) (mapping_parts (source_of c.args.self.now) (any_entry_at (source_of c.args.self.now) (reader_of fuel c.args.self.now) (way_of c.args.path.now) c.args.nest) m [] (spot_of c.args.walk.now))) split
+    ∙ ap (wrap (λ vs. pairs_in (entries_of vs))) (v.rest fuel (suc n) lt)
+    ∙ wrap_finds (λ vs. pairs_in (entries_of vs)) _ _ _ (each_end is_mapping_end (any_entry_at (source_of c.args.self.now) (reader_of fuel c.args.self.now) (way_of c.args.path.now) c.args.nest) (seen c.args.self.now.events.now) n vs (spot_of l.walk) _ (sym c.in-Some.ensures.found) (ap (λ e. is_mapping_end (doc_event_of e)) c.in-MappingEnd.is))
+    ∙ ap (λ ps. Ok (ps, after (spot_of l.walk))) v.same
+    ∙ ap (λ (s : Spot). Ok (pairs_of l.pairs, s)) (sym (same_spot (spot_of c.step.new.self) (after (spot_of l.walk)) c.step.ensures.place c.step.ensures.left))
+
+pub read_pairs-returns-in-Err : goal.read_pairs-returns-in-Err
+read_pairs-returns-in-Err t c =
+    let l = c.loop-event in
+    let v = l.invariant.1 in
+    let vs = l.invariant.0 in
+    let flat : reach c.args.self.now.schema.now (shape_of c.args.any.now) ≡ 0 = ap (reach c.args.self.now.schema.now) c.requires.shape in
+    record {
+      gives = λ fuel turns lt big fault.
+          let n = turns - length vs - 1 in
+          let split : turns ≡ suc n + length vs = omega (arith, v.turned, v.within, c.in-Some.ensures.within) in
+          ap (λ (m : ℕ). wrap (λ vs. pairs_in (entries_of vs)) (mapping_parts (source_of c.args.self.now) (any_entry_at (source_of c.args.self.now) (reader_of fuel c.args.self.now) (way_of c.args.path.now) c.args.nest) m [] (spot_of c.args.walk.now))) split
+          ∙ ap (wrap (λ vs. pairs_in (entries_of vs))) (v.rest fuel (suc n) lt)
+          ∙ wrap_fails (λ vs. pairs_in (entries_of vs)) _ _ (each_fails is_mapping_end (any_entry_at (source_of c.args.self.now) (reader_of fuel c.args.self.now) (way_of c.args.path.now) c.args.nest) (seen c.args.self.now.events.now) n vs (spot_of l.walk) _ _ (sym c.in-Some.ensures.found) (not_mapping_end _ c.in_default-event.not-MappingEnd)
+          (any_no_key (source_of c.args.self.now) (reader_of fuel c.args.self.now) (way_of c.args.path.now) c.args.nest vs (spot_of l.walk) _ (rw c.requires.shape at (c.in-Err.ensures.gives fuel (omega (arith, v.left, lt, flat)) fault))));
+      moves = tt;
+      cost = omega (arith, v.cost, c.in-Err.ensures.cost);
+    }
+
+pub read_pairs-returns-then-has_key : goal.read_pairs-returns-then-has_key
+read_pairs-returns-then-has_key t c =
+    let l = c.loop-event in
+    let v = l.invariant.1 in
+    let vs = l.invariant.0 in
+    let flat : reach c.args.self.now.schema.now (shape_of c.args.any.now) ≡ 0 = ap (reach c.args.self.now.schema.now) c.requires.shape in
+    record {
+      gives = λ fuel turns lt big fault.
+          let n = turns - length vs - 1 in
+          let split : turns ≡ suc n + length vs = omega (arith, v.turned, v.within, c.in-Some.ensures.within) in
+          ap (λ (m : ℕ). wrap (λ vs. pairs_in (entries_of vs)) (mapping_parts (source_of c.args.self.now) (any_entry_at (source_of c.args.self.now) (reader_of fuel c.args.self.now) (way_of c.args.path.now) c.args.nest) m [] (spot_of c.args.walk.now))) split
+          ∙ ap (wrap (λ vs. pairs_in (entries_of vs))) (v.rest fuel (suc n) lt)
+          ∙ wrap_fails (λ vs. pairs_in (entries_of vs)) _ _ (each_fails is_mapping_end (any_entry_at (source_of c.args.self.now) (reader_of fuel c.args.self.now) (way_of c.args.path.now) c.args.nest) (seen c.args.self.now.events.now) n vs (spot_of l.walk) _ _ (sym c.in-Some.ensures.found) (not_mapping_end _ c.in_default-event.not-MappingEnd)
+          (any_repeated (source_of c.args.self.now) (reader_of fuel c.args.self.now) (way_of c.args.path.now) c.args.nest vs (spot_of l.walk) _ _ _ (rw c.requires.shape at (c.in-Ok.ensures.gives fuel (omega (arith, v.left, lt, flat))))
+          (key_again vs (data_of c.in-Ok.key) (pairs_of l.pairs) v.same (rw c.value_in-key.ensures at (sym c.has_key.ensures ∙ c.if-has_key.true)) ∙ (rw (← c.value_in-key.ensures) (ap Err (sym (c.duplicate_entry.ensures fault)))))));
+      moves = tt;
+      cost = omega (arith, v.cost, c.in-Ok.ensures.moves);
+    }
+
+pub read_pairs-returns-in-Err-read_next : goal.read_pairs-returns-in-Err-read_next
+read_pairs-returns-in-Err-read_next t c =
+    let l = c.loop-event in
+    let v = l.invariant.1 in
+    let vs = l.invariant.0 in
+    let flat : reach c.args.self.now.schema.now (shape_of c.args.any.now) ≡ 0 = ap (reach c.args.self.now.schema.now) c.requires.shape in
+    let there : way_of c.value_path-inner.result ≡ value_at (way_of c.args.path.now) (seen c.args.self.now.events.now l.walk.place) = c.value_path-inner.ensures ∙ ap (value_at (way_of c.args.path.now)) c.in-Some.ensures.found in
+    let moves = c.in-Ok.ensures.moves in
+    let absent : has_key (tree_in (data_of c.in-Ok.key)) (pairs_of l.pairs) ≡ false = rw c.value_in-key.ensures at (sym c.has_key.ensures ∙ c.if-has_key.false) in
+    let new : new_key vs (data_of c.in-Ok.key) ≡ Ok (data_of c.in-Ok.key) = new_is_key vs (data_of c.in-Ok.key) (ap (has_key (tree_in (data_of c.in-Ok.key))) v.same ∙ absent) in
+    record {
+      gives = λ fuel turns lt big fault.
+          let n = turns - length vs - 1 in
+          let split : turns ≡ suc n + length vs = omega (arith, v.turned, v.within, c.in-Some.ensures.within) in
+          ap (λ (m : ℕ). wrap (λ vs. pairs_in (entries_of vs)) (mapping_parts (source_of c.args.self.now) (any_entry_at (source_of c.args.self.now) (reader_of fuel c.args.self.now) (way_of c.args.path.now) c.args.nest) m [] (spot_of c.args.walk.now))) split
+          ∙ ap (wrap (λ vs. pairs_in (entries_of vs))) (v.rest fuel (suc n) lt)
+          ∙ wrap_fails (λ vs. pairs_in (entries_of vs)) _ _ (each_fails is_mapping_end (any_entry_at (source_of c.args.self.now) (reader_of fuel c.args.self.now) (way_of c.args.path.now) c.args.nest) (seen c.args.self.now.events.now) n vs (spot_of l.walk) _ _ (sym c.in-Some.ensures.found) (not_mapping_end _ c.in_default-event.not-MappingEnd)
+          (any_no_value (source_of c.args.self.now) (reader_of fuel c.args.self.now) (way_of c.args.path.now) c.args.nest vs (spot_of l.walk) _ _ _ (rw c.requires.shape at (c.in-Ok.ensures.gives fuel (omega (arith, v.left, lt, flat)))) new
+          (rw (c.requires.shape, there) at (c.in-Err-read_next.ensures.gives fuel (omega (arith, v.left, lt, moves, flat)) fault))));
+      moves = tt;
+      cost = omega (arith, v.cost, moves, c.in-Err-read_next.ensures.cost);
+    }
+
+pub read_pairs-loop-event-preserved : goal.read_pairs-loop-event-preserved
+read_pairs-loop-event-preserved t c =
+    let l = c.loop-event in
+    let v = l.invariant.1 in
+    let vs = l.invariant.0 in
+    let flat : reach c.args.self.now.schema.now (shape_of c.args.any.now) ≡ 0 = ap (reach c.args.self.now.schema.now) c.requires.shape in
+    let there : way_of c.value_path-inner.result ≡ value_at (way_of c.args.path.now) (seen c.args.self.now.events.now l.walk.place) = c.value_path-inner.ensures ∙ ap (value_at (way_of c.args.path.now)) c.in-Some.ensures.found in
+    let moves = c.in-Ok.ensures.moves in
+    let moves' = c.in-Ok-read_next.ensures.moves in
+    let absent : has_key (tree_in (data_of c.in-Ok.key)) (pairs_of l.pairs) ≡ false = rw c.value_in-key.ensures at (sym c.has_key.ensures ∙ c.if-has_key.false) in
+    let new : new_key vs (data_of c.in-Ok.key) ≡ Ok (data_of c.in-Ok.key) = new_is_key vs (data_of c.in-Ok.key) (ap (has_key (tree_in (data_of c.in-Ok.key))) v.same ∙ absent) in
+    let k = data_of c.in-Ok.key in
+    let w = data_of c.in-Ok-read_next.value in
+    let longer : length (vs ++ (k, w) ∷ []) ≡ length vs + 1 = length-append vs ((k, w) ∷ []) in (
+      vs ++ (k, w) ∷ [],
+      record {
+        same = pairs_grow vs k w (pairs_of l.pairs) v.same absent ∙ sym (rw (c.value_in-key.ensures, c.value_in-value.ensures) at c.in_ok-put_pair.ensures.put);
+        within = omega (arith, moves');
+        turned = omega (arith, moves, moves', longer, v.turned);
+        left = omega (arith, moves, moves', v.left);
+        counted = omega (arith, moves, moves', v.counted);
+        cost = omega (arith, moves, moves', v.cost);
+        rest = λ fuel n lt.
+            let split : n + length (vs ++ (k, w) ∷ []) ≡ suc n + length vs = omega (arith, longer) in
+            ap (λ (m : ℕ). mapping_parts (source_of c.args.self.now) (any_entry_at (source_of c.args.self.now) (reader_of fuel c.args.self.now) (way_of c.args.path.now) c.args.nest) m [] (spot_of c.args.walk.now)) split
+            ∙ v.rest fuel (suc n) lt
+            ∙ each_more is_mapping_end (any_entry_at (source_of c.args.self.now) (reader_of fuel c.args.self.now) (way_of c.args.path.now) c.args.nest) (seen c.args.self.now.events.now) n vs _ (spot_of l.walk) _ _ (sym c.in-Some.ensures.found) (not_mapping_end _ c.in_default-event.not-MappingEnd)
+            (any_entry (source_of c.args.self.now) (reader_of fuel c.args.self.now) (way_of c.args.path.now) c.args.nest vs (spot_of l.walk) _ _ _ _ (rw c.requires.shape at (c.in-Ok.ensures.gives fuel (omega (arith, v.left, lt, flat)))) new
+            (rw (c.requires.shape, there) at (c.in-Ok-read_next.ensures.gives fuel (omega (arith, v.left, lt, moves, flat)))));
+      },
+    )

@@ -1,14 +1,17 @@
 -- How the walk ends, and what its loops keep.
-use Rattle.std.proofs.Common.{◌≡◌, ℕ, ◌+◌, ◌*◌, ◌-◌, ◌<◌, ◌≤◌, [], map, length}
+use Rattle.std.proofs.Common.{◌≡◌, ℕ, ◌+◌, ◌*◌, ◌-◌, ◌<◌, ◌≤◌, List, [], map, length}
 use Rattle.std.specs.Prelude.{drop}
-use Rattle.yaml_shape.specs.DataView.{data_of, entry_of}
+use Rattle.yaml_shape.specs.DataView.{data_of, entry_of, entries_of}
+use Rattle.yaml_shape.specs.PlainData.{PlainData}
 use Rattle.yaml_shape.specs.ShapeView.{shape_of, ids_of, fields_of}
+use Rattle.yaml_tree.specs.Valid.{pairs_of}
+use Rattle.yaml_read.specs.AnyData.{pairs_in}
 use Rattle.yaml_read.specs.Fields.{no_slots}
 use Rattle.std.specs.Option.{is_some}
 use Rattle.yaml_read.specs.Handing.{reach, untaken_reach}
 use Rattle.yaml_read.specs.Places.{way_of}
 use Rattle.yaml_read.specs.Rows.{row_of}
-use Rattle.yaml_read.specs.inner.Reader.{sequence_parts, mapping_parts, item_at, entry_at, row_at, field_at}
+use Rattle.yaml_read.specs.inner.Reader.{sequence_parts, mapping_parts, item_at, entry_at, any_entry_at, row_at, field_at}
 use Rattle.yaml_read.specs.inner.Walks.{around_of, source_of, spot_of, reader_of, potential, slots_of}
 use Rattle.yaml_read.proofs.de.source.Source.+read.Given as goal
 
@@ -126,3 +129,37 @@ invariant-read_fields-loop-event l = (turns : ℕ) × record {
 
 abbrev pub decreases-read_fields-loop-event : goal.decreases-read_fields-loop-event
 decreases-read_fields-loop-event l = length l.self.events.now - l.walk.place
+
+abbrev pub decreases-read_enum : goal.decreases-read_enum
+decreases-read_enum l = 100000 * (l.walk.now.left + l.nest) + (10 * untaken_reach (is_some (around_of l.taken)) + 8 * reach l.self.now.schema.now (shape_of l.shape.now) + 3)
+
+abbrev pub decreases-read_content : goal.decreases-read_content
+decreases-read_content l = 100000 * (l.walk.now.left + l.nest) + 32774
+
+abbrev pub decreases-read_variant_row : goal.decreases-read_variant_row
+decreases-read_variant_row l = 100000 * (l.walk.now.left + l.nest) + 1
+
+abbrev pub decreases-read_variant_fields : goal.decreases-read_variant_fields
+decreases-read_variant_fields l = 100000 * (l.walk.now.left + l.nest) + 1
+
+abbrev pub decreases-read_any : goal.decreases-read_any
+decreases-read_any l = 100000 * (l.walk.now.left + l.nest) + (10 * untaken_reach (is_some (around_of l.taken)) + 8 * reach l.self.now.schema.now (shape_of l.shape.now) + 3)
+
+abbrev pub decreases-read_pairs : goal.decreases-read_pairs
+decreases-read_pairs l = 100000 * (l.walk.now.left + l.nest) + 73780
+
+abbrev pub invariant-read_pairs-loop-event : goal.invariant-read_pairs-loop-event
+invariant-read_pairs-loop-event l = (vs : List (PlainData × PlainData)) × record {
+  same : pairs_in (entries_of vs) ≡ pairs_of l.pairs;
+  within : l.walk.place ≤ length l.self.events.now;
+  turned : length vs + l.fn.walk.place ≤ l.walk.place;
+  left : l.walk.left ≤ l.fn.walk.left;
+  counted : l.fn.walk.steps.count + l.walk.place ≤ l.walk.steps.count + l.fn.walk.place;
+  cost : l.walk.steps.count + potential (length l.self.events.now) l.walk ≤ l.fn.walk.steps.count + potential (length l.self.events.now) l.fn.walk;
+  rest : (fuel n : ℕ) → 8200 * (l.fn.walk.left + l.nest) + 8196 < fuel →
+      mapping_parts (source_of l.self) (any_entry_at (source_of l.self) (reader_of fuel l.self) (way_of l.path) l.nest) (n + length vs) [] (spot_of l.fn.walk)
+      ≡ mapping_parts (source_of l.self) (any_entry_at (source_of l.self) (reader_of fuel l.self) (way_of l.path) l.nest) n vs (spot_of l.walk);
+}
+
+abbrev pub decreases-read_pairs-loop-event : goal.decreases-read_pairs-loop-event
+decreases-read_pairs-loop-event l = length l.self.events.now - l.walk.place

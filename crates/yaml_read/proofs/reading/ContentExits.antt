@@ -1,0 +1,199 @@
+-- What a node's reading comes to under an enum, and under what its variants hold.
+use Rattle.std.proofs.Common.{◌≡◌, ℕ, ◌-◌, ◌<◌, Bool, true, false, List, [], Some, None, Option, Result, Ok, Err, refl, ap, ◌∙◌}
+use Rattle.std.specs.Option.{is_some, option_and_then}
+use Rattle.yaml_base.specs.Position.{Position}
+use Rattle.yaml_base.specs.declared.error.Cause.{Cause}
+use Rattle.yaml_base.specs.declared.error.Cause.TheVariants.{NestedEnum}
+use Rattle.yaml_shape.specs.DataView.{items_of, entries_of}
+use Rattle.yaml_shape.specs.PlainData.{PlainData, any_data, variant_data}
+use Rattle.yaml_shape.specs.PlainShape.{PlainShape, any_shape, enum_shape, PlainVariant, content_shape}
+use Rattle.yaml_shape.specs.PlainShape.{tuple_variant_shape, struct_variant_shape}
+use Rattle.yaml_tree.specs.Tree.{sequence, tagged}
+use Rattle.yaml_tree.specs.Tree as tree
+use Rattle.yaml_read.specs.AnyData.{tree_in, trees_in, pairs_in}
+use Rattle.yaml_read.specs.Fields.{Fields}
+use Rattle.yaml_read.specs.Handing.{as_is, as_variant, handed, is_bare, is_filled_scalar}
+use Rattle.yaml_read.specs.NodeTags.{Around, around_value, untaken_name}
+use Rattle.yaml_read.specs.Places.{Way, place, places}
+use Rattle.yaml_read.specs.PlainDocEvent.{PlainDocEvent, alias_to, a_scalar, a_void}
+use Rattle.yaml_read.specs.PlainDocEvent.{sequence_begins, sequence_ends, mapping_begins, mapping_ends}
+use Rattle.yaml_read.specs.Steps.{ending, wrap, with_shape}
+use Rattle.yaml_read.specs.TreeReader.{Spot, after}
+use Rattle.yaml_read.specs.Variants.{Variants, variant_named, unknown_variant}
+use Rattle.yaml_read.specs.DocEventView.{doc_event_of}
+use Rattle.yaml_read.specs.declared.doc_event.DocEvent.{DocEvent}
+use Rattle.yaml_read.specs.declared.doc_event.DocEvent.TheVariants as event
+use Rattle.yaml_read.specs.declared.doc_event.DocStart.{DocStart}
+use Rattle.yaml_read.specs.inner.Reader.{Source, Reader, node_at, node_step, shape_step, event_at, other_answer, takes}
+use Rattle.yaml_read.specs.inner.Reader.{place_at, item_at, any_entry_at, sequence_parts, mapping_parts}
+use Rattle.yaml_read.proofs.reading.Exits.{step_event, step_handed}
+use Rattle.yaml_read.proofs.reading.PlaceLaws.{node_unfolds}
+use Rattle.yaml_read.proofs.reading.ValueExits.{variant_handed, step_no_variant, step_nested, enum_as_is, taken_as_is}
+use Rattle.yaml_read.proofs.reading.ValueExits.{any_as_is, step_tagged, step_any_list, step_any_mapping}
+
+-- what is made of an answer under a shape that was looked up
+with_wrap : {A B C : Type 0} (f : A → B) (o : Option PlainShape) (go : PlainShape → Result (A × C) Cause)
+    → with_shape o (λ t. wrap f (go t)) ≡ wrap f (with_shape o go)
+with_wrap f None go = refl
+with_wrap f (Some t) go = refl
+
+module _ (source : Source) (read : Way → Reader) (way : Way) (s : PlainShape) (nest : ℕ) (taken : Option Around)
+    (at : Spot) where
+  -- what the variant holds that the tag names
+  pub enum_content : (name : List ℕ) (variants : Variants) (e : PlainDocEvent) (m : Position) (tag : List ℕ) (number : ℕ)
+      (content : PlainVariant) → s ≡ enum_shape name variants → taken ≡ None → Some (e, m) ≡ source.events at.place
+      → untaken_name false e ≡ Some tag → variant_named variants tag ≡ Some (number, content)
+      → shape_step source read way s nest taken at (source.events at.place)
+      ≡ wrap (variant_data number) (with_shape (content_shape source.table name tag content)
+      (λ t. read way t nest (Some (record { name = name; variant = tag })) at))
+  enum_content name variants e m tag number content o k is h found = rw (o, k)
+      (step_handed source read way (enum_shape name variants) nest None at e m
+      (as_variant number (record { name = name; variant = tag }) content) is
+      (variant_handed name variants e tag number content h found)
+      ∙ with_wrap (variant_data number) (content_shape source.table name tag content)
+      (λ t. read way t nest (Some (record { name = name; variant = tag })) at))
+
+  -- a tag that names no variant
+  pub enum_unknown : (name : List ℕ) (variants : Variants) (e : PlainDocEvent) (m : Position) (tag : List ℕ)
+      → s ≡ enum_shape name variants → taken ≡ None → Some (e, m) ≡ source.events at.place
+      → untaken_name false e ≡ Some tag → variant_named variants tag ≡ None
+      → shape_step source read way s nest taken at (source.events at.place) ≡ Err (unknown_variant variants tag)
+  enum_unknown name variants e m tag o k is h none = rw (o, k)
+      (step_no_variant source read way nest at name variants e m tag is h none)
+
+  -- an enum within what another's tag holds
+  pub enum_nested : (name : List ℕ) (variants : Variants) (around : Around) (e : PlainDocEvent) (m : Position)
+      → s ≡ enum_shape name variants → taken ≡ Some around → Some (e, m) ≡ source.events at.place
+      → is_filled_scalar e ≡ false
+      → shape_step source read way s nest taken at (source.events at.place)
+      ≡ Err (NestedEnum around.name around.variant None)
+  enum_nested name variants around e m o k is h = rw (o, k)
+      (step_nested source read way nest at name variants around e m is h)
+
+  -- a node without a tag of its own, and a text within what another's tag holds
+  pub enum_plain : (name : List ℕ) (variants : Variants) (e : PlainDocEvent) (m : Position)
+      → s ≡ enum_shape name variants → taken ≡ None → Some (e, m) ≡ source.events at.place → untaken_name false e ≡ None
+      → shape_step source read way s nest taken at (source.events at.place)
+      ≡ event_at source read way s nest taken at e m
+  enum_plain name variants e m o k is h = rw (o, k)
+      (step_event source read way (enum_shape name variants) nest None at e m is (enum_as_is name variants e h))
+
+  pub enum_taken : (name : List ℕ) (variants : Variants) (around : Around) (e : PlainDocEvent) (m : Position)
+      → s ≡ enum_shape name variants → taken ≡ Some around → Some (e, m) ≡ source.events at.place
+      → is_filled_scalar e ≡ true
+      → shape_step source read way s nest taken at (source.events at.place)
+      ≡ event_at source read way s nest taken at e m
+  enum_taken name variants around e m o k is h = rw (o, k)
+      (step_event source read way (enum_shape name variants) nest (Some around) at e m is
+      (taken_as_is name variants e h))
+
+-- a node whose fault is placed at it
+module _ (source : Source) (way : Way) (t : PlainShape) (nest : ℕ) (taken : Option Around) (at : Spot) where
+  pub node_placed : (fuel : ℕ) (e : PlainDocEvent) (m : Position) → 0 < fuel → source.events at.place ≡ Some (e, m)
+      → places t (is_some taken) e ≡ true
+      → node_at source fuel way t nest taken at
+      ≡ place true m way (node_step source (node_at source (fuel - 1)) way t nest taken at)
+  node_placed fuel e m lt is here =
+      node_unfolds source way t nest taken at fuel lt
+      ∙ (ap
+      (λ o. place_at way t (is_some taken) o (node_step source (node_at source (fuel - 1)) way t nest taken at)) is
+      ∙ (rw here refl))
+
+-- a node with a tag that is no collection of the variant's own
+module _ (source : Source) (read : Way → Reader) (way : Way) (nest : ℕ) (around : Around) (at : Spot) where
+  pub other_in_row : (name variant ids : List ℕ) (e : PlainDocEvent) (m : Position) (tag : List ℕ)
+      → untaken_name false e ≡ Some tag → takes (tuple_variant_shape name variant ids) e ≡ false
+      → event_at source read way (tuple_variant_shape name variant ids) nest (Some around) at e m
+      ≡ ending (after at) (other_answer (tuple_variant_shape name variant ids) e)
+  other_in_row name variant ids (alias_to j) m tag h other = absurd cc
+  other_in_row name variant ids (a_scalar w) m tag h other = refl
+  other_in_row name variant ids (sequence_begins own) m tag h other = absurd cc
+  other_in_row name variant ids sequence_ends m tag h other = absurd cc
+  other_in_row name variant ids (mapping_begins own) m tag h other = refl
+  other_in_row name variant ids mapping_ends m tag h other = absurd cc
+  other_in_row name variant ids a_void m tag h other = absurd cc
+
+  pub other_in_fields : (strict : Bool) (name variant : List ℕ) (fields : Fields) (e : PlainDocEvent) (m : Position)
+      (tag : List ℕ)
+      → untaken_name false e ≡ Some tag → takes (struct_variant_shape strict name variant fields) e ≡ false
+      → event_at source read way (struct_variant_shape strict name variant fields) nest (Some around) at e m
+      ≡ ending (after at) (other_answer (struct_variant_shape strict name variant fields) e)
+  other_in_fields strict name variant fields (alias_to j) m tag h other = absurd cc
+  other_in_fields strict name variant fields (a_scalar w) m tag h other = refl
+  other_in_fields strict name variant fields (sequence_begins own) m tag h other = refl
+  other_in_fields strict name variant fields sequence_ends m tag h other = absurd cc
+  other_in_fields strict name variant fields (mapping_begins own) m tag h other = absurd cc
+  other_in_fields strict name variant fields mapping_ends m tag h other = absurd cc
+  other_in_fields strict name variant fields a_void m tag h other = absurd cc
+
+-- an event that is no start of a mapping is no collection of a variant's fields, and none of a sequence of its elements
+pub no_mapping_starts : (e : DocEvent) → ((s : DocStart) → e ≡ event.MappingStart s → ⊥)
+    → (strict : Bool) (name variant : List ℕ) (fields : Fields)
+    → takes (struct_variant_shape strict name variant fields) (doc_event_of e) ≡ false
+no_mapping_starts (event.Alias j) h strict name variant fields = refl
+no_mapping_starts (event.Scalar w) h strict name variant fields = refl
+no_mapping_starts (event.SequenceStart s) h strict name variant fields = refl
+no_mapping_starts event.SequenceEnd h strict name variant fields = refl
+no_mapping_starts (event.MappingStart s) h strict name variant fields = absurd (h s refl)
+no_mapping_starts event.MappingEnd h strict name variant fields = refl
+no_mapping_starts event.Void h strict name variant fields = refl
+
+-- ---- any values
+-- a tag whose name is told is not taken
+pub only_untaken : (taken : Bool) (e : PlainDocEvent) (name : List ℕ) → untaken_name taken e ≡ Some name → taken ≡ false
+only_untaken true e name h = absurd cc
+only_untaken false e name h = refl
+
+module _ (source : Source) (read : Way → Reader) (way : Way) (s : PlainShape) (nest : ℕ) (taken : Option Around)
+    (at : Spot) where
+  -- under its tag
+  pub any_tagged_step : (name : List ℕ) (e : PlainDocEvent) (m : Position)
+      → s ≡ any_shape → Some (e, m) ≡ source.events at.place → untaken_name (is_some taken) e ≡ Some name
+      → shape_step source read way s nest taken at (source.events at.place)
+      ≡ wrap (λ v. any_data (tagged name (tree_in v))) (read way any_shape nest (Some around_value) at)
+  any_tagged_step name e m o is h = rw o (by_taken taken h)
+    where
+      by_taken : (k : Option Around) → untaken_name (is_some k) e ≡ Some name
+          → shape_step source read way any_shape nest k at (source.events at.place)
+          ≡ wrap (λ v. any_data (tagged name (tree_in v))) (read way any_shape nest (Some around_value) at)
+      by_taken None h' = step_tagged source read way nest at name e m is h'
+      by_taken (Some around) h' = absurd cc
+
+  -- a sequence, a mapping, and all else
+  pub any_list_step : (e : PlainDocEvent) (tag : Option (List ℕ)) (m : Position)
+      → s ≡ any_shape → Some (e, m) ≡ source.events at.place → e ≡ sequence_begins tag
+      → untaken_name (is_some taken) e ≡ None → 0 < nest
+      → shape_step source read way s nest taken at (source.events at.place)
+      ≡ wrap (λ vs. any_data (sequence (trees_in (items_of vs))))
+      (sequence_parts source (item_at read way any_shape (nest - 1)) source.size [] (after at))
+  any_list_step e tag m o is start own some = rw o
+      (step_any_list source read way nest at taken tag m (rw start at own) (rw start at is) some)
+
+  pub any_mapping_step : (e : PlainDocEvent) (tag : Option (List ℕ)) (m : Position)
+      → s ≡ any_shape → Some (e, m) ≡ source.events at.place → e ≡ mapping_begins tag
+      → untaken_name (is_some taken) e ≡ None → 0 < nest
+      → shape_step source read way s nest taken at (source.events at.place)
+      ≡ wrap (λ vs. any_data (tree.mapping (pairs_in (entries_of vs))))
+      (mapping_parts source (any_entry_at source read way (nest - 1)) source.size [] (after at))
+  any_mapping_step e tag m o is start own some = rw o
+      (step_any_mapping source read way nest at taken tag m (rw start at own) (rw start at is) some)
+
+  pub any_plain_step : (e : PlainDocEvent) (m : Position)
+      → s ≡ any_shape → Some (e, m) ≡ source.events at.place → untaken_name (is_some taken) e ≡ None
+      → shape_step source read way s nest taken at (source.events at.place)
+      ≡ event_at source read way s nest taken at e m
+  any_plain_step e m o is own = rw o
+      (step_event source read way any_shape nest taken at e m is (any_as_is (is_some taken) e own))
+
+-- what is made of what was made of an answer
+pub wrap_onto_finds : {A B C D : Type 0} (f : A → B) (g : B → D) (r : Result (A × C) Cause) (v : B) (c : C)
+    → ◌≡◌ {A = Result (B × C) Cause} (wrap f r) (Ok (v, c))
+    → ◌≡◌ {A = Result (D × C) Cause} (wrap (λ x. g (f x)) r) (Ok (g v, c))
+wrap_onto_finds f g (Ok x) v c h = ap (wrap g) h
+wrap_onto_finds f g (Err y) v c h = absurd cc
+
+pub wrap_onto_fails : {A B C D : Type 0} (f : A → B) (g : B → D) (r : Result (A × C) Cause) (x : Cause)
+    → ◌≡◌ {A = Result (B × C) Cause} (wrap f r) (Err x)
+    → ◌≡◌ {A = Result (D × C) Cause} (wrap (λ x. g (f x)) r) (Err x)
+wrap_onto_fails f g (Ok y) x h = absurd cc
+wrap_onto_fails f g (Err y) x h = ap (wrap g) h
