@@ -26,5 +26,6 @@ pub mod Targets
 pub mod TextLaws
 pub mod VariantCode
 pub mod VariantLaws
+pub mod WholeEnds
 pub mod WrongPlaces
 pub mod reading

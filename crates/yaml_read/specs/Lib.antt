@@ -1,6 +1,7 @@
 -- What contracts of this crate, and of those above it, cite.
 pub mod AnyData
 pub mod CoreTags
+pub mod CursorReads
 pub mod DocEventView
 pub mod DocTree
 pub mod Documents
@@ -12,6 +13,7 @@ pub mod MarkedEvents
 pub mod Meaning
 pub mod NodeTags
 pub mod Places
+pub mod PlainCursor
 pub mod PlainDocEvent
 pub mod PlainDocument
 pub mod Presence
