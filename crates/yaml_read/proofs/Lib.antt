@@ -11,7 +11,9 @@ pub mod FieldLaws
 pub mod FinishLaws
 pub mod FieldCode
 pub mod FoundLaws
+pub mod FreeLaws
 pub mod Gatherings
+pub mod KindLaws
 pub mod LoadingLaws
 pub mod OfShape
 pub mod OpenEndsLaws

@@ -7,8 +7,10 @@ pub mod DocTree
 pub mod Documents
 pub mod Ends
 pub mod Fields
+pub mod FreeReads
 pub mod Gathering
 pub mod Handing
+pub mod Kinds
 pub mod MarkedEvents
 pub mod Meaning
 pub mod NodeTags

@@ -2,6 +2,7 @@
 
 mod any;
 mod around;
+mod calls;
 mod character;
 mod expected;
 mod field_index;
@@ -9,11 +10,13 @@ mod fields;
 mod found;
 mod found_text;
 mod integer;
+mod kinds;
 mod mapping;
 mod node;
 mod numbers;
 mod optional;
 mod placed;
+mod plain;
 mod presence;
 mod refusal;
 mod row;
@@ -75,7 +78,7 @@ fn told(refusal: Refusal, ending: &Error, alloc: Global) -> Error
 
 impl<'de> Document<'de> {
     // The data of the document under a shape that names shapes of the schema, by a fresh cursor.
-    fn read_by(
+    pub(super) fn read_by(
         &self,
         alloc: Global,
         schema: &Schema,
