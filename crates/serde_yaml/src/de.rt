@@ -17,7 +17,7 @@ ghost use Rattle.serde_yaml.specs.StreamReads.{StreamGives, stream_of, unless_mo
 use std::alloc::Global;
 use std::marker::Model;
 use yaml_base::{Cause, Error, Event, Mark, ParserFault, Result};
-use yaml_read::{Document, Loader};
+use yaml_read::{Document, Limits, Loader};
 use yaml_shape::{Data, Schema, ShapeId};
 
 // What is read: the documents of a stream that were not handed out, or one of them.
@@ -53,14 +53,15 @@ fn read_first<'de>(
     document: &Document<'de>,
     schema: &Schema,
     id: ShapeId,
+    limits: Limits,
     others: bool,
 ) -> Result<Data<'de>>
     requires { id.0 < length schema.now }
     ensures { (s : PlainShape) → shape_at schema.now id.0 ≡ Some s → Answers data_of result (λ given.
-        (found : Result PlainData Cause) × DocumentGives default_limits schema.now s document.now found
+        (found : Result PlainData Cause) × DocumentGives limits schema.now s document.now found
         × (given ≡ unless_more others found)) }
 {
-    match document.deserialize(alloc, schema, id) {
+    match document.deserialize_limited(alloc, schema, id, limits) {
         Ok(found) => {
             if others {
                 return Err(Error::new(Cause::MoreThanOneDocument));
@@ -118,17 +119,33 @@ impl<'de> Deserializer<'de> {
         ensures { (s : PlainShape) → shape_at schema.now id.0 ≡ Some s
             → Answers data_of result (StreamGives default_limits schema.now s self.entry) }
     {
+        self.deserialize_limited(alloc, schema, id, Limits::DEFAULT)
+    }
+
+    /// The same within other limits.
+    pub fn deserialize_limited(
+        self,
+        alloc: Global,
+        schema: &Schema,
+        id: ShapeId,
+        limits: Limits,
+    ) -> Result<Data<'de>>
+        requires { id.0 < length schema.now }
+
+        ensures { (s : PlainShape) → shape_at schema.now id.0 ≡ Some s
+            → Answers data_of result (StreamGives limits schema.now s self.entry) }
+    {
         let Deserializer { source, iterated } = self;
         if iterated {
             discard(source);
             return Err(Error::new(Cause::MoreThanOneDocument));
         }
         match source {
-            Source::One(document) => read_first(alloc, &document, schema, id, false),
+            Source::One(document) => read_first(alloc, &document, schema, id, limits, false),
             Source::Stream(mut documents) => match documents.next_document() {
                 Some(document) => {
                     let others = is_there(documents.next_document());
-                    read_first(alloc, &document, schema, id, others)
+                    read_first(alloc, &document, schema, id, limits, others)
                 }
                 None => Err(Error::new(Cause::EndOfStream)),
             },

@@ -11,7 +11,9 @@ pub mod FieldLaws
 pub mod FinishLaws
 pub mod FieldCode
 pub mod FoundLaws
+pub mod FreeLaws
 pub mod Gatherings
+pub mod KindLaws
 pub mod LoadingLaws
 pub mod OfShape
 pub mod OpenEndsLaws
@@ -26,5 +28,6 @@ pub mod Targets
 pub mod TextLaws
 pub mod VariantCode
 pub mod VariantLaws
+pub mod WholeEnds
 pub mod WrongPlaces
 pub mod reading

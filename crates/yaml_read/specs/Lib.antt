@@ -1,17 +1,21 @@
 -- What contracts of this crate, and of those above it, cite.
 pub mod AnyData
 pub mod CoreTags
+pub mod CursorReads
 pub mod DocEventView
 pub mod DocTree
 pub mod Documents
 pub mod Ends
 pub mod Fields
+pub mod FreeReads
 pub mod Gathering
 pub mod Handing
+pub mod Kinds
 pub mod MarkedEvents
 pub mod Meaning
 pub mod NodeTags
 pub mod Places
+pub mod PlainCursor
 pub mod PlainDocEvent
 pub mod PlainDocument
 pub mod Presence

@@ -1,5 +1,6 @@
 -- What private contracts alone cite: the loader at work, reading by places, and the walk of the code.
 pub mod AnchorOrder
+pub mod Answered
 pub mod Drafts
 pub mod Expectations
 pub mod Loading

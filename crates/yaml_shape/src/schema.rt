@@ -1,6 +1,6 @@
 //! Valid tables of shapes: few enough, and without a number outside, a name twice or a cycle of optionals.
 
-ghost use Rattle.std.specs.Prelude.{◌≡◌, ◌<◌, ◌≤◌, ◌↔◌, ℕ, map, length, Some, IsTrue, IfOk, IfErr};
+ghost use Rattle.std.specs.Prelude.{◌≡◌, ◌<◌, ◌≤◌, ◌↔◌, ℕ, [], map, length, Some, IsTrue, IfOk, IfErr};
 ghost use Rattle.std.specs.Option.{option_map};
 ghost use Rattle.yaml_shape.specs.PlainShape.{option_shape, shape_at};
 ghost use Rattle.yaml_shape.specs.ShapeView.{shape_of};
@@ -41,6 +41,15 @@ impl Model for Schema {
 }
 
 impl Schema {
+    /// The schema without shapes. Takes no memory.
+    pub fn empty(alloc: Global) -> Schema
+        ensures { result ≡ [] }
+    {
+        Schema {
+            shapes: Vec::new(alloc),
+        }
+    }
+
     /// The schema of these shapes, each named by its place. Of several faults the first of `S4`, `S1`, `S3`, `S2` is
     /// answered, with the least shape concerned; `S5` may be answered in place of any. The shapes are dropped on
     /// refusal.

@@ -4,7 +4,7 @@ use Rattle.yaml_shape.specs.DataView.{data_of}
 use Rattle.serde_yaml.specs.PlainStream.{PlainStream}
 use Rattle.serde_yaml.specs.StreamView.{documents_in}
 use Rattle.serde_yaml.proofs.FirstDocument.{answers_weaker, splits_one, splits_stream, stream_gives, gone_through}
-use Rattle.serde_yaml.proofs.de.Deserializer.deserialize.Goals as goal
+use Rattle.serde_yaml.proofs.de.Deserializer.deserialize_limited.Goals as goal
 
 pub returns-in-One : goal.returns-in-One
 returns-in-One c = λ s is.

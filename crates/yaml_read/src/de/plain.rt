@@ -1,0 +1,92 @@
+//! Documents under shapes that name no others.
+
+ghost use Rattle.std.specs.Prelude.{◌≡◌, [], IfSome, Some, None, Ok, true, false, is_ok, slice_get};
+ghost use Rattle.std.specs.Option.{option_map, is_some};
+ghost use Rattle.yaml_base.specs.Answer.{Answers};
+ghost use Rattle.yaml_base.specs.PlainEvent.{PlainScalar};
+ghost use Rattle.yaml_base.specs.Position.{Position};
+ghost use Rattle.yaml_shape.specs.DataView.{data_of};
+ghost use Rattle.yaml_shape.specs.PlainShape.{ignored_shape};
+ghost use Rattle.yaml_shape.specs.ShapeView.{shape_of};
+ghost use Rattle.yaml_shape.specs.Validity.{named};
+ghost use Rattle.yaml_read.specs.DocEventView.{doc_event_of};
+ghost use Rattle.yaml_read.specs.FreeReads.{IsFreeScalar};
+ghost use Rattle.yaml_read.specs.PlainDocEvent.{a_scalar};
+ghost use Rattle.yaml_read.specs.Reads.{DocumentGives};
+ghost use Rattle.yaml_read.specs.ScalarShapes.{scalar_answer, takes_no_memory};
+ghost use Rattle.yaml_read.specs.TreeReader.{default_limits};
+ghost use Rattle.yaml_read.specs.inner.Answered.{IsAnswered};
+ghost use Rattle.yaml_read.specs.inner.Reader.{is_leaf};
+
+use crate::cursor::Cursor;
+use crate::de::node::is_leaf;
+use crate::de::scalar::read_scalar;
+use crate::doc_event::DocEvent;
+use crate::document::Document;
+use crate::limits::Limits;
+use std::alloc::Global;
+use yaml_base::{Mark, Result};
+use yaml_shape::{Data, Schema, Shape};
+
+impl<'de> Document<'de> {
+    // The first event, with its mark.
+    fn first_event(&self) -> Option<&(DocEvent<'de>, Mark)>
+        ensures { option_map (λ e. (doc_event_of e.now.0, e.now.1)) result ≡ slice_get self.now.events 0 }
+    {
+        self.events().get(0)
+    }
+
+    // The data of a scalar that comes first, under a shape that reads scalars alone, if there is one.
+    fn read_first_scalar(&self, alloc: Global, shape: &Shape) -> Option<Data<'de>>
+        ensures answers { IfSome result (λ found. (w : PlainScalar) × (mark : Position)
+            × (slice_get self.now.events 0 ≡ Some (a_scalar w, mark))
+            × (scalar_answer (shape_of shape.now) false w ≡ Ok (data_of found))) }
+        ensures free { (w : PlainScalar) (mark : Position) → slice_get self.now.events 0 ≡ Some (a_scalar w, mark)
+            → takes_no_memory (shape_of shape.now) w ≡ true → is_ok (scalar_answer (shape_of shape.now) false w) ≡ true
+            → is_some result ≡ true }
+    {
+        let Some((event, _)) = self.first_event() else {
+            return None;
+        };
+        let DocEvent::Scalar(scalar) = event else {
+            return None;
+        };
+        match read_scalar(alloc, shape, false, scalar) {
+            Ok(data) => Some(data),
+            Err(_) => None,
+        }
+    }
+
+    // The data that a whole document gives before any walk, if it does: a scalar, or a node that is stepped over.
+    fn read_free(&self, alloc: Global, shape: &Shape) -> Option<Data<'de>>
+        ensures answers { IfSome result (λ found. IsAnswered (shape_of shape.now) self.now (data_of found)) }
+        ensures scalar { (w : PlainScalar) → IsFreeScalar (shape_of shape.now) self.now w → is_some result ≡ true }
+        ensures ignored { shape_of shape.now ≡ ignored_shape → self.now.ending ≡ None → is_some result ≡ true }
+    {
+        if self.error().is_some() {
+            return None;
+        }
+        if matches!(shape, Shape::IgnoredAny) {
+            return Some(Data::Ignored);
+        }
+        if !is_leaf(shape) {
+            return None;
+        }
+        self.read_first_scalar(alloc, shape)
+    }
+
+    // The data of the document under a shape that names no other.
+    pub(super) fn read_plain(&self, alloc: Global, shape: &Shape) -> Result<Data<'de>>
+        requires { named (shape_of shape.now) ≡ [] }
+        ensures gives { Answers data_of result (DocumentGives default_limits [] (shape_of shape.now) self.now) }
+        ensures scalar { (w : PlainScalar) → IsFreeScalar (shape_of shape.now) self.now w → is_ok result ≡ true }
+        ensures ignored { shape_of shape.now ≡ ignored_shape → self.now.ending ≡ None → is_ok result ≡ true }
+    {
+        let schema = Schema::empty(alloc);
+        schema.optionals_end();
+        match self.read_free(alloc, shape) {
+            Some(data) => Ok(data),
+            None => self.read_by(alloc, &schema, shape, Limits::DEFAULT, &mut Cursor::new()),
+        }
+    }
+}
