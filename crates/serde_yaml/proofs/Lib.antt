@@ -1,2 +1,4 @@
 -- Lemmas of this crate.
 pub mod FirstDocument
+pub mod KindLaws
+pub mod HeadlineLaws

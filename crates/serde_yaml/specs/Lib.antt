@@ -1,4 +1,6 @@
 -- What contracts of this crate cite.
+pub mod Asked
+pub mod Headline
 pub mod PlainStream
 pub mod StreamReads
 pub mod StreamView

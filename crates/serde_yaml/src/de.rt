@@ -1,5 +1,9 @@
 //! Reading a stream of events.
 
+mod asked;
+mod calls;
+mod kinds;
+
 ghost use Rattle.std.specs.Prelude.{◌≡◌, ℕ, ◌<◌, length, Result, Some, IfOk, IfErr, false, is_some};
 ghost use Rattle.yaml_base.specs.Answer.{Answers, is_memory};
 ghost use Rattle.yaml_base.specs.Stream.{IsWellFormed};

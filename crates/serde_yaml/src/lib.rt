@@ -2,6 +2,7 @@
 #![tactic(auto)]
 
 mod de;
+pub mod laws;
 
 pub use de::Deserializer;
 pub use yaml_base::{
