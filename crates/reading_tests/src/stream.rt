@@ -6,4 +6,3 @@ mod large;
 mod nesting;
 pub(crate) mod reading;
 mod texts;
-mod unread;
