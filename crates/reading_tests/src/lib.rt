@@ -2,6 +2,8 @@
 #![tactic(auto)]
 
 #[cfg(test)]
+mod enums;
+#[cfg(test)]
 mod lines;
 #[cfg(test)]
 mod loader;
@@ -13,3 +15,5 @@ mod scalars;
 mod stream;
 #[cfg(test)]
 mod structs;
+#[cfg(test)]
+mod values;
