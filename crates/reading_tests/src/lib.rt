@@ -2,8 +2,6 @@
 #![tactic(auto)]
 
 #[cfg(test)]
-mod enums;
-#[cfg(test)]
 mod lines;
 #[cfg(test)]
 mod loader;
@@ -13,7 +11,3 @@ mod readme;
 mod scalars;
 #[cfg(test)]
 mod stream;
-#[cfg(test)]
-mod structs;
-#[cfg(test)]
-mod values;

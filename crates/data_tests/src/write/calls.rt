@@ -38,165 +38,158 @@ const TAGGED: Literal = Literal::Tagged("i", &ONE);
 
 const LIST: Literal = Literal::List(&[NESTED, ONE]);
 
-// A call, and the events of its document.
-const SINGLE: &[(Step, &str)] = &[
-    (Step::Bool(true), "plain true"),
-    (Step::Bool(false), "plain false"),
-    (Step::Char('a'), "single a"),
-    (Step::Char('\n'), "single \n"),
-    (Step::Str("a"), "any a"),
-    (Step::Str("true"), "single true"),
-    (Step::Str("1"), "single 1"),
-    (Step::Str("null"), "single null"),
-    (Step::Str("007"), "single 007"),
-    (Step::Str("1e999"), "single 1e999"),
-    (Step::Str("0x1F"), "single 0x1F"),
-    (Step::Str("a\nb"), "literal a\nb"),
-    (Step::Str(""), "single "),
-    (Step::Unit, "plain null"),
-    (Step::UnitStruct, "plain null"),
-    (Step::None, "plain null"),
-    (Step::UnitVariant("Unit"), "any Unit"),
-    (Step::UnitVariant("true"), "single true"),
-    (Step::Some(ONE), "plain 1"),
-    (Step::NewtypeStruct(A), "any a"),
-    (Step::NewtypeVariant("V", ONE), "plain !V 1"),
-    (Step::NewtypeVariant("!V", ONE), "plain !V 1"),
-    (Step::NewtypeVariant("", A), "any ! a"),
-    (Step::NewtypeVariant("V", EMPTY), "+SEQ !V -SEQ"),
-    (Step::NewtypeVariant("V", NO_PAIRS), "+MAP !V -MAP"),
-    (Step::Tagged("x", NOTHING), "plain !x null"),
-    (Step::Tagged("!x", NOTHING), "plain !x null"),
-    (Step::Tagged("!!x", NOTHING), "plain !x null"),
-    (Step::Tagged("!!!x", NOTHING), "plain !!x null"),
-    (Step::Tagged("!", NOTHING), "plain ! null"),
-    (Step::Typed(NESTED), "+SEQ !i -SEQ"),
-    (Step::Tagged("o", LIST), "+SEQ !o +SEQ !i -SEQ plain 1 -SEQ"),
-];
-
 #[test]
 fn single_values(rt: HostRuntime) -> Result<(), Fail> {
-    for (step, expected) in SINGLE {
+    let rows = [
+        (Step::Bool(true), "plain true"),
+        (Step::Bool(false), "plain false"),
+        (Step::Char('a'), "single a"),
+        (Step::Char('\n'), "single \n"),
+        (Step::Str("a"), "any a"),
+        (Step::Str("true"), "single true"),
+        (Step::Str("1"), "single 1"),
+        (Step::Str("null"), "single null"),
+        (Step::Str("007"), "single 007"),
+        (Step::Str("1e999"), "single 1e999"),
+        (Step::Str("0x1F"), "single 0x1F"),
+        (Step::Str("a\nb"), "literal a\nb"),
+        (Step::Str(""), "single "),
+        (Step::Unit, "plain null"),
+        (Step::UnitStruct, "plain null"),
+        (Step::None, "plain null"),
+        (Step::UnitVariant("Unit"), "any Unit"),
+        (Step::UnitVariant("true"), "single true"),
+        (Step::Some(ONE), "plain 1"),
+        (Step::NewtypeStruct(A), "any a"),
+        (Step::NewtypeVariant("V", ONE), "plain !V 1"),
+        (Step::NewtypeVariant("!V", ONE), "plain !V 1"),
+        (Step::NewtypeVariant("", A), "any ! a"),
+        (Step::NewtypeVariant("V", EMPTY), "+SEQ !V -SEQ"),
+        (Step::NewtypeVariant("V", NO_PAIRS), "+MAP !V -MAP"),
+        (Step::Tagged("x", NOTHING), "plain !x null"),
+        (Step::Tagged("!x", NOTHING), "plain !x null"),
+        (Step::Tagged("!!x", NOTHING), "plain !x null"),
+        (Step::Tagged("!!!x", NOTHING), "plain !!x null"),
+        (Step::Tagged("!", NOTHING), "plain ! null"),
+        (Step::Typed(NESTED), "+SEQ !i -SEQ"),
+        (Step::Tagged("o", LIST), "+SEQ !o +SEQ !i -SEQ plain 1 -SEQ"),
+    ];
+    for (step, expected) in rows {
         let whole = format!(in rt.alloc(); " +DOC {expected} -DOC")?;
-        assert!(rt; leave(rt.alloc(), &[*step], whole.as_str())?, "{expected}");
+        let steps = [step];
+        assert!(rt; leave(rt.alloc(), &steps, whole.as_str())?, "{expected}");
     }
     Ok(())
 }
 
-// Calls in a row, and what they leave.
-type Row = (&'static [Step], &'static str);
+#[test]
+fn mappings_in_a_row(rt: HostRuntime) -> Result<(), Fail> {
+    let steps = [Step::Open(OpenKind::Map), Step::Entry(MAP, ONE), Step::End];
+    let expected = " +DOC +MAP +MAP any a plain 1 -MAP plain 1 -MAP -DOC";
+    assert!(rt; leave(rt.alloc(), &steps, expected)?, "entry");
 
-const MAPPINGS: &[Row] = &[
-    (
-        &[Step::Open(OpenKind::Map), Step::Entry(MAP, ONE), Step::End],
-        " +DOC +MAP +MAP any a plain 1 -MAP plain 1 -MAP -DOC",
-    ),
-    (
-        &[
-            Step::Open(OpenKind::Map),
-            Step::Key(A),
-            Step::Value(ONE),
-            Step::Key(ONE),
-            Step::Open(OpenKind::Seq),
-            Step::Element(A),
-            Step::End,
-            Step::End,
-        ],
-        " +DOC +MAP any a plain 1 plain 1 +SEQ any a -SEQ -MAP -DOC",
-    ),
-    // A collection as a key.
-    (
-        &[
-            Step::Open(OpenKind::Map),
-            Step::Open(OpenKind::Tuple),
-            Step::Element(ONE),
-            Step::Element(ONE),
-            Step::End,
-            Step::None,
-            Step::End,
-            Step::Bool(true),
-        ],
-        " +DOC +MAP +SEQ plain 1 plain 1 -SEQ plain null -MAP -DOC +DOC plain true -DOC",
-    ),
-    (
-        &[
-            Step::Open(OpenKind::Struct),
-            Step::NamedField("true", ONE),
-            Step::NamedField("s", NO_PAIRS),
-            Step::End,
-        ],
-        " +DOC +MAP single true plain 1 any s +MAP -MAP -MAP -DOC",
-    ),
-    (
-        &[
-            Step::Open(OpenKind::StructVariant),
-            Step::NamedField("s", A),
-            Step::Str("t"),
-            Step::Open(OpenKind::StructVariant),
-            Step::End,
-            Step::End,
-        ],
-        " +DOC +MAP !V any s any a any t +MAP !V -MAP -MAP -DOC",
-    ),
-];
+    let steps = [
+        Step::Open(OpenKind::Map),
+        Step::Key(A),
+        Step::Value(ONE),
+        Step::Key(ONE),
+        Step::Open(OpenKind::Seq),
+        Step::Element(A),
+        Step::End,
+        Step::End,
+    ];
+    let expected = " +DOC +MAP any a plain 1 plain 1 +SEQ any a -SEQ -MAP -DOC";
+    assert!(rt; leave(rt.alloc(), &steps, expected)?, "keys and values");
 
-const SEQUENCES: &[Row] = &[
-    (&[], ""),
-    // Two documents.
-    (
-        &[Step::Unit, Step::Str("a")],
-        " +DOC plain null -DOC +DOC any a -DOC",
-    ),
-    (
-        &[
-            Step::Open(OpenKind::TupleStruct),
-            Step::Field(ONE),
-            Step::Open(OpenKind::TupleVariant),
-            Step::Field(A),
-            Step::End,
-            Step::End,
-        ],
-        " +DOC +SEQ plain 1 +SEQ !V any a -SEQ -SEQ -DOC",
-    ),
-    (
-        &[
-            Step::Open(OpenKind::Seq),
-            Step::Unit,
-            Step::Tagged("t", A),
-            Step::NewtypeVariant("V", ONE),
-            Step::Element(TAGGED),
-            Step::End,
-        ],
-        " +DOC +SEQ plain null any !t a plain !V 1 plain !i 1 -SEQ -DOC",
-    ),
-    // What has only begun.
-    (
-        &[
-            Step::Open(OpenKind::Seq),
-            Step::Open(OpenKind::Map),
-            Step::Key(A),
-        ],
-        " +DOC +SEQ +MAP any a",
-    ),
-    (
-        &[
-            Step::Open(OpenKind::Seq),
-            Step::End,
-            Step::Open(OpenKind::Map),
-            Step::End,
-        ],
-        " +DOC +SEQ -SEQ -DOC +DOC +MAP -MAP -DOC",
-    ),
-];
+    let steps = [
+        Step::Open(OpenKind::Map),
+        Step::Open(OpenKind::Tuple),
+        Step::Element(ONE),
+        Step::Element(ONE),
+        Step::End,
+        Step::None,
+        Step::End,
+        Step::Bool(true),
+    ];
+    let expected = " +DOC +MAP +SEQ plain 1 plain 1 -SEQ plain null -MAP -DOC +DOC plain true -DOC";
+    assert!(rt;
+        leave(rt.alloc(), &steps, expected)?,
+        "a collection as a key"
+    );
+
+    let steps = [
+        Step::Open(OpenKind::Struct),
+        Step::NamedField("true", ONE),
+        Step::NamedField("s", NO_PAIRS),
+        Step::End,
+    ];
+    let expected = " +DOC +MAP single true plain 1 any s +MAP -MAP -MAP -DOC";
+    assert!(rt; leave(rt.alloc(), &steps, expected)?, "struct");
+
+    let steps = [
+        Step::Open(OpenKind::StructVariant),
+        Step::NamedField("s", A),
+        Step::Str("t"),
+        Step::Open(OpenKind::StructVariant),
+        Step::End,
+        Step::End,
+    ];
+    let expected = " +DOC +MAP !V any s any a any t +MAP !V -MAP -MAP -DOC";
+    assert!(rt; leave(rt.alloc(), &steps, expected)?, "struct variant");
+    Ok(())
+}
 
 #[test]
-fn calls_in_a_row(rt: HostRuntime) -> Result<(), Fail> {
-    for (steps, expected) in MAPPINGS {
-        assert!(rt; leave(rt.alloc(), steps, expected)?, "{expected}");
-    }
-    for (steps, expected) in SEQUENCES {
-        assert!(rt; leave(rt.alloc(), steps, expected)?, "{expected}");
-    }
+fn sequences_in_a_row(rt: HostRuntime) -> Result<(), Fail> {
+    assert!(rt; leave(rt.alloc(), &[], "")?, "nothing");
+
+    let steps = [Step::Unit, Step::Str("a")];
+    let expected = " +DOC plain null -DOC +DOC any a -DOC";
+    assert!(rt; leave(rt.alloc(), &steps, expected)?, "two documents");
+
+    let steps = [
+        Step::Open(OpenKind::TupleStruct),
+        Step::Field(ONE),
+        Step::Open(OpenKind::TupleVariant),
+        Step::Field(A),
+        Step::End,
+        Step::End,
+    ];
+    let expected = " +DOC +SEQ plain 1 +SEQ !V any a -SEQ -SEQ -DOC";
+    assert!(rt;
+        leave(rt.alloc(), &steps, expected)?,
+        "tuple struct and variant"
+    );
+
+    let steps = [
+        Step::Open(OpenKind::Seq),
+        Step::Unit,
+        Step::Tagged("t", A),
+        Step::NewtypeVariant("V", ONE),
+        Step::Element(TAGGED),
+        Step::End,
+    ];
+    let expected = " +DOC +SEQ plain null any !t a plain !V 1 plain !i 1 -SEQ -DOC";
+    assert!(rt; leave(rt.alloc(), &steps, expected)?, "tags");
+
+    let steps = [
+        Step::Open(OpenKind::Seq),
+        Step::Open(OpenKind::Map),
+        Step::Key(A),
+    ];
+    assert!(rt;
+        leave(rt.alloc(), &steps, " +DOC +SEQ +MAP any a")?,
+        "beginnings"
+    );
+
+    let steps = [
+        Step::Open(OpenKind::Seq),
+        Step::End,
+        Step::Open(OpenKind::Map),
+        Step::End,
+    ];
+    let expected = " +DOC +SEQ -SEQ -DOC +DOC +MAP -MAP -DOC";
+    assert!(rt; leave(rt.alloc(), &steps, expected)?, "empty collections");
     Ok(())
 }
 
@@ -225,57 +218,53 @@ fn leave_others(alloc: Global, steps: &[Step], expected: &str) -> Result<bool, F
     Ok(shown(alloc, out.events())?.as_str() == expected)
 }
 
-const VARIANT: Step = Step::NewtypeVariant("V", TAGGED);
-
-const TWICE: Step = Step::Tagged("o", TAGGED);
-
-// Calls in a row, of which some are refused, and what the others leave.
-const REFUSED: &[Row] = &[
-    // Nothing is open.
-    (
-        &[VARIANT, Step::Bytes, TWICE, Step::Unit],
-        "+STR +DOC plain null -DOC",
-    ),
-    (
-        &[
-            Step::Open(OpenKind::Seq),
-            VARIANT,
-            Step::Element(ONE),
-            Step::Bytes,
-            Step::End,
-        ],
-        "+STR +DOC +SEQ plain 1 -SEQ -DOC",
-    ),
-    (
-        &[
-            Step::Open(OpenKind::Map),
-            Step::Bytes,
-            Step::Key(A),
-            Step::Bytes,
-            TWICE,
-            Step::Value(ONE),
-            VARIANT,
-            Step::End,
-        ],
-        "+STR +DOC +MAP any a plain 1 -MAP -DOC",
-    ),
-    (
-        &[
-            Step::Open(OpenKind::StructVariant),
-            TWICE,
-            Step::NamedField("k", TAGGED),
-            Step::Bytes,
-            Step::End,
-        ],
-        "+STR +DOC +MAP !V any k plain !i 1 -MAP -DOC",
-    ),
-];
-
 #[test]
 fn refused_calls_change_nothing(rt: HostRuntime) -> Result<(), Fail> {
-    for (steps, expected) in REFUSED {
-        assert!(rt; leave_others(rt.alloc(), steps, expected)?, "{expected}");
-    }
+    let variant = Step::NewtypeVariant("V", TAGGED);
+    let twice = Step::Tagged("o", TAGGED);
+
+    let steps = [variant, Step::Bytes, twice, Step::Unit];
+    let expected = "+STR +DOC plain null -DOC";
+    assert!(rt;
+        leave_others(rt.alloc(), &steps, expected)?,
+        "nothing is open"
+    );
+
+    let steps = [
+        Step::Open(OpenKind::Seq),
+        variant,
+        Step::Element(ONE),
+        Step::Bytes,
+        Step::End,
+    ];
+    let expected = "+STR +DOC +SEQ plain 1 -SEQ -DOC";
+    assert!(rt; leave_others(rt.alloc(), &steps, expected)?, "sequence");
+
+    let steps = [
+        Step::Open(OpenKind::Map),
+        Step::Bytes,
+        Step::Key(A),
+        Step::Bytes,
+        twice,
+        Step::Value(ONE),
+        variant,
+        Step::End,
+    ];
+    let expected = "+STR +DOC +MAP any a plain 1 -MAP -DOC";
+    assert!(rt; leave_others(rt.alloc(), &steps, expected)?, "mapping");
+
+    let steps = [
+        Step::Open(OpenKind::StructVariant),
+        twice,
+        Step::NamedField("k", TAGGED),
+        Step::Bytes,
+        Step::End,
+    ];
+    let expected = "+STR +DOC +MAP !V any k plain !i 1 -MAP -DOC";
+    assert!(rt;
+        leave_others(rt.alloc(), &steps, expected)?,
+        "struct variant"
+    );
     Ok(())
 }
 

@@ -30,21 +30,12 @@ fn told(alloc: Global, schema: &Schema, id: ShapeId, node: &str) -> Result<Strin
     Ok(reading_of(alloc, stream, schema, id)?)
 }
 
-/// Reads the node of each row under a shape of the schema.
-pub fn check_under(
-    rt: &(impl Abort + AllocGlobal),
-    schema: &Schema,
-    rows: &[Row],
-) -> Result<(), Fail> {
-    for &(id, node, expected) in rows {
-        let text = told(rt.alloc(), schema, id, node)?;
-        assert_eq!(rt; text.as_str(), expected, "{node}");
-    }
-    Ok(())
-}
-
 /// Reads the node of each row.
 pub fn check(rt: &(impl Abort + AllocGlobal), rows: &[Row]) -> Result<(), Fail> {
     let schema = schema(rt.alloc())?;
-    check_under(rt, &schema, rows)
+    for &(id, node, expected) in rows {
+        let text = told(rt.alloc(), &schema, id, node)?;
+        assert_eq!(rt; text.as_str(), expected, "{node}");
+    }
+    Ok(())
 }

@@ -52,74 +52,55 @@ fn reading_of_text(alloc: Global, text: &str, schema: &Schema, id: ShapeId) -> R
     Ok(reading_of(alloc, stream, schema, id)?)
 }
 
-// A text, a shape, and what the stream of the text reads as.
-const FIRST: &[(&str, ShapeId, &str)] = &[
-    (
-        "+STR; +DOC; +SEQ; =VAL :1; 10:1:0 !ERR PARSER 0 bad",
-        LIST,
-        BAD,
-    ),
-    // None, and several.
-    ("+STR; -STR", LIST, "[]"),
-    ("+STR; -STR", INTEGER, "EOF while parsing a value"),
-    ("+STR; -STR", BOOLEAN, "EOF while parsing a value"),
-    ("+STR; -STR", TEXT, "EOF while parsing a value"),
-    ("+STR; +DOC; =VAL :a; -DOC; -STR", LETTER, "\"a\""),
-    (
-        "+STR; +DOC; =VAL :0; -DOC; +DOC; =VAL :1; -DOC; -STR",
-        INTEGER,
-        MORE,
-    ),
-    // A fault of reading comes first, then what cut the document off, and then that others follow.
-    (
-        "+STR; +DOC; +SEQ; =VAL :x; 10:1:0 !ERR PARSER 0 bad",
-        LIST,
-        ".[0]: invalid type: string \"x\", expected i64 at line 1 column 2",
-    ),
-    (
-        "+STR; +DOC; +SEQ; =VAL :x; =ALI *y; -SEQ; -DOC; +DOC; =VAL :1; -DOC; -STR",
-        LIST,
-        ".[0]: invalid type: string \"x\", expected i64 at line 1 column 2",
-    ),
-    (
-        "+STR; +DOC; +SEQ; =ALI *y; -SEQ; -DOC; +DOC; =VAL :1; -DOC; -STR",
-        LIST,
-        "unknown anchor at line 1 column 2",
-    ),
-    (
-        "+STR; +DOC; =VAL :x; -DOC; +DOC; =VAL :1; -DOC; -STR",
-        INTEGER,
-        "invalid type: string \"x\", expected i64",
-    ),
-];
-
 #[test]
 fn the_first_document_is_read_alone(rt: HostRuntime) -> Result<(), Fail> {
     let alloc = rt.alloc();
     let schema = schema(alloc)?;
-    for &(text, id, expected) in FIRST {
+    for &(text, id, expected) in &[
+        (
+            "+STR; +DOC; +SEQ; =VAL :1; 10:1:0 !ERR PARSER 0 bad",
+            LIST,
+            BAD,
+        ),
+        // None, and several.
+        ("+STR; -STR", LIST, "[]"),
+        ("+STR; -STR", INTEGER, "EOF while parsing a value"),
+        ("+STR; -STR", BOOLEAN, "EOF while parsing a value"),
+        ("+STR; -STR", TEXT, "EOF while parsing a value"),
+        ("+STR; +DOC; =VAL :a; -DOC; -STR", LETTER, "\"a\""),
+        (
+            "+STR; +DOC; =VAL :0; -DOC; +DOC; =VAL :1; -DOC; -STR",
+            INTEGER,
+            MORE,
+        ),
+        // A fault of reading comes first, then what cut the document off, and then that others follow.
+        (
+            "+STR; +DOC; +SEQ; =VAL :x; 10:1:0 !ERR PARSER 0 bad",
+            LIST,
+            ".[0]: invalid type: string \"x\", expected i64 at line 1 column 2",
+        ),
+        (
+            "+STR; +DOC; +SEQ; =VAL :x; =ALI *y; -SEQ; -DOC; +DOC; =VAL :1; -DOC; -STR",
+            LIST,
+            ".[0]: invalid type: string \"x\", expected i64 at line 1 column 2",
+        ),
+        (
+            "+STR; +DOC; +SEQ; =ALI *y; -SEQ; -DOC; +DOC; =VAL :1; -DOC; -STR",
+            LIST,
+            "unknown anchor at line 1 column 2",
+        ),
+        (
+            "+STR; +DOC; =VAL :x; -DOC; +DOC; =VAL :1; -DOC; -STR",
+            INTEGER,
+            "invalid type: string \"x\", expected i64",
+        ),
+    ] {
         assert!(rt; schema.has(id));
         let out = reading_of_text(alloc, text, &schema, id)?;
         assert!(rt; out.as_str() == expected, "{text}");
     }
     Ok(())
 }
-
-// The next line of a document, and what it reads as, cut behind that line.
-const CUTS: &[(&str, &str)] = &[
-    ("", BAD),
-    ("+STR; ", BAD),
-    ("+DOC; ", BAD),
-    ("+MAP; ", BAD),
-    ("=VAL :f; ", BAD),
-    ("=VAL &a :1; ", BAD),
-    ("=VAL :s; ", BAD),
-    ("=ALI *a; ", BAD),
-    ("=VAL :t; ", BAD),
-    ("=VAL :3; ", BAD),
-    ("-MAP; ", BAD),
-    ("-DOC; ", MORE),
-];
 
 // A document cut in front of each of its events, and its stream behind the last.
 #[test]
@@ -128,7 +109,20 @@ fn a_document_that_is_cut_is_not_read(rt: HostRuntime) -> Result<(), Fail> {
     let schema = schema(alloc)?;
     assert!(rt; schema.has(MAP));
     let mut text = String::new(alloc);
-    for &(next, expected) in CUTS {
+    for &(next, expected) in &[
+        ("", BAD),
+        ("+STR; ", BAD),
+        ("+DOC; ", BAD),
+        ("+MAP; ", BAD),
+        ("=VAL :f; ", BAD),
+        ("=VAL &a :1; ", BAD),
+        ("=VAL :s; ", BAD),
+        ("=ALI *a; ", BAD),
+        ("=VAL :t; ", BAD),
+        ("=VAL :3; ", BAD),
+        ("-MAP; ", BAD),
+        ("-DOC; ", MORE),
+    ] {
         text.push_str(next)?;
         let cut = format!(in alloc; "{text}{FAULT}")?;
         let out = reading_of_text(alloc, cut.as_str(), &schema, MAP)?;
@@ -201,66 +195,63 @@ fn four_documents(
     Ok(out)
 }
 
-// A text, and what the first four documents of its stream read as, each under its shape.
-const FOUR: &[(&str, [ShapeId; 4], &str)] = &[
-    (
-        "+STR; +DOC; +MAP; =VAL :k; =VAL :107; -MAP; -DOC; +DOC; +MAP; =VAL :j; =VAL :106; -MAP; -DOC; -STR",
-        [MAP, MAP, MAP, MAP],
-        "{\"k\": 107} / {\"j\": 106} / none / none",
-    ),
-    (
-        "+STR; +DOC; =VAL :0; -DOC; +DOC; =VAL :1; -DOC; -STR",
-        [INTEGER, INTEGER, LIST, LIST],
-        "0 / 1 / none / none",
-    ),
-    (
-        "+STR; -STR",
-        [LIST, LIST, LIST, LIST],
-        "[] / none / none / none",
-    ),
-    (
-        "+STR; +DOC; +SEQ; =ALI *x; -SEQ; -DOC; +DOC; =VAL :7; -DOC; -STR",
-        [LIST, INTEGER, INTEGER, INTEGER],
-        "unknown anchor at line 1 column 2 / 7 / none / none",
-    ),
-    (
-        "+STR; +DOC; +SEQ; =ALI *x; 10:1:0 !ERR PARSER 0 bad",
-        [LIST, LIST, LIST, LIST],
-        "unknown anchor at line 1 column 2 / none / none / none",
-    ),
-    (
-        "+STR; +DOC; =VAL :0; -DOC; 10:1:0 !ERR PARSER 0 bad",
-        [INTEGER, INTEGER, INTEGER, INTEGER],
-        "0 / bad at line 2 column 1 / none / none",
-    ),
-    (
-        "+STR; +DOC; =VAL &a :1; -DOC; +DOC; +SEQ; =VAL &a :2; =ALI *a; -SEQ; -DOC; +DOC; =ALI *a; -DOC; -STR",
-        [INTEGER, LIST, INTEGER, INTEGER],
-        "1 / [2, 2] / unknown anchor at line 1 column 10 / none",
-    ),
-    (
-        "+STR; +DOC; =VAL :1; -DOC; +DOC; +SEQ; =VAL :x; 10:1:0 !ERR PARSER 0 bad",
-        [INTEGER, LIST, INTEGER, INTEGER],
-        "1 / .[0]: invalid type: string \"x\", expected i64 at line 1 column 5 / none / none",
-    ),
-    // The last node so anchored counts, and never a later one.
-    (
-        "+STR; +DOC; +SEQ; =VAL &a :1; =VAL &a :2; =VAL &b :3; =ALI *a; -SEQ; -DOC; -STR",
-        [LIST, LIST, LIST, LIST],
-        "[1, 2, 3, 2] / none / none / none",
-    ),
-    (
-        "+STR; +DOC; +SEQ; =VAL &c :1; =VAL &c :2; =ALI *c; =VAL &c :3; -SEQ; -DOC; -STR",
-        [LIST, LIST, LIST, LIST],
-        "[1, 2, 2, 3] / none / none / none",
-    ),
-];
-
 #[test]
 fn documents_come_one_by_one(rt: HostRuntime) -> Result<(), Fail> {
     let alloc = rt.alloc();
     let schema = schema(alloc)?;
-    for (text, shapes, expected) in FOUR {
+    for (text, shapes, expected) in &[
+        (
+            "+STR; +DOC; +MAP; =VAL :k; =VAL :107; -MAP; -DOC; +DOC; +MAP; =VAL :j; =VAL :106; -MAP; -DOC; -STR",
+            [MAP, MAP, MAP, MAP],
+            "{\"k\": 107} / {\"j\": 106} / none / none",
+        ),
+        (
+            "+STR; +DOC; =VAL :0; -DOC; +DOC; =VAL :1; -DOC; -STR",
+            [INTEGER, INTEGER, LIST, LIST],
+            "0 / 1 / none / none",
+        ),
+        (
+            "+STR; -STR",
+            [LIST, LIST, LIST, LIST],
+            "[] / none / none / none",
+        ),
+        (
+            "+STR; +DOC; +SEQ; =ALI *x; -SEQ; -DOC; +DOC; =VAL :7; -DOC; -STR",
+            [LIST, INTEGER, INTEGER, INTEGER],
+            "unknown anchor at line 1 column 2 / 7 / none / none",
+        ),
+        (
+            "+STR; +DOC; +SEQ; =ALI *x; 10:1:0 !ERR PARSER 0 bad",
+            [LIST, LIST, LIST, LIST],
+            "unknown anchor at line 1 column 2 / none / none / none",
+        ),
+        (
+            "+STR; +DOC; =VAL :0; -DOC; 10:1:0 !ERR PARSER 0 bad",
+            [INTEGER, INTEGER, INTEGER, INTEGER],
+            "0 / bad at line 2 column 1 / none / none",
+        ),
+        (
+            "+STR; +DOC; =VAL &a :1; -DOC; +DOC; +SEQ; =VAL &a :2; =ALI *a; -SEQ; -DOC; +DOC; =ALI *a; -DOC; -STR",
+            [INTEGER, LIST, INTEGER, INTEGER],
+            "1 / [2, 2] / unknown anchor at line 1 column 10 / none",
+        ),
+        (
+            "+STR; +DOC; =VAL :1; -DOC; +DOC; +SEQ; =VAL :x; 10:1:0 !ERR PARSER 0 bad",
+            [INTEGER, LIST, INTEGER, INTEGER],
+            "1 / .[0]: invalid type: string \"x\", expected i64 at line 1 column 5 / none / none",
+        ),
+        // The last node so anchored counts, and never a later one.
+        (
+            "+STR; +DOC; +SEQ; =VAL &a :1; =VAL &a :2; =VAL &b :3; =ALI *a; -SEQ; -DOC; -STR",
+            [LIST, LIST, LIST, LIST],
+            "[1, 2, 3, 2] / none / none / none",
+        ),
+        (
+            "+STR; +DOC; +SEQ; =VAL &c :1; =VAL &c :2; =ALI *c; =VAL &c :3; -SEQ; -DOC; -STR",
+            [LIST, LIST, LIST, LIST],
+            "[1, 2, 2, 3] / none / none / none",
+        ),
+    ] {
         let out = four_documents(alloc, text, &schema, shapes)?;
         assert!(rt; out.as_str() == *expected, "{text}");
     }
