@@ -3,12 +3,13 @@
 #
 #     sh wrong.sh [--jobs N] [NAME | NAME/EDIT]..
 #
-# Each edit is made in a copy of the tree over the work that earlier checks kept, and the whole crate is checked
-# there. A line an edit says how it ended; the last line counts them. Ends with status 0 only if a goal that did not
-# prove refused each edit. An edit that is not read, one that breaks types or borrows, and one that only takes away a
-# name that a proof file cites show nothing of a contract, and are told apart. `--jobs` is how many are tried side by
-# side, at first as many as there are processors, and memory for 3 GB each. Where WRONG_LOGS names a folder, the
-# output of each check is kept there.
+# The edits are made in copies of the tree over the work that earlier checks kept: several at once in one copy, where
+# no two change one function, and each that was not refused there once more, alone. In a copy the whole crate is
+# checked. A line an edit says how it ended; the last line counts them. Ends with status 0 only if a goal that did not
+# prove refused each edit: among others a goal of a function that the edit changes. An edit that is not read, one that
+# breaks types or borrows, and one that only takes away a name that a proof file cites show nothing of a contract, and
+# are told apart. `--jobs` is how many copies are checked side by side, at first as many as there are processors, and
+# memory for 3 GB each. Where WRONG_LOGS names a folder, the output of each check is kept there.
 set -u
 export LC_ALL=C
 root=$(cd "$(dirname "$0")" && pwd)
@@ -111,14 +112,65 @@ verdict() {
         }' "$3" "$2" | cut -c 1-240
 }
 
-# Tries edits until none is left that no other job has taken.
+# Says how an edit ended.
+say() {
+    printf '%s\n' "$1" | tee -a "$work/said"
+}
+
+# Keeps the output of a check, if that is wanted.
+keep_log() {
+    if [ -n "${WRONG_LOGS-}" ] && [ -e "$1" ]; then
+        mv "$1" "$WRONG_LOGS/$2.log"
+    fi
+}
+
+# Makes a copy of the tree.
+copy_tree() {
+    mkdir "$1"
+    cp crates.txt HANDLES "$1/"
+    for folder in crates/*/; do
+        copy_crate "$(basename "$folder")" "$1"
+    done
+}
+
+# Tries batches until none is left that no other job has taken. An edit that no goal of a function that it changes
+# refuses is left to be tried alone.
+try_batches() {
+    tree=$work/tree.$1
+    copy_tree "$tree"
+    while read -r name number; do
+        mkdir "$work/batch.$name.$number" 2> /dev/null || continue
+        grep "^$number " "$work/batches.$name" > "$tree/batch"
+        cd "$tree/crates/$name" || exit 1
+        : > "$tree/made"
+        while read -r _ edit keys; do
+            if awk -f "$root/.ci/apply.awk" "$edit" > /dev/null; then
+                printf '%s %s\n' "$edit" "$keys" >> "$tree/made"
+            else
+                echo "crates/$name/$edit" >> "$work/alone"
+            fi
+        done < "$tree/batch"
+        rt check --jobs 1 > "$tree/log" 2>&1
+        while read -r edit keys; do
+            refusal=
+            if ! grep -q ' error\[' "$tree/log"; then
+                refusal=$(awk -v keys="$keys" -f "$root/.ci/refusals.awk" < "$tree/log" | cut -c 1-200)
+            fi
+            if [ -n "$refusal" ]; then
+                say "$name: $(basename "$edit" .edit): refused: $refusal"
+            else
+                echo "crates/$name/$edit" >> "$work/alone"
+            fi
+        done < "$tree/made"
+        cd "$root" || exit 1
+        keep_log "$tree/log" "$name.batch$number"
+        copy_crate "$name" "$tree"
+    done < "$work/batches"
+}
+
+# Tries edits alone until none is left that no other job has taken.
 try_edits() {
     tree=$work/tree.$1
-    mkdir "$tree"
-    cp crates.txt HANDLES "$tree/"
-    for folder in crates/*/; do
-        copy_crate "$(basename "$folder")" "$tree"
-    done
     while IFS= read -r edit; do
         name=$(basename "$(dirname "$(dirname "$edit")")")
         title="$name: $(basename "$edit" .edit)"
@@ -131,22 +183,34 @@ try_edits() {
             line="NOT READ: $why"
         fi
         cd "$root" || exit 1
-        printf '%s: %s\n' "$title" "$line" | tee -a "$work/said"
-        if [ -n "${WRONG_LOGS-}" ] && [ -e "$tree/log" ]; then
-            mv "$tree/log" "$WRONG_LOGS/$name.$(basename "$edit" .edit).log"
-        fi
+        say "$title: $line"
+        keep_log "$tree/log" "$name.$(basename "$edit" .edit)"
         # the next edit may be of a crate that stands on this one
         copy_crate "$name" "$tree"
-    done < "$work/edits"
+    done < "$work/alone"
 }
 
-: > "$work/said"
-job=0
-while [ "$job" -lt "$jobs" ]; do
-    job=$((job + 1))
-    try_edits "$job" &
+# the edits of each crate, in batches
+: > "$work/batches"
+for name in $proved; do
+    for edit in $(grep "^crates/$name/" "$work/edits"); do
+        printf '%s\n' "${edit#"crates/$name/"}"
+    done > "$work/of_crate"
+    [ -s "$work/of_crate" ] || continue
+    (cd "crates/$name" && xargs awk -f "$root/.ci/batches.awk") < "$work/of_crate" > "$work/batches.$name"
+    cut -d ' ' -f 1 "$work/batches.$name" | sort -nu | sed "s/^/$name /" >> "$work/batches"
 done
-wait
+
+: > "$work/said"
+: > "$work/alone"
+for step in try_batches try_edits; do
+    job=0
+    while [ "$job" -lt "$jobs" ]; do
+        job=$((job + 1))
+        "$step" "$job" &
+    done
+    wait
+done
 awk -v wanted="$(wc -l < "$work/edits")" '
     / refused: / { refused++ }
     END {

@@ -78,12 +78,19 @@ good='0:0:0 +STR
 
 refuse "no argument"
 refuse "two arguments" list list
+refuse "four arguments" list 1 1 1
+refuse "too many nestings" list 256 0
+refuse "too many follows" list 0 1001
+refuse "a number with a sign" list +1 1
+refuse "a number that is no text" list "$(printf '1\377')" 1
 refuse "an empty argument" ""
 refuse "an unknown name" List
 refuse "a name that is no text" "$(printf '\377')"
 refuse "a second name that is no text" list "$(printf 'a\200')"
 
 want "data" 0 "[7]$line_feed" "$good" list
+want "data within limits" 0 "[7]$line_feed" "$good" list 001 0
+want "a fault of limits" 1 "fault: recursion limit exceeded at line 1 column 1$line_feed" "$good" list 0 1000
 want "a last line without its line feed" 0 "[7]$line_feed" "${good%"$line_feed"}" list
 want "a fault" 1 "fault: invalid type: sequence, expected a map$line_feed" "$good" map
 want "no input" 1 "fault: event list is not a stream at event 0$line_feed" "" list

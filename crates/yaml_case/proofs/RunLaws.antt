@@ -2,6 +2,7 @@
 use Rattle.std.specs.Prelude.{codes, Option, None, Some, IfSome, Err}
 use Rattle.std.proofs.Common.{◌≡◌, ◌≢◌, ℕ, List, [], ◌∷◌, ◌++◌, false, length, map, subst, refl, sym, ap, ◌∙◌, get_or}
 use Rattle.std.proofs.Common.{arith}
+use Rattle.std.proofs.lemmas.List.{length-map}
 use Rattle.yaml_base.specs.Answer.{is_memory}
 use Rattle.yaml_base.specs.ErrorText.{error_text}
 use Rattle.yaml_base.specs.PlainFault.{PlainFault}
@@ -13,12 +14,15 @@ use Rattle.yaml_case.specs.declared.shapes.Named.{Named}
 use Rattle.yaml_case.specs.Answers.{IsReply, IsAnswer, IsAnswerTo}
 use Rattle.yaml_case.specs.Answers.IsReply.{bad_line, found, refused, out_of_memory}
 use Rattle.yaml_case.specs.Answers.IsAnswer.{bad_argument, reply}
+use Rattle.yaml_case.specs.Answers.IsAnswerTo.{bad_arguments, asked}
+use Rattle.yaml_case.specs.Arguments.{WriteLimits, AskForNothing}
+use Rattle.yaml_case.specs.Arguments.Ask.{shape_alone, shape_within}
 use Rattle.yaml_lines.specs.InputText.{MarkedEvents, IsInput, lines_of}
-use Rattle.yaml_read.specs.TreeReader.{default_limits}
+use Rattle.yaml_read.specs.TreeReader.{PlainLimits, default_limits}
 use Rattle.yaml_base.specs.Answer.{Answers}
 use Rattle.yaml_shape.specs.PlainData.{PlainData}
 use Rattle.serde_yaml.specs.StreamReads.{InputGives}
-use Rattle.yaml_case.specs.Shapes.{name_of, table_of, first_shape, IsNoName, NamesNoShape}
+use Rattle.yaml_case.specs.Shapes.{name_of, table_of, first_shape, IsNoName}
 
 -- an input that is the known one, if one is known
 pub some_input : (known : Option (List ℕ)) → (input : List ℕ) × IfSome known (λ bytes. input ≡ bytes)
@@ -26,58 +30,110 @@ some_input None = ([], tt)
 some_input (Some input) = (input, refl)
 
 -- no input matters to a bad argument
-pub refuses : (name input : List ℕ) (ended : Status) → IsNoName name → ended ≡ status.Refused
-    → IsAnswer name input ended (codes "bad argument")
-refuses name input ended none e = bad_argument none e refl
+pub refuses : (name : List ℕ) (limits : PlainLimits) (input : List ℕ) (ended : Status) → IsNoName name → ended ≡ status.Refused
+    → IsAnswer name limits input ended (codes "bad argument")
+refuses name limits input ended none e = bad_argument none e refl
 
 -- nor to the want of memory
-pub wants_memory : (shape : Named) (name input : List ℕ) (ended : Status) → name_of shape ≡ name → ended ≡ status.Fault
-    → IsAnswer name input ended (codes "fault: out of memory")
-wants_memory shape name input ended n e = reply shape n (out_of_memory e refl)
+pub wants_memory : (shape : Named) (name : List ℕ) (limits : PlainLimits) (input : List ℕ) (ended : Status) → name_of shape ≡ name
+    → ended ≡ status.Fault → IsAnswer name limits input ended (codes "fault: out of memory")
+wants_memory shape name limits input ended n e = reply shape n (out_of_memory e refl)
 
 -- a reply to an input answers the name of its shape
-pub replies : (shape : Named) (name input : List ℕ) (ended : Status) (text : List ℕ) → name_of shape ≡ name
-    → IsReply shape input ended text → IsAnswer name input ended text
-replies shape name input ended text n r = reply shape n r
+pub replies : (shape : Named) (name : List ℕ) (limits : PlainLimits) (input : List ℕ) (ended : Status) (text : List ℕ)
+    → name_of shape ≡ name → IsReply shape limits input ended text → IsAnswer name limits input ended text
+replies shape name limits input ended text n r = reply shape n r
 
--- any other number of arguments than one is refused
-pub refuses_count : {X : Type 0} (name_in : X → List ℕ) (arguments : List X) (input : List ℕ) (ended : Status)
-    → length arguments ≢ 1 → ended ≡ status.Refused
-    → IsAnswerTo (map name_in arguments) input ended (codes "bad argument")
-refuses_count name_in [] input ended n e = (e, refl)
-refuses_count name_in (x ∷ []) input ended n e = absurd (n refl)
-refuses_count name_in (x ∷ y ∷ more) input ended n e = (e, refl)
+-- arguments that ask for nothing are refused
+pub refuses_all : (arguments : List (List ℕ)) (input : List ℕ) (ended : Status) → AskForNothing arguments → ended ≡ status.Refused
+    → IsAnswerTo arguments input ended (codes "bad argument")
+refuses_all arguments input ended none e = bad_arguments none e refl
 
--- one argument is answered as the name that it is
-pub answers_one : {X : Type 0} (name_in : X → List ℕ) (arguments : List X) (first : X) (name input : List ℕ)
-    (ended : Status) (text : List ℕ)
-    → length arguments ≡ 1 → first ≡ get_or arguments 0 first → name ≡ name_in first → IsAnswer name input ended text
-    → IsAnswerTo (map name_in arguments) input ended text
-answers_one name_in [] first name input ended text one at is a = absurd cc
-answers_one name_in (x ∷ []) first name input ended text one at is a =
-    subst (λ n. IsAnswer n input ended text) (is ∙ ap name_in at) a
-answers_one name_in (x ∷ y ∷ more) first name input ended text one at is a = absurd (omega (arith, one))
+-- one argument, and three
+pub one_argument : {X : Type 0} (name_in : X → List ℕ) (arguments : List X) (first : X) → length arguments ≡ 1
+    → first ≡ get_or arguments 0 first → map name_in arguments ≡ name_in first ∷ []
+one_argument name_in [] first one at = absurd cc
+one_argument name_in (x ∷ []) first one at = ap (λ a. name_in a ∷ []) (sym at)
+one_argument name_in (x ∷ y ∷ more) first one at = absurd (omega (arith, one))
 
--- one argument that names no shape is no shape's name
-pub names_none : {X : Type 0} (name_in : X → List ℕ) (arguments : List X) (first : X) (name : List ℕ)
-    → length arguments ≡ 1 → first ≡ get_or arguments 0 first → name ≡ name_in first
-    → NamesNoShape (map name_in arguments) → IsNoName name
-names_none name_in [] first name one at is none = absurd cc
-names_none name_in (x ∷ []) first name one at is none = subst IsNoName (sym (is ∙ ap name_in at)) none
-names_none name_in (x ∷ y ∷ more) first name one at is none = absurd (omega (arith, one))
+pub three_arguments : {X : Type 0} (name_in : X → List ℕ) (arguments : List X) (first second third : X) → length arguments ≡ 3
+    → first ≡ get_or arguments 0 first → second ≡ get_or arguments 1 second → third ≡ get_or arguments 2 third
+    → map name_in arguments ≡ name_in first ∷ name_in second ∷ name_in third ∷ []
+three_arguments name_in [] first second third three a b c = absurd cc
+three_arguments name_in (x ∷ []) first second third three a b c = absurd (omega (arith, three))
+three_arguments name_in (x ∷ y ∷ []) first second third three a b c = absurd (omega (arith, three))
+three_arguments name_in (x ∷ y ∷ z ∷ []) first second third three a b c =
+    rw a (rw b (rw c refl))
+three_arguments name_in (x ∷ y ∷ z ∷ w ∷ more) first second third three a b c = absurd (omega (arith, three))
+
+-- another number of arguments than one or three asks for nothing
+none_asked : (words : List (List ℕ)) → length words ≢ 1 → length words ≢ 3 → AskForNothing words
+none_asked words one three shape limits (shape_alone e d) = one (ap length e)
+none_asked words one three shape limits (shape_within nesting follows e w) = three (ap length e)
+
+pub another_count : {X : Type 0} (name_in : X → List ℕ) (arguments : List X) → length arguments ≢ 1 → length arguments ≢ 3
+    → AskForNothing (map name_in arguments)
+another_count name_in arguments one three =
+    none_asked (map name_in arguments) (λ e. one (sym (length-map arguments name_in) ∙ e))
+    (λ e. three (sym (length-map arguments name_in) ∙ e))
+
+-- the first of equal lists of texts
+first_of : (a b : List (List ℕ)) → a ≡ b → get_or a 0 [] ≡ get_or b 0 []
+first_of a b e = ap (λ (l : List (List ℕ)). get_or l 0 []) e
+
+-- a name alone that is none asks for nothing, and one that asks for nothing is none
+pub unknown_alone : (words : List (List ℕ)) (name : List ℕ) → words ≡ name ∷ [] → IsNoName name → AskForNothing words
+unknown_alone words name is none shape limits (shape_alone e d) = none shape (first_of _ _ (sym e ∙ is))
+unknown_alone words name is none shape limits (shape_within nesting follows e w) = let same = sym is ∙ e in absurd cc
+
+pub none_alone : (words : List (List ℕ)) (name : List ℕ) → words ≡ name ∷ [] → AskForNothing words → IsNoName name
+none_alone words name is none = λ shape e. none shape default_limits (shape_alone (is ∙ ap (λ n. n ∷ []) (sym e)) refl)
+
+-- a name alone is answered within the default's limits
+pub answers_alone : (words : List (List ℕ)) (name input : List ℕ) (ended : Status) (text : List ℕ) → words ≡ name ∷ []
+    → IsAnswer name default_limits input ended text → IsAnswerTo words input ended text
+answers_alone words name input ended text is (bad_argument none e t) = bad_arguments (unknown_alone words name is none) e t
+answers_alone words name input ended text is (reply shape named r) =
+    asked shape default_limits (shape_alone (is ∙ ap (λ n. n ∷ []) (sym named)) refl) r
+
+module _ (words : List (List ℕ)) (name nesting follows : List ℕ) (is : words ≡ name ∷ nesting ∷ follows ∷ []) where
+  -- the same of a name with limits
+  pub unknown_within : IsNoName name → AskForNothing words
+  unknown_within none shape limits (shape_alone e d) = let same = sym is ∙ e in absurd cc
+  unknown_within none shape limits (shape_within a b e w) = none shape (first_of _ _ (sym e ∙ is))
+
+  pub none_within : (limits : PlainLimits) → WriteLimits nesting follows limits → AskForNothing words → IsNoName name
+  none_within limits w none = λ shape e.
+      none shape limits (shape_within nesting follows (is ∙ ap (λ n. n ∷ nesting ∷ follows ∷ []) (sym e)) w)
+
+  -- no limits are none that are asked for
+  pub no_limits : ((limits : PlainLimits) → ¬ (WriteLimits nesting follows limits)) → AskForNothing words
+  no_limits none shape limits (shape_alone e d) = let same = sym is ∙ e in absurd cc
+  no_limits none shape limits (shape_within a b e w) =
+      let same = sym e ∙ is in
+      let first = ap (λ (l : List (List ℕ)). get_or l 1 []) same in
+      let second = ap (λ (l : List (List ℕ)). get_or l 2 []) same in
+      none limits (subst (λ x. WriteLimits nesting x limits) second (subst (λ x. WriteLimits x b limits) first w))
+
+  -- and a name with limits is answered within them
+  pub answers_within : (limits : PlainLimits) (input : List ℕ) (ended : Status) (text : List ℕ)
+      → WriteLimits nesting follows limits → IsAnswer name limits input ended text → IsAnswerTo words input ended text
+  answers_within limits input ended text w (bad_argument none e t) = bad_arguments (unknown_within none) e t
+  answers_within limits input ended text w (reply shape named r) =
+      asked shape limits (shape_within nesting follows (is ∙ ap (λ n. n ∷ nesting ∷ follows ∷ []) (sym named)) w) r
 
 -- a reply is no failed read
-pub reply-read : (shape : Named) (input : List ℕ) (ended : Status) (text : List ℕ) → IsReply shape input ended text
-    → ended ≢ status.ReadFailed
-reply-read shape input ended text (bad_line n first e t) = λ f. let same = sym e ∙ f in absurd cc
-reply-read shape input ended text (found events fault value lines reads e t) = λ f. let same = sym e ∙ f in absurd cc
-reply-read shape input ended text (refused events fault cause lines why e t) = λ f. let same = sym e ∙ f in absurd cc
-reply-read shape input ended text (out_of_memory e t) = λ f. let same = sym e ∙ f in absurd cc
+pub reply-read : (shape : Named) (limits : PlainLimits) (input : List ℕ) (ended : Status) (text : List ℕ)
+    → IsReply shape limits input ended text → ended ≢ status.ReadFailed
+reply-read shape limits input ended text (bad_line n first e t) = λ f. let same = sym e ∙ f in absurd cc
+reply-read shape limits input ended text (found events fault value lines reads e t) = λ f. let same = sym e ∙ f in absurd cc
+reply-read shape limits input ended text (refused events fault cause lines why e t) = λ f. let same = sym e ∙ f in absurd cc
+reply-read shape limits input ended text (out_of_memory e t) = λ f. let same = sym e ∙ f in absurd cc
 
 -- a fault is one that the events ask for, or want of memory
-pub fault_reply : (shape : Named) (input : List ℕ) (events : MarkedEvents) (fault : Option PlainFault) (cause : Cause)
+pub fault_reply : (shape : Named) (limits : PlainLimits) (input : List ℕ) (events : MarkedEvents) (fault : Option PlainFault) (cause : Cause)
     → IsInput (lines_of input) events fault
-    → (is_memory cause ≡ false → InputGives default_limits (table_of shape) (first_shape shape) events fault (Err cause))
-    → IsReply shape input status.Fault (codes "fault: " ++ error_text cause)
-fault_reply shape input events fault Memory lines why = out_of_memory refl refl
-fault_reply shape input events fault cause lines why = refused events fault cause lines (why refl) refl refl
+    → (is_memory cause ≡ false → InputGives limits (table_of shape) (first_shape shape) events fault (Err cause))
+    → IsReply shape limits input status.Fault (codes "fault: " ++ error_text cause)
+fault_reply shape limits input events fault Memory lines why = out_of_memory refl refl
+fault_reply shape limits input events fault cause lines why = refused events fault cause lines (why refl) refl refl

@@ -1,4 +1,5 @@
 -- What contracts of this crate cite.
 pub mod Answers
+pub mod Arguments
 pub mod ExitCode
 pub mod Shapes

@@ -26,11 +26,6 @@ name_of named.Outer = codes "outer"
 abbrev pub IsNoName : List ℕ → Type 0
 IsNoName name = (shape : Named) → name_of shape ≢ name
 
--- the arguments are not one, or the one that they are is no shape's name
-abbrev pub NamesNoShape : List (List ℕ) → Type 0
-NamesNoShape (name ∷ []) = IsNoName name
-NamesNoShape arguments = Unit {0}
-
 -- the fields of Basic
 abbrev pub fields_of_basic : List (List ℕ × ℕ)
 fields_of_basic = (codes "v", 1) ∷ (codes "w", 1) ∷ []

@@ -1,6 +1,7 @@
 //! The program: it reads events, a line each, as data of a named shape, and prints what was read.
 #![tactic(auto)]
 
+mod limits;
 mod read;
 mod run;
 mod shapes;

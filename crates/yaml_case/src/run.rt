@@ -8,14 +8,18 @@ ghost use Rattle.yaml_base.specs.ErrorText.{error_text};
 ghost use Rattle.yaml_shape.specs.DataView.{data_of};
 ghost use Rattle.yaml_lines.specs.DataText.{data_text};
 ghost use Rattle.yaml_case.specs.Answers.{IsReply, IsAnswer, IsAnswerTo};
-ghost use Rattle.yaml_case.specs.Shapes.{IsNoName, NamesNoShape};
+ghost use Rattle.yaml_read.specs.TreeReader.{default_limits};
+ghost use Rattle.yaml_case.specs.Arguments.{AskForNothing};
+ghost use Rattle.yaml_case.specs.Shapes.{IsNoName};
 
 #[cfg(test)]
 mod tests;
 
+use crate::limits::limits_of;
 use crate::read::read;
 use crate::shapes::Named;
 use crate::status::Status;
+use serde_yaml::Limits;
 use std::alloc::{AllocError, Global};
 use std::io::{self, ErrorKind, Read, Write};
 use yaml_base::Error;
@@ -119,11 +123,16 @@ fn bad_line(alloc: Global, number: usize) -> Result<String, AllocError>
     format!(in alloc; "bad line {number}\n")
 }
 
-// What is printed of an input that is read as a shape.
-fn answer_to(alloc: Global, named: Named, input: &[u8]) -> Result<Answer, AllocError>
+// What is printed of an input that is read as a shape within limits.
+fn answer_to(
+    alloc: Global,
+    named: Named,
+    limits: Limits,
+    input: &[u8],
+) -> Result<Answer, AllocError>
     ensures { IfOk result (λ answer. (text : List ℕ)
         × (string_bytes answer.line ≡ text ++ 10 ∷ [])
-        × IsReply named input.now answer.status text) }
+        × IsReply named limits input.now answer.status text) }
 {
     let input = match Input::parse(alloc, input) {
         Ok(input) => input,
@@ -135,7 +144,7 @@ fn answer_to(alloc: Global, named: Named, input: &[u8]) -> Result<Answer, AllocE
         }
         Err(InputFault::Memory) => return Err(AllocError),
     };
-    match read(alloc, named, input.events, input.fault) {
+    match read(alloc, named, limits, input.events, input.fault) {
         Ok(content) => Ok(Answer {
             status: Status::Read,
             line: data_line(alloc, &content)?,
@@ -154,13 +163,32 @@ pub fn run<R: Read, W: Write>(alloc: Global, name: &str, reader: &mut R, writer:
     ensures prints { result ≢ Status.ReadFailed → result ≢ Status.WriteFailed
         → (text : List ℕ) × (input : List ℕ)
         × IfSome (R.remaining reader.old) (λ bytes. input ≡ bytes)
-        × IsAnswer name.now input result text
+        × IsAnswer name.now default_limits input result text
         × Appends (W.contents writer.old) (W.contents writer.new) (text ++ 10 ∷ []) }
 
     // Where the reader failed, nothing is written.
     ensures unwritten { result ≡ Status.ReadFailed → writer.new ≡ writer.old }
 
     // Where the name is unknown, nothing is read.
+    ensures unread { IsNoName name.now → reader.new ≡ reader.old }
+{
+    run_limited(alloc, name, Limits::DEFAULT, reader, writer)
+}
+
+/// The same within other limits.
+pub fn run_limited<R: Read, W: Write>(
+    alloc: Global,
+    name: &str,
+    limits: Limits,
+    reader: &mut R,
+    writer: &mut W,
+) -> Status
+    ensures prints { result ≢ Status.ReadFailed → result ≢ Status.WriteFailed
+        → (text : List ℕ) × (input : List ℕ)
+        × IfSome (R.remaining reader.old) (λ bytes. input ≡ bytes)
+        × IsAnswer name.now limits input result text
+        × Appends (W.contents writer.old) (W.contents writer.new) (text ++ 10 ∷ []) }
+    ensures unwritten { result ≡ Status.ReadFailed → writer.new ≡ writer.old }
     ensures unread { IsNoName name.now → reader.new ≡ reader.old }
 {
     let Some(named) = Named::find(name) else {
@@ -171,13 +199,13 @@ pub fn run<R: Read, W: Write>(alloc: Global, name: &str, reader: &mut R, writer:
         Err(Unread::Failed) => return Status::ReadFailed,
         Err(Unread::Memory) => return out_of_memory(writer),
     };
-    match answer_to(alloc, named, input.as_slice()) {
+    match answer_to(alloc, named, limits, input.as_slice()) {
         Ok(answer) => print(writer, answer.line.as_bytes(), answer.status),
         Err(_) => out_of_memory(writer),
     }
 }
 
-/// Runs the program on its arguments, of which there must be one.
+/// Runs the program on its arguments: a name, or a name and limits.
 pub fn start<R: Read, W: Write>(
     alloc: Global,
     arguments: &[String],
@@ -190,12 +218,16 @@ pub fn start<R: Read, W: Write>(
         × IsAnswerTo (map string_bytes arguments.now) input result text
         × Appends (W.contents writer.old) (W.contents writer.new) (text ++ 10 ∷ []) }
     ensures unwritten { result ≡ Status.ReadFailed → writer.new ≡ writer.old }
-    ensures unread { NamesNoShape (map string_bytes arguments.now) → reader.new ≡ reader.old }
+    ensures unread { AskForNothing (map string_bytes arguments.now) → reader.new ≡ reader.old }
 {
-    if arguments.len() != 1 {
-        return bad_argument(writer);
+    match arguments {
+        [name] => run(alloc, name.as_str(), reader, writer),
+        [name, nesting, follows] => match limits_of(nesting.as_str(), follows.as_str()) {
+            Some(limits) => run_limited(alloc, name.as_str(), limits, reader, writer),
+            None => bad_argument(writer),
+        },
+        _ => bad_argument(writer),
     }
-    run(alloc, arguments[0].as_str(), reader, writer)
 }
 
 /// Prints why the arguments were not gathered: memory ran out, or one of them is no text.

@@ -54,7 +54,7 @@ mutual
       ∙ ap (λ p. end_place inner p rest) (omega (arith, length-append (events_of m) (events_of n ++ events_of_pairs ps), length-append (events_of n) (events_of_pairs ps)))
 
 -- the number at this place is that of the node's last event
-abbrev EndsAt : List ℕ → ℕ → ℕ → Type 0
+abbrev pub EndsAt : List ℕ → ℕ → ℕ → Type 0
 EndsAt ends p size = (end : ℕ) × (slice_get ends p ≡ Some end) × (end + 1 ≡ size)
 
 first_end : (n : DocNode) (q : ℕ) (rest : List PlainDocEvent) → EndsAt (ends_from q (events_of n ++ rest)) 0 (q + length (events_of n))
@@ -71,6 +71,23 @@ first_end (mapping tag ps) q rest = (
   ap Some (ap (end_place 0 (q + 1)) (append_assoc (events_of_pairs ps) (mapping_ends ∷ []) rest) ∙ over_pairs ps 0 (q + 1) (mapping_ends ∷ rest)),
   omega (arith, length-append (events_of_pairs ps) (mapping_ends ∷ [])),
 )
+
+-- the same behind other events
+behind_others : (before : List PlainDocEvent) (q : ℕ) (n : DocNode) (after : List PlainDocEvent)
+    → EndsAt (ends_from q (before ++ (events_of n ++ after))) (length before) (q + length before + length (events_of n))
+behind_others [] q n after =
+    let found = first_end n q after in
+    (found.0, found.1, omega (arith, found.2))
+behind_others (e ∷ before) q n after =
+    let found = behind_others before (q + 1) n after in
+    (found.0, found.1, omega (arith, found.2))
+
+-- the number of a node's first event is the place of its last
+pub node_among : (before : List PlainDocEvent) (n : DocNode) (after : List PlainDocEvent)
+    → EndsAt (ends_of (before ++ (events_of n ++ after))) (length before) (length before + length (events_of n))
+node_among before n after =
+    let found = behind_others before 0 n after in
+    (found.0, found.1, omega (arith, found.2))
 
 unshift : (f : Events) (p : ℕ) (ts : List PlainDocEvent) → Shows f (suc p) ts → Shows (λ q. f (suc q)) p ts
 unshift f p [] s = tt

@@ -20,4 +20,4 @@ returns-in_ok-data_line-in-Ok-read c =
 
 pub returns-in_ok-fault_line-in-Err : goal.returns-in_ok-fault_line-in-Err
 returns-in_ok-fault_line-in-Err c =
-    (codes "fault: " ++ error_text c.in-Err.error, c.in_ok-fault_line-in-Err.ensures, fault_reply _ _ _ _ c.in-Err.error c.in-Ok.ensures c.in-Err.ensures)
+    (codes "fault: " ++ error_text c.in-Err.error, c.in_ok-fault_line-in-Err.ensures, fault_reply _ _ _ _ _ c.in-Err.error c.in-Ok.ensures c.in-Err.ensures)

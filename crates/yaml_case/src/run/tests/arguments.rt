@@ -1,47 +1,65 @@
-//! What the arguments are: one name, or refused before anything is read.
+//! What the arguments are: a name, or a name and limits; all else is refused before anything is read.
 
 use crate::run::{refuse, start};
 use crate::status::Status;
+use std::alloc::{AllocError, Global};
 use std::io::{self, ErrorKind};
 use std::test::Fail;
 
+// The arguments, what is printed, and how that ends. What is refused leaves the input unread.
+const ROWS: &[(&[&str], &str, Status)] = &[
+    (&["list"], "[]\n", Status::Read),
+    (&["list", "0", "0"], "[]\n", Status::Read),
+    (&["list", "255", "1000"], "[]\n", Status::Read),
+    (
+        &["list", "000128", "000000000000000000000000100"],
+        "[]\n",
+        Status::Read,
+    ),
+    (&[], "bad argument\n", Status::Refused),
+    (&["List"], "bad argument\n", Status::Refused),
+    (&["list", "list"], "bad argument\n", Status::Refused),
+    (&["list", "0"], "bad argument\n", Status::Refused),
+    (&["list", "0", "0", "0"], "bad argument\n", Status::Refused),
+    (&["0", "0", "list"], "bad argument\n", Status::Refused),
+    (&["List", "0", "0"], "bad argument\n", Status::Refused),
+    (&["list", "256", "0"], "bad argument\n", Status::Refused),
+    (&["list", "0", "1001"], "bad argument\n", Status::Refused),
+    (&["list", "65536", "0"], "bad argument\n", Status::Refused),
+    (&["list", "0", "65536"], "bad argument\n", Status::Refused),
+    (&["list", "+1", "0"], "bad argument\n", Status::Refused),
+    (&["list", "0", "+1"], "bad argument\n", Status::Refused),
+    (&["list", "-0", "0"], "bad argument\n", Status::Refused),
+    (&["list", "", "0"], "bad argument\n", Status::Refused),
+    (&["list", "0", "0x1"], "bad argument\n", Status::Refused),
+    (&["list", " 1", "0"], "bad argument\n", Status::Refused),
+];
+
+const TEXT: &[u8] = b"0:0:0 +STR\n0:0:0 -STR\n";
+
+// These words, each as a text of its own.
+fn owned(alloc: Global, words: &[&str]) -> Result<Vec<String>, AllocError> {
+    let mut arguments = Vec::new(alloc);
+    for word in words {
+        arguments.push(String::from_str(alloc, word)?)?;
+    }
+    Ok(arguments)
+}
+
 #[test]
-fn one_name_of_a_shape_is_the_argument(rt: HostRuntime) -> Result<(), Fail> {
-    let list = String::from_str(rt.alloc(), "list")?;
-    let other = String::from_str(rt.alloc(), "List")?;
-    let one = vec![in rt.alloc(); list.clone()?]?;
-    let two = vec![in rt.alloc(); list.clone()?, list]?;
-    let unknown = vec![in rt.alloc(); other]?;
-    let none = Vec::<String>::new(rt.alloc());
-    let text = b"0:0:0 +STR\n0:0:0 -STR\n";
-    // The last number of a row is how many bytes stay unread.
-    let scenes = [
-        (one.as_slice(), "[]\n", Status::Read, 0),
-        (
-            two.as_slice(),
-            "bad argument\n",
-            Status::Refused,
-            text.len(),
-        ),
-        (
-            unknown.as_slice(),
-            "bad argument\n",
-            Status::Refused,
-            text.len(),
-        ),
-        (
-            none.as_slice(),
-            "bad argument\n",
-            Status::Refused,
-            text.len(),
-        ),
-    ];
-    for (arguments, output, status, left) in scenes {
-        let mut reader = text.as_slice();
+fn a_name_alone_or_with_limits_is_asked_for(rt: HostRuntime) -> Result<(), Fail> {
+    for &(words, output, status) in ROWS {
+        let arguments = owned(rt.alloc(), words)?;
+        let mut reader = TEXT;
         let mut writer = Vec::new(rt.alloc());
-        let ended = start(rt.alloc(), arguments, &mut reader, &mut writer);
+        let ended = start(rt.alloc(), arguments.as_slice(), &mut reader, &mut writer);
         assert_eq!(rt; writer.as_slice(), output.as_bytes());
         assert_eq!(rt; ended, status);
+        let left = if status == Status::Refused {
+            TEXT.len()
+        } else {
+            0
+        };
         assert_eq!(rt; reader.len(), left);
     }
     Ok(())

@@ -1,0 +1,56 @@
+# Tells which functions a check refused by a goal: the check's output is standard input, and `keys` names functions as
+# FILE:NAME, with spaces between. Run in the folder of the edited crate; prints the first such goal, if there is one.
+
+# Whether a place lies in this function of an edited file. The attributes above a function are part of it.
+function lies_in(name, file, place, line, number, inside, above, at, found) {
+    number = 0
+    inside = 0
+    above = 0
+    found = 0
+    while ((getline line < file) > 0) {
+        number++
+        if (line ~ /^ *#\[/ && number <= place) above = number
+        if (match(line, /^ *(pub(\([a-z]+\))? )?(const )?fn [a-z_0-9]+/)) {
+            at = substr(line, RSTART, RLENGTH)
+            sub(/.* /, "", at)
+            inside = at == name
+            if (above == place) found = inside
+            above = 0
+        }
+        if (number == place && !above) found = inside
+        if (number >= place && !above) break
+    }
+    close(file)
+    return found
+}
+
+BEGIN { wanted = split(keys, all, " ") }
+
+/^note: src\/.*: it is not proved that/ {
+    split(substr($0, 7), part, ":")
+    for (i = 1; i <= wanted; i++) {
+        split(all[i], key, ":")
+        if (key[1] == part[1] && lies_in(key[2], key[1], part[2])) {
+            print substr($0, 7)
+            exit
+        }
+    }
+}
+
+# a written answer that no longer answers its goal, told by the function's folder, or by its name where several
+# functions that call each other have one folder
+/^\.\/proofs\/.*: error: `[^`]*`: / && !/is not in scope|has no field|has no `|is no name|was not admitted|\(nearest: / {
+    split($0, part, ":")
+    folders = split(part[1], folder, "/")
+    split($0, named, "`")
+    for (i = 1; i <= wanted; i++) {
+        split(all[i], key, ":")
+        sub(/^src\//, "./proofs/", key[1])
+        sub(/\.rt$/, "/", key[1])
+        is_its_folder = index($0, key[1]) == 1
+        if (is_its_folder && (folder[folders - 1] == key[2] || index(named[2], key[2] "-") == 1)) {
+            print
+            exit
+        }
+    }
+}
