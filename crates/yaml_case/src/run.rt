@@ -220,13 +220,15 @@ pub fn start<R: Read, W: Write>(
     ensures unwritten { result ≡ Status.ReadFailed → writer.new ≡ writer.old }
     ensures unread { AskForNothing (map string_bytes arguments.now) → reader.new ≡ reader.old }
 {
-    match arguments {
-        [name] => run(alloc, name.as_str(), reader, writer),
-        [name, nesting, follows] => match limits_of(nesting.as_str(), follows.as_str()) {
-            Some(limits) => run_limited(alloc, name.as_str(), limits, reader, writer),
-            None => bad_argument(writer),
-        },
-        _ => bad_argument(writer),
+    if arguments.len() == 1 {
+        return run(alloc, arguments[0].as_str(), reader, writer);
+    }
+    if arguments.len() != 3 {
+        return bad_argument(writer);
+    }
+    match limits_of(arguments[1].as_str(), arguments[2].as_str()) {
+        Some(limits) => run_limited(alloc, arguments[0].as_str(), limits, reader, writer),
+        None => bad_argument(writer),
     }
 }
 
