@@ -5,8 +5,6 @@
 #[cfg(test)]
 mod data_text;
 #[cfg(test)]
-mod lines;
-#[cfg(test)]
 mod loader;
 #[cfg(test)]
 mod readme;

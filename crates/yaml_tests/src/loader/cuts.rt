@@ -1,8 +1,8 @@
 //! Streams, and what they are cut into.
-use crate::lines::{FAULT, events};
 use crate::loader::documents::{load, shows};
 use std::alloc::Global;
 use std::test::Fail;
+use test_rows::lines::{FAULT, events};
 use yaml_base::Mark;
 use yaml_read::{DocEvent, Loader};
 

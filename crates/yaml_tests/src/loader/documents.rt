@@ -4,32 +4,12 @@
 //! place of its target, and the node of an empty stream is `void`. Behind them stands the fault that cut the document
 //! off. Documents have ` / ` between. A list of events that is no stream shows its fault alone.
 
-use crate::lines;
 use std::alloc::{AllocError, Global};
 use std::test::Fail;
+use test_rows::documents::write_event;
+use test_rows::lines;
 use yaml_base::{Error, Event, Mark, ParserFault};
-use yaml_read::{DocEvent, Document, Loader};
-
-// Writes a scalar.
-fn write_scalar(value: &[u8], out: &mut String) -> Result<(), AllocError> {
-    match std::str::from_utf8(value) {
-        Ok(text) => write!(out, "=VAL :{text}"),
-        Err(_) => out.push_str("no text"),
-    }
-}
-
-// Writes an event.
-fn write_event(event: &DocEvent<'_>, out: &mut String) -> Result<(), AllocError> {
-    match event {
-        DocEvent::Alias(target) => write!(out, "=ALI {target}"),
-        DocEvent::Scalar(scalar) => write_scalar(scalar.value.as_slice(), out),
-        DocEvent::SequenceStart(_) => out.push_str("+SEQ"),
-        DocEvent::SequenceEnd => out.push_str("-SEQ"),
-        DocEvent::MappingStart(_) => out.push_str("+MAP"),
-        DocEvent::MappingEnd => out.push_str("-MAP"),
-        DocEvent::Void => out.push_str("void"),
-    }
-}
+use yaml_read::{Document, Loader};
 
 // Writes what stands before the part with this number, which is nothing before the first.
 fn separate(number: usize, between: &str, out: &mut String) -> Result<(), AllocError> {

@@ -1,8 +1,8 @@
 //! Inputs that are deep or wide.
-use crate::lines::fault;
 use crate::loader::documents::load;
 use std::alloc::{AllocError, Global};
 use std::test::Fail;
+use test_rows::lines::fault;
 use yaml_base::{Anchor, Cause, Error, Event, Mark, SequenceStart};
 use yaml_read::{DocEvent, Document, Loader};
 

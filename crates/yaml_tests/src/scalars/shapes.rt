@@ -1,8 +1,8 @@
 //! The shapes of the tests, and their numbers.
 
-use crate::stream::events::schema_of;
 use std::alloc::{AllocError, Global};
 use std::test::Fail;
+use test_rows::sources::schema_of;
 use yaml_shape::{Schema, Shape, ShapeId};
 
 pub const BOOL: ShapeId = ShapeId(0);

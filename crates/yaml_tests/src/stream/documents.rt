@@ -2,12 +2,12 @@
 
 ghost use Rattle.std.specs.Prelude.{◌<◌, length};
 
-use super::events::schema_of;
-use super::reading::{next_of, reading_of, stream_of, write_reading};
-use crate::lines::{BAD, FAULT, input};
 use serde_yaml::Deserializer;
 use std::alloc::{AllocError, Global};
 use std::test::Fail;
+use test_rows::lines::{BAD, FAULT, input};
+use test_rows::reading::{next_of, reading_of, stream_of, write_reading};
+use test_rows::sources::schema_of;
 use yaml_shape::{Schema, Shape, ShapeId};
 
 // The shapes of the tests, by their numbers.

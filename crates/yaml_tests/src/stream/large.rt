@@ -1,33 +1,12 @@
 //! Documents of very many events, and the limit of follows.
 
-use super::events::schema_of;
-use super::reading::{reading_of, stream_of};
-use crate::lines::events;
 use std::alloc::{AllocError, Global};
 use std::test::Fail;
-use yaml_base::{Event, Mark, Scalar, ScalarStyle};
+use test_rows::lines::events;
+use test_rows::reading::{reading_of, stream_of};
+use test_rows::sources::{push_plain, schema_of};
+use yaml_base::{Event, Mark};
 use yaml_shape::{Shape, ShapeId};
-
-// The mark of an event that is made a great many times.
-fn start_mark() -> Mark {
-    Mark::new(0, 0, 0).unwrap()
-}
-
-// Adds a plain scalar.
-fn push_plain(
-    alloc: Global,
-    text: &str,
-    events: &mut Vec<(Event<'static>, Mark)>,
-) -> Result<(), AllocError> {
-    let scalar = Scalar {
-        anchor: None,
-        tag: None,
-        value: Vec::from_slice(alloc, text.as_bytes())?,
-        style: ScalarStyle::Plain,
-        repr: None,
-    };
-    Ok(events.push((Event::Scalar(scalar), start_mark()))?)
-}
 
 // The events of a sequence of so many sevens, and what it reads as.
 fn many_elements(alloc: Global, count: u32) -> Result<(Vec<(Event<'static>, Mark)>, String), Fail> {

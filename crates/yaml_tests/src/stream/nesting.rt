@@ -1,10 +1,10 @@
 //! The limit of nestings.
 
-use super::events::schema_of;
-use super::reading::{reading_of, stream_of};
-use crate::lines::events;
 use std::alloc::{AllocError, Global};
 use std::test::Fail;
+use test_rows::lines::events;
+use test_rows::reading::{reading_of, stream_of};
+use test_rows::sources::schema_of;
 use yaml_shape::{Shape, ShapeId};
 
 // The lines of so many sequences, one within another, and what they read as.

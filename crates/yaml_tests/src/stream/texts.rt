@@ -1,9 +1,9 @@
 //! Texts that are lent from the source.
 
-use super::events::{events_with_source, schema_of};
-use super::reading::{data_of, stream_of};
 use std::alloc::Global;
 use std::test::Fail;
+use test_rows::reading::{data_of, stream_of};
+use test_rows::sources::{events_with_source, schema_of};
 use yaml_shape::{Data, Shape, ShapeId, Text};
 
 // The text of data, if that is one.

@@ -10,10 +10,10 @@ use yaml_base::{Event, Mark, ParserFault};
 use yaml_lines::{Input, InputFault};
 
 /// The parser's fault, at line 2 and column 1.
-pub(crate) const FAULT: &str = "10:1:0 !ERR PARSER 0 bad";
+pub const FAULT: &str = "10:1:0 !ERR PARSER 0 bad";
 
 /// What that fault prints.
-pub(crate) const BAD: &str = "bad at line 2 column 1";
+pub const BAD: &str = "bad at line 2 column 1";
 
 // Whether a line has a mark of its own.
 fn is_marked(line: &str) -> bool {
@@ -46,7 +46,7 @@ fn parse(alloc: Global, lines: &str) -> Result<Input, InputFault> {
 }
 
 /// What the lines of a text say.
-pub(crate) fn input(alloc: Global, text: &str) -> Result<Input, Fail> {
+pub fn input(alloc: Global, text: &str) -> Result<Input, Fail> {
     let lines = marked_lines(alloc, text)?;
     match parse(alloc, lines.as_str()) {
         Ok(input) => Ok(input),
@@ -56,11 +56,11 @@ pub(crate) fn input(alloc: Global, text: &str) -> Result<Input, Fail> {
 }
 
 /// The events of the lines of a text.
-pub(crate) fn events(alloc: Global, text: &str) -> Result<Vec<(Event<'static>, Mark)>, Fail> {
+pub fn events(alloc: Global, text: &str) -> Result<Vec<(Event<'static>, Mark)>, Fail> {
     Ok(input(alloc, text)?.events)
 }
 
 /// The parser's fault.
-pub(crate) fn fault(alloc: Global) -> Result<Option<ParserFault>, Fail> {
+pub fn fault(alloc: Global) -> Result<Option<ParserFault>, Fail> {
     Ok(input(alloc, FAULT)?.fault)
 }

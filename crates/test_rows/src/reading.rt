@@ -47,7 +47,18 @@ fn write_fault(fault: &Error, out: &mut String) -> std::result::Result<(), Alloc
     write!(out, "{fault}")
 }
 
-/// Writes what reading gives: the data, or the message of the fault.
+/// Writes what a reading answers: the data, or the message of the fault.
+pub fn write_answer(
+    answer: Result<Data<'_>>,
+    out: &mut String,
+) -> std::result::Result<(), AllocError> {
+    match answer {
+        Ok(data) => write_data(&data, out),
+        Err(fault) => write_fault(&fault, out),
+    }
+}
+
+/// Writes what a stream reads as.
 pub fn write_reading(
     alloc: Global,
     stream: Deserializer<'_>,
@@ -57,10 +68,7 @@ pub fn write_reading(
 ) -> std::result::Result<(), AllocError>
     requires { id.0 < length schema.now }
 {
-    match data_of(alloc, stream, schema, id) {
-        Ok(data) => write_data(&data, out),
-        Err(fault) => write_fault(&fault, out),
-    }
+    write_answer(data_of(alloc, stream, schema, id), out)
 }
 
 /// What a stream reads as under a shape.

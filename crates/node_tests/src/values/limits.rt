@@ -1,0 +1,142 @@
+//! The limits of nestings and follows under any value, and large mappings.
+
+use std::alloc::{AllocError, Global};
+use std::test::Fail;
+use test_rows::lines::events;
+use test_rows::reading::{reading_of, stream_of};
+use test_rows::rows::stream_lines;
+use test_rows::sources::{push_plain, schema_of};
+use yaml_base::{Event, Mark};
+use yaml_shape::{Shape, ShapeId};
+
+// What events read as.
+fn reading_of_events(alloc: Global, events: Vec<(Event<'static>, Mark)>) -> Result<String, Fail> {
+    let schema = schema_of(alloc, vec![in alloc; Shape::Any]?)?;
+    if !schema.has(ShapeId(0)) {
+        return Err("no shape")?;
+    }
+    let stream = stream_of(alloc, events, None)?;
+    Ok(reading_of(alloc, stream, &schema, ShapeId(0))?)
+}
+
+// What a node reads as.
+fn reading(alloc: Global, node: &str) -> Result<String, Fail> {
+    reading_of_events(alloc, events(alloc, stream_lines(alloc, node)?.as_str())?)
+}
+
+// A text so many times.
+fn repeated(alloc: Global, text: &str, count: u32) -> Result<String, AllocError> {
+    let mut all = String::new(alloc);
+    for _ in 0..count {
+        all.push_str(text)?;
+    }
+    Ok(all)
+}
+
+// The lines of so many collections, one within another, each of which begins with these lines.
+fn nested(alloc: Global, start: &str, end: &str, depth: u32) -> Result<String, AllocError> {
+    let starts = repeated(alloc, start, depth)?;
+    let ends = repeated(alloc, end, depth)?;
+    format!(in alloc; "{starts}=VAL :x; {ends}")
+}
+
+#[test]
+fn reads_128_nestings_and_refuses_the_next(rt: HostRuntime) -> Result<(), Fail> {
+    let alloc = rt.alloc();
+    let node = nested(alloc, "+SEQ; ", "-SEQ; ", 128)?;
+    let left = repeated(alloc, "[", 128)?;
+    let right = repeated(alloc, "]", 128)?;
+    let shown = format!(in alloc; "{left}\"x\"{right}")?;
+    assert_eq!(rt; reading(alloc, node.as_str())?.as_str(), shown.as_str());
+    let refused = reading(alloc, nested(alloc, "+SEQ; ", "-SEQ; ", 129)?.as_str())?;
+    assert_eq!(rt;
+        refused.as_str(),
+        "recursion limit exceeded at line 1 column 129"
+    );
+    let tagged = reading(alloc, nested(alloc, "+SEQ <!t>; ", "-SEQ; ", 129)?.as_str())?;
+    assert_eq!(rt; tagged.as_str(), refused.as_str());
+    let pairs = reading(
+        alloc,
+        nested(alloc, "0:0:7 +MAP; =VAL :k; ", "-MAP; ", 129)?.as_str(),
+    )?;
+    assert_eq!(rt;
+        pairs.as_str(),
+        "recursion limit exceeded at line 1 column 8"
+    );
+    Ok(())
+}
+
+// A list of lists, of which the first has nine texts, and each other has nine times the one before it.
+fn lists(alloc: Global, names: &[(&str, &str)]) -> Result<String, AllocError> {
+    let texts = repeated(alloc, "=VAL :x; ", 9)?;
+    let mut node = format!(in alloc; "+SEQ; +SEQ &a; {texts}-SEQ; ")?;
+    for (name, before) in names {
+        let line = format!(in alloc; "=ALI *{before}; ")?;
+        let aliases = repeated(alloc, line.as_str(), 9)?;
+        write!(node, "+SEQ &{name}; {aliases}-SEQ; ")?;
+    }
+    node.push_str("-SEQ")?;
+    Ok(node)
+}
+
+// The text of those lists, so many.
+fn shown_lists(alloc: Global, count: u32) -> Result<String, AllocError> {
+    let mut list = String::from_str(alloc, "\"x\"")?;
+    let mut shown = String::from_str(alloc, "[")?;
+    let mut between = "";
+    for _ in 0..count {
+        let mut outer = format!(in alloc; "[{list}")?;
+        let element = format!(in alloc; ", {list}")?;
+        outer.push_str(repeated(alloc, element.as_str(), 8)?.as_str())?;
+        outer.push(']')?;
+        write!(shown, "{between}{outer}")?;
+        between = ", ";
+        list = outer;
+    }
+    shown.push(']')?;
+    Ok(shown)
+}
+
+// Four lists have 9 + 90 + 819 follows, of 4,600 that their 46 events may have; five have 7,380 more, of 5,700.
+#[test]
+fn lists_of_nine_lists_are_read_up_to_the_limit_of_follows(rt: HostRuntime) -> Result<(), Fail> {
+    let alloc = rt.alloc();
+    let names = [("b", "a"), ("c", "b"), ("d", "c"), ("e", "d")];
+    let read = reading(alloc, lists(alloc, &names[..3])?.as_str())?;
+    assert!(rt; read.as_str() == shown_lists(alloc, 4)?.as_str());
+    let refused = reading(alloc, lists(alloc, &names)?.as_str())?;
+    assert_eq!(rt; refused.as_str(), "repetition limit exceeded");
+    Ok(())
+}
+
+// The events of a mapping of so many keys, and of this one behind them, and what its pairs read as.
+fn many_keys(
+    alloc: Global,
+    count: u32,
+    last: u32,
+) -> Result<(Vec<(Event<'static>, Mark)>, String), Fail> {
+    let mut found = events(alloc, "+STR; +DOC; 0:0:0 +MAP")?;
+    let mut shown = String::from_str(alloc, "{")?;
+    for number in 0..count {
+        let key = format!(in alloc; "k{number}")?;
+        push_plain(alloc, key.as_str(), &mut found)?;
+        push_plain(alloc, "7", &mut found)?;
+        write!(shown, "\"{key}\": 7, ")?;
+    }
+    push_plain(alloc, format!(in alloc; "k{last}")?.as_str(), &mut found)?;
+    push_plain(alloc, "8", &mut found)?;
+    write!(shown, "\"k{last}\": 8}}")?;
+    found.append(&mut events(alloc, "-MAP; -DOC; -STR")?)?;
+    Ok((found, shown))
+}
+
+#[test]
+fn twenty_thousand_keys_are_read(rt: HostRuntime) -> Result<(), Fail> {
+    let alloc = rt.alloc();
+    let (found, shown) = many_keys(alloc, 19_999, 19_999)?;
+    assert!(rt; reading_of_events(alloc, found)?.as_str() == shown.as_str());
+    let (twice, _) = many_keys(alloc, 19_999, 17_777)?;
+    let refused = reading_of_events(alloc, twice)?;
+    assert_eq!(rt; refused.as_str(), "duplicate entry with key \"k17777\"");
+    Ok(())
+}
