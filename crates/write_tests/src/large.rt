@@ -4,7 +4,7 @@ use std::alloc::Global;
 use std::test::Fail;
 use yaml_base::emitter::EmitEvent;
 use yaml_shape::{Data, Schema, Shape, ShapeId, Typed};
-use yaml_write::Serializer;
+use yaml_write::{OpenKind, Serializer};
 
 // So many integers.
 fn integers<'a>(alloc: Global, count: i128) -> Result<Data<'a>, Fail> {
@@ -88,23 +88,133 @@ fn deep_sequences(rt: HostRuntime) -> Result<(), Fail> {
     Ok(())
 }
 
-#[test]
-fn deep_and_wide_calls(rt: HostRuntime) -> Result<(), Fail> {
-    let mut out = Serializer::new(rt.alloc())?;
-    for _level in 0..128 {
-        out.serialize_seq(None)?;
-    }
-    for number in 0..100_000u32 {
+// Writes so many integers, from 0 on.
+fn write_numbers(out: &mut Serializer, count: u32) -> Result<(), Fail> {
+    for number in 0..count {
         out.serialize_u32(number)?;
     }
-    for _level in 0..128 {
+    Ok(())
+}
+
+// Opens so many sequences.
+fn open_sequences(out: &mut Serializer, levels: u32) -> Result<(), Fail> {
+    for _level in 0..levels {
+        out.serialize_seq(None)?;
+    }
+    Ok(())
+}
+
+// Opens so many mappings, each as the value of a key of the one before.
+fn open_mappings(out: &mut Serializer, levels: u32) -> Result<(), Fail> {
+    for _level in 0..levels {
+        out.serialize_map(None)?;
+        out.serialize_unit()?;
+    }
+    Ok(())
+}
+
+// Closes so many collections, as far as they can end.
+fn close(out: &mut Serializer, levels: u32) -> Result<(), Fail> {
+    for _level in 0..levels {
         if let Some((_, false)) = out.open_kind() {
             out.end()?;
         }
     }
+    Ok(())
+}
+
+#[test]
+fn deep_and_wide_calls(rt: HostRuntime) -> Result<(), Fail> {
+    for (levels, count) in [(128u32, 100_000u32), (100_000, 128)] {
+        let mut out = Serializer::new(rt.alloc())?;
+        open_sequences(&mut out, levels)?;
+        write_numbers(&mut out, count)?;
+        close(&mut out, levels)?;
+        let events = finish(out)?;
+        assert!(rt; events.len() == 100_132 + levels as usize);
+        assert!(rt; text_at(&events, 2 + levels as usize) == "0");
+        assert!(rt; starts(&events) == levels);
+    }
+    Ok(())
+}
+
+#[test]
+fn deep_mappings_by_calls(rt: HostRuntime) -> Result<(), Fail> {
+    for levels in [1u32, 128, 100_000] {
+        let mut out = Serializer::new(rt.alloc())?;
+        open_mappings(&mut out, levels)?;
+        write_numbers(&mut out, 1)?;
+        close(&mut out, levels)?;
+        let events = finish(out)?;
+        assert!(rt; events.len() == 5 + 3 * levels as usize);
+        assert!(rt; text_at(&events, 2 + 2 * levels as usize) == "0");
+    }
+    Ok(())
+}
+
+#[test]
+fn wide_mapping_by_calls(rt: HostRuntime) -> Result<(), Fail> {
+    let mut out = Serializer::new(rt.alloc())?;
+    out.serialize_map(None)?;
+    write_numbers(&mut out, 200_000)?;
+    close(&mut out, 1)?;
     let events = finish(out)?;
-    assert!(rt; events.len() == 100_260);
-    assert!(rt; text_at(&events, 100_129) == "99999");
-    assert!(rt; starts(&events) == 128);
+    assert!(rt; events.len() == 200_006);
+    assert!(rt; text_at(&events, 3) == "0");
+    assert!(rt; text_at(&events, 200_002) == "199999");
+    Ok(())
+}
+
+// Writes so many elements where a sequence is open, each this value.
+fn write_elements(out: &mut Serializer, value: &Typed<'_, '_>, count: u32) -> Result<(), Fail> {
+    for _place in 0..count {
+        if let Some((OpenKind::Seq, _)) = out.open_kind() {
+            out.serialize_element(value)?;
+        }
+    }
+    Ok(())
+}
+
+// Writes so many entries where a mapping is open, each of this key and value.
+fn write_entries(out: &mut Serializer, value: &Typed<'_, '_>, count: u32) -> Result<(), Fail> {
+    for _place in 0..count {
+        if let Some((OpenKind::Map, false)) = out.open_kind() {
+            out.serialize_entry(value, value)?;
+        }
+    }
+    Ok(())
+}
+
+// A mapping of so many entries within a sequence of as many elements.
+fn write_parts(out: &mut Serializer, value: &Typed<'_, '_>, count: u32) -> Result<(), Fail> {
+    out.serialize_seq(None)?;
+    write_elements(out, value, count)?;
+    out.serialize_map(None)?;
+    write_entries(out, value, count)?;
+    close(out, 2)
+}
+
+#[test]
+fn wide_collections_by_parts(rt: HostRuntime) -> Result<(), Fail> {
+    let schema = Schema::new(rt.alloc(), vec![in rt.alloc(); Shape::Unit]?)?;
+    let Some(value) = Typed::new(&schema, ShapeId(0), &Data::Unit) else {
+        return Err(Fail::new("not of the shape"));
+    };
+    let mut out = Serializer::new(rt.alloc())?;
+    write_parts(&mut out, &value, 100_000)?;
+    let events = finish(out)?;
+    assert!(rt; events.len() == 300_008);
+    assert!(rt; text_at(&events, 300_003) == "null");
+    Ok(())
+}
+
+#[test]
+fn many_documents(rt: HostRuntime) -> Result<(), Fail> {
+    let mut out = Serializer::new(rt.alloc())?;
+    write_numbers(&mut out, 100_000)?;
+    let events = finish(out)?;
+    assert!(rt; events.len() == 300_002);
+    assert!(rt; text_at(&events, 2) == "0");
+    assert!(rt; text_at(&events, 299_999) == "99999");
     Ok(())
 }

@@ -8,8 +8,20 @@ mod data;
 #[cfg(test)]
 mod large;
 #[cfg(test)]
+mod nodes;
+#[cfg(test)]
+mod orders;
+#[cfg(test)]
+mod places;
+#[cfg(test)]
+mod refused;
+#[cfg(test)]
+mod runs;
+#[cfg(test)]
 mod shown;
 #[cfg(test)]
 mod steps;
+#[cfg(test)]
+mod streams;
 #[cfg(test)]
 mod values;

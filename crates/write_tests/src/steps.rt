@@ -1,15 +1,30 @@
 //! Calls of a serializer as rows of a table.
 
 use super::shown::shown;
-use super::values::{Literal, value};
+use super::values::{Literal, data, schema, value};
 use std::alloc::Global;
 use std::test::Fail;
 use yaml_base::Error;
-use yaml_shape::{Data, Schema, Shape, ShapeId, Typed};
+use yaml_shape::{Data, Schema, ShapeId, Typed};
 use yaml_tree::Tag;
 use yaml_write::{OpenKind, Serializer};
 
-/// One call. What is written by a shape is written by that of any value.
+/// An integer of each type that has a call.
+#[derive(Clone, Copy)]
+pub enum Whole {
+    I8(i8),
+    I16(i16),
+    I32(i32),
+    I64(i64),
+    I128(i128),
+    U8(u8),
+    U16(u16),
+    U32(u32),
+    U64(u64),
+    U128(u128),
+}
+
+/// One call.
 #[derive(Clone, Copy)]
 pub enum Step {
     Typed(Literal),
@@ -18,6 +33,7 @@ pub enum Step {
     NewtypeVariant(&'static str, Literal),
     Tagged(&'static str, Literal),
     Bool(bool),
+    Integer(Whole),
     Char(char),
     Str(&'static str),
     Bytes,
@@ -67,10 +83,27 @@ fn part(out: &mut Serializer, step: &Step, value: &Typed<'_, '_>) -> Answer {
     }
 }
 
+// The call that writes an integer.
+fn integer(out: &mut Serializer, whole: Whole) -> yaml_base::Result<()> {
+    match whole {
+        Whole::I8(number) => out.serialize_i8(number),
+        Whole::I16(number) => out.serialize_i16(number),
+        Whole::I32(number) => out.serialize_i32(number),
+        Whole::I64(number) => out.serialize_i64(number),
+        Whole::I128(number) => out.serialize_i128(number),
+        Whole::U8(number) => out.serialize_u8(number),
+        Whole::U16(number) => out.serialize_u16(number),
+        Whole::U32(number) => out.serialize_u32(number),
+        Whole::U64(number) => out.serialize_u64(number),
+        Whole::U128(number) => out.serialize_u128(number),
+    }
+}
+
 // The calls that write one scalar.
 fn scalar(out: &mut Serializer, step: &Step) -> Answer {
     match step {
         Step::Bool(truth) => Some(out.serialize_bool(*truth)),
+        Step::Integer(whole) => Some(integer(out, *whole)),
         Step::Char(letter) => Some(out.serialize_char(*letter)),
         Step::Str(text) => Some(out.serialize_str(text)),
         Step::Bytes => Some(out.serialize_bytes(b"bytes".as_slice())),
@@ -119,14 +152,12 @@ fn literal(step: &Step) -> Option<Literal> {
     }
 }
 
-// A schema of the shape of any value.
-fn any(alloc: Global) -> Result<Schema, Fail> {
-    Ok(Schema::new(alloc, vec![in alloc; Shape::Any]?)?)
-}
+// Data, and the number of its shape.
+type Shaped<'a> = (ShapeId, Data<'a>);
 
 // One call that writes by a shape.
-fn write(out: &mut Serializer, step: &Step, schema: &Schema, data: &Data<'_>) -> Answer {
-    let value = Typed::new(schema, ShapeId(0), data)?;
+fn write(out: &mut Serializer, step: &Step, schema: &Schema, data: &Shaped<'_>) -> Answer {
+    let value = Typed::new(schema, data.0, &data.1)?;
     match typed(out, step, &value) {
         Some(answer) => Some(answer),
         None => part(out, step, &value),
@@ -134,9 +165,9 @@ fn write(out: &mut Serializer, step: &Step, schema: &Schema, data: &Data<'_>) ->
 }
 
 // An entry, where a key is awaited.
-fn entry(out: &mut Serializer, schema: &Schema, key: &Data<'_>, value: &Data<'_>) -> Answer {
-    let key = Typed::new(schema, ShapeId(0), key)?;
-    let value = Typed::new(schema, ShapeId(0), value)?;
+fn entry(out: &mut Serializer, schema: &Schema, key: &Shaped<'_>, value: &Shaped<'_>) -> Answer {
+    let key = Typed::new(schema, key.0, &key.1)?;
+    let value = Typed::new(schema, value.0, &value.1)?;
     match out.open_kind() {
         Some((OpenKind::Map, false)) => Some(out.serialize_entry(&key, &value)),
         _ => None,
@@ -146,8 +177,8 @@ fn entry(out: &mut Serializer, schema: &Schema, key: &Data<'_>, value: &Data<'_>
 // One call.
 fn make(alloc: Global, out: &mut Serializer, step: &Step) -> Result<Answer, Fail> {
     if let Some(found) = literal(step) {
-        let data = Data::Any(value(alloc, &found)?);
-        return Ok(write(out, step, &any(alloc)?, &data));
+        let data = data(alloc, &found)?;
+        return Ok(write(out, step, &schema(alloc)?, &data));
     }
     match step {
         Step::Tagged(tag, content) => {
@@ -156,9 +187,9 @@ fn make(alloc: Global, out: &mut Serializer, step: &Step) -> Result<Answer, Fail
             Ok(Some(out.serialize_tagged(&tag, &value)))
         }
         Step::Entry(key, content) => {
-            let key = Data::Any(value(alloc, key)?);
-            let content = Data::Any(value(alloc, content)?);
-            Ok(entry(out, &any(alloc)?, &key, &content))
+            let key = data(alloc, key)?;
+            let content = data(alloc, content)?;
+            Ok(entry(out, &schema(alloc)?, &key, &content))
         }
         Step::Open(kind) => Ok(Some(open(out, *kind))),
         Step::End => Ok(end(out)),
@@ -176,8 +207,8 @@ fn says(alloc: Global, error: &Error, text: &str) -> Result<bool, Fail> {
     Ok(error.to_string(alloc)?.as_str() == text)
 }
 
-/// Makes a call. It answers whether it did what is said: it was made, with success, or it was refused by a fault of this
-/// text, and then all is as before.
+/// Makes a call. It answers whether it did what is said: it was made, with success, or it was refused by a fault of
+/// this text, and then all is as before.
 pub fn does(
     alloc: Global,
     out: &mut Serializer,
