@@ -2,6 +2,7 @@
 
 use super::runs::{BYTES, TAGS};
 use super::shown::shown;
+use super::steps::Answer;
 use super::values::{Literal, value};
 use std::alloc::{AllocError, Global};
 use std::test::Fail;
@@ -129,16 +130,26 @@ fn variant<'a>(alloc: Global, place: usize, content: Data<'a>) -> Result<Data<'a
     Ok(Data::Variant(place, boxed(alloc, content)?))
 }
 
+// Writes data by its shape, if it is of the shape. It promises nothing, so that its callers are proved quickly.
+fn write(out: &mut Serializer, schema: &Schema, id: ShapeId, data: &Data<'_>) -> Answer {
+    let value = Typed::new(schema, id, data)?;
+    Some(out.serialize_typed(&value))
+}
+
+// The text of an answer: that of the refusal, or that of the events.
+fn told(alloc: Global, out: &Serializer, answer: Answer) -> Result<String, Fail> {
+    match answer {
+        Some(Ok(())) => Ok(shown(alloc, out.events())?),
+        Some(Err(error)) => Ok(error.to_string(alloc)?),
+        None => Err(Fail::new("not of the shape")),
+    }
+}
+
 // What is written by a shape: the events, or the refusal.
 fn written(alloc: Global, schema: &Schema, id: ShapeId, data: &Data<'_>) -> Result<String, Fail> {
-    let Some(typed) = Typed::new(schema, id, data) else {
-        return Err(Fail::new("not of the shape"));
-    };
     let mut out = Serializer::new(alloc)?;
-    match out.serialize_typed(&typed) {
-        Ok(()) => Ok(shown(alloc, out.events())?),
-        Err(error) => Ok(error.to_string(alloc)?),
-    }
+    let answer = write(&mut out, schema, id, data);
+    told(alloc, &out, answer)
 }
 
 // Whether data is written so by a shape, in a document of its own.

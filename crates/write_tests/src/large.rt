@@ -176,32 +176,34 @@ fn write_elements(out: &mut Serializer, value: &Typed<'_, '_>, count: u32) -> Re
 }
 
 // Writes so many entries where a mapping is open, each of this key and value.
-fn write_entries(out: &mut Serializer, value: &Typed<'_, '_>, count: u32) -> Result<(), Fail> {
+fn write_entries(
+    out: &mut Serializer,
+    key: &Typed<'_, '_>,
+    value: &Typed<'_, '_>,
+    count: u32,
+) -> Result<(), Fail> {
     for _place in 0..count {
         if let Some((OpenKind::Map, false)) = out.open_kind() {
-            out.serialize_entry(value, value)?;
+            out.serialize_entry(key, value)?;
         }
     }
     Ok(())
 }
 
-// A mapping of so many entries within a sequence of as many elements.
-fn write_parts(out: &mut Serializer, value: &Typed<'_, '_>, count: u32) -> Result<(), Fail> {
-    out.serialize_seq(None)?;
-    write_elements(out, value, count)?;
-    out.serialize_map(None)?;
-    write_entries(out, value, count)?;
-    close(out, 2)
-}
-
 #[test]
 fn wide_collections_by_parts(rt: HostRuntime) -> Result<(), Fail> {
     let schema = Schema::new(rt.alloc(), vec![in rt.alloc(); Shape::Unit]?)?;
-    let Some(value) = Typed::new(&schema, ShapeId(0), &Data::Unit) else {
+    let unit = Typed::new(&schema, ShapeId(0), &Data::Unit);
+    let other = Typed::new(&schema, ShapeId(0), &Data::Unit);
+    let (Some(key), Some(value)) = (unit, other) else {
         return Err(Fail::new("not of the shape"));
     };
     let mut out = Serializer::new(rt.alloc())?;
-    write_parts(&mut out, &value, 100_000)?;
+    open_sequences(&mut out, 1)?;
+    write_elements(&mut out, &value, 100_000)?;
+    out.serialize_map(None)?;
+    write_entries(&mut out, &key, &value, 100_000)?;
+    close(&mut out, 2)?;
     let events = finish(out)?;
     assert!(rt; events.len() == 300_008);
     assert!(rt; text_at(&events, 300_003) == "null");

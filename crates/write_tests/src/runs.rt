@@ -18,7 +18,7 @@ pub const TAGS: &str = "serializing nested enums in YAML is not supported yet";
 /// Whether the calls, made in a row, all succeed.
 pub fn succeed(alloc: Global, out: &mut Serializer, steps: &[Step]) -> Result<bool, Fail> {
     for step in steps {
-        if !does(alloc, out, step, None)? {
+        if !does(alloc, out, step, "")? {
             return Ok(false);
         }
     }
@@ -28,11 +28,6 @@ pub fn succeed(alloc: Global, out: &mut Serializer, steps: &[Step]) -> Result<bo
 /// Whether each of the calls, made in a row, does what its row says.
 pub fn follow(alloc: Global, out: &mut Serializer, rows: &[Row]) -> Result<bool, Fail> {
     for &(step, refusal) in rows {
-        let refusal = if refusal.is_empty() {
-            None
-        } else {
-            Some(refusal)
-        };
         if !does(alloc, out, &step, refusal)? {
             return Ok(false);
         }

@@ -4,7 +4,6 @@ use super::shown::shown;
 use super::values::{Literal, data, schema, value};
 use std::alloc::Global;
 use std::test::Fail;
-use yaml_base::Error;
 use yaml_shape::{Data, Schema, ShapeId, Typed};
 use yaml_tree::Tag;
 use yaml_write::{OpenKind, Serializer};
@@ -51,8 +50,8 @@ pub enum Step {
     End,
 }
 
-// What a call answers, or that it may not be made now.
-type Answer = Option<yaml_base::Result<()>>;
+/// What a call answers, or that it may not be made now.
+pub type Answer = Option<yaml_base::Result<()>>;
 
 // The calls that have no condition, and write by a shape.
 fn typed(out: &mut Serializer, step: &Step, value: &Typed<'_, '_>) -> Answer {
@@ -174,23 +173,49 @@ fn entry(out: &mut Serializer, schema: &Schema, key: &Shaped<'_>, value: &Shaped
     }
 }
 
+// The call that writes a literal by its shape.
+fn by_shape(
+    alloc: Global,
+    out: &mut Serializer,
+    step: &Step,
+    literal: &Literal,
+) -> Result<Answer, Fail> {
+    let data = data(alloc, literal)?;
+    Ok(write(out, step, &schema(alloc)?, &data))
+}
+
+// The call that writes a value under a tag.
+fn tagged(
+    alloc: Global,
+    out: &mut Serializer,
+    tag: &str,
+    literal: &Literal,
+) -> Result<Answer, Fail> {
+    let value = value(alloc, literal)?;
+    let tag = Tag::new(alloc, tag)?;
+    Ok(Some(out.serialize_tagged(&tag, &value)))
+}
+
+// The call that writes an entry.
+fn pair(
+    alloc: Global,
+    out: &mut Serializer,
+    key: &Literal,
+    content: &Literal,
+) -> Result<Answer, Fail> {
+    let key = data(alloc, key)?;
+    let content = data(alloc, content)?;
+    Ok(entry(out, &schema(alloc)?, &key, &content))
+}
+
 // One call.
 fn make(alloc: Global, out: &mut Serializer, step: &Step) -> Result<Answer, Fail> {
     if let Some(found) = literal(step) {
-        let data = data(alloc, &found)?;
-        return Ok(write(out, step, &schema(alloc)?, &data));
+        return by_shape(alloc, out, step, &found);
     }
     match step {
-        Step::Tagged(tag, content) => {
-            let value = value(alloc, content)?;
-            let tag = Tag::new(alloc, tag)?;
-            Ok(Some(out.serialize_tagged(&tag, &value)))
-        }
-        Step::Entry(key, content) => {
-            let key = data(alloc, key)?;
-            let content = data(alloc, content)?;
-            Ok(entry(out, &schema(alloc)?, &key, &content))
-        }
+        Step::Tagged(tag, content) => tagged(alloc, out, tag, content),
+        Step::Entry(key, content) => pair(alloc, out, key, content),
         Step::Open(kind) => Ok(Some(open(out, *kind))),
         Step::End => Ok(end(out)),
         _ => Ok(scalar(out, step)),
@@ -198,29 +223,46 @@ fn make(alloc: Global, out: &mut Serializer, step: &Step) -> Result<Answer, Fail
 }
 
 // What is there: the events, and what is open.
-fn state(alloc: Global, out: &Serializer) -> Result<(String, Option<(OpenKind, bool)>), Fail> {
+type State = (String, Option<(OpenKind, bool)>);
+
+fn state(alloc: Global, out: &Serializer) -> Result<State, Fail> {
     Ok((shown(alloc, out.events())?, out.open_kind()))
 }
 
-// Whether the fault has this text.
-fn says(alloc: Global, error: &Error, text: &str) -> Result<bool, Fail> {
-    Ok(error.to_string(alloc)?.as_str() == text)
+fn is_same(left: &State, right: &State) -> bool {
+    left.0.as_str() == right.0.as_str() && left.1 == right.1
 }
 
-/// Makes a call. It answers whether it did what is said: it was made, with success, or it was refused by a fault of
-/// this text, and then all is as before.
-pub fn does(
-    alloc: Global,
-    out: &mut Serializer,
-    step: &Step,
-    refusal: Option<&str>,
-) -> Result<bool, Fail> {
+// The text of the fault in an answer, or no text.
+fn told(alloc: Global, answer: Answer) -> Result<String, Fail> {
+    match answer {
+        Some(Ok(())) => Ok(String::new(alloc)),
+        Some(Err(error)) => Ok(error.to_string(alloc)?),
+        None => Err(Fail::new("the call may not be made here")),
+    }
+}
+
+// Whether a call tells this.
+fn tells(alloc: Global, out: &mut Serializer, step: &Step, expected: &str) -> Result<bool, Fail> {
+    let answer = make(alloc, out, step)?;
+    Ok(told(alloc, answer)?.as_str() == expected)
+}
+
+// Whether a call is refused by a fault of this text, and then all is as before.
+fn is_refused(alloc: Global, out: &mut Serializer, step: &Step, text: &str) -> Result<bool, Fail> {
     let before = state(alloc, out)?;
-    match (make(alloc, out, step)?, refusal) {
-        (Some(Ok(())), None) => Ok(true),
-        (Some(Err(error)), Some(text)) => {
-            Ok(says(alloc, &error, text)? && state(alloc, out)? == before)
-        }
-        _ => Ok(false),
+    if !tells(alloc, out, step, text)? {
+        return Ok(false);
+    }
+    Ok(is_same(&state(alloc, out)?, &before))
+}
+
+/// Makes a call. It answers whether it did what is said: it succeeded, where there is no text, or it was refused by a
+/// fault of this text, and then all is as before.
+pub fn does(alloc: Global, out: &mut Serializer, step: &Step, refusal: &str) -> Result<bool, Fail> {
+    if refusal.is_empty() {
+        tells(alloc, out, step, "")
+    } else {
+        is_refused(alloc, out, step, refusal)
     }
 }

@@ -129,7 +129,7 @@ const ADDED: &[Added] = &[
 fn check_added(rt: &(impl Abort + AllocGlobal), out: &mut Serializer) -> Result<String, Fail> {
     let mut expected = String::new(rt.alloc());
     for &(step, added, open) in ADDED {
-        assert!(rt; does(rt.alloc(), out, &step, None)?, "{added}");
+        assert!(rt; does(rt.alloc(), out, &step, "")?, "{added}");
         expected.push_str(added)?;
         out.flush()?;
         assert!(rt; holds(rt.alloc(), out, expected.as_str())?, "{added}");
