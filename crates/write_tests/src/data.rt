@@ -2,7 +2,7 @@
 
 use super::runs::{BYTES, TAGS};
 use super::shown::shown;
-use super::steps::Answer;
+use super::steps::{Answer, told};
 use super::values::{Literal, value};
 use std::alloc::{AllocError, Global};
 use std::test::Fail;
@@ -136,20 +136,15 @@ fn write(out: &mut Serializer, schema: &Schema, id: ShapeId, data: &Data<'_>) ->
     Some(out.serialize_typed(&value))
 }
 
-// The text of an answer: that of the refusal, or that of the events.
-fn told(alloc: Global, out: &Serializer, answer: Answer) -> Result<String, Fail> {
-    match answer {
-        Some(Ok(())) => Ok(shown(alloc, out.events())?),
-        Some(Err(error)) => Ok(error.to_string(alloc)?),
-        None => Err(Fail::new("not of the shape")),
-    }
-}
-
 // What is written by a shape: the events, or the refusal.
 fn written(alloc: Global, schema: &Schema, id: ShapeId, data: &Data<'_>) -> Result<String, Fail> {
     let mut out = Serializer::new(alloc)?;
-    let answer = write(&mut out, schema, id, data);
-    told(alloc, &out, answer)
+    let refusal = told(alloc, write(&mut out, schema, id, data))?;
+    if refusal.is_empty() {
+        Ok(shown(alloc, out.events())?)
+    } else {
+        Ok(refusal)
+    }
 }
 
 // Whether data is written so by a shape, in a document of its own.

@@ -233,8 +233,8 @@ fn is_same(left: &State, right: &State) -> bool {
     left.0.as_str() == right.0.as_str() && left.1 == right.1
 }
 
-// The text of the fault in an answer, or no text.
-fn told(alloc: Global, answer: Answer) -> Result<String, Fail> {
+/// The text of the fault in an answer, or no text.
+pub fn told(alloc: Global, answer: Answer) -> Result<String, Fail> {
     match answer {
         Some(Ok(())) => Ok(String::new(alloc)),
         Some(Err(error)) => Ok(error.to_string(alloc)?),
