@@ -14,5 +14,3 @@ mod scalars;
 mod shape;
 #[cfg(test)]
 mod stream;
-#[cfg(test)]
-mod write;

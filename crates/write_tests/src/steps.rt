@@ -1,15 +1,29 @@
 //! Calls of a serializer as rows of a table.
 
 use super::shown::shown;
-use super::values::{Literal, value};
+use super::values::{Literal, data, schema, value};
 use std::alloc::Global;
 use std::test::Fail;
-use yaml_base::Error;
-use yaml_shape::{Data, Schema, Shape, ShapeId, Typed};
+use yaml_shape::{Data, Schema, ShapeId, Typed};
 use yaml_tree::Tag;
 use yaml_write::{OpenKind, Serializer};
 
-/// One call. What is written by a shape is written by that of any value.
+/// An integer of each type that has a call.
+#[derive(Clone, Copy)]
+pub enum Whole {
+    I8(i8),
+    I16(i16),
+    I32(i32),
+    I64(i64),
+    I128(i128),
+    U8(u8),
+    U16(u16),
+    U32(u32),
+    U64(u64),
+    U128(u128),
+}
+
+/// One call.
 #[derive(Clone, Copy)]
 pub enum Step {
     Typed(Literal),
@@ -18,6 +32,7 @@ pub enum Step {
     NewtypeVariant(&'static str, Literal),
     Tagged(&'static str, Literal),
     Bool(bool),
+    Integer(Whole),
     Char(char),
     Str(&'static str),
     Bytes,
@@ -35,8 +50,8 @@ pub enum Step {
     End,
 }
 
-// What a call answers, or that it may not be made now.
-type Answer = Option<yaml_base::Result<()>>;
+/// What a call answers, or that it may not be made now.
+pub type Answer = Option<yaml_base::Result<()>>;
 
 // The calls that have no condition, and write by a shape.
 fn typed(out: &mut Serializer, step: &Step, value: &Typed<'_, '_>) -> Answer {
@@ -67,10 +82,27 @@ fn part(out: &mut Serializer, step: &Step, value: &Typed<'_, '_>) -> Answer {
     }
 }
 
+// The call that writes an integer.
+fn integer(out: &mut Serializer, whole: Whole) -> yaml_base::Result<()> {
+    match whole {
+        Whole::I8(number) => out.serialize_i8(number),
+        Whole::I16(number) => out.serialize_i16(number),
+        Whole::I32(number) => out.serialize_i32(number),
+        Whole::I64(number) => out.serialize_i64(number),
+        Whole::I128(number) => out.serialize_i128(number),
+        Whole::U8(number) => out.serialize_u8(number),
+        Whole::U16(number) => out.serialize_u16(number),
+        Whole::U32(number) => out.serialize_u32(number),
+        Whole::U64(number) => out.serialize_u64(number),
+        Whole::U128(number) => out.serialize_u128(number),
+    }
+}
+
 // The calls that write one scalar.
 fn scalar(out: &mut Serializer, step: &Step) -> Answer {
     match step {
         Step::Bool(truth) => Some(out.serialize_bool(*truth)),
+        Step::Integer(whole) => Some(integer(out, *whole)),
         Step::Char(letter) => Some(out.serialize_char(*letter)),
         Step::Str(text) => Some(out.serialize_str(text)),
         Step::Bytes => Some(out.serialize_bytes(b"bytes".as_slice())),
@@ -119,14 +151,12 @@ fn literal(step: &Step) -> Option<Literal> {
     }
 }
 
-// A schema of the shape of any value.
-fn any(alloc: Global) -> Result<Schema, Fail> {
-    Ok(Schema::new(alloc, vec![in alloc; Shape::Any]?)?)
-}
+// Data, and the number of its shape.
+type Shaped<'a> = (ShapeId, Data<'a>);
 
 // One call that writes by a shape.
-fn write(out: &mut Serializer, step: &Step, schema: &Schema, data: &Data<'_>) -> Answer {
-    let value = Typed::new(schema, ShapeId(0), data)?;
+fn write(out: &mut Serializer, step: &Step, schema: &Schema, data: &Shaped<'_>) -> Answer {
+    let value = Typed::new(schema, data.0, &data.1)?;
     match typed(out, step, &value) {
         Some(answer) => Some(answer),
         None => part(out, step, &value),
@@ -134,32 +164,58 @@ fn write(out: &mut Serializer, step: &Step, schema: &Schema, data: &Data<'_>) ->
 }
 
 // An entry, where a key is awaited.
-fn entry(out: &mut Serializer, schema: &Schema, key: &Data<'_>, value: &Data<'_>) -> Answer {
-    let key = Typed::new(schema, ShapeId(0), key)?;
-    let value = Typed::new(schema, ShapeId(0), value)?;
+fn entry(out: &mut Serializer, schema: &Schema, key: &Shaped<'_>, value: &Shaped<'_>) -> Answer {
+    let key = Typed::new(schema, key.0, &key.1)?;
+    let value = Typed::new(schema, value.0, &value.1)?;
     match out.open_kind() {
         Some((OpenKind::Map, false)) => Some(out.serialize_entry(&key, &value)),
         _ => None,
     }
 }
 
+// The call that writes a literal by its shape.
+fn by_shape(
+    alloc: Global,
+    out: &mut Serializer,
+    step: &Step,
+    literal: &Literal,
+) -> Result<Answer, Fail> {
+    let data = data(alloc, literal)?;
+    Ok(write(out, step, &schema(alloc)?, &data))
+}
+
+// The call that writes a value under a tag.
+fn tagged(
+    alloc: Global,
+    out: &mut Serializer,
+    tag: &str,
+    literal: &Literal,
+) -> Result<Answer, Fail> {
+    let value = value(alloc, literal)?;
+    let tag = Tag::new(alloc, tag)?;
+    Ok(Some(out.serialize_tagged(&tag, &value)))
+}
+
+// The call that writes an entry.
+fn pair(
+    alloc: Global,
+    out: &mut Serializer,
+    key: &Literal,
+    content: &Literal,
+) -> Result<Answer, Fail> {
+    let key = data(alloc, key)?;
+    let content = data(alloc, content)?;
+    Ok(entry(out, &schema(alloc)?, &key, &content))
+}
+
 // One call.
 fn make(alloc: Global, out: &mut Serializer, step: &Step) -> Result<Answer, Fail> {
     if let Some(found) = literal(step) {
-        let data = Data::Any(value(alloc, &found)?);
-        return Ok(write(out, step, &any(alloc)?, &data));
+        return by_shape(alloc, out, step, &found);
     }
     match step {
-        Step::Tagged(tag, content) => {
-            let value = value(alloc, content)?;
-            let tag = Tag::new(alloc, tag)?;
-            Ok(Some(out.serialize_tagged(&tag, &value)))
-        }
-        Step::Entry(key, content) => {
-            let key = Data::Any(value(alloc, key)?);
-            let content = Data::Any(value(alloc, content)?);
-            Ok(entry(out, &any(alloc)?, &key, &content))
-        }
+        Step::Tagged(tag, content) => tagged(alloc, out, tag, content),
+        Step::Entry(key, content) => pair(alloc, out, key, content),
         Step::Open(kind) => Ok(Some(open(out, *kind))),
         Step::End => Ok(end(out)),
         _ => Ok(scalar(out, step)),
@@ -167,29 +223,46 @@ fn make(alloc: Global, out: &mut Serializer, step: &Step) -> Result<Answer, Fail
 }
 
 // What is there: the events, and what is open.
-fn state(alloc: Global, out: &Serializer) -> Result<(String, Option<(OpenKind, bool)>), Fail> {
+type State = (String, Option<(OpenKind, bool)>);
+
+fn state(alloc: Global, out: &Serializer) -> Result<State, Fail> {
     Ok((shown(alloc, out.events())?, out.open_kind()))
 }
 
-// Whether the fault has this text.
-fn says(alloc: Global, error: &Error, text: &str) -> Result<bool, Fail> {
-    Ok(error.to_string(alloc)?.as_str() == text)
+fn is_same(left: &State, right: &State) -> bool {
+    left.0.as_str() == right.0.as_str() && left.1 == right.1
 }
 
-/// Makes a call. It answers whether it did what is said: it was made, with success, or it was refused by a fault of this
-/// text, and then all is as before.
-pub fn does(
-    alloc: Global,
-    out: &mut Serializer,
-    step: &Step,
-    refusal: Option<&str>,
-) -> Result<bool, Fail> {
+/// The text of the fault in an answer, or no text.
+pub fn told(alloc: Global, answer: Answer) -> Result<String, Fail> {
+    match answer {
+        Some(Ok(())) => Ok(String::new(alloc)),
+        Some(Err(error)) => Ok(error.to_string(alloc)?),
+        None => Err(Fail::new("the call may not be made here")),
+    }
+}
+
+// Whether a call tells this.
+fn tells(alloc: Global, out: &mut Serializer, step: &Step, expected: &str) -> Result<bool, Fail> {
+    let answer = make(alloc, out, step)?;
+    Ok(told(alloc, answer)?.as_str() == expected)
+}
+
+// Whether a call is refused by a fault of this text, and then all is as before.
+fn is_refused(alloc: Global, out: &mut Serializer, step: &Step, text: &str) -> Result<bool, Fail> {
     let before = state(alloc, out)?;
-    match (make(alloc, out, step)?, refusal) {
-        (Some(Ok(())), None) => Ok(true),
-        (Some(Err(error)), Some(text)) => {
-            Ok(says(alloc, &error, text)? && state(alloc, out)? == before)
-        }
-        _ => Ok(false),
+    if !tells(alloc, out, step, text)? {
+        return Ok(false);
+    }
+    Ok(is_same(&state(alloc, out)?, &before))
+}
+
+/// Makes a call. It answers whether it did what is said: it succeeded, where there is no text, or it was refused by a
+/// fault of this text, and then all is as before.
+pub fn does(alloc: Global, out: &mut Serializer, step: &Step, refusal: &str) -> Result<bool, Fail> {
+    if refusal.is_empty() {
+        tells(alloc, out, step, "")
+    } else {
+        is_refused(alloc, out, step, refusal)
     }
 }

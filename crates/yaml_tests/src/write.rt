@@ -1,8 +1,0 @@
-//! Tests of `yaml_write`.
-
-mod calls;
-mod data;
-mod large;
-mod shown;
-mod steps;
-mod values;
