@@ -90,7 +90,7 @@ refuse "a second name that is no text" list "$(printf 'a\200')"
 
 want "data" 0 "[7]$line_feed" "$good" list
 want "data within limits" 0 "[7]$line_feed" "$good" list 001 0
-want "a fault of limits" 1 "fault: recursion limit exceeded at line 1 column 1$line_feed" "$good" list 0 1000
+want "a fault of limits" 1 "fault: recursion limit exceeded$line_feed" "$good" list 0 1000
 want "a last line without its line feed" 0 "[7]$line_feed" "${good%"$line_feed"}" list
 want "a fault" 1 "fault: invalid type: sequence, expected a map$line_feed" "$good" map
 want "no input" 1 "fault: event list is not a stream at event 0$line_feed" "" list
