@@ -39,17 +39,17 @@ pub returns-in-Some-clause-prints : goal.returns-in-Some-clause-prints
 returns-in-Some-clause-prints g c = λ read written.
     let w = c.run_limited.ensures.prints read written in
     let are = are_three c.args.arguments.now c.index-arguments-0-in-Some.result c.index-arguments-1.result c.index-arguments-2.result
-        c.as_str-in-Some.result.now c.as_str-2.result.now c.as_str-3.result.now c.if-arguments-ne3.false
-        c.index-arguments-0-in-Some.is c.index-arguments-1.is c.index-arguments-2.is
-        c.as_str-in-Some.ensures.value c.as_str-2.ensures.value c.as_str-3.ensures.value in
+    c.as_str-in-Some.result.now c.as_str-2.result.now c.as_str-3.result.now c.if-arguments-ne3.false
+    c.index-arguments-0-in-Some.is c.index-arguments-1.is c.index-arguments-2.is
+    c.as_str-in-Some.ensures.value c.as_str-2.ensures.value c.as_str-3.ensures.value in
     (w.0, w.1, w.2, answers_within _ _ _ _ are _ _ _ _ c.in-Some.ensures w.3, w.4)
 
 pub returns-in-Some-clause-unread : goal.returns-in-Some-clause-unread
 returns-in-Some-clause-unread g c = λ none.
     let are = are_three c.args.arguments.now c.index-arguments-0-in-Some.result c.index-arguments-1.result c.index-arguments-2.result
-        c.as_str-in-Some.result.now c.as_str-2.result.now c.as_str-3.result.now c.if-arguments-ne3.false
-        c.index-arguments-0-in-Some.is c.index-arguments-1.is c.index-arguments-2.is
-        c.as_str-in-Some.ensures.value c.as_str-2.ensures.value c.as_str-3.ensures.value in
+    c.as_str-in-Some.result.now c.as_str-2.result.now c.as_str-3.result.now c.if-arguments-ne3.false
+    c.index-arguments-0-in-Some.is c.index-arguments-1.is c.index-arguments-2.is
+    c.as_str-in-Some.ensures.value c.as_str-2.ensures.value c.as_str-3.ensures.value in
     c.run_limited.ensures.unread (none_within _ _ _ _ are _ c.in-Some.ensures none)
 
 pub returns-in-None-clause-prints : goal.returns-in-None-clause-prints
@@ -58,8 +58,8 @@ returns-in-None-clause-prints g c = λ read written.
     let given = some_input (g.R.Read.remaining c.args.reader.now) in
     let first = get_or c.args.arguments.now 0 c.index-arguments-1.result in
     let are = three_arguments string_bytes c.args.arguments.now first c.index-arguments-1.result c.index-arguments-2.result
-        c.if-arguments-ne3.false (get_or_again c.args.arguments.now c.index-arguments-1.result c.if-arguments-ne3.false)
-        c.index-arguments-1.is c.index-arguments-2.is in
+    c.if-arguments-ne3.false (get_or_again c.args.arguments.now c.index-arguments-1.result c.if-arguments-ne3.false)
+    c.index-arguments-1.is c.index-arguments-2.is in
     let second = ap (λ x. string_bytes first ∷ x ∷ string_bytes c.index-arguments-2.result ∷ []) (sym c.as_str-2.ensures.value) in
     let third = ap (λ x. string_bytes first ∷ c.as_str-2.result.now ∷ x ∷ []) (sym c.as_str-3.ensures.value) in
     (codes "bad argument", given.0, given.1, refuses_all _ _ _ (no_limits _ _ _ _ (are ∙ second ∙ third) c.in-None.ensures) w.0, w.1)
