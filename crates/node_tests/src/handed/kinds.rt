@@ -91,6 +91,11 @@ fn shapes(alloc: Global) -> Result<Vec<Shape>, AllocError> {
     ]?)
 }
 
+// The schema of the shapes.
+fn schema(alloc: Global) -> Result<Schema, Fail> {
+    schema_of(alloc, shapes(alloc)?)
+}
+
 // What a document reads as by the call for the kind of the shape, if it is one of parts.
 fn document_of_parts<'de>(
     alloc: Global,
@@ -243,7 +248,7 @@ fn told_of_document(
 
 #[test]
 fn each_call_reads_a_document(rt: HostRuntime) -> Result<(), Fail> {
-    let schema = schema_of(rt.alloc(), shapes(rt.alloc())?)?;
+    let schema = schema(rt.alloc())?;
     for &(id, node, expected) in ROWS {
         let text = told_of_document(rt.alloc(), &schema, id, node)?;
         assert_eq!(rt; text.as_str(), expected, "{node}");
@@ -259,7 +264,7 @@ fn told_of_stream(alloc: Global, schema: &Schema, id: ShapeId, node: &str) -> Re
 
 #[test]
 fn each_call_reads_a_stream(rt: HostRuntime) -> Result<(), Fail> {
-    let schema = schema_of(rt.alloc(), shapes(rt.alloc())?)?;
+    let schema = schema(rt.alloc())?;
     for &(id, node, expected) in ROWS {
         let text = told_of_stream(rt.alloc(), &schema, id, node)?;
         assert_eq!(rt; text.as_str(), expected, "{node}");

@@ -40,29 +40,47 @@ fn nested(alloc: Global, start: &str, end: &str, depth: u32) -> Result<String, A
     format!(in alloc; "{starts}=VAL :x; {ends}")
 }
 
+// What so many collections read as, one within another.
+fn reading_of_nested(alloc: Global, start: &str, end: &str, depth: u32) -> Result<String, Fail> {
+    reading(alloc, nested(alloc, start, end, depth)?.as_str())
+}
+
+// The text of so many sequences, one within another, around a text.
+fn shown_nested(alloc: Global, depth: u32) -> Result<String, AllocError> {
+    let left = repeated(alloc, "[", depth)?;
+    let right = repeated(alloc, "]", depth)?;
+    format!(in alloc; "{left}\"x\"{right}")
+}
+
 #[test]
-fn reads_128_nestings_and_refuses_the_next(rt: HostRuntime) -> Result<(), Fail> {
-    let alloc = rt.alloc();
-    let node = nested(alloc, "+SEQ; ", "-SEQ; ", 128)?;
-    let left = repeated(alloc, "[", 128)?;
-    let right = repeated(alloc, "]", 128)?;
-    let shown = format!(in alloc; "{left}\"x\"{right}")?;
-    assert_eq!(rt; reading(alloc, node.as_str())?.as_str(), shown.as_str());
-    let refused = reading(alloc, nested(alloc, "+SEQ; ", "-SEQ; ", 129)?.as_str())?;
-    assert_eq!(rt;
-        refused.as_str(),
-        "recursion limit exceeded at line 1 column 129"
-    );
-    let tagged = reading(alloc, nested(alloc, "+SEQ <!t>; ", "-SEQ; ", 129)?.as_str())?;
-    assert_eq!(rt; tagged.as_str(), refused.as_str());
-    let pairs = reading(
-        alloc,
-        nested(alloc, "0:0:7 +MAP; =VAL :k; ", "-MAP; ", 129)?.as_str(),
-    )?;
-    assert_eq!(rt;
-        pairs.as_str(),
-        "recursion limit exceeded at line 1 column 8"
-    );
+fn reads_128_nestings(rt: HostRuntime) -> Result<(), Fail> {
+    let read = reading_of_nested(rt.alloc(), "+SEQ; ", "-SEQ; ", 128)?;
+    assert_eq!(rt; read.as_str(), shown_nested(rt.alloc(), 128)?.as_str());
+    Ok(())
+}
+
+#[test]
+fn refuses_the_next_nesting(rt: HostRuntime) -> Result<(), Fail> {
+    for &(start, end, expected) in &[
+        (
+            "+SEQ; ",
+            "-SEQ; ",
+            "recursion limit exceeded at line 1 column 129",
+        ),
+        (
+            "+SEQ <!t>; ",
+            "-SEQ; ",
+            "recursion limit exceeded at line 1 column 129",
+        ),
+        (
+            "0:0:7 +MAP; =VAL :k; ",
+            "-MAP; ",
+            "recursion limit exceeded at line 1 column 8",
+        ),
+    ] {
+        let refused = reading_of_nested(rt.alloc(), start, end, 129)?;
+        assert_eq!(rt; refused.as_str(), expected, "{start}");
+    }
     Ok(())
 }
 
