@@ -30,6 +30,7 @@ lines() {
                 if (row == "integers") for (i = 0; i < 2 * size; i++) say("=VAL :" i)
                 if (row == "rising") for (i = 1; i <= size; i++) pair(sprintf("a%07d", i))
                 if (row == "falling") for (i = size; i >= 1; i--) pair(sprintf("a%07d", i))
+                if (row == "mixed") for (i = 1; i <= size; i++) pair(sprintf("a%010d", i * 48271 % 2147483647))
                 if (row == "one") for (i = 0; i < size; i++) pair("a")
                 if (row == "nested") { for (i = 1; i < size; i++) say("+SEQ"); say("!ERR PARSER 0 cut"); exit }
                 say("-SEQ")
@@ -62,6 +63,7 @@ row "documents of one integer, the first read as \`i64\`, which refuses several"
 row "a list of integers, twice as many" list integers 100000 1000000
 row "different anchors in rising order, each followed by its alias" list rising 100000 1000000
 row "different anchors in falling order, each followed by its alias" list falling 100000 1000000
+row "different anchors in no order, each followed by its alias" list mixed 100000 1000000
 row "one anchor, given again before each alias" list one 100000 1000000
 row "starts of sequences, one within another, cut off by the parser's fault, which a list refuses" \
     list nested 100000 1000000

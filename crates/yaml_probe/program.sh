@@ -1,6 +1,6 @@
 #!/bin/sh
-# Runs the built program on inputs that are larger than a test in a checked build can hold, and compares what it prints
-# and its status. Ends with status 0 only if each run is as it should be.
+# Runs the built program on inputs that are larger than a test in a checked build can hold, and on a document of each
+# shape that is cut off at each event, and compares what it prints and its status. Ends with status 0 only if each run is as it should be.
 #
 # usage: program.sh [PROGRAM]   With no PROGRAM it is proved and built first, over what earlier checks kept in out/.
 set -u
@@ -64,6 +64,42 @@ awk 'BEGIN {
     print "twice\t1\t\"fault: duplicate entry with key \\\"k77777\\\"\""
 }' > "$work/wanted"
 want "a mapping of 100,000 keys"
+
+# A document of each shape, cut off behind each of its events: always by what the parser said.
+nodes='0 =VAL :true
+1 =VAL :1
+2 =VAL :x
+3 +SEQ|=VAL :1|=VAL :2|-SEQ
+4 +MAP|=VAL :k|=VAL :1|-MAP
+5 +SEQ|=VAL :1|=VAL :2|-SEQ
+6 +SEQ|=VAL :1|=VAL :2|-SEQ
+7 +MAP|=VAL :a|=VAL :true|=VAL :b|=VAL :1|-MAP
+8 +MAP|=VAL :a|=VAL :true|=VAL :b|=VAL :1|-MAP
+9 +SEQ|=VAL :1|-SEQ
+10 +SEQ|=VAL :1|-SEQ
+11 +SEQ <!A>|=VAL :1|-SEQ
+11 +MAP <!B>|=VAL :a|=VAL :true|-MAP
+11 =VAL :C
+12 +MAP|=VAL :k|+SEQ <!t>|=VAL :1|-SEQ|-MAP
+13 +SEQ|+MAP|=VAL :k|=VAL &z :1|=VAL :l|=ALI *z|-MAP|-SEQ
+14 =VAL :~
+'
+{
+    printf '%s\n' bool i64 str 'seq 1' 'map 2 1' 'tuple 1 1' 'tuple_struct T 1 1' 'struct S a:0 b:1' \
+        'strict_struct S a:0 b:1' 'option 3' 'newtype N 3' 'enum E A:newtype=3 B:struct=a.0 C:unit' any ignored unit ''
+    printf '%s' "$nodes" | awk '{
+        shape = $1
+        sub(/^[0-9]+ /, "")
+        count = split($0, event, "|")
+        for (cut = 0; cut <= count; cut++) {
+            print "@@ " NR "-" cut " shape:" shape "\n0:0:0 +STR\n0:0:0 +DOC"
+            for (i = 1; i <= cut; i++) print "0:0:0 " event[i]
+            print "10:1:0 !ERR PARSER 0 bad"
+        }
+    }'
+} > "$work/in"
+awk '/^@@ / { print $2 "\t1\t\"fault: bad at line 2 column 1\"" }' "$work/in" > "$work/wanted"
+want "documents that were cut off"
 
 echo "program: $count runs, $([ "$failed" = 0 ] && echo all as they should be || echo FAILED)"
 exit "$failed"
