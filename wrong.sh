@@ -133,11 +133,10 @@ copy_tree() {
     done
 }
 
-# Tries batches until none is left that no other job has taken. An edit that no goal of a function that it changes
-# refuses is left to be tried alone.
+# Tries batches until none is left that no other job has taken. An edit is left for later that no goal of a function
+# that it changes refuses; one that breaks types or borrows there is left to be tried alone.
 try_batches() {
     tree=$work/tree.$1
-    copy_tree "$tree"
     while read -r name number; do
         mkdir "$work/batch.$name.$number" 2> /dev/null || continue
         grep "^$number " "$work/batches.$name" > "$tree/batch"
@@ -151,15 +150,16 @@ try_batches() {
             fi
         done < "$tree/batch"
         rt check --jobs 1 > "$tree/log" 2>&1
+        ended=alone
+        ! grep -q ' error\[' "$tree/log" || ended=broken
         while read -r edit keys; do
-            refusal=
-            if ! grep -q ' error\[' "$tree/log"; then
-                refusal=$(awk -v keys="$keys" -f "$root/.ci/refusals.awk" < "$tree/log" | cut -c 1-200)
-            fi
-            if [ -n "$refusal" ]; then
-                say "$name: $(basename "$edit" .edit): refused: $refusal"
-            else
+            found=$(awk -v keys="$keys" -v broken="$ended" -f "$root/.ci/refusals.awk" < "$tree/log" | cut -c 1-200)
+            if [ -z "$found" ]; then
                 echo "crates/$name/$edit" >> "$work/alone"
+            elif [ "$ended" = broken ]; then
+                echo "crates/$name/$edit" >> "$work/broken"
+            else
+                say "$name: $(basename "$edit" .edit): refused: $found"
             fi
         done < "$tree/made"
         cd "$root" || exit 1
@@ -190,27 +190,50 @@ try_edits() {
     done < "$work/alone"
 }
 
-# the edits of each crate, in batches
-: > "$work/batches"
-for name in $proved; do
-    for edit in $(grep "^crates/$name/" "$work/edits"); do
-        printf '%s\n' "${edit#"crates/$name/"}"
-    done > "$work/of_crate"
-    [ -s "$work/of_crate" ] || continue
-    (cd "crates/$name" && xargs awk -f "$root/.ci/batches.awk") < "$work/of_crate" > "$work/batches.$name"
-    cut -d ' ' -f 1 "$work/batches.$name" | sort -nu | sed "s/^/$name /" >> "$work/batches"
-done
+# Lists the edits that are left, in batches of each crate.
+make_batches() {
+    : > "$work/batches"
+    rm -rf "$work"/batch.*
+    for name in $proved; do
+        sed -n "s|^crates/$name/||p" "$work/alone" > "$work/of_crate"
+        [ -s "$work/of_crate" ] || continue
+        (cd "crates/$name" && xargs awk -f "$root/.ci/batches.awk") < "$work/of_crate" > "$work/batches.$name"
+        cut -d ' ' -f 1 "$work/batches.$name" | sort -nu | sed "s/^/$name /" >> "$work/batches"
+    done
+    : > "$work/alone"
+}
 
-: > "$work/said"
-: > "$work/alone"
-for step in try_batches try_edits; do
+# Runs a step in each job.
+run_jobs() {
     job=0
     while [ "$job" -lt "$jobs" ]; do
         job=$((job + 1))
-        "$step" "$job" &
+        "$1" "$job" &
     done
     wait
+}
+
+job=0
+while [ "$job" -lt "$jobs" ]; do
+    job=$((job + 1))
+    copy_tree "$work/tree.$job"
 done
+
+# Where an edit's function calls one that another edit of the batch breaks, its goals are not tried: so what is left is
+# put into batches again, as long as that shows anything.
+: > "$work/said"
+: > "$work/broken"
+cp "$work/edits" "$work/alone"
+left=$(wc -l < "$work/alone")
+before=$((left + 1))
+while [ "$left" -gt 1 ] && [ "$left" -lt "$before" ]; do
+    before=$left
+    make_batches
+    run_jobs try_batches
+    left=$(wc -l < "$work/alone")
+done
+cat "$work/broken" >> "$work/alone"
+run_jobs try_edits
 awk -v wanted="$(wc -l < "$work/edits")" '
     / refused: / { refused++ }
     END {

@@ -1,5 +1,6 @@
-# Tells which functions a check refused by a goal: the check's output is standard input, and `keys` names functions as
-# FILE:NAME, with spaces between. Run in the folder of the edited crate; prints the first such goal, if there is one.
+# Tells whether a check refused one of some functions by a goal, and prints the first such goal: the check's output is
+# standard input, and `keys` names the functions as FILE:NAME, with spaces between. Where `broken` is "broken" it tells
+# an error of types or borrows in one of them instead. Run in the folder of the edited crate.
 
 # Whether a place lies in this function of an edited file. The attributes above a function are part of it.
 function lies_in(name, file, place, line, number, inside, above, at, found) {
@@ -26,12 +27,14 @@ function lies_in(name, file, place, line, number, inside, above, at, found) {
 
 BEGIN { wanted = split(keys, all, " ") }
 
-/^note: src\/.*: it is not proved that/ {
-    split(substr($0, 7), part, ":")
+broken == "broken" ? /^src\/.* error\[/ : /^note: src\/.*: it is not proved that/ {
+    said = $0
+    sub(/^note: /, "", said)
+    split(said, part, ":")
     for (i = 1; i <= wanted; i++) {
         split(all[i], key, ":")
         if (key[1] == part[1] && lies_in(key[2], key[1], part[2])) {
-            print substr($0, 7)
+            print said
             exit
         }
     }
@@ -39,7 +42,7 @@ BEGIN { wanted = split(keys, all, " ") }
 
 # a written answer that no longer answers its goal, told by the function's folder, or by its name where several
 # functions that call each other have one folder
-/^\.\/proofs\/.*: error: `[^`]*`: / && !/is not in scope|has no field|has no `|is no name|was not admitted|\(nearest: / {
+broken != "broken" && /^\.\/proofs\/.*: error: `[^`]*`: / && !/is not in scope|has no field|has no `|is no name|was not admitted|\(nearest: / {
     split($0, part, ":")
     folders = split(part[1], folder, "/")
     split($0, named, "`")
