@@ -50,18 +50,26 @@ pub(crate) fn error(alloc: Global, literal: CauseLiteral) -> Result<Error, Alloc
     Ok(Error::new(cause(alloc, literal)?))
 }
 
+// What a fault prints.
+fn printed(alloc: Global, fault: &Error) -> Result<String, AllocError> {
+    fault.to_string(alloc)
+}
+
+// A copy of a fault.
+fn copied(alloc: Global, fault: &Error) -> yaml_base::Result<Error> {
+    fault.copy(alloc)
+}
+
 // What a fault and a copy of it print.
-fn printed_twice(alloc: Global, fault: &Error) -> yaml_base::Result<(String, String)> {
-    Ok((
-        fault.to_string(alloc)?,
-        fault.copy(alloc)?.to_string(alloc)?,
-    ))
+fn printed_twice(alloc: Global, fault: Error) -> yaml_base::Result<(String, String)> {
+    let copy = copied(alloc, &fault)?;
+    Ok((printed(alloc, &fault)?, printed(alloc, &copy)?))
 }
 
 // A fault prints this, and so does its copy.
 pub(crate) fn prints(
     rt: &(impl AllocGlobal + Abort),
-    fault: &Error,
+    fault: Error,
     expected: &str,
 ) -> Result<(), Fail> {
     let (text, again) = printed_twice(rt.alloc(), fault)?;

@@ -8,7 +8,7 @@ use super::causes::CauseLiteral::{
 use super::causes::{FoundLiteral as Found, KeyLiteral as Key};
 use std::alloc::{AllocError, Global};
 use std::test::Fail;
-use yaml_base::{Anchor, FaultKind, Scalar, ScalarStyle, Tag};
+use yaml_base::{Anchor, Error, FaultKind, Scalar, ScalarStyle, Tag};
 
 // A cause, and what its fault shows.
 const ROWS: &[(CauseLiteral, &str)] = &[
@@ -84,11 +84,21 @@ const ROWS: &[(CauseLiteral, &str)] = &[
     ),
 ];
 
+// What a fault shows.
+fn show_fault(alloc: Global, fault: &Error) -> Result<String, AllocError> {
+    format!(in alloc; "{fault:?}")
+}
+
+// What the fault with this cause shows.
+fn shown_fault(alloc: Global, literal: CauseLiteral) -> Result<String, AllocError> {
+    let fault = error(alloc, literal)?;
+    show_fault(alloc, &fault)
+}
+
 #[test]
 fn faults_show_their_message_and_place(rt: HostRuntime) -> Result<(), Fail> {
     for &(literal, expected) in ROWS {
-        let fault = error(rt.alloc(), literal)?;
-        let text = format!(in rt.alloc(); "{fault:?}")?;
+        let text = shown_fault(rt.alloc(), literal)?;
         assert_eq!(rt; text.as_str(), expected);
     }
     Ok(())

@@ -9,6 +9,7 @@ use super::causes::CauseLiteral::{
     SerializeNestedEnum, TaggedInMerge, UnknownAnchor, UnknownField, UnknownVariant,
 };
 use super::causes::{FoundLiteral as Found, KeyLiteral as Key};
+use std::process::Abort;
 use std::test::Fail;
 use yaml_base::FaultKind;
 
@@ -231,10 +232,19 @@ const ROWS: &[(CauseLiteral, &str)] = &[
     ),
 ];
 
+// The fault with this cause prints this, and so does its copy.
+fn says(
+    rt: &(impl AllocGlobal + Abort),
+    literal: CauseLiteral,
+    expected: &str,
+) -> Result<(), Fail> {
+    prints(rt, error(rt.alloc(), literal)?, expected)
+}
+
 #[test]
 fn faults_and_their_copies_say_what_is_wrong(rt: HostRuntime) -> Result<(), Fail> {
     for &(literal, text) in ROWS {
-        prints(&rt, &error(rt.alloc(), literal)?, text)?;
+        says(&rt, literal, text)?;
     }
     Ok(())
 }

@@ -139,9 +139,9 @@ fn a_fault_is_given_a_place(rt: HostRuntime) -> Result<(), Fail> {
         ("k", "k: no at line 2 column 1"),
         (".", "no at line 2 column 1"),
     ] {
-        prints(&rt, &refusal_at(rt.alloc(), key)?, expected)?;
+        prints(&rt, refusal_at(rt.alloc(), key)?, expected)?;
     }
-    prints(&rt, &unplaced(rt.alloc())?, "EOF while parsing a value")
+    prints(&rt, unplaced(rt.alloc())?, "EOF while parsing a value")
 }
 
 // A fault with a text of its own, at the root.
@@ -155,15 +155,15 @@ fn placed_again(alloc: Global) -> yaml_base::Result<Error> {
 }
 
 // A fault stands at the root, where it was first placed.
-fn stays(rt: &(impl AllocGlobal + Abort), fault: &Error) -> Result<(), Fail> {
-    assert_eq!(rt; position(fault), Some((3, 1, 4)));
+fn stays(rt: &(impl AllocGlobal + Abort), fault: Error) -> Result<(), Fail> {
+    assert_eq!(rt; position(&fault), Some((3, 1, 4)));
     prints(rt, fault, "no at line 1 column 4")
 }
 
 #[test]
 fn a_place_stays(rt: HostRuntime) -> Result<(), Fail> {
-    stays(&rt, &refusal_at_root(rt.alloc())?)?;
-    stays(&rt, &placed_again(rt.alloc())?)
+    stays(&rt, refusal_at_root(rt.alloc())?)?;
+    stays(&rt, placed_again(rt.alloc())?)
 }
 
 #[test]
@@ -193,7 +193,7 @@ fn is_custom(fault: &Error) -> bool {
 fn texts_of_ones_own_stand_as_they_are(rt: HostRuntime) -> Result<(), Fail> {
     let fault = own(rt.alloc(), "own \u{e9}")?;
     assert!(rt; is_custom(&fault));
-    prints(&rt, &fault, "own \u{e9}")
+    prints(&rt, fault, "own \u{e9}")
 }
 
 // So many letters.
@@ -219,7 +219,7 @@ fn long_names_are_printed_whole(rt: HostRuntime) -> Result<(), Fail> {
     let name = letters(rt.alloc(), 5_000)?;
     let fault = missing_at(rt.alloc(), name.as_str())?;
     let expected = format!(in rt.alloc(); "{name}: missing field `{name}`")?;
-    prints(&rt, &fault, expected.as_str())
+    prints(&rt, fault, expected.as_str())
 }
 
 // The text of words made of a text.

@@ -2,6 +2,7 @@
 use super::plain::Plain::{self, List, Null, Pairs, Tagged, Text, Unsigned};
 use super::plain::{is, is_copied, value};
 use std::alloc::Global;
+use std::process::Abort;
 use std::test::Fail;
 use yaml_tree::{Mapping, Number, Sequence, Tag, TreeFault, Value};
 
@@ -124,21 +125,37 @@ const LEFT: &[(Plain<'static>, Plain<'static>)] = &[
     (C, Unsigned(6)),
 ];
 
+const ABSENT: [Plain<'static>; 3] = [Null, Tagged("!c", &Null), Pairs(&[(A, Null)])];
+
+// Puts each number at its key, where there was what the table says.
+fn put_numbers(rt: &(impl AllocGlobal + Abort), mapping: &mut Mapping) -> Result<(), Fail> {
+    for (key, number, old) in &PUT {
+        assert!(rt; is_at(rt.alloc(), mapping, key, old)?, "at {number}");
+        assert!(rt;
+            replaces(rt.alloc(), mapping, key, *number, old)?,
+            "put {number}"
+        );
+    }
+    Ok(())
+}
+
+// Whether there is nothing at any of these keys.
+fn has_none(alloc: Global, mapping: &Mapping, keys: &[Plain]) -> Result<bool, Fail> {
+    for key in keys {
+        if !is_at(alloc, mapping, key, &None)? {
+            return Ok(false);
+        }
+    }
+    Ok(true)
+}
+
 #[test]
 fn mappings(rt: HostRuntime) -> Result<(), Fail> {
     let mut mapping = Mapping::new(rt.alloc());
     assert!(rt; mapping.is_empty());
-    for (key, number, old) in PUT {
-        assert!(rt; is_at(rt.alloc(), &mapping, &key, &old)?, "at {number}");
-        assert!(rt;
-            replaces(rt.alloc(), &mut mapping, &key, number, &old)?,
-            "put {number}"
-        );
-    }
+    put_numbers(&rt, &mut mapping)?;
     assert_eq!(rt; mapping.len(), 3);
-    for absent in [Null, Tagged("!c", &Null), Pairs(&[(A, Null)])] {
-        assert!(rt; is_at(rt.alloc(), &mapping, &absent, &None)?);
-    }
+    assert!(rt; has_none(rt.alloc(), &mapping, &ABSENT)?);
     assert!(rt; pairs_are(rt.alloc(), &mapping, LEFT)?);
     Ok(())
 }
@@ -174,23 +191,36 @@ fn sequence(alloc: Global, items: &[Plain]) -> Result<Sequence, Fail> {
     Ok(sequence)
 }
 
+// Whether a sequence to which nothing was added is empty.
+fn is_left_empty(alloc: Global) -> Result<bool, Fail> {
+    Ok(sequence(alloc, &[])?.is_empty())
+}
+
+// The length of a sequence, how many items are gone through, how many lie in its slice, and whether there is no third.
+fn lengths(sequence: &Sequence) -> (usize, usize, usize, bool) {
+    (
+        sequence.len(),
+        sequence.iter().count(),
+        sequence.as_slice().len(),
+        sequence.get(2).is_none(),
+    )
+}
+
+// Whether a sequence of these items is a literal's value.
+fn is_list(alloc: Global, items: Vec<Value>, wanted: &Plain) -> Result<bool, Fail> {
+    let value = Value::Sequence(Sequence::from(items));
+    is(alloc, &value, wanted)
+}
+
 #[test]
 fn sequences(rt: HostRuntime) -> Result<(), Fail> {
-    assert!(rt; sequence(rt.alloc(), &[])?.is_empty());
+    assert!(rt; is_left_empty(rt.alloc())?);
     let sequence = sequence(rt.alloc(), &[A, B])?;
-    assert_eq!(rt; sequence.len(), 2);
     assert!(rt; is_as_wanted(rt.alloc(), sequence.get(1), &Some(B))?);
-    assert!(rt; sequence.get(2).is_none());
-    assert_eq!(rt; sequence.iter().count(), sequence.as_slice().len());
+    assert_eq!(rt; lengths(&sequence), (2, 2, 2, true));
     let items = sequence.into_vec();
     assert_eq!(rt; items.len(), 2);
-    assert!(rt;
-        is(
-            rt.alloc(),
-            &Value::Sequence(Sequence::from(items)),
-            &List(&[A, B])
-        )?
-    );
+    assert!(rt; is_list(rt.alloc(), items, &List(&[A, B]))?);
     Ok(())
 }
 
@@ -217,10 +247,28 @@ fn has_tag(value: &Value, tag: &str) -> bool {
     }
 }
 
+// Whether the copy of a literal's value is equal to it.
+fn copy_is_equal(alloc: Global, plain: &Plain) -> Result<bool, Fail> {
+    let value = value(alloc, plain)?;
+    is_copied(alloc, &value)
+}
+
+// Whether the copy of a literal's value is a mapping of these pairs, in this order.
+fn copy_has_pairs(alloc: Global, plain: &Plain, pairs: &[(Plain, Plain)]) -> Result<bool, Fail> {
+    let copy = copied(alloc, plain)?;
+    has_pairs(alloc, &copy, pairs)
+}
+
+// Whether the copy of a literal's value has this tag.
+fn copy_has_tag(alloc: Global, plain: &Plain, tag: &str) -> Result<bool, Fail> {
+    let copy = copied(alloc, plain)?;
+    Ok(has_tag(&copy, tag))
+}
+
 #[test]
 fn copies(rt: HostRuntime) -> Result<(), Fail> {
-    assert!(rt; is_copied(rt.alloc(), &value(rt.alloc(), &Pairs(PAIRS))?)?);
-    assert!(rt; has_pairs(rt.alloc(), &copied(rt.alloc(), &Pairs(PAIRS))?, PAIRS)?);
-    assert!(rt; has_tag(&copied(rt.alloc(), &B)?, "!b"));
+    assert!(rt; copy_is_equal(rt.alloc(), &Pairs(PAIRS))?);
+    assert!(rt; copy_has_pairs(rt.alloc(), &Pairs(PAIRS), PAIRS)?);
+    assert!(rt; copy_has_tag(rt.alloc(), &B, "!b")?);
     Ok(())
 }
