@@ -214,11 +214,16 @@ fn missing_at(alloc: Global, name: &str) -> yaml_base::Result<Error> {
     placed(alloc, Error::new(cause), mark(0, 0), name)
 }
 
+// What that fault prints.
+fn missing_text(alloc: Global, name: &str) -> Result<String, AllocError> {
+    format!(in alloc; "{name}: missing field `{name}`")
+}
+
 #[test]
 fn long_names_are_printed_whole(rt: HostRuntime) -> Result<(), Fail> {
     let name = letters(rt.alloc(), 5_000)?;
+    let expected = missing_text(rt.alloc(), name.as_str())?;
     let fault = missing_at(rt.alloc(), name.as_str())?;
-    let expected = format!(in rt.alloc(); "{name}: missing field `{name}`")?;
     prints(&rt, fault, expected.as_str())
 }
 

@@ -1,10 +1,15 @@
 //! Each call once, and what it answers at its edges.
 use super::plain::Plain::{self, List, Null, Pairs, Tagged, Text, Unsigned};
 use super::plain::{is, is_copied, value};
-use std::alloc::Global;
+use std::alloc::{AllocError, Global};
 use std::process::Abort;
 use std::test::Fail;
 use yaml_tree::{Mapping, Number, Sequence, Tag, TreeFault, Value};
+
+// Whether a number prints this.
+fn prints(alloc: Global, number: Number, expected: &str) -> Result<bool, AllocError> {
+    Ok(number.to_string(alloc)?.as_str() == expected)
+}
 
 #[test]
 fn numbers(rt: HostRuntime) -> Result<(), Fail> {
@@ -39,9 +44,14 @@ fn numbers(rt: HostRuntime) -> Result<(), Fail> {
     ] {
         assert_eq!(rt; number.as_u64(), unsigned);
         assert_eq!(rt; number.as_i64(), signed);
-        assert_eq!(rt; number.to_string(rt.alloc())?.as_str(), text);
+        assert!(rt; prints(rt.alloc(), number, text)?, "{text}");
     }
     Ok(())
+}
+
+// Whether a tag is equal to that of a text.
+fn is_equal(alloc: Global, tag: &Tag, text: &str) -> Result<bool, TreeFault> {
+    Ok(*tag == Tag::new(alloc, text)?)
 }
 
 #[test]
@@ -56,7 +66,7 @@ fn tags(rt: HostRuntime) -> Result<(), Fail> {
     ] {
         let tag = Tag::new(rt.alloc(), left)?;
         assert_eq!(rt; tag.as_str(), left);
-        assert_eq!(rt; tag == Tag::new(rt.alloc(), right)?, equal);
+        assert_eq!(rt; is_equal(rt.alloc(), &tag, right)?, equal);
     }
     Ok(())
 }

@@ -120,18 +120,41 @@ fn mapping(alloc: Global, keys: Keys, count: u64, backwards: bool) -> Result<Map
     Ok(mapping)
 }
 
+// Whether this is what a mapping has at the key of a number.
+fn has(
+    alloc: Global,
+    mapping: &Mapping,
+    keys: Keys,
+    n: u64,
+    value: Option<&Value>,
+) -> Result<bool, Fail> {
+    let key = key(alloc, keys, n)?;
+    Ok(mapping.get(&key) == value)
+}
+
+// Puts a value at the key of a number, and gives what was there.
+fn replaced(
+    alloc: Global,
+    mapping: &mut Mapping,
+    keys: Keys,
+    n: u64,
+    value: Value,
+) -> Result<Option<Value>, Fail> {
+    let key = key(alloc, keys, n)?;
+    Ok(mapping.insert(key, value)?)
+}
+
 // Whether each of so many keys has its number as value, and is there when it is put again, and one more is not there.
 fn has_keys(alloc: Global, mapping: &mut Mapping, keys: Keys, count: u64) -> Result<bool, Fail> {
     for n in 0..count {
-        let value = number(n);
-        if mapping.get(&key(alloc, keys, n)?) != Some(&value) {
+        if !has(alloc, mapping, keys, n, Some(&number(n)))? {
             return Ok(false);
         }
-        if mapping.insert(key(alloc, keys, n)?, number(n))? != Some(value) {
+        if replaced(alloc, mapping, keys, n, number(n))? != Some(number(n)) {
             return Ok(false);
         }
     }
-    Ok(mapping.get(&key(alloc, keys, count)?).is_none())
+    has(alloc, mapping, keys, count, None)
 }
 
 // Whether a mapping of so many keys holds these equal ones, also once it is copied.
@@ -145,17 +168,29 @@ fn is_found(alloc: Global, keys: Keys, equal: Keys, count: u64) -> Result<bool, 
     Ok(value == backwards && value.copy(alloc)? == backwards)
 }
 
+// Puts a value at the key of a number, and says whether the mapping is equal to another then.
+fn equals_with(
+    alloc: Global,
+    mapping: &mut Mapping,
+    keys: Keys,
+    n: u64,
+    value: Value,
+    other: &Mapping,
+) -> Result<bool, Fail> {
+    let key = key(alloc, keys, n)?;
+    put(mapping, key, value)?;
+    Ok(*mapping == *other)
+}
+
 // Whether a mapping of so many keys differs from itself with another last value, and with one more key.
 fn is_told(alloc: Global, keys: Keys, count: u64) -> Result<bool, Fail> {
     let whole = mapping(alloc, keys, count, false)?;
     let mut other = mapping(alloc, keys, count, true)?;
     let last = count.saturating_sub(1);
-    put(&mut other, key(alloc, keys, last)?, Value::Null)?;
-    let differs = other != whole;
-    put(&mut other, key(alloc, keys, last)?, number(last))?;
-    let same = other == whole;
-    put(&mut other, key(alloc, keys, count)?, Value::Null)?;
-    Ok(differs && same && other != whole)
+    let differs = !equals_with(alloc, &mut other, keys, last, Value::Null, &whole)?;
+    let same = equals_with(alloc, &mut other, keys, last, number(last), &whole)?;
+    let longer = !equals_with(alloc, &mut other, keys, count, Value::Null, &whole)?;
+    Ok(differs && same && longer)
 }
 
 #[test]
