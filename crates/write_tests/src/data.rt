@@ -1,115 +1,19 @@
 //! Data of each shape, written by its shape.
 
+mod shapes;
+
 use super::runs::{BYTES, TAGS};
 use super::shown::shown;
 use super::steps::{Answer, told};
 use super::values::{Literal, value};
+use shapes::{name, schema};
 use std::alloc::{AllocError, Global};
 use std::test::Fail;
-use yaml_shape::{Data, Entry, Schema, Shape, ShapeId, Text, Typed, VariantShape};
+use yaml_shape::{Data, Entry, Schema, ShapeId, Text, Typed};
 use yaml_write::Serializer;
 
-// A name.
-fn name(alloc: Global, text: &str) -> Result<String, AllocError> {
-    String::from_str(alloc, text)
-}
-
-// Fields with these names, each of the shape with this number.
-fn fields(alloc: Global, names: &[&str], shape: u32) -> Result<Vec<(String, ShapeId)>, AllocError> {
-    let mut fields = Vec::new(alloc);
-    for name in names {
-        fields.push((String::from_str(alloc, name)?, ShapeId(shape)))?;
-    }
-    Ok(fields)
-}
-
-// The names of the enum's variants, whose shapes are below.
-const VARIANTS: &[&str] = &[
-    "Unit", "Newtype", "Tuple", "Color", "Strict", "Any", "Inner", "Maybe", "Bytes", "Nothing",
-    "Bare", "!Map",
-];
-
-// The shape of the variant at a place.
-fn variant_shape(alloc: Global, place: usize) -> Result<VariantShape, AllocError> {
-    let small = ShapeId(1);
-    match place {
-        0 => Ok(VariantShape::Unit),
-        1 => Ok(VariantShape::Newtype(small)),
-        2 => Ok(VariantShape::Tuple(vec![in alloc; small, small, small]?)),
-        3 => Ok(VariantShape::Struct(fields(alloc, &["r", "g", "b"], 1)?)),
-        4 => Ok(VariantShape::StrictStruct(fields(alloc, &["e", "d"], 1)?)),
-        5 => Ok(VariantShape::Newtype(ShapeId(0))),
-        6 => Ok(VariantShape::Newtype(ShapeId(12))),
-        7 => Ok(VariantShape::Newtype(ShapeId(4))),
-        8 => Ok(VariantShape::Newtype(ShapeId(3))),
-        9 => Ok(VariantShape::Tuple(Vec::new(alloc))),
-        10 => Ok(VariantShape::StrictStruct(Vec::new(alloc))),
-        _ => Ok(VariantShape::Newtype(ShapeId(9))),
-    }
-}
-
-// An enum with variants of each kind.
-fn variants(alloc: Global) -> Result<Vec<(String, VariantShape)>, AllocError> {
-    let mut variants = Vec::new(alloc);
-    for (place, text) in VARIANTS.iter().enumerate() {
-        let shape = variant_shape(alloc, place)?;
-        variants.push((name(alloc, text)?, shape))?;
-    }
-    Ok(variants)
-}
-
-// A shape that has a name.
-fn named(alloc: Global, number: u32) -> Result<Shape, AllocError> {
-    let (small, text, name) = (ShapeId(1), ShapeId(2), name(alloc, "N")?);
-    match number {
-        5 => Ok(Shape::Newtype { name, inner: text }),
-        8 => Ok(Shape::TupleStruct {
-            name,
-            items: vec![in alloc; text, small]?,
-        }),
-        10 => Ok(Shape::Struct {
-            name,
-            fields: fields(alloc, &["k", "true"], 1)?,
-        }),
-        11 => Ok(Shape::StrictStruct {
-            name,
-            fields: fields(alloc, &["a\nb", "007"], 4)?,
-        }),
-        _ => Ok(Shape::Enum {
-            name,
-            variants: variants(alloc)?,
-        }),
-    }
-}
-
-// The shape with this number, as the rows below name it.
-fn shape(alloc: Global, number: u32) -> Result<Shape, AllocError> {
-    match number {
-        0 => Ok(Shape::Any),
-        1 => Ok(Shape::I64),
-        2 => Ok(Shape::Str),
-        3 => Ok(Shape::Bytes),
-        4 => Ok(Shape::Option(ShapeId(1))),
-        6 => Ok(Shape::Seq(ShapeId(4))),
-        7 => Ok(Shape::Tuple(vec![in alloc; ShapeId(1), ShapeId(2)]?)),
-        9 => Ok(Shape::Map(ShapeId(2), ShapeId(6))),
-        13 => Ok(Shape::IgnoredAny),
-        14 => Ok(Shape::Unit),
-        15 => Ok(Shape::U128),
-        16 => Ok(Shape::Char),
-        17 => Ok(Shape::Bool),
-        _ => named(alloc, number),
-    }
-}
-
-// The schema of all these shapes.
-fn schema(alloc: Global) -> Result<Schema, Fail> {
-    let mut shapes = Vec::new(alloc);
-    for number in 0..18 {
-        shapes.push(shape(alloc, number)?)?;
-    }
-    Ok(Schema::new(alloc, shapes)?)
-}
+// Data, and the number of its shape.
+type Shaped<'a> = (ShapeId, Data<'a>);
 
 fn boxed<'a>(alloc: Global, data: Data<'a>) -> Result<Box<Data<'a>>, AllocError> {
     Ok(Box::new(alloc, data)?)
@@ -147,20 +51,24 @@ fn written(alloc: Global, schema: &Schema, id: ShapeId, data: &Data<'_>) -> Resu
     }
 }
 
+// What data is written as by a shape, or the refusal. The data is dropped here, so that its callers need not.
+fn last_written(alloc: Global, schema: &Schema, shaped: Shaped<'_>) -> Result<String, Fail> {
+    written(alloc, schema, shaped.0, &shaped.1)
+}
+
+// The events of a document of its own.
+fn document(alloc: Global, events: &str) -> Result<String, AllocError> {
+    format!(in alloc; "+STR +DOC {events} -DOC")
+}
+
 // Whether data is written so by a shape, in a document of its own.
-fn is(
-    alloc: Global,
-    schema: &Schema,
-    id: ShapeId,
-    data: &Data<'_>,
-    expected: &str,
-) -> Result<bool, Fail> {
-    let whole = format!(in alloc; "+STR +DOC {expected} -DOC")?;
-    Ok(written(alloc, schema, id, data)?.as_str() == whole.as_str())
+fn is(alloc: Global, schema: &Schema, shaped: Shaped<'_>, expected: &str) -> Result<bool, Fail> {
+    let text = last_written(alloc, schema, shaped)?;
+    Ok(text.as_str() == document(alloc, expected)?.as_str())
 }
 
 // Data of a shape, and the shape's number.
-fn leaf<'a>(alloc: Global, number: u32) -> Result<(ShapeId, Data<'a>), Fail> {
+fn leaf<'a>(alloc: Global, number: u32) -> Result<Shaped<'a>, Fail> {
     match number {
         0 => Ok((ShapeId(0), any(alloc, &TAGGED)?)),
         1 => Ok((ShapeId(1), int(-7))),
@@ -196,8 +104,8 @@ const LEAVES: &[(u32, &str)] = &[
 fn scalars_of_shapes(rt: HostRuntime) -> Result<(), Fail> {
     let schema = schema(rt.alloc())?;
     for &(number, expected) in LEAVES {
-        let (id, data) = leaf(rt.alloc(), number)?;
-        assert!(rt; is(rt.alloc(), &schema, id, &data, expected)?, "{expected}");
+        let leaf = leaf(rt.alloc(), number)?;
+        assert!(rt; is(rt.alloc(), &schema, leaf, expected)?, "{expected}");
     }
     Ok(())
 }
@@ -217,7 +125,7 @@ fn one_and_none<'a>(alloc: Global) -> Result<Vec<Data<'a>>, AllocError> {
 }
 
 // Data of a shape that has parts, and the shape's number.
-fn node<'a>(alloc: Global, number: u32) -> Result<(ShapeId, Data<'a>), Fail> {
+fn node<'a>(alloc: Global, number: u32) -> Result<Shaped<'a>, Fail> {
     match number {
         0 => Ok((ShapeId(6), Data::Seq(Vec::new(alloc)))),
         1 => Ok((
@@ -248,8 +156,8 @@ const NODES: &[(u32, &str)] = &[
 fn collections_of_shapes(rt: HostRuntime) -> Result<(), Fail> {
     let schema = schema(rt.alloc())?;
     for &(number, expected) in NODES {
-        let (id, data) = node(rt.alloc(), number)?;
-        assert!(rt; is(rt.alloc(), &schema, id, &data, expected)?, "{expected}");
+        let node = node(rt.alloc(), number)?;
+        assert!(rt; is(rt.alloc(), &schema, node, expected)?, "{expected}");
     }
     Ok(())
 }
@@ -272,7 +180,7 @@ const TAGGED: Literal = Literal::Tagged("t", &Literal::Null);
 
 const LIST: Literal = Literal::List(&[TAGGED]);
 
-// The content of a variant of the enum, and its place.
+// The content of a variant of the enum that is of no other enum, and its place.
 fn content<'a>(alloc: Global, number: usize) -> Result<(usize, Data<'a>), Fail> {
     match number {
         0 => Ok((0, Data::Unit)),
@@ -281,22 +189,31 @@ fn content<'a>(alloc: Global, number: usize) -> Result<(usize, Data<'a>), Fail> 
         3 => Ok((3, Data::Struct(same(alloc, 32, 3)?))),
         4 => Ok((4, Data::Struct(vec![in alloc; int(1), int(2)]?))),
         5 => Ok((5, any(alloc, &LIST)?)),
-        6 => Ok((6, variant(alloc, 0, Data::Unit)?)),
         7 => Ok((7, Data::None)),
         8 => Ok((8, Data::Bytes(Vec::new(alloc)))),
         9 => Ok((9, Data::Tuple(Vec::new(alloc)))),
         10 => Ok((10, Data::Struct(Vec::new(alloc)))),
         11 => Ok((11, Data::Map(Vec::new(alloc)))),
-        12 => Ok((5, any(alloc, &TAGGED)?)),
-        13 => Ok((6, variant(alloc, 1, int(1))?)),
-        _ => Ok((6, variant(alloc, 8, Data::Bytes(Vec::new(alloc)))?)),
+        _ => Ok((5, any(alloc, &TAGGED)?)),
     }
 }
 
-// The variant of a number.
-fn numbered<'a>(alloc: Global, number: usize) -> Result<Data<'a>, Fail> {
-    let (place, content) = content(alloc, number)?;
-    Ok(variant(alloc, place, content)?)
+// A variant of the enum that is the content of another.
+fn inner<'a>(alloc: Global, number: usize) -> Result<Data<'a>, AllocError> {
+    match number {
+        6 => variant(alloc, 0, Data::Unit),
+        13 => variant(alloc, 1, int(1)),
+        _ => variant(alloc, 8, Data::Bytes(Vec::new(alloc))),
+    }
+}
+
+// The variant of a number, and the number of the enum.
+fn numbered<'a>(alloc: Global, number: usize) -> Result<Shaped<'a>, Fail> {
+    let (place, content) = match number {
+        6 | 13 | 14 => (6, inner(alloc, number)?),
+        _ => content(alloc, number)?,
+    };
+    Ok((ShapeId(12), variant(alloc, place, content)?))
 }
 
 const CONTENTS: &[(usize, &str)] = &[
@@ -320,11 +237,8 @@ const CONTENTS: &[(usize, &str)] = &[
 fn variants_of_shapes(rt: HostRuntime) -> Result<(), Fail> {
     let schema = schema(rt.alloc())?;
     for &(number, expected) in CONTENTS {
-        let data = numbered(rt.alloc(), number)?;
-        assert!(rt;
-            is(rt.alloc(), &schema, ShapeId(12), &data, expected)?,
-            "{expected}"
-        );
+        let variant = numbered(rt.alloc(), number)?;
+        assert!(rt; is(rt.alloc(), &schema, variant, expected)?, "{expected}");
     }
     Ok(())
 }
@@ -335,11 +249,11 @@ const REFUSED: &[(usize, &str)] = &[(8, BYTES), (12, TAGS), (13, TAGS), (14, TAG
 fn refused_data(rt: HostRuntime) -> Result<(), Fail> {
     let schema = schema(rt.alloc())?;
     for &(number, expected) in REFUSED {
-        let data = numbered(rt.alloc(), number)?;
-        let text = written(rt.alloc(), &schema, ShapeId(12), &data)?;
+        let variant = numbered(rt.alloc(), number)?;
+        let text = last_written(rt.alloc(), &schema, variant)?;
         assert!(rt; text.as_str() == expected, "variant {number}");
     }
-    let data = Data::Bytes(Vec::new(rt.alloc()));
-    assert!(rt; written(rt.alloc(), &schema, ShapeId(3), &data)?.as_str() == BYTES);
+    let bytes = (ShapeId(3), Data::Bytes(Vec::new(rt.alloc())));
+    assert!(rt; last_written(rt.alloc(), &schema, bytes)?.as_str() == BYTES);
     Ok(())
 }

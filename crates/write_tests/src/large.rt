@@ -35,6 +35,11 @@ fn stream(alloc: Global, shapes: Vec<Shape>, data: &Data<'_>) -> Result<Vec<Emit
     finish(out)
 }
 
+// The same of data that is dropped then.
+fn last_stream(alloc: Global, shapes: Vec<Shape>, data: Data<'_>) -> Result<Vec<EmitEvent>, Fail> {
+    stream(alloc, shapes, &data)
+}
+
 // The stream of a serializer that has nothing open.
 fn finish(out: Serializer) -> Result<Vec<EmitEvent>, Fail> {
     if out.open_kind().is_some() {
@@ -65,23 +70,31 @@ fn starts(events: &[EmitEvent]) -> u32 {
     count
 }
 
+// The stream of a sequence of so many integers.
+fn integer_stream(alloc: Global, count: i128) -> Result<Vec<EmitEvent>, Fail> {
+    let shapes = vec![in alloc; Shape::Seq(ShapeId(1)), Shape::I64]?;
+    last_stream(alloc, shapes, integers(alloc, count)?)
+}
+
 #[test]
 fn wide_sequences(rt: HostRuntime) -> Result<(), Fail> {
-    let data = integers(rt.alloc(), 100_000)?;
-    let shapes = vec![in rt.alloc(); Shape::Seq(ShapeId(1)), Shape::I64]?;
-    let events = stream(rt.alloc(), shapes, &data)?;
+    let events = integer_stream(rt.alloc(), 100_000)?;
     assert!(rt; events.len() == 100_006);
     assert!(rt; text_at(&events, 3) == "0");
     assert!(rt; text_at(&events, 100_002) == "99999");
     Ok(())
 }
 
+// The stream of so many sequences within one another.
+fn nested_stream(alloc: Global, levels: u32) -> Result<Vec<EmitEvent>, Fail> {
+    let shapes = vec![in alloc; Shape::Seq(ShapeId(0))]?;
+    last_stream(alloc, shapes, nested(alloc, levels)?)
+}
+
 #[test]
 fn deep_sequences(rt: HostRuntime) -> Result<(), Fail> {
     for levels in [1, 2, 128] {
-        let data = nested(rt.alloc(), levels)?;
-        let shapes = vec![in rt.alloc(); Shape::Seq(ShapeId(0))]?;
-        let events = stream(rt.alloc(), shapes, &data)?;
+        let events = nested_stream(rt.alloc(), levels)?;
         assert!(rt; events.len() == 4 + 2 * levels as usize);
         assert!(rt; starts(&events) == levels);
     }
@@ -190,20 +203,30 @@ fn write_entries(
     Ok(())
 }
 
-#[test]
-fn wide_collections_by_parts(rt: HostRuntime) -> Result<(), Fail> {
-    let schema = Schema::new(rt.alloc(), vec![in rt.alloc(); Shape::Unit]?)?;
-    let unit = Typed::new(&schema, ShapeId(0), &Data::Unit);
-    let other = Typed::new(&schema, ShapeId(0), &Data::Unit);
+// Writes a sequence of so many units and of a mapping of as many pairs of units.
+fn write_units(out: &mut Serializer, schema: &Schema, count: u32) -> Result<(), Fail> {
+    let unit = Typed::new(schema, ShapeId(0), &Data::Unit);
+    let other = Typed::new(schema, ShapeId(0), &Data::Unit);
     let (Some(key), Some(value)) = (unit, other) else {
         return Err(Fail::new("not of the shape"));
     };
-    let mut out = Serializer::new(rt.alloc())?;
-    open_sequences(&mut out, 1)?;
-    write_elements(&mut out, &value, 100_000)?;
+    open_sequences(out, 1)?;
+    write_elements(out, &value, count)?;
     out.serialize_map(None)?;
-    write_entries(&mut out, &key, &value, 100_000)?;
-    close(&mut out, 2)?;
+    write_entries(out, &key, &value, count)?;
+    close(out, 2)
+}
+
+// The schema of a unit.
+fn unit_schema(alloc: Global) -> Result<Schema, Fail> {
+    Ok(Schema::new(alloc, vec![in alloc; Shape::Unit]?)?)
+}
+
+#[test]
+fn wide_collections_by_parts(rt: HostRuntime) -> Result<(), Fail> {
+    let schema = unit_schema(rt.alloc())?;
+    let mut out = Serializer::new(rt.alloc())?;
+    write_units(&mut out, &schema, 100_000)?;
     let events = finish(out)?;
     assert!(rt; events.len() == 300_008);
     assert!(rt; text_at(&events, 300_003) == "null");

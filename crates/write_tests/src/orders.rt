@@ -29,12 +29,10 @@ fn document(alloc: Global, place: &Place, node: &str) -> Result<String, Fail> {
 
 // Whether a node goes into a place, and nothing but its events comes there.
 fn stands(alloc: Global, place: &Place, node: &Node) -> Result<bool, Fail> {
-    let mut out = Serializer::new(alloc)?;
-    if !goes(alloc, &mut out, place, node.0)? || out.open_kind().is_some() {
-        return Ok(false);
-    }
     let expected = document(alloc, place, node.1)?;
-    holds(alloc, &out, expected.as_str())
+    let mut out = Serializer::new(alloc)?;
+    let goes = goes(alloc, &mut out, place, node.0)? && out.open_kind().is_none();
+    Ok(goes && holds(alloc, &out, expected.as_str())?)
 }
 
 // Writes each node in each place.
@@ -63,22 +61,40 @@ fn single_values_in_each_place(rt: HostRuntime) -> Result<(), Fail> {
     check(&rt, SINGLE)
 }
 
+// Whether all calls succeed that write a node into a place of a collection that stands in a place itself.
+fn goes_within(
+    alloc: Global,
+    out: &mut Serializer,
+    outer: &Place,
+    inner: &Place,
+    node: &Node,
+) -> Result<bool, Fail> {
+    for steps in [outer.before, inner.before, node.0, inner.after] {
+        if !succeed(alloc, out, steps)? {
+            return Ok(false);
+        }
+    }
+    Ok(out.open_kind() == outer.next && succeed(alloc, out, outer.after)?)
+}
+
+// The events of a node in a place of a collection that stands in a place itself.
+fn document_within(
+    alloc: Global,
+    outer: &Place,
+    inner: &Place,
+    node: &str,
+) -> Result<String, Fail> {
+    let (start, end) = (inner.start, inner.end);
+    let middle = format!(in alloc; "{start}{node}{end}")?;
+    document(alloc, outer, middle.as_str())
+}
+
 // Whether a node goes into a place of a collection that stands in a place itself.
 fn stands_within(alloc: Global, outer: &Place, inner: &Place, node: &Node) -> Result<bool, Fail> {
+    let expected = document_within(alloc, outer, inner, node.1)?;
     let mut out = Serializer::new(alloc)?;
-    if !succeed(alloc, &mut out, outer.before)? || !succeed(alloc, &mut out, inner.before)? {
-        return Ok(false);
-    }
-    if !succeed(alloc, &mut out, node.0)? || !succeed(alloc, &mut out, inner.after)? {
-        return Ok(false);
-    }
-    if out.open_kind() != outer.next || !succeed(alloc, &mut out, outer.after)? {
-        return Ok(false);
-    }
-    let (start, text, end) = (inner.start, node.1, inner.end);
-    let middle = format!(in alloc; "{start}{text}{end}")?;
-    let expected = document(alloc, outer, middle.as_str())?;
-    holds(alloc, &out, expected.as_str())
+    let goes = goes_within(alloc, &mut out, outer, inner, node)?;
+    Ok(goes && holds(alloc, &out, expected.as_str())?)
 }
 
 // Writes each empty collection within each place of a collection in this place.

@@ -7,7 +7,7 @@ use super::places::{
 use super::runs::{BYTES, Row, TAGS, follow, holds, leave_others, succeed};
 use super::steps::Step;
 use super::values::{Literal, Shaped};
-use std::alloc::Global;
+use std::alloc::{AllocError, Global};
 use std::process::Abort;
 use std::test::Fail;
 use yaml_write::{OpenKind, Serializer};
@@ -42,18 +42,28 @@ const VARIANTS: Literal = Literal::Shaped(Shaped::VariantInVariant);
 // A call that goes through in each place.
 const TRUE: Row = (Step::Bool(true), "");
 
+// Whether calls in a place do what their rows say.
+fn go(alloc: Global, out: &mut Serializer, place: &Place, rows: &[Row]) -> Result<bool, Fail> {
+    if !succeed(alloc, out, place.before)? || out.open_kind() != place.open {
+        return Ok(false);
+    }
+    if !follow(alloc, out, rows)? || out.open_kind() != place.next {
+        return Ok(false);
+    }
+    succeed(alloc, out, place.after)
+}
+
+// The events of `true` in a place.
+fn document(alloc: Global, place: &Place) -> Result<String, AllocError> {
+    let (start, end) = (place.start, place.end);
+    format!(in alloc; " +DOC{start} plain true{end} -DOC")
+}
+
 // Whether calls in a place, of which one writes `true` and the others are refused, leave nothing else behind.
 fn leave_true(alloc: Global, place: &Place, rows: &[Row]) -> Result<bool, Fail> {
+    let expected = document(alloc, place)?;
     let mut out = Serializer::new(alloc)?;
-    if !succeed(alloc, &mut out, place.before)? || out.open_kind() != place.open {
-        return Ok(false);
-    }
-    if !follow(alloc, &mut out, rows)? || out.open_kind() != place.next {
-        return Ok(false);
-    }
-    let (start, end) = (place.start, place.end);
-    let expected = format!(in alloc; " +DOC{start} plain true{end} -DOC")?;
-    Ok(succeed(alloc, &mut out, place.after)? && holds(alloc, &out, expected.as_str())?)
+    Ok(go(alloc, &mut out, place, rows)? && holds(alloc, &out, expected.as_str())?)
 }
 
 // Refuses each call in a place, twice before one that goes through.

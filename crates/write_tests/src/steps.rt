@@ -2,8 +2,9 @@
 
 use super::shown::shown;
 use super::values::{Literal, data, schema, value};
-use std::alloc::Global;
+use std::alloc::{AllocError, Global};
 use std::test::Fail;
+use yaml_base::Error;
 use yaml_shape::{Data, Schema, ShapeId, Typed};
 use yaml_tree::Tag;
 use yaml_write::{OpenKind, Serializer};
@@ -196,6 +197,18 @@ fn tagged(
     Ok(Some(out.serialize_tagged(&tag, &value)))
 }
 
+// An entry of this key and the value of a literal.
+fn entry_at(
+    alloc: Global,
+    out: &mut Serializer,
+    schema: &Schema,
+    key: &Shaped<'_>,
+    content: &Literal,
+) -> Result<Answer, Fail> {
+    let content = data(alloc, content)?;
+    Ok(entry(out, schema, key, &content))
+}
+
 // The call that writes an entry.
 fn pair(
     alloc: Global,
@@ -203,9 +216,9 @@ fn pair(
     key: &Literal,
     content: &Literal,
 ) -> Result<Answer, Fail> {
+    let schema = schema(alloc)?;
     let key = data(alloc, key)?;
-    let content = data(alloc, content)?;
-    Ok(entry(out, &schema(alloc)?, &key, &content))
+    entry_at(alloc, out, &schema, &key, content)
 }
 
 // One call.
@@ -233,11 +246,21 @@ fn is_same(left: &State, right: &State) -> bool {
     left.0.as_str() == right.0.as_str() && left.1 == right.1
 }
 
+// The text of a fault.
+fn message(alloc: Global, fault: &Error) -> Result<String, AllocError> {
+    fault.to_string(alloc)
+}
+
+// The text of a fault that is dropped then.
+fn last_message(alloc: Global, fault: Error) -> Result<String, AllocError> {
+    message(alloc, &fault)
+}
+
 /// The text of the fault in an answer, or no text.
 pub fn told(alloc: Global, answer: Answer) -> Result<String, Fail> {
     match answer {
         Some(Ok(())) => Ok(String::new(alloc)),
-        Some(Err(error)) => Ok(error.to_string(alloc)?),
+        Some(Err(fault)) => Ok(last_message(alloc, fault)?),
         None => Err(Fail::new("the call may not be made here")),
     }
 }
