@@ -5,17 +5,8 @@
 # usage: program.sh [PROGRAM]   With no PROGRAM it is proved and built first, over what earlier checks kept in out/.
 set -u
 root=$(cd "$(dirname "$0")" && pwd)
-work=$(mktemp -d)
-trap 'rm -rf "$work"' EXIT
-count=0
-failed=0
-
-program=${1:-$root/out/yaml_case}
-if [ $# = 0 ] && ! (cd "$root" && rt run -- map < stdin > "$work/built" 2>&1); then
-    cat "$work/built"
-    echo "program: NOT BUILT"
-    exit 1
-fi
+. "$root/../../.ci/program.sh"
+start "$root" "${1:-}" -- map
 
 # Compares what a run wrote, and its status, with what is wanted.
 compare() {
@@ -128,5 +119,4 @@ if command -v prlimit > /dev/null; then
     compare "arguments that are too large" "$status" 1 "fault: out of memory$line_feed"
 fi
 
-echo "program: $count runs, $([ "$failed" = 0 ] && echo all as they should be || echo FAILED)"
-exit "$failed"
+finish

@@ -5,17 +5,8 @@
 # usage: program.sh [PROGRAM]   With no PROGRAM it is proved and built first, over what earlier checks kept in out/.
 set -u
 root=$(cd "$(dirname "$0")" && pwd)
-work=$(mktemp -d)
-trap 'rm -rf "$work"' EXIT
-count=0
-failed=0
-
-program=${1:-$root/out/yaml_probe}
-if [ $# = 0 ] && ! (cd "$root" && rt run < stdin > "$work/built" 2>&1); then
-    cat "$work/built"
-    echo "program: NOT BUILT"
-    exit 1
-fi
+. "$root/../../.ci/program.sh"
+start "$root" "${1:-}"
 
 # Wants these lines, and status 0, of the program on the input that was made.
 want() {
@@ -101,5 +92,4 @@ nodes='0 =VAL :true
 awk '/^@@ / { print $2 "\t1\t\"fault: bad at line 2 column 1\"" }' "$work/in" > "$work/wanted"
 want "documents that were cut off"
 
-echo "program: $count runs, $([ "$failed" = 0 ] && echo all as they should be || echo FAILED)"
-exit "$failed"
+finish
