@@ -1,5 +1,6 @@
 //! Data whose shapes no argument of the program names.
 
+use std::alloc::{AllocError, Global};
 use std::process::Abort;
 use std::test::Fail;
 use yaml_lines::show;
@@ -7,29 +8,26 @@ use yaml_shape::{Data, Entry, Text};
 use yaml_tree::{Mapping, Number, Sequence, Tag, TaggedValue, Value};
 
 // The text of data.
+fn text_of(alloc: Global, content: &Data<'_>) -> Result<String, AllocError> {
+    let mut out = String::new(alloc);
+    show(&mut out, content)?;
+    Ok(out)
+}
+
+// The text of data that is dropped then.
+fn last_text(alloc: Global, content: Data<'_>) -> Result<String, AllocError> {
+    text_of(alloc, &content)
+}
+
+// Data has this text.
 fn expect(rt: &(impl Abort + AllocGlobal), content: Data<'_>, text: &str) -> Result<(), Fail> {
-    let mut out = String::new(rt.alloc());
-    show(&mut out, &content)?;
-    assert_eq!(rt; out.as_str(), text);
+    let found = last_text(rt.alloc(), content)?;
+    assert_eq!(rt; found.as_str(), text);
     Ok(())
 }
 
-// A mapping from `null` to a value under a tag, and from `true` to an empty sequence.
-fn mapping(rt: &(impl Abort + AllocGlobal)) -> Result<Value, Fail> {
-    let tagged = TaggedValue {
-        tag: Tag::new(rt.alloc(), "t")?,
-        value: Value::Number(Number::from_i64(-2)),
-    };
-    let none = Sequence::from(Vec::new(rt.alloc()));
-    let mut pairs = Mapping::new(rt.alloc());
-    pairs.insert(Value::Null, Value::Tagged(Box::new(rt.alloc(), tagged)?))?;
-    pairs.insert(Value::Bool(true), Value::Sequence(none))?;
-    Ok(Value::Mapping(pairs))
-}
-
 #[test]
-fn each_case_of_data_has_its_text(rt: HostRuntime) -> Result<(), Fail> {
-    let alloc = rt.alloc();
+fn data_of_one_part_has_its_text(rt: HostRuntime) -> Result<(), Fail> {
     expect(&rt, Data::Char('"'), "\"\\\"\"")?;
     expect(&rt, Data::Char('\u{e9}'), "\"\\xc3\\xa9\"")?;
     expect(
@@ -37,35 +35,82 @@ fn each_case_of_data_has_its_text(rt: HostRuntime) -> Result<(), Fail> {
         Data::Unsigned(u128::MAX),
         "340282366920938463463374607431768211455",
     )?;
-    expect(&rt, Data::Bytes(vec![in alloc; b'a', 255]?), "\"a\\xff\"")?;
     expect(&rt, Data::None, "none")?;
-    expect(
-        &rt,
-        Data::Some(Box::new(alloc, Data::Signed(1))?),
-        "some(1)",
-    )?;
-    expect(&rt, Data::Newtype(Box::new(alloc, Data::Unit)?), "new(())")?;
-    expect(&rt, Data::Tuple(Vec::new(alloc)), "()")?;
-    expect(
-        &rt,
-        Data::Tuple(vec![in alloc; Data::Signed(-1), Data::Ignored]?),
-        "(-1, ignored)",
-    )?;
-    expect(&rt, Data::Struct(Vec::new(alloc)), "struct()")?;
-    expect(
-        &rt,
-        Data::Struct(vec![in alloc; Data::Bool(true)]?),
-        "struct(true)",
-    )?;
-    expect(
-        &rt,
-        Data::Variant(0, Box::new(alloc, Data::Unit)?),
-        "variant 0 ()",
-    )?;
+    expect(&rt, Data::Bytes(bytes(rt.alloc())?), "\"a\\xff\"")
+}
+
+// Bytes that are no text.
+fn bytes(alloc: Global) -> Result<Vec<u8>, AllocError> {
+    Ok(vec![in alloc; b'a', 255]?)
+}
+
+// Data in a box.
+fn boxed<'a>(alloc: Global, content: Data<'a>) -> Result<Box<Data<'a>>, AllocError> {
+    Ok(Box::new(alloc, content)?)
+}
+
+#[test]
+fn data_around_other_data_has_its_text(rt: HostRuntime) -> Result<(), Fail> {
+    let one = boxed(rt.alloc(), Data::Signed(1))?;
+    expect(&rt, Data::Some(one), "some(1)")?;
+    let unit = boxed(rt.alloc(), Data::Unit)?;
+    expect(&rt, Data::Newtype(unit), "new(())")?;
+    let unit = boxed(rt.alloc(), Data::Unit)?;
+    expect(&rt, Data::Variant(0, unit), "variant 0 ()")
+}
+
+// One part.
+fn part<'a>(alloc: Global) -> Result<Vec<Data<'a>>, AllocError> {
+    Ok(vec![in alloc; Data::Bool(true)]?)
+}
+
+// Two parts.
+fn parts<'a>(alloc: Global) -> Result<Vec<Data<'a>>, AllocError> {
+    Ok(vec![in alloc; Data::Signed(-1), Data::Ignored]?)
+}
+
+// One entry.
+fn entries<'a>(alloc: Global) -> Result<Vec<Entry<'a>>, AllocError> {
     let entry = Entry {
         key: Data::None,
         value: Data::Str(Text::Borrowed("v")),
     };
-    expect(&rt, Data::Map(vec![in alloc; entry]?), "{none: \"v\"}")?;
-    expect(&rt, Data::Any(mapping(&rt)?), "{null: !t -2, true: []}")
+    Ok(vec![in alloc; entry]?)
+}
+
+#[test]
+fn data_of_parts_has_its_text(rt: HostRuntime) -> Result<(), Fail> {
+    expect(&rt, Data::Tuple(Vec::new(rt.alloc())), "()")?;
+    expect(&rt, Data::Tuple(parts(rt.alloc())?), "(-1, ignored)")?;
+    expect(&rt, Data::Struct(Vec::new(rt.alloc())), "struct()")?;
+    expect(&rt, Data::Struct(part(rt.alloc())?), "struct(true)")?;
+    expect(&rt, Data::Map(entries(rt.alloc())?), "{none: \"v\"}")
+}
+
+// An integer under a tag.
+fn tagged(alloc: Global) -> Result<Value, Fail> {
+    let tag = Tag::new(alloc, "t")?;
+    let value = Value::Number(Number::from_i64(-2));
+    Ok(Value::Tagged(Box::new(alloc, TaggedValue { tag, value })?))
+}
+
+// Puts a pair into a mapping.
+fn put(pairs: &mut Mapping, key: Value, value: Value) -> Result<(), Fail> {
+    pairs.insert(key, value)?;
+    Ok(())
+}
+
+// A mapping from `null` to a value under a tag, and from `true` to an empty sequence.
+fn mapping(alloc: Global) -> Result<Value, Fail> {
+    let mut pairs = Mapping::new(alloc);
+    put(&mut pairs, Value::Null, tagged(alloc)?)?;
+    let none = Value::Sequence(Sequence::from(Vec::new(alloc)));
+    put(&mut pairs, Value::Bool(true), none)?;
+    Ok(Value::Mapping(pairs))
+}
+
+#[test]
+fn data_of_any_shape_has_its_text(rt: HostRuntime) -> Result<(), Fail> {
+    let data = Data::Any(mapping(rt.alloc())?);
+    expect(&rt, data, "{null: !t -2, true: []}")
 }

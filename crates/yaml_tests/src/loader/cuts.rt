@@ -4,7 +4,7 @@ use std::alloc::Global;
 use std::test::Fail;
 use test_rows::lines::{FAULT, events};
 use yaml_base::Mark;
-use yaml_read::{DocEvent, Loader};
+use yaml_read::{DocEvent, Document, Loader};
 
 // Documents one after another, and the parser's fault within, between and in front of them.
 #[test]
@@ -256,10 +256,15 @@ fn are_ends(found: &[usize], ends: &[usize]) -> bool {
     found == ends
 }
 
+// Whether a document has events of these marks, and these ends.
+fn is_document(document: &Document<'_>, marks: &[u64], ends: &[usize]) -> bool {
+    are_marks(document.events(), marks) && are_ends(document.ends(), ends)
+}
+
 // Whether the next document is there, with events of these marks and with these ends.
 fn next_is(loader: &mut Loader<'_>, marks: &[u64], ends: &[usize]) -> bool {
     match loader.next_document() {
-        Some(document) => { are_marks(document.events(), marks) && are_ends(document.ends(), ends) }
+        Some(document) => is_document(&document, marks, ends),
         None => false,
     }
 }
@@ -267,14 +272,19 @@ fn next_is(loader: &mut Loader<'_>, marks: &[u64], ends: &[usize]) -> bool {
 // The marks of a document's events, and its ends.
 type Row = (&'static [u64], &'static [usize]);
 
+// Whether the next documents are these.
+fn are_next(loader: &mut Loader<'_>, rows: &[Row]) -> bool {
+    let mut same = true;
+    for (marks, ends) in rows {
+        same = same && next_is(loader, marks, ends);
+    }
+    same
+}
+
 // Whether the documents of a text begin as these.
 fn begins_as(alloc: Global, text: &str, rows: &[Row]) -> Result<bool, Fail> {
     let mut loader = load(alloc, events(alloc, text)?, None)?;
-    let mut same = true;
-    for (marks, ends) in rows {
-        same = same && next_is(&mut loader, marks, ends);
-    }
-    Ok(same)
+    Ok(are_next(&mut loader, rows))
 }
 
 // Two documents.

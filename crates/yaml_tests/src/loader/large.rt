@@ -66,8 +66,13 @@ fn next_is_cut_off(loader: &mut Loader<'_>, count: usize) -> bool {
 fn is_wrong_at(alloc: Global, events: Vec<(Event<'_>, Mark)>, place: usize) -> bool {
     match load(alloc, events, None) {
         Ok(_) => false,
-        Err(error) => is_no_stream(&error, place),
+        Err(error) => is_refused_at(error, place),
     }
+}
+
+// Whether a fault that is dropped then says that the list is no stream from this place on.
+fn is_refused_at(error: Error, place: usize) -> bool {
+    is_no_stream(&error, place)
 }
 
 // Whether a fault says that the list is no stream from this place on.
@@ -153,14 +158,17 @@ fn next_ends_with_alias(loader: &mut Loader<'_>, count: usize, target: usize) ->
     }
 }
 
+// The documents of so many anchors, and a fault behind them.
+fn anchors(alloc: Global, count: u32, falling: bool) -> Result<Loader<'static>, Fail> {
+    let fault = fault(alloc)?;
+    let events = anchored(alloc, count, falling)?;
+    Ok(load(alloc, events, fault)?)
+}
+
 #[test]
 fn many_anchors(rt: HostRuntime) -> Result<(), Fail> {
     for falling in [false, true] {
-        let mut loader = load(
-            rt.alloc(),
-            anchored(rt.alloc(), 100_000, falling)?,
-            fault(rt.alloc())?,
-        )?;
+        let mut loader = anchors(rt.alloc(), 100_000, falling)?;
         assert!(rt;
             next_ends_with_alias(&mut loader, 300_001, 299_998),
             "falling: {falling}"

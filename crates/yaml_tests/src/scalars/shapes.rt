@@ -61,49 +61,59 @@ pub const LISTS: ShapeId = ShapeId(26);
 
 pub const BYTE: ShapeId = ShapeId(27);
 
-// The shapes, in the order of their numbers.
-fn shapes(alloc: Global) -> Result<Vec<Shape>, AllocError> {
-    Ok(vec![in alloc;
-        Shape::Bool,
-        Shape::I8,
-        Shape::I16,
-        Shape::I32,
-        Shape::I64,
-        Shape::I128,
-        Shape::Isize,
-        Shape::U8,
-        Shape::U16,
-        Shape::U32,
-        Shape::U64,
-        Shape::U128,
-        Shape::Usize,
-        Shape::Char,
-        Shape::Str,
-        Shape::Identifier,
-        Shape::Bytes,
-        Shape::Option(I64),
-        Shape::Unit,
-        Shape::UnitStruct {
-            name: String::from_str(alloc, "N")?,
-        },
-        Shape::Seq(I64),
-        Shape::Tuple(vec![in alloc; I64, I64]?),
-        Shape::TupleStruct {
-            name: String::from_str(alloc, "N")?,
+// A shape with a name, by its number.
+fn named(alloc: Global, number: u32) -> Result<Shape, AllocError> {
+    let name = String::from_str(alloc, "N")?;
+    match number {
+        19 => Ok(Shape::UnitStruct { name }),
+        22 => Ok(Shape::TupleStruct {
+            name,
             items: vec![in alloc; I64, I64]?,
-        },
-        Shape::Map(STR, I64),
-        Shape::Tuple(Vec::new(alloc)),
-        Shape::TupleStruct {
-            name: String::from_str(alloc, "N")?,
+        }),
+        _ => Ok(Shape::TupleStruct {
+            name,
             items: vec![in alloc; I64]?,
-        },
-        Shape::Seq(LIST),
-        Shape::Tuple(vec![in alloc; U8]?),
-    ]?)
+        }),
+    }
+}
+
+// A shape, by its number.
+fn shape(alloc: Global, number: u32) -> Result<Shape, AllocError> {
+    match number {
+        0 => Ok(Shape::Bool),
+        1 => Ok(Shape::I8),
+        2 => Ok(Shape::I16),
+        3 => Ok(Shape::I32),
+        4 => Ok(Shape::I64),
+        5 => Ok(Shape::I128),
+        6 => Ok(Shape::Isize),
+        7 => Ok(Shape::U8),
+        8 => Ok(Shape::U16),
+        9 => Ok(Shape::U32),
+        10 => Ok(Shape::U64),
+        11 => Ok(Shape::U128),
+        12 => Ok(Shape::Usize),
+        13 => Ok(Shape::Char),
+        14 => Ok(Shape::Str),
+        15 => Ok(Shape::Identifier),
+        16 => Ok(Shape::Bytes),
+        17 => Ok(Shape::Option(I64)),
+        18 => Ok(Shape::Unit),
+        20 => Ok(Shape::Seq(I64)),
+        21 => Ok(Shape::Tuple(vec![in alloc; I64, I64]?)),
+        23 => Ok(Shape::Map(STR, I64)),
+        24 => Ok(Shape::Tuple(Vec::new(alloc))),
+        26 => Ok(Shape::Seq(LIST)),
+        27 => Ok(Shape::Tuple(vec![in alloc; U8]?)),
+        _ => named(alloc, number),
+    }
 }
 
 /// The schema of the shapes.
 pub fn schema(alloc: Global) -> Result<Schema, Fail> {
-    schema_of(alloc, shapes(alloc)?)
+    let mut shapes = Vec::new(alloc);
+    for number in 0..28 {
+        shapes.push(shape(alloc, number)?)?;
+    }
+    schema_of(alloc, shapes)
 }

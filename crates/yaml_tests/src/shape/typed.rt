@@ -1,281 +1,14 @@
 //! Data of each shape, and data that just misses it.
 
-use crate::shape::makers::{fields, name};
-use std::alloc::{AllocError, Global};
+mod rows;
+mod shapes;
+
+use crate::shape::makers::name;
+use rows::{Row, integer, leaf, misfit, node, other, parted, variant};
+use shapes::{further_schema, schema};
+use std::process::Abort;
 use std::test::Fail;
-use yaml_shape::{Data, Entry, Schema, Shape, ShapeId, Text, Typed, VariantShape};
-use yaml_tree::Value;
-
-// The shapes that the rows below ask for.
-fn shapes(alloc: Global) -> Result<Vec<Shape>, AllocError> {
-    let (any, small, text) = (ShapeId(0), ShapeId(1), ShapeId(2));
-    Ok(vec![in alloc;
-        Shape::Any,
-        Shape::I8,
-        Shape::Str,
-        Shape::U8,
-        Shape::Option(small),
-        Shape::Newtype {
-            name: name(alloc, "N")?,
-            inner: text
-        },
-        Shape::Seq(small),
-        Shape::Tuple(vec![in alloc; small, text]?),
-        Shape::Map(text, small),
-        Shape::Struct {
-            name: name(alloc, "S")?,
-            fields: fields(alloc, &["a", "b"], 1)?
-        },
-        Shape::Enum {
-            name: name(alloc, "E")?,
-            variants: variants(alloc)?
-        },
-        Shape::Option(any),
-        Shape::I128,
-        Shape::U128,
-    ]?)
-}
-
-// Further shapes, whose numbers are counted from 0 again.
-fn further_shapes(alloc: Global) -> Result<Vec<Shape>, AllocError> {
-    Ok(vec![in alloc;
-        Shape::Bool,
-        Shape::Char,
-        Shape::I16,
-        Shape::I32,
-        Shape::I64,
-        Shape::Isize,
-        Shape::I128,
-        Shape::U16,
-        Shape::U32,
-        Shape::U64,
-        Shape::Usize,
-        Shape::U128,
-        Shape::Identifier,
-        Shape::Bytes,
-        Shape::Unit,
-        Shape::UnitStruct {
-            name: name(alloc, "U")?
-        },
-        Shape::TupleStruct {
-            name: name(alloc, "T")?,
-            items: vec![in alloc; ShapeId(0), ShapeId(4)]?
-        },
-        Shape::StrictStruct {
-            name: name(alloc, "S")?,
-            fields: fields(alloc, &["a", "b"], 4)?
-        },
-        Shape::IgnoredAny,
-        Shape::Any,
-    ]?)
-}
-
-// Variants of each kind.
-fn variants(alloc: Global) -> Result<Vec<(String, VariantShape)>, AllocError> {
-    let small = ShapeId(1);
-    Ok(vec![in alloc;
-        (name(alloc, "U")?, VariantShape::Unit),
-        (name(alloc, "N")?, VariantShape::Newtype(small)),
-        (
-            name(alloc, "T")?,
-            VariantShape::Tuple(vec![in alloc; small]?)
-        ),
-        (
-            name(alloc, "S")?,
-            VariantShape::Struct(fields(alloc, &["a"], 1)?)
-        ),
-        (
-            name(alloc, "X")?,
-            VariantShape::StrictStruct(fields(alloc, &["a"], 1)?)
-        ),
-    ]?)
-}
-
-// A text of its own.
-fn text(alloc: Global) -> Result<Data<'static>, AllocError> {
-    Ok(Data::Str(Text::Owned(name(alloc, "t")?)))
-}
-
-// Integers in a row.
-fn items(alloc: Global, count: u32) -> Result<Vec<Data<'static>>, AllocError> {
-    let mut items = Vec::new(alloc);
-    for _number in 0..count {
-        items.push(Data::Signed(1))?;
-    }
-    Ok(items)
-}
-
-// A variant at this place, with this content.
-fn at(alloc: Global, place: usize, content: Data<'static>) -> Result<Data<'static>, AllocError> {
-    Ok(Data::Variant(place, Box::new(alloc, content)?))
-}
-
-// A shape's number, data, and whether the data is of the shape. Each function of rows answers none behind its last one.
-type Row = (u32, Data<'static>, bool);
-
-// Data of one part at most, with a shape, and whether the data is of the shape.
-fn leaf(alloc: Global, number: u32) -> Result<Option<Row>, AllocError> {
-    Ok(Some(match number {
-        0 => (0, Data::Any(Value::Null), true),
-        1 => (2, Data::Any(Value::Null), false),
-        2 => (1, Data::Signed(-128), true),
-        3 => (1, Data::Signed(-129), false),
-        4 => (1, Data::Signed(128), false),
-        5 => (1, Data::Unsigned(1), false),
-        6 => (3, Data::Unsigned(255), true),
-        7 => (3, Data::Unsigned(256), false),
-        8 => (12, Data::Signed(i128::MIN), true),
-        9 => (13, Data::Unsigned(u128::MAX), true),
-        10 => (2, text(alloc)?, true),
-        11 => (1, text(alloc)?, false),
-        12 => (4, Data::None, true),
-        13 => (1, Data::None, false),
-        14 => (99, Data::Unit, false),
-        15 => (2, Data::Str(Text::Borrowed("lent")), true),
-        _ => return Ok(None),
-    }))
-}
-
-// A shape with parts, data, and whether the data is of the shape.
-fn node(alloc: Global, number: u32) -> Result<Option<Row>, AllocError> {
-    Ok(Some(match number {
-        0 => (4, Data::Some(Box::new(alloc, Data::Signed(1))?), true),
-        1 => (4, Data::Some(Box::new(alloc, Data::Signed(128))?), false),
-        2 => (5, Data::Newtype(Box::new(alloc, text(alloc)?)?), true),
-        3 => (5, text(alloc)?, false),
-        4 => (6, Data::Seq(items(alloc, 3)?), true),
-        5 => (6, Data::Tuple(items(alloc, 3)?), false),
-        6 => (
-            7,
-            Data::Tuple(vec![in alloc; Data::Signed(1), text(alloc)?]?),
-            true,
-        ),
-        7 => (7, Data::Tuple(items(alloc, 1)?), false),
-        8 => (
-            8,
-            Data::Map(vec![in alloc;
-                Entry {
-                    key: text(alloc)?,
-                    value: Data::Signed(1)
-                },
-            ]?),
-            true,
-        ),
-        9 => (
-            8,
-            Data::Map(vec![in alloc;
-                Entry {
-                    key: Data::Signed(1),
-                    value: Data::Signed(1)
-                },
-            ]?),
-            false,
-        ),
-        10 => (9, Data::Struct(items(alloc, 2)?), true),
-        11 => (9, Data::Struct(items(alloc, 1)?), false),
-        12 => (9, Data::Tuple(items(alloc, 2)?), false),
-        _ => return Ok(None),
-    }))
-}
-
-// A shape, and data with one part that is not of its shape, or with one part too many.
-fn misfit(alloc: Global, number: u32) -> Result<Option<Row>, AllocError> {
-    Ok(Some(match number {
-        0 => (
-            6,
-            Data::Seq(vec![in alloc; Data::Signed(1), Data::Signed(128)]?),
-            false,
-        ),
-        1 => (
-            7,
-            Data::Tuple(vec![in alloc; Data::Signed(1), text(alloc)?, Data::Signed(1)]?),
-            false,
-        ),
-        2 => (9, Data::Struct(items(alloc, 3)?), false),
-        3 => (11, Data::Some(Box::new(alloc, Data::Signed(1))?), false),
-        _ => return Ok(None),
-    }))
-}
-
-// A variant, and whether it is one of the enum.
-fn variant(alloc: Global, number: u32) -> Result<Option<Row>, AllocError> {
-    Ok(Some(match number {
-        0 => (10, at(alloc, 0, Data::Unit)?, true),
-        1 => (10, at(alloc, 0, Data::Signed(1))?, false),
-        2 => (10, at(alloc, 1, Data::Signed(1))?, true),
-        3 => (10, at(alloc, 1, Data::Unit)?, false),
-        4 => (10, at(alloc, 2, Data::Tuple(items(alloc, 1)?))?, true),
-        5 => (10, at(alloc, 2, Data::Struct(items(alloc, 1)?))?, false),
-        6 => (10, at(alloc, 3, Data::Struct(items(alloc, 1)?))?, true),
-        7 => (10, at(alloc, 3, Data::Struct(items(alloc, 2)?))?, false),
-        8 => (10, at(alloc, 4, Data::Struct(items(alloc, 1)?))?, true),
-        9 => (10, at(alloc, 4, Data::Tuple(items(alloc, 1)?))?, false),
-        10 => (10, at(alloc, 5, Data::Unit)?, false),
-        _ => return Ok(None),
-    }))
-}
-
-// An integer at an end of its shape, or just past one.
-fn integer(number: u32) -> Option<Row> {
-    Some(match number {
-        0 => (2, Data::Signed(-32_768), true),
-        1 => (2, Data::Signed(32_768), false),
-        2 => (3, Data::Signed(2_147_483_647), true),
-        3 => (3, Data::Signed(-2_147_483_649), false),
-        4 => (4, Data::Signed(-9_223_372_036_854_775_808), true),
-        5 => (4, Data::Signed(9_223_372_036_854_775_808), false),
-        6 => (5, Data::Signed(9_223_372_036_854_775_807), true),
-        7 => (5, Data::Signed(-9_223_372_036_854_775_809), false),
-        8 => (6, Data::Unsigned(0), false),
-        9 => (7, Data::Unsigned(65_535), true),
-        10 => (7, Data::Unsigned(65_536), false),
-        11 => (8, Data::Unsigned(4_294_967_295), true),
-        12 => (8, Data::Unsigned(4_294_967_296), false),
-        13 => (9, Data::Unsigned(18_446_744_073_709_551_615), true),
-        14 => (9, Data::Unsigned(18_446_744_073_709_551_616), false),
-        15 => (10, Data::Unsigned(18_446_744_073_709_551_615), true),
-        16 => (10, Data::Unsigned(18_446_744_073_709_551_616), false),
-        17 => (11, Data::Signed(0), false),
-        _ => return None,
-    })
-}
-
-// One of the other shapes, data, and whether the data is of the shape.
-fn other(alloc: Global, number: u32) -> Result<Option<Row>, AllocError> {
-    Ok(Some(match number {
-        0 => (0, Data::Bool(true), true),
-        1 => (0, Data::Signed(1), false),
-        2 => (1, Data::Char('t'), true),
-        3 => (1, text(alloc)?, false),
-        4 => (12, text(alloc)?, true),
-        5 => (12, Data::Char('t'), false),
-        6 => (13, Data::Bytes(vec![in alloc; b't']?), true),
-        7 => (13, text(alloc)?, false),
-        8 => (14, Data::Unit, true),
-        9 => (14, Data::None, false),
-        10 => (15, Data::Unit, true),
-        11 => (15, Data::Struct(items(alloc, 0)?), false),
-        12 => (18, Data::Ignored, true),
-        13 => (18, Data::Unit, false),
-        14 => (19, Data::Unit, false),
-        _ => return Ok(None),
-    }))
-}
-
-// Data of structs, and data one part short.
-fn parted(alloc: Global, number: u32) -> Result<Option<Row>, AllocError> {
-    Ok(Some(match number {
-        0 => (
-            16,
-            Data::Tuple(vec![in alloc; Data::Bool(true), Data::Signed(1)]?),
-            true,
-        ),
-        1 => (16, Data::Tuple(vec![in alloc; Data::Bool(true)]?), false),
-        2 => (17, Data::Struct(items(alloc, 2)?), true),
-        3 => (17, Data::Struct(items(alloc, 1)?), false),
-        _ => return Ok(None),
-    }))
-}
+use yaml_shape::{Data, Schema, ShapeId, Text, Typed};
 
 // Whether the data is of the shape with this number.
 fn is_of(schema: &Schema, id: u32, data: &Data) -> bool {
@@ -294,58 +27,98 @@ fn is_right(schema: &Schema, row: Row) -> bool {
     is_of(schema, row.0, &row.1) == row.2
 }
 
-#[test]
-fn data_of_shapes(rt: HostRuntime) -> Result<(), Fail> {
-    let schema = Schema::new(rt.alloc(), shapes(rt.alloc())?)?;
+// Tells of data of one part at most.
+fn check_leaves(rt: &(impl Abort + AllocGlobal), schema: &Schema) -> Result<(), Fail> {
     for number in 0..u32::MAX {
         let Some(row) = leaf(rt.alloc(), number)? else {
             break;
         };
-        assert!(rt; is_right(&schema, row), "leaf {number}");
+        assert!(rt; is_right(schema, row), "leaf {number}");
     }
+    Ok(())
+}
+
+// Tells of data of shapes with parts.
+fn check_nodes(rt: &(impl Abort + AllocGlobal), schema: &Schema) -> Result<(), Fail> {
     for number in 0..u32::MAX {
         let Some(row) = node(rt.alloc(), number)? else {
             break;
         };
-        assert!(rt; is_right(&schema, row), "node {number}");
+        assert!(rt; is_right(schema, row), "node {number}");
     }
+    Ok(())
+}
+
+// Tells of data with one part that does not fit.
+fn check_misfits(rt: &(impl Abort + AllocGlobal), schema: &Schema) -> Result<(), Fail> {
     for number in 0..u32::MAX {
         let Some(row) = misfit(rt.alloc(), number)? else {
             break;
         };
-        assert!(rt; is_right(&schema, row), "misfit {number}");
+        assert!(rt; is_right(schema, row), "misfit {number}");
     }
+    Ok(())
+}
+
+// Tells of variants.
+fn check_variants(rt: &(impl Abort + AllocGlobal), schema: &Schema) -> Result<(), Fail> {
     for number in 0..u32::MAX {
         let Some(row) = variant(rt.alloc(), number)? else {
             break;
         };
-        assert!(rt; is_right(&schema, row), "variant {number}");
+        assert!(rt; is_right(schema, row), "variant {number}");
+    }
+    Ok(())
+}
+
+#[test]
+fn data_of_shapes(rt: HostRuntime) -> Result<(), Fail> {
+    let schema = schema(rt.alloc())?;
+    check_leaves(&rt, &schema)?;
+    check_nodes(&rt, &schema)?;
+    check_misfits(&rt, &schema)?;
+    check_variants(&rt, &schema)
+}
+
+// Tells of integers at the ends of their shapes.
+fn check_integers(rt: &(impl Abort + AllocGlobal), schema: &Schema) -> Result<(), Fail> {
+    for number in 0..u32::MAX {
+        let Some(row) = integer(number) else {
+            break;
+        };
+        assert!(rt; is_right(schema, row), "integer {number}");
+    }
+    Ok(())
+}
+
+// Tells of data of the other shapes.
+fn check_others(rt: &(impl Abort + AllocGlobal), schema: &Schema) -> Result<(), Fail> {
+    for number in 0..u32::MAX {
+        let Some(row) = other(rt.alloc(), number)? else {
+            break;
+        };
+        assert!(rt; is_right(schema, row), "other {number}");
+    }
+    Ok(())
+}
+
+// Tells of data of structs.
+fn check_parted(rt: &(impl Abort + AllocGlobal), schema: &Schema) -> Result<(), Fail> {
+    for number in 0..u32::MAX {
+        let Some(row) = parted(rt.alloc(), number)? else {
+            break;
+        };
+        assert!(rt; is_right(schema, row), "parted {number}");
     }
     Ok(())
 }
 
 #[test]
 fn data_of_further_shapes(rt: HostRuntime) -> Result<(), Fail> {
-    let schema = Schema::new(rt.alloc(), further_shapes(rt.alloc())?)?;
-    for number in 0..u32::MAX {
-        let Some(row) = integer(number) else {
-            break;
-        };
-        assert!(rt; is_right(&schema, row), "integer {number}");
-    }
-    for number in 0..u32::MAX {
-        let Some(row) = other(rt.alloc(), number)? else {
-            break;
-        };
-        assert!(rt; is_right(&schema, row), "other {number}");
-    }
-    for number in 0..u32::MAX {
-        let Some(row) = parted(rt.alloc(), number)? else {
-            break;
-        };
-        assert!(rt; is_right(&schema, row), "parted {number}");
-    }
-    Ok(())
+    let schema = further_schema(rt.alloc())?;
+    check_integers(&rt, &schema)?;
+    check_others(&rt, &schema)?;
+    check_parted(&rt, &schema)
 }
 
 #[test]

@@ -102,6 +102,14 @@ fn the_first_document_is_read_alone(rt: HostRuntime) -> Result<(), Fail> {
     Ok(())
 }
 
+// What the stream of a text that is cut off reads as under a shape.
+fn reading_of_cut(alloc: Global, text: &str, schema: &Schema, id: ShapeId) -> Result<String, Fail>
+    requires { id.0 < length schema.now }
+{
+    let cut = format!(in alloc; "{text}{FAULT}")?;
+    reading_of_text(alloc, cut.as_str(), schema, id)
+}
+
 // A document cut in front of each of its events, and its stream behind the last.
 #[test]
 fn a_document_that_is_cut_is_not_read(rt: HostRuntime) -> Result<(), Fail> {
@@ -124,9 +132,8 @@ fn a_document_that_is_cut_is_not_read(rt: HostRuntime) -> Result<(), Fail> {
         ("-DOC; ", MORE),
     ] {
         text.push_str(next)?;
-        let cut = format!(in alloc; "{text}{FAULT}")?;
-        let out = reading_of_text(alloc, cut.as_str(), &schema, MAP)?;
-        assert!(rt; out.as_str() == expected, "{cut}");
+        let out = reading_of_cut(alloc, text.as_str(), &schema, MAP)?;
+        assert!(rt; out.as_str() == expected, "{text}");
     }
     text.push_str("-STR")?;
     let out = reading_of_text(alloc, text.as_str(), &schema, MAP)?;
