@@ -24,7 +24,7 @@ fn at(alloc: Global, place: usize, content: Data<'static>) -> Result<Data<'stati
     Ok(Data::Variant(place, Box::new(alloc, content)?))
 }
 
-/// A shape's number, data, and whether the data is of the shape. Each function of rows answers none behind its last one.
+/// A shape's number, data, and whether the data is of the shape. Each function of rows answers none behind its last.
 pub(crate) type Row = (u32, Data<'static>, bool);
 
 /// Data of one part at most, with a shape, and whether the data is of the shape.
