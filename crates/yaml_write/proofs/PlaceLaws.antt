@@ -1,5 +1,5 @@
 -- Nodes that are placed where something is open, or nothing.
-use Rattle.std.proofs.Common.{◌≡◌, ◌≢◌, ◌++◌, ◌∷◌, ◌<◌, [], List, length, Result, Ok, Err, refl, sym, ap, ◌∙◌, arith, append_assoc}
+use Rattle.std.proofs.Common.{◌≡◌, ◌≢◌, ◌++◌, ◌∷◌, ◌<◌, [], List, length, Result, Ok, Err, refl, ap, ◌∙◌, arith, append_assoc}
 use Rattle.std.proofs.lemmas.List.{append-nil}
 use Rattle.yaml_base.specs.EmitEvents.{PlainEmit, emit_document_start, emit_document_end}
 use Rattle.yaml_base.specs.EmitTree.{EmitNode, emit_node_events}

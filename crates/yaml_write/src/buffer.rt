@@ -63,7 +63,7 @@ impl EventBuffer {
         self.events
     }
 
-    // One event more.
+    // One event more. It is made where it lies, as are those of `scalar` and `plain`: hence the hints.
     #[inline(always)]
     pub(crate) fn push(&mut self, event: EmitEvent) -> Result<()>
         ensures added { Adds (λ e. e ∷ []) (Ok (emit_of event)) self.old self.new result }

@@ -12,7 +12,7 @@ use Rattle.yaml_write.specs.Outcomes.{made, joined}
 use Rattle.yaml_tree.proofs.Callers.{tree_size-item, pair_list_size-pair_list}
 use Rattle.yaml_write.specs.WrittenValue.{written_value, written_values, written_pairs, pair_node, pair_before}
 use Rattle.yaml_write.specs.WrittenEvents.{pair_events}
-use Rattle.yaml_write.proofs.AddLaws.{adds-joined, adds-between, left-joined, fails-left, kept-more, kept-then, keeps-all, keeps-through}
+use Rattle.yaml_write.proofs.AddLaws.{adds-joined, adds-between, left-joined, fails-left, kept-then, keeps-all, keeps-through}
 use Rattle.yaml_write.proofs.ValueLaws.{pair-row, pairs-row, node-row, values-left, written_list, written_pairs-list, none-left}
 use Rattle.yaml_write.proofs.value.+write_value.Goals as goal
 

@@ -1,5 +1,5 @@
 -- A node, in a document of its own or in an open collection.
-use Rattle.std.proofs.Common.{arith, length, reverse}
+use Rattle.std.proofs.Common.{arith, reverse}
 use Rattle.std.proofs.lemmas.List.{length-reverse}
 use Rattle.yaml_write.specs.Content.{content_written}
 use Rattle.yaml_write.proofs.PlaceLaws.{adds-alone, adds-inside}
