@@ -41,7 +41,7 @@ document_end_in (o ∷ outer) = []
 
 -- the events of a node, in a document of its own where nothing is open
 abbrev pub part_events : List Open → EmitNode → List PlainEmit
-part_events opened node = document_start_in opened ++ emit_node_events node ++ document_end_in opened
+part_events opened node = (document_start_in opened ++ emit_node_events node) ++ document_end_in opened
 
 -- with one node more: a document of its own where nothing is open, else a part of the innermost collection
 abbrev pub with_node : Writing → EmitNode → Writing
