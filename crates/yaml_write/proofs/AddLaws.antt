@@ -1,9 +1,10 @@
 -- Calls that add events, one after another.
 use Rattle.std.proofs.Common.{◌≡◌, ◌++◌, ◌∷◌, [], List, Result, Ok, Err, refl, sym, ap, ◌∙◌, append_assoc}
+use Rattle.std.proofs.lemmas.List.{append-nil}
 use Rattle.yaml_base.specs.Answer.{Fails}
 use Rattle.yaml_base.specs.EmitEvents.{PlainEmit}
 use Rattle.yaml_base.specs.declared.error.Cause.{Cause}
-use Rattle.yaml_write.specs.Adds.{Adds}
+use Rattle.yaml_write.specs.Adds.{Adds, Keeps}
 use Rattle.yaml_write.specs.Outcomes.{made, joined}
 
 -- a part is made of others, and its events are theirs in a row
@@ -25,12 +26,37 @@ pub fails-first : {A B C : Type 0} (f : A → B → C) (first : Result A Cause) 
 fails-first f (Ok a) second cause h m = absurd (let e = h m in cc)
 fails-first f (Err other) second cause h m = let e = h m in cc
 
+-- what was there is kept
+pub keeps-all : (events : List PlainEmit) → Keeps events events
+keeps-all events = ([], sym (append-nil events))
+
+-- what was there is kept where it is kept with more behind it
+pub keeps-through : (old mid new : List PlainEmit) → Keeps old mid → Keeps mid new → Keeps old new
+keeps-through old mid new first second =
+    (first.0 ++ second.0, second.1 ∙ (ap (λ es. es ++ second.0) first.1 ∙ append_assoc old first.0 second.0))
+
+-- what was there is kept where a part was added
+pub keeps-added : {B : Type 0} (view : B → List PlainEmit) (given : Result B Cause) (old new : List PlainEmit)
+    → made (λ part. old ++ view part) given ≡ Ok new → Keeps old new
+keeps-added view (Err cause) old new e = absurd (cc)
+keeps-added view (Ok part) old new e = (view part, let there : old ++ view part ≡ new = cc in sym there)
+
+-- a part was added, and all is kept since
+pub kept-more : {B : Type 0} (view : B → List PlainEmit) (given : Result B Cause) (old mid new : List PlainEmit)
+    → made (λ part. old ++ view part) given ≡ Ok mid → Keeps mid new → Keeps old new
+kept-more view given old mid new e h = keeps-through old mid new (keeps-added view given old mid e) h
+
+-- all is kept, and a part was added since
+pub kept-then : {B : Type 0} (view : B → List PlainEmit) (given : Result B Cause) (old mid new : List PlainEmit)
+    → Keeps old mid → made (λ part. mid ++ view part) given ≡ Ok new → Keeps old new
+kept-then view given old mid new h e = keeps-through old mid new h (keeps-added view given mid new e)
+
 -- the first part was added, and the second is
 pub adds-joined : {A B C X : Type 0} (f : A → B → C) (va : A → List PlainEmit) (vb : B → List PlainEmit) (vc : C → List PlainEmit)
     (row : InRow f va vb vc) (first : Result A Cause) (second : Result B Cause) (old mid new : List PlainEmit) (r : Result X Cause)
     → made (λ part. old ++ va part) first ≡ Ok mid → Adds vb second mid new r → Adds vc (joined f first second) old new r
 adds-joined f va vb vc row (Err c) second old mid new r e h = absurd (cc)
-adds-joined f va vb vc row (Ok a) second old mid new (Err cause) e h = fails-made (f a) second cause h
+adds-joined f va vb vc row (Ok a) second old mid new (Err cause) e h = (fails-made (f a) second cause h.0, kept-more va (Ok a) old mid new e h.1)
 adds-joined f va vb vc row (Ok a) (Err c) old mid new (Ok x) e h = absurd (cc)
 adds-joined f va vb vc row (Ok a) (Ok b) old mid new (Ok x) e h =
     let there : old ++ va a ≡ mid = cc in
@@ -54,7 +80,8 @@ pub adds-between : {A B X : Type 0} (f : A → B) (va : A → List PlainEmit) (v
     → made (λ e. old ++ e ∷ []) (Ok start) ≡ Ok begun → made (λ part. begun ++ va part) parts ≡ Ok mid
     → Adds (λ e. e ∷ []) (Ok end) mid new r → Adds vb (made f parts) old new r
 adds-between f va vb start end row (Err c) old begun mid new r s e h = absurd (cc)
-adds-between f va vb start end row (Ok a) old begun mid new (Err cause) s e h = λ m. absurd (let x = h m in cc)
+adds-between f va vb start end row (Ok a) old begun mid new (Err cause) s e h =
+    (λ m. absurd (let x = h.0 m in cc), kept-more (λ (event : PlainEmit). event ∷ []) (Ok start) old begun new s (kept-more va (Ok a) begun mid new e h.1))
 adds-between f va vb start end row (Ok a) old begun mid new (Ok x) s e h =
     let first : old ++ start ∷ [] ≡ begun = cc in
     let middle : begun ++ va a ≡ mid = cc in

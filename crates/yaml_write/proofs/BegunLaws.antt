@@ -195,11 +195,10 @@ placed-made w new (Ok p) h e =
     let is : with_both w p ≡ new = cc in
     subst IsBegun is (placed (with_node w p.0) p.1 (placed w p.0 h))
 
--- what was made of a node is of a node
-pub of_node : (begun added : List PlainEmit) (given : Outcome) → made (λ part. begun ++ emit_node_events part) given ≡ Ok added
-    → (node : EmitNode) × (added ≡ begun ++ emit_node_events node)
-of_node begun added (Err c) e = absurd (cc)
-of_node begun added (Ok node) e = (node, let is : begun ++ emit_node_events node ≡ added = cc in sym is)
+-- a node is placed
+pub node-made : (w new : Writing) (given : Outcome) → IsBegun w → made (with_node w) given ≡ Ok new → IsBegun new
+node-made w new (Err c) h e = absurd (cc)
+node-made w new (Ok node) h e = subst IsBegun (let is : with_node w node ≡ new = cc in is) (placed w node h)
 
 -- nothing is open at first
 pub at_first : IsBegun (record { events = emit_stream_start ∷ []; opened = [] })

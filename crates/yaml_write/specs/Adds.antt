@@ -7,12 +7,22 @@ use Rattle.yaml_base.specs.declared.error.Cause.TheVariants.{Memory}
 use Rattle.yaml_write.specs.Outcomes.{made}
 use Rattle.yaml_write.specs.Writing.{Writing}
 
+-- the events that were there are there, perhaps with others behind them
+abbrev pub Keeps : (old new : List PlainEmit) → Type 0
+Keeps old new = (more : List PlainEmit) × (new ≡ old ++ more)
+
 -- The call put the events of what is given behind those that were there. Else it answers the cause that is given, or
--- want of memory, and what is there then is not said.
+-- want of memory, and what it left behind them is not said.
 abbrev pub Adds : {A B : Type 0} → (B → List PlainEmit) → Result B Cause → (old new : List PlainEmit) → Result A Cause
     → Type 0
 Adds view given old new (Ok a) = made (λ part. old ++ view part) given ≡ Ok new
-Adds view given old new (Err cause) = Fails cause given
+Adds view given old new (Err cause) = Fails cause given × Keeps old new
+
+-- The same, and where the call answers a cause, it left nothing.
+abbrev pub AddsOrStays : {A B : Type 0} → (B → List PlainEmit) → Result B Cause → (old new : List PlainEmit)
+    → Result A Cause → Type 0
+AddsOrStays view given old new (Ok a) = made (λ part. old ++ view part) given ≡ Ok new
+AddsOrStays view given old new (Err cause) = Fails cause given × (new ≡ old)
 
 -- The call left what is given, placed into what was there. Else it answers the cause that is given, or want of
 -- memory, and all is as it was.

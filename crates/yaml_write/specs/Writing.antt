@@ -39,16 +39,13 @@ abbrev pub document_end_in : List Open → List PlainEmit
 document_end_in [] = emit_document_end ∷ []
 document_end_in (o ∷ outer) = []
 
--- with the events of a part, begun in a document of its own where nothing is open, and that document ended
-abbrev pub with_part : Writing → List PlainEmit → Writing
-with_part w part = record {
-  events = w.events ++ (part ++ document_end_in w.opened);
-  opened = with_begun w.opened;
-}
+-- the events of a node, in a document of its own where nothing is open
+abbrev pub part_events : List Open → EmitNode → List PlainEmit
+part_events opened node = (document_start_in opened ++ emit_node_events node) ++ document_end_in opened
 
 -- with one node more: a document of its own where nothing is open, else a part of the innermost collection
 abbrev pub with_node : Writing → EmitNode → Writing
-with_node w node = with_part w (document_start_in w.opened ++ emit_node_events node)
+with_node w node = record { events = w.events ++ part_events w.opened node; opened = with_begun w.opened }
 
 -- with two nodes more
 abbrev pub with_both : Writing → EmitNode × EmitNode → Writing

@@ -1,12 +1,11 @@
 //! Events that are made one after another.
 
-ghost use Rattle.std.specs.Prelude.{◌≡◌, ◌++◌, ◌∷◌, [], Ok, codes, length, map, string_bytes};
-ghost use Rattle.std.specs.Prelude.{IfErr, OnErr, OnOk};
+ghost use Rattle.std.specs.Prelude.{◌≡◌, ◌∷◌, [], Ok, codes, length, map, string_bytes, take};
+ghost use Rattle.std.specs.Prelude.{OnErr, OnOk};
 ghost use Rattle.std.specs.Char.{encode_utf8};
 ghost use Rattle.yaml_base.specs.EmitEvents.{emit_of, tag_bytes, emit_sequence_start, emit_sequence_end};
 ghost use Rattle.yaml_base.specs.EmitEvents.{emit_mapping_start, emit_mapping_end};
 ghost use Rattle.yaml_base.specs.EmitTree.{emit_node_events, emit_scalar_node};
-ghost use Rattle.yaml_base.specs.declared.error.Cause.TheVariants.{Memory};
 ghost use Rattle.yaml_write.specs.Adds.{Adds};
 ghost use Rattle.yaml_write.specs.Brackets.{start_by, end_by};
 ghost use Rattle.yaml_write.specs.Outcomes.{plain_node, null_node, string_node};
@@ -32,23 +31,6 @@ impl Model for EventBuffer {
     ghost Value = { List PlainEmit };
 
     ghost view = { λ b. map emit_of b.events.items };
-}
-
-// Puts the only event that is there before others.
-fn put_first(events: &mut Vec<EmitEvent>, others: Vec<EmitEvent>) -> Result<()>
-    requires { length events.old.items ≡ 1 }
-    ensures ok { OnOk result (events.new.items ≡ events.old.items ++ others.items) }
-    ensures memory { IfErr result (λ cause. cause ≡ Memory) }
-    ensures err { OnErr result (events.new.items ≡ events.old.items) }
-{
-    let mut others = others;
-    others.reserve(1)?;
-    if let Some(first) = events.pop() {
-        if let Ok(()) = others.insert(0, first) {
-            *events = others;
-        }
-    }
-    Ok(())
 }
 
 impl EventBuffer {
@@ -81,7 +63,8 @@ impl EventBuffer {
         self.events
     }
 
-    // One event more.
+    // One event more. It is made where it lies, as are those of `scalar` and `plain`: hence the hints.
+    #[inline(always)]
     pub(crate) fn push(&mut self, event: EmitEvent) -> Result<()>
         ensures added { Adds (λ e. e ∷ []) (Ok (emit_of event)) self.old self.new result }
         ensures err { OnErr result (self.new ≡ self.old) }
@@ -92,6 +75,7 @@ impl EventBuffer {
     }
 
     // A scalar.
+    #[inline(always)]
     pub(crate) fn scalar(
         &mut self,
         tag: Option<String>,
@@ -106,6 +90,7 @@ impl EventBuffer {
     }
 
     // A scalar that is asked plain.
+    #[inline(always)]
     pub(crate) fn plain(&mut self, tag: Option<String>, text: &str) -> Result<()>
         ensures { Adds emit_node_events (Ok (plain_node (tag_bytes tag) text.now))
             self.old self.new result }
@@ -203,18 +188,22 @@ impl EventBuffer {
         }
     }
 
-    // Moves all events of the other behind these, or none. One that stands alone, as the start of a stream does, goes
-    // before the others, so that many events are not moved to new memory.
-    pub(crate) fn append(&mut self, added: EventBuffer) -> Result<()>
-        ensures ok { OnOk result (self.new ≡ self.old ++ added) }
-        ensures memory { IfErr result (λ cause. cause ≡ Memory) }
-        ensures err { OnErr result (self.new ≡ self.old) }
+    // How many events there are.
+    pub(crate) fn len(&self) -> usize
+        ensures { result ≡ length self.now }
     {
-        if self.events.len() == 1 {
-            return put_first(&mut self.events, added.events);
+        self.events.len()
+    }
+
+    // Ends a writing that began behind so many events: where it is refused, those that it left go.
+    pub(crate) fn settle(&mut self, held: usize, written: Result<()>) -> Result<()>
+        ensures same { result ≡ written }
+        ensures ok { OnOk written (self.new ≡ self.old) }
+        ensures err { OnErr written (self.new ≡ take held self.old) }
+    {
+        if written.is_err() {
+            self.events.truncate(held);
         }
-        let mut added = added;
-        self.events.append(&mut added.events)?;
-        Ok(())
+        written
     }
 }

@@ -49,10 +49,10 @@ pub(crate) fn write_data(
         Data::Unsigned(number) => out.integer(tag, *number),
         Data::Str(text) => out.string(tag, text.as_str()),
         Data::Bytes(_) => Err(Refusal::bytes()),
-        Data::None => out.null(tag),
-        Data::Some(inner) => write_data(out, schema, inner_shape(shape), tag, inner),
-        Data::Unit => out.null(tag),
-        Data::Newtype(inner) => write_data(out, schema, inner_shape(shape), tag, inner),
+        Data::None | Data::Unit | Data::Ignored => out.null(tag),
+        Data::Some(inner) | Data::Newtype(inner) => {
+            write_data(out, schema, inner_shape(shape), tag, inner)
+        }
         Data::Seq(items) => {
             let shapes = PartShapes::Elements(element_shape(shape));
             write_collection(out, schema, shapes, tag, items)
@@ -72,7 +72,6 @@ pub(crate) fn write_data(
         Data::Variant(place, inner) => {
             write_variant(out, schema, variant_at(shape, *place), tag, inner)
         }
-        Data::Ignored => out.null(tag),
     }
 }
 

@@ -11,6 +11,7 @@ mod part_shapes;
 mod refusal;
 mod ser;
 mod value;
+mod whole;
 
 pub use open::OpenKind;
 pub use ser::Serializer;

@@ -1,5 +1,8 @@
 //! The collections that a serializer has open.
 
+ghost use Rattle.std.specs.Prelude.{◌≡◌};
+ghost use Rattle.yaml_write.specs.Writing.{is_mapping};
+
 /// What kind of collection was opened.
 #[derive(Clone, Copy, PartialEq, Eq, Debug)]
 pub enum OpenKind {
@@ -24,4 +27,14 @@ pub enum OpenKind {
 pub(crate) struct Open {
     pub(crate) kind: OpenKind,
     pub(crate) awaits_value: bool,
+}
+
+// Whether the collection has keys and values.
+pub(crate) fn is_mapping(kind: OpenKind) -> bool
+    ensures { result ≡ is_mapping kind }
+{
+    matches!(
+        kind,
+        OpenKind::Map | OpenKind::Struct | OpenKind::StructVariant
+    )
 }

@@ -1,9 +1,11 @@
--- What is left to be written is as before, but for what was added, and each call is on a smaller value.
+-- What is left to be written is as before, but for what was added, what was there is kept, and each call is on a smaller
+-- value.
 use Rattle.std.proofs.Common.{◌≡◌, ◌≤◌, ◌+◌, ◌*◌, ◌++◌, drop}
 use Rattle.yaml_base.specs.EmitTree.{emit_nodes_events, emit_pairs_events}
 use Rattle.yaml_tree.specs.Tree.{tree_size, trees_size, pairs_size, pair_list_size}
 use Rattle.yaml_tree.specs.Valid.{items_of, pairs_of, content_of}
 use Rattle.yaml_tree.specs.View.{tree_of, trees_of}
+use Rattle.yaml_write.specs.Adds.{Keeps}
 use Rattle.yaml_write.specs.Outcomes.{made}
 use Rattle.yaml_write.specs.WrittenValue.{written_values}
 use Rattle.yaml_write.proofs.ValueLaws.{written_list}
@@ -32,11 +34,13 @@ decreases-write_tagged l = 3 * tree_size (content_of l.tagged.now) + 1
 
 abbrev pub invariant-write_values-loop-value : goal.invariant-write_values-loop-value
 invariant-write_values-loop-value l =
-    made (λ part. l.initial.out ++ emit_nodes_events part) (written_values (trees_of l.value-items))
-    ≡ made (λ part. l.out ++ emit_nodes_events part) (written_values (trees_of (drop l.value-index l.value-items)))
+    (made (λ part. l.initial.out ++ emit_nodes_events part) (written_values (trees_of l.value-items))
+    ≡ made (λ part. l.out ++ emit_nodes_events part) (written_values (trees_of (drop l.value-index l.value-items))))
+    × Keeps l.initial.out l.out
 
 abbrev pub invariant-write_pairs-loop-key : goal.invariant-write_pairs-loop-key
 invariant-write_pairs-loop-key l =
     (made (λ part. l.initial.out ++ emit_pairs_events part) (written_list l.initial.key-iterator)
     ≡ made (λ part. l.out ++ emit_pairs_events part) (written_list l.key-iterator))
     × (pair_list_size l.key-iterator ≤ pairs_size (pairs_of l.pairs))
+    × Keeps l.initial.out l.out

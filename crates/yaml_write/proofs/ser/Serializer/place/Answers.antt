@@ -1,11 +1,28 @@
 -- One node.
-use Rattle.std.proofs.Common.{◌++◌, ◌∙◌, ap}
-use Rattle.yaml_base.specs.EmitTree.{emit_node_events}
+use Rattle.std.proofs.Common.{◌≡◌, ◌++◌, Ok, ap, ◌∙◌, sym, subst, reverse}
 use Rattle.yaml_write.specs.Content.{content_written}
-use Rattle.yaml_write.proofs.BegunLaws.{of_node}
+use Rattle.yaml_write.specs.Outcomes.{made}
+use Rattle.yaml_write.specs.Writing.{Writing, part_events, with_begun, with_node}
+use Rattle.yaml_write.proofs.BegunLaws.{node-made}
+use Rattle.yaml_write.proofs.PlaceLaws.{placed-one}
 use Rattle.yaml_write.proofs.ser.Serializer.place.Goals as goal
 
-pub add_part-requires : goal.add_part-requires
-add_part-requires c =
-    let found = of_node c.in_ok-added.added c.write_content.new.out (content_written c.args.content) c.in_ok-write_content.ensures in
-    (found.0, found.1 ∙ ap (λ es. es ++ emit_node_events found.0) c.in_ok-added.ensures.ok)
+pub returns : goal.returns
+returns c =
+    let before : Writing = record { events = c.self.inside.written; opened = reverse c.self.inside.opened.items } in
+    let added : made (λ node. before.events ++ part_events before.opened node) (content_written c.args.content) ≡ Ok c.add_part.new.out =
+    ap (λ os. made (λ node. before.events ++ part_events (reverse os) node) (content_written c.args.content)) (sym c.deref.ensures.value) ∙ c.in_ok-add_part.ensures in
+    let opened : reverse c.begin_part.new.opened.items ≡ with_begun before.opened = c.begin_part.ensures.begun in
+    subst (λ (w : Writing). made (with_node w) (content_written c.args.content) ≡ Ok (record { events = c.add_part.new.out; opened = reverse c.begin_part.new.opened.items })) c.self.view_is
+    (placed-one before (content_written c.args.content) c.add_part.new.out added
+    ∙ ap Ok (λ k. record { events = c.add_part.new.out; opened = sym opened k }))
+
+pub invariant_of-self-2 : goal.invariant_of-self-2
+invariant_of-self-2 c =
+    let before : Writing = record { events = c.self.inside.written; opened = reverse c.self.inside.opened.items } in
+    let added : made (λ node. before.events ++ part_events before.opened node) (content_written c.args.content) ≡ Ok c.add_part.new.out =
+    ap (λ os. made (λ node. before.events ++ part_events (reverse os) node) (content_written c.args.content)) (sym c.deref.ensures.value) ∙ c.in_ok-add_part.ensures in
+    let opened : reverse c.begin_part.new.opened.items ≡ with_begun before.opened = c.begin_part.ensures.begun in
+    node-made before (record { events = c.add_part.new.out; opened = reverse c.begin_part.new.opened.items }) (content_written c.args.content) c.self.invariant
+    (placed-one before (content_written c.args.content) c.add_part.new.out added
+    ∙ ap Ok (λ k. record { events = c.add_part.new.out; opened = sym opened k }))

@@ -1,5 +1,5 @@
 -- Two parts of the innermost collection.
-use Rattle.std.proofs.Common.{◌≡◌, ◌≢◌, ◌++◌, [], Ok, ap, ◌∙◌, sym, subst, reverse}
+use Rattle.std.proofs.Common.{◌≡◌, ◌≢◌, [], Ok, ap, ◌∙◌, sym, subst, reverse}
 use Rattle.yaml_write.specs.Content.{content_written}
 use Rattle.yaml_write.specs.Outcomes.{joined, made}
 use Rattle.yaml_write.specs.Writing.{Writing, with_both, with_begun}
@@ -16,10 +16,8 @@ returns c =
     let both = joined pair_node (content_written c.args.first) (content_written c.args.second) in
     let opened : reverse c.begin_part-2.new.opened.items ≡ with_begun (with_begun before.opened) =
     c.begin_part-2.ensures.begun ∙ ap with_begun c.begin_part.ensures.begun in
-    let events : c.append.new.self ≡ before.events ++ c.write_both.new.out = c.in_ok-append.ensures.ok in
-    subst (λ (w : Writing). made (with_both w) both ≡ Ok (record { events = c.append.new.self; opened = reverse c.begin_part-2.new.opened.items })) is
-    (placed-both before both c.new-added.result c.write_both.new.out some c.new-added.ensures c.in_ok-write_both.ensures
-    ∙ ap Ok (λ k. record { events = sym events k; opened = sym opened k }))
+    subst (λ (w : Writing). made (with_both w) both ≡ Ok (record { events = c.add_both.new.out; opened = reverse c.begin_part-2.new.opened.items })) is
+    (placed-both before both c.add_both.new.out some c.in_ok-add_both.ensures ∙ ap Ok (λ k. record { events = c.add_both.new.out; opened = sym opened k }))
 
 pub invariant_of-self-2 : goal.invariant_of-self-2
 invariant_of-self-2 c =
@@ -28,7 +26,5 @@ invariant_of-self-2 c =
     let both = joined pair_node (content_written c.args.first) (content_written c.args.second) in
     let opened : reverse c.begin_part-2.new.opened.items ≡ with_begun (with_begun before.opened) =
     c.begin_part-2.ensures.begun ∙ ap with_begun c.begin_part.ensures.begun in
-    let events : c.append.new.self ≡ before.events ++ c.write_both.new.out = c.in_ok-append.ensures.ok in
-    placed-made before (record { events = c.append.new.self; opened = reverse c.begin_part-2.new.opened.items }) both c.self.invariant
-    (placed-both before both c.new-added.result c.write_both.new.out some c.new-added.ensures c.in_ok-write_both.ensures
-    ∙ ap Ok (λ k. record { events = sym events k; opened = sym opened k }))
+    placed-made before (record { events = c.add_both.new.out; opened = reverse c.begin_part-2.new.opened.items }) both c.self.invariant
+    (placed-both before both c.add_both.new.out some c.in_ok-add_both.ensures ∙ ap Ok (λ k. record { events = c.add_both.new.out; opened = sym opened k }))
