@@ -100,6 +100,7 @@ impl<'de> Document<'de> {
             return Err(Error::new(Cause::EndOfStream));
         }
         schema.optionals_end();
+        self.has_tree();
         let source = Source {
             alloc,
             schema,
