@@ -17,6 +17,7 @@ mod mapping;
 mod node;
 mod numbers;
 mod optional;
+mod parts;
 mod placed;
 mod plain;
 mod presence;
