@@ -1,5 +1,5 @@
 -- Where the reading of a document starts and ends.
-use Rattle.std.proofs.Common.{◌≡◌, ℕ, suc, ◌+◌, ◌-◌, ◌*◌, ◌<◌, ◌≤◌, List, [], ◌∷◌, map, length, Some, None, Result, Ok, Err, Bool, true, false, refl, sym, ap, subst, ◌∙◌, arith}
+use Rattle.std.proofs.Common.{◌≡◌, ℕ, suc, ◌+◌, ◌-◌, ◌*◌, ◌<◌, ◌≤◌, List, [], ◌∷◌, map, length, None, Result, Ok, Err, Bool, true, false, refl, sym, ap, subst, ◌∙◌, arith}
 use Rattle.std.specs.Prelude.{slice_get}
 use Rattle.std.proofs.lemmas.List.{length-map}
 use Rattle.std.proofs.lemmas.Option.{slice_get_within}
@@ -18,7 +18,6 @@ use Rattle.yaml_read.specs.PlainDocEvent.{PlainDocEvent}
 use Rattle.yaml_read.specs.PlainDocument.{PlainDocument}
 use Rattle.yaml_read.specs.Reads.{IsTreeOf}
 use Rattle.yaml_read.specs.StreamLaw.{HasTree}
-use Rattle.yaml_read.specs.Steps.{◌>>=◌}
 use Rattle.yaml_read.specs.TreeReader.{PlainLimits, Spot, Answer, marks_of, whole_fuel, whole_tree}
 use Rattle.yaml_read.specs.declared.doc_event.DocEvent.{DocEvent}
 use Rattle.yaml_read.specs.inner.Reader.{Reading, Events, node_at}

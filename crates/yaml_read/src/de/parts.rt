@@ -22,8 +22,8 @@ use yaml_base::{Mark, Path};
 use yaml_shape::{Data, Shape};
 
 impl<'s, 'de> Source<'s, 'de> {
-    /// A part of a collection, which begins with the event. Of a scalar, and of an alias of one, it is known at once what it
-    /// gives under a shape that reads scalars alone.
+    /// A part of a collection, which begins with the event. Of a scalar it is known at once what it gives under a shape that
+    /// reads scalars alone.
     #[cycle(read)]
     pub(super) fn read_part(
         &self,
@@ -54,6 +54,34 @@ impl<'s, 'de> Source<'s, 'de> {
                     Err(refusal) => Err(at_place(self.alloc, refusal, mark, path)),
                 };
             }
+        }
+        self.read_further(path, shape, leaf, event, mark, nest, walk)
+    }
+
+    /// The same, where it is an alias, a collection, or a scalar under any other shape.
+    #[cycle(read)]
+    pub(super) fn read_further(
+        &self,
+        path: &Path<'_>,
+        shape: &Shape,
+        leaf: bool,
+        event: &DocEvent<'de>,
+        mark: Mark,
+        nest: u8,
+        walk: &mut Walk,
+    ) -> Result<Data<'de>>
+        requires leaf { leaf ≡ is_leaf (shape_of shape.now) }
+        requires here { seen self.now.events.now walk.old.place ≡ Some (doc_event_of event.now, mark) }
+        requires within { walk.old.place < length self.now.events.now }
+        requires named { NamesWithin (length self.now.schema.now) (shape_of shape.now) }
+        requires forward { GoForward self.now.ends.now }
+        ensures gives { (fuel : ℕ) → depth self.now.schema.now (shape_of shape.now) false nest walk.old.left < fuel
+            → Gives (λ x. (data_of x, spot_of walk.new)) result
+            (reader_of fuel self.now (way_of path.now) (shape_of shape.now) nest None (spot_of walk.old)) }
+        ensures moves { OnOk result (Moves (length self.now.events.now) walk.old walk.new) }
+        ensures cost { Costs (length self.now.events.now) walk.old walk.new }
+    {
+        if leaf {
             if let DocEvent::Alias(target) = event {
                 if walk.left > 0 {
                     if let Some((scalar, there)) = self.scalar(*target) {

@@ -1,15 +1,13 @@
 -- What the reader's functions give at each exit.
-use Rattle.std.proofs.Common.{Ok, Err, Some, None, ◌≡◌, ℕ, suc, ◌+◌, ◌*◌, ◌-◌, ◌<◌, ◌≤◌, [], ◌∷◌, ◌++◌, map, length, true, false, sym, ap, ap₂, ◌∙◌, arith, rules, length-append, refl, Result}
+use Rattle.std.proofs.Common.{Ok, Err, Some, None, ◌≡◌, ℕ, suc, ◌+◌, ◌-◌, ◌<◌, [], ◌∷◌, ◌++◌, map, length, true, false, sym, ap, ◌∙◌, arith, rules, length-append, refl}
 use Rattle.std.specs.Option.{is_some, option_copied, option_map}
-use Rattle.std.specs.Prelude.{slice_get, drop}
+use Rattle.std.specs.Prelude.{drop}
 use Rattle.std.proofs.lemmas.List.{map-append, length-map}
 use Rattle.std.proofs.lemmas.Option.{slice_get_within}
-use mathlib.Core.Logic.{inl, inr}
-use Rattle.yaml_base.specs.Answer.{Gives, is_memory}
+use Rattle.yaml_base.specs.Answer.{is_memory}
 use Rattle.yaml_base.specs.PathText.{path_text}
-use Rattle.yaml_base.specs.declared.error.Cause.{Cause}
 use Rattle.yaml_shape.specs.DataView.{data_of, entry_of, items_of, entries_of}
-use Rattle.yaml_shape.specs.PlainData.{PlainData, any_data, variant_data, seq_data, map_data, some_data, newtype_data}
+use Rattle.yaml_shape.specs.PlainData.{any_data, variant_data, seq_data, map_data, some_data, newtype_data}
 use Rattle.yaml_shape.specs.Expected.{tuple_variant_with_text}
 use Rattle.yaml_shape.specs.PlainShape.{bool_shape, shape_at, tuple_variant_shape, struct_variant_shape}
 use Rattle.yaml_shape.specs.ShapeView.{shape_of, content_of, ids_of, field_of, fields_of, variants_of}
@@ -30,20 +28,20 @@ use Rattle.yaml_read.specs.NodeTags.{untaken_name}
 use Rattle.yaml_read.specs.Places.{way_of, element_under, value_under, place, placed, places}
 use Rattle.yaml_read.specs.Rows.{row_of, row_data}
 use Rattle.yaml_read.specs.PlainDocEvent.{a_scalar}
-use Rattle.yaml_read.specs.ScalarShapes.{scalar_answer, text_of, lent_text}
+use Rattle.yaml_read.specs.ScalarShapes.{text_of, lent_text}
 use Rattle.yaml_read.specs.Steps.{ending, wrap, with_shape}
 use Rattle.yaml_read.specs.Variants.{variant_named}
 use Rattle.yaml_read.specs.TreeReader.{Spot, after}
-use Rattle.yaml_read.specs.inner.Reader.{is_sequence_end, is_mapping_end, is_leaf, few_text, owner_named, value_at, item_at, entry_at, any_entry_at, row_at, skip_at, field_at, field_key_at, sequence_parts, mapping_parts, place_at, event_at}
+use Rattle.yaml_read.specs.inner.Reader.{is_sequence_end, is_mapping_end, few_text, owner_named, value_at, item_at, entry_at, any_entry_at, row_at, skip_at, field_at, field_key_at, sequence_parts, mapping_parts, place_at}
 use Rattle.yaml_read.specs.inner.Walks.{around_of, plain_around, variant_view, source_of, spot_of, seen, reader_of, row_view, slots_of, field_view, IsAmong}
 use Rattle.yaml_read.proofs.AnyLaws.{new_is_key, pairs_grow, key_again}
 use Rattle.yaml_read.proofs.VariantCode.{content_all}
-use Rattle.yaml_read.proofs.reading.ContentExits.{enum_content, enum_plain, enum_taken, node_placed, other_in_row, other_in_fields, no_mapping_starts, only_untaken}
+use Rattle.yaml_read.proofs.reading.ContentExits.{enum_content, enum_plain, enum_taken, node_placed, other_in_fields, no_mapping_starts, only_untaken}
 use Rattle.yaml_read.proofs.reading.ContentExits.{any_tagged_step, any_list_step, any_mapping_step, any_plain_step, wrap_onto_finds, wrap_onto_fails}
 use Rattle.yaml_read.proofs.reading.ValueExits.{step_rows, any_no_key, any_repeated, any_no_value, any_entry}
-use Rattle.yaml_read.proofs.reading.Exits.{gives_ending_at, same_spot, not_sequence_end, not_mapping_end, entry_is, leaf_as_is, leaf_late, row_as_is, row_late, option_as_is, all_at}
+use Rattle.yaml_read.proofs.reading.Exits.{gives_ending_at, same_spot, not_sequence_end, not_mapping_end, entry_is, leaf_as_is, leaf_late, row_as_is, option_as_is, all_at}
 use Rattle.yaml_read.proofs.reading.Exits.{step_late, step_ended, step_event, step_content, step_newtype, step_seq, step_row, step_map, leaf_alias, leaf_scalar, no_key, no_value, one_entry}
-use Rattle.yaml_read.proofs.reading.Exits.{fields_late, fields_as_is, step_struct, step_too_deep, step_bare, no_name, unknown_name, known_name, key_looked_up, key_fails, gives_key, gives_wrapped, name_scalar, scalar_mark}
+use Rattle.yaml_read.proofs.reading.Exits.{fields_as_is, step_struct, no_name, unknown_name, known_name, key_looked_up, key_fails, gives_key, gives_wrapped, name_scalar, scalar_mark}
 use Rattle.yaml_read.proofs.reading.Exits.{row_skips, row_reads, drop_here, drop_none, finish_fails, gives_finish}
 use Rattle.yaml_read.proofs.reading.Loops.{each_ended, each_end, each_fails, each_more, wrap_fails, wrap_finds, pursue_fails, pursue_finds}
 use Rattle.yaml_read.proofs.reading.PlaceLaws.{filled_memory, node_unfolds, place_here, place_ok, place_moved, place_memory}
@@ -222,35 +220,35 @@ read_part-returns-in-Err-clause-gives t c = λ fuel lt m.
     ∙ ap (λ r. place true c.args.mark (way_of c.args.path.now) (ending (after (spot_of c.args.walk.now)) r)) (c.in-Err.ensures.gives (sym (filled_memory c.in-Err.refusal (record { mark = c.args.mark; path = path_text c.args.path.now })) ∙ ap is_memory (sym told) ∙ m))
     ∙ ap Err (sym told)
 
-pub read_part-returns-in-Ok-read_scalar-clause-gives : goal.read_part-returns-in-Ok-read_scalar-clause-gives
-read_part-returns-in-Ok-read_scalar-clause-gives t c = λ fuel lt.
+pub read_further-returns-in-Ok-clause-gives : goal.read_further-returns-in-Ok-clause-gives
+read_further-returns-in-Ok-clause-gives t c = λ fuel lt.
     let next : Spot = record { place = c.args.walk.now.place + 1; left = c.follow.new.self.left } in
     leaf_alias (source_of c.args.self.now) (way_of c.args.path.now) (shape_of c.args.shape.now) c.args.nest (spot_of c.args.walk.now) fuel c.follow.new.self.left c.in-Alias.target (doc_scalar_of c.in-Some.scalar.now) c.args.mark c.in-Some.there.now (omega arith) (sym c.requires.leaf ∙ c.if-leaf.true) c.follow.ensures.left (c.requires.here ∙ ap (λ e. Some (doc_event_of e, c.args.mark)) c.in-Alias.is) c.in-Some.ensures.found
-    ∙ ap (λ r. place true c.args.mark (way_of c.args.path.now) (place true c.in-Some.there.now (way_of c.args.path.now) (ending next r))) c.in-Ok-read_scalar.ensures.gives
-    ∙ ap (λ p. Ok (data_of c.in-Ok-read_scalar.data, p)) (sym (same_spot (spot_of c.follow.new.self) next c.follow.ensures.place refl))
+    ∙ ap (λ r. place true c.args.mark (way_of c.args.path.now) (place true c.in-Some.there.now (way_of c.args.path.now) (ending next r))) c.in-Ok.ensures.gives
+    ∙ ap (λ p. Ok (data_of c.in-Ok.data, p)) (sym (same_spot (spot_of c.follow.new.self) next c.follow.ensures.place refl))
 
-pub read_part-returns-in-Err-read_scalar-clause-gives : goal.read_part-returns-in-Err-read_scalar-clause-gives
-read_part-returns-in-Err-read_scalar-clause-gives t c = λ fuel lt m.
+pub read_further-returns-in-Err-clause-gives : goal.read_further-returns-in-Err-clause-gives
+read_further-returns-in-Err-clause-gives t c = λ fuel lt m.
     let next : Spot = record { place = c.args.walk.now.place + 1; left = c.follow.new.self.left } in
-    let told = c.at_place-in-Err-read_scalar.ensures m in
+    let told = c.at_place.ensures m in
     let known = sym (filled_memory c.at_place-placed.result (record { mark = c.args.mark; path = path_text c.args.path.now })) ∙ ap is_memory (sym told) ∙ m in
     let told' = c.at_place-placed.ensures known in
-    let known' = sym (filled_memory c.in-Err-read_scalar.refusal (record { mark = c.in-Some.there.now; path = path_text c.args.path.now })) ∙ ap is_memory (sym told') ∙ known in
+    let known' = sym (filled_memory c.in-Err.refusal (record { mark = c.in-Some.there.now; path = path_text c.args.path.now })) ∙ ap is_memory (sym told') ∙ known in
     leaf_alias (source_of c.args.self.now) (way_of c.args.path.now) (shape_of c.args.shape.now) c.args.nest (spot_of c.args.walk.now) fuel c.follow.new.self.left c.in-Alias.target (doc_scalar_of c.in-Some.scalar.now) c.args.mark c.in-Some.there.now (omega arith) (sym c.requires.leaf ∙ c.if-leaf.true) c.follow.ensures.left (c.requires.here ∙ ap (λ e. Some (doc_event_of e, c.args.mark)) c.in-Alias.is) c.in-Some.ensures.found
-    ∙ ap (λ r. place true c.args.mark (way_of c.args.path.now) (place true c.in-Some.there.now (way_of c.args.path.now) (ending next r))) (c.in-Err-read_scalar.ensures.gives known')
+    ∙ ap (λ r. place true c.args.mark (way_of c.args.path.now) (place true c.in-Some.there.now (way_of c.args.path.now) (ending next r))) (c.in-Err.ensures.gives known')
     ∙ ap (λ y. Err (placed true c.args.mark (way_of c.args.path.now) y)) (sym told')
     ∙ ap Err (sym told)
 
-pub read_part-returns-in-Ok-read_seq-clause-gives : goal.read_part-returns-in-Ok-read_seq-clause-gives
-read_part-returns-in-Ok-read_seq-clause-gives t c = λ fuel lt.
+pub read_further-returns-in-Ok-read_seq-clause-gives : goal.read_further-returns-in-Ok-read_seq-clause-gives
+read_further-returns-in-Ok-read_seq-clause-gives t c = λ fuel lt.
     let here = seen c.args.self.now.events.now c.args.walk.now.place in
     let late = step_late (source_of c.args.self.now) (reader_of (fuel - 1) c.args.self.now) (way_of c.args.path.now) (shape_of c.args.shape.now) c.args.nest None (spot_of c.args.walk.now) (ap (λ x. early (shape_of x)) c.in-Seq.is) in
     node_unfolds (source_of c.args.self.now) (way_of c.args.path.now) (shape_of c.args.shape.now) c.args.nest None (spot_of c.args.walk.now) fuel (omega arith)
     ∙ ap (place_at (way_of c.args.path.now) (shape_of c.args.shape.now) false here) (late ∙ c.in-Ok-read_seq.ensures.gives (fuel - 1) (omega arith))
     ∙ place_ok (way_of c.args.path.now) (shape_of c.args.shape.now) false here _
 
-pub read_part-returns-in-Err-read_seq-clause-gives : goal.read_part-returns-in-Err-read_seq-clause-gives
-read_part-returns-in-Err-read_seq-clause-gives t c = λ fuel lt m.
+pub read_further-returns-in-Err-read_seq-clause-gives : goal.read_further-returns-in-Err-read_seq-clause-gives
+read_further-returns-in-Err-read_seq-clause-gives t c = λ fuel lt m.
     let here = seen c.args.self.now.events.now c.args.walk.now.place in
     let told = c.at_place-in-Err-read_seq.ensures m in
     let known = sym (filled_memory c.in-Err-read_seq.refusal (record { mark = c.args.mark; path = path_text c.args.path.now })) ∙ ap is_memory (sym told) ∙ m in
@@ -260,16 +258,16 @@ read_part-returns-in-Err-read_seq-clause-gives t c = λ fuel lt m.
     ∙ place_here (way_of c.args.path.now) (shape_of c.args.shape.now) false here (doc_event_of c.args.event.now) c.args.mark c.in-Err-read_seq.refusal c.requires.here (ap (λ x. places (shape_of x) false (doc_event_of c.args.event.now)) c.in-Seq.is)
     ∙ ap Err (sym told)
 
-pub read_part-returns-in-Ok-read_map-clause-gives : goal.read_part-returns-in-Ok-read_map-clause-gives
-read_part-returns-in-Ok-read_map-clause-gives t c = λ fuel lt.
+pub read_further-returns-in-Ok-read_map-clause-gives : goal.read_further-returns-in-Ok-read_map-clause-gives
+read_further-returns-in-Ok-read_map-clause-gives t c = λ fuel lt.
     let here = seen c.args.self.now.events.now c.args.walk.now.place in
     let late = step_late (source_of c.args.self.now) (reader_of (fuel - 1) c.args.self.now) (way_of c.args.path.now) (shape_of c.args.shape.now) c.args.nest None (spot_of c.args.walk.now) (ap (λ x. early (shape_of x)) c.in-Map.is) in
     node_unfolds (source_of c.args.self.now) (way_of c.args.path.now) (shape_of c.args.shape.now) c.args.nest None (spot_of c.args.walk.now) fuel (omega arith)
     ∙ ap (place_at (way_of c.args.path.now) (shape_of c.args.shape.now) false here) (late ∙ c.in-Ok-read_map.ensures.gives (fuel - 1) (omega arith))
     ∙ place_ok (way_of c.args.path.now) (shape_of c.args.shape.now) false here _
 
-pub read_part-returns-in-Err-read_map-clause-gives : goal.read_part-returns-in-Err-read_map-clause-gives
-read_part-returns-in-Err-read_map-clause-gives t c = λ fuel lt m.
+pub read_further-returns-in-Err-read_map-clause-gives : goal.read_further-returns-in-Err-read_map-clause-gives
+read_further-returns-in-Err-read_map-clause-gives t c = λ fuel lt m.
     let here = seen c.args.self.now.events.now c.args.walk.now.place in
     let told = c.at_place-in-Err-read_map.ensures m in
     let known = sym (filled_memory c.in-Err-read_map.refusal (record { mark = c.args.mark; path = path_text c.args.path.now })) ∙ ap is_memory (sym told) ∙ m in
