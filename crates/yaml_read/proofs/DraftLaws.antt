@@ -1,22 +1,20 @@
 -- What was seen of a document is what its draft holds.
-use Rattle.std.proofs.Common.{◌≡◌, ℕ, zero, suc, ◌+◌, ◌-◌, ◌<◌, ◌≤◌, List, [], ◌∷◌, ◌++◌, map, length, take, drop, get_or, min}
-use Rattle.std.proofs.Common.{refl, sym, ◌∙◌, ap, subst, arith, append_assoc, append-nil, length-append, length-take, length-drop, Option, Some, None, All, IsTrue}
-use Rattle.std.proofs.Common.{Bool, true, false, ◌⊎◌, inl, inr, option_map}
-use Rattle.std.specs.Prelude.{slice_get}
+use Rattle.std.proofs.Common.{◌≡◌, ℕ, suc, ◌+◌, ◌<◌, ◌≤◌, List, [], ◌∷◌, ◌++◌, length}
+use Rattle.std.proofs.Common.{sym, ◌∙◌, ap, subst, arith, append_assoc, append-nil, length-append, All, IsTrue}
+use Rattle.std.proofs.Common.{true}
 use Rattle.std.proofs.lemmas.List.{length-map, map-append}
-use Rattle.std.proofs.lemmas.List.Elements.{All-cons, All-push, All-tail}
+use Rattle.std.proofs.lemmas.List.Elements.{All-cons, All-push}
 use Rattle.yaml_base.specs.Position.{Position}
 use Rattle.yaml_base.specs.PlainEvent.{PlainEvent, stream_start, stream_end, document_start, document_end, alias, scalar}
 use Rattle.yaml_base.specs.PlainEvent.{sequence_start, sequence_end, mapping_start, mapping_end}
 use Rattle.yaml_base.specs.Tree.{anchor_at}
-use Rattle.yaml_read.specs.DocEventView.{doc_event_of, marked_events_of}
-use Rattle.yaml_read.specs.Documents.{Find, Input, anchor_of, anchors_in, becomes, known_events, or_mark, then_events, unknown_mark}
-use Rattle.yaml_read.specs.Ends.{end_place, ends_from, ends_of, is_closing, is_opening}
-use Rattle.yaml_read.specs.PlainDocEvent.{PlainDocEvent, alias_to}
+use Rattle.yaml_read.specs.DocEventView.{doc_event_of}
+use Rattle.yaml_read.specs.Documents.{Input, anchor_of, anchors_in}
+use Rattle.yaml_read.specs.PlainDocEvent.{PlainDocEvent}
 use Rattle.yaml_read.specs.declared.doc_event.DocEvent.{DocEvent}
 use Rattle.yaml_read.specs.declared.loader.draft.Draft.{Draft}
-use Rattle.yaml_read.specs.inner.Drafts.{IsDraft, Settled, aimed, alias_at, aliases_in, all_drafted, drafted, drafts_of, is_of_node, settle, settled}
-use Rattle.yaml_read.specs.inner.OpenEnds.{EndsView, HasNumbers}
+use Rattle.yaml_read.specs.inner.Drafts.{IsDraft, alias_at, aliases_in, all_drafted, drafted, drafts_of, is_of_node}
+use Rattle.yaml_read.specs.inner.OpenEnds.{HasNumbers}
 
 abbrev Events : Type 0
 Events = List (DocEvent × Position)

@@ -1,6 +1,6 @@
 -- Where a document ends, its draft becomes the last of the documents.
-use Rattle.std.proofs.Common.{◌≡◌, ℕ, zero, suc, ◌+◌, ◌-◌, ◌<◌, ◌≤◌, List, [], ◌∷◌, ◌++◌, map, length, take, drop, min, false}
-use Rattle.std.proofs.Common.{refl, sym, ◌∙◌, ap, subst, arith, append-nil, length-append, length-take, length-drop, Option, Some, None, option_map}
+use Rattle.std.proofs.Common.{◌≡◌, ℕ, ◌+◌, ◌<◌, List, [], ◌∷◌, ◌++◌, map, length, take, drop, min, false}
+use Rattle.std.proofs.Common.{refl, sym, ◌∙◌, ap, subst, arith, append-nil, length-take, length-drop, Option, Some, None, option_map}
 use Rattle.std.specs.Prelude.{slice_get}
 use Rattle.std.proofs.Math.Seq.{drop-append_seam, take-add, take-append_seam, take-append-add}
 use Rattle.std.proofs.lemmas.List.{length-map, take-append-drop, take-map}
@@ -8,7 +8,7 @@ use Rattle.yaml_base.specs.Position.{Position}
 use Rattle.yaml_base.specs.PlainFault.{PlainFault}
 use Rattle.yaml_base.specs.declared.error.Cause.{Cause}
 use Rattle.yaml_read.specs.DocEventView.{doc_event_of, marked_events_of}
-use Rattle.yaml_read.specs.Documents.{Find, Input, anchors_in, document_of, ending_of, find_in, known_events, unknown_mark, void_document}
+use Rattle.yaml_read.specs.Documents.{Find, Input, anchors_in, document_of, ending_of, find_in, known_events, unknown_mark}
 use Rattle.yaml_read.specs.Ends.{ends_of}
 use Rattle.yaml_read.specs.Gathering.{AreCuts, documents_in, ending_in, plain_doc_events}
 use Rattle.yaml_read.specs.PlainDocEvent.{PlainDocEvent}
@@ -17,7 +17,7 @@ use Rattle.yaml_read.specs.declared.doc_event.DocEvent.{DocEvent}
 use Rattle.yaml_read.specs.declared.loader.draft.Cut.{Cut}
 use Rattle.yaml_read.specs.declared.loader.draft.Draft.{Draft}
 use Rattle.yaml_read.specs.inner.Drafts.{IsBetween, IsDraft, aliases_in, all_drafted, drafts_of, settled}
-use Rattle.yaml_read.specs.inner.OpenEnds.{EndsView, HasNumbers, bounded_from}
+use Rattle.yaml_read.specs.inner.OpenEnds.{EndsView, bounded_from}
 use Rattle.yaml_read.proofs.Gatherings.{cuts_pushed, documents_pushed, long_pushed, plain_doc_events-marked}
 use Rattle.yaml_read.proofs.SettledLaws.{ends_of_cut, ends_of_whole, settled_whole}
 

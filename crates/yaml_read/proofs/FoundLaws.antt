@@ -1,5 +1,5 @@
 -- What a scalar is found to be tells its fault, and the value that it is.
-use Rattle.std.proofs.Common.{◌≡◌, List, ℕ, Option, Some, None, Bool, true, false, Result, Ok, Err, refl}
+use Rattle.std.proofs.Common.{◌≡◌, List, ℕ, Option, Some, None, Bool, true, false, Ok, Err, refl}
 use Rattle.std.specs.Prelude.{if◌then◌else◌}
 use Rattle.std.specs.Option.{option_map_or}
 use Rattle.yaml_base.specs.Floats.{is_float}
@@ -7,7 +7,6 @@ use Rattle.yaml_base.specs.PlainWords.{boolean_of, is_null_word}
 use Rattle.yaml_base.specs.declared.error.Cause.{Cause}
 use Rattle.yaml_base.specs.declared.found.Found.{Found}
 use Rattle.yaml_base.specs.declared.found.Found.TheVariants as found
-use Rattle.yaml_tree.specs.Tree.{Tree}
 use Rattle.yaml_read.specs.ScalarAny.{any_found, any_in}
 use Rattle.yaml_read.specs.ScalarFound.{wrong_type, found_integer, fault_in}
 use Rattle.yaml_read.specs.Steps.{◌>>=◌}

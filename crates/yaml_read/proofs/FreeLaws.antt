@@ -1,6 +1,6 @@
 -- Documents that are read without a walk, and shapes that name no others.
-use Rattle.std.proofs.Common.{rules, ◌≡◌, ℕ, zero, suc, ◌+◌, ◌*◌, ◌<◌, ◌≤◌, List, [], ◌∷◌, map, length, Option, Some, None, Result, Ok, Err, Bool, true, false, refl, sym, ap, subst, ◌∙◌, arith}
-use Rattle.std.specs.Prelude.{slice_get, is_ok, IfSome}
+use Rattle.std.proofs.Common.{rules, ◌≡◌, ℕ, zero, suc, ◌*◌, ◌<◌, ◌≤◌, List, [], ◌∷◌, map, length, Option, Some, None, Result, Ok, true, false, refl, sym, ap, ◌∙◌, arith}
+use Rattle.std.specs.Prelude.{slice_get, IfSome}
 use Rattle.std.specs.Option.{is_some, option_copied}
 use denote.Ref.{Bor}
 use Rattle.yaml_base.specs.PlainEvent.{PlainScalar}
@@ -19,8 +19,8 @@ use Rattle.yaml_read.specs.PlainDocEvent.{PlainDocEvent, a_scalar}
 use Rattle.yaml_read.specs.PlainDocument.{PlainDocument}
 use Rattle.yaml_read.specs.Reads.{IsTreeOf}
 use Rattle.yaml_read.specs.ScalarShapes.{scalar_answer}
-use Rattle.yaml_read.specs.Steps.{◌>>=◌, ending}
-use Rattle.yaml_read.specs.TreeReader.{PlainLimits, Spot, after, marks_of, whole_fuel, read_tree, answer_of}
+use Rattle.yaml_read.specs.Steps.{ending}
+use Rattle.yaml_read.specs.TreeReader.{Spot, marks_of, whole_fuel, read_tree}
 use Rattle.yaml_read.specs.inner.Answered.{IsAnswered}
 use Rattle.yaml_read.specs.inner.Reader.{is_leaf}
 use Rattle.yaml_read.proofs.reading.Exits.{leaf_scalar}

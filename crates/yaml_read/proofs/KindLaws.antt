@@ -1,5 +1,5 @@
 -- A shape of a kind is in its table.
-use Rattle.std.proofs.Common.{◌≡◌, ℕ, ◌<◌, List, Option, Some, None, Bool, true, false, length}
+use Rattle.std.proofs.Common.{◌≡◌, ℕ, ◌<◌, List, Option, Some, None, Bool, true, length}
 use Rattle.std.proofs.lemmas.Option.{slice_get_within}
 use Rattle.yaml_shape.specs.PlainShape.{PlainShape, shape_at}
 use Rattle.yaml_read.specs.Kinds.{any_of, has_kind}

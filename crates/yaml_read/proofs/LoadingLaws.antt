@@ -1,10 +1,9 @@
 -- Each event that may stand where it stands leads the draft on.
-use Rattle.std.proofs.Common.{◌≡◌, ℕ, zero, suc, ◌+◌, ◌-◌, ◌<◌, ◌≤◌, List, [], ◌∷◌, ◌++◌, map, length, take, drop, get_or}
+use Rattle.std.proofs.Common.{◌≡◌, List, [], ◌∷◌, ◌++◌, map, length}
 use Rattle.std.proofs.Common.{refl, sym, ◌∙◌, ap, subst, arith, append_assoc, append-nil, Option, Some, None, All, IsTrue, is_some}
 use Rattle.std.proofs.Common.{Bool, true, false, not, cond, ◌||◌}
 use Rattle.std.specs.Prelude.{option_to_list}
 use Rattle.std.specs.Bool.{beq}
-use Rattle.std.proofs.lemmas.List.{get_or-drop, length-drop}
 use Rattle.std.proofs.lemmas.List.Elements.{All-tail}
 use Rattle.yaml_base.specs.Position.{Position}
 use Rattle.yaml_base.specs.PlainEvent.{PlainEvent, event_of, stream_start, stream_end, document_start, document_end, alias, scalar}
@@ -13,10 +12,9 @@ use Rattle.yaml_base.specs.PlainFault.{PlainFault}
 use Rattle.yaml_base.specs.declared.event.Event.{Event}
 use Rattle.yaml_base.specs.declared.event.Event.TheVariants as event
 use Rattle.yaml_read.specs.Documents.{Input, after_starts, anchors_in, body, document_from, document_of, documents_of, ending_of, failed_document}
-use Rattle.yaml_read.specs.Documents.{find_in, further_document, is_document_end, is_document_start, is_ended, is_open_after, known_events}
+use Rattle.yaml_read.specs.Documents.{find_in, is_document_end, is_document_start, is_ended, is_open_after, known_events}
 use Rattle.yaml_read.specs.Documents.{last_mark, unknown_mark, void_document, void_documents}
 use Rattle.yaml_read.specs.Gathering.{AreCuts, documents_in}
-use Rattle.yaml_read.specs.MarkedEvents.{plain_marked}
 use Rattle.yaml_read.specs.PlainDocument.{PlainDocument}
 use Rattle.yaml_read.specs.StreamMachine.{State, before_stream, between_documents, before_root, within, after_stream, begins, next_state, is_done, is_open, state_of}
 use Rattle.yaml_read.specs.declared.loader.check.Phase.{Phase}
@@ -27,7 +25,7 @@ use Rattle.yaml_read.specs.declared.loader.check.Open.TheVariants.{Sequence, Key
 use Rattle.yaml_read.specs.declared.loader.draft.Cut.{Cut}
 use Rattle.yaml_read.specs.declared.loader.draft.Draft.{Draft}
 use Rattle.yaml_read.specs.inner.Drafts.{IsBetween, IsDraft, is_of_node}
-use Rattle.yaml_read.specs.inner.Loading.{AreAll, IsClosedDraft, IsOnWay, IsOpenDraft, IsReady, is_inside, open_before, open_behind}
+use Rattle.yaml_read.specs.inner.Loading.{IsClosedDraft, IsOnWay, IsOpenDraft, IsReady, is_inside, open_before, open_behind}
 use Rattle.yaml_read.proofs.DraftLaws.{aliases_in_range, as_many, begins_within}
 
 abbrev Turns : PlainEvent → State → State → Type 0

@@ -1,7 +1,7 @@
 -- Where the aliases of a draft have got their targets, its events are those of the document.
-use Rattle.std.proofs.Common.{◌≡◌, ℕ, zero, suc, ◌+◌, ◌-◌, ◌<◌, ◌≤◌, List, [], ◌∷◌, ◌++◌, map, length, take, drop, get_or, min}
-use Rattle.std.proofs.Common.{refl, sym, ◌∙◌, ap, subst, arith, append_assoc, append-nil, length-append, length-take, length-drop, take_all, Option, Some, None, All, IsTrue}
-use Rattle.std.proofs.Common.{Bool, true, false, ◌⊎◌, inl, inr, option_map, cond, ◌&&◌, ◌==◌}
+use Rattle.std.proofs.Common.{◌≡◌, ℕ, suc, ◌+◌, ◌≤◌, List, [], ◌∷◌, ◌++◌, map, length, take, min}
+use Rattle.std.proofs.Common.{refl, sym, ◌∙◌, ap, subst, arith, append_assoc, append-nil, length-append, take_all, Option, Some, None, All, IsTrue}
+use Rattle.std.proofs.Common.{Bool, true, false, inl, inr, option_map, cond, ◌&&◌, ◌==◌}
 use Rattle.std.specs.Prelude.{slice_get}
 use Rattle.std.proofs.lemmas.Bool.{cases_Bool}
 use Rattle.std.proofs.lemmas.List.{length-map}
@@ -12,7 +12,7 @@ use Rattle.yaml_base.specs.PlainEvent.{sequence_start, sequence_end, mapping_sta
 use Rattle.yaml_read.specs.Documents.{Find, Input, becomes, known_events, or_mark, then_events, unknown_mark}
 use Rattle.yaml_read.specs.Ends.{end_place, ends_from, ends_of, inner_after, is_closing, is_opening}
 use Rattle.yaml_read.specs.PlainDocEvent.{PlainDocEvent, alias_to}
-use Rattle.yaml_read.specs.inner.Drafts.{Settled, aimed, alias_at, aliases_in, all_drafted, drafted, drafts_of, is_of_node, settle, settled}
+use Rattle.yaml_read.specs.inner.Drafts.{Settled, aimed, aliases_in, all_drafted, drafted, drafts_of, is_of_node, settle, settled}
 
 abbrev Marked : Type 0
 Marked = List (PlainDocEvent × Position)

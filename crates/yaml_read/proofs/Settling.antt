@@ -1,12 +1,12 @@
 -- The aliases of a document get their targets one after another, up to the first unknown one.
-use Rattle.std.proofs.Common.{◌≡◌, ℕ, zero, suc, ◌+◌, ◌-◌, ◌<◌, ◌≤◌, List, [], ◌∷◌, ◌++◌, map, length, get_or, set, take, drop}
-use Rattle.std.proofs.Common.{refl, sym, ◌∙◌, ap, subst, arith, append_assoc, append-nil, length-append, add-one, Option, Some, None, All}
+use Rattle.std.proofs.Common.{◌≡◌, ℕ, zero, suc, ◌+◌, ◌<◌, ◌≤◌, List, [], ◌∷◌, length, get_or, set, drop}
+use Rattle.std.proofs.Common.{sym, ◌∙◌, ap, arith, add-one, Option, Some, None}
 use Rattle.std.proofs.Math.ListN.{drop_of_length-le}
 use Rattle.std.proofs.Math.Seq.{drop-cons}
 use Rattle.std.proofs.lemmas.List.{drop-set-add, get_or-drop, length-drop}
 use Rattle.yaml_base.specs.Position.{Position}
 use Rattle.yaml_read.specs.DocEventView.{doc_event_of, marked_events_of}
-use Rattle.yaml_read.specs.Documents.{Find, Input}
+use Rattle.yaml_read.specs.Documents.{Find}
 use Rattle.yaml_read.specs.PlainDocEvent.{PlainDocEvent, alias_to}
 use Rattle.yaml_read.specs.declared.doc_event.DocEvent.{DocEvent}
 use Rattle.yaml_read.specs.declared.doc_event.DocEvent.TheVariants as event

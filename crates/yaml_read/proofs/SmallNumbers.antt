@@ -1,7 +1,7 @@
 -- Numbers of a few decimal digits, as a loop from the left reads them.
 use Rattle.std.proofs.Common.{◌≡◌, ℕ, zero, suc, ◌+◌, ◌*◌, ◌-◌, ◌^◌, ◌<◌, ◌≤◌, List, [], ◌∷◌, ◌++◌, length, take, drop, refl}
-use Rattle.std.proofs.Common.{get_or, sym, ap, ◌∙◌, subst, arith, Bool, true, false, not}
-use Rattle.std.specs.Prelude.{Option, Some, option_and_then, nat_lt, nat_eq, ◌&&◌, if◌then◌else◌}
+use Rattle.std.proofs.Common.{get_or, sym, ap, ◌∙◌, subst, arith, true, false}
+use Rattle.std.specs.Prelude.{Option, Some, option_and_then, nat_lt}
 use Rattle.std.specs.Char.{digit_value}
 use Rattle.std.specs.Int.{IsInRange}
 use Rattle.std.specs.List.{list_all}
@@ -12,10 +12,10 @@ use Rattle.std.proofs.lemmas.List.{drop_more}
 use Rattle.std.proofs.lemmas.Fmt.{IsAscii-from_digits}
 use Rattle.std.proofs.lemmas.Str.{digit_value_digit, IsUtf8-from_ascii}
 use Rattle.std.proofs.Math.Nat.{pow-succ', pow-le-pow_right}
-use Rattle.std.proofs.Math.Seq.{take-suc, drop-length, take-length}
+use Rattle.std.proofs.Math.Seq.{take-suc, drop-length}
 use Rattle.yaml_read.specs.ScalarShapes.{utf8_text}
 use Rattle.yaml_read.proofs.TextLaws.{bytes-there}
-use Rattle.yaml_base.specs.Integers.{decimal, digits_number, has_zero_in_front, number_in, place_value}
+use Rattle.yaml_base.specs.Integers.{decimal, has_zero_in_front, number_in, place_value}
 
 -- the number that digits write behind a number
 abbrev pub behind : ℕ → List ℕ → ℕ

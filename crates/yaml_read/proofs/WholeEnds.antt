@@ -1,5 +1,5 @@
 -- Where the reading of a document starts and ends.
-use Rattle.std.proofs.Common.{◌≡◌, ℕ, suc, ◌+◌, ◌-◌, ◌*◌, ◌<◌, ◌≤◌, List, [], ◌∷◌, map, length, Some, None, Result, Ok, Err, Bool, true, false, refl, sym, ap, subst, ◌∙◌, arith}
+use Rattle.std.proofs.Common.{◌≡◌, ℕ, suc, ◌+◌, ◌-◌, ◌*◌, ◌<◌, ◌≤◌, List, [], ◌∷◌, map, length, None, Result, Ok, Err, Bool, true, false, refl, sym, ap, subst, ◌∙◌, arith}
 use Rattle.std.specs.Prelude.{slice_get}
 use Rattle.std.proofs.lemmas.List.{length-map}
 use Rattle.std.proofs.lemmas.Option.{slice_get_within}
@@ -9,7 +9,7 @@ use Rattle.yaml_shape.specs.PlainData.{PlainData}
 use Rattle.yaml_shape.specs.PlainShape.{PlainShape}
 use Rattle.yaml_read.specs.CursorReads.{LeavesCursor, most_steps}
 use Rattle.yaml_read.specs.DocEventView.{marked_events_of}
-use Rattle.yaml_read.specs.DocTree.{DocNode, events_of}
+use Rattle.yaml_read.specs.DocTree.{events_of}
 use Rattle.yaml_read.specs.Ends.{ends_of}
 use Rattle.yaml_read.specs.Handing.{depth, reach}
 use Rattle.yaml_read.specs.Places.{root_way}
@@ -17,7 +17,7 @@ use Rattle.yaml_read.specs.PlainCursor.{PlainCursor, fresh_cursor}
 use Rattle.yaml_read.specs.PlainDocEvent.{PlainDocEvent}
 use Rattle.yaml_read.specs.PlainDocument.{PlainDocument}
 use Rattle.yaml_read.specs.Reads.{IsTreeOf}
-use Rattle.yaml_read.specs.Steps.{◌>>=◌}
+use Rattle.yaml_read.specs.StreamLaw.{HasTree}
 use Rattle.yaml_read.specs.TreeReader.{PlainLimits, Spot, Answer, marks_of, whole_fuel, whole_tree}
 use Rattle.yaml_read.specs.declared.doc_event.DocEvent.{DocEvent}
 use Rattle.yaml_read.specs.inner.Reader.{Reading, Events, node_at}
@@ -59,11 +59,13 @@ landed_at : (p : ℕ) (r : Answer PlainData) (v : PlainData) (next : Spot) → l
 landed_at p (Ok x) v next h = ap (λ (y : PlainData × Spot). y.1.place) (same_ok _ _ h)
 landed_at p (Err y) v next h = absurd cc
 
--- data of a document that has a tree is behind all its events
+-- data of a document that nothing cut off is behind all its events
 pub read_ends : (limits : PlainLimits) (table : List PlainShape) (s : PlainShape) (document : PlainDocument) (v : PlainData) (next : Spot)
-    → whole_reading limits table document s ≡ Ok (v, next) → (root : DocNode) → IsTreeOf document root
+    → whole_reading limits table document s ≡ Ok (v, next) → HasTree document → document.ending ≡ None
     → next.place ≡ length document.events
-read_ends limits table s document v next h root is =
+read_ends limits table s document v next h tree whole =
+    let root = (tree whole).0 in
+    let is : IsTreeOf document root = (tree whole).1 in
     let shown = subst (Shows (slice_get document.events) 0) is.events (shows_list document.events) in
     let tied =
     reader_tied (whole_source table document) (λ p e. slice_get_within document.events p e) (node_ends document.events) (marks_of document.events) (λ p. refl) root shown is.known
@@ -79,11 +81,11 @@ both b e f = let bad = sym e ∙ f in absurd cc
 -- how a fresh cursor is left by a walk from the start that answers data
 pub leaves : (limits : PlainLimits) (document : PlainDocument) (old new : PlainCursor) (n place steps : ℕ) → old ≡ fresh_cursor → n ≡ length document.events
     → new.place ≡ place → new.refused ≡ false → new.steps ≡ steps → place ≤ steps → steps ≤ 2 * (n - 0) + 2 * (n * (limits.follows * n))
-    → ((root : DocNode) → IsTreeOf document root → place ≡ length document.events) → LeavesCursor limits document old new true
+    → place ≡ length document.events → LeavesCursor limits document old new true
 leaves limits document old new n place steps fresh size at opened counted under most_ over = record {
   used = λ stale. absurd (stale fresh);
   most = λ h. subst (λ m. new.steps ≤ most_steps limits m) size (omega (arith, counted, most_));
-  over = λ h a root is. (omega (arith, over root is, counted, under), at ∙ over root is);
+  over = λ h a. (omega (arith, over, counted, under), at ∙ over);
   opened = λ h a. opened;
   closed = λ h a. absurd (both true refl a);
 }

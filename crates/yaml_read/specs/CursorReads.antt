@@ -1,9 +1,7 @@
 -- How a reading leaves the cursor that it goes by.
 use Rattle.std.specs.Prelude.{◌≡◌, ◌≢◌, ℕ, ◌+◌, ◌*◌, ◌≤◌, Bool, true, false, length}
-use Rattle.yaml_read.specs.DocTree.{DocNode}
 use Rattle.yaml_read.specs.PlainCursor.{PlainCursor, fresh_cursor}
 use Rattle.yaml_read.specs.PlainDocument.{PlainDocument}
-use Rattle.yaml_read.specs.Reads.{IsTreeOf}
 use Rattle.yaml_read.specs.TreeReader.{PlainLimits}
 
 -- the most steps of a reading within limits, where the document has n events
@@ -16,8 +14,8 @@ pub record LeavesCursor (limits : PlainLimits) (document : PlainDocument) (old n
   pub used : old ≢ fresh_cursor → (answered ≡ false) × (new ≡ old)
   -- a fresh one takes so many steps at most, whether the document is read or refused, whole or cut off
   pub most : old ≡ fresh_cursor → new.steps ≤ most_steps limits (length document.events)
-  -- with data it went over each event of the tree, and stands behind the last
-  pub over : old ≡ fresh_cursor → answered ≡ true → (root : DocNode) → IsTreeOf document root
+  -- with data it went over each event, and stands behind the last
+  pub over : old ≡ fresh_cursor → answered ≡ true
       → (length document.events ≤ new.steps) × (new.place ≡ length document.events)
   -- with data it can be asked further, and after a refusal it shows no event
   pub opened : old ≡ fresh_cursor → answered ≡ true → new.refused ≡ false

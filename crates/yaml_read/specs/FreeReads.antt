@@ -1,5 +1,5 @@
 -- Documents whose reading takes no memory.
-use Rattle.std.specs.Prelude.{◌≡◌, Bool, true, false, is_ok}
+use Rattle.std.specs.Prelude.{◌≡◌, true, false, is_ok}
 use Rattle.yaml_base.specs.PlainEvent.{PlainScalar}
 use Rattle.yaml_shape.specs.PlainShape.{PlainShape}
 use Rattle.yaml_read.specs.DocTree.{word}

@@ -7,4 +7,5 @@ pub mod Loading
 pub mod OpenEnds
 pub mod Reader
 pub mod Refusals
+pub mod Takes
 pub mod Walks

@@ -17,6 +17,7 @@ mod mapping;
 mod node;
 mod numbers;
 mod optional;
+mod parts;
 mod placed;
 mod plain;
 mod presence;
@@ -100,6 +101,7 @@ impl<'de> Document<'de> {
             return Err(Error::new(Cause::EndOfStream));
         }
         schema.optionals_end();
+        self.has_tree();
         let source = Source {
             alloc,
             schema,

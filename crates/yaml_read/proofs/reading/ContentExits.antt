@@ -1,18 +1,18 @@
 -- What a node's reading comes to under an enum, and under what its variants hold.
 use Rattle.std.proofs.Common.{◌≡◌, ℕ, ◌-◌, ◌<◌, Bool, true, false, List, [], Some, None, Option, Result, Ok, Err, refl, ap, ◌∙◌}
-use Rattle.std.specs.Option.{is_some, option_and_then}
+use Rattle.std.specs.Option.{is_some}
 use Rattle.yaml_base.specs.Position.{Position}
 use Rattle.yaml_base.specs.declared.error.Cause.{Cause}
 use Rattle.yaml_base.specs.declared.error.Cause.TheVariants.{NestedEnum}
 use Rattle.yaml_shape.specs.DataView.{items_of, entries_of}
-use Rattle.yaml_shape.specs.PlainData.{PlainData, any_data, variant_data}
+use Rattle.yaml_shape.specs.PlainData.{any_data, variant_data}
 use Rattle.yaml_shape.specs.PlainShape.{PlainShape, any_shape, enum_shape, PlainVariant, content_shape}
 use Rattle.yaml_shape.specs.PlainShape.{tuple_variant_shape, struct_variant_shape}
 use Rattle.yaml_tree.specs.Tree.{sequence, tagged}
 use Rattle.yaml_tree.specs.Tree as tree
 use Rattle.yaml_read.specs.AnyData.{tree_in, trees_in, pairs_in}
 use Rattle.yaml_read.specs.Fields.{Fields}
-use Rattle.yaml_read.specs.Handing.{as_is, as_variant, handed, is_bare, is_filled_scalar}
+use Rattle.yaml_read.specs.Handing.{as_variant, is_filled_scalar}
 use Rattle.yaml_read.specs.NodeTags.{Around, around_value, untaken_name}
 use Rattle.yaml_read.specs.Places.{Way, place, places}
 use Rattle.yaml_read.specs.PlainDocEvent.{PlainDocEvent, alias_to, a_scalar, a_void}

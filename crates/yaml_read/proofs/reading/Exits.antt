@@ -17,8 +17,8 @@ use Rattle.yaml_read.specs.DocEventView.{doc_event_of}
 use Rattle.yaml_read.specs.Fields.{Fields, Slots, no_slots, name_in, field_named, struct_of}
 use Rattle.yaml_read.specs.Handing.{Handing, as_is, as_bare, handed, early, is_bare, is_content}
 use Rattle.yaml_read.specs.NodeTags.{Around}
-use Rattle.yaml_read.specs.Places.{Way, place, places}
-use Rattle.yaml_read.specs.PlainDocEvent.{PlainDocEvent, a_scalar, sequence_begins, mapping_begins}
+use Rattle.yaml_read.specs.Places.{Way, place, placed, places}
+use Rattle.yaml_read.specs.PlainDocEvent.{PlainDocEvent, alias_to, a_scalar, sequence_begins, mapping_begins}
 use Rattle.yaml_base.specs.PlainEvent.{PlainScalar}
 use Rattle.yaml_read.specs.Rows.{row_of, row_step, row_data}
 use Rattle.yaml_read.specs.ScalarShapes.{scalar_answer, text_of, lent_text}
@@ -28,8 +28,8 @@ use Rattle.yaml_read.specs.declared.doc_event.DocEvent.{DocEvent}
 use Rattle.yaml_read.specs.declared.doc_event.DocEvent.TheVariants as event
 use Rattle.yaml_read.specs.inner.Reader.{Source, Reading, Reader, is_sequence_end, is_mapping_end, is_leaf, row_shape, few_text, owner_named, of_tuple, of_tuple_struct, value_at, text_at, fields_in}
 use Rattle.yaml_read.specs.inner.Reader.{item_at, entry_at, row_at, skip_at, sequence_parts, mapping_parts, event_at, handed_at, shape_step, node_step, node_at}
-use Rattle.yaml_read.specs.inner.Reader.{mapping_at, fields_at, field_at, field_key_at}
-use Rattle.yaml_read.proofs.reading.Loops.{entered, too_deep}
+use Rattle.yaml_read.specs.inner.Reader.{mapping_at, fields_at, field_at, field_key_at, pursue}
+use Rattle.yaml_read.proofs.reading.Loops.{entered, too_deep, pursue_fails, pursue_finds}
 
 -- spots with the same place and the same follows
 pub same_spot : (a b : Spot) → a.place ≡ b.place → a.left ≡ b.left → a ≡ b
@@ -171,6 +171,27 @@ pub leaf_scalar : (source : Source) (way : Way) (s : PlainShape) (nest : ℕ) (t
 unfolding node_at
 leaf_scalar source way s nest taken at zero w m lt leaf is = absurd (omega arith)
 leaf_scalar source way s nest taken at (suc fuel) w m lt leaf is = rw (is, leaf_late s leaf, leaf_as_is s (is_some taken) (a_scalar w) leaf, leaf_places s (is_some taken) (a_scalar w) leaf)
+
+-- an alias of a scalar under such a shape
+pub leaf_alias : (source : Source) (way : Way) (s : PlainShape) (nest : ℕ) (at : Spot) (fuel left j : ℕ) (w : PlainScalar) (m n : Position)
+    → 1 < fuel → is_leaf s ≡ true → left + 1 ≡ at.left → source.events at.place ≡ Some (alias_to j, m) → source.events j ≡ Some (a_scalar w, n)
+    → node_at source fuel way s nest None at
+    ≡ place true m way (place true n way (ending (record { place = at.place + 1; left = left }) (scalar_answer s false w)))
+unfolding node_at
+leaf_alias source way s nest at zero left j w m n lt leaf some is there = absurd (omega arith)
+leaf_alias source way s nest at (suc fuel) left j w m n lt leaf some is there =
+    (rw (is, leaf_late s leaf, leaf_as_is s false (alias_to j) leaf, leaf_places s false (alias_to j) leaf))
+    ∙ ap (place true m way) (followed (scalar_answer s false w)
+    (leaf_scalar source way s nest None (record { place = j; left = left }) fuel w n (omega arith) leaf there))
+  where
+    added : (l : ℕ) → l + 1 - 1 ≡ l
+    added l = omega arith
+
+    followed : (r : Result PlainData Cause)
+        → node_at source fuel way s nest None (record { place = j; left = left }) ≡ place true n way (ending (record { place = j + 1; left = left }) r)
+        → pursue (node_at source fuel way s nest None) j at.place at.left ≡ place true n way (ending (record { place = at.place + 1; left = left }) r)
+    followed (Ok v) h = ap (pursue (node_at source fuel way s nest None) j at.place) (sym some) ∙ pursue_finds (node_at source fuel way s nest None) j at.place (left + 1) v (record { place = j + 1; left = left }) (omega arith) (rw (added left) h)
+    followed (Err y) h = ap (pursue (node_at source fuel way s nest None) j at.place) (sym some) ∙ pursue_fails (node_at source fuel way s nest None) j at.place (left + 1) (placed true n way y) (omega arith) (rw (added left) h)
 
 module _ (source : Source) (read : Way → Reader) (way : Way) (s t : PlainShape) (nest : ℕ) (vs : List (PlainData × PlainData)) (at : Spot) where
   pub no_key : (x : Cause) → read way s nest None at ≡ Err x → entry_at source read way s t nest vs at ≡ Err x

@@ -44,6 +44,11 @@ module _ (way : Way) (s : PlainShape) (taken : Bool) where
   place_ok None x = refl
   place_ok (Some e) x = refl
 
+  -- a fault is placed at the node's first event, where the call for the shape places it
+  pub place_here : {A : Type 0} (o : Option (PlainDocEvent × Position)) (e : PlainDocEvent) (m : Position) (y : Cause) → o ≡ Some (e, m)
+      → places s taken e ≡ true → ◌≡◌ {A = Result A Cause} (place_at way s taken o (Err y)) (Err (placed true m way y))
+  place_here o e m y is p = rw (is, p)
+
   err_is : {A : Type 0} {x y : Cause} → ◌≡◌ {A = Result A Cause} (Err x) (Err y) → x ≡ y
   err_is h = cc
 

@@ -1,9 +1,8 @@
 -- The events of a document before its end is reached: aliases wait for their targets.
-use Rattle.std.specs.Prelude.{ℕ, ◌≡◌, ◌+◌, ◌<◌, List, [], ◌∷◌, ◌++◌, map, length, Bool, true, false, IsTrue, All, Option, Some, None}
+use Rattle.std.specs.Prelude.{ℕ, ◌≡◌, ◌+◌, List, [], ◌∷◌, ◌++◌, map, length, Bool, true, false, IsTrue, All, Option, Some, None}
 use Rattle.std.specs.Prelude.{suc, zero}
 use Rattle.yaml_base.specs.Position.{Position}
 use Rattle.yaml_base.specs.PlainEvent.{PlainEvent, alias, scalar, sequence_start, sequence_end, mapping_start, mapping_end}
-use Rattle.yaml_base.specs.Tree.{anchor_at}
 use Rattle.yaml_read.specs.DocEventView.{marked_events_of}
 use Rattle.yaml_read.specs.Documents.{Find, Input, anchors_in}
 use Rattle.yaml_read.specs.Gathering.{AreCuts, documents_in}
@@ -12,7 +11,6 @@ use Rattle.yaml_read.specs.PlainDocEvent.{mapping_begins, mapping_ends, a_void}
 use Rattle.yaml_read.specs.PlainDocument.{PlainDocument}
 use Rattle.yaml_read.specs.Resolved.{without_anchor}
 use Rattle.yaml_read.specs.declared.doc_event.DocEvent.{DocEvent}
-use Rattle.yaml_read.specs.declared.loader.draft.Cut.{Cut}
 use Rattle.yaml_read.specs.declared.loader.draft.Draft.{Draft}
 use Rattle.yaml_read.specs.inner.OpenEnds.{HasNumbers}
 

@@ -1,12 +1,13 @@
 //! A mapping whose keys have one shape, and whose values have another.
 
-ghost use Rattle.std.specs.Prelude.{◌≡◌, ℕ, suc, ◌+◌, ◌*◌, ◌<◌, ◌≤◌, [], length, map, OnOk};
+ghost use Rattle.std.specs.Prelude.{◌≡◌, ℕ, suc, ◌+◌, ◌*◌, ◌<◌, ◌≤◌, [], length, map, OnOk, Some};
 ghost use Rattle.std.specs.Option.{is_some};
 ghost use Rattle.yaml_base.specs.Answer.{Gives};
 ghost use Rattle.yaml_shape.specs.DataView.{data_of, entry_of};
 ghost use Rattle.yaml_shape.specs.PlainShape.{map_shape};
 ghost use Rattle.yaml_shape.specs.ShapeView.{shape_of};
 ghost use Rattle.yaml_shape.specs.Validity.{NamesWithin};
+ghost use Rattle.yaml_read.specs.DocEventView.{doc_event_of};
 ghost use Rattle.yaml_read.specs.Ends.{GoForward};
 ghost use Rattle.yaml_read.specs.Handing.{depth, reach};
 ghost use Rattle.yaml_read.specs.Places.{way_of};
@@ -15,16 +16,15 @@ ghost use Rattle.yaml_read.specs.inner.Walks.{around_of, source_of, spot_of, rea
 
 use crate::de::around::Around;
 use crate::de::node::{is_leaf, too_deep};
-use crate::de::placed::value_path;
 use crate::de::refusal::{Result, ended};
 use crate::de::source::Source;
 use crate::doc_event::DocEvent;
 use crate::walk::Walk;
-use yaml_base::Path;
+use yaml_base::{Mark, Path};
 use yaml_shape::{Data, Entry, Shape, ShapeId};
 
 impl<'s, 'de> Source<'s, 'de> {
-    /// A mapping whose keys have one shape, and whose values have another.
+    /// A mapping whose keys have one shape, and whose values have another. It begins with the event.
     #[cycle(read)]
     pub(super) fn read_map(
         &self,
@@ -32,10 +32,14 @@ impl<'s, 'de> Source<'s, 'de> {
         shape: &Shape,
         key: ShapeId,
         value: ShapeId,
+        event: &DocEvent<'de>,
+        mark: Mark,
         nest: u8,
         taken: Option<&Around<'_>>,
         walk: &mut Walk,
     ) -> Result<Data<'de>>
+        requires here { seen self.now.events.now walk.old.place ≡ Some (doc_event_of event.now, mark) }
+        requires within { walk.old.place < length self.now.events.now }
         requires mapping { shape_of shape.now ≡ map_shape key.0 value.0 }
         requires named { NamesWithin (length self.now.schema.now) (shape_of shape.now) }
         requires forward { GoForward self.now.ends.now }
@@ -46,29 +50,30 @@ impl<'s, 'de> Source<'s, 'de> {
         ensures moves { OnOk result (Moves (length self.now.events.now) walk.old walk.new) }
         ensures cost { Costs (length self.now.events.now) walk.old walk.new }
     {
-        let Some((event, mark)) = self.event(walk.place) else {
-            return Err(ended(self.alloc));
-        };
         let DocEvent::MappingStart(_) = event else {
             return self.read_simple(path, shape, event, nest, taken, walk);
         };
         if nest == 0 {
-            return Err(too_deep(self.alloc, *mark));
+            return Err(too_deep(self.alloc, mark));
         }
+        let key = self.shape(key);
+        let value = self.shape(value);
+        let room = self.room(walk.place, is_leaf(key) && is_leaf(value)) / 2;
         walk.step();
-        match self.read_entries(path, self.shape(key), self.shape(value), nest - 1, walk) {
+        match self.read_entries(path, key, value, room, nest - 1, walk) {
             Ok(entries) => Ok(Data::Map(entries)),
             Err(refusal) => Err(refusal),
         }
     }
 
-    /// The entries of a mapping, to its end.
+    /// The entries of a mapping, to its end, with room for so many.
     #[cycle(read)]
     pub(super) fn read_entries(
         &self,
         path: &Path<'_>,
         key: &Shape,
         value: &Shape,
+        room: usize,
         nest: u8,
         walk: &mut Walk,
     ) -> Result<Vec<Entry<'de>>>
@@ -89,7 +94,7 @@ impl<'s, 'de> Source<'s, 'de> {
     {
         let key_leaf = is_leaf(key);
         let value_leaf = is_leaf(value);
-        let mut entries = Vec::new(self.alloc);
+        let mut entries = Vec::with_capacity(self.alloc, room)?;
         loop {
             let Some((event, mark)) = self.event(walk.place) else {
                 return Err(ended(self.alloc));
@@ -102,8 +107,7 @@ impl<'s, 'de> Source<'s, 'de> {
                 Ok(name) => name,
                 Err(refusal) => return Err(refusal),
             };
-            let inner = value_path(&*path, event);
-            let content = match self.read_next(&inner, value, value_leaf, nest, walk) {
+            let content = match self.read_value(path, event, value, value_leaf, nest, walk) {
                 Ok(content) => content,
                 Err(refusal) => return Err(refusal),
             };

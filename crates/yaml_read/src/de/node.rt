@@ -112,12 +112,22 @@ impl<'s, 'de> Source<'s, 'de> {
             Shape::Bytes => Err(refuse(self.alloc, Error::new(Cause::BytesUnsupported))),
             Shape::Option(content) => self.read_option(path, shape, *content, nest, taken, walk),
             Shape::Newtype { name: _, inner } => self.read_newtype(path, *inner, nest, taken, walk),
-            Shape::Seq(element) => self.read_seq(path, shape, *element, nest, taken, walk),
+            Shape::Seq(element) => {
+                let Some((event, mark)) = self.event(walk.place) else {
+                    return Err(ended(self.alloc));
+                };
+                self.read_seq(path, shape, *element, event, *mark, nest, taken, walk)
+            }
             Shape::Tuple(items) => self.read_tuple(path, shape, None, items, nest, taken, walk),
             Shape::TupleStruct { name, items } => {
                 self.read_tuple(path, shape, Some(name), items, nest, taken, walk)
             }
-            Shape::Map(key, value) => self.read_map(path, shape, *key, *value, nest, taken, walk),
+            Shape::Map(key, value) => {
+                let Some((event, mark)) = self.event(walk.place) else {
+                    return Err(ended(self.alloc));
+                };
+                self.read_map(path, shape, *key, *value, event, *mark, nest, taken, walk)
+            }
             Shape::Struct { name: _, fields } => {
                 self.read_struct(path, shape, fields, false, nest, taken, walk)
             }

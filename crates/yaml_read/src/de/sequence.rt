@@ -1,4 +1,4 @@
-//! A sequence whose elements have one shape, and the parts of collections.
+//! A sequence whose elements have one shape.
 
 ghost use Rattle.std.specs.Prelude.{◌≡◌, ℕ, suc, ◌+◌, ◌*◌, ◌<◌, ◌≤◌, [], length, map, OnOk, Some, false};
 ghost use Rattle.std.specs.Option.{is_some};
@@ -26,17 +26,21 @@ use yaml_base::{Mark, Path};
 use yaml_shape::{Data, Shape, ShapeId};
 
 impl<'s, 'de> Source<'s, 'de> {
-    /// A sequence whose elements have one shape.
+    /// A sequence whose elements have one shape, which begins with the event.
     #[cycle(read)]
     pub(super) fn read_seq(
         &self,
         path: &Path<'_>,
         shape: &Shape,
         element: ShapeId,
+        event: &DocEvent<'de>,
+        mark: Mark,
         nest: u8,
         taken: Option<&Around<'_>>,
         walk: &mut Walk,
     ) -> Result<Data<'de>>
+        requires here { seen self.now.events.now walk.old.place ≡ Some (doc_event_of event.now, mark) }
+        requires within { walk.old.place < length self.now.events.now }
         requires seq { shape_of shape.now ≡ seq_shape element.0 }
         requires named { NamesWithin (length self.now.schema.now) (shape_of shape.now) }
         requires forward { GoForward self.now.ends.now }
@@ -47,28 +51,28 @@ impl<'s, 'de> Source<'s, 'de> {
         ensures moves { OnOk result (Moves (length self.now.events.now) walk.old walk.new) }
         ensures cost { Costs (length self.now.events.now) walk.old walk.new }
     {
-        let Some((event, mark)) = self.event(walk.place) else {
-            return Err(ended(self.alloc));
-        };
         let DocEvent::SequenceStart(_) = event else {
             return self.read_simple(path, shape, event, nest, taken, walk);
         };
         if nest == 0 {
-            return Err(too_deep(self.alloc, *mark));
+            return Err(too_deep(self.alloc, mark));
         }
+        let element = self.shape(element);
+        let room = self.room(walk.place, is_leaf(element));
         walk.step();
-        match self.read_items(path, self.shape(element), nest - 1, walk) {
+        match self.read_items(path, element, room, nest - 1, walk) {
             Ok(items) => Ok(Data::Seq(items)),
             Err(refusal) => Err(refusal),
         }
     }
 
-    /// The elements of a sequence, to its end.
+    /// The elements of a sequence, to its end, with room for so many.
     #[cycle(read)]
     pub(super) fn read_items(
         &self,
         path: &Path<'_>,
         element: &Shape,
+        room: usize,
         nest: u8,
         walk: &mut Walk,
     ) -> Result<Vec<Data<'de>>>
@@ -85,7 +89,7 @@ impl<'s, 'de> Source<'s, 'de> {
         ensures cost { Costs (length self.now.events.now) walk.old walk.new }
     {
         let leaf = is_leaf(element);
-        let mut items = Vec::new(self.alloc);
+        let mut items = Vec::with_capacity(self.alloc, room)?;
         loop {
             let Some((event, mark)) = self.event(walk.place) else {
                 return Err(ended(self.alloc));
@@ -103,66 +107,6 @@ impl<'s, 'de> Source<'s, 'de> {
                 Ok(item) => items.push(item)?,
                 Err(refusal) => return Err(refusal),
             }
-        }
-    }
-
-    /// A part of a collection, which begins with the event; of a scalar it is known at once what it gives.
-    #[cycle(read)]
-    pub(super) fn read_part(
-        &self,
-        path: &Path<'_>,
-        shape: &Shape,
-        leaf: bool,
-        event: &DocEvent<'de>,
-        mark: Mark,
-        nest: u8,
-        walk: &mut Walk,
-    ) -> Result<Data<'de>>
-        requires leaf { leaf ≡ is_leaf (shape_of shape.now) }
-        requires here { seen self.now.events.now walk.old.place ≡ Some (doc_event_of event.now, mark) }
-        requires within { walk.old.place < length self.now.events.now }
-        requires named { NamesWithin (length self.now.schema.now) (shape_of shape.now) }
-        requires forward { GoForward self.now.ends.now }
-        ensures gives { (fuel : ℕ) → depth self.now.schema.now (shape_of shape.now) false nest walk.old.left < fuel
-            → Gives (λ x. (data_of x, spot_of walk.new)) result
-            (reader_of fuel self.now (way_of path.now) (shape_of shape.now) nest None (spot_of walk.old)) }
-        ensures moves { OnOk result (Moves (length self.now.events.now) walk.old walk.new) }
-        ensures cost { Costs (length self.now.events.now) walk.old walk.new }
-    {
-        if leaf {
-            if let DocEvent::Scalar(scalar) = event {
-                walk.step();
-                return match read_scalar(self.alloc, shape, false, scalar) {
-                    Ok(data) => Ok(data),
-                    Err(refusal) => Err(at_place(self.alloc, refusal, mark, path)),
-                };
-            }
-        }
-        self.read_node(path, shape, nest, None, walk)
-    }
-
-    /// The same as a part, where it is not known yet with which event it begins.
-    #[cycle(read)]
-    pub(super) fn read_next(
-        &self,
-        path: &Path<'_>,
-        shape: &Shape,
-        leaf: bool,
-        nest: u8,
-        walk: &mut Walk,
-    ) -> Result<Data<'de>>
-        requires leaf { leaf ≡ is_leaf (shape_of shape.now) }
-        requires named { NamesWithin (length self.now.schema.now) (shape_of shape.now) }
-        requires forward { GoForward self.now.ends.now }
-        ensures gives { (fuel : ℕ) → depth self.now.schema.now (shape_of shape.now) false nest walk.old.left < fuel
-            → Gives (λ x. (data_of x, spot_of walk.new)) result
-            (reader_of fuel self.now (way_of path.now) (shape_of shape.now) nest None (spot_of walk.old)) }
-        ensures moves { OnOk result (Moves (length self.now.events.now) walk.old walk.new) }
-        ensures cost { Costs (length self.now.events.now) walk.old walk.new }
-    {
-        match self.event(walk.place) {
-            Some((event, mark)) => self.read_part(path, shape, leaf, event, *mark, nest, walk),
-            None => self.read_node(path, shape, nest, None, walk),
         }
     }
 }

@@ -1,16 +1,17 @@
 //! What a reading reads.
 
-ghost use Rattle.std.specs.Prelude.{◌≡◌, ℕ, ◌<◌, ◌≤◌, length, Some, OnSome, slice_get, All};
+ghost use Rattle.std.specs.Prelude.{◌≡◌, ℕ, ◌<◌, ◌≤◌, length, Some, IfSome, OnSome, slice_get, All};
 ghost use Rattle.std.specs.Option.{option_map};
 ghost use Rattle.yaml_shape.specs.PlainShape.{shape_at};
 ghost use Rattle.yaml_shape.specs.ShapeView.{shape_of};
 ghost use Rattle.yaml_shape.specs.Validity.{NamesWithin};
 ghost use Rattle.yaml_shape.specs.Walks.{rank};
-ghost use Rattle.yaml_read.specs.DocEventView.{doc_event_of};
+ghost use Rattle.yaml_read.specs.DocEventView.{doc_event_of, doc_scalar_of};
 ghost use Rattle.yaml_read.specs.Handing.{reach};
+ghost use Rattle.yaml_read.specs.PlainDocEvent.{a_scalar};
 ghost use Rattle.yaml_read.specs.inner.Walks.{seen};
 
-use crate::doc_event::DocEvent;
+use crate::doc_event::{DocEvent, DocScalar};
 use std::alloc::Global;
 use yaml_base::Mark;
 use yaml_shape::{Schema, Shape, ShapeId};
@@ -32,6 +33,26 @@ impl<'s, 'de> Source<'s, 'de> {
         ensures within { OnSome result (place < length self.now.events.now) }
     {
         self.events.get(place)
+    }
+
+    /// The scalar at a place, where there is one, with its mark.
+    pub(crate) fn scalar(&self, place: usize) -> Option<(&'s DocScalar<'de>, &'s Mark)>
+        ensures found { IfSome result (λ s. seen self.now.events.now place ≡ Some (a_scalar (doc_scalar_of s.0.now), s.1.now)) }
+        ensures within { IfSome result (λ _. place < length self.now.events.now) }
+    {
+        match self.event(place)? {
+            (DocEvent::Scalar(scalar), mark) => Some((scalar, mark)),
+            _ => None,
+        }
+    }
+
+    /// How many parts the collection that begins at a place has, where all are scalars or aliases of scalars: the room
+    /// that they take. Where that is not known, it is none.
+    pub(crate) fn room(&self, start: usize, leaf: bool) -> usize {
+        match self.end(start) {
+            Some(end) if leaf => end.saturating_sub(start).saturating_sub(1),
+            _ => 0,
+        }
     }
 
     /// The number that stands for an event: where the collection ends that begins there.

@@ -20,7 +20,6 @@ use crate::de::around::Around;
 use crate::de::field_index::FieldIndex;
 use crate::de::fields::{field_named, missing_field, no_slots, put};
 use crate::de::node::{is_leaf, too_deep};
-use crate::de::placed::value_path;
 use crate::de::presence::is_empty_plain;
 use crate::de::refusal::{Result, ended};
 use crate::de::sort::text_of;
@@ -167,9 +166,8 @@ impl<'s, 'de> Source<'s, 'de> {
         let Some((place, id)) = key else {
             return self.pass_over(walk);
         };
-        let inner = value_path(&*path, &*event);
         let shape = self.shape(id);
-        match self.read_next(&inner, shape, is_leaf(shape), nest, walk) {
+        match self.read_value(path, event, shape, is_leaf(shape), nest, walk) {
             Ok(data) => {
                 put(slots, place, data);
                 Ok(())

@@ -18,7 +18,6 @@ ghost use Rattle.yaml_read.specs.inner.Walks.{around_of, source_of, spot_of, rea
 use crate::de::any::{any_list, any_tagged, duplicate_entry, has_key, put_pair, value_in};
 use crate::de::around::{Around, is_taken, untaken_name};
 use crate::de::node::too_deep;
-use crate::de::placed::value_path;
 use crate::de::refusal::{Result, ended};
 use crate::de::source::Source;
 use crate::doc_event::DocEvent;
@@ -66,7 +65,7 @@ impl<'s, 'de> Source<'s, 'de> {
                     return Err(too_deep(self.alloc, *mark));
                 }
                 walk.step();
-                match self.read_items(path, shape, nest - 1, walk) {
+                match self.read_items(path, shape, 0, nest - 1, walk) {
                     Ok(items) => any_list(self.alloc, items),
                     Err(refusal) => Err(refusal),
                 }
@@ -122,8 +121,7 @@ impl<'s, 'de> Source<'s, 'de> {
             if has_key(&pairs, &key) {
                 return Err(duplicate_entry(self.alloc, &key));
             }
-            let inner = value_path(&*path, event);
-            let value = match self.read_next(&inner, any, false, nest, walk) {
+            let value = match self.read_value(path, event, any, false, nest, walk) {
                 Ok(value) => value_in(value),
                 Err(refusal) => return Err(refusal),
             };

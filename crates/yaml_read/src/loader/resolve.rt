@@ -1,20 +1,54 @@
 //! The aliases of a document get their targets.
 
-ghost use Rattle.std.specs.Prelude.{◌≡◌, ◌+◌, ◌<◌, ◌≤◌, All, IfSome, drop, length, take};
+ghost use Rattle.std.specs.Prelude.{◌≡◌, ◌+◌, ◌<◌, ◌≤◌, All, IfSome, IsTrue, drop, false, length, take};
 ghost use Rattle.yaml_read.specs.DocEventView.{marked_events_of};
 ghost use Rattle.yaml_read.specs.Documents.{find_in};
-ghost use Rattle.yaml_read.specs.inner.AnchorOrder.{IsInOrder};
+ghost use Rattle.yaml_read.specs.inner.AnchorOrder.{AllBefore, IsInOrder, IsPlaceOf, NoneBefore};
 ghost use Rattle.yaml_read.specs.inner.Drafts.{settled};
 
 use crate::doc_event::DocEvent;
 use yaml_base::{Anchor, Mark};
 
-// The last place of the alias's anchor in front of the alias.
-fn target_of(named: &[(Anchor, usize)], alias: &(Anchor, usize)) -> Option<usize>
+// Whether the anchor at this place of the list stands in front of the alias. None does behind the last.
+fn is_before(named: &[(Anchor, usize)], at: usize, alias: &(Anchor, usize)) -> bool
     requires { IsInOrder named.now }
+    ensures within { IsTrue result → at < length named.now }
+    ensures before { IsTrue result → AllBefore named.now alias.now (at + 1) }
+    ensures behind { result ≡ false → NoneBefore named.now alias.now at }
+{
+    match named.get(at) {
+        Some(anchor) => anchor.cmp(alias).is_lt(),
+        None => false,
+    }
+}
+
+// Where the alias belongs among the anchors. Aliases often follow in the order of their anchors, or against it, so it is
+// looked for near the place of the alias before, and only then by halves.
+fn place_of(named: &[(Anchor, usize)], alias: &(Anchor, usize), near: usize) -> usize
+    requires { IsInOrder named.now }
+    ensures place { IsPlaceOf named.now alias.now result }
+    ensures within { result ≤ length named.now }
+{
+    if near == 0 || is_before(named, near - 1, alias) {
+        if !is_before(named, near, alias) {
+            return near;
+        }
+        if !is_before(named, near + 1, alias) {
+            return near + 1;
+        }
+    } else if near == 1 || is_before(named, near - 2, alias) {
+        return near - 1;
+    }
+    named.partition_point(|x| x.cmp(alias).is_lt())
+}
+
+// The last place of the alias's anchor in front of the alias, which belongs at this place of the list.
+fn target_of(named: &[(Anchor, usize)], alias: &(Anchor, usize), at: usize) -> Option<usize>
+    requires order { IsInOrder named.now }
+    requires at { IsPlaceOf named.now alias.now at }
+    requires within { at ≤ length named.now }
     ensures { result ≡ find_in named.now alias.now.0 alias.now.1 }
 {
-    let at = named.partition_point(|x| x.cmp(alias).is_lt());
     let (anchor, place) = named.get(at.checked_sub(1)?)?;
     if *anchor == alias.0 {
         Some(*place)
@@ -41,8 +75,10 @@ pub(crate) fn resolve(
     ensures count { length events.new.items ≡ length events.old.items }
     ensures place { IfSome result (λ place. from + place < length events.old.items) }
 {
+    let mut at = 0;
     'aliases: for alias in aliases {
-        match target_of(named, alias) {
+        at = place_of(named, alias, at);
+        match target_of(named, alias, at) {
             Some(target) => events[from + alias.1].0 = DocEvent::Alias(target),
             None => return Some(alias.1),
         }

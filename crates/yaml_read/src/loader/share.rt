@@ -1,7 +1,8 @@
 //! The documents share their events.
 
-ghost use Rattle.std.specs.Prelude.{◌≡◌, IfOk};
+ghost use Rattle.std.specs.Prelude.{◌≡◌, All, IfOk};
 ghost use Rattle.yaml_read.specs.Gathering.{AreCuts, documents_in};
+ghost use Rattle.yaml_read.specs.StreamLaw.{HasTree};
 
 use crate::document::Document;
 use crate::loader::draft::{Cut, Draft};
@@ -10,7 +11,8 @@ use std::rc::Rc;
 
 // The documents, each with a share of the events and of their numbers. The only error is want of memory.
 pub(crate) fn share<'de>(alloc: Global, draft: Draft<'de>) -> Result<Vec<Document<'de>>, AllocError>
-    requires { AreCuts draft.events.items draft.ends.numbers draft.cuts.items }
+    requires cuts { AreCuts draft.events.items draft.ends.numbers draft.cuts.items }
+    requires trees { All HasTree (documents_in draft.events.items draft.cuts.items) }
     ensures { IfOk result (λ documents.
         documents.items ≡ documents_in draft.entry.events.items draft.entry.cuts.items) }
 {

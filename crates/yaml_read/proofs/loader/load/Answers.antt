@@ -1,5 +1,5 @@
 -- The events go wrong where the machine stops, else the draft goes on with each of them.
-use Rattle.std.proofs.Common.{◌≡◌, ◌+◌, ◌∙◌, ◌∷◌, [], ap, arith, drop, get_or, is_some, length, refl, rules, subst, sym, true, false}
+use Rattle.std.proofs.Common.{◌≡◌, ◌∙◌, [], ap, arith, is_some, subst, sym}
 use Rattle.std.specs.Vec.Iter.{into_iter_items}
 use Rattle.yaml_base.specs.Position.{Position}
 use Rattle.yaml_base.specs.PlainEvent.{event_of}
@@ -7,7 +7,7 @@ use Rattle.yaml_base.specs.declared.event.Event.{Event}
 use Rattle.yaml_read.specs.Documents.{documents_of, last_mark}
 use Rattle.yaml_read.specs.inner.Drafts.{IsBetween}
 use Rattle.yaml_read.specs.MarkedEvents.{plain_events, plain_marked}
-use Rattle.yaml_read.specs.StreamMachine.{is_done, is_open, next_state, state_of}
+use Rattle.yaml_read.specs.StreamMachine.{next_state, state_of}
 use Rattle.yaml_read.specs.inner.Loading.{IsOnWay, is_inside, open_before, open_behind}
 use Rattle.yaml_read.proofs.LoadingLaws.{flags_differ, flags_same, inside_phase, nothing_left, on_way, open_faulted, ready_if, turns}
 use Rattle.yaml_read.proofs.WrongPlaces.{at_place, next_parts, right_end, run_plain, wrong_end, wrong_not_well_formed, wrong_plain}

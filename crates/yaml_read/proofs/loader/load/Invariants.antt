@@ -1,7 +1,6 @@
 -- The events read so far lead from the start to the phase and the open collections, and to the draft.
 use Rattle.std.proofs.Common.{◌≡◌, ◌≤◌, length, drop, take, Some}
 use Rattle.std.specs.Vec.Iter.{into_iter_items}
-use Rattle.yaml_read.specs.Documents.{last_mark}
 use Rattle.yaml_read.specs.MarkedEvents.{plain_events, plain_marked}
 use Rattle.yaml_read.specs.StreamMachine.{run, before_stream, state_of, IsClean}
 use Rattle.yaml_read.specs.inner.Loading.{IsOnWay, is_inside}

@@ -1,5 +1,5 @@
 -- A key is there where it has a value.
-use Rattle.std.proofs.Common.{◌≡◌, sym, ap, ◌∙◌, Some, None, Option, refl}
+use Rattle.std.proofs.Common.{◌≡◌, ap, ◌∙◌, Some, None, Option, refl}
 use Rattle.std.specs.Option.{is_some, option_map}
 use Rattle.yaml_tree.specs.Valid.{pairs_of}
 use Rattle.yaml_tree.specs.View.{tree_of}

@@ -1,5 +1,5 @@
 -- A field that is found is among the fields.
-use Rattle.std.proofs.Common.{sym, ap, ◌∙◌, Some}
+use Rattle.std.proofs.Common.{sym, ap, ◌∙◌}
 use Rattle.yaml_shape.specs.ShapeView.{fields_of}
 use Rattle.yaml_read.specs.inner.Walks.{field_view}
 use Rattle.yaml_read.proofs.FieldCode.{find_within}

@@ -1,4 +1,4 @@
-use Rattle.std.proofs.Common.{◌≡◌, ℤ, ap, ◌∙◌, rules, to_z, of_z, w64}
+use Rattle.std.proofs.Common.{◌≡◌, ap, ◌∙◌, rules, to_z, of_z, w64}
 use Rattle.std.specs.Prelude.{Some}
 use mir.Syntax.{w128}
 use Rattle.yaml_read.proofs.SmallNumbers.{read-text}

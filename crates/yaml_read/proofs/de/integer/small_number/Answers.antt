@@ -1,5 +1,4 @@
-use Rattle.std.proofs.Common.{◌≡◌, ◌∙◌, ◌≤◌, ◌<◌, ◌+◌, ◌^◌, length, arith, subst}
-use Rattle.std.specs.Str.Parse.{AllDigits}
+use Rattle.std.proofs.Common.{◌≡◌, ◌∙◌, length, arith}
 use Rattle.std.proofs.Math.Seq.{take-length}
 use Rattle.yaml_read.proofs.SmallNumbers.{all-more, behind-more, number-read, small-fits, small-more, small-number}
 use Rattle.yaml_read.proofs.de.integer.small_number.Goals as goal

@@ -33,10 +33,10 @@ returns-in-None-clause-cursor c =
     (c.is_fresh.ensures.0 c.if-not-is_fresh.false) size c.pass.ensures.place c.pass.ensures.refused c.pass.ensures.steps
     (omega (arith, c.in-Ok.ensures.moves.3, c.new-2.ensures))
     (omega (arith, c.in-Ok.ensures.cost, c.new-2.ensures, ap (λ x. length c.events.result.now * (x * length c.events.result.now)) c.follows.ensures.value))
-    (λ root is. read_ends c.args.limits c.args.schema.now (shape_of c.args.shape.now) c.args.self.now _ _
+    (read_ends c.args.limits c.args.schema.now (shape_of c.args.shape.now) c.args.self.now _ _
     (seen_within c.args.limits c.args.schema.now (shape_of c.args.shape.now) c.requires.small c.args.self.now c.events.result.now c.ends.result.now _
     c.nesting.result (c.follows.result * length c.events.result.now) (sym c.nesting.ensures) (ap (λ x. x * length c.events.result.now) (sym c.follows.ensures.value))
-    c.events.ensures.shown c.ends.ensures c.in-Ok.ensures.gives) root is)
+    c.events.ensures.shown c.ends.ensures c.in-Ok.ensures.gives) c.has_tree.ensures (sym c.error.ensures ∙ ap option_copied c.in-None.is))
 
 pub returns-in-None-error-clause-read : goal.returns-in-None-error-clause-read
 returns-in-None-error-clause-read c = λ fresh. rw c.into_error.ensures (λ fault.

@@ -1,5 +1,5 @@
 -- The alias that comes next gets its target.
-use Rattle.std.proofs.Common.{◌+◌, ◌<◌, ◌∙◌, arith, ap, length, length-set, subst, sym, drop}
+use Rattle.std.proofs.Common.{◌+◌, ◌<◌, ◌∙◌, arith, length, length-set, subst, sym, drop}
 use Rattle.std.proofs.lemmas.List.{take-set-le}
 use Rattle.yaml_read.specs.DocEventView.{marked_events_of}
 use Rattle.yaml_read.specs.Documents.{find_in}

@@ -1,5 +1,5 @@
 -- What the aliases left make of the events is what all of them make of those there were.
-use Rattle.std.proofs.Common.{◌≡◌, ◌-◌, length, drop, take}
+use Rattle.std.proofs.Common.{◌≡◌, length, drop, take}
 use Rattle.yaml_read.specs.DocEventView.{marked_events_of}
 use Rattle.yaml_read.specs.Documents.{find_in}
 use Rattle.yaml_read.specs.inner.Drafts.{settled}

@@ -1,15 +1,13 @@
 -- What the reader's functions give at each exit.
-use Rattle.std.proofs.Common.{Ok, Err, Some, None, ◌≡◌, ℕ, suc, ◌+◌, ◌*◌, ◌-◌, ◌<◌, ◌≤◌, [], ◌∷◌, ◌++◌, map, length, true, false, sym, ap, ap₂, ◌∙◌, arith, rules, length-append, refl, Result}
+use Rattle.std.proofs.Common.{Ok, Err, Some, None, ◌≡◌, ℕ, suc, ◌+◌, ◌-◌, ◌<◌, [], ◌∷◌, ◌++◌, map, length, true, false, sym, ap, ◌∙◌, arith, rules, length-append, refl}
 use Rattle.std.specs.Option.{is_some, option_copied, option_map}
-use Rattle.std.specs.Prelude.{slice_get, drop}
+use Rattle.std.specs.Prelude.{drop}
 use Rattle.std.proofs.lemmas.List.{map-append, length-map}
 use Rattle.std.proofs.lemmas.Option.{slice_get_within}
-use mathlib.Core.Logic.{inl, inr}
-use Rattle.yaml_base.specs.Answer.{Gives, is_memory}
+use Rattle.yaml_base.specs.Answer.{is_memory}
 use Rattle.yaml_base.specs.PathText.{path_text}
-use Rattle.yaml_base.specs.declared.error.Cause.{Cause}
 use Rattle.yaml_shape.specs.DataView.{data_of, entry_of, items_of, entries_of}
-use Rattle.yaml_shape.specs.PlainData.{PlainData, any_data, variant_data, seq_data, map_data, some_data, newtype_data}
+use Rattle.yaml_shape.specs.PlainData.{any_data, variant_data, seq_data, map_data, some_data, newtype_data}
 use Rattle.yaml_shape.specs.Expected.{tuple_variant_with_text}
 use Rattle.yaml_shape.specs.PlainShape.{bool_shape, shape_at, tuple_variant_shape, struct_variant_shape}
 use Rattle.yaml_shape.specs.ShapeView.{shape_of, content_of, ids_of, field_of, fields_of, variants_of}
@@ -27,26 +25,26 @@ use Rattle.yaml_read.specs.DocEventView.{doc_event_of, doc_scalar_of}
 use Rattle.yaml_read.specs.Fields.{no_slots, struct_of}
 use Rattle.yaml_read.specs.Handing.{early, handed, is_content, is_bare, reach, untaken_reach}
 use Rattle.yaml_read.specs.NodeTags.{untaken_name}
-use Rattle.yaml_read.specs.Places.{way_of, element_under, place, placed}
+use Rattle.yaml_read.specs.Places.{way_of, element_under, value_under, place, placed, places}
 use Rattle.yaml_read.specs.Rows.{row_of, row_data}
 use Rattle.yaml_read.specs.PlainDocEvent.{a_scalar}
-use Rattle.yaml_read.specs.ScalarShapes.{scalar_answer, text_of, lent_text}
+use Rattle.yaml_read.specs.ScalarShapes.{text_of, lent_text}
 use Rattle.yaml_read.specs.Steps.{ending, wrap, with_shape}
 use Rattle.yaml_read.specs.Variants.{variant_named}
 use Rattle.yaml_read.specs.TreeReader.{Spot, after}
-use Rattle.yaml_read.specs.inner.Reader.{is_sequence_end, is_mapping_end, is_leaf, few_text, owner_named, value_at, item_at, entry_at, any_entry_at, row_at, skip_at, field_at, field_key_at, sequence_parts, mapping_parts, place_at, event_at}
+use Rattle.yaml_read.specs.inner.Reader.{is_sequence_end, is_mapping_end, few_text, owner_named, value_at, item_at, entry_at, any_entry_at, row_at, skip_at, field_at, field_key_at, sequence_parts, mapping_parts, place_at}
 use Rattle.yaml_read.specs.inner.Walks.{around_of, plain_around, variant_view, source_of, spot_of, seen, reader_of, row_view, slots_of, field_view, IsAmong}
 use Rattle.yaml_read.proofs.AnyLaws.{new_is_key, pairs_grow, key_again}
 use Rattle.yaml_read.proofs.VariantCode.{content_all}
-use Rattle.yaml_read.proofs.reading.ContentExits.{enum_content, enum_plain, enum_taken, node_placed, other_in_row, other_in_fields, no_mapping_starts, only_untaken}
+use Rattle.yaml_read.proofs.reading.ContentExits.{enum_content, enum_plain, enum_taken, node_placed, other_in_fields, no_mapping_starts, only_untaken}
 use Rattle.yaml_read.proofs.reading.ContentExits.{any_tagged_step, any_list_step, any_mapping_step, any_plain_step, wrap_onto_finds, wrap_onto_fails}
 use Rattle.yaml_read.proofs.reading.ValueExits.{step_rows, any_no_key, any_repeated, any_no_value, any_entry}
-use Rattle.yaml_read.proofs.reading.Exits.{gives_ending_at, same_spot, not_sequence_end, not_mapping_end, entry_is, leaf_as_is, leaf_late, row_as_is, row_late, option_as_is, all_at}
-use Rattle.yaml_read.proofs.reading.Exits.{step_late, step_ended, step_event, step_content, step_newtype, step_seq, step_row, step_map, leaf_scalar, no_key, no_value, one_entry}
-use Rattle.yaml_read.proofs.reading.Exits.{fields_late, fields_as_is, step_struct, step_too_deep, step_bare, no_name, unknown_name, known_name, key_looked_up, key_fails, gives_key, gives_wrapped, name_scalar, scalar_mark}
+use Rattle.yaml_read.proofs.reading.Exits.{gives_ending_at, same_spot, not_sequence_end, not_mapping_end, entry_is, leaf_as_is, leaf_late, row_as_is, option_as_is, all_at}
+use Rattle.yaml_read.proofs.reading.Exits.{step_late, step_ended, step_event, step_content, step_newtype, step_seq, step_row, step_map, leaf_alias, leaf_scalar, no_key, no_value, one_entry}
+use Rattle.yaml_read.proofs.reading.Exits.{fields_as_is, step_struct, no_name, unknown_name, known_name, key_looked_up, key_fails, gives_key, gives_wrapped, name_scalar, scalar_mark}
 use Rattle.yaml_read.proofs.reading.Exits.{row_skips, row_reads, drop_here, drop_none, finish_fails, gives_finish}
 use Rattle.yaml_read.proofs.reading.Loops.{each_ended, each_end, each_fails, each_more, wrap_fails, wrap_finds, pursue_fails, pursue_finds}
-use Rattle.yaml_read.proofs.reading.PlaceLaws.{filled_memory, node_unfolds, place_ok, place_moved, place_memory}
+use Rattle.yaml_read.proofs.reading.PlaceLaws.{filled_memory, node_unfolds, place_here, place_ok, place_moved, place_memory}
 use Rattle.yaml_read.proofs.de.source.Source.+read.Goals as goal
 
 pub read_node-returns-in-Ok-clause-gives : goal.read_node-returns-in-Ok-clause-gives
@@ -70,8 +68,8 @@ pub read_unplaced-returns-in-Newtype-clause-gives : goal.read_unplaced-returns-i
 read_unplaced-returns-in-Newtype-clause-gives t c = λ fuel lt.
     rw (step_late (source_of c.args.self.now) (reader_of fuel c.args.self.now) (way_of c.args.path.now) (shape_of c.args.shape.now) c.args.nest (around_of c.args.taken) (spot_of c.args.walk.now) (ap (λ x. early (shape_of x)) c.in-Newtype.is), c.in-Newtype.is) (c.read_newtype.ensures.gives fuel [] (omega arith))
 
-pub read_unplaced-returns-in-Seq-clause-gives : goal.read_unplaced-returns-in-Seq-clause-gives
-read_unplaced-returns-in-Seq-clause-gives t c = λ fuel lt.
+pub read_unplaced-returns-in-Some-clause-gives : goal.read_unplaced-returns-in-Some-clause-gives
+read_unplaced-returns-in-Some-clause-gives t c = λ fuel lt.
     rw (step_late (source_of c.args.self.now) (reader_of fuel c.args.self.now) (way_of c.args.path.now) (shape_of c.args.shape.now) c.args.nest (around_of c.args.taken) (spot_of c.args.walk.now) (ap (λ x. early (shape_of x)) c.in-Seq.is)) (c.read_seq.ensures.gives fuel lt)
 
 pub read_unplaced-returns-in-Tuple-clause-gives : goal.read_unplaced-returns-in-Tuple-clause-gives
@@ -82,8 +80,8 @@ pub read_unplaced-returns-in-TupleStruct-clause-gives : goal.read_unplaced-retur
 read_unplaced-returns-in-TupleStruct-clause-gives t c = λ fuel lt.
     rw (step_late (source_of c.args.self.now) (reader_of fuel c.args.self.now) (way_of c.args.path.now) (shape_of c.args.shape.now) c.args.nest (around_of c.args.taken) (spot_of c.args.walk.now) (ap (λ x. early (shape_of x)) c.in-TupleStruct.is)) (c.read_tuple-in-TupleStruct.ensures.gives fuel lt)
 
-pub read_unplaced-returns-in-Map-clause-gives : goal.read_unplaced-returns-in-Map-clause-gives
-read_unplaced-returns-in-Map-clause-gives t c = λ fuel lt.
+pub read_unplaced-returns-in-Some-event-clause-gives : goal.read_unplaced-returns-in-Some-event-clause-gives
+read_unplaced-returns-in-Some-event-clause-gives t c = λ fuel lt.
     rw (step_late (source_of c.args.self.now) (reader_of fuel c.args.self.now) (way_of c.args.path.now) (shape_of c.args.shape.now) c.args.nest (around_of c.args.taken) (spot_of c.args.walk.now) (ap (λ x. early (shape_of x)) c.in-Map.is)) (c.read_map.ensures.gives fuel lt)
 
 pub read_leaf-returns-clause-gives : goal.read_leaf-returns-clause-gives
@@ -130,16 +128,16 @@ read_newtype-returns-in-Err-clause-gives t c = λ fuel name lt fault.
     step_newtype (source_of c.args.self.now) (reader_of fuel c.args.self.now) (way_of c.args.path.now) bool_shape c.args.nest (around_of c.args.taken) (spot_of c.args.walk.now) name c.args.inner.0 _ _ _ c.in-Some.ensures.found some c.shape.ensures.found
     ∙ wrap_fails newtype_data _ _ (c.in-Err.ensures.gives fuel (omega (arith, some, c.shape.ensures.small)) fault)
 
-pub read_seq-returns-in_default-event : goal.read_seq-returns-in_default-event
-read_seq-returns-in_default-event t c = record {
-  gives = λ fuel lt. rw (step_event (source_of c.args.self.now) (reader_of fuel c.args.self.now) (way_of c.args.path.now) (shape_of c.args.shape.now) c.args.nest (around_of c.args.taken) (spot_of c.args.walk.now) _ _ c.in-Some.ensures.found (ap (λ s. handed s (is_some (around_of c.args.taken)) (doc_event_of c.in-Some.field-0.now.0)) c.requires.seq)) (c.read_simple.ensures.gives fuel _ lt);
+pub read_seq-returns-in_default : goal.read_seq-returns-in_default
+read_seq-returns-in_default t c = record {
+  gives = λ fuel lt. rw (step_event (source_of c.args.self.now) (reader_of fuel c.args.self.now) (way_of c.args.path.now) (shape_of c.args.shape.now) c.args.nest (around_of c.args.taken) (spot_of c.args.walk.now) _ _ (sym c.requires.here) (ap (λ s. handed s (is_some (around_of c.args.taken)) (doc_event_of c.args.event.now)) c.requires.seq)) (c.read_simple.ensures.gives fuel _ lt);
   moves = c.read_simple.ensures.moves;
   cost = c.read_simple.ensures.cost;
 }
 
-pub read_map-returns-in_default-event : goal.read_map-returns-in_default-event
-read_map-returns-in_default-event t c = record {
-  gives = λ fuel lt. rw (step_event (source_of c.args.self.now) (reader_of fuel c.args.self.now) (way_of c.args.path.now) (shape_of c.args.shape.now) c.args.nest (around_of c.args.taken) (spot_of c.args.walk.now) _ _ c.in-Some.ensures.found (ap (λ s. handed s (is_some (around_of c.args.taken)) (doc_event_of c.in-Some.field-0.now.0)) c.requires.mapping)) (c.read_simple.ensures.gives fuel _ lt);
+pub read_map-returns-in_default : goal.read_map-returns-in_default
+read_map-returns-in_default t c = record {
+  gives = λ fuel lt. rw (step_event (source_of c.args.self.now) (reader_of fuel c.args.self.now) (way_of c.args.path.now) (shape_of c.args.shape.now) c.args.nest (around_of c.args.taken) (spot_of c.args.walk.now) _ _ (sym c.requires.here) (ap (λ s. handed s (is_some (around_of c.args.taken)) (doc_event_of c.args.event.now)) c.requires.mapping)) (c.read_simple.ensures.gives fuel _ lt);
   moves = c.read_simple.ensures.moves;
   cost = c.read_simple.ensures.cost;
 }
@@ -156,7 +154,7 @@ read_seq-returns-in-Ok-clause-gives t c = λ fuel lt.
     let some : 0 < c.args.nest = omega (arith, c.if-nest-eq0.false) in
     let left = c.step.ensures.left in
     let seen_as : data_of (Seq c.in-Ok.items) ≡ seq_data (items_of (map data_of c.in-Ok.items.items)) = search (rules, the_lemmas) in
-    step_seq (source_of c.args.self.now) (reader_of fuel c.args.self.now) (way_of c.args.path.now) (shape_of c.args.shape.now) c.args.nest (around_of c.args.taken) (spot_of c.args.walk.now) c.args.element.0 _ _ _ c.requires.seq (rw c.in-SequenceStart.is at c.in-Some.ensures.found) some c.shape.ensures.found
+    step_seq (source_of c.args.self.now) (reader_of fuel c.args.self.now) (way_of c.args.path.now) (shape_of c.args.shape.now) c.args.nest (around_of c.args.taken) (spot_of c.args.walk.now) c.args.element.0 _ _ _ c.requires.seq (sym (c.requires.here ∙ ap (λ e. Some (doc_event_of e, c.args.mark)) c.in-SequenceStart.is)) some c.shape-element.ensures.found
     ∙ wrap_finds (λ vs. seq_data (items_of vs)) _ _ _ (rw (same_spot (spot_of c.step.new.self) (after (spot_of c.args.walk.now)) c.step.ensures.place c.step.ensures.left) at (c.in-Ok.ensures.gives fuel (length c.args.self.now.events.now) (omega (arith, some, left)) (omega (arith, c.step.ensures.place))))
     ∙ ap (λ v. Ok (v, spot_of c.read_items.new.walk)) (sym seen_as)
 
@@ -164,7 +162,7 @@ pub read_seq-returns-in-Err-clause-gives : goal.read_seq-returns-in-Err-clause-g
 read_seq-returns-in-Err-clause-gives t c = λ fuel lt fault.
     let some : 0 < c.args.nest = omega (arith, c.if-nest-eq0.false) in
     let left = c.step.ensures.left in
-    step_seq (source_of c.args.self.now) (reader_of fuel c.args.self.now) (way_of c.args.path.now) (shape_of c.args.shape.now) c.args.nest (around_of c.args.taken) (spot_of c.args.walk.now) c.args.element.0 _ _ _ c.requires.seq (rw c.in-SequenceStart.is at c.in-Some.ensures.found) some c.shape.ensures.found
+    step_seq (source_of c.args.self.now) (reader_of fuel c.args.self.now) (way_of c.args.path.now) (shape_of c.args.shape.now) c.args.nest (around_of c.args.taken) (spot_of c.args.walk.now) c.args.element.0 _ _ _ c.requires.seq (sym (c.requires.here ∙ ap (λ e. Some (doc_event_of e, c.args.mark)) c.in-SequenceStart.is)) some c.shape-element.ensures.found
     ∙ wrap_fails (λ vs. seq_data (items_of vs)) _ _ (rw (same_spot (spot_of c.step.new.self) (after (spot_of c.args.walk.now)) c.step.ensures.place c.step.ensures.left) at (c.in-Err.ensures.gives fuel (length c.args.self.now.events.now) (omega (arith, some, left)) (omega (arith, c.step.ensures.place)) fault))
 
 pub read_tuple-returns-in-Ok-clause-gives : goal.read_tuple-returns-in-Ok-clause-gives
@@ -185,7 +183,7 @@ read_map-returns-in-Ok-clause-gives t c = λ fuel lt.
     let some : 0 < c.args.nest = omega (arith, c.if-nest-eq0.false) in
     let left = c.step.ensures.left in
     let seen_as : data_of (Map c.in-Ok.entries) ≡ map_data (entries_of (map entry_of c.in-Ok.entries.items)) = search (rules, the_lemmas) in
-    step_map (source_of c.args.self.now) (reader_of fuel c.args.self.now) (way_of c.args.path.now) (shape_of c.args.shape.now) c.args.nest (around_of c.args.taken) (spot_of c.args.walk.now) c.args.key.0 c.args.value.0 _ _ _ _ c.requires.mapping (rw c.in-MappingStart.is at c.in-Some.ensures.found) some c.shape.ensures.found c.shape-2.ensures.found
+    step_map (source_of c.args.self.now) (reader_of fuel c.args.self.now) (way_of c.args.path.now) (shape_of c.args.shape.now) c.args.nest (around_of c.args.taken) (spot_of c.args.walk.now) c.args.key.0 c.args.value.0 _ _ _ _ c.requires.mapping (sym (c.requires.here ∙ ap (λ e. Some (doc_event_of e, c.args.mark)) c.in-MappingStart.is)) some c.shape-key.ensures.found c.shape-value.ensures.found
     ∙ wrap_finds (λ vs. map_data (entries_of vs)) _ _ _ (rw (same_spot (spot_of c.step.new.self) (after (spot_of c.args.walk.now)) c.step.ensures.place c.step.ensures.left) at (c.in-Ok.ensures.gives fuel (length c.args.self.now.events.now) (omega (arith, some, left)) (omega (arith, c.step.ensures.place))))
     ∙ ap (λ v. Ok (v, spot_of c.read_entries.new.walk)) (sym seen_as)
 
@@ -193,7 +191,7 @@ pub read_map-returns-in-Err-clause-gives : goal.read_map-returns-in-Err-clause-g
 read_map-returns-in-Err-clause-gives t c = λ fuel lt fault.
     let some : 0 < c.args.nest = omega (arith, c.if-nest-eq0.false) in
     let left = c.step.ensures.left in
-    step_map (source_of c.args.self.now) (reader_of fuel c.args.self.now) (way_of c.args.path.now) (shape_of c.args.shape.now) c.args.nest (around_of c.args.taken) (spot_of c.args.walk.now) c.args.key.0 c.args.value.0 _ _ _ _ c.requires.mapping (rw c.in-MappingStart.is at c.in-Some.ensures.found) some c.shape.ensures.found c.shape-2.ensures.found
+    step_map (source_of c.args.self.now) (reader_of fuel c.args.self.now) (way_of c.args.path.now) (shape_of c.args.shape.now) c.args.nest (around_of c.args.taken) (spot_of c.args.walk.now) c.args.key.0 c.args.value.0 _ _ _ _ c.requires.mapping (sym (c.requires.here ∙ ap (λ e. Some (doc_event_of e, c.args.mark)) c.in-MappingStart.is)) some c.shape-key.ensures.found c.shape-value.ensures.found
     ∙ wrap_fails (λ vs. map_data (entries_of vs)) _ _ (rw (same_spot (spot_of c.step.new.self) (after (spot_of c.args.walk.now)) c.step.ensures.place c.step.ensures.left) at (c.in-Err.ensures.gives fuel (length c.args.self.now.events.now) (omega (arith, some, left)) (omega (arith, c.step.ensures.place)) fault))
 
 pub read_simple-returns-in-Ok-clause-gives : goal.read_simple-returns-in-Ok-clause-gives
@@ -221,6 +219,84 @@ read_part-returns-in-Err-clause-gives t c = λ fuel lt m.
     leaf_scalar (source_of c.args.self.now) (way_of c.args.path.now) (shape_of c.args.shape.now) c.args.nest None (spot_of c.args.walk.now) fuel (doc_scalar_of c.in-Scalar.scalar) c.args.mark (omega arith) (sym c.requires.leaf ∙ c.if-leaf.true) (c.requires.here ∙ ap (λ e. Some (doc_event_of e, c.args.mark)) c.in-Scalar.is)
     ∙ ap (λ r. place true c.args.mark (way_of c.args.path.now) (ending (after (spot_of c.args.walk.now)) r)) (c.in-Err.ensures.gives (sym (filled_memory c.in-Err.refusal (record { mark = c.args.mark; path = path_text c.args.path.now })) ∙ ap is_memory (sym told) ∙ m))
     ∙ ap Err (sym told)
+
+pub read_further-returns-in-Ok-clause-gives : goal.read_further-returns-in-Ok-clause-gives
+read_further-returns-in-Ok-clause-gives t c = λ fuel lt.
+    let next : Spot = record { place = c.args.walk.now.place + 1; left = c.follow.new.self.left } in
+    leaf_alias (source_of c.args.self.now) (way_of c.args.path.now) (shape_of c.args.shape.now) c.args.nest (spot_of c.args.walk.now) fuel c.follow.new.self.left c.in-Alias.target (doc_scalar_of c.in-Some.scalar.now) c.args.mark c.in-Some.there.now (omega arith) (sym c.requires.leaf ∙ c.if-leaf.true) c.follow.ensures.left (c.requires.here ∙ ap (λ e. Some (doc_event_of e, c.args.mark)) c.in-Alias.is) c.in-Some.ensures.found
+    ∙ ap (λ r. place true c.args.mark (way_of c.args.path.now) (place true c.in-Some.there.now (way_of c.args.path.now) (ending next r))) c.in-Ok.ensures.gives
+    ∙ ap (λ p. Ok (data_of c.in-Ok.data, p)) (sym (same_spot (spot_of c.follow.new.self) next c.follow.ensures.place refl))
+
+pub read_further-returns-in-Err-clause-gives : goal.read_further-returns-in-Err-clause-gives
+read_further-returns-in-Err-clause-gives t c = λ fuel lt m.
+    let next : Spot = record { place = c.args.walk.now.place + 1; left = c.follow.new.self.left } in
+    let told = c.at_place.ensures m in
+    let known = sym (filled_memory c.at_place-placed.result (record { mark = c.args.mark; path = path_text c.args.path.now })) ∙ ap is_memory (sym told) ∙ m in
+    let told' = c.at_place-placed.ensures known in
+    let known' = sym (filled_memory c.in-Err.refusal (record { mark = c.in-Some.there.now; path = path_text c.args.path.now })) ∙ ap is_memory (sym told') ∙ known in
+    leaf_alias (source_of c.args.self.now) (way_of c.args.path.now) (shape_of c.args.shape.now) c.args.nest (spot_of c.args.walk.now) fuel c.follow.new.self.left c.in-Alias.target (doc_scalar_of c.in-Some.scalar.now) c.args.mark c.in-Some.there.now (omega arith) (sym c.requires.leaf ∙ c.if-leaf.true) c.follow.ensures.left (c.requires.here ∙ ap (λ e. Some (doc_event_of e, c.args.mark)) c.in-Alias.is) c.in-Some.ensures.found
+    ∙ ap (λ r. place true c.args.mark (way_of c.args.path.now) (place true c.in-Some.there.now (way_of c.args.path.now) (ending next r))) (c.in-Err.ensures.gives known')
+    ∙ ap (λ y. Err (placed true c.args.mark (way_of c.args.path.now) y)) (sym told')
+    ∙ ap Err (sym told)
+
+pub read_further-returns-in-Ok-read_seq-clause-gives : goal.read_further-returns-in-Ok-read_seq-clause-gives
+read_further-returns-in-Ok-read_seq-clause-gives t c = λ fuel lt.
+    let here = seen c.args.self.now.events.now c.args.walk.now.place in
+    let late = step_late (source_of c.args.self.now) (reader_of (fuel - 1) c.args.self.now) (way_of c.args.path.now) (shape_of c.args.shape.now) c.args.nest None (spot_of c.args.walk.now) (ap (λ x. early (shape_of x)) c.in-Seq.is) in
+    node_unfolds (source_of c.args.self.now) (way_of c.args.path.now) (shape_of c.args.shape.now) c.args.nest None (spot_of c.args.walk.now) fuel (omega arith)
+    ∙ ap (place_at (way_of c.args.path.now) (shape_of c.args.shape.now) false here) (late ∙ c.in-Ok-read_seq.ensures.gives (fuel - 1) (omega arith))
+    ∙ place_ok (way_of c.args.path.now) (shape_of c.args.shape.now) false here _
+
+pub read_further-returns-in-Err-read_seq-clause-gives : goal.read_further-returns-in-Err-read_seq-clause-gives
+read_further-returns-in-Err-read_seq-clause-gives t c = λ fuel lt m.
+    let here = seen c.args.self.now.events.now c.args.walk.now.place in
+    let told = c.at_place-in-Err-read_seq.ensures m in
+    let known = sym (filled_memory c.in-Err-read_seq.refusal (record { mark = c.args.mark; path = path_text c.args.path.now })) ∙ ap is_memory (sym told) ∙ m in
+    let late = step_late (source_of c.args.self.now) (reader_of (fuel - 1) c.args.self.now) (way_of c.args.path.now) (shape_of c.args.shape.now) c.args.nest None (spot_of c.args.walk.now) (ap (λ x. early (shape_of x)) c.in-Seq.is) in
+    node_unfolds (source_of c.args.self.now) (way_of c.args.path.now) (shape_of c.args.shape.now) c.args.nest None (spot_of c.args.walk.now) fuel (omega arith)
+    ∙ ap (place_at (way_of c.args.path.now) (shape_of c.args.shape.now) false here) (late ∙ c.in-Err-read_seq.ensures.gives (fuel - 1) (omega arith) known)
+    ∙ place_here (way_of c.args.path.now) (shape_of c.args.shape.now) false here (doc_event_of c.args.event.now) c.args.mark c.in-Err-read_seq.refusal c.requires.here (ap (λ x. places (shape_of x) false (doc_event_of c.args.event.now)) c.in-Seq.is)
+    ∙ ap Err (sym told)
+
+pub read_further-returns-in-Ok-read_map-clause-gives : goal.read_further-returns-in-Ok-read_map-clause-gives
+read_further-returns-in-Ok-read_map-clause-gives t c = λ fuel lt.
+    let here = seen c.args.self.now.events.now c.args.walk.now.place in
+    let late = step_late (source_of c.args.self.now) (reader_of (fuel - 1) c.args.self.now) (way_of c.args.path.now) (shape_of c.args.shape.now) c.args.nest None (spot_of c.args.walk.now) (ap (λ x. early (shape_of x)) c.in-Map.is) in
+    node_unfolds (source_of c.args.self.now) (way_of c.args.path.now) (shape_of c.args.shape.now) c.args.nest None (spot_of c.args.walk.now) fuel (omega arith)
+    ∙ ap (place_at (way_of c.args.path.now) (shape_of c.args.shape.now) false here) (late ∙ c.in-Ok-read_map.ensures.gives (fuel - 1) (omega arith))
+    ∙ place_ok (way_of c.args.path.now) (shape_of c.args.shape.now) false here _
+
+pub read_further-returns-in-Err-read_map-clause-gives : goal.read_further-returns-in-Err-read_map-clause-gives
+read_further-returns-in-Err-read_map-clause-gives t c = λ fuel lt m.
+    let here = seen c.args.self.now.events.now c.args.walk.now.place in
+    let told = c.at_place-in-Err-read_map.ensures m in
+    let known = sym (filled_memory c.in-Err-read_map.refusal (record { mark = c.args.mark; path = path_text c.args.path.now })) ∙ ap is_memory (sym told) ∙ m in
+    let late = step_late (source_of c.args.self.now) (reader_of (fuel - 1) c.args.self.now) (way_of c.args.path.now) (shape_of c.args.shape.now) c.args.nest None (spot_of c.args.walk.now) (ap (λ x. early (shape_of x)) c.in-Map.is) in
+    node_unfolds (source_of c.args.self.now) (way_of c.args.path.now) (shape_of c.args.shape.now) c.args.nest None (spot_of c.args.walk.now) fuel (omega arith)
+    ∙ ap (place_at (way_of c.args.path.now) (shape_of c.args.shape.now) false here) (late ∙ c.in-Err-read_map.ensures.gives (fuel - 1) (omega arith) known)
+    ∙ place_here (way_of c.args.path.now) (shape_of c.args.shape.now) false here (doc_event_of c.args.event.now) c.args.mark c.in-Err-read_map.refusal c.requires.here (ap (λ x. places (shape_of x) false (doc_event_of c.args.event.now)) c.in-Map.is)
+    ∙ ap Err (sym told)
+
+pub read_value-returns-in-Ok-clause-gives : goal.read_value-returns-in-Ok-clause-gives
+read_value-returns-in-Ok-clause-gives t c = λ fuel lt.
+    let way = value_under (way_of c.args.path.now) (doc_event_of c.args.key.now) in
+    leaf_scalar (source_of c.args.self.now) way (shape_of c.args.shape.now) c.args.nest None (spot_of c.args.walk.now) fuel (doc_scalar_of c.in-Some.scalar.now) c.in-Some.mark.now (omega arith) (sym c.requires.leaf ∙ c.if-leaf.true) c.in-Some.ensures.found
+    ∙ ap (λ r. place true c.in-Some.mark.now way (ending (after (spot_of c.args.walk.now)) r)) c.in-Ok.ensures.gives
+    ∙ ap (λ p. Ok (data_of c.in-Ok.data, p)) (sym (same_spot (spot_of c.step.new.self) (after (spot_of c.args.walk.now)) c.step.ensures.place c.step.ensures.left))
+
+pub read_value-returns-in-Err-clause-gives : goal.read_value-returns-in-Err-clause-gives
+read_value-returns-in-Err-clause-gives t c = λ fuel lt m.
+    let way = value_under (way_of c.args.path.now) (doc_event_of c.args.key.now) in
+    let told = c.at_place.ensures m ∙ ap (λ w. placed true c.in-Some.mark.now w c.in-Err.refusal) c.value_path.ensures in
+    leaf_scalar (source_of c.args.self.now) way (shape_of c.args.shape.now) c.args.nest None (spot_of c.args.walk.now) fuel (doc_scalar_of c.in-Some.scalar.now) c.in-Some.mark.now (omega arith) (sym c.requires.leaf ∙ c.if-leaf.true) c.in-Some.ensures.found
+    ∙ ap (λ r. place true c.in-Some.mark.now way (ending (after (spot_of c.args.walk.now)) r)) (c.in-Err.ensures.gives (sym (filled_memory c.in-Err.refusal (record { mark = c.in-Some.mark.now; path = way.text })) ∙ ap is_memory (sym told) ∙ m))
+    ∙ ap Err (sym told)
+
+pub read_value-returns-in-Some-event-clause-gives : goal.read_value-returns-in-Some-event-clause-gives
+read_value-returns-in-Some-event-clause-gives t c = λ fuel lt. rw c.value_path-inner.ensures at (c.read_part.ensures.gives fuel lt)
+
+pub read_value-returns-in-None-clause-gives : goal.read_value-returns-in-None-clause-gives
+read_value-returns-in-None-clause-gives t c = λ fuel lt. rw c.value_path-inner.ensures at (c.read_node.ensures.gives fuel lt)
 
 pub read_items-returns-in_default-clause-gives : goal.read_items-returns-in_default-clause-gives
 read_items-returns-in_default-clause-gives t c = λ fuel turns lt big fault.
@@ -318,10 +394,10 @@ read_entries-returns-in-Err t c =
       cost = omega (arith, l.invariant.cost, c.in-Err.ensures.cost);
     }
 
-pub read_entries-returns-in-Err-read_next : goal.read_entries-returns-in-Err-read_next
-read_entries-returns-in-Err-read_next t c =
+pub read_entries-returns-in-Err-read_value : goal.read_entries-returns-in-Err-read_value
+read_entries-returns-in-Err-read_value t c =
     let l = c.loop-event in
-    let there : way_of c.value_path-inner.result ≡ value_at (way_of c.args.path.now) (seen c.args.self.now.events.now l.walk.place) = c.value_path-inner.ensures ∙ ap (value_at (way_of c.args.path.now)) c.in-Some.ensures.found in
+    let there : value_under (way_of c.args.path.now) _ ≡ value_at (way_of c.args.path.now) (seen c.args.self.now.events.now l.walk.place) = ap (value_at (way_of c.args.path.now)) c.in-Some.ensures.found in
     let moves = c.in-Ok.ensures.moves in
     record {
       gives = λ fuel turns lt big fault.
@@ -331,21 +407,21 @@ read_entries-returns-in-Err-read_next t c =
           ∙ l.invariant.rest fuel (suc n) lt
           ∙ each_fails is_mapping_end (entry_at (source_of c.args.self.now) (reader_of fuel c.args.self.now) (way_of c.args.path.now) (shape_of c.args.key.now) (shape_of c.args.value.now) c.args.nest) (seen c.args.self.now.events.now) n _ (spot_of l.walk) _ _ (sym c.in-Some.ensures.found) (not_mapping_end _ c.in_default-event.not-MappingEnd)
           (no_value (source_of c.args.self.now) (reader_of fuel c.args.self.now) (way_of c.args.path.now) (shape_of c.args.key.now) (shape_of c.args.value.now) c.args.nest _ (spot_of l.walk) _ _ _ (c.in-Ok.ensures.gives fuel (omega (arith, l.invariant.left, c.requires.reach)))
-          (rw there at (c.in-Err-read_next.ensures.gives fuel (omega (arith, l.invariant.left, moves, c.requires.reach_value)) fault)));
+          (rw there at (c.in-Err-read_value.ensures.gives fuel (omega (arith, l.invariant.left, moves, c.requires.reach_value)) fault)));
       moves = tt;
-      cost = omega (arith, l.invariant.cost, moves, c.in-Err-read_next.ensures.cost);
+      cost = omega (arith, l.invariant.cost, moves, c.in-Err-read_value.ensures.cost);
     }
 
 pub read_entries-loop-event-preserved : goal.read_entries-loop-event-preserved
 read_entries-loop-event-preserved t c =
     let l = c.loop-event in
-    let there : way_of c.value_path-inner.result ≡ value_at (way_of c.args.path.now) (seen c.args.self.now.events.now l.walk.place) = c.value_path-inner.ensures ∙ ap (value_at (way_of c.args.path.now)) c.in-Some.ensures.found in
-    let new : Entry = record { key = c.in-Ok.name; value = c.in-Ok-read_next.content } in
+    let there : value_under (way_of c.args.path.now) _ ≡ value_at (way_of c.args.path.now) (seen c.args.self.now.events.now l.walk.place) = ap (value_at (way_of c.args.path.now)) c.in-Some.ensures.found in
+    let new : Entry = record { key = c.in-Ok.name; value = c.in-Ok-read_value.content } in
     let one : c.push.new.self.items ≡ l.entries.items ++ new ∷ [] = search rules in
     let longer : length c.push.new.self.items ≡ length l.entries.items + 1 = rw one (length-append l.entries.items (new ∷ [])) in
     let seen_as : map entry_of l.entries.items ++ (data_of new.key, data_of new.value) ∷ [] ≡ map entry_of c.push.new.self.items = rw (one, ← (entry_is new)) (sym (map-append entry_of l.entries.items (new ∷ []))) in
     let moves = c.in-Ok.ensures.moves in
-    let moves' = c.in-Ok-read_next.ensures.moves in
+    let moves' = c.in-Ok-read_value.ensures.moves in
     record {
       within = omega (arith, moves');
       turned = omega (arith, moves, moves', longer, l.invariant.turned);
@@ -358,8 +434,8 @@ read_entries-loop-event-preserved t c =
           ∙ l.invariant.rest fuel (suc n) lt
           ∙ each_more is_mapping_end (entry_at (source_of c.args.self.now) (reader_of fuel c.args.self.now) (way_of c.args.path.now) (shape_of c.args.key.now) (shape_of c.args.value.now) c.args.nest) (seen c.args.self.now.events.now) n _ _ (spot_of l.walk) _ _ (sym c.in-Some.ensures.found) (not_mapping_end _ c.in_default-event.not-MappingEnd)
           (one_entry (source_of c.args.self.now) (reader_of fuel c.args.self.now) (way_of c.args.path.now) (shape_of c.args.key.now) (shape_of c.args.value.now) c.args.nest _ (spot_of l.walk) _ _ _ _ (c.in-Ok.ensures.gives fuel (omega (arith, l.invariant.left, c.requires.reach)))
-          (rw there at (c.in-Ok-read_next.ensures.gives fuel (omega (arith, l.invariant.left, moves, c.requires.reach_value)))))
-          ∙ ap (λ vs. mapping_parts (source_of c.args.self.now) (entry_at (source_of c.args.self.now) (reader_of fuel c.args.self.now) (way_of c.args.path.now) (shape_of c.args.key.now) (shape_of c.args.value.now) c.args.nest) n vs (spot_of c.read_next.new.walk)) seen_as;
+          (rw there at (c.in-Ok-read_value.ensures.gives fuel (omega (arith, l.invariant.left, moves, c.requires.reach_value)))))
+          ∙ ap (λ vs. mapping_parts (source_of c.args.self.now) (entry_at (source_of c.args.self.now) (reader_of fuel c.args.self.now) (way_of c.args.path.now) (shape_of c.args.key.now) (shape_of c.args.value.now) c.args.nest) n vs (spot_of c.read_value.new.walk)) seen_as;
     }
 
 pub read_elements-returns-in_default-clause-gives : goal.read_elements-returns-in_default-clause-gives
@@ -606,24 +682,24 @@ read_field-put-requires t c =
     let many : length (numbers_of (fields_of c.args.fields.now)) ≡ length c.args.fields.now = length-map (fields_of c.args.fields.now) (λ f. f.1) ∙ length-map c.args.fields.now field_of in
     omega (arith, within, many, c.requires.wide)
 
-pub read_field-returns-in-Ok-read_next-clause-gives : goal.read_field-returns-in-Ok-read_next-clause-gives
-read_field-returns-in-Ok-read_next-clause-gives t c = λ fuel lt.
+pub read_field-returns-in-Ok-read_value-clause-gives : goal.read_field-returns-in-Ok-read_value-clause-gives
+read_field-returns-in-Ok-read_value-clause-gives t c = λ fuel lt.
     let found : field_key_at (source_of c.args.self.now) (reader_of fuel c.args.self.now) (way_of c.args.path.now) c.args.strict (fields_of c.args.fields.now) c.args.nest (slots_of c.args.slots.now.items) (spot_of c.args.walk.now) ≡ Ok ((Some (c.in-Some.place, c.in-Some.id.0), (value_at (way_of c.args.path.now) (seen c.args.self.now.events.now c.args.walk.now.place))), spot_of c.read_name.new.walk) =
     rw c.deref.ensures.value at (c.in-Ok.ensures.gives fuel (omega (arith, lt))) ∙ ap (λ o. Ok ((field_view o, (value_at (way_of c.args.path.now) (seen c.args.self.now.events.now c.args.walk.now.place))), spot_of c.read_name.new.walk)) c.in-Some.is in
-    let there : way_of c.value_path-inner.result ≡ (value_at (way_of c.args.path.now) (seen c.args.self.now.events.now c.args.walk.now.place)) = c.value_path-inner.ensures ∙ ap (value_at (way_of c.args.path.now)) (sym c.requires.here) in
+    let there : value_under (way_of c.args.path.now) _ ≡ value_at (way_of c.args.path.now) (seen c.args.self.now.events.now c.args.walk.now.place) = ap (value_at (way_of c.args.path.now)) (sym c.requires.here) in
     let moves = c.in-Ok.ensures.moves in
     known_name (source_of c.args.self.now) (reader_of fuel c.args.self.now) (way_of c.args.path.now) c.args.strict (fields_of c.args.fields.now) c.args.nest (slots_of c.args.slots.now.items) (spot_of c.args.walk.now) c.in-Some.place c.in-Some.id.0 _ (value_at (way_of c.args.path.now) (seen c.args.self.now.events.now c.args.walk.now.place)) (spot_of c.read_name.new.walk) found c.shape-shape.ensures.found
-    ∙ wrap_finds _ _ _ _ (rw there at (c.in-Ok-read_next.ensures.gives fuel (omega (arith, lt, moves, c.shape-shape.ensures.small))))
-    ∙ ap (λ slots. Ok (slots, spot_of c.read_next.new.walk)) (sym c.put.ensures.slots)
+    ∙ wrap_finds _ _ _ _ (rw there at (c.in-Ok-read_value.ensures.gives fuel (omega (arith, lt, moves, c.shape-shape.ensures.small))))
+    ∙ ap (λ slots. Ok (slots, spot_of c.read_value.new.walk)) (sym c.put.ensures.slots)
 
-pub read_field-returns-in-Err-read_next-clause-gives : goal.read_field-returns-in-Err-read_next-clause-gives
-read_field-returns-in-Err-read_next-clause-gives t c = λ fuel lt fault.
+pub read_field-returns-in-Err-read_value-clause-gives : goal.read_field-returns-in-Err-read_value-clause-gives
+read_field-returns-in-Err-read_value-clause-gives t c = λ fuel lt fault.
     let found : field_key_at (source_of c.args.self.now) (reader_of fuel c.args.self.now) (way_of c.args.path.now) c.args.strict (fields_of c.args.fields.now) c.args.nest (slots_of c.args.slots.now.items) (spot_of c.args.walk.now) ≡ Ok ((Some (c.in-Some.place, c.in-Some.id.0), (value_at (way_of c.args.path.now) (seen c.args.self.now.events.now c.args.walk.now.place))), spot_of c.read_name.new.walk) =
     rw c.deref.ensures.value at (c.in-Ok.ensures.gives fuel (omega (arith, lt))) ∙ ap (λ o. Ok ((field_view o, (value_at (way_of c.args.path.now) (seen c.args.self.now.events.now c.args.walk.now.place))), spot_of c.read_name.new.walk)) c.in-Some.is in
-    let there : way_of c.value_path-inner.result ≡ (value_at (way_of c.args.path.now) (seen c.args.self.now.events.now c.args.walk.now.place)) = c.value_path-inner.ensures ∙ ap (value_at (way_of c.args.path.now)) (sym c.requires.here) in
+    let there : value_under (way_of c.args.path.now) _ ≡ value_at (way_of c.args.path.now) (seen c.args.self.now.events.now c.args.walk.now.place) = ap (value_at (way_of c.args.path.now)) (sym c.requires.here) in
     let moves = c.in-Ok.ensures.moves in
     known_name (source_of c.args.self.now) (reader_of fuel c.args.self.now) (way_of c.args.path.now) c.args.strict (fields_of c.args.fields.now) c.args.nest (slots_of c.args.slots.now.items) (spot_of c.args.walk.now) c.in-Some.place c.in-Some.id.0 _ (value_at (way_of c.args.path.now) (seen c.args.self.now.events.now c.args.walk.now.place)) (spot_of c.read_name.new.walk) found c.shape-shape.ensures.found
-    ∙ wrap_fails _ _ _ (rw there at (c.in-Err-read_next.ensures.gives fuel (omega (arith, lt, moves, c.shape-shape.ensures.small)) fault))
+    ∙ wrap_fails _ _ _ (rw there at (c.in-Err-read_value.ensures.gives fuel (omega (arith, lt, moves, c.shape-shape.ensures.small)) fault))
 
 pub read_name-returns-in-Some-clause-gives : goal.read_name-returns-in-Some-clause-gives
 read_name-returns-in-Some-clause-gives t c = λ fuel lt.
@@ -939,13 +1015,13 @@ read_pairs-returns-then-has_key t c =
       cost = omega (arith, v.cost, c.in-Ok.ensures.moves);
     }
 
-pub read_pairs-returns-in-Err-read_next : goal.read_pairs-returns-in-Err-read_next
-read_pairs-returns-in-Err-read_next t c =
+pub read_pairs-returns-in-Err-read_value : goal.read_pairs-returns-in-Err-read_value
+read_pairs-returns-in-Err-read_value t c =
     let l = c.loop-event in
     let v = l.invariant.1 in
     let vs = l.invariant.0 in
     let flat : reach c.args.self.now.schema.now (shape_of c.args.any.now) ≡ 0 = ap (reach c.args.self.now.schema.now) c.requires.shape in
-    let there : way_of c.value_path-inner.result ≡ value_at (way_of c.args.path.now) (seen c.args.self.now.events.now l.walk.place) = c.value_path-inner.ensures ∙ ap (value_at (way_of c.args.path.now)) c.in-Some.ensures.found in
+    let there : value_under (way_of c.args.path.now) _ ≡ value_at (way_of c.args.path.now) (seen c.args.self.now.events.now l.walk.place) = ap (value_at (way_of c.args.path.now)) c.in-Some.ensures.found in
     let moves = c.in-Ok.ensures.moves in
     let absent : has_key (tree_in (data_of c.in-Ok.key)) (pairs_of l.pairs) ≡ false = rw c.value_in-key.ensures at (sym c.has_key.ensures ∙ c.if-has_key.false) in
     let new : new_key vs (data_of c.in-Ok.key) ≡ Ok (data_of c.in-Ok.key) = new_is_key vs (data_of c.in-Ok.key) (ap (has_key (tree_in (data_of c.in-Ok.key))) v.same ∙ absent) in
@@ -957,9 +1033,9 @@ read_pairs-returns-in-Err-read_next t c =
           ∙ ap (wrap (λ vs. pairs_in (entries_of vs))) (v.rest fuel (suc n) lt)
           ∙ wrap_fails (λ vs. pairs_in (entries_of vs)) _ _ (each_fails is_mapping_end (any_entry_at (source_of c.args.self.now) (reader_of fuel c.args.self.now) (way_of c.args.path.now) c.args.nest) (seen c.args.self.now.events.now) n vs (spot_of l.walk) _ _ (sym c.in-Some.ensures.found) (not_mapping_end _ c.in_default-event.not-MappingEnd)
           (any_no_value (source_of c.args.self.now) (reader_of fuel c.args.self.now) (way_of c.args.path.now) c.args.nest vs (spot_of l.walk) _ _ _ (rw c.requires.shape at (c.in-Ok.ensures.gives fuel (omega (arith, v.left, lt, flat)))) new
-          (rw (c.requires.shape, there) at (c.in-Err-read_next.ensures.gives fuel (omega (arith, v.left, lt, moves, flat)) fault))));
+          (rw (c.requires.shape, there) at (c.in-Err-read_value.ensures.gives fuel (omega (arith, v.left, lt, moves, flat)) fault))));
       moves = tt;
-      cost = omega (arith, v.cost, moves, c.in-Err-read_next.ensures.cost);
+      cost = omega (arith, v.cost, moves, c.in-Err-read_value.ensures.cost);
     }
 
 pub read_pairs-loop-event-preserved : goal.read_pairs-loop-event-preserved
@@ -968,13 +1044,13 @@ read_pairs-loop-event-preserved t c =
     let v = l.invariant.1 in
     let vs = l.invariant.0 in
     let flat : reach c.args.self.now.schema.now (shape_of c.args.any.now) ≡ 0 = ap (reach c.args.self.now.schema.now) c.requires.shape in
-    let there : way_of c.value_path-inner.result ≡ value_at (way_of c.args.path.now) (seen c.args.self.now.events.now l.walk.place) = c.value_path-inner.ensures ∙ ap (value_at (way_of c.args.path.now)) c.in-Some.ensures.found in
+    let there : value_under (way_of c.args.path.now) _ ≡ value_at (way_of c.args.path.now) (seen c.args.self.now.events.now l.walk.place) = ap (value_at (way_of c.args.path.now)) c.in-Some.ensures.found in
     let moves = c.in-Ok.ensures.moves in
-    let moves' = c.in-Ok-read_next.ensures.moves in
+    let moves' = c.in-Ok-read_value.ensures.moves in
     let absent : has_key (tree_in (data_of c.in-Ok.key)) (pairs_of l.pairs) ≡ false = rw c.value_in-key.ensures at (sym c.has_key.ensures ∙ c.if-has_key.false) in
     let new : new_key vs (data_of c.in-Ok.key) ≡ Ok (data_of c.in-Ok.key) = new_is_key vs (data_of c.in-Ok.key) (ap (has_key (tree_in (data_of c.in-Ok.key))) v.same ∙ absent) in
     let k = data_of c.in-Ok.key in
-    let w = data_of c.in-Ok-read_next.value in
+    let w = data_of c.in-Ok-read_value.value in
     let longer : length (vs ++ (k, w) ∷ []) ≡ length vs + 1 = length-append vs ((k, w) ∷ []) in (
       vs ++ (k, w) ∷ [],
       record {
@@ -990,6 +1066,6 @@ read_pairs-loop-event-preserved t c =
             ∙ v.rest fuel (suc n) lt
             ∙ each_more is_mapping_end (any_entry_at (source_of c.args.self.now) (reader_of fuel c.args.self.now) (way_of c.args.path.now) c.args.nest) (seen c.args.self.now.events.now) n vs _ (spot_of l.walk) _ _ (sym c.in-Some.ensures.found) (not_mapping_end _ c.in_default-event.not-MappingEnd)
             (any_entry (source_of c.args.self.now) (reader_of fuel c.args.self.now) (way_of c.args.path.now) c.args.nest vs (spot_of l.walk) _ _ _ _ (rw c.requires.shape at (c.in-Ok.ensures.gives fuel (omega (arith, v.left, lt, flat)))) new
-            (rw (c.requires.shape, there) at (c.in-Ok-read_next.ensures.gives fuel (omega (arith, v.left, lt, moves, flat)))));
+            (rw (c.requires.shape, there) at (c.in-Ok-read_value.ensures.gives fuel (omega (arith, v.left, lt, moves, flat)))));
       },
     )

@@ -55,10 +55,13 @@ abbrev pub decreases-read_simple : goal.decreases-read_simple
 decreases-read_simple l = 100000 * (l.walk.now.left + l.nest) + (10 * untaken_reach (is_some (around_of l.taken)) + 8 * reach l.self.now.schema.now (shape_of l.shape.now) + 2)
 
 abbrev pub decreases-read_part : goal.decreases-read_part
-decreases-read_part l = 100000 * (l.walk.now.left + l.nest) + (41000 + 8 * reach l.self.now.schema.now (shape_of l.shape.now) + 6)
+decreases-read_part l = 100000 * (l.walk.now.left + l.nest) + (41000 + 8 * reach l.self.now.schema.now (shape_of l.shape.now) + 7)
 
-abbrev pub decreases-read_next : goal.decreases-read_next
-decreases-read_next l = 100000 * (l.walk.now.left + l.nest) + (41000 + 8 * reach l.self.now.schema.now (shape_of l.shape.now) + 7)
+abbrev pub decreases-read_further : goal.decreases-read_further
+decreases-read_further l = 100000 * (l.walk.now.left + l.nest) + (41000 + 8 * reach l.self.now.schema.now (shape_of l.shape.now) + 6)
+
+abbrev pub decreases-read_value : goal.decreases-read_value
+decreases-read_value l = 100000 * (l.walk.now.left + l.nest) + (41000 + 8 * reach l.self.now.schema.now (shape_of l.shape.now) + 8)
 
 abbrev pub decreases-read_items : goal.decreases-read_items
 decreases-read_items l = 100000 * (l.walk.now.left + l.nest) + 73780

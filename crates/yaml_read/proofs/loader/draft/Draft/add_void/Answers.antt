@@ -1,11 +1,10 @@
 -- The node of an empty stream is a document of its own.
-use Rattle.std.proofs.Common.{◌≡◌, ◌++◌, ◌∷◌, [], ◌∙◌, ap, append-nil, arith, length, refl, sym}
+use Rattle.std.proofs.Common.{◌∷◌, [], ◌∙◌, arith, refl}
 use Rattle.std.proofs.Common.{None}
 use Rattle.yaml_read.specs.Ends.{ends_of}
 use Rattle.yaml_read.specs.PlainDocEvent.{a_void}
 use Rattle.yaml_read.specs.declared.doc_event.DocEvent.TheVariants.{Void}
 use Rattle.yaml_read.specs.declared.loader.draft.Cut.{Cut}
-use Rattle.yaml_read.specs.inner.OpenEnds.{EndsView}
 use Rattle.yaml_read.proofs.FinishLaws.{between_more}
 use Rattle.yaml_read.proofs.OpenEndsLaws.{none_open, none_seen}
 use Rattle.yaml_read.proofs.loader.draft.Draft.add_void.Goals as goal

@@ -1,12 +1,11 @@
 -- The document is whole, or cut off in front of an unknown alias.
-use Rattle.std.proofs.Common.{◌≡◌, ◌+◌, ◌-◌, ◌<◌, ◌++◌, ◌∷◌, [], ◌∙◌, List, None, Some, ap, arith, drop, false, length, option_map, refl, sym, take, subst}
+use Rattle.std.proofs.Common.{◌≡◌, ◌+◌, ◌-◌, ◌++◌, ◌∷◌, [], ◌∙◌, List, None, ap, arith, drop, false, length, option_map, sym, take}
 use Rattle.std.specs.Prelude.{slice_get}
 use Rattle.yaml_read.specs.DocEventView.{marked_events_of}
 use Rattle.yaml_read.specs.PlainDocEvent.{PlainDocEvent}
 use Rattle.yaml_read.specs.declared.loader.draft.Cut.{Cut}
 use Rattle.yaml_base.specs.Position.{Position}
 use Rattle.yaml_read.specs.Documents.{ending_of}
-use Rattle.yaml_read.specs.Ends.{ends_of}
 use Rattle.yaml_read.specs.declared.loader.draft.Draft.{Draft}
 use Rattle.yaml_read.specs.inner.Drafts.{drafts_of}
 use Rattle.yaml_read.specs.inner.OpenEnds.{EndsView, bounded_from}

@@ -4,7 +4,6 @@ use Rattle.yaml_read.specs.DocEventView.{marked_events_of}
 use Rattle.yaml_read.specs.Documents.{Find, find_in}
 use Rattle.yaml_read.specs.inner.Drafts.{settled}
 use Rattle.yaml_read.proofs.AnchorSearch.{Named, same_find}
-use Rattle.yaml_read.proofs.SettledLaws.{settled_whole}
 use Rattle.yaml_read.proofs.loader.draft.Draft.settle.Goals as goal
 
 pub returns-clause-settled : goal.returns-clause-settled

@@ -1,7 +1,7 @@
 -- The draft goes over the start or the end of a document, or over an event of its node.
-use Rattle.std.proofs.Common.{◌≡◌, ◌∙◌, ap, refl, subst, sym, true}
-use Rattle.yaml_base.specs.PlainEvent.{document_end, document_start, event_of}
-use Rattle.yaml_read.specs.inner.Loading.{IsOnWay, open_before, open_behind}
+use Rattle.std.proofs.Common.{ap, sym, true}
+use Rattle.yaml_base.specs.PlainEvent.{event_of}
+use Rattle.yaml_read.specs.inner.Loading.{open_before, open_behind}
 use Rattle.yaml_read.proofs.LoadingLaws.{node_facts, on_begin, on_end, on_node, on_way, other_is_node}
 use Rattle.yaml_read.proofs.loader.draft.Draft.step.Goals as goal
 

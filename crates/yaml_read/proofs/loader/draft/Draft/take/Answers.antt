@@ -1,5 +1,5 @@
 -- One event more was seen, and is held.
-use Rattle.std.proofs.Common.{◌≡◌, ◌+◌, ◌-◌, ◌++◌, ◌∷◌, [], ◌∙◌, arith, ap, append-nil, length, refl, subst, sym}
+use Rattle.std.proofs.Common.{◌≡◌, ◌-◌, ◌++◌, ◌∷◌, [], ◌∙◌, arith, ap, append-nil, length, refl, subst, sym}
 use Rattle.yaml_base.specs.PlainEvent.{alias, event_of, mapping_end, mapping_start, scalar, scalar_of, sequence_end, sequence_start}
 use Rattle.yaml_read.specs.DocEventView.{doc_event_of}
 use Rattle.yaml_read.specs.declared.loader.draft.Draft.{Draft}

@@ -1,5 +1,5 @@
 -- Each open collection ends where the document does.
-use Rattle.std.proofs.Common.{refl, ap, arith, length, set, sym, reverse, [], ◌∷◌, ◌∙◌, length-append, length-set, rules}
+use Rattle.std.proofs.Common.{refl, ap, arith, length, set, reverse, [], ◌∷◌, ◌∙◌, length-append, length-set, rules}
 use Rattle.yaml_read.specs.inner.OpenEnds.{EndsView, filled}
 use Rattle.yaml_read.proofs.OpenEndsLaws.{finish_more, finished, in_front, last_in}
 use Rattle.yaml_read.proofs.loader.ends.Ends.finish.Goals as goal
