@@ -1,7 +1,7 @@
 -- What a stream gives, from what its first document gives.
 use Rattle.std.proofs.Common.{◌≡◌, List, [], ◌∷◌, ◌++◌, subst, sym, ◌∙◌, ap, Bool, true, false, refl}
 use Rattle.std.proofs.Common.{Option, Some, None, is_some, option_to_list, IfNone, Result, Ok, Err}
-use Rattle.yaml_base.specs.Answer.{Answers, is_memory}
+use Rattle.yaml_base.specs.Answer.{Answers}
 use Rattle.yaml_base.specs.declared.error.Cause.{Cause}
 use Rattle.yaml_base.specs.declared.error.Cause.TheVariants.{MoreThanOneDocument}
 use Rattle.yaml_shape.specs.PlainData.{PlainData}
@@ -10,7 +10,7 @@ use Rattle.yaml_read.specs.PlainDocument.{PlainDocument}
 use Rattle.yaml_read.specs.Reads.{DocumentGives}
 use Rattle.yaml_read.specs.TreeReader.{PlainLimits}
 use Rattle.serde_yaml.specs.PlainStream.{PlainStream}
-use Rattle.serde_yaml.specs.StreamReads.{Begins, StreamGives, follow, unless_more}
+use Rattle.serde_yaml.specs.StreamReads.{StreamGives, follow, unless_more}
 
 pub same_head : {A : Type 0} {x y : A} {xs ys : List A} → x ∷ xs ≡ y ∷ ys → x ≡ y
 same_head h = cc

@@ -1,11 +1,11 @@
 -- An input gives data exactly where it is one faultless document that means it.
-use Rattle.std.proofs.Common.{◌≡◌, ℕ, zero, suc, ◌+◌, ◌<◌, List, [], ◌∷◌, ◌++◌, map, length, take, drop, Option, Some, None, is_some, Result, Ok, Err, Bool, true, false, refl, sym, ap, subst, ◌∙◌, inl, inr}
+use Rattle.std.proofs.Common.{◌≡◌, ℕ, zero, suc, ◌+◌, List, [], ◌∷◌, ◌++◌, length, take, drop, Option, Some, None, is_some, Result, Ok, Err, true, false, refl, sym, ap, subst, ◌∙◌, inl, inr}
 use Rattle.std.specs.Prelude.{slice_get, ◌⊎◌}
 use Rattle.std.proofs.lemmas.List.{length-map}
 use Rattle.yaml_base.specs.PlainEvent.{PlainEvent}
 use Rattle.yaml_base.specs.PlainFault.{PlainFault}
 use Rattle.yaml_base.specs.Position.{Position}
-use Rattle.yaml_base.specs.Stream.{IsStream, IsBeginning, IsWellFormed, stream_events}
+use Rattle.yaml_base.specs.Stream.{IsStream, IsWellFormed, stream_events}
 use Rattle.yaml_base.specs.Tree.{Node}
 use Rattle.yaml_base.specs.declared.error.Cause.{Cause}
 use Rattle.yaml_base.specs.declared.error.Cause.TheVariants.{NotAStream}
@@ -21,7 +21,7 @@ use Rattle.yaml_read.specs.Resolved.{resolved}
 use Rattle.yaml_read.specs.StreamLaw.{AreStreamDocuments, IsDocumentOf, IsAtFault, EndAtFault}
 use Rattle.yaml_read.specs.TreeReader.{PlainLimits}
 use Rattle.yaml_read.specs.WrongPlace.{IsWrongAt}
-use Rattle.serde_yaml.specs.Headline.{ReadsAs, one_document, no_document, GivesMeaning}
+use Rattle.serde_yaml.specs.Headline.{ReadsAs, one_document, no_document}
 use Rattle.serde_yaml.specs.StreamReads.{StreamGives, InputGives, no_stream, a_stream, stream_of, follow, unless_more}
 
 -- with others behind it a document gives no data, and without it gives what it gives

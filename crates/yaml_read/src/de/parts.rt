@@ -25,6 +25,7 @@ impl<'s, 'de> Source<'s, 'de> {
     /// A part of a collection, which begins with the event. Of a scalar it is known at once what it gives under a shape that
     /// reads scalars alone.
     #[cycle(read)]
+    #[inline(always)]
     pub(super) fn read_part(
         &self,
         path: &Path<'_>,
