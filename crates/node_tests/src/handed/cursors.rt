@@ -193,6 +193,7 @@ fn check(rt: &(impl Abort + AllocGlobal), rows: &[Row]) -> Result<(), Fail> {
     let schema = schema(rt.alloc())?;
     for row in rows {
         let document = document_of(rt.alloc(), row.0)?;
+        document.has_tree();
         check_steps(rt, &document, &schema, row)?;
     }
     Ok(())
