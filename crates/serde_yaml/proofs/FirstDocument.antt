@@ -19,13 +19,15 @@ pub same_tail : {A : Type 0} {x y : A} {xs ys : List A} → x ∷ xs ≡ y ∷ y
 same_tail h = cc
 
 -- a statement that follows from another holds of an answer where that one does
-pub answers_weaker : {X Y : Type 0} (view : X → Y) (P Q : Result Y Cause → Type 0) → ((given : Result Y Cause) → P given → Q given)
+pub answers_weaker : {X Y : Type 0} (view : X → Y) (P Q : Result Y Cause → Type 0)
+    → ((given : Result Y Cause) → P given → Q given)
     → (result : Result X Cause) → Answers view result P → Answers view result Q
 answers_weaker view P Q weaker (Ok x) h = weaker (Ok (view x)) h
 answers_weaker view P Q weaker (Err e) h = λ m. weaker (Err e) (h m)
 
 -- the documents of a stream that was not gone through: the first, and the rest, whose presence the test tells
-pub record Splits (stream : PlainStream) (first : PlainDocument) (rest : List PlainDocument) (others : Bool) : Type 0 where
+pub record Splits (stream : PlainStream) (first : PlainDocument) (rest : List PlainDocument)
+    (others : Bool) : Type 0 where
   pub fresh : stream.iterated ≡ false
   pub documents : stream.documents ≡ first ∷ rest
   pub told : others ≡ follow rest
@@ -40,7 +42,8 @@ splits_one is fresh documents = record {
 }
 
 -- others follow where a second document is there
-follows_second : (second : Option PlainDocument) (left rest : List PlainDocument) → rest ≡ option_to_list second ++ left → IfNone second (rest ≡ [])
+follows_second : (second : Option PlainDocument) (left rest : List PlainDocument) → rest ≡ option_to_list second ++ left
+    → IfNone second (rest ≡ [])
     → is_some second ≡ follow rest
 follows_second None left rest items none = sym (ap follow none)
 follows_second (Some d) left rest items none = sym (ap follow items)
@@ -60,20 +63,26 @@ both : (b : Bool) → b ≡ false → b ≡ true → ⊥
 both b e f = let bad = sym e ∙ f in absurd cc
 
 -- what a stream gives that begins so
-pub stream_gives : {limits : PlainLimits} {table : List PlainShape} {s : PlainShape} {stream : PlainStream} {first : PlainDocument}
+pub stream_gives : {limits : PlainLimits} {table : List PlainShape} {s : PlainShape} {stream : PlainStream}
+    {first : PlainDocument}
     {rest : List PlainDocument} {others : Bool} → Splits stream first rest others → (given : Result PlainData Cause)
     → (found : Result PlainData Cause) × DocumentGives limits table s first found × (given ≡ unless_more others found)
     → StreamGives limits table s stream given
 stream_gives {limits} {table} {s} {stream} {first} {rest} {others} splits given h = record {
   first = λ document left begins.
       let same : first ≡ document = same_head (sym splits.documents ∙ begins.documents) in
-      let same' : rest ≡ left = same_tail (sym splits.documents ∙ begins.documents) in
-      (h.0, subst (λ d. DocumentGives limits table s d h.0) same h.1, h.2 ∙ ap (λ b. unless_more b h.0) (splits.told ∙ ap follow same'));
+      let same' : rest ≡ left = same_tail (sym splits.documents ∙ begins.documents) in (
+        h.0,
+        subst (λ d. DocumentGives limits table s d h.0) same h.1,
+        h.2
+            ∙ ap (λ b. unless_more b h.0) (splits.told ∙ ap follow same'),
+      );
   iterated = λ e. absurd (both stream.iterated splits.fresh e);
 }
 
 -- what a stream gives that was gone through
-pub gone_through : {limits : PlainLimits} {table : List PlainShape} {s : PlainShape} {stream : PlainStream} → stream.iterated ≡ true
+pub gone_through : {limits : PlainLimits} {table : List PlainShape} {s : PlainShape} {stream : PlainStream}
+    → stream.iterated ≡ true
     → StreamGives limits table s stream (Err MoreThanOneDocument)
 gone_through {stream} e = record {
   first = λ document left begins. absurd (both stream.iterated begins.fresh e);
@@ -81,6 +90,7 @@ gone_through {stream} e = record {
 }
 
 -- a fault of the first document stays
-pub fault_stays : (others : Bool) (fault : Cause) → ◌≡◌ {A = Result PlainData Cause} (Err fault) (unless_more others (Err fault))
+pub fault_stays : (others : Bool) (fault : Cause) → ◌≡◌ {A = Result PlainData Cause} (Err fault)
+    (unless_more others (Err fault))
 fault_stays true fault = refl
 fault_stays false fault = refl

@@ -1,5 +1,6 @@
 -- An input gives data exactly where it is one faultless document that means it.
-use Rattle.std.proofs.Common.{◌≡◌, ℕ, zero, suc, ◌+◌, List, [], ◌∷◌, ◌++◌, length, take, drop, Option, Some, None, is_some, Result, Ok, Err, true, false, refl, sym, ap, subst, ◌∙◌, inl, inr}
+use Rattle.std.proofs.Common.{◌≡◌, ℕ, zero, suc, ◌+◌, List, [], ◌∷◌, ◌++◌, length, take, drop, Option, Some, None}
+use Rattle.std.proofs.Common.{is_some, Result, Ok, Err, true, false, refl, sym, ap, subst, ◌∙◌, inl, inr}
 use Rattle.std.specs.Prelude.{slice_get, ◌⊎◌}
 use Rattle.std.proofs.lemmas.List.{length-map}
 use Rattle.yaml_base.specs.PlainEvent.{PlainEvent}
@@ -42,7 +43,8 @@ event_in (Some e) = e.0
 void_tree : (mark : Position) → IsTreeOf (void_document mark) nothing
 void_tree mark = record { whole = refl; events = refl; known = known }
   where
-    known : (p j : ℕ) (m : Position) → slice_get (void_document mark).events p ≡ Some (alias_to j, m) → (n : DocNode) × (node_of nothing j ≡ Some n)
+    known : (p j : ℕ) (m : Position) → slice_get (void_document mark).events p ≡ Some (alias_to j, m)
+        → (n : DocNode) × (node_of nothing j ≡ Some n)
     known zero j m h = let bad : a_void ≡ alias_to j = ap event_in h in absurd cc
     known (suc p) j m h = absurd cc
 
@@ -69,22 +71,27 @@ not_wrong events place is wrong = elim wrong.1 [
 ]
 
 -- what an input gives, by whether it is refused
-abbrev pub IsRefusedOrGives : PlainLimits → List PlainShape → PlainShape → Input → Option PlainFault → Result PlainData Cause → Type 0
+abbrev pub IsRefusedOrGives : PlainLimits → List PlainShape → PlainShape → Input → Option PlainFault
+    → Result PlainData Cause → Type 0
 IsRefusedOrGives limits table s input fault given =
     ((place : ℕ) × (given ≡ Err (NotAStream place)) × IsWrongAt (is_some fault) (events_in input) place)
     ⊎ (IsWellFormed (is_some fault) (events_in input) × StreamGives limits table s (stream_of input fault) given)
 
-refused_or_gives : {limits : PlainLimits} {table : List PlainShape} {s : PlainShape} {input : Input} {fault : Option PlainFault} {given : Result PlainData Cause}
+refused_or_gives : {limits : PlainLimits} {table : List PlainShape} {s : PlainShape} {input : Input}
+    {fault : Option PlainFault} {given : Result PlainData Cause}
     → InputGives limits table s input fault given → IsRefusedOrGives limits table s input fault given
 refused_or_gives (no_stream place wrong) = inl (place, refl, wrong)
 refused_or_gives (a_stream is g) = inr (is, g)
 
-module _ (limits : PlainLimits) (table : List PlainShape) (s : PlainShape) (input : Input) (given : Result PlainData Cause) (v : PlainData) where
+module _ (limits : PlainLimits) (table : List PlainShape) (s : PlainShape) (input : Input)
+    (given : Result PlainData Cause) (v : PlainData) where
   -- what a first document gives
   abbrev FirstGives : PlainDocument → List PlainDocument → Type 0
-  FirstGives d others = (found : Result PlainData Cause) × DocumentGives limits table s d found × (given ≡ unless_more (follow others) found)
+  FirstGives d others = (found : Result PlainData Cause) × DocumentGives limits table s d found
+      × (given ≡ unless_more (follow others) found)
 
-  first : (fault : Option PlainFault) (d : PlainDocument) (others : List PlainDocument) → documents_of input fault ≡ d ∷ others
+  first : (fault : Option PlainFault) (d : PlainDocument) (others : List PlainDocument) → documents_of input fault
+      ≡ d ∷ others
       → StreamGives limits table s (stream_of input fault) given → FirstGives d others
   first fault d others is g = g.first d others (record { fresh = refl; documents = is })
 
@@ -94,14 +101,18 @@ module _ (limits : PlainLimits) (table : List PlainShape) (s : PlainShape) (inpu
   no_data : (d d' : PlainDocument) (ds : List PlainDocument) → FirstGives d (d' ∷ ds) → given ≡ Ok v → ⊥
   no_data d d' ds f h = no_more f.0 v (sym f.2 ∙ h)
 
-  one_found : (r : Node) (o : Option DocNode) → resolved r ≡ o → (d : PlainDocument) → IsDocumentOf o d → FirstGives d []
+  one_found : (r : Node) (o : Option DocNode) → resolved r ≡ o → (d : PlainDocument) → IsDocumentOf o d
+      → FirstGives d []
       → given ≡ Ok v → events_in input ≡ stream_events (r ∷ []) → ReadsAs limits table s input v
   one_found r (Some tree) is d doc f h e =
-      one_document r tree e is (subst (λ n. Reads limits table s tree n v) (sized d tree doc) (f.1.found tree v doc (data_alone d f h)))
+      one_document r tree e is (subst (λ n. Reads limits table s tree n v) (sized d tree doc)
+      (f.1.found tree v doc (data_alone d f h)))
   one_found r None is d doc f h e = let bad = sym (f.1.whole v (data_alone d f h)) ∙ doc.1 in absurd cc
 
-  found_in : (roots : List Node) (docs : List PlainDocument) → documents_of input None ≡ docs → events_in input ≡ stream_events roots
-      → AreStreamDocuments roots (last_mark input) docs → StreamGives limits table s (stream_of input None) given → given ≡ Ok v
+  found_in : (roots : List Node) (docs : List PlainDocument) → documents_of input None ≡ docs → events_in input
+      ≡ stream_events roots
+      → AreStreamDocuments roots (last_mark input) docs → StreamGives limits table s (stream_of input None) given
+      → given ≡ Ok v
       → ReadsAs limits table s input v
   found_in [] docs same e cut g h =
       let f = first None (void_document cut.0) [] (same ∙ cut.2) g in
@@ -111,31 +122,37 @@ module _ (limits : PlainLimits) (table : List PlainShape) (s : PlainShape) (inpu
   found_in (r ∷ (r' ∷ roots)) (d ∷ []) same e cut g h = absurd cut.1
   found_in (r ∷ roots) (d ∷ (d' ∷ ds)) same e cut g h = absurd (no_data d d' ds (first None d (d' ∷ ds) same g) h)
 
-  none_found : (fault : PlainFault) (docs : List PlainDocument) → documents_of input (Some fault) ≡ docs → EndAtFault fault docs
+  none_found : (fault : PlainFault) (docs : List PlainDocument) → documents_of input (Some fault) ≡ docs
+      → EndAtFault fault docs
       → StreamGives limits table s (stream_of input (Some fault)) given → given ≡ Ok v → ⊥
   none_found fault [] same end g h = end
   none_found fault (d ∷ []) same end g h =
       let f = first (Some fault) d [] same g in at_fault fault d.ending end (f.1.whole v (data_alone d f h))
   none_found fault (d ∷ (d' ∷ ds)) same end g h = no_data d d' ds (first (Some fault) d (d' ∷ ds) same g) h
 
-  one_given : (r : Node) (tree : DocNode) (o : Option DocNode) → o ≡ Some tree → (d : PlainDocument) → IsDocumentOf o d → FirstGives d []
+  one_given : (r : Node) (tree : DocNode) (o : Option DocNode) → o ≡ Some tree → (d : PlainDocument) → IsDocumentOf o d
+      → FirstGives d []
       → Reads limits table s tree (length (events_of tree)) v → given ≡ Ok v
   one_given r tree (Some t) is d doc f reads =
       let same : t ≡ tree = cc in
       let doc' : IsTreeOf d tree = subst (IsTreeOf d) same doc in
-      f.2 ∙ (alone f.0 ∙ f.1.only tree v doc' (subst (λ n. Reads limits table s tree n v) (sym (sized d tree doc')) reads))
+      f.2 ∙ (alone f.0 ∙ f.1.only tree v doc' (subst (λ n. Reads limits table s tree n v)
+      (sym (sized d tree doc')) reads))
   one_given r tree None is d doc f reads = absurd cc
 
-  given_in : (r : Node) (tree : DocNode) (docs : List PlainDocument) → documents_of input None ≡ docs → resolved r ≡ Some tree
+  given_in : (r : Node) (tree : DocNode) (docs : List PlainDocument) → documents_of input None ≡ docs → resolved r
+      ≡ Some tree
       → AreStreamDocuments (r ∷ []) (last_mark input) docs → StreamGives limits table s (stream_of input None) given
       → Reads limits table s tree (length (events_of tree)) v → given ≡ Ok v
   given_in r tree [] same is cut g reads = absurd cut
   given_in r tree (d ∷ []) same is cut g reads = one_given r tree (resolved r) is d cut.0 (first None d [] same g) reads
   given_in r tree (d ∷ (d' ∷ ds)) same is cut g reads = absurd cut.1
 
-  module _ (cuts : (roots : List Node) → events_in input ≡ stream_events roots → AreStreamDocuments roots (last_mark input) (documents_of input None)) where
+  module _ (cuts : (roots : List Node) → events_in input ≡ stream_events roots
+      → AreStreamDocuments roots (last_mark input) (documents_of input None)) where
     only_in : StreamGives limits table s (stream_of input None) given → ReadsAs limits table s input v → given ≡ Ok v
-    only_in g (one_document root tree e is reads) = given_in root tree (documents_of input None) refl is (cuts (root ∷ []) e) g reads
+    only_in g (one_document root tree e is reads) =
+        given_in root tree (documents_of input None) refl is (cuts (root ∷ []) e) g reads
     only_in g (no_document e reads) =
         let cut = cuts [] e in
         let f = first None (void_document cut.0) [] cut.2 g in
@@ -145,20 +162,24 @@ module _ (limits : PlainLimits) (table : List PlainShape) (s : PlainShape) (inpu
     stream_in (one_document root tree e is reads) = (root ∷ [], e)
     stream_in (no_document e reads) = ([], e)
 
-    means_by : (fault : Option PlainFault) → ((f : PlainFault) → EndAtFault f (documents_of input (Some f))) → IsRefusedOrGives limits table s input fault given
+    means_by : (fault : Option PlainFault) → ((f : PlainFault) → EndAtFault f (documents_of input (Some f)))
+        → IsRefusedOrGives limits table s input fault given
         → given ≡ Ok v → (fault ≡ None) × ReadsAs limits table s input v
     means_by fault ends (inl w) h = let bad = sym w.1 ∙ h in absurd cc
     means_by None ends (inr w) h = (refl, found_in w.0.0 (documents_of input None) refl w.0.1 (cuts w.0.0 w.0.1) w.1 h)
     means_by (Some f) ends (inr w) h = absurd (none_found f (documents_of input (Some f)) refl (ends f) w.1 h)
 
-    gives_by : (fault : Option PlainFault) → IsRefusedOrGives limits table s input fault given → fault ≡ None → ReadsAs limits table s input v → given ≡ Ok v
+    gives_by : (fault : Option PlainFault) → IsRefusedOrGives limits table s input fault given → fault ≡ None
+        → ReadsAs limits table s input v → given ≡ Ok v
     gives_by None (inl w) e reads = absurd (not_wrong (events_in input) w.0 (stream_in reads) w.2)
     gives_by None (inr w) e reads = only_in w.1 reads
     gives_by (Some f) w e reads = absurd cc
 
-    pub means : (fault : Option PlainFault) → ((f : PlainFault) → EndAtFault f (documents_of input (Some f))) → InputGives limits table s input fault given
+    pub means : (fault : Option PlainFault) → ((f : PlainFault) → EndAtFault f (documents_of input (Some f)))
+        → InputGives limits table s input fault given
         → given ≡ Ok v → (fault ≡ None) × ReadsAs limits table s input v
     means fault ends is h = means_by fault ends (refused_or_gives is) h
 
-    pub gives : (fault : Option PlainFault) → InputGives limits table s input fault given → fault ≡ None → ReadsAs limits table s input v → given ≡ Ok v
+    pub gives : (fault : Option PlainFault) → InputGives limits table s input fault given → fault ≡ None
+        → ReadsAs limits table s input v → given ≡ Ok v
     gives fault is e reads = gives_by fault (refused_or_gives is) e reads

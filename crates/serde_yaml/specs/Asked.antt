@@ -1,5 +1,6 @@
 -- Shapes that calls name by themselves.
-use Rattle.yaml_shape.specs.PlainShape.{PlainShape, any_shape, bool_shape, integer_shape, char_shape, str_shape, bytes_shape}
+use Rattle.yaml_shape.specs.PlainShape.{PlainShape, any_shape, bool_shape, integer_shape, char_shape, str_shape}
+use Rattle.yaml_shape.specs.PlainShape.{bytes_shape}
 use Rattle.yaml_shape.specs.PlainShape.{unit_shape, identifier_shape, ignored_shape}
 use Rattle.yaml_shape.specs.PlainShape.{i8, i16, i32, i64, i128, isize, u8, u16, u32, u64, u128, usize}
 use Rattle.serde_yaml.specs.declared.de.asked.Asked.{Asked}

@@ -17,7 +17,8 @@ document_alone document = record { documents = document ∷ []; is_document = tr
 abbrev pub items_left : PlainStream → List PlainStream
 items_left stream = if stream.is_document then [] else map document_alone stream.documents
 
--- The step of going through a stream: the first document that is left, on its own, or none where none is left. From then on a
+-- The step of going through a stream: the first document that is left, on its own, or none where none is left. From
+-- then on a
 -- stream counts as gone through; a document on its own stays as it is.
 pub record GoesOn (old : PlainStream) (given : Option PlainStream) (new : PlainStream) : Type 0 where
   pub yields : YieldsFirst items_left old given new

@@ -29,21 +29,25 @@ abbrev pub unless_more : Bool → Result PlainData Cause → Result PlainData Ca
 unless_more true (Ok v) = Err MoreThanOneDocument
 unless_more more given = given
 
--- What a stream gives, read under a shape of the table within limits: what its first document gives, unless others follow; and
+-- What a stream gives, read under a shape of the table within limits: what its first document gives, unless others
+-- follow; and
 -- once it was gone through, nothing.
 pub record StreamGives (limits : PlainLimits) (table : List PlainShape) (s : PlainShape) (stream : PlainStream)
     (given : Result PlainData Cause) : Type 0 where
   pub first : (document : PlainDocument) (others : List PlainDocument) → Begins stream document others
-      → (found : Result PlainData Cause) × DocumentGives limits table s document found × (given ≡ unless_more (follow others) found)
+      → (found : Result PlainData Cause) × DocumentGives limits table s document found
+      × (given ≡ unless_more (follow others) found)
   pub iterated : stream.iterated ≡ true → given ≡ Err MoreThanOneDocument
 
 -- the stream of an input, before it is gone through
 abbrev pub stream_of : Input → Option PlainFault → PlainStream
 stream_of input fault = record { documents = documents_of input fault; is_document = false; iterated = false }
 
--- What an input gives: a list of events that is no stream, or with the parser's fault no beginning of one, is refused with the
+-- What an input gives: a list of events that is no stream, or with the parser's fault no beginning of one, is refused
+-- with the
 -- least place that is wrong; of a stream, what the stream gives.
-pub data InputGives (limits : PlainLimits) (table : List PlainShape) (s : PlainShape) (input : Input) (fault : Option PlainFault)
+pub data InputGives (limits : PlainLimits) (table : List PlainShape) (s : PlainShape) (input : Input)
+    (fault : Option PlainFault)
     : Result PlainData Cause → Type 0 where
   no_stream : (place : ℕ) → IsWrongAt (is_some fault) (events_in input) place
       → InputGives limits table s input fault (Err (NotAStream place))

@@ -33,8 +33,8 @@ enum Source<'de> {
 
 /// A stream of documents that is still to be read, or one document of it.
 ///
-/// A stream of one document is read by `deserialize`. A stream of several is gone through as an iterator: each item reads its own
-/// document, and may outlive the stream.
+/// A stream of one document is read by `deserialize`. A stream of several is gone through as an iterator: each item
+/// reads its own document, and may outlive the stream.
 #[derive(Drop)]
 pub struct Deserializer<'de> {
     source: Source<'de>,
@@ -48,7 +48,11 @@ impl<'de> Model for Deserializer<'de> {
 
     ghost use Rattle.serde_yaml.specs.StreamView.{documents_in, is_one};
 
-    ghost view = { λ d. record { documents = documents_in d.source; is_document = is_one d.source; iterated = d.iterated } };
+    ghost view = { λ d. record {
+      documents = documents_in d.source;
+      is_document = is_one d.source;
+      iterated = d.iterated;
+    } };
 }
 
 // Reads one document, behind which others may follow.
@@ -87,9 +91,9 @@ fn is_there(document: Option<Document<'_>>) -> bool
 fn discard(_source: Source<'_>) {}
 
 impl<'de> Deserializer<'de> {
-    /// Takes the events of a stream, each with its mark, and the parser's fault, if it had one. A list of events that is no stream,
-    /// or with a fault no beginning of one that lacks the end, is refused with the least place that is wrong. The events are
-    /// dropped on refusal.
+    /// Takes the events of a stream, each with its mark, and the parser's fault, if it had one. A list of events that
+    /// is no stream, or with a fault no beginning of one that lacks the end, is refused with the least place that is
+    /// wrong. The events are dropped on refusal.
     pub fn from_events(
         alloc: Global,
         events: Vec<(Event<'de>, Mark)>,
@@ -112,11 +116,12 @@ impl<'de> Deserializer<'de> {
         }
     }
 
-    /// The data of the stream's one document under the shape with this number, within 128 nestings and 100 follows for each of its
-    /// events. Texts are lent from the source where the source shows them. `Schema::has` is the test of what is asked.
+    /// The data of the stream's one document under the shape with this number, within 128 nestings and 100 follows for
+    /// each of its events. Texts are lent from the source where the source shows them. `Schema::has` is the test of
+    /// what is asked.
     ///
-    /// The first document's fault comes first: one of reading it, then the one that cut it off. A stream of several documents
-    /// whose first reads as data, and a stream that was gone through, are refused as more than one document.
+    /// The first document's fault comes first: one of reading it, then the one that cut it off. A stream of several
+    /// documents whose first reads as data, and a stream that was gone through, are refused as more than one document.
     pub fn deserialize(self, alloc: Global, schema: &Schema, id: ShapeId) -> Result<Data<'de>>
         requires { id.0 < length schema.now }
 
@@ -167,7 +172,8 @@ impl<'de> Iterator for Deserializer<'de> {
 
     ghost remaining = { item_count items_left };
 
-    /// The next document of the stream, to be read on its own, or `None` once each was given, for good. Takes no memory.
+    /// The next document of the stream, to be read on its own, or `None` once each was given, for good. Takes no
+    /// memory.
     fn next(&mut self) -> Option<Deserializer<'de>> {
         match &mut self.source {
             Source::Stream(documents) => {

@@ -12,11 +12,13 @@ ghost use Rattle.serde_yaml.specs.StreamReads.{InputGives};
 
 use yaml_read::stream_law::{a_stream_is_cut_into_its_documents, the_parsers_fault_comes_last};
 
-/// What an input gives, taken by `Deserializer::from_events` and then read by `Deserializer::deserialize_limited`, is data
-/// exactly where it is one faultless document whose tree means that data within the limits.
+/// What an input gives, taken by `Deserializer::from_events` and then read by `Deserializer::deserialize_limited`, is
+/// data exactly where it is one faultless document whose tree means that data within the limits.
 pub fn reading_gives_the_meaning()
-    ensures { (limits : PlainLimits) (table : List PlainShape) (s : PlainShape) (input : Input) (fault : Option PlainFault)
-        (given : Result PlainData Cause) → InputGives limits table s input fault given → GivesMeaning limits table s input fault given }
+    ensures { (limits : PlainLimits) (table : List PlainShape) (s : PlainShape) (input : Input)
+        (fault : Option PlainFault)
+        (given : Result PlainData Cause) → InputGives limits table s input fault given
+        → GivesMeaning limits table s input fault given }
 {
     a_stream_is_cut_into_its_documents();
     the_parsers_fault_comes_last();

@@ -1,5 +1,6 @@
 -- What a stream's answer says of the input's events.
-use Rattle.std.proofs.Common.{◌≡◌, [], ◌∷◌, List, Option, Some, is_some, Result, Ok, Err, refl, subst, sym, ap, false, ℕ}
+use Rattle.std.proofs.Common.{◌≡◌, [], ◌∷◌, List, Option, Some, is_some, Result, Ok, Err, refl, subst, sym, ap, false}
+use Rattle.std.proofs.Common.{ℕ}
 use Rattle.yaml_base.specs.Answer.{Answers, is_memory}
 use Rattle.yaml_base.specs.PlainEvent.{event_of}
 use Rattle.yaml_base.specs.PlainFault.{PlainFault}
@@ -40,20 +41,27 @@ is_first named.Basic = refl
 is_first named.Strict = refl
 is_first named.Outer = refl
 
-module _ (limits : PlainLimits) (table : List PlainShape) (s : PlainShape) (events : List (Event × Position)) (fault : Option PlainFault) where
+module _ (limits : PlainLimits) (table : List PlainShape) (s : PlainShape) (events : List (Event × Position))
+    (fault : Option PlainFault) where
   -- an input that is no stream gives its refusal
-  pub refused_stream : (cause : Cause) → (place : ℕ) × (cause ≡ NotAStream place) × IsWrongAt (is_some fault) (plain_events events) place
+  pub refused_stream : (cause : Cause) → (place : ℕ) × (cause ≡ NotAStream place)
+      × IsWrongAt (is_some fault) (plain_events events) place
       → InputGives limits table s (plain_marked events) fault (Err cause)
   refused_stream cause wrong =
-      rw wrong.1 (no_stream wrong.0 (subst (λ es. IsWrongAt (is_some fault) es wrong.0) (sym (events_again events)) wrong.2))
+      rw wrong.1 (no_stream wrong.0 (subst (λ es. IsWrongAt (is_some fault) es wrong.0)
+      (sym (events_again events)) wrong.2))
 
-  given_of : (stream : PlainStream) → IsWellFormed (is_some fault) (plain_events events) → stream ≡ stream_of (plain_marked events) fault
-      → (given : Result PlainData Cause) → StreamGives limits table s stream given → InputGives limits table s (plain_marked events) fault given
+  given_of : (stream : PlainStream) → IsWellFormed (is_some fault) (plain_events events) → stream
+      ≡ stream_of (plain_marked events) fault
+      → (given : Result PlainData Cause) → StreamGives limits table s stream given
+      → InputGives limits table s (plain_marked events) fault given
   given_of stream good is given h =
-      a_stream (subst (λ es. IsWellFormed (is_some fault) es) (sym (events_again events)) good) (subst (λ x. StreamGives limits table s x given) is h)
+      a_stream (subst (λ es. IsWellFormed (is_some fault) es) (sym (events_again events)) good)
+      (subst (λ x. StreamGives limits table s x given) is h)
 
   -- an input that is a stream gives what the stream gives
-  pub stream_answers : {X : Type 0} (view : X → PlainData) (stream : PlainStream) (result : Result X Cause) → IsWellFormed (is_some fault) (plain_events events)
+  pub stream_answers : {X : Type 0} (view : X → PlainData) (stream : PlainStream) (result : Result X Cause)
+      → IsWellFormed (is_some fault) (plain_events events)
       → stream ≡ stream_of (plain_marked events) fault → Answers view result (StreamGives limits table s stream)
       → Answers view result (InputGives limits table s (plain_marked events) fault)
   stream_answers view stream (Ok x) good is h = given_of stream good is (Ok (view x)) h

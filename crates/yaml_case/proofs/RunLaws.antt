@@ -30,12 +30,14 @@ some_input None = ([], tt)
 some_input (Some input) = (input, refl)
 
 -- no input matters to a bad argument
-pub refuses : (name : List ℕ) (limits : PlainLimits) (input : List ℕ) (ended : Status) → IsNoName name → ended ≡ status.Refused
+pub refuses : (name : List ℕ) (limits : PlainLimits) (input : List ℕ) (ended : Status) → IsNoName name → ended
+    ≡ status.Refused
     → IsAnswer name limits input ended (codes "bad argument")
 refuses name limits input ended none e = bad_argument none e refl
 
 -- nor to the want of memory
-pub wants_memory : (shape : Named) (name : List ℕ) (limits : PlainLimits) (input : List ℕ) (ended : Status) → name_of shape ≡ name
+pub wants_memory : (shape : Named) (name : List ℕ) (limits : PlainLimits) (input : List ℕ) (ended : Status)
+    → name_of shape ≡ name
     → ended ≡ status.Fault → IsAnswer name limits input ended (codes "fault: out of memory")
 wants_memory shape name limits input ended n e = reply shape n (out_of_memory e refl)
 
@@ -45,7 +47,8 @@ pub replies : (shape : Named) (name : List ℕ) (limits : PlainLimits) (input : 
 replies shape name limits input ended text n r = reply shape n r
 
 -- arguments that ask for nothing are refused
-pub refuses_all : (arguments : List (List ℕ)) (input : List ℕ) (ended : Status) → AskForNothing arguments → ended ≡ status.Refused
+pub refuses_all : (arguments : List (List ℕ)) (input : List ℕ) (ended : Status) → AskForNothing arguments → ended
+    ≡ status.Refused
     → IsAnswerTo arguments input ended (codes "bad argument")
 refuses_all arguments input ended none e = bad_arguments none e refl
 
@@ -56,7 +59,8 @@ one_argument name_in [] first one at = absurd cc
 one_argument name_in (x ∷ []) first one at = ap (λ a. name_in a ∷ []) (sym at)
 one_argument name_in (x ∷ y ∷ more) first one at = absurd (omega (arith, one))
 
-pub three_arguments : {X : Type 0} (name_in : X → List ℕ) (arguments : List X) (first second third : X) → length arguments ≡ 3
+pub three_arguments : {X : Type 0} (name_in : X → List ℕ) (arguments : List X) (first second third : X)
+    → length arguments ≡ 3
     → first ≡ get_or arguments 0 first → second ≡ get_or arguments 1 second → third ≡ get_or arguments 2 third
     → map name_in arguments ≡ name_in first ∷ name_in second ∷ name_in third ∷ []
 three_arguments name_in [] first second third three a b c = absurd cc
@@ -71,7 +75,8 @@ none_asked : (words : List (List ℕ)) → length words ≢ 1 → length words �
 none_asked words one three shape limits (shape_alone e d) = one (ap length e)
 none_asked words one three shape limits (shape_within nesting follows e w) = three (ap length e)
 
-pub another_count : {X : Type 0} (name_in : X → List ℕ) (arguments : List X) → length arguments ≢ 1 → length arguments ≢ 3
+pub another_count : {X : Type 0} (name_in : X → List ℕ) (arguments : List X) → length arguments ≢ 1
+    → length arguments ≢ 3
     → AskForNothing (map name_in arguments)
 another_count name_in arguments one three =
     none_asked (map name_in arguments) (λ e. one (sym (length-map arguments name_in) ∙ e))
@@ -92,7 +97,8 @@ none_alone words name is none = λ shape e. none shape default_limits (shape_alo
 -- a name alone is answered within the default's limits
 pub answers_alone : (words : List (List ℕ)) (name input : List ℕ) (ended : Status) (text : List ℕ) → words ≡ name ∷ []
     → IsAnswer name default_limits input ended text → IsAnswerTo words input ended text
-answers_alone words name input ended text is (bad_argument none e t) = bad_arguments (unknown_alone words name is none) e t
+answers_alone words name input ended text is (bad_argument none e t) =
+    bad_arguments (unknown_alone words name is none) e t
 answers_alone words name input ended text is (reply shape named r) =
     asked shape default_limits (shape_alone (is ∙ ap (λ n. n ∷ []) (sym named)) refl) r
 
@@ -126,12 +132,15 @@ module _ (words : List (List ℕ)) (name nesting follows : List ℕ) (is : words
 pub reply-read : (shape : Named) (limits : PlainLimits) (input : List ℕ) (ended : Status) (text : List ℕ)
     → IsReply shape limits input ended text → ended ≢ status.ReadFailed
 reply-read shape limits input ended text (bad_line n first e t) = λ f. let same = sym e ∙ f in absurd cc
-reply-read shape limits input ended text (found events fault value lines reads e t) = λ f. let same = sym e ∙ f in absurd cc
-reply-read shape limits input ended text (refused events fault cause lines why e t) = λ f. let same = sym e ∙ f in absurd cc
+reply-read shape limits input ended text (found events fault value lines reads e t) = λ f. let same = sym e ∙ f in
+    absurd cc
+reply-read shape limits input ended text (refused events fault cause lines why e t) = λ f. let same = sym e ∙ f in
+    absurd cc
 reply-read shape limits input ended text (out_of_memory e t) = λ f. let same = sym e ∙ f in absurd cc
 
 -- a fault is one that the events ask for, or want of memory
-pub fault_reply : (shape : Named) (limits : PlainLimits) (input : List ℕ) (events : MarkedEvents) (fault : Option PlainFault) (cause : Cause)
+pub fault_reply : (shape : Named) (limits : PlainLimits) (input : List ℕ) (events : MarkedEvents)
+    (fault : Option PlainFault) (cause : Cause)
     → IsInput (lines_of input) events fault
     → (is_memory cause ≡ false → InputGives limits (table_of shape) (first_shape shape) events fault (Err cause))
     → IsReply shape limits input status.Fault (codes "fault: " ++ error_text cause)

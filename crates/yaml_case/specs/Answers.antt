@@ -18,7 +18,8 @@ use Rattle.yaml_case.specs.declared.shapes.Named.{Named}
 pub data IsReply (shape : Named) (limits : PlainLimits) (input : List ℕ) (ended : Status) (text : List ℕ) : Type 0 where
   bad_line : (number : ℕ) → IsFirstBadLine (lines_of input) number → ended ≡ status.Refused
       → text ≡ codes "bad line " ++ decimal number → IsReply shape limits input ended text
-  found : (events : MarkedEvents) (fault : Option PlainFault) (value : PlainData) → IsInput (lines_of input) events fault
+  found : (events : MarkedEvents) (fault : Option PlainFault) (value : PlainData)
+      → IsInput (lines_of input) events fault
       → InputGives limits (table_of shape) (first_shape shape) events fault (Ok value)
       → ended ≡ status.Read → text ≡ data_text value → IsReply shape limits input ended text
   refused : (events : MarkedEvents) (fault : Option PlainFault) (cause : Cause) → IsInput (lines_of input) events fault
@@ -28,7 +29,8 @@ pub data IsReply (shape : Named) (limits : PlainLimits) (input : List ℕ) (ende
       → IsReply shape limits input ended text
 
 -- the same for a name, limits and an input
-pub data IsAnswer (name : List ℕ) (limits : PlainLimits) (input : List ℕ) (ended : Status) (text : List ℕ) : Type 0 where
+pub data IsAnswer (name : List ℕ) (limits : PlainLimits) (input : List ℕ) (ended : Status)
+    (text : List ℕ) : Type 0 where
   bad_argument : IsNoName name → ended ≡ status.Refused → text ≡ codes "bad argument"
       → IsAnswer name limits input ended text
   reply : (shape : Named) → name_of shape ≡ name → IsReply shape limits input ended text

@@ -46,7 +46,8 @@ begins_tab text rest letter e l = record {
 -- a byte that stands for itself
 pub begins_itself : (text rest : List ℕ) (byte : ℕ) → text ≡ byte ∷ rest → 32 ≤ byte → byte ≤ 126 → byte ≢ 92
     → BeginsWith text byte rest
-begins_itself text rest byte e low high not = record { unit = byte ∷ []; split = e; spelling = itself refl low high not }
+begins_itself text rest byte e low high not =
+    record { unit = byte ∷ []; split = e; spelling = itself refl low high not }
 
 -- a text's first byte, with what is left of the text
 data First : Type 0 where

@@ -66,7 +66,8 @@ pub behind-unique : (text : List ℕ) (a b s t : Option (List ℕ)) (q r : List 
     → HasProperties text b t r → q ≡ r
 behind-unique text a b s t q r f g =
     behind_tag-unique g.behind_anchor s t q r
-    (subst (λ x. HasTag x s q) (behind_anchor-unique text a b f.behind_anchor g.behind_anchor f.has_anchor g.has_anchor) f.has_tag) g.has_tag
+    (subst (λ x. HasTag x s q) (behind_anchor-unique text a b f.behind_anchor g.behind_anchor f.has_anchor g.has_anchor)
+    f.has_tag) g.has_tag
 
 -- where something follows them, they are not all
 pub not_alone : (text after : List ℕ) (a s : Option (List ℕ)) → HasProperties text a s after → 0 < length after

@@ -56,7 +56,8 @@ HasProperties-unique text a b t u r s f g =
 -- a style by its byte
 abbrev style_at : ℕ → ScalarStyle
 style_at byte =
-    if byte == 58 then Plain else if byte == 39 then SingleQuoted else if byte == 34 then DoubleQuoted else if byte == 124 then Literal else Folded
+    if byte == 58 then Plain else if byte == 39 then SingleQuoted else if byte == 34 then DoubleQuoted else if byte ==
+    124 then Literal else Folded
 
 style_at-byte : (style : ScalarStyle) → style_at (style_byte style) ≡ style
 style_at-byte Plain = refl
@@ -76,8 +77,10 @@ content-unique text a b v w f g =
 
 IsScalarText-unique : (text : List ℕ) (a b : PlainScalar) → IsScalarText text a → IsScalarText text b → a ≡ b
 IsScalarText-unique text a b f g =
-    let p = HasProperties-unique text a.anchor b.anchor a.tag b.tag f.behind_tag g.behind_tag f.has_properties g.has_properties in
-    let rest = behind-unique text a.anchor b.anchor a.tag b.tag f.behind_tag g.behind_tag f.has_properties g.has_properties in
+    let p = HasProperties-unique text a.anchor b.anchor a.tag b.tag f.behind_tag g.behind_tag f.has_properties
+    g.has_properties in
+    let rest = behind-unique text a.anchor b.anchor a.tag b.tag f.behind_tag g.behind_tag f.has_properties
+    g.has_properties in
     let c = content-unique f.behind_tag a.style b.style a.text b.text f.is_content
     (subst (λ t. IsContent t b.style b.text) (sym rest) g.is_content) in
     same_scalar a b p.0 p.1 c.1 c.0 (f.no_source ∙ sym g.no_source) where
@@ -85,7 +88,13 @@ IsScalarText-unique text a b f g =
           → p.source ≡ q.source → p ≡ q
       same_scalar p q a t x s r =
           let make : Option (List ℕ) → Option (List ℕ) → List ℕ → ScalarStyle → Option (List ℕ) → PlainScalar =
-          λ anchor tag text style source. record { anchor = anchor; tag = tag; text = text; style = style; source = source } in
+          λ anchor tag text style source. record {
+            anchor = anchor;
+            tag = tag;
+            text = text;
+            style = style;
+            source = source;
+          } in
           ap (λ y. make y p.tag p.text p.style p.source) a
           ∙ (ap (λ y. make q.anchor y p.text p.style p.source) t ∙ (ap (λ y. make q.anchor q.tag y p.style p.source) x
           ∙ (ap (λ y. make q.anchor q.tag q.text y p.source) s ∙ ap (λ y. make q.anchor q.tag q.text q.style y) r)))
@@ -205,7 +214,8 @@ IsEventText-unique text mapping_end mapping_end f g = refl
 -- a kind by its first letter
 abbrev kind_at : ℕ → FaultKind
 kind_at byte =
-    if byte == 77 then Memory else if byte == 82 then Reader else if byte == 83 then Scanner else if byte == 80 then Parser
+    if byte == 77 then Memory else if byte == 82 then Reader else if byte == 83 then Scanner else if byte == 80 then
+    Parser
     else if byte == 67 then Composer else if byte == 87 then Writer else if byte == 69 then Emitter else Other
 
 kind_at-name : (kind : FaultKind) → kind_at (get_or (kind_name kind) 0 0) ≡ kind
@@ -236,7 +246,14 @@ IsFaultText-unique text a b m f g =
       same_fault p q k x o m c n =
           let make : FaultKind → List ℕ → ℕ → Position → Option (List ℕ) → Position → PlainFault =
           λ kind problem offset mark context context_mark.
-          record { kind = kind; problem = problem; offset = offset; mark = mark; context = context; context_mark = context_mark } in
+          record {
+            kind = kind;
+            problem = problem;
+            offset = offset;
+            mark = mark;
+            context = context;
+            context_mark = context_mark;
+          } in
           ap (λ y. make y p.problem p.offset p.mark p.context p.context_mark) k
           ∙ (ap (λ y. make q.kind y p.offset p.mark p.context p.context_mark) x
           ∙ (ap (λ y. make q.kind q.problem y p.mark p.context p.context_mark) o

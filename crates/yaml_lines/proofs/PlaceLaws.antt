@@ -83,10 +83,12 @@ no_column text after further index line a b none mark rest m =
 pub IsMarked-unique : (text : List ℕ) (m n : Position) (r s : List ℕ) → IsMarked text m r → IsMarked text n s → (m ≡ n)
     × (r ≡ s)
 IsMarked-unique text m n r s a b =
-    let u = mark_numbers text a.behind_index a.behind_line r m.index m.line m.column a.has_index a.has_line a.has_column n s b in
+    let u = mark_numbers text a.behind_index a.behind_line r m.index m.line m.column a.has_index a.has_line a.has_column
+    n s b in
     (same_position m n u.0 u.1 u.2, u.3) where
       same_position : (p q : Position) → p.index ≡ q.index → p.line ≡ q.line → p.column ≡ q.column → p ≡ q
       same_position p q i l c =
-          let place : ℕ → ℕ → ℕ → Position = λ index line column. record { index = index; line = line; column = column } in
+          let place : ℕ → ℕ → ℕ → Position = λ index line column.
+          record { index = index; line = line; column = column } in
           ap (λ x. place x p.line p.column) i ∙ (ap (λ x. place q.index x p.column) l
           ∙ ap (λ x. place q.index q.line x) c)

@@ -13,10 +13,12 @@ use Rattle.yaml_shape.specs.PlainShape.{PlainShape}
 use Rattle.serde_yaml.specs.StreamReads.{InputGives}
 
 -- how a case ends whose lines are read as a shape of a table, and the text that tells what they gave
-pub data IsReading (table : List PlainShape) (shape : PlainShape) (lines : List ℕ) (ended : Ending) (text : List ℕ) : Type 0 where
+pub data IsReading (table : List PlainShape) (shape : PlainShape) (lines : List ℕ) (ended : Ending)
+    (text : List ℕ) : Type 0 where
   bad_line : (number : ℕ) → IsFirstBadLine (lines_of lines) number → ended ≡ ending.Refused
       → text ≡ codes "bad line " ++ decimal number → IsReading table shape lines ended text
-  found : (events : MarkedEvents) (fault : Option PlainFault) (value : PlainData) → IsInput (lines_of lines) events fault
+  found : (events : MarkedEvents) (fault : Option PlainFault) (value : PlainData)
+      → IsInput (lines_of lines) events fault
       → InputGives default_limits table shape events fault (Ok value) → ended ≡ ending.Done → text ≡ data_text value
       → IsReading table shape lines ended text
   refused : (events : MarkedEvents) (fault : Option PlainFault) (cause : Cause) → IsInput (lines_of lines) events fault

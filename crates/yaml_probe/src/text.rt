@@ -3,7 +3,8 @@
 use std::alloc::AllocError;
 use yaml_shape::ShapeId;
 
-/// What stands before the first such character of a text and what behind it: all of it, and nothing, where there is none.
+/// What stands before the first such character of a text and what behind it: all of it, and nothing, where there is
+/// none.
 pub fn until(text: &str, mark: char) -> (&str, &str) {
     match text.split_once(mark) {
         Some(parts) => parts,

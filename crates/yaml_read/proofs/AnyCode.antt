@@ -1,5 +1,6 @@
 -- The values of data as the code gathers them.
-use Rattle.std.proofs.Common.{◌≡◌, ℕ, pos, negsuc, arith, length, List, [], ◌∷◌, ◌++◌, Bool, true, false, map, refl, sym, ap, ◌∙◌, true≢false}
+use Rattle.std.proofs.Common.{◌≡◌, ℕ, pos, negsuc, arith, length, List, [], ◌∷◌, ◌++◌, Bool, true, false, map, refl}
+use Rattle.std.proofs.Common.{sym, ap, ◌∙◌, true≢false}
 use Rattle.std.proofs.Math.Bool.{Bool-set}
 use Rattle.yaml_base.specs.declared.entry_key.EntryKey.TheVariants as key
 use Rattle.yaml_shape.specs.DataView.{data_of, items_of}
@@ -47,13 +48,15 @@ next_value before after v d left rest whole l a t h =
 positive_told : (b : Bool) (n : ℕ) (e : is_number (pos n) ≡ b) (h : is_number (pos n) ≡ true)
     → key.Number (record { integer = Unsigned n; canonical = h }) ≡ number_key b (pos n) e
 positive_told true n e h =
-    ap (λ (p : is_number (pos n) ≡ true). key.Number (record { integer = Unsigned n; canonical = p })) (Bool-set _ _ h e)
+    ap (λ (p : is_number (pos n) ≡ true). key.Number (record { integer = Unsigned n; canonical = p }))
+    (Bool-set _ _ h e)
 positive_told false n e h = absurd (true≢false (sym h ∙ e))
 
 negative_told : (b : Bool) (n : ℕ) (e : is_number (negsuc n) ≡ b) (h : is_number (negsuc n) ≡ true)
     → key.Number (record { integer = Negative (negsuc n); canonical = h }) ≡ number_key b (negsuc n) e
 negative_told true n e h =
-    ap (λ (p : is_number (negsuc n) ≡ true). key.Number (record { integer = Negative (negsuc n); canonical = p })) (Bool-set _ _ h e)
+    ap (λ (p : is_number (negsuc n) ≡ true). key.Number (record { integer = Negative (negsuc n); canonical = p }))
+    (Bool-set _ _ h e)
 negative_told false n e h = absurd (true≢false (sym h ∙ e))
 
 told_as : (form : Integer) (h : is_canonical form ≡ true)

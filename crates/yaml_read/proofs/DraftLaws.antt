@@ -5,7 +5,8 @@ use Rattle.std.proofs.Common.{true}
 use Rattle.std.proofs.lemmas.List.{length-map, map-append}
 use Rattle.std.proofs.lemmas.List.Elements.{All-cons, All-push}
 use Rattle.yaml_base.specs.Position.{Position}
-use Rattle.yaml_base.specs.PlainEvent.{PlainEvent, stream_start, stream_end, document_start, document_end, alias, scalar}
+use Rattle.yaml_base.specs.PlainEvent.{PlainEvent, stream_start, stream_end, document_start, document_end, alias}
+use Rattle.yaml_base.specs.PlainEvent.{scalar}
 use Rattle.yaml_base.specs.PlainEvent.{sequence_start, sequence_end, mapping_start, mapping_end}
 use Rattle.yaml_base.specs.Tree.{anchor_at}
 use Rattle.yaml_read.specs.DocEventView.{doc_event_of}
@@ -53,7 +54,8 @@ aliases_in-push place (x ∷ seen) e =
     ∙ sym (append_assoc (alias_at x.0 place) (aliases_in (place + 1) seen) _)
 
 -- the aliases stand among the events
-alias_at-within : (e : PlainEvent) (place : ℕ) (later : List (List ℕ × ℕ)) (end : ℕ) → place < end → All (λ x. x.1 < end) later
+alias_at-within : (e : PlainEvent) (place : ℕ) (later : List (List ℕ × ℕ)) (end : ℕ) → place < end
+    → All (λ x. x.1 < end) later
     → All (λ x. x.1 < end) (alias_at e place ++ later)
 alias_at-within (alias a) place later end l h = All-cons (λ (x : List ℕ × ℕ). x.1 < end) (a, place) later l h
 alias_at-within stream_start place later end l h = h
@@ -96,12 +98,14 @@ module _ (events : Events) (numbers : List ℕ) (seen : Input) (old : Draft) (h 
 
   pub aliases_in_range : All (λ (x : List ℕ × ℕ). old.from + x.1 < length old.events.items) old.anchors.aliases.items
   aliases_in_range =
-      subst (λ (xs : List (List ℕ × ℕ)). All (λ (x : List ℕ × ℕ). old.from + x.1 < length old.events.items) xs) (sym h.aliases)
+      subst (λ (xs : List (List ℕ × ℕ)). All (λ (x : List ℕ × ℕ). old.from + x.1 < length old.events.items) xs)
+      (sym h.aliases)
       (λ k d l. let w = aliases_within 0 seen k d l in omega (arith, whole_long))
 
   -- one event more
   module _ (new : Draft) (e : PlainEvent) (mark : Position) (d : DocEvent) (node : is_of_node e ≡ true) where
-    pub draft_more : new.from ≡ old.from → new.events.items ≡ old.events.items ++ (d, mark) ∷ [] → doc_event_of d ≡ drafted e
+    pub draft_more : new.from ≡ old.from → new.events.items ≡ old.events.items ++ (d, mark) ∷ [] → doc_event_of d
+        ≡ drafted e
         → new.anchors.named.items ≡ old.anchors.named.items ++ anchor_at (anchor_of e) (length seen)
         → new.anchors.aliases.items ≡ old.anchors.aliases.items ++ alias_at e (length seen)
         → HasNumbers numbers (drafts_of seen ++ drafted e ∷ []) new.ends
@@ -127,7 +131,8 @@ module _ (events : Events) (numbers : List ℕ) (seen : Input) (old : Draft) (h 
     }
 
   -- the same, of what a call makes of the draft in between
-  pub draft_event : (middle new : Draft) (e kind : PlainEvent) (mark : Position) (d : DocEvent) (place : ℕ) → is_of_node e ≡ true
+  pub draft_event : (middle new : Draft) (e kind : PlainEvent) (mark : Position) (d : DocEvent) (place : ℕ)
+      → is_of_node e ≡ true
       → e ≡ kind → place ≡ length seen → middle.from ≡ old.from → new.from ≡ middle.from
       → middle.events.items ≡ old.events.items → new.events.items ≡ middle.events.items ++ (d, mark) ∷ []
       → doc_event_of d ≡ drafted kind → new.anchors ≡ middle.anchors
@@ -136,8 +141,10 @@ module _ (events : Events) (numbers : List ℕ) (seen : Input) (old : Draft) (h 
       → HasNumbers numbers (drafts_of seen ++ drafted kind ∷ []) middle.ends
       → IsDraft events numbers (seen ++ (e, mark) ∷ []) new
   draft_event middle new e kind mark d place node is at from from' evs pushed shown anchors named aliases ends' ends =
-      draft_more new e mark d node (from' ∙ from) (pushed ∙ ap (λ es. es ++ (d, mark) ∷ []) evs) (shown ∙ ap drafted (sym is))
-      (ap (λ (a : _). a.named.items) anchors ∙ named ∙ ap (λ k. old.anchors.named.items ++ anchor_at (anchor_of kind) k) at
+      draft_more new e mark d node (from' ∙ from) (pushed ∙ ap (λ es. es ++ (d, mark) ∷ []) evs)
+      (shown ∙ ap drafted (sym is))
+      (ap (λ (a : _). a.named.items) anchors ∙ named ∙ ap (λ k. old.anchors.named.items ++ anchor_at (anchor_of kind) k)
+      at
       ∙ ap (λ k. old.anchors.named.items ++ anchor_at (anchor_of k) (length seen)) (sym is))
       (ap (λ (a : _). a.aliases.items) anchors ∙ aliases ∙ ap (λ k. old.anchors.aliases.items ++ alias_at kind k) at
       ∙ ap (λ k. old.anchors.aliases.items ++ alias_at k (length seen)) (sym is))

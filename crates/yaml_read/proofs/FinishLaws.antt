@@ -1,6 +1,7 @@
 -- Where a document ends, its draft becomes the last of the documents.
 use Rattle.std.proofs.Common.{◌≡◌, ℕ, ◌+◌, ◌<◌, List, [], ◌∷◌, ◌++◌, map, length, take, drop, min, false}
-use Rattle.std.proofs.Common.{refl, sym, ◌∙◌, ap, subst, arith, append-nil, length-take, length-drop, Option, Some, None, option_map}
+use Rattle.std.proofs.Common.{refl, sym, ◌∙◌, ap, subst, arith, append-nil, length-take, length-drop, Option, Some}
+use Rattle.std.proofs.Common.{None, option_map}
 use Rattle.std.specs.Prelude.{slice_get}
 use Rattle.std.proofs.Math.Seq.{drop-append_seam, take-add, take-append_seam, take-append-add}
 use Rattle.std.proofs.lemmas.List.{length-map, take-append-drop, take-map}
@@ -8,7 +9,8 @@ use Rattle.yaml_base.specs.Position.{Position}
 use Rattle.yaml_base.specs.PlainFault.{PlainFault}
 use Rattle.yaml_base.specs.declared.error.Cause.{Cause}
 use Rattle.yaml_read.specs.DocEventView.{doc_event_of, marked_events_of}
-use Rattle.yaml_read.specs.Documents.{Find, Input, anchors_in, document_of, ending_of, find_in, known_events, unknown_mark}
+use Rattle.yaml_read.specs.Documents.{Find, Input, anchors_in, document_of, ending_of, find_in, known_events}
+use Rattle.yaml_read.specs.Documents.{unknown_mark}
 use Rattle.yaml_read.specs.Ends.{ends_of}
 use Rattle.yaml_read.specs.Gathering.{AreCuts, documents_in, ending_in, plain_doc_events}
 use Rattle.yaml_read.specs.PlainDocEvent.{PlainDocEvent}
@@ -38,29 +40,33 @@ marked_taken : (at : ℕ) (events : Events) → take at (marked_events_of events
 marked_taken at events = take-map (λ (e : DocEvent × Position). (doc_event_of e.0, e.1)) at events
 
 -- numbers behind others, each of them bounded
-bounded_behind : (bound : ℕ) (front numbers : List ℕ) → bounded_from bound (length front) (front ++ numbers) ≡ front ++ map (min bound) numbers
+bounded_behind : (bound : ℕ) (front numbers : List ℕ) → bounded_from bound (length front) (front ++ numbers)
+    ≡ front ++ map (min bound) numbers
 bounded_behind bound [] numbers = refl
 bounded_behind bound (x ∷ front) numbers = ap (λ ns. x ∷ ns) (bounded_behind bound front numbers)
 
 -- documents with one more behind them
-pub between_more : (events more : Events) (numbers ends : List ℕ) (old : List Cut) (documents : List PlainDocument) (new : Draft) (cut : Cut)
+pub between_more : (events more : Events) (numbers ends : List ℕ) (old : List Cut) (documents : List PlainDocument)
+    (new : Draft) (cut : Cut)
     → length numbers ≡ length events → AreCuts events numbers old → documents_in events old ≡ documents
     → new.events.items ≡ events ++ more → new.ends.numbers ≡ numbers ++ ends → ends ≡ ends_of (plain_doc_events more)
     → new.ends.unended ≡ [] → new.anchors.named.items ≡ [] → new.anchors.aliases.items ≡ []
     → new.cuts.items ≡ old ++ cut ∷ [] → cut.from ≡ length events → cut.to ≡ length new.events.items
     → IsBetween (documents ++ held (marked_events_of more) (ending_in cut.error) ∷ []) new
-between_more events more numbers ends old documents new cut long cuts shown whole all are unended named aliases pushed begin end = record {
-  long = long_pushed events more new.events.items numbers ends new.ends.numbers whole all long are;
-  unended = unended;
-  named = named;
-  aliases = aliases;
-  cuts =
-      cuts_pushed events more new.events.items numbers ends new.ends.numbers old new.cuts.items cut whole all pushed long are begin
-      end cuts;
-  shown =
-      documents_pushed events more new.events.items numbers old new.cuts.items cut whole pushed begin end cuts
-      ∙ ap (λ ds. ds ++ held (marked_events_of more) (ending_in cut.error) ∷ []) shown;
-}
+between_more events more numbers ends old documents new cut long cuts shown whole all are unended named aliases pushed
+    begin end = record {
+      long = long_pushed events more new.events.items numbers ends new.ends.numbers whole all long are;
+      unended = unended;
+      named = named;
+      aliases = aliases;
+      cuts =
+          cuts_pushed events more new.events.items numbers ends new.ends.numbers old new.cuts.items cut whole all pushed
+          long are begin
+          end cuts;
+      shown =
+          documents_pushed events more new.events.items numbers old new.cuts.items cut whole pushed begin end cuts
+          ∙ ap (λ ds. ds ++ held (marked_events_of more) (ending_in cut.error) ∷ []) shown;
+    }
 
 module _ (events : Events) (numbers : List ℕ) (seen : Input) (old : Draft) (h : IsDraft events numbers seen old) where
   abbrev find : Find
@@ -78,7 +84,8 @@ module _ (events : Events) (numbers : List ℕ) (seen : Input) (old : Draft) (h 
       × (new.cuts.items ≡ old.cuts.items ++ cut ∷ []) × (cut.from ≡ old.from) × (cut.to ≡ length new.events.items)
 
   -- a document of which these events are known
-  closed : (new : Draft) (cut : Cut) (more : Events) (ends : List ℕ) (unknown : Option Position) (fault : Option PlainFault)
+  closed : (new : Draft) (cut : Cut) (more : Events) (ends : List ℕ) (unknown : Option Position)
+      (fault : Option PlainFault)
       → AreCuts events numbers old.cuts.items → Closed new cut
       → new.events.items ≡ events ++ more → marked_events_of more ≡ known_events find 0 seen
       → new.ends.numbers ≡ numbers ++ ends → ends ≡ ends_of (plain_doc_events more)
@@ -88,12 +95,14 @@ module _ (events : Events) (numbers : List ℕ) (seen : Input) (old : Draft) (h 
       subst (λ d. IsBetween (documents_in events old.cuts.items ++ d ∷ []) new)
       (ap (λ es. held es (ending_in cut.error)) shown
       ∙ ap (held (known_events find 0 seen)) (ending ∙ ap (λ m. ending_of m false fault) mark))
-      (between_more events more numbers ends old.cuts.items (documents_in events old.cuts.items) new cut h.long cuts refl whole all are
+      (between_more events more numbers ends old.cuts.items (documents_in events old.cuts.items) new cut h.long cuts
+      refl whole all are
       u n a p (from ∙ h.from) to)
 
   -- what the aliases made of the events
   module _ (settled_events : Events) (o : Option ℕ)
-      (is : settled (find_in old.anchors.named.items) old.anchors.aliases.items (marked_events_of (drop old.from old.events.items))
+      (is : settled (find_in old.anchors.named.items) old.anchors.aliases.items
+      (marked_events_of (drop old.from old.events.items))
       ≡ (marked_events_of (drop old.from settled_events), o))
       (front : take old.from settled_events ≡ take old.from old.events.items) where
     abbrev more : Events
@@ -103,7 +112,8 @@ module _ (events : Events) (numbers : List ℕ) (seen : Input) (old : Draft) (h 
     same =
         ap (λ es. settled find (aliases_in 0 seen) es) (sym (ap marked_events_of now_is ∙ h.shown))
         ∙ ap (λ xs. settled find xs (marked_events_of (drop old.from old.events.items))) (sym h.aliases)
-        ∙ ap (λ ns. settled (find_in ns) old.anchors.aliases.items (marked_events_of (drop old.from old.events.items))) (sym h.named)
+        ∙ ap (λ ns. settled (find_in ns) old.anchors.aliases.items (marked_events_of (drop old.from old.events.items)))
+        (sym h.named)
         ∙ is
 
     whole_is : settled_events ≡ events ++ more
@@ -111,29 +121,37 @@ module _ (events : Events) (numbers : List ℕ) (seen : Input) (old : Draft) (h 
 
   -- every alias is known
   pub closed_whole : (new : Draft) (cut : Cut) (fault : Option PlainFault) → AreCuts events numbers old.cuts.items
-      → settled (find_in old.anchors.named.items) old.anchors.aliases.items (marked_events_of (drop old.from old.events.items))
+      → settled (find_in old.anchors.named.items) old.anchors.aliases.items
+      (marked_events_of (drop old.from old.events.items))
       ≡ (marked_events_of (drop old.from new.events.items), None)
-      → take old.from new.events.items ≡ take old.from old.events.items → new.ends.numbers ≡ numbers ++ ends_of (drafts_of seen)
+      → take old.from new.events.items ≡ take old.from old.events.items → new.ends.numbers
+      ≡ numbers ++ ends_of (drafts_of seen)
       → Closed new cut → ending_in cut.error ≡ ending_of None false fault
       → IsBetween (documents_in events old.cuts.items ++ document_of (anchors_in 0 seen) seen false fault ∷ []) new
   closed_whole new cut fault cuts is front all c ending =
-      let found = settled_whole find seen (all_drafted seen) (marked_events_of (drop old.from new.events.items)) None h.nodes refl
+      let found = settled_whole find seen (all_drafted seen) (marked_events_of (drop old.from new.events.items)) None
+      h.nodes refl
       (same new.events.items None is front) in
       closed new cut (drop old.from new.events.items) (ends_of (drafts_of seen)) None fault cuts c
       (whole_is new.events.items None is front) found.0 all
-      (sym (ends_of_whole find seen found.1) ∙ ap (λ (es : Marked). ends_of (map (λ (e : PlainDocEvent × Position). e.0) es)) (sym found.0)
+      (sym (ends_of_whole find seen found.1)
+      ∙ ap (λ (es : Marked). ends_of (map (λ (e : PlainDocEvent × Position). e.0) es)) (sym found.0)
       ∙ ap ends_of (plain_doc_events-marked (drop old.from new.events.items)))
       (sym found.1) ending
 
   -- an alias is unknown, and the document is cut off there
-  pub closed_cut : (new : Draft) (cut : Cut) (fault : Option PlainFault) (settled_events : Events) (at : ℕ) (mark : Position)
+  pub closed_cut : (new : Draft) (cut : Cut) (fault : Option PlainFault) (settled_events : Events) (at : ℕ)
+      (mark : Position)
       (all : List ℕ) → AreCuts events numbers old.cuts.items
-      → settled (find_in old.anchors.named.items) old.anchors.aliases.items (marked_events_of (drop old.from old.events.items))
+      → settled (find_in old.anchors.named.items) old.anchors.aliases.items
+      (marked_events_of (drop old.from old.events.items))
       ≡ (marked_events_of (drop old.from settled_events), Some at)
       → take old.from settled_events ≡ take old.from old.events.items → old.from + at < length settled_events
-      → Some mark ≡ option_map (λ (e : PlainDocEvent × Position). e.1) (slice_get (marked_events_of (drop old.from settled_events)) at)
+      → Some mark ≡ option_map (λ (e : PlainDocEvent × Position). e.1)
+      (slice_get (marked_events_of (drop old.from settled_events)) at)
       → new.events.items ≡ take (old.from + at) settled_events
-      → all ≡ numbers ++ ends_of (drafts_of seen) → new.ends.numbers ≡ bounded_from at old.from (take (old.from + at) all)
+      → all ≡ numbers ++ ends_of (drafts_of seen) → new.ends.numbers
+      ≡ bounded_from at old.from (take (old.from + at) all)
       → Closed new cut → ending_in cut.error ≡ ending_of (Some mark) false fault
       → IsBetween (documents_in events old.cuts.items ++ document_of (anchors_in 0 seen) seen false fault ∷ []) new
   closed_cut new cut fault settled_events at mark all cuts is front within marked taken numbered bounded c ending =
@@ -157,13 +175,16 @@ module _ (events : Events) (numbers : List ℕ) (seen : Input) (old : Draft) (h 
       ∙ ap (λ n. bounded_from at n (take (n + at) (numbers ++ ends_of (drafts_of seen)))) begin
       ∙ ap (bounded_from at (length numbers)) (take-append-add numbers (ends_of (drafts_of seen)) at)
       ∙ bounded_behind at numbers (take at (ends_of (drafts_of seen))))
-      (sym (ends_of_cut find seen at size) ∙ ap (λ (es : Marked). ends_of (map (λ (e : PlainDocEvent × Position). e.0) es)) (sym known)
+      (sym (ends_of_cut find seen at size)
+      ∙ ap (λ (es : Marked). ends_of (map (λ (e : PlainDocEvent × Position). e.0) es)) (sym known)
       ∙ ap ends_of (plain_doc_events-marked (take at late)))
       (marked ∙ sym found.1) ending
 
 -- a document without events behind others
-pub failed_more : (old : Draft) (documents : List PlainDocument) (h : IsBetween documents old) (new : Draft) (cut : Cut) (ending : Option Cause)
-    → new.events ≡ old.events → new.ends ≡ old.ends → new.anchors ≡ old.anchors → new.cuts.items ≡ old.cuts.items ++ cut ∷ []
+pub failed_more : (old : Draft) (documents : List PlainDocument) (h : IsBetween documents old) (new : Draft) (cut : Cut)
+    (ending : Option Cause)
+    → new.events ≡ old.events → new.ends ≡ old.ends → new.anchors ≡ old.anchors → new.cuts.items
+    ≡ old.cuts.items ++ cut ∷ []
     → cut.from ≡ length old.events.items → cut.to ≡ cut.from → ending_in cut.error ≡ ending
     → IsBetween (documents ++ held [] ending ∷ []) new
 failed_more old documents h new cut ending events ends anchors pushed begin end is =

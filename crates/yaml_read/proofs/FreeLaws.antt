@@ -1,5 +1,6 @@
 -- Documents that are read without a walk, and shapes that name no others.
-use Rattle.std.proofs.Common.{rules, ◌≡◌, ℕ, zero, suc, ◌*◌, ◌<◌, ◌≤◌, List, [], ◌∷◌, map, length, Option, Some, None, Result, Ok, true, false, refl, sym, ap, ◌∙◌, arith}
+use Rattle.std.proofs.Common.{rules, ◌≡◌, ℕ, zero, suc, ◌*◌, ◌<◌, ◌≤◌, List, [], ◌∷◌, map, length, Option, Some, None}
+use Rattle.std.proofs.Common.{Result, Ok, true, false, refl, sym, ap, ◌∙◌, arith}
 use Rattle.std.specs.Prelude.{slice_get, IfSome}
 use Rattle.std.specs.Option.{is_some, option_copied}
 use denote.Ref.{Bor}
@@ -27,28 +28,36 @@ use Rattle.yaml_read.proofs.reading.Exits.{leaf_scalar}
 use Rattle.yaml_read.proofs.reading.Whole.{whole_source, answered}
 
 -- a document whose first event is a scalar, and that has a tree, gives the data of the scalar
-pub scalar_answered : (s : PlainShape) (document : PlainDocument) (w : PlainScalar) (mark : Position) (v : PlainData) → is_leaf s ≡ true
-    → document.ending ≡ None → slice_get document.events 0 ≡ Some (a_scalar w, mark) → scalar_answer s false w ≡ Ok v → IsAnswered s document v
+pub scalar_answered : (s : PlainShape) (document : PlainDocument) (w : PlainScalar) (mark : Position) (v : PlainData)
+    → is_leaf s ≡ true
+    → document.ending ≡ None → slice_get document.events 0 ≡ Some (a_scalar w, mark) → scalar_answer s false w ≡ Ok v
+    → IsAnswered s document v
 scalar_answered s document w mark v leaf whole first is = record {
   whole = whole;
   answer = λ limits table root tree.
       answered limits table s document v _
       (leaf_scalar (whole_source table document) root_way s limits.nesting None
-      (record { place = 0; left = limits.follows * length document.events }) (whole_fuel limits (length document.events)) w mark (omega arith) leaf first
-      ∙ ap (λ (r : Result PlainData Cause). place true mark root_way (ending (record { place = 1; left = limits.follows * length document.events }) r)) is) root tree;
+      (record { place = 0; left = limits.follows * length document.events })
+      (whole_fuel limits (length document.events)) w mark (omega arith) leaf first
+      ∙ ap (λ (r : Result PlainData Cause). place true mark root_way
+      (ending (record { place = 1; left = limits.follows * length document.events }) r)) is) root tree;
 }
 
-ignored_tree : (table : List PlainShape) (fuel : ℕ) (root n : DocNode) (marks : ℕ → Position) (way : Way) (nest : ℕ) (at : Spot) → 0 < fuel
+ignored_tree : (table : List PlainShape) (fuel : ℕ) (root n : DocNode) (marks : ℕ → Position) (way : Way) (nest : ℕ)
+    (at : Spot) → 0 < fuel
     → read_tree table fuel root marks way ignored_shape nest None n at ≡ Ok (ignored_data, at.left)
 unfolding read_tree
 ignored_tree table zero root n marks way nest at lt = absurd (omega arith)
 ignored_tree table (suc fuel) root n marks way nest at lt = refl
 
 -- a document that is stepped over gives no more than that
-pub ignored_answered : (s : PlainShape) (document : PlainDocument) (v : PlainData) → v ≡ ignored_data → s ≡ ignored_shape → document.ending ≡ None → IsAnswered s document v
+pub ignored_answered : (s : PlainShape) (document : PlainDocument) (v : PlainData) → v ≡ ignored_data → s
+    ≡ ignored_shape → document.ending ≡ None → IsAnswered s document v
 ignored_answered s document v is same whole = record {
   whole = whole;
-  answer = λ limits table root tree. rw (is, same) (rw (ignored_tree table (whole_fuel limits (length document.events)) root root (marks_of document.events) root_way limits.nesting
+  answer = λ limits table root tree. rw (is, same)
+      (rw (ignored_tree table (whole_fuel limits (length document.events)) root root
+      (marks_of document.events) root_way limits.nesting
       (record { place = 0; left = limits.follows * length document.events }) (omega arith)));
 }
 
@@ -58,10 +67,12 @@ reaches_none table (option_shape content) none = absurd cc
 reaches_none table _ none = omega arith
 
 -- the first event of a document that is one scalar
-pub first_scalar : (document : PlainDocument) (w : PlainScalar) → IsTreeOf document (word w) → (mark : Position) × (slice_get document.events 0 ≡ Some (a_scalar w, mark))
+pub first_scalar : (document : PlainDocument) (w : PlainScalar) → IsTreeOf document (word w)
+    → (mark : Position) × (slice_get document.events 0 ≡ Some (a_scalar w, mark))
 first_scalar document w tree = first document.events tree.events
   where
-    first : (es : List (PlainDocEvent × Position)) → map (λ e. e.0) es ≡ a_scalar w ∷ [] → (mark : Position) × (slice_get es 0 ≡ Some (a_scalar w, mark))
+    first : (es : List (PlainDocEvent × Position)) → map (λ e. e.0) es ≡ a_scalar w ∷ []
+        → (mark : Position) × (slice_get es 0 ≡ Some (a_scalar w, mark))
     first [] h = absurd cc
     first (e ∷ es) h = let same : e.0 ≡ a_scalar w = cc in (e.1, ap (λ x. Some (x, e.1)) same)
 

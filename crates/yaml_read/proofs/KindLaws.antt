@@ -8,5 +8,6 @@ there : (kind : PlainShape → Bool) (o : Option PlainShape) → any_of kind o �
 there kind None h = absurd cc
 there kind (Some s) h = (s, cc)
 
-pub kind_within : (kind : PlainShape → Bool) (table : List PlainShape) (id : ℕ) → has_kind kind table id ≡ true → id < length table
+pub kind_within : (kind : PlainShape → Bool) (table : List PlainShape) (id : ℕ) → has_kind kind table id ≡ true
+    → id < length table
 kind_within kind table id h = let s = there kind (shape_at table id) h in slice_get_within table id s.0 s.1

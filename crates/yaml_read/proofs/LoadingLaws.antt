@@ -1,22 +1,27 @@
 -- Each event that may stand where it stands leads the draft on.
 use Rattle.std.proofs.Common.{◌≡◌, List, [], ◌∷◌, ◌++◌, map, length}
-use Rattle.std.proofs.Common.{refl, sym, ◌∙◌, ap, subst, arith, append_assoc, append-nil, Option, Some, None, All, IsTrue, is_some}
+use Rattle.std.proofs.Common.{refl, sym, ◌∙◌, ap, subst, arith, append_assoc, append-nil, Option, Some, None, All}
+use Rattle.std.proofs.Common.{IsTrue, is_some}
 use Rattle.std.proofs.Common.{Bool, true, false, not, cond, ◌||◌}
 use Rattle.std.specs.Prelude.{option_to_list}
 use Rattle.std.specs.Bool.{beq}
 use Rattle.std.proofs.lemmas.List.Elements.{All-tail}
 use Rattle.yaml_base.specs.Position.{Position}
-use Rattle.yaml_base.specs.PlainEvent.{PlainEvent, event_of, stream_start, stream_end, document_start, document_end, alias, scalar}
+use Rattle.yaml_base.specs.PlainEvent.{PlainEvent, event_of, stream_start, stream_end, document_start, document_end}
+use Rattle.yaml_base.specs.PlainEvent.{alias, scalar}
 use Rattle.yaml_base.specs.PlainEvent.{sequence_start, sequence_end, mapping_start, mapping_end}
 use Rattle.yaml_base.specs.PlainFault.{PlainFault}
 use Rattle.yaml_base.specs.declared.event.Event.{Event}
 use Rattle.yaml_base.specs.declared.event.Event.TheVariants as event
-use Rattle.yaml_read.specs.Documents.{Input, after_starts, anchors_in, body, document_from, document_of, documents_of, ending_of, failed_document}
-use Rattle.yaml_read.specs.Documents.{find_in, is_document_end, is_document_start, is_ended, is_open_after, known_events}
+use Rattle.yaml_read.specs.Documents.{Input, after_starts, anchors_in, body, document_from, document_of, documents_of}
+use Rattle.yaml_read.specs.Documents.{ending_of, failed_document}
+use Rattle.yaml_read.specs.Documents.{find_in, is_document_end, is_document_start, is_ended, is_open_after}
+use Rattle.yaml_read.specs.Documents.{known_events}
 use Rattle.yaml_read.specs.Documents.{last_mark, unknown_mark, void_document, void_documents}
 use Rattle.yaml_read.specs.Gathering.{AreCuts, documents_in}
 use Rattle.yaml_read.specs.PlainDocument.{PlainDocument}
-use Rattle.yaml_read.specs.StreamMachine.{State, before_stream, between_documents, before_root, within, after_stream, begins, next_state, is_done, is_open, state_of}
+use Rattle.yaml_read.specs.StreamMachine.{State, before_stream, between_documents, before_root, within, after_stream}
+use Rattle.yaml_read.specs.StreamMachine.{begins, next_state, is_done, is_open, state_of}
 use Rattle.yaml_read.specs.declared.loader.check.Phase.{Phase}
 use Rattle.yaml_read.specs.declared.loader.check.Phase.TheVariants.{Before, Between, Root, Within, After}
 use Rattle.yaml_read.specs.declared.doc_event.DocEvent.{DocEvent}
@@ -25,7 +30,8 @@ use Rattle.yaml_read.specs.declared.loader.check.Open.TheVariants.{Sequence, Key
 use Rattle.yaml_read.specs.declared.loader.draft.Cut.{Cut}
 use Rattle.yaml_read.specs.declared.loader.draft.Draft.{Draft}
 use Rattle.yaml_read.specs.inner.Drafts.{IsBetween, IsDraft, is_of_node}
-use Rattle.yaml_read.specs.inner.Loading.{IsClosedDraft, IsOnWay, IsOpenDraft, IsReady, is_inside, open_before, open_behind}
+use Rattle.yaml_read.specs.inner.Loading.{IsClosedDraft, IsOnWay, IsOpenDraft, IsReady, is_inside, open_before}
+use Rattle.yaml_read.specs.inner.Loading.{open_behind}
 use Rattle.yaml_read.proofs.DraftLaws.{aliases_in_range, as_many, begins_within}
 
 abbrev Turns : PlainEvent → State → State → Type 0
@@ -48,7 +54,8 @@ begun opened sequence_end t h = absurd cc
 begun opened (mapping_start a g) t h = (refl, refl, is_next (within (Key ∷ opened)) t h)
 begun opened mapping_end t h = absurd cc
 
-inside_begun : (s : State) (opened : List Open) (e : PlainEvent) (t : State) → is_inside s ≡ true → begins opened e ≡ Some t → Turns e s t
+inside_begun : (s : State) (opened : List Open) (e : PlainEvent) (t : State) → is_inside s ≡ true → begins opened e
+    ≡ Some t → Turns e s t
 inside_begun s opened e t i h = let b = begun opened e t h in (i ∙ sym b.0, b.2 ∙ sym b.1)
 
 pub turns : (s : State) (e : PlainEvent) (t : State) → next_state s e ≡ Some t → Turns e s t
@@ -83,15 +90,20 @@ turns (within []) (sequence_start a g) t h = absurd cc
 turns (within []) sequence_end t h = absurd cc
 turns (within []) (mapping_start a g) t h = absurd cc
 turns (within []) mapping_end t h = absurd cc
-turns (within (Sequence ∷ o)) stream_start t h = inside_begun (within (Sequence ∷ o)) (Sequence ∷ o) stream_start t refl h
+turns (within (Sequence ∷ o)) stream_start t h =
+    inside_begun (within (Sequence ∷ o)) (Sequence ∷ o) stream_start t refl h
 turns (within (Sequence ∷ o)) stream_end t h = inside_begun (within (Sequence ∷ o)) (Sequence ∷ o) stream_end t refl h
-turns (within (Sequence ∷ o)) document_start t h = inside_begun (within (Sequence ∷ o)) (Sequence ∷ o) document_start t refl h
-turns (within (Sequence ∷ o)) document_end t h = inside_begun (within (Sequence ∷ o)) (Sequence ∷ o) document_end t refl h
+turns (within (Sequence ∷ o)) document_start t h =
+    inside_begun (within (Sequence ∷ o)) (Sequence ∷ o) document_start t refl h
+turns (within (Sequence ∷ o)) document_end t h =
+    inside_begun (within (Sequence ∷ o)) (Sequence ∷ o) document_end t refl h
 turns (within (Sequence ∷ o)) (alias a) t h = inside_begun (within (Sequence ∷ o)) (Sequence ∷ o) (alias a) t refl h
 turns (within (Sequence ∷ o)) (scalar s) t h = inside_begun (within (Sequence ∷ o)) (Sequence ∷ o) (scalar s) t refl h
-turns (within (Sequence ∷ o)) (sequence_start a g) t h = inside_begun (within (Sequence ∷ o)) (Sequence ∷ o) (sequence_start a g) t refl h
+turns (within (Sequence ∷ o)) (sequence_start a g) t h =
+    inside_begun (within (Sequence ∷ o)) (Sequence ∷ o) (sequence_start a g) t refl h
 turns (within (Sequence ∷ o)) sequence_end t h = (refl, is_next (within o) t h)
-turns (within (Sequence ∷ o)) (mapping_start a g) t h = inside_begun (within (Sequence ∷ o)) (Sequence ∷ o) (mapping_start a g) t refl h
+turns (within (Sequence ∷ o)) (mapping_start a g) t h =
+    inside_begun (within (Sequence ∷ o)) (Sequence ∷ o) (mapping_start a g) t refl h
 turns (within (Sequence ∷ o)) mapping_end t h = inside_begun (within (Sequence ∷ o)) (Sequence ∷ o) mapping_end t refl h
 turns (within (Key ∷ o)) stream_start t h = inside_begun (within (Key ∷ o)) (Value ∷ o) stream_start t refl h
 turns (within (Key ∷ o)) stream_end t h = inside_begun (within (Key ∷ o)) (Value ∷ o) stream_end t refl h
@@ -99,9 +111,11 @@ turns (within (Key ∷ o)) document_start t h = inside_begun (within (Key ∷ o)
 turns (within (Key ∷ o)) document_end t h = inside_begun (within (Key ∷ o)) (Value ∷ o) document_end t refl h
 turns (within (Key ∷ o)) (alias a) t h = inside_begun (within (Key ∷ o)) (Value ∷ o) (alias a) t refl h
 turns (within (Key ∷ o)) (scalar s) t h = inside_begun (within (Key ∷ o)) (Value ∷ o) (scalar s) t refl h
-turns (within (Key ∷ o)) (sequence_start a g) t h = inside_begun (within (Key ∷ o)) (Value ∷ o) (sequence_start a g) t refl h
+turns (within (Key ∷ o)) (sequence_start a g) t h =
+    inside_begun (within (Key ∷ o)) (Value ∷ o) (sequence_start a g) t refl h
 turns (within (Key ∷ o)) sequence_end t h = inside_begun (within (Key ∷ o)) (Value ∷ o) sequence_end t refl h
-turns (within (Key ∷ o)) (mapping_start a g) t h = inside_begun (within (Key ∷ o)) (Value ∷ o) (mapping_start a g) t refl h
+turns (within (Key ∷ o)) (mapping_start a g) t h =
+    inside_begun (within (Key ∷ o)) (Value ∷ o) (mapping_start a g) t refl h
 turns (within (Key ∷ o)) mapping_end t h = (refl, is_next (within o) t h)
 turns (within (Value ∷ o)) e t h = inside_begun (within (Value ∷ o)) (Key ∷ o) e t refl h
 turns after_stream stream_start t h = absurd cc
@@ -116,7 +130,8 @@ turns after_stream (mapping_start a g) t h = absurd cc
 turns after_stream mapping_end t h = absurd cc
 
 -- an event that neither begins nor ends a stream or a document is part of a node
-pub other_is_node : (e : Event) → (e ≡ event.StreamStart → ⊥) → (e ≡ event.StreamEnd → ⊥) → (e ≡ event.DocumentStart → ⊥)
+pub other_is_node : (e : Event) → (e ≡ event.StreamStart → ⊥) → (e ≡ event.StreamEnd → ⊥)
+    → (e ≡ event.DocumentStart → ⊥)
     → (e ≡ event.DocumentEnd → ⊥) → is_of_node (event_of e) ≡ true
 other_is_node event.StreamStart a b c d = absurd (a refl)
 other_is_node event.StreamEnd a b c d = absurd (b refl)
@@ -163,18 +178,22 @@ body_of_nodes (e ∷ seen) later nodes =
 ended_of_nodes : (seen later : Input) → ToNodes seen → is_ended (seen ++ later) ≡ is_ended later
 ended_of_nodes [] later nodes = refl
 ended_of_nodes (e ∷ seen) later nodes =
-    ap (λ b. b || is_ended (seen ++ later)) (first_ends_none e seen nodes) ∙ ended_of_nodes seen later (nodes_left e seen nodes)
+    ap (λ b. b || is_ended (seen ++ later)) (first_ends_none e seen nodes)
+    ∙ ended_of_nodes seen later (nodes_left e seen nodes)
 
 -- the document of what was seen, and of what is left of it
-from_body : (fault : Option PlainFault) (seen later : Input) (ended : Bool) → ToNodes seen → body later ≡ [] → is_ended later ≡ ended
+from_body : (fault : Option PlainFault) (seen later : Input) (ended : Bool) → ToNodes seen → body later ≡ []
+    → is_ended later ≡ ended
     → document_from fault (seen ++ later) ≡ document_of (anchors_in 0 seen) seen ended fault
 from_body fault seen later ended nodes b e =
-    let whole : body (seen ++ later) ≡ seen = body_of_nodes seen later nodes ∙ ap (λ es. seen ++ es) b ∙ append-nil seen in
+    let whole : body (seen ++ later) ≡ seen = body_of_nodes seen later nodes ∙ ap (λ es. seen ++ es) b
+    ∙ append-nil seen in
     ap (λ es. document_of (anchors_in 0 es) es (is_ended (seen ++ later)) fault) whole
     ∙ ap (λ x. document_of (anchors_in 0 seen) seen x fault) (ended_of_nodes seen later nodes ∙ e)
 
 -- where a document has its end, the parser's fault lies elsewhere
-no_fault : (unknown : Option Position) (fault : Option PlainFault) → ending_of unknown false None ≡ ending_of unknown true fault
+no_fault : (unknown : Option Position) (fault : Option PlainFault) → ending_of unknown false None
+    ≡ ending_of unknown true fault
 no_fault None fault = refl
 no_fault (Some mark) fault = refl
 
@@ -189,7 +208,8 @@ one_over : (documents : List PlainDocument) (d : PlainDocument) (later : List Pl
     → (documents ++ d ∷ []) ++ later ≡ documents ++ d ∷ later
 one_over documents d later = append_assoc documents (d ∷ []) later
 
-module _ (fault : Option PlainFault) (all left rest : Input) (e : PlainEvent) (mark : Position) (is : left ≡ (e, mark) ∷ rest) (old new : Draft) where
+module _ (fault : Option PlainFault) (all left rest : Input) (e : PlainEvent) (mark : Position)
+    (is : left ≡ (e, mark) ∷ rest) (old new : Draft) where
   -- a document begins
   pub on_begin : e ≡ document_start → IsClosedDraft fault all left old
       → IsDraft old.events.items old.ends.numbers [] new → new.cuts ≡ old.cuts → IsOpenDraft fault all rest new
@@ -200,12 +220,16 @@ module _ (fault : Option PlainFault) (all left rest : Input) (e : PlainEvent) (m
         numbers = old.ends.numbers;
         seen = [];
         draft = draft;
-        cuts = subst (λ (x : List Cut). AreCuts old.events.items old.ends.numbers x) (sym (ap (λ (x : _). x.items) cuts)) h.between.cuts;
+        cuts = subst (λ (x : List Cut). AreCuts old.events.items old.ends.numbers x)
+            (sym (ap (λ (x : _). x.items) cuts)) h.between.cuts;
         complete = (
-          one_over (documents_in old.events.items new.cuts.items) (document_from fault rest) (map (document_from fault) (after_starts true rest))
-              ∙ ap (λ (x : List Cut). documents_in old.events.items x ++ document_from fault rest ∷ map (document_from fault) (after_starts true rest))
+          one_over (documents_in old.events.items new.cuts.items) (document_from fault rest)
+              (map (document_from fault) (after_starts true rest))
+              ∙ ap (λ (x : List Cut). documents_in old.events.items x
+              ++ document_from fault rest ∷ map (document_from fault) (after_starts true rest))
               (ap (λ (x : _). x.items) cuts)
-              ∙ ap (λ ds. ds ++ document_from fault rest ∷ map (document_from fault) (after_starts true rest)) h.between.shown
+              ∙ ap (λ ds. ds ++ document_from fault rest ∷ map (document_from fault) (after_starts true rest))
+              h.between.shown
               ∙ ap (λ es. h.documents ++ map (document_from fault) (after_starts false es)) (sym same) ∙ h.complete.0,
           ap (is_open_after false) (sym same) ∙ h.complete.1,
         );
@@ -227,10 +251,13 @@ module _ (fault : Option PlainFault) (all left rest : Input) (e : PlainEvent) (m
         draft = draft;
         cuts = subst (λ (x : List Cut). AreCuts h.events h.numbers x) (sym (ap (λ (x : _). x.items) cuts)) h.cuts;
         complete = (
-          ap (λ (x : List Cut). (documents_in h.events x ++ document_from fault ((h.seen ++ (e, mark) ∷ []) ++ rest) ∷ [])
+          ap (λ (x : List Cut). (documents_in h.events x ++ document_from fault
+              ((h.seen ++ (e, mark) ∷ []) ++ rest) ∷ [])
               ++ map (document_from fault) (after_starts true rest)) (ap (λ (x : _). x.items) cuts)
-              ∙ ap (λ es. (documents_in h.events old.cuts.items ++ document_from fault es ∷ []) ++ map (document_from fault) (after_starts true rest)) whole
-              ∙ ap (λ ss. (documents_in h.events old.cuts.items ++ document_from fault (h.seen ++ left) ∷ []) ++ map (document_from fault) ss) (sym starts)
+              ∙ ap (λ es. (documents_in h.events old.cuts.items ++ document_from fault es ∷ [])
+              ++ map (document_from fault) (after_starts true rest)) whole
+              ∙ ap (λ ss. (documents_in h.events old.cuts.items ++ document_from fault (h.seen ++ left) ∷ [])
+              ++ map (document_from fault) ss) (sym starts)
               ∙ h.complete.0,
           sym (ap (is_open_after true) is ∙ ap (λ b. is_open_after (not b) rest) within) ∙ h.complete.1,
         );
@@ -244,21 +271,24 @@ module _ (fault : Option PlainFault) (all left rest : Input) (e : PlainEvent) (m
       let same = is ∙ ap (λ x. (x, mark) ∷ rest) end in
       let ds = documents_in h.events old.cuts.items in
       let document : document_of (anchors_in 0 h.seen) h.seen false None ≡ document_from fault (h.seen ++ left) =
-      ended_document h.seen fault ∙ sym (from_body fault h.seen ((document_end, mark) ∷ rest) true h.draft.nodes refl refl)
+      ended_document h.seen fault ∙ sym (from_body fault h.seen
+      ((document_end, mark) ∷ rest) true h.draft.nodes refl refl)
       ∙ ap (λ es. document_from fault (h.seen ++ es)) (sym same) in
       record {
         documents = ds ++ document_of (anchors_in 0 h.seen) h.seen false None ∷ [];
         between = between;
         complete = (
           ap (λ d. (ds ++ d ∷ []) ++ map (document_from fault) (after_starts false rest)) document
-              ∙ ap (λ es. (ds ++ document_from fault (h.seen ++ left) ∷ []) ++ map (document_from fault) (after_starts true es)) (sym same)
+              ∙ ap (λ es. (ds ++ document_from fault (h.seen ++ left) ∷ [])
+              ++ map (document_from fault) (after_starts true es)) (sym same)
               ∙ h.complete.0,
           ap (is_open_after true) (sym same) ∙ h.complete.1,
         );
       }
 
   -- the stream begins or ends
-  pub on_stream : is_document_start e ≡ false → IsClosedDraft fault all left old → new ≡ old → IsClosedDraft fault all rest new
+  pub on_stream : is_document_start e ≡ false → IsClosedDraft fault all left old → new ≡ old
+      → IsClosedDraft fault all rest new
   on_stream other h kept =
       let starts : after_starts false left ≡ after_starts false rest =
       ap (after_starts false) is ∙ ap (λ b. cond b (rest ∷ after_starts true rest) (after_starts false rest)) other in
@@ -273,7 +303,8 @@ module _ (fault : Option PlainFault) (all left rest : Input) (e : PlainEvent) (m
 
 -- the documents of all events, where no event is left
 pub all_open : (f : PlainFault) (all : Input) (old new : Draft) (h : IsOpenDraft (Some f) all [] old)
-    → IsBetween (documents_in h.events old.cuts.items ++ document_of (anchors_in 0 h.seen) h.seen false (Some f) ∷ []) new
+    → IsBetween (documents_in h.events old.cuts.items ++ document_of (anchors_in 0 h.seen) h.seen false (Some f) ∷ [])
+    new
     → IsBetween (documents_of all (Some f)) new
 all_open f all old new h between =
     let ds = documents_in h.events old.cuts.items in
@@ -282,23 +313,28 @@ all_open f all old new h between =
     (ap (λ d. ds ++ d ∷ []) (sym document)
     ∙ sym (append-nil (ds ++ document_from (Some f) (h.seen ++ []) ∷ [])) ∙ h.complete.0
     ∙ sym (append-nil (map (document_from (Some f)) (after_starts false all)))
-    ∙ ap (λ b. map (document_from (Some f)) (after_starts false all) ++ cond b [] (failed_document f ∷ [])) h.complete.1) between
+    ∙ ap (λ b. map (document_from (Some f)) (after_starts false all) ++ cond b [] (failed_document f ∷ []))
+    h.complete.1) between
 
 pub all_failed : (f : PlainFault) (all : Input) (old new : Draft) (h : IsClosedDraft (Some f) all [] old)
     → IsBetween (h.documents ++ failed_document f ∷ []) new → IsBetween (documents_of all (Some f)) new
 all_failed f all old new h between =
     subst (λ x. IsBetween x new)
     (ap (λ ds. ds ++ failed_document f ∷ []) (sym (append-nil h.documents) ∙ h.complete.0)
-    ∙ ap (λ b. map (document_from (Some f)) (after_starts false all) ++ cond b [] (failed_document f ∷ [])) h.complete.1) between
+    ∙ ap (λ b. map (document_from (Some f)) (after_starts false all) ++ cond b [] (failed_document f ∷ []))
+    h.complete.1) between
 
 -- a stream with documents has no further one, and a stream without them that of an empty stream
-some_documents : (starts : List Input) (end : Option Position) (documents : List PlainDocument) → documents ≡ map (document_from None) starts
+some_documents : (starts : List Input) (end : Option Position) (documents : List PlainDocument) → documents
+    ≡ map (document_from None) starts
     → (documents ≡ [] → ⊥) → documents ≡ map (document_from None) starts ++ void_documents starts end
 some_documents [] end documents is some = absurd (some is)
 some_documents (s ∷ starts) end documents is some = is ∙ sym (append-nil (map (document_from None) (s ∷ starts)))
 
-no_documents : (starts : List Input) (end : Option Position) (documents : List PlainDocument) → documents ≡ map (document_from None) starts
-    → documents ≡ [] → documents ++ map void_document (option_to_list end) ≡ map (document_from None) starts ++ void_documents starts end
+no_documents : (starts : List Input) (end : Option Position) (documents : List PlainDocument) → documents
+    ≡ map (document_from None) starts
+    → documents ≡ [] → documents ++ map void_document (option_to_list end)
+    ≡ map (document_from None) starts ++ void_documents starts end
 no_documents [] end documents is none = ap (λ ds. ds ++ map void_document (option_to_list end)) none
 no_documents (s ∷ starts) end documents is none = absurd (let e = sym none ∙ is in cc)
 
@@ -327,7 +363,8 @@ module _ (all : Input) (old : Draft) (h : IsClosedDraft None all [] old) where
   pub all_none : old.cuts.items ≡ [] → None ≡ last_mark all → IsBetween (documents_of all None) old
   all_none none end =
       subst (λ x. IsBetween x old)
-      (sym (append-nil h.documents) ∙ ap (λ (o : Option Position). h.documents ++ map void_document (option_to_list o)) end
+      (sym (append-nil h.documents) ∙ ap (λ (o : Option Position). h.documents ++ map void_document (option_to_list o))
+      end
       ∙ no_documents (after_starts false all) (last_mark all) h.documents all_found
       (sym h.between.shown ∙ ap (documents_in old.events.items) none)) h.between
 
@@ -339,7 +376,8 @@ ready fault all left d h = record {
   within = aliases_in_range h.events h.numbers h.seen d h.draft;
 }
 
-pub ready_if : (opened : Bool) (fault : Option PlainFault) (all left : Input) (d : Draft) → IsOnWay opened fault all left d → opened ≡ true → IsReady d
+pub ready_if : (opened : Bool) (fault : Option PlainFault) (all left : Input) (d : Draft)
+    → IsOnWay opened fault all left d → opened ≡ true → IsReady d
 ready_if true fault all left d h is = ready fault all left d h
 ready_if false fault all left d h is = absurd cc
 
@@ -349,7 +387,8 @@ pub on_way : (opened before : Bool) (fault : Option PlainFault) (all left : Inpu
 on_way opened before fault all left d is h = subst (λ b. IsOnWay b fault all left d) is h
 
 -- what is shown of a fault, or of none, and of whether a document is open
-pub fault_closes : (opened which : Bool) (fault : Option PlainFault) (f : PlainFault) (all : Input) (old new : Draft) → opened ≡ which
+pub fault_closes : (opened which : Bool) (fault : Option PlainFault) (f : PlainFault) (all : Input) (old new : Draft)
+    → opened ≡ which
     → fault ≡ Some f → (IsOnWay which (Some f) all [] old → IsBetween (documents_of all (Some f)) new)
     → IsOnWay opened fault all [] old → IsBetween (documents_of all fault) new
 fault_closes opened which fault f all old new o is made way =
@@ -360,11 +399,13 @@ some_or_none : (fault : Option PlainFault) → fault ≡ None → is_some fault 
 some_or_none None e h = cc
 some_or_none (Some f) e h = cc
 
-closed_none : (opened : Bool) (fault : Option PlainFault) → fault ≡ None → (opened ≡ true → is_some fault ≡ true) → opened ≡ false
+closed_none : (opened : Bool) (fault : Option PlainFault) → fault ≡ None → (opened ≡ true → is_some fault ≡ true)
+    → opened ≡ false
 closed_none true fault is known = absurd (some_or_none fault is (known refl))
 closed_none false fault is known = refl
 
-pub none_closes : (opened : Bool) (fault : Option PlainFault) (all : Input) (old new : Draft) → (opened ≡ true → is_some fault ≡ true)
+pub none_closes : (opened : Bool) (fault : Option PlainFault) (all : Input) (old new : Draft)
+    → (opened ≡ true → is_some fault ≡ true)
     → fault ≡ None → (IsClosedDraft None all [] old → IsBetween (documents_of all None) new)
     → IsOnWay opened fault all [] old → IsBetween (documents_of all fault) new
 none_closes opened fault all old new known is made way =

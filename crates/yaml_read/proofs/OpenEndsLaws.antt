@@ -1,12 +1,15 @@
 -- The numbers of open collections are filled in as their events go by.
-use Rattle.std.proofs.Common.{◌≡◌, ℕ, zero, suc, ◌+◌, ◌-◌, ◌==◌, ◌<◌, ◌≤◌, List, [], ◌∷◌, ◌++◌, map, length, set, reverse, min, All}
-use Rattle.std.proofs.Common.{true, false, refl, sym, ◌∙◌, ap, subst, arith, append_assoc, append-nil, length-append, length-set, get_or}
+use Rattle.std.proofs.Common.{◌≡◌, ℕ, zero, suc, ◌+◌, ◌-◌, ◌==◌, ◌<◌, ◌≤◌, List, [], ◌∷◌, ◌++◌, map, length, set}
+use Rattle.std.proofs.Common.{reverse, min, All}
+use Rattle.std.proofs.Common.{true, false, refl, sym, ◌∙◌, ap, subst, arith, append_assoc, append-nil, length-append}
+use Rattle.std.proofs.Common.{length-set, get_or}
 use Rattle.std.proofs.Math.Seq.{set-append_seam}
 use Rattle.std.proofs.lemmas.Bool.{ne_eqb}
 use Rattle.std.proofs.lemmas.List.{set-append_left, reverse-append}
 use Rattle.std.proofs.lemmas.List.Elements.{All-push, All-tail}
 use Rattle.yaml_read.specs.Ends.{end_place, ends_from, ends_of, is_closing, is_opening}
-use Rattle.yaml_read.specs.PlainDocEvent.{PlainDocEvent, alias_to, a_scalar, sequence_begins, sequence_ends, mapping_begins, mapping_ends, a_void}
+use Rattle.yaml_read.specs.PlainDocEvent.{PlainDocEvent, alias_to, a_scalar, sequence_begins, sequence_ends}
+use Rattle.yaml_read.specs.PlainDocEvent.{mapping_begins, mapping_ends, a_void}
 use Rattle.yaml_read.specs.inner.OpenEnds.{EndsView, HasNumbers, bounded_from, filled}
 
 abbrev ends_with : List ℕ → List ℕ → EndsView
@@ -16,7 +19,8 @@ ends_with numbers unended = record { numbers = numbers; unended = unended }
 All-reverse : {X : Type 0} (P : X → Type 0) (xs : List X) → All P xs → All P (reverse xs)
 All-reverse P [] h = h
 All-reverse P (x ∷ xs) h =
-    subst (All P) (sym (reverse-append (x ∷ []) xs)) (All-push P (reverse xs) x (All-reverse P xs (All-tail P x xs h)) (h 0 x (omega arith)))
+    subst (All P) (sym (reverse-append (x ∷ []) xs))
+    (All-push P (reverse xs) x (All-reverse P xs (All-tail P x xs h)) (h 0 x (omega arith)))
 
 -- the starts lie within the numbers
 abbrev AreIn : List ℕ → List ℕ → Type 0
@@ -34,7 +38,8 @@ length-filled (s ∷ starts) inner place later numbers =
     ∙ length-set numbers s (end_place inner place later)
 
 -- a number that is put behind stays there
-filled_push : (starts : List ℕ) (inner place : ℕ) (later : List PlainDocEvent) (numbers : List ℕ) (n : ℕ) → AreIn numbers starts
+filled_push : (starts : List ℕ) (inner place : ℕ) (later : List PlainDocEvent) (numbers : List ℕ) (n : ℕ)
+    → AreIn numbers starts
     → filled starts inner place later (numbers ++ n ∷ []) ≡ filled starts inner place later numbers ++ n ∷ []
 filled_push [] inner place later numbers n h = refl
 filled_push (s ∷ starts) inner place later numbers n h =
@@ -45,11 +50,13 @@ filled_push (s ∷ starts) inner place later numbers n h =
     (in_set numbers starts s v (All-tail (λ (x : ℕ). x < length numbers) s starts h))
 
 -- where an open collection ends, by the next event
-end_passes : (inner place : ℕ) (e : PlainDocEvent) (later : List PlainDocEvent) → is_opening e ≡ false → is_closing e ≡ false
+end_passes : (inner place : ℕ) (e : PlainDocEvent) (later : List PlainDocEvent) → is_opening e ≡ false → is_closing e
+    ≡ false
     → end_place inner place (e ∷ later) ≡ end_place inner (place + 1) later
 end_passes inner place e later o c = rw (c, o)
 
-end_deeper : (inner place : ℕ) (e : PlainDocEvent) (later : List PlainDocEvent) → is_opening e ≡ true → is_closing e ≡ false
+end_deeper : (inner place : ℕ) (e : PlainDocEvent) (later : List PlainDocEvent) → is_opening e ≡ true → is_closing e
+    ≡ false
     → end_place inner place (e ∷ later) ≡ end_place (inner + 1) (place + 1) later
 end_deeper inner place e later o c = rw (c, o)
 
@@ -59,11 +66,13 @@ less_one n = omega arith
 more_than_none : (n : ℕ) → (n + 1 == 0) ≡ false
 more_than_none n = ne_eqb (n + 1) 0 (λ h. omega arith)
 
-end_outer : (inner place : ℕ) (e : PlainDocEvent) (later : List PlainDocEvent) → is_opening e ≡ false → is_closing e ≡ true
+end_outer : (inner place : ℕ) (e : PlainDocEvent) (later : List PlainDocEvent) → is_opening e ≡ false → is_closing e
+    ≡ true
     → end_place (inner + 1) place (e ∷ later) ≡ end_place inner (place + 1) later
 end_outer inner place e later o c = rw (c, o, less_one inner, more_than_none inner)
 
-end_here : (place : ℕ) (e : PlainDocEvent) (later : List PlainDocEvent) → is_closing e ≡ true → end_place 0 place (e ∷ later) ≡ place
+end_here : (place : ℕ) (e : PlainDocEvent) (later : List PlainDocEvent) → is_closing e ≡ true
+    → end_place 0 place (e ∷ later) ≡ place
 end_here place e later c = rw c
 
 -- no event begins one collection and ends another
@@ -117,7 +126,8 @@ behind xs ys x = append_assoc xs (x ∷ []) ys
 one_longer : {X : Type 0} (xs : List X) (x : X) → length (xs ++ x ∷ []) ≡ length xs + 1
 one_longer xs x = length-append xs (x ∷ [])
 
-module _ (front : List ℕ) (seen : List PlainDocEvent) (old : EndsView) (h : HasNumbers front seen old) (e : PlainDocEvent) where
+module _ (front : List ℕ) (seen : List PlainDocEvent) (old : EndsView) (h : HasNumbers front seen old)
+    (e : PlainDocEvent) where
   abbrev size : ℕ
   size = length seen
 
@@ -149,7 +159,8 @@ module _ (front : List ℕ) (seen : List PlainDocEvent) (old : EndsView) (h : Ha
       ∙ ap (λ ns. filled starts 0 size (e ∷ later) old.numbers ++ ns) (sym (number_passes size e later o))
       ∙ h.all (e ∷ later)
 
-  pub passes : (new : EndsView) (place : ℕ) → place ≡ size → is_opening e ≡ false → is_closing e ≡ false → AreIn old.numbers old.unended
+  pub passes : (new : EndsView) (place : ℕ) → place ≡ size → is_opening e ≡ false → is_closing e ≡ false
+      → AreIn old.numbers old.unended
       → new.numbers ≡ old.numbers ++ place ∷ [] → new.unended ≡ old.unended → HasNumbers front (seen ++ e ∷ []) new
   passes new place p o c within n u =
       let are : new.numbers ≡ old.numbers ++ size ∷ [] = n ∙ ap (λ i. old.numbers ++ i ∷ []) p in
@@ -163,7 +174,8 @@ module _ (front : List ℕ) (seen : List PlainDocEvent) (old : EndsView) (h : Ha
   begun o within later =
       let starts = reverse old.unended in
       let v = end_place 0 (size + 1) later in
-      ap (λ ns. filled starts 1 (size + 1) later ns ++ ends_from (size + 1) later) (set-append_seam old.numbers size [] v)
+      ap (λ ns. filled starts 1 (size + 1) later ns ++ ends_from (size + 1) later)
+      (set-append_seam old.numbers size [] v)
       ∙ ap (λ ns. ns ++ ends_from (size + 1) later) (filled_push starts 1 (size + 1) later old.numbers v within)
       ∙ behind (filled starts 1 (size + 1) later old.numbers) (ends_from (size + 1) later) v
       ∙ ap (λ ns. ns ++ v ∷ ends_from (size + 1) later) (sym (filled_deeper e later starts 0 size old.numbers o))
@@ -175,7 +187,8 @@ module _ (front : List ℕ) (seen : List PlainDocEvent) (old : EndsView) (h : Ha
       → HasNumbers front (seen ++ e ∷ []) new
   begins new place p o within n u =
       let are : new.numbers ≡ old.numbers ++ size ∷ [] = n ∙ ap (λ i. old.numbers ++ i ∷ []) p in
-      let counted = subst (Counted (old.numbers ++ size ∷ [])) (sym (reverse-append old.unended (length old.numbers ∷ [])))
+      let counted = subst (Counted (old.numbers ++ size ∷ []))
+      (sym (reverse-append old.unended (length old.numbers ∷ [])))
       (begun o (All-reverse (λ (s : ℕ). s < length old.numbers) old.unended within)) in
       subst (λ ns. HasNumbers front (seen ++ e ∷ []) (ends_with ns new.unended)) (sym are)
       (subst (λ us. HasNumbers front (seen ++ e ∷ []) (ends_with (old.numbers ++ size ∷ []) us)) (sym u)
@@ -192,12 +205,15 @@ module _ (front : List ℕ) (seen : List PlainDocEvent) (old : EndsView) (h : Ha
       ∙ ap (λ n. filled rest 1 size (e ∷ later) (set old.numbers start n) ++ size ∷ ends_from (size + 1) later)
       (sym (end_here size e later c))
       ∙ ap (λ ss. filled ss 0 size (e ∷ later) old.numbers ++ size ∷ ends_from (size + 1) later) (sym is)
-      ∙ ap (λ ns. filled (reverse old.unended) 0 size (e ∷ later) old.numbers ++ ns) (sym (number_passes size e later o))
+      ∙ ap (λ ns. filled (reverse old.unended) 0 size (e ∷ later) old.numbers ++ ns)
+      (sym (number_passes size e later o))
       ∙ h.all (e ∷ later)
 
-  pub ends : (new : EndsView) (place start : ℕ) (rest : List ℕ) → place ≡ size → is_opening e ≡ false → is_closing e ≡ true
+  pub ends : (new : EndsView) (place start : ℕ) (rest : List ℕ) → place ≡ size → is_opening e ≡ false → is_closing e
+      ≡ true
       → AreIn old.numbers old.unended → old.unended ≡ rest ++ start ∷ []
-      → new.numbers ≡ set old.numbers start place ++ place ∷ [] → new.unended ≡ rest → HasNumbers front (seen ++ e ∷ []) new
+      → new.numbers ≡ set old.numbers start place ++ place ∷ [] → new.unended ≡ rest
+      → HasNumbers front (seen ++ e ∷ []) new
   ends new place start rest p o c within was n u =
       let are : new.numbers ≡ set old.numbers start size ++ size ∷ [] =
       n ∙ ap (λ i. set old.numbers start i ++ i ∷ []) p in
@@ -230,11 +246,14 @@ module _ (front : List ℕ) (seen : List PlainDocEvent) (old : EndsView) (h : Ha
 filled_at_end : (starts : List ℕ) (inner other place : ℕ) (numbers : List ℕ)
     → filled starts inner place [] numbers ≡ filled starts other place [] numbers
 filled_at_end [] inner other place numbers = refl
-filled_at_end (s ∷ starts) inner other place numbers = filled_at_end starts (inner + 1) (other + 1) place (set numbers s place)
+filled_at_end (s ∷ starts) inner other place numbers =
+    filled_at_end starts (inner + 1) (other + 1) place (set numbers s place)
 
 -- one open collection more is ended
-pub finish_more : (old new rest : List ℕ) (start place : ℕ) (numbers set_ all : List ℕ) → old ≡ rest ++ start ∷ [] → new ≡ rest
-    → set_ ≡ set numbers start place → filled (reverse old) 0 place [] numbers ≡ all → filled (reverse new) 0 place [] set_ ≡ all
+pub finish_more : (old new rest : List ℕ) (start place : ℕ) (numbers set_ all : List ℕ) → old ≡ rest ++ start ∷ [] → new
+    ≡ rest
+    → set_ ≡ set numbers start place → filled (reverse old) 0 place [] numbers ≡ all
+    → filled (reverse new) 0 place [] set_ ≡ all
 finish_more old new rest start place numbers set_ all was is s found =
     ap (λ us. filled (reverse us) 0 place [] set_) is ∙ ap (filled (reverse rest) 0 place []) s
     ∙ filled_at_end (reverse rest) 0 1 place (set numbers start place)
@@ -252,7 +271,8 @@ finished front seen old place unended numbers h p u found =
     ∙ h.all [] ∙ ap (λ es. front ++ ends_of es) (append-nil seen)
 
 -- before the first event
-pub none_seen : (front : List ℕ) (ends_ : EndsView) → ends_.numbers ≡ front → ends_.unended ≡ [] → HasNumbers front [] ends_
+pub none_seen : (front : List ℕ) (ends_ : EndsView) → ends_.numbers ≡ front → ends_.unended ≡ []
+    → HasNumbers front [] ends_
 none_seen front ends_ n u = record {
   long = omega (arith, ap length n);
   all = λ later.
@@ -270,7 +290,8 @@ get_or-front (y ∷ xs) x zero d l = refl
 get_or-front (y ∷ xs) x (suc k) d l = get_or-front xs x k d (omega arith)
 
 -- the last start, and those in front of it, lie within the numbers
-pub last_in : (numbers rest unended : List ℕ) (start : ℕ) → unended ≡ rest ++ start ∷ [] → AreIn numbers unended → start < length numbers
+pub last_in : (numbers rest unended : List ℕ) (start : ℕ) → unended ≡ rest ++ start ∷ [] → AreIn numbers unended
+    → start < length numbers
 last_in numbers rest unended start is h =
     let here = subst (AreIn numbers) is h (length rest) start (omega (arith, one_longer rest start)) in
     subst (λ n. n < length numbers) (get_or-seam rest start) here
@@ -283,13 +304,16 @@ in_front numbers set_ rest unended start is same h k d l =
     omega (arith, same)
 
 -- a number is bounded, and those behind it
-pub bounded_more : (bound at : ℕ) (numbers : List ℕ) (n d : ℕ) → at < length numbers → n ≡ min (get_or numbers at d) bound
+pub bounded_more : (bound at : ℕ) (numbers : List ℕ) (n d : ℕ) → at < length numbers → n
+    ≡ min (get_or numbers at d) bound
     → bounded_from bound (at + 1) (set numbers at n) ≡ bounded_from bound at numbers
 bounded_more bound at [] n d l is = absurd (omega arith)
-bounded_more bound zero (x ∷ numbers) n d l is = let e : n ≡ min bound x = omega (arith, is) in ap (λ m. m ∷ map (min bound) numbers) e
+bounded_more bound zero (x ∷ numbers) n d l is = let e : n ≡ min bound x = omega (arith, is) in
+    ap (λ m. m ∷ map (min bound) numbers) e
 bounded_more bound (suc at) (x ∷ numbers) n d l is =
     let e : suc at + 1 ≡ suc (at + 1) = omega arith in
-    ap (λ k. bounded_from bound k (x ∷ set numbers at n)) e ∙ ap (λ ns. x ∷ ns) (bounded_more bound at numbers n d (omega arith) is)
+    ap (λ k. bounded_from bound k (x ∷ set numbers at n)) e
+    ∙ ap (λ ns. x ∷ ns) (bounded_more bound at numbers n d (omega arith) is)
 
 -- and then all are
 pub bounded_all : (bound at : ℕ) (numbers : List ℕ) → length numbers ≤ at → bounded_from bound at numbers ≡ numbers
@@ -299,6 +323,7 @@ bounded_all bound (suc at) [] l = refl
 bounded_all bound (suc at) (x ∷ numbers) l = ap (λ ns. x ∷ ns) (bounded_all bound at numbers (omega arith))
 
 -- where no collection is open, the numbers are those of the events
-pub none_open : (front : List ℕ) (seen : List PlainDocEvent) (ends_ : EndsView) → HasNumbers front seen ends_ → ends_.unended ≡ []
+pub none_open : (front : List ℕ) (seen : List PlainDocEvent) (ends_ : EndsView) → HasNumbers front seen ends_
+    → ends_.unended ≡ []
     → ends_.numbers ≡ front ++ ends_of seen
 none_open front seen ends_ h u = finished front seen ends_ (length seen) ends_.unended ends_.numbers h refl u refl

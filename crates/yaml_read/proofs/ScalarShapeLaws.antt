@@ -24,7 +24,8 @@ use Rattle.yaml_read.specs.CoreTags.{bool_tag, int_tag}
 use Rattle.yaml_read.specs.Presence.{is_absent, is_empty_plain}
 use Rattle.yaml_read.specs.ScalarAny.{any_scalar}
 use Rattle.yaml_read.specs.ScalarFound.{wrong_value}
-use Rattle.yaml_read.specs.ScalarShapes.{plain_text, text_of, signed_text, unsigned_text, signed_between, unsigned_up_to}
+use Rattle.yaml_read.specs.ScalarShapes.{plain_text, text_of, signed_text, unsigned_text, signed_between}
+use Rattle.yaml_read.specs.ScalarShapes.{unsigned_up_to}
 use Rattle.yaml_read.specs.ScalarShapes.{integer_answer, only_one, one_character, lent_text, no_elements}
 use Rattle.yaml_read.specs.ScalarShapes.{scalar_answer, void_answer}
 use Rattle.yaml_read.specs.Steps.{◌>>=◌}
@@ -64,21 +65,26 @@ module _ (schema : List PlainShape) where
 
   signed-has : (i : IntegerType) → has_sign i ≡ true → (text : Option (List ℕ))
       (fault : Cause) (v : PlainData)
-      → option_map_or (signed_between (least i) (greatest i) (integer_text i)) (option_and_then (signed_text i) text) (Err fault) ≡ Ok v
+      → option_map_or (signed_between (least i) (greatest i) (integer_text i)) (option_and_then (signed_text i) text)
+      (Err fault) ≡ Ok v
       → is_of schema (integer_shape i) v ≡ true
   signed-has i sign text fault v h =
-      let a = answered (signed_between (least i) (greatest i) (integer_text i)) (option_and_then (signed_text i) text) fault v h in
+      let a = answered (signed_between (least i) (greatest i) (integer_text i))
+      (option_and_then (signed_text i) text) fault v h in
       let t = tested (is_of_type i a.0) (signed_data a.0) v (wrong_value (Signed a.0) (integer_text i)) a.2 in
       moved (integer_shape i) (signed_data a.0) v t.1 (both (has_sign i) (is_of_type i a.0) sign t.0)
 
   unsigned-has : (i : IntegerType) → (text : Option (List ℕ))
       → ((n : ℕ) → nat_le n (2 ^ bits_of i - 1) ≡ true → (not (has_sign i) && is_of_type i (pos n)) ≡ true)
       → (fault : Cause) (v : PlainData)
-      → option_map_or (unsigned_up_to (2 ^ bits_of i - 1) (integer_text i)) (option_and_then (unsigned_text i) text) (Err fault) ≡ Ok v
+      → option_map_or (unsigned_up_to (2 ^ bits_of i - 1) (integer_text i)) (option_and_then (unsigned_text i) text)
+      (Err fault) ≡ Ok v
       → is_of schema (integer_shape i) v ≡ true
   unsigned-has i text fits fault v h =
-      let a = answered (unsigned_up_to (2 ^ bits_of i - 1) (integer_text i)) (option_and_then (unsigned_text i) text) fault v h in
-      let t = tested (nat_le a.0 (2 ^ bits_of i - 1)) (unsigned_data a.0) v (wrong_value (Unsigned a.0) (integer_text i)) a.2 in
+      let a = answered (unsigned_up_to (2 ^ bits_of i - 1) (integer_text i))
+      (option_and_then (unsigned_text i) text) fault v h in
+      let t = tested (nat_le a.0 (2 ^ bits_of i - 1)) (unsigned_data a.0) v
+      (wrong_value (Unsigned a.0) (integer_text i)) a.2 in
       moved (integer_shape i) (unsigned_data a.0) v t.1 (fits a.0 t.0)
 
   integer-has : (i : IntegerType) (text : Option (List ℕ)) (fault : Cause)

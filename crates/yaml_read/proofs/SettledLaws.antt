@@ -1,18 +1,21 @@
 -- Where the aliases of a draft have got their targets, its events are those of the document.
 use Rattle.std.proofs.Common.{◌≡◌, ℕ, suc, ◌+◌, ◌≤◌, List, [], ◌∷◌, ◌++◌, map, length, take, min}
-use Rattle.std.proofs.Common.{refl, sym, ◌∙◌, ap, subst, arith, append_assoc, append-nil, length-append, take_all, Option, Some, None, All, IsTrue}
+use Rattle.std.proofs.Common.{refl, sym, ◌∙◌, ap, subst, arith, append_assoc, append-nil, length-append, take_all}
+use Rattle.std.proofs.Common.{Option, Some, None, All, IsTrue}
 use Rattle.std.proofs.Common.{Bool, true, false, inl, inr, option_map, cond, ◌&&◌, ◌==◌}
 use Rattle.std.specs.Prelude.{slice_get}
 use Rattle.std.proofs.lemmas.Bool.{cases_Bool}
 use Rattle.std.proofs.lemmas.List.{length-map}
 use Rattle.std.proofs.lemmas.List.Elements.{All-tail}
 use Rattle.yaml_base.specs.Position.{Position}
-use Rattle.yaml_base.specs.PlainEvent.{PlainEvent, stream_start, stream_end, document_start, document_end, alias, scalar}
+use Rattle.yaml_base.specs.PlainEvent.{PlainEvent, stream_start, stream_end, document_start, document_end, alias}
+use Rattle.yaml_base.specs.PlainEvent.{scalar}
 use Rattle.yaml_base.specs.PlainEvent.{sequence_start, sequence_end, mapping_start, mapping_end}
 use Rattle.yaml_read.specs.Documents.{Find, Input, becomes, known_events, or_mark, then_events, unknown_mark}
 use Rattle.yaml_read.specs.Ends.{end_place, ends_from, ends_of, inner_after, is_closing, is_opening}
 use Rattle.yaml_read.specs.PlainDocEvent.{PlainDocEvent, alias_to}
-use Rattle.yaml_read.specs.inner.Drafts.{Settled, aimed, aliases_in, all_drafted, drafted, drafts_of, is_of_node, settle, settled}
+use Rattle.yaml_read.specs.inner.Drafts.{Settled, aimed, aliases_in, all_drafted, drafted, drafts_of, is_of_node}
+use Rattle.yaml_read.specs.inner.Drafts.{settle, settled}
 
 abbrev Marked : Type 0
 Marked = List (PlainDocEvent × Position)
@@ -49,7 +52,8 @@ aimed_at [] later e target = refl
 aimed_at (x ∷ front) later e target = ap (λ es. x ∷ es) (aimed_at front later e target)
 
 -- one event more that is known
-settled_step : (find : Find) (place : ℕ) (seen : Input) (front : Marked) (e : PlainEvent) (mark : Position) (d : PlainDocEvent)
+settled_step : (find : Find) (place : ℕ) (seen : Input) (front : Marked) (e : PlainEvent) (mark : Position)
+    (d : PlainDocEvent)
     (r : Settled) → becomes find place e ≡ Some d → IsSettled find (place + 1) seen (front ++ (d, mark) ∷ []) r
     → IsSettled find place ((e, mark) ∷ seen) front r
 settled_step find place seen front e mark d (events, None) is h = (
@@ -71,19 +75,23 @@ settled_alias : (find : Find) (seen : Input) (front : Marked) (a : List ℕ) (ma
     → IsSettled find place ((alias a, mark) ∷ seen) front
     (settle o place (front ++ (alias_to 0, mark) ∷ all_drafted seen) (settled find (aliases_in (place + 1) seen)))
 settled_alias find seen front a mark None place at is later = (
-  ap (λ n. take n (front ++ (alias_to 0, mark) ∷ all_drafted seen)) at ∙ take_front front ((alias_to 0, mark) ∷ all_drafted seen)
+  ap (λ n. take n (front ++ (alias_to 0, mark) ∷ all_drafted seen)) at
+      ∙ take_front front ((alias_to 0, mark) ∷ all_drafted seen)
       ∙ sym (append-nil front)
       ∙ ap (λ t. front ++ then_events (option_map alias_to t) mark (known_events find (place + 1) seen)) (sym is),
   ap (λ t. or_mark (option_map alias_to t) mark (unknown_mark find (place + 1) seen)) is
       ∙ sym (ap (option_map (λ (e : PlainDocEvent × Position). e.1))
-      (ap (slice_get (front ++ (alias_to 0, mark) ∷ all_drafted seen)) at ∙ get_behind front (all_drafted seen) (alias_to 0, mark))),
+      (ap (slice_get (front ++ (alias_to 0, mark) ∷ all_drafted seen)) at
+      ∙ get_behind front (all_drafted seen) (alias_to 0, mark))),
 )
 settled_alias find seen front a mark (Some target) place at is later =
     let es : aimed place target (front ++ (alias_to 0, mark) ∷ all_drafted seen)
     ≡ (front ++ (alias_to target, mark) ∷ []) ++ all_drafted seen =
     ap (λ n. aimed n target (front ++ (alias_to 0, mark) ∷ all_drafted seen)) at
-    ∙ aimed_at front (all_drafted seen) (alias_to 0, mark) target ∙ sym (behind front (all_drafted seen) (alias_to target, mark)) in
-    subst (λ x. IsSettled find place ((alias a, mark) ∷ seen) front (settled find (aliases_in (place + 1) seen) x)) (sym es)
+    ∙ aimed_at front (all_drafted seen) (alias_to 0, mark) target
+    ∙ sym (behind front (all_drafted seen) (alias_to target, mark)) in
+    subst (λ x. IsSettled find place ((alias a, mark) ∷ seen) front (settled find (aliases_in (place + 1) seen) x))
+    (sym es)
     (settled_step find place seen front (alias a) mark (alias_to target) _ (ap (option_map alias_to) is) (later target))
 
 settled_plain : (find : Find) (seen : Input) (place : ℕ) (front : Marked) (e : PlainEvent) (mark : Position)
@@ -94,7 +102,8 @@ settled_plain : (find : Find) (seen : Input) (place : ℕ) (front : Marked) (e :
     (settled find (aliases_in (place + 1) seen) (front ++ (drafted e, mark) ∷ all_drafted seen))
 settled_plain find seen place front e mark is next =
     settled_step find place seen front e mark (drafted e) _ is
-    (subst (λ es. IsSettled find (place + 1) seen (front ++ (drafted e, mark) ∷ []) (settled find (aliases_in (place + 1) seen) es))
+    (subst (λ es. IsSettled find (place + 1) seen (front ++ (drafted e, mark) ∷ [])
+    (settled find (aliases_in (place + 1) seen) es))
     (behind front (all_drafted seen) (drafted e, mark)) next)
 
 nodes_left : (e : PlainEvent × Position) (seen : Input) → ToNodes (e ∷ seen) → ToNodes seen
@@ -115,7 +124,8 @@ settled_from find ((scalar s, mark) ∷ seen) place front at nodes =
 settled_from find ((sequence_start a t, mark) ∷ seen) place front at nodes =
     settled_plain find seen place front (sequence_start a t) mark refl
     (settled_from find seen (place + 1) (front ++ (drafted (sequence_start a t), mark) ∷ [])
-    (omega (arith, at, one_longer front (drafted (sequence_start a t), mark))) (nodes_left (sequence_start a t, mark) seen nodes))
+    (omega (arith, at, one_longer front (drafted (sequence_start a t), mark)))
+    (nodes_left (sequence_start a t, mark) seen nodes))
 settled_from find ((sequence_end, mark) ∷ seen) place front at nodes =
     settled_plain find seen place front sequence_end mark refl
     (settled_from find seen (place + 1) (front ++ (drafted sequence_end, mark) ∷ [])
@@ -123,7 +133,8 @@ settled_from find ((sequence_end, mark) ∷ seen) place front at nodes =
 settled_from find ((mapping_start a t, mark) ∷ seen) place front at nodes =
     settled_plain find seen place front (mapping_start a t) mark refl
     (settled_from find seen (place + 1) (front ++ (drafted (mapping_start a t), mark) ∷ [])
-    (omega (arith, at, one_longer front (drafted (mapping_start a t), mark))) (nodes_left (mapping_start a t, mark) seen nodes))
+    (omega (arith, at, one_longer front (drafted (mapping_start a t), mark)))
+    (nodes_left (mapping_start a t, mark) seen nodes))
 settled_from find ((mapping_end, mark) ∷ seen) place front at nodes =
     settled_plain find seen place front mapping_end mark refl
     (settled_from find seen (place + 1) (front ++ (drafted mapping_end, mark) ∷ [])
@@ -138,10 +149,12 @@ settled_from find ((document_end, mark) ∷ seen) place front at nodes =
     absurd (let h = nodes 0 (document_end, mark) (omega arith) in cc)
 
 -- the aliases of a document
-pub settled_whole : (find : Find) (seen : Input) (events now : Marked) (o : Option ℕ) → ToNodes seen → events ≡ all_drafted seen
+pub settled_whole : (find : Find) (seen : Input) (events now : Marked) (o : Option ℕ) → ToNodes seen → events
+    ≡ all_drafted seen
     → settled find (aliases_in 0 seen) events ≡ (now, o) → IsSettled find 0 seen [] (now, o)
 settled_whole find seen events now o nodes are is =
-    subst (IsSettled find 0 seen []) (ap (settled find (aliases_in 0 seen)) (sym are) ∙ is) (settled_from find seen 0 [] refl nodes)
+    subst (IsSettled find 0 seen []) (ap (settled find (aliases_in 0 seen)) (sym are) ∙ is)
+    (settled_from find seen 0 [] refl nodes)
 
 -- how an event and what it becomes begin and end collections
 abbrev Alike : PlainEvent → Option PlainDocEvent → Type 0
@@ -192,7 +205,8 @@ end_like : (inner place : ℕ) (d e : PlainDocEvent) (events : List PlainDocEven
 end_like inner place d e events o c = rw (o, c)
 
 -- the ends of known events are bounded by how many there are
-end_cut_by : (o : Option PlainDocEvent) (e : PlainEvent) (mark : Position) (known : Marked) (drafts : List PlainDocEvent)
+end_cut_by : (o : Option PlainDocEvent) (e : PlainEvent) (mark : Position) (known : Marked)
+    (drafts : List PlainDocEvent)
     (inner place : ℕ) → Alike e o
     → ((i p : ℕ) → end_place i p (bare known) ≡ min (p + length known) (end_place i p drafts))
     → end_place inner place (bare (then_events o mark known))
@@ -215,14 +229,17 @@ end_cut find (e ∷ seen) from inner place =
     (alike find from e.0) (end_cut find seen (from + 1))
 
 -- so are all numbers
-number_cut : (o : Bool) (x y place bound : ℕ) → x ≡ min bound y → place ≤ bound → cond o x place ≡ min bound (cond o y place)
+number_cut : (o : Bool) (x y place bound : ℕ) → x ≡ min bound y → place ≤ bound → cond o x place
+    ≡ min bound (cond o y place)
 number_cut true x y place bound h l = h
 number_cut false x y place bound h l = omega arith
 
-ends_cut_by : (o : Option PlainDocEvent) (e : PlainEvent) (mark : Position) (known : Marked) (drafts : List PlainDocEvent)
+ends_cut_by : (o : Option PlainDocEvent) (e : PlainEvent) (mark : Position) (known : Marked)
+    (drafts : List PlainDocEvent)
     (place : ℕ) → Alike e o
     → end_place 0 (place + 1) (bare known) ≡ min (place + 1 + length known) (end_place 0 (place + 1) drafts)
-    → ends_from (place + 1) (bare known) ≡ map (min (place + 1 + length known)) (take (length known) (ends_from (place + 1) drafts))
+    → ends_from (place + 1) (bare known) ≡ map (min (place + 1 + length known))
+    (take (length known) (ends_from (place + 1) drafts))
     → ends_from place (bare (then_events o mark known))
     ≡ map (min (place + length (then_events o mark known)))
     (take (length (then_events o mark known)) (ends_from place (drafted e ∷ drafts)))
@@ -235,15 +252,18 @@ ends_cut_by (Some d) e mark known drafts place a here later =
     ∙ number_cut (is_opening (drafted e)) (end_place 0 (place + 1) (bare known)) (end_place 0 (place + 1) drafts) place
     (place + suc (length known)) (here ∙ ap (λ k. min k (end_place 0 (place + 1) drafts)) n) (omega arith) in
     ap (λ x. x ∷ ends_from (place + 1) (bare known)) first
-    ∙ ap (λ xs. min (place + suc (length known)) (cond (is_opening (drafted e)) (end_place 0 (place + 1) drafts) place) ∷ xs)
+    ∙ ap (λ xs. min (place + suc (length known)) (cond (is_opening (drafted e)) (end_place 0 (place + 1) drafts) place)
+    ∷ xs)
     (later ∙ ap (λ k. map (min k) (take (length known) (ends_from (place + 1) drafts))) n)
 
 ends_cut : (find : Find) (seen : Input) (from place : ℕ)
     → ends_from place (bare (known_events find from seen))
-    ≡ map (min (place + length (known_events find from seen))) (take (length (known_events find from seen)) (ends_from place (drafts_of seen)))
+    ≡ map (min (place + length (known_events find from seen)))
+    (take (length (known_events find from seen)) (ends_from place (drafts_of seen)))
 ends_cut find [] from place = refl
 ends_cut find (e ∷ seen) from place =
-    ends_cut_by (becomes find from e.0) e.0 e.1 (known_events find (from + 1) seen) (drafts_of seen) place (alike find from e.0)
+    ends_cut_by (becomes find from e.0) e.0 e.1 (known_events find (from + 1) seen) (drafts_of seen) place
+    (alike find from e.0)
     (end_cut find seen (from + 1) 0 (place + 1)) (ends_cut find seen (from + 1) (place + 1))
 
 -- where no alias is unknown all events are known
@@ -256,7 +276,8 @@ known_long : (find : Find) (seen : Input) (from : ℕ) → unknown_mark find fro
     → length (known_events find from seen) ≡ length seen
 known_long find [] from u = refl
 known_long find (e ∷ seen) from u =
-    known_long_by (becomes find from e.0) e.1 (known_events find (from + 1) seen) (unknown_mark find (from + 1) seen) (length seen)
+    known_long_by (becomes find from e.0) e.1 (known_events find (from + 1) seen) (unknown_mark find (from + 1) seen)
+    (length seen)
     (known_long find seen (from + 1)) u
 
 -- numbers of events are below how many there are
@@ -271,7 +292,8 @@ ends_whole (e ∷ events) place bound l =
     ap (λ x. x ∷ map (min bound) (ends_from (place + 1) events))
     (number_whole (is_opening e) (end_place 0 (place + 1) events) place bound
     (let h = end_to 0 (place + 1) events in omega arith) (omega arith))
-    ∙ ap (λ xs. cond (is_opening e) (end_place 0 (place + 1) events) place ∷ xs) (ends_whole events (place + 1) bound (omega arith))
+    ∙ ap (λ xs. cond (is_opening e) (end_place 0 (place + 1) events) place ∷ xs)
+    (ends_whole events (place + 1) bound (omega arith))
 
 length-ends_from : (place : ℕ) (events : List PlainDocEvent) → length (ends_from place events) ≡ length events
 length-ends_from place [] = refl

@@ -19,7 +19,8 @@ abbrev Marked : Type 0
 Marked = List (PlainDocEvent × Position)
 
 -- an event that is set at a place
-aimed_set : (events : Events) (place target : ℕ) (y : DocEvent × Position) → place < length events → y ≡ get_or events place y
+aimed_set : (events : Events) (place target : ℕ) (y : DocEvent × Position) → place < length events → y
+    ≡ get_or events place y
     → marked_events_of (set events place (event.Alias target, y.1)) ≡ aimed place target (marked_events_of events)
 aimed_set [] place target y l is = absurd (omega arith)
 aimed_set (x ∷ events) zero target y l is =
@@ -33,17 +34,21 @@ pub aimed_behind : (events : Events) (from place target : ℕ) (y : DocEvent × 
     ≡ aimed place target (marked_events_of (drop from events))
 aimed_behind events from place target y l is =
     ap marked_events_of (drop-set-add from events place (event.Alias target, y.1))
-    ∙ aimed_set (drop from events) place target y (omega (arith, length-drop from events)) (is ∙ sym (get_or-drop from events place y))
+    ∙ aimed_set (drop from events) place target y (omega (arith, length-drop from events))
+    (is ∙ sym (get_or-drop from events place y))
 
 -- the aliases from one on
 aliases_from : (aliases : List (List ℕ × ℕ)) (i : ℕ) (x : List ℕ × ℕ) → i < length aliases → x ≡ get_or aliases i x
     → drop i aliases ≡ x ∷ drop (i + 1) aliases
 aliases_from aliases i x l is =
-    drop-cons aliases i x l ∙ ap (λ z. z ∷ drop (suc i) aliases) (sym is) ∙ ap (λ n. x ∷ drop n aliases) (sym (add-one i))
+    drop-cons aliases i x l ∙ ap (λ z. z ∷ drop (suc i) aliases) (sym is)
+    ∙ ap (λ n. x ∷ drop n aliases) (sym (add-one i))
 
-module _ (find : Find) (aliases : List (List ℕ × ℕ)) (i : ℕ) (x : List ℕ × ℕ) (l : i < length aliases) (is : x ≡ get_or aliases i x) where
+module _ (find : Find) (aliases : List (List ℕ × ℕ)) (i : ℕ) (x : List ℕ × ℕ) (l : i < length aliases)
+    (is : x ≡ get_or aliases i x) where
   -- the next alias is known
-  pub settled_more : (target : ℕ) (old new : Marked) (all : Settled) → Some target ≡ find x.0 x.1 → new ≡ aimed x.1 target old
+  pub settled_more : (target : ℕ) (old new : Marked) (all : Settled) → Some target ≡ find x.0 x.1 → new
+      ≡ aimed x.1 target old
       → settled find (drop i aliases) old ≡ all → settled find (drop (i + 1) aliases) new ≡ all
   settled_more target old new all found are h =
       ap (settled find (drop (i + 1) aliases)) are
@@ -58,6 +63,7 @@ module _ (find : Find) (aliases : List (List ℕ × ℕ)) (i : ℕ) (x : List �
       ∙ ap (λ (o : Option ℕ). settle o x.1 now (settled find (drop (i + 1) aliases))) (sym found)
 
 -- no alias is left
-pub settled_all : (find : Find) (aliases : List (List ℕ × ℕ)) (i : ℕ) (now : Marked) (all : Settled) → length aliases ≤ i
+pub settled_all : (find : Find) (aliases : List (List ℕ × ℕ)) (i : ℕ) (now : Marked) (all : Settled)
+    → length aliases ≤ i
     → settled find (drop i aliases) now ≡ all → all ≡ (now, None)
 settled_all find aliases i now all l h = sym h ∙ ap (λ xs. settled find xs now) (drop_of_length-le aliases l)

@@ -1,5 +1,6 @@
 -- Texts that a source shows: they are its end, and they are lent where they are UTF-8.
-use Rattle.std.proofs.Common.{◌≡◌, ℕ, ◌-◌, List, length, take, drop, Bool, true, false, refl, ◌∙◌, sym, subst, length-drop}
+use Rattle.std.proofs.Common.{◌≡◌, ℕ, ◌-◌, List, length, take, drop, Bool, true, false, refl, ◌∙◌, sym, subst}
+use Rattle.std.proofs.Common.{length-drop}
 use Rattle.std.specs.Prelude.{nat_eq, Some, None, if◌then◌else◌, Ok, Err}
 use Rattle.std.specs.List.{ends_with}
 use Rattle.std.specs.Option.{option_map_or}

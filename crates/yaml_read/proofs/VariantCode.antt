@@ -1,6 +1,7 @@
 -- The variants of an enum as the code goes over them.
 use Rattle.std.proofs.Common.{◌≡◌, ℕ, zero, suc, ◌+◌, ◌<◌, List, [], ◌∷◌, length, get_or}
-use Rattle.std.proofs.Common.{Option, Some, None, Bool, true, false, refl, sym, ap, subst, ◌∙◌, ◌++◌, arith, add-one, All, length-append}
+use Rattle.std.proofs.Common.{Option, Some, None, Bool, true, false, refl, sym, ap, subst, ◌∙◌, ◌++◌, arith, add-one}
+use Rattle.std.proofs.Common.{All, length-append}
 use Rattle.std.proofs.Common.{String, string_bytes, if◌then◌else◌}
 use Rattle.std.specs.List.{flat_map}
 use Rattle.std.proofs.lemmas.List.{get_or_append_left, get_or-append-add}
@@ -49,7 +50,8 @@ find_past : (variants : Variants) (name : List ℕ) (place : ℕ) (f : List ℕ 
     ≡ behind_by (suc place) (variant_named (drop (suc place) variants) name)
 find_past [] name place f is other = absurd cc
 find_past (g ∷ fs) name zero f is other =
-    rw (ap (λ (o : List ℕ × PlainVariant). bytes_eq o.0 name) (same_some is) ∙ other) (behind_next 0 (variant_named fs name))
+    rw (ap (λ (o : List ℕ × PlainVariant). bytes_eq o.0 name) (same_some is) ∙ other)
+    (behind_next 0 (variant_named fs name))
 find_past (g ∷ fs) name (suc place) f is other =
     behind_up place (variant_named (drop place fs) name) ∙ ap one_further (find_past fs name place f is other)
     ∙ sym (behind_up (suc place) (variant_named (drop (suc place) fs) name))
@@ -68,7 +70,8 @@ find_here (g ∷ fs) name (suc place) f is same =
 -- the same of the code's variants
 pub passed : (variants : Declared) (name : List ℕ) (place : ℕ) (d : String Global × VariantShape)
     → place < length variants → bytes_eq (string_bytes (get_or variants place d).0) name ≡ false
-    → variant_named (variants_of variants) name ≡ behind_by place (variant_named (drop place (variants_of variants)) name)
+    → variant_named (variants_of variants) name ≡ behind_by place
+    (variant_named (drop place (variants_of variants)) name)
     → variant_named (variants_of variants) name
     ≡ behind_by (place + 1) (variant_named (drop (place + 1) (variants_of variants)) name)
 passed variants name place d within other before =
@@ -77,7 +80,8 @@ passed variants name place d within other before =
 
 pub found : (variants : Declared) (name : List ℕ) (place : ℕ) (d e : String Global × VariantShape)
     → place < length variants → bytes_eq (string_bytes (get_or variants place d).0) name ≡ true
-    → variant_named (variants_of variants) name ≡ behind_by place (variant_named (drop place (variants_of variants)) name)
+    → variant_named (variants_of variants) name ≡ behind_by place
+    (variant_named (drop place (variants_of variants)) name)
     → Some (place, content_of (get_or variants place e).1) ≡ variant_named (variants_of variants) name
 found variants name place d e within same before =
     let one : get_or variants place e ≡ get_or variants place d =

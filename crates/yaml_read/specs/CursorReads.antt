@@ -9,7 +9,8 @@ abbrev pub most_steps : PlainLimits → (n : ℕ) → ℕ
 most_steps limits n = 2 * n * (limits.follows * n + 1)
 
 -- How a reading within limits leaves its cursor, by whether it answers data.
-pub record LeavesCursor (limits : PlainLimits) (document : PlainDocument) (old new : PlainCursor) (answered : Bool) : Type 0 where
+pub record LeavesCursor (limits : PlainLimits) (document : PlainDocument) (old new : PlainCursor)
+    (answered : Bool) : Type 0 where
   -- a cursor that is not fresh answers no data, and stays as it is
   pub used : old ≢ fresh_cursor → (answered ≡ false) × (new ≡ old)
   -- a fresh one takes so many steps at most, whether the document is read or refused, whole or cut off

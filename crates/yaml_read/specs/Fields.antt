@@ -1,5 +1,6 @@
 -- What is read of a struct: fields that are found by their names, each at most once.
-use Rattle.std.specs.Prelude.{ℕ, zero, suc, List, [], ◌∷◌, map, set, Option, Some, None, Result, Ok, Err, Bool, true, false, bytes_eq}
+use Rattle.std.specs.Prelude.{ℕ, zero, suc, List, [], ◌∷◌, map, set, Option, Some, None, Result, Ok, Err, Bool, true}
+use Rattle.std.specs.Prelude.{false, bytes_eq}
 use Rattle.std.specs.Prelude.{if◌then◌else◌}
 use Rattle.std.specs.Option.{is_none, option_map}
 use Rattle.yaml_base.specs.declared.error.Cause.{Cause}
@@ -48,11 +49,13 @@ known_field strict fields slots name key None =
 known_field strict fields slots name key (Some f) =
     if is_free slots f.0 then Ok (Some f) else Err (DuplicateField name None)
 
-abbrev pub field_named : (strict : Bool) → Fields → Slots → (name : List ℕ) → (key : Place) → Result (Option (ℕ × ℕ)) Cause
+abbrev pub field_named : (strict : Bool) → Fields → Slots → (name : List ℕ) → (key : Place)
+    → Result (Option (ℕ × ℕ)) Cause
 field_named strict fields slots name key = known_field strict fields slots name key (find fields name)
 
 -- the value behind a name: it is read into its field's place, or stepped over
-abbrev pub field_step : {C : Type 0} → Slots → Option (ℕ × ℕ) → (ℕ → Result (PlainData × C) Cause) → Result (PlainData × C) Cause
+abbrev pub field_step : {C : Type 0} → Slots → Option (ℕ × ℕ) → (ℕ → Result (PlainData × C) Cause)
+    → Result (PlainData × C) Cause
     → Result (Slots × C) Cause
 field_step slots None read skip = wrap (λ v. slots) skip
 field_step slots (Some f) read skip = wrap (λ v. set slots f.0 (Some v)) (read f.1)

@@ -36,7 +36,8 @@ pub data Handing : Type 0 where
   -- an enum that the node's tag does not let be read
   as_refused : Handing
 
--- an optional is present in a node that begins with the event, where its tag is taken or not; an alias is followed first
+-- an optional is present in a node that begins with the event, where its tag is taken or not; an alias is followed
+-- first
 abbrev pub is_content : (taken : Bool) → PlainDocEvent → Bool
 is_content taken (a_scalar w) = is_present taken w
 is_content taken (sequence_begins tag) = true

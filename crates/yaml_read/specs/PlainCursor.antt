@@ -1,12 +1,14 @@
 -- A cursor, as contracts see it, and what stands in its place.
-use Rattle.std.specs.Prelude.{◌≡◌, ◌≢◌, ℕ, ◌+◌, Bool, false, if◌then◌else◌, Option, Some, None, Result, Ok, Err, slice_get}
+use Rattle.std.specs.Prelude.{◌≡◌, ◌≢◌, ℕ, ◌+◌, Bool, false, if◌then◌else◌, Option, Some, None, Result, Ok, Err}
+use Rattle.std.specs.Prelude.{slice_get}
 use Rattle.yaml_base.specs.Position.{Position}
 use Rattle.yaml_base.specs.declared.error.Cause.{Cause}
 use Rattle.yaml_base.specs.declared.error.Cause.TheVariants.{EndOfStream}
 use Rattle.yaml_read.specs.PlainDocEvent.{PlainDocEvent}
 use Rattle.yaml_read.specs.PlainDocument.{PlainDocument}
 
--- the place of its next event, whether it refused a reading that it was fresh for, and its steps: one for each event gone over
+-- the place of its next event, whether it refused a reading that it was fresh for, and its steps: one for each event
+-- gone over
 pub record PlainCursor : Type 0 where
   pub place : ℕ
   pub refused : Bool

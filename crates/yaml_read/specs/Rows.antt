@@ -32,7 +32,8 @@ one_more read skip row = row_step row.left row.read row.extra read skip
 -- the tuple of so many elements, where it has just these; what too few of them are told to lack is handed in
 abbrev pub row_end : (few : List ℕ) → (count : ℕ) → List ℕ → List PlainData → ℕ → Result PlainData Cause
 row_end few count [] vs extra =
-    if extra == 0 then Ok (tuple_data (items_of vs)) else Err (InvalidLength (length vs + extra) (sequence_text count) None)
+    if extra == 0 then Ok (tuple_data (items_of vs)) else Err
+    (InvalidLength (length vs + extra) (sequence_text count) None)
 row_end few count (id ∷ ids) vs extra = Err (InvalidLength (length vs) few None)
 
 abbrev pub row_data : (few : List ℕ) → (count : ℕ) → Row → Result PlainData Cause

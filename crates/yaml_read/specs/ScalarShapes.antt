@@ -15,8 +15,10 @@ use Rattle.yaml_shape.specs.IntegerTypes.{bits_of, has_sign, least, greatest}
 use Rattle.yaml_shape.specs.PlainData.{PlainData, any_data, bool_data, char_data, signed_data, unsigned_data, text_data}
 use Rattle.yaml_shape.specs.PlainData.{none_data}
 use Rattle.yaml_shape.specs.PlainData.{unit_data, seq_data, tuple_data, map_data, no_items, no_entries}
-use Rattle.yaml_shape.specs.PlainShape.{IntegerType, i64, i128, u64, u128, PlainShape, any_shape, bool_shape, char_shape}
-use Rattle.yaml_shape.specs.PlainShape.{integer_shape, str_shape, identifier_shape, bytes_shape, option_shape, unit_shape}
+use Rattle.yaml_shape.specs.PlainShape.{IntegerType, i64, i128, u64, u128, PlainShape, any_shape, bool_shape}
+use Rattle.yaml_shape.specs.PlainShape.{char_shape}
+use Rattle.yaml_shape.specs.PlainShape.{integer_shape, str_shape, identifier_shape, bytes_shape, option_shape}
+use Rattle.yaml_shape.specs.PlainShape.{unit_shape}
 use Rattle.yaml_shape.specs.PlainShape.{unit_struct_shape, seq_shape, tuple_shape, tuple_struct_shape}
 use Rattle.yaml_shape.specs.PlainShape.{map_shape, enum_shape, tuple_variant_shape}
 use Rattle.yaml_tree.specs.Tree.{null}

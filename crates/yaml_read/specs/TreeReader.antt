@@ -9,7 +9,8 @@ use Rattle.yaml_shape.specs.DataView.{items_of, entries_of}
 use Rattle.yaml_shape.specs.Expected.{tuple_text, tuple_struct_text, tuple_variant_with_text}
 use Rattle.yaml_shape.specs.PlainData.{PlainData, any_data, variant_data, seq_data, map_data, ignored_data, some_data}
 use Rattle.yaml_shape.specs.PlainData.{newtype_data}
-use Rattle.yaml_shape.specs.PlainShape.{PlainShape, seq_shape, tuple_shape, tuple_struct_shape, map_shape, struct_shape, shape_at}
+use Rattle.yaml_shape.specs.PlainShape.{PlainShape, seq_shape, tuple_shape, tuple_struct_shape, map_shape, struct_shape}
+use Rattle.yaml_shape.specs.PlainShape.{shape_at}
 use Rattle.yaml_shape.specs.PlainShape.{identifier_shape, any_shape, tuple_variant_shape, struct_variant_shape}
 use Rattle.yaml_shape.specs.PlainShape.{content_shape}
 use Rattle.yaml_tree.specs.Tree.{sequence, tagged}
@@ -53,11 +54,13 @@ each_node part s no_nodes at = Ok (s, at.left)
 each_node part s (node n ns) at = part s n at >>= λ x. each_node part x.0 ns (behind at n x.1)
 
 -- the pairs from left to right: each key, and then its value from what the key gave
-abbrev pub each_pair : {S T : Type 0} → (key : S → DocNode → Spot → Answer T) → (value : S → T → DocNode → Spot → Answer S)
+abbrev pub each_pair : {S T : Type 0} → (key : S → DocNode → Spot → Answer T)
+    → (value : S → T → DocNode → Spot → Answer S)
     → S → DocPairs → Spot → Answer S
 each_pair key value s no_pairs at = Ok (s, at.left)
 each_pair key value s (pair m n ps) at =
-    key s m at >>= λ k. value s k.0 n (behind at m k.1) >>= λ x. each_pair key value x.0 ps (behind (behind at m k.1) n x.1)
+    key s m at >>= λ k. value s k.0 n (behind at m k.1) >>= λ x.
+    each_pair key value x.0 ps (behind (behind at m k.1) n x.1)
 
 -- reads a node under a shape, with so many nestings left, and what took its tag, if it is taken; the spot is that of
 -- the node
@@ -65,7 +68,8 @@ abbrev pub TreeReader : Type 0
 TreeReader = PlainShape → (nest : ℕ) → (taken : Option Around) → DocNode → Spot → Answer PlainData
 
 -- one more element
-abbrev pub item_of : (Way → TreeReader) → Way → PlainShape → (nest : ℕ) → List PlainData → DocNode → Spot → Answer (List PlainData)
+abbrev pub item_of : (Way → TreeReader) → Way → PlainShape → (nest : ℕ) → List PlainData → DocNode → Spot
+    → Answer (List PlainData)
 item_of read way s nest vs n at = wrap (λ v. vs ++ v ∷ []) (read (element_under way (length vs)) s nest None n at)
 
 -- a key, with the way to its value
@@ -80,15 +84,18 @@ any_key_of read way nest vs n at =
     finish (λ k. new_key vs k >>= λ k. Ok (value_under way (first_event n), k)) (read way any_shape nest None n at)
 
 -- one more value, behind its key
-abbrev pub value_of : (Way → TreeReader) → PlainShape → (nest : ℕ) → List (PlainData × PlainData) → Way × PlainData → DocNode → Spot
+abbrev pub value_of : (Way → TreeReader) → PlainShape → (nest : ℕ) → List (PlainData × PlainData) → Way × PlainData
+    → DocNode → Spot
     → Answer (List (PlainData × PlainData))
 value_of read s nest vs k n at = wrap (λ v. vs ++ (k.1, v) ∷ []) (read k.0 s nest None n at)
 
 -- The key of a field, under which the value is read or stepped over, with the way to the value.
-abbrev pub field_key : (Way → TreeReader) → (marks : ℕ → Position) → Way → (strict : Bool) → Fields → (nest : ℕ) → Slots → DocNode → Spot
+abbrev pub field_key : (Way → TreeReader) → (marks : ℕ → Position) → Way → (strict : Bool) → Fields → (nest : ℕ) → Slots
+    → DocNode → Spot
     → Answer (Option (ℕ × ℕ) × Way)
 field_key read marks way strict fields nest slots m at =
-    finish (λ k. field_named strict fields slots (name_in k) (record { mark = marks (text_place (first_event m) at.place); path = way.text })
+    finish (λ k. field_named strict fields slots (name_in k)
+    (record { mark = marks (text_place (first_event m) at.place); path = way.text })
     >>= λ f. Ok (f, value_under way (first_event m))) (read way identifier_shape nest None m at)
 
 -- the target of an alias, with its number
@@ -109,13 +116,15 @@ module _ (table : List PlainShape) where
       enter nest mark (λ n. finish (row_data few (length ids)) (each_node (row_part read way n) (row_of ids) ns at))
 
   -- the value behind the key of a field
-  abbrev pub field_value : (Way → TreeReader) → (nest : ℕ) → Slots → Option (ℕ × ℕ) × Way → DocNode → Spot → Answer Slots
+  abbrev pub field_value : (Way → TreeReader) → (nest : ℕ) → Slots → Option (ℕ × ℕ) × Way → DocNode → Spot
+      → Answer Slots
   field_value read nest slots k n at =
       field_step slots k.0 (λ id. with_shape (shape_at table id) (λ s. read k.1 s nest None n at))
       (Ok (ignored_data, at.left))
 
   -- the fields of a struct
-  abbrev pub fields_by : (Way → TreeReader) → (marks : ℕ → Position) → Way → (strict : Bool) → Fields → ℕ → Position → DocPairs → Spot
+  abbrev pub fields_by : (Way → TreeReader) → (marks : ℕ → Position) → Way → (strict : Bool) → Fields → ℕ → Position
+      → DocPairs → Spot
       → Answer PlainData
   fields_by read marks way strict fields nest mark ps at =
       enter nest mark (λ n. finish (struct_of table fields)
@@ -137,11 +146,13 @@ module _ (table : List PlainShape) where
   sequence_of read way s nest mark ns at = Err (sequence_fault s)
 
   -- a mapping, likewise
-  abbrev pub mapping_of : (Way → TreeReader) → (marks : ℕ → Position) → Way → PlainShape → ℕ → Position → DocPairs → Spot → Answer PlainData
+  abbrev pub mapping_of : (Way → TreeReader) → (marks : ℕ → Position) → Way → PlainShape → ℕ → Position → DocPairs
+      → Spot → Answer PlainData
   mapping_of read marks way (map_shape a b) nest mark ps at =
       enter nest mark (λ n. with_shape (shape_at table a) (λ s. with_shape (shape_at table b) (λ t.
       wrap (λ vs. map_data (entries_of vs)) (each_pair (key_of read way s n) (value_of read t n) [] ps at))))
-  mapping_of read marks way (struct_shape strict name fields) nest mark ps at = fields_by read marks way strict fields nest mark ps at
+  mapping_of read marks way (struct_shape strict name fields) nest mark ps at =
+      fields_by read marks way strict fields nest mark ps at
   mapping_of read marks way (struct_variant_shape strict name variant fields) nest mark ps at =
       fields_by read marks way strict fields nest mark ps at
   mapping_of read marks way any_shape nest mark ps at =
@@ -153,10 +164,12 @@ module _ (table : List PlainShape) where
   abbrev pub node_by : (Way → TreeReader) → Way → DocNode → (ℕ → Position) → PlainShape → ℕ → Option Around → DocNode
       → Spot → Answer PlainData
   node_by read way root marks s nest taken nothing at = ending at.left (void_answer s)
-  node_by read way root marks s nest taken (reference j) at = follow at.left (target_of (read way) s nest (node_of root j) j)
+  node_by read way root marks s nest taken (reference j) at =
+      follow at.left (target_of (read way) s nest (node_of root j) j)
   node_by read way root marks s nest taken (word w) at = ending at.left (scalar_answer s (is_some taken) w)
   node_by read way root marks s nest taken (list tag ns) at = sequence_of read way s nest (marks at.place) ns (after at)
-  node_by read way root marks s nest taken (mapping tag ps) at = mapping_of read marks way s nest (marks at.place) ps (after at)
+  node_by read way root marks s nest taken (mapping tag ps) at =
+      mapping_of read marks way s nest (marks at.place) ps (after at)
 
   -- a node as it is handed on
   abbrev pub handed_by : Handing → (Way → TreeReader) → Way → DocNode → (ℕ → Position) → PlainShape → ℕ
@@ -165,9 +178,11 @@ module _ (table : List PlainShape) where
   handed_by (as_some c) read way root marks s nest taken n at =
       with_shape (shape_at table c) (λ t. wrap some_data (read way t nest taken n at))
   handed_by (as_newtype c) read way root marks s nest taken n at =
-      enter nest (marks at.place) (λ m. with_shape (shape_at table c) (λ t. wrap newtype_data (read way t m taken n at)))
+      enter nest (marks at.place) (λ m. with_shape (shape_at table c)
+      (λ t. wrap newtype_data (read way t m taken n at)))
   handed_by as_ignored read way root marks s nest taken n at = Ok (ignored_data, at.left)
-  handed_by (as_bare fields) read way root marks s nest taken n at = ending at.left (struct_of table fields (no_slots fields))
+  handed_by (as_bare fields) read way root marks s nest taken n at =
+      ending at.left (struct_of table fields (no_slots fields))
   handed_by (as_variant place around content) read way root marks s nest taken n at =
       with_shape (content_shape table around.name around.variant content) (λ t.
       wrap (variant_data place) (read way t nest (Some around) n at))
@@ -175,7 +190,8 @@ module _ (table : List PlainShape) where
       wrap (λ v. any_data (tagged name (tree_in v))) (read way any_shape nest (Some around_value) n at)
   handed_by as_refused read way root marks s nest taken n at = Err (refusal s taken (first_event n))
 
-  -- A node of the tree with this root, whose events have these marks. The first number bounds the depth: more than `depth` tells
+  -- A node of the tree with this root, whose events have these marks. The first number bounds the depth: more than
+  -- `depth` tells
   -- is always enough, and beyond it the answer is want of memory.
   unfoldable pub read_tree : (fuel : ℕ) → DocNode → (marks : ℕ → Position) → Way → TreeReader
   read_tree zero root marks way s nest taken n at = Err Memory
@@ -207,7 +223,8 @@ abbrev pub whole_fuel : PlainLimits → ℕ → ℕ
 whole_fuel limits n = 8200 * (limits.follows * n + limits.nesting + 1)
 
 -- the reading of the tree from its root, within the limits for a document with these events
-abbrev pub whole_tree : PlainLimits → List PlainShape → List (PlainDocEvent × Position) → PlainShape → DocNode → Answer PlainData
+abbrev pub whole_tree : PlainLimits → List PlainShape → List (PlainDocEvent × Position) → PlainShape → DocNode
+    → Answer PlainData
 whole_tree limits table events s root =
     read_tree table (whole_fuel limits (length events)) root (marks_of events) root_way s limits.nesting None root
     (record { place = 0; left = limits.follows * length events })

@@ -1,10 +1,12 @@
 //! Where a reading stands in a document, seen from the outside.
 
-ghost use Rattle.std.specs.Prelude.{◌≡◌, ◌≢◌, ◌↔◌, ◌+◌, ◌<◌, ◌^◌, IsTrue, IfErr, OnOk, OnErr, OnSome, true, false, None};
+ghost use Rattle.std.specs.Prelude.{◌≡◌, ◌≢◌, ◌↔◌, ◌+◌, ◌<◌, ◌^◌, IsTrue, IfErr, OnOk, OnErr, OnSome, true, false};
+ghost use Rattle.std.specs.Prelude.{None};
 ghost use Rattle.std.specs.Option.{option_map};
 ghost use Rattle.yaml_base.specs.Answer.{Gives, is_memory};
 ghost use Rattle.yaml_read.specs.DocEventView.{doc_event_of};
-ghost use Rattle.yaml_read.specs.PlainCursor.{PlainCursor, fresh_cursor, event_of_cursor, fault_of_cursor, shown_by, moved};
+ghost use Rattle.yaml_read.specs.PlainCursor.{PlainCursor, fresh_cursor, event_of_cursor, fault_of_cursor, shown_by};
+ghost use Rattle.yaml_read.specs.PlainCursor.{moved};
 ghost use Rattle.yaml_read.specs.PlainCursor.{TakesMemory};
 
 use crate::de::copied;
@@ -16,8 +18,9 @@ use std::alloc::Global;
 use std::marker::Model;
 use yaml_base::{Cause, Error, Mark, Result};
 
-/// A place in the events of a document. By a cursor that is still fresh a document is read as a whole; by any other it is gone
-/// through event by event. Contracts see how many events it was moved over, as a number without a bound that takes no memory.
+/// A place in the events of a document. By a cursor that is still fresh a document is read as a whole; by any other it
+/// is gone through event by event. Contracts see how many events it was moved over, as a number without a bound that
+/// takes no memory.
 #[derive(Drop)]
 pub struct Cursor {
     place: usize,
@@ -57,7 +60,8 @@ impl Cursor {
 
     // The event in the cursor's place.
     fn event<'a, 'de>(&self, document: &'a Document<'de>) -> Option<&'a (DocEvent<'de>, Mark)>
-        ensures found { option_map (λ e. (doc_event_of e.now.0, e.now.1)) result ≡ event_of_cursor self.now document.now }
+        ensures found { option_map (λ e. (doc_event_of e.now.0, e.now.1)) result
+            ≡ event_of_cursor self.now document.now }
         ensures countable { OnSome result (self.now.place + 1 < 2 ^ 64) }
     {
         if self.refused {
@@ -77,9 +81,9 @@ impl Cursor {
         }
     }
 
-    /// The event in the cursor's place, with its mark. At or past the end of the events it is the fault that cut the document
-    /// off, or the end of the stream. Once a reading was refused by this cursor while it was fresh, it is the end of the
-    /// stream. Memory is taken for a copy of the fault alone.
+    /// The event in the cursor's place, with its mark. At or past the end of the events it is the fault that cut the
+    /// document off, or the end of the stream. Once a reading was refused by this cursor while it was fresh, it is the
+    /// end of the stream. Memory is taken for a copy of the fault alone.
     pub fn peek_event<'a, 'de>(
         &self,
         alloc: Global,

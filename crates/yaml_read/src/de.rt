@@ -134,8 +134,9 @@ impl<'de> Document<'de> {
         }
     }
 
-    /// The data of the document under the shape with this number, within 128 nestings and 100 follows for each event of the
-    /// document. Texts are lent from the source where the source shows them. `Schema::has` is the test of what is asked.
+    /// The data of the document under the shape with this number, within 128 nestings and 100 follows for each event of
+    /// the document. Texts are lent from the source where the source shows them. `Schema::has` is the test of what is
+    /// asked.
     pub fn deserialize(&self, alloc: Global, schema: &Schema, id: ShapeId) -> Result<Data<'de>>
         requires { id.0 < length schema.now }
         ensures { (s : PlainShape) → shape_at schema.now id.0 ≡ Some s
@@ -159,8 +160,8 @@ impl<'de> Document<'de> {
         self.deserialize_limited_with(alloc, schema, id, limits, &mut Cursor::new())
     }
 
-    /// The data of the document as `deserialize` reads it, by a fresh cursor. By one that is not fresh it is refused as the end of
-    /// the stream.
+    /// The data of the document as `deserialize` reads it, by a fresh cursor. By one that is not fresh it is refused as
+    /// the end of the stream.
     pub fn deserialize_with(
         &self,
         alloc: Global,

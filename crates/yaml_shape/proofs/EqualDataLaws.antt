@@ -117,7 +117,8 @@ mutual
   data_eq-congr _ _ e c = from_false e
 
   -- so are lists of data
-  pub items_eq-congr : (xs ys : PlainItems) → items_eq xs ys ≡ true → (zs : PlainItems) → items_eq xs zs ≡ items_eq ys zs
+  pub items_eq-congr : (xs ys : PlainItems) → items_eq xs ys ≡ true → (zs : PlainItems) → items_eq xs zs
+      ≡ items_eq ys zs
   items_eq-congr no_items no_items e zs = refl
   items_eq-congr (item a xs) (item b ys) e (item c zs) =
       λ t. data_eq-congr a b (and_left _ _ e) c t && items_eq-congr xs ys (and_right (data_eq a b) _ e) zs t

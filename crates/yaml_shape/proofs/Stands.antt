@@ -128,5 +128,6 @@ keeps_all first (part ∷ parts) back closed =
           (λ id within. at_joined first part.0 id))
           (All-head (λ p. AllNameWithin (length p.0) p.0) part parts closed)),
       subst (λ n. KeepsAll n parts (joined_all (joined first part.0) parts ++ back)) (length-joined first part.0)
-          (keeps_all (joined first part.0) parts back (All-tail (λ p. AllNameWithin (length p.0) p.0) part parts closed)),
+          (keeps_all (joined first part.0) parts back
+          (All-tail (λ p. AllNameWithin (length p.0) p.0) part parts closed)),
     )

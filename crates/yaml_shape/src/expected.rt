@@ -88,8 +88,8 @@ impl Shape {
 }
 
 impl Schema {
-    /// What data of the shape with this number is expected to be, as faults print it. `has` is the test of what is asked.
-    /// The only fault is want of memory.
+    /// What data of the shape with this number is expected to be, as faults print it. `has` is the test of what is
+    /// asked. The only fault is want of memory.
     pub fn expected(&self, alloc: Global, id: ShapeId) -> Result<String>
         requires { id.0 < length self.now }
         ensures text { IfOk result

@@ -1,5 +1,6 @@
 -- Nodes that are placed where something is open, or nothing.
-use Rattle.std.proofs.Common.{◌≡◌, ◌≢◌, ◌++◌, ◌∷◌, ◌<◌, [], List, length, Result, Ok, Err, refl, ap, ◌∙◌, arith, append_assoc}
+use Rattle.std.proofs.Common.{◌≡◌, ◌≢◌, ◌++◌, ◌∷◌, ◌<◌, [], List, length, Result, Ok, Err, refl, ap, ◌∙◌, arith}
+use Rattle.std.proofs.Common.{append_assoc}
 use Rattle.std.proofs.lemmas.List.{append-nil}
 use Rattle.yaml_base.specs.EmitEvents.{PlainEmit, emit_document_start, emit_document_end}
 use Rattle.yaml_base.specs.EmitTree.{EmitNode, emit_node_events}
@@ -11,32 +12,39 @@ use Rattle.yaml_write.specs.WrittenEvents.{pair_events}
 use Rattle.yaml_write.specs.declared.open.Open.{Open}
 use Rattle.yaml_write.proofs.AddLaws.{adds-between}
 
-part-inside : (opened : List Open) (node : EmitNode) → 0 < length opened → part_events opened node ≡ emit_node_events node
+part-inside : (opened : List Open) (node : EmitNode) → 0 < length opened → part_events opened node
+    ≡ emit_node_events node
 part-inside [] node h = absurd (omega arith)
 part-inside (o ∷ outer) node h = append-nil (emit_node_events node)
 
 -- a node was added where something is open
-pub adds-inside : {X : Type 0} (opened : List Open) (given : Outcome) (old new : List PlainEmit) (r : Result X Cause) → 0 < length opened
+pub adds-inside : {X : Type 0} (opened : List Open) (given : Outcome) (old new : List PlainEmit) (r : Result X Cause)
+    → 0 < length opened
     → Adds emit_node_events given old new r → Adds (part_events opened) given old new r
 adds-inside opened given old new (Err cause) h e = e
 adds-inside opened (Err c) old new (Ok x) h e = absurd (cc)
 adds-inside opened (Ok node) old new (Ok x) h e = ap (λ es. Ok (old ++ es)) (part-inside opened node h) ∙ e
 
 -- a node was added in a document of its own
-pub adds-alone : {X : Type 0} (opened : List Open) (given : Outcome) (old begun mid new : List PlainEmit) (r : Result X Cause) → length opened ≡ 0
-    → made (λ e. old ++ e ∷ []) (Ok emit_document_start) ≡ Ok begun → made (λ part. begun ++ emit_node_events part) given ≡ Ok mid
+pub adds-alone : {X : Type 0} (opened : List Open) (given : Outcome) (old begun mid new : List PlainEmit)
+    (r : Result X Cause) → length opened ≡ 0
+    → made (λ e. old ++ e ∷ []) (Ok emit_document_start) ≡ Ok begun
+    → made (λ part. begun ++ emit_node_events part) given ≡ Ok mid
     → Adds (λ e. e ∷ []) (Ok emit_document_end) mid new r → Adds (part_events opened) given old new r
 adds-alone (o ∷ outer) given old begun mid new r h s e a = absurd (omega arith)
 adds-alone [] (Err c) old begun mid new r h s e a = absurd (cc)
 adds-alone [] (Ok node) old begun mid new r h s e a =
-    adds-between (λ (n : EmitNode). n) emit_node_events (part_events []) emit_document_start emit_document_end (λ n. refl) (Ok node) old begun mid new r s e a
+    adds-between (λ (n : EmitNode). n) emit_node_events (part_events []) emit_document_start emit_document_end
+    (λ n. refl) (Ok node) old begun mid new r s e a
 
 -- what was added stands behind what was there
-pub added-is : {B : Type 0} (view : B → List PlainEmit) (part : B) (old new : List PlainEmit) → made (λ p. old ++ view p) (Ok part) ≡ Ok new → old ++ view part ≡ new
+pub added-is : {B : Type 0} (view : B → List PlainEmit) (part : B) (old new : List PlainEmit)
+    → made (λ p. old ++ view p) (Ok part) ≡ Ok new → old ++ view part ≡ new
 added-is view part old new e = cc
 
 -- what was added is placed
-pub placed-one : (w : Writing) (given : Outcome) (new : List PlainEmit) → made (λ node. w.events ++ part_events w.opened node) given ≡ Ok new
+pub placed-one : (w : Writing) (given : Outcome) (new : List PlainEmit)
+    → made (λ node. w.events ++ part_events w.opened node) given ≡ Ok new
     → made (with_node w) given ≡ Ok (record { events = new; opened = with_begun w.opened })
 placed-one w (Err c) new e = absurd (cc)
 placed-one w (Ok node) new e =
@@ -52,7 +60,8 @@ both events (o ∷ outer) a b some =
     let first = emit_node_events a in
     let second = emit_node_events b in
     ap (λ es. record { events = es; opened = with_begun (with_begun (o ∷ outer)) })
-    (ap (λ es. (events ++ es) ++ (second ++ [])) (append-nil first) ∙ (ap (λ es. (events ++ first) ++ es) (append-nil second) ∙ append_assoc events first second))
+    (ap (λ es. (events ++ es) ++ (second ++ [])) (append-nil first)
+    ∙ (ap (λ es. (events ++ first) ++ es) (append-nil second) ∙ append_assoc events first second))
 
 -- both were added, and then placed
 pub placed-both : (w : Writing) (given : Result (EmitNode × EmitNode) Cause) (new : List PlainEmit) → w.opened ≢ []
@@ -61,4 +70,5 @@ pub placed-both : (w : Writing) (given : Result (EmitNode × EmitNode) Cause) (n
 placed-both w (Err c) new some e = absurd (cc)
 placed-both w (Ok p) new some e =
     let is : w.events ++ pair_events p ≡ new = cc in
-    ap Ok (both w.events w.opened p.0 p.1 some ∙ ap (λ es. record { events = es; opened = with_begun (with_begun w.opened) }) is)
+    ap Ok (both w.events w.opened p.0 p.1 some
+    ∙ ap (λ es. record { events = es; opened = with_begun (with_begun w.opened) }) is)

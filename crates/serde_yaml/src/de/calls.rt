@@ -1,4 +1,5 @@
-//! Readings of a stream under one shape each, within the default limits. Faults come in the same order as `deserialize` has them.
+//! Readings of a stream under one shape each, within the default limits. Faults come in the same order as `deserialize`
+//! has them.
 
 ghost use Rattle.std.specs.Prelude.{[]};
 ghost use Rattle.yaml_base.specs.Answer.{Answers};

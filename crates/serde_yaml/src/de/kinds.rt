@@ -30,7 +30,8 @@ impl<'de> Deserializer<'de> {
         self.deserialize(alloc, schema, id)
     }
 
-    /// The data of the stream's one document as a struct without fields, under the shape with this number, which is of that kind.
+    /// The data of the stream's one document as a struct without fields, under the shape with this number, which is of
+    /// that kind.
     pub fn deserialize_unit_struct(
         self,
         alloc: Global,
@@ -44,7 +45,8 @@ impl<'de> Deserializer<'de> {
         self.deserialize(alloc, schema, id)
     }
 
-    /// The data of the stream's one document as a struct around one content, under the shape with this number, which is of that kind.
+    /// The data of the stream's one document as a struct around one content, under the shape with this number, which is
+    /// of that kind.
     pub fn deserialize_newtype_struct(
         self,
         alloc: Global,
@@ -76,7 +78,8 @@ impl<'de> Deserializer<'de> {
         self.deserialize(alloc, schema, id)
     }
 
-    /// The data of the stream's one document as a struct whose fields have no names, under the shape with this number, which is of that kind.
+    /// The data of the stream's one document as a struct whose fields have no names, under the shape with this number,
+    /// which is of that kind.
     pub fn deserialize_tuple_struct(
         self,
         alloc: Global,
@@ -99,7 +102,8 @@ impl<'de> Deserializer<'de> {
         self.deserialize(alloc, schema, id)
     }
 
-    /// The data of the stream's one document as a struct, strict or not, under the shape with this number, which is of that kind.
+    /// The data of the stream's one document as a struct, strict or not, under the shape with this number, which is of
+    /// that kind.
     pub fn deserialize_struct(
         self,
         alloc: Global,
@@ -113,7 +117,8 @@ impl<'de> Deserializer<'de> {
         self.deserialize(alloc, schema, id)
     }
 
-    /// The data of the stream's one document as one of several variants, under the shape with this number, which is of that kind.
+    /// The data of the stream's one document as one of several variants, under the shape with this number, which is of
+    /// that kind.
     pub fn deserialize_enum(self, alloc: Global, schema: &Schema, id: ShapeId) -> Result<Data<'de>>
         requires { has_kind is_enum schema.now id.0 ≡ true }
         ensures { (s : PlainShape) → shape_at schema.now id.0 ≡ Some s

@@ -123,7 +123,8 @@ pub fn parse_signed_int(scalar: &str, min: i128, max: i128) -> Option<i128>
     within(integer(scalar), min, max)
 }
 
-/// The integer that the text writes, where it is decimal, or has a minus before its prefix, and lies from `min` to `max`.
+/// The integer that the text writes, where it is decimal, or has a minus before its prefix, and lies from `min` to
+/// `max`.
 pub fn parse_negative_int(scalar: &str, min: i128, max: i128) -> Option<i128>
     ensures value { result ≡ in_range min max (negative_of scalar.now) }
     ensures exact { MatchOption result

@@ -1,5 +1,6 @@
 -- What a node's reading comes to under an enum, and under what its variants hold.
-use Rattle.std.proofs.Common.{◌≡◌, ℕ, ◌-◌, ◌<◌, Bool, true, false, List, [], Some, None, Option, Result, Ok, Err, refl, ap, ◌∙◌}
+use Rattle.std.proofs.Common.{◌≡◌, ℕ, ◌-◌, ◌<◌, Bool, true, false, List, [], Some, None, Option, Result, Ok, Err, refl}
+use Rattle.std.proofs.Common.{ap, ◌∙◌}
 use Rattle.std.specs.Option.{is_some}
 use Rattle.yaml_base.specs.Position.{Position}
 use Rattle.yaml_base.specs.declared.error.Cause.{Cause}
@@ -40,7 +41,8 @@ with_wrap f (Some t) go = refl
 module _ (source : Source) (read : Way → Reader) (way : Way) (s : PlainShape) (nest : ℕ) (taken : Option Around)
     (at : Spot) where
   -- what the variant holds that the tag names
-  pub enum_content : (name : List ℕ) (variants : Variants) (e : PlainDocEvent) (m : Position) (tag : List ℕ) (number : ℕ)
+  pub enum_content : (name : List ℕ) (variants : Variants) (e : PlainDocEvent) (m : Position) (tag : List ℕ)
+      (number : ℕ)
       (content : PlainVariant) → s ≡ enum_shape name variants → taken ≡ None → Some (e, m) ≡ source.events at.place
       → untaken_name false e ≡ Some tag → variant_named variants tag ≡ Some (number, content)
       → shape_step source read way s nest taken at (source.events at.place)

@@ -1,10 +1,12 @@
 -- The numbers of a document's events tell where its nodes end.
-use Rattle.std.proofs.Common.{◌≡◌, ℕ, zero, suc, ◌+◌, ◌-◌, ◌≤◌, List, [], ◌∷◌, ◌++◌, map, length, Some, Bool, true, false, ◌&&◌, ◌==◌, refl, sym, ap, subst, ◌∙◌, arith, append_assoc, length-append}
+use Rattle.std.proofs.Common.{◌≡◌, ℕ, zero, suc, ◌+◌, ◌-◌, ◌≤◌, List, [], ◌∷◌, ◌++◌, map, length, Some, Bool, true}
+use Rattle.std.proofs.Common.{false, ◌&&◌, ◌==◌, refl, sym, ap, subst, ◌∙◌, arith, append_assoc, length-append}
 use Rattle.std.specs.Prelude.{slice_get, if◌then◌else◌}
 use Rattle.std.proofs.lemmas.Bool.{eqb-true}
 use Rattle.yaml_base.specs.Position.{Position}
 use Rattle.yaml_read.specs.PlainDocEvent.{PlainDocEvent, sequence_ends, mapping_ends}
-use Rattle.yaml_read.specs.DocTree.{DocNode, DocNodes, DocPairs, nothing, reference, word, list, mapping, no_nodes, node, no_pairs, pair, events_of, events_of_nodes, events_of_pairs}
+use Rattle.yaml_read.specs.DocTree.{DocNode, DocNodes, DocPairs, nothing, reference, word, list, mapping, no_nodes}
+use Rattle.yaml_read.specs.DocTree.{node, no_pairs, pair, events_of, events_of_nodes, events_of_pairs}
 use Rattle.yaml_read.specs.Ends.{is_opening, is_closing, inner_after, end_place, ends_from, ends_of, GoForward}
 use Rattle.yaml_read.specs.inner.Reader.{Events}
 use Rattle.yaml_read.proofs.reading.Shown.{Shows}
@@ -17,58 +19,73 @@ back : (n : ℕ) → n + 1 - 1 ≡ n
 back n = omega arith
 
 -- an inner collection ends
-closed_sequence : (inner place : ℕ) (rest : List PlainDocEvent) → end_place (inner + 1) place (sequence_ends ∷ rest) ≡ end_place inner (place + 1) rest
+closed_sequence : (inner place : ℕ) (rest : List PlainDocEvent) → end_place (inner + 1) place (sequence_ends ∷ rest)
+    ≡ end_place inner (place + 1) rest
 closed_sequence inner place rest = let no = not_outer (inner + 1 == 0) inner refl in rw (no, back inner)
 
-closed_mapping : (inner place : ℕ) (rest : List PlainDocEvent) → end_place (inner + 1) place (mapping_ends ∷ rest) ≡ end_place inner (place + 1) rest
+closed_mapping : (inner place : ℕ) (rest : List PlainDocEvent) → end_place (inner + 1) place (mapping_ends ∷ rest)
+    ≡ end_place inner (place + 1) rest
 closed_mapping inner place rest = let no = not_outer (inner + 1 == 0) inner refl in rw (no, back inner)
 
 mutual
-  over_node : (n : DocNode) (inner place : ℕ) (rest : List PlainDocEvent) → end_place inner place (events_of n ++ rest) ≡ end_place inner (place + length (events_of n)) rest
+  over_node : (n : DocNode) (inner place : ℕ) (rest : List PlainDocEvent) → end_place inner place (events_of n ++ rest)
+      ≡ end_place inner (place + length (events_of n)) rest
   over_node nothing inner place rest = refl
   over_node (reference j) inner place rest = refl
   over_node (word w) inner place rest = refl
   over_node (list tag ns) inner place rest =
       ap (end_place (inner + 1) (place + 1)) (append_assoc (events_of_nodes ns) (sequence_ends ∷ []) rest)
-      ∙ over_nodes ns (inner + 1) (place + 1) (sequence_ends ∷ rest) ∙ closed_sequence inner (place + 1 + length (events_of_nodes ns)) rest
+      ∙ over_nodes ns (inner + 1) (place + 1) (sequence_ends ∷ rest)
+      ∙ closed_sequence inner (place + 1 + length (events_of_nodes ns)) rest
       ∙ ap (λ p. end_place inner p rest) (omega (arith, length-append (events_of_nodes ns) (sequence_ends ∷ [])))
   over_node (mapping tag ps) inner place rest =
       ap (end_place (inner + 1) (place + 1)) (append_assoc (events_of_pairs ps) (mapping_ends ∷ []) rest)
-      ∙ over_pairs ps (inner + 1) (place + 1) (mapping_ends ∷ rest) ∙ closed_mapping inner (place + 1 + length (events_of_pairs ps)) rest
+      ∙ over_pairs ps (inner + 1) (place + 1) (mapping_ends ∷ rest)
+      ∙ closed_mapping inner (place + 1 + length (events_of_pairs ps)) rest
       ∙ ap (λ p. end_place inner p rest) (omega (arith, length-append (events_of_pairs ps) (mapping_ends ∷ [])))
 
-  over_nodes : (ns : DocNodes) (inner place : ℕ) (rest : List PlainDocEvent) → end_place inner place (events_of_nodes ns ++ rest) ≡ end_place inner (place + length (events_of_nodes ns)) rest
+  over_nodes : (ns : DocNodes) (inner place : ℕ) (rest : List PlainDocEvent)
+      → end_place inner place (events_of_nodes ns ++ rest) ≡ end_place inner (place + length (events_of_nodes ns)) rest
   over_nodes no_nodes inner place rest = ap (λ p. end_place inner p rest) (omega arith)
   over_nodes (node n ns) inner place rest =
       ap (end_place inner place) (append_assoc (events_of n) (events_of_nodes ns) rest)
       ∙ over_node n inner place (events_of_nodes ns ++ rest) ∙ over_nodes ns inner (place + length (events_of n)) rest
       ∙ ap (λ p. end_place inner p rest) (omega (arith, length-append (events_of n) (events_of_nodes ns)))
 
-  over_pairs : (ps : DocPairs) (inner place : ℕ) (rest : List PlainDocEvent) → end_place inner place (events_of_pairs ps ++ rest) ≡ end_place inner (place + length (events_of_pairs ps)) rest
+  over_pairs : (ps : DocPairs) (inner place : ℕ) (rest : List PlainDocEvent)
+      → end_place inner place (events_of_pairs ps ++ rest) ≡ end_place inner (place + length (events_of_pairs ps)) rest
   over_pairs no_pairs inner place rest = ap (λ p. end_place inner p rest) (omega arith)
   over_pairs (pair m n ps) inner place rest =
       ap (end_place inner place) (append_assoc (events_of m) (events_of n ++ events_of_pairs ps) rest)
       ∙ over_node m inner place ((events_of n ++ events_of_pairs ps) ++ rest)
       ∙ ap (end_place inner (place + length (events_of m))) (append_assoc (events_of n) (events_of_pairs ps) rest)
-      ∙ over_node n inner (place + length (events_of m)) (events_of_pairs ps ++ rest) ∙ over_pairs ps inner (place + length (events_of m) + length (events_of n)) rest
-      ∙ ap (λ p. end_place inner p rest) (omega (arith, length-append (events_of m) (events_of n ++ events_of_pairs ps), length-append (events_of n) (events_of_pairs ps)))
+      ∙ over_node n inner (place + length (events_of m)) (events_of_pairs ps ++ rest)
+      ∙ over_pairs ps inner (place + length (events_of m) + length (events_of n)) rest
+      ∙ ap (λ p. end_place inner p rest) (omega (
+        arith,
+        length-append (events_of m) (events_of n ++ events_of_pairs ps),
+        length-append (events_of n) (events_of_pairs ps),
+      ))
 
 -- the number at this place is that of the node's last event
 abbrev pub EndsAt : List ℕ → ℕ → ℕ → Type 0
 EndsAt ends p size = (end : ℕ) × (slice_get ends p ≡ Some end) × (end + 1 ≡ size)
 
-first_end : (n : DocNode) (q : ℕ) (rest : List PlainDocEvent) → EndsAt (ends_from q (events_of n ++ rest)) 0 (q + length (events_of n))
+first_end : (n : DocNode) (q : ℕ) (rest : List PlainDocEvent)
+    → EndsAt (ends_from q (events_of n ++ rest)) 0 (q + length (events_of n))
 first_end nothing q rest = (q, refl, refl)
 first_end (reference j) q rest = (q, refl, refl)
 first_end (word w) q rest = (q, refl, refl)
 first_end (list tag ns) q rest = (
   q + 1 + length (events_of_nodes ns),
-  ap Some (ap (end_place 0 (q + 1)) (append_assoc (events_of_nodes ns) (sequence_ends ∷ []) rest) ∙ over_nodes ns 0 (q + 1) (sequence_ends ∷ rest)),
+  ap Some (ap (end_place 0 (q + 1)) (append_assoc (events_of_nodes ns) (sequence_ends ∷ []) rest)
+      ∙ over_nodes ns 0 (q + 1) (sequence_ends ∷ rest)),
   omega (arith, length-append (events_of_nodes ns) (sequence_ends ∷ [])),
 )
 first_end (mapping tag ps) q rest = (
   q + 1 + length (events_of_pairs ps),
-  ap Some (ap (end_place 0 (q + 1)) (append_assoc (events_of_pairs ps) (mapping_ends ∷ []) rest) ∙ over_pairs ps 0 (q + 1) (mapping_ends ∷ rest)),
+  ap Some (ap (end_place 0 (q + 1)) (append_assoc (events_of_pairs ps) (mapping_ends ∷ []) rest)
+      ∙ over_pairs ps 0 (q + 1) (mapping_ends ∷ rest)),
   omega (arith, length-append (events_of_pairs ps) (mapping_ends ∷ [])),
 )
 
@@ -96,7 +113,8 @@ unshift f p (t ∷ ts) s = (s.0, unshift f (suc p) ts s.1)
 abbrev events_only : List (PlainDocEvent × Position) → List PlainDocEvent
 events_only es = map (λ e. e.0) es
 
-prefix : (es : List (PlainDocEvent × Position)) (ts : List PlainDocEvent) → Shows (slice_get es) 0 ts → (rest : List PlainDocEvent) × (events_only es ≡ ts ++ rest)
+prefix : (es : List (PlainDocEvent × Position)) (ts : List PlainDocEvent) → Shows (slice_get es) 0 ts
+    → (rest : List PlainDocEvent) × (events_only es ≡ ts ++ rest)
 prefix es [] s = (events_only es, refl)
 prefix [] (t ∷ ts) s = let bad = s.0.1 in absurd cc
 prefix (e ∷ es) (t ∷ ts) s =
@@ -114,23 +132,27 @@ starts_there (word w) p s = let bad = s.0.1 in absurd cc
 starts_there (list tag ns) p s = let bad = s.0.1 in absurd cc
 starts_there (mapping tag ps) p s = let bad = s.0.1 in absurd cc
 
-node_end : (es : List (PlainDocEvent × Position)) (q p : ℕ) (n : DocNode) → Shows (slice_get es) p (events_of n) → EndsAt (ends_from q (events_only es)) p (q + p + length (events_of n))
+node_end : (es : List (PlainDocEvent × Position)) (q p : ℕ) (n : DocNode) → Shows (slice_get es) p (events_of n)
+    → EndsAt (ends_from q (events_only es)) p (q + p + length (events_of n))
 node_end [] q p n s = absurd (starts_there n p s)
 node_end (e ∷ es) q zero n s =
     let front = prefix (e ∷ es) (events_of n) s in
-    let found = subst (λ l. EndsAt (ends_from q l) 0 (q + length (events_of n))) (sym front.1) (first_end n q front.0) in
+    let found = subst (λ l. EndsAt (ends_from q l) 0 (q + length (events_of n))) (sym front.1)
+    (first_end n q front.0) in
     (found.0, found.1, omega (arith, found.2))
 node_end (e ∷ es) q (suc p) n s =
     let found = node_end es (q + 1) p n (unshift (slice_get (e ∷ es)) p (events_of n) s) in
     (found.0, found.1, omega (arith, found.2))
 
 -- where a node is shown, the number of its first event is that of its last
-pub node_ends : (es : List (PlainDocEvent × Position)) (p : ℕ) (n : DocNode) → Shows (slice_get es) p (events_of n) → (end : ℕ) × (slice_get (ends_of (map (λ e. e.0) es)) p ≡ Some end) × (end + 1 ≡ p + length (events_of n))
+pub node_ends : (es : List (PlainDocEvent × Position)) (p : ℕ) (n : DocNode) → Shows (slice_get es) p (events_of n)
+    → (end : ℕ) × (slice_get (ends_of (map (λ e. e.0) es)) p ≡ Some end) × (end + 1 ≡ p + length (events_of n))
 node_ends es p n s = let found = node_end es 0 p n s in (found.0, found.1, omega (arith, found.2))
 
 behind_place : (es : List PlainDocEvent) (inner place : ℕ) → place ≤ end_place inner place es
 behind_place [] inner place = omega arith
-behind_place (e ∷ es) inner place = chosen (is_closing e && (inner == 0)) (behind_place es (inner_after e inner) (place + 1))
+behind_place (e ∷ es) inner place = chosen (is_closing e && (inner == 0))
+    (behind_place es (inner_after e inner) (place + 1))
   where
     chosen : (b : Bool) {q : ℕ} → place + 1 ≤ q → place ≤ (if b then place else q)
     chosen true h = omega arith

@@ -1,8 +1,10 @@
 -- One turn of a loop over the parts of a collection, and one step of a reading.
-use Rattle.std.proofs.Common.{◌≡◌, ℕ, zero, suc, ◌+◌, ◌-◌, ◌<◌, Bool, true, false, Some, None, Result, Ok, Err, ap, sym, ◌∙◌, arith}
+use Rattle.std.proofs.Common.{◌≡◌, ℕ, zero, suc, ◌+◌, ◌-◌, ◌<◌, Bool, true, false, Some, None, Result, Ok, Err, ap, sym}
+use Rattle.std.proofs.Common.{◌∙◌, arith}
 use Rattle.yaml_base.specs.Position.{Position}
 use Rattle.yaml_base.specs.declared.error.Cause.{Cause}
-use Rattle.yaml_base.specs.declared.error.Cause.TheVariants.{EndOfStream, RecursionLimitExceeded, RepetitionLimitExceeded}
+use Rattle.yaml_base.specs.declared.error.Cause.TheVariants.{EndOfStream, RecursionLimitExceeded}
+use Rattle.yaml_base.specs.declared.error.Cause.TheVariants.{RepetitionLimitExceeded}
 use Rattle.yaml_shape.specs.PlainData.{PlainData}
 use Rattle.yaml_read.specs.PlainDocEvent.{PlainDocEvent}
 use Rattle.yaml_read.specs.Steps.{◌>>=◌, wrap, enter}
@@ -11,33 +13,41 @@ use Rattle.yaml_read.specs.inner.Reader.{Reading, Events, each_at, pursue}
 
 module _ {S : Type 0} (is_end : PlainDocEvent → Bool) (step : S → Spot → Reading S) (events : Events) where
   -- the events end within the collection
-  pub each_ended : (n : ℕ) (s : S) (at : Spot) → events at.place ≡ None → each_at is_end step events (suc n) s at ≡ Err EndOfStream
+  pub each_ended : (n : ℕ) (s : S) (at : Spot) → events at.place ≡ None → each_at is_end step events (suc n) s at
+      ≡ Err EndOfStream
   unfolding each_at
   each_ended n s at e = rw e
 
   -- the collection ends
-  pub each_end : (n : ℕ) (s : S) (at : Spot) (e : PlainDocEvent × Position) → events at.place ≡ Some e → is_end e.0 ≡ true
+  pub each_end : (n : ℕ) (s : S) (at : Spot) (e : PlainDocEvent × Position) → events at.place ≡ Some e → is_end e.0
+      ≡ true
       → each_at is_end step events (suc n) s at ≡ Ok (s, after at)
   unfolding each_at
   each_end n s at e is end = rw (is, end)
 
   -- a part follows
-  pub each_going : (n : ℕ) (s : S) (at : Spot) (e : PlainDocEvent × Position) → events at.place ≡ Some e → is_end e.0 ≡ false
+  pub each_going : (n : ℕ) (s : S) (at : Spot) (e : PlainDocEvent × Position) → events at.place ≡ Some e → is_end e.0
+      ≡ false
       → each_at is_end step events (suc n) s at ≡ (step s at >>= λ x. each_at is_end step events n x.0 x.1)
   unfolding each_at
   each_going n s at e is end = rw (is, end)
 
   -- it is refused
-  pub each_fails : (n : ℕ) (s : S) (at : Spot) (e : PlainDocEvent × Position) (x : Cause) → events at.place ≡ Some e → is_end e.0 ≡ false
+  pub each_fails : (n : ℕ) (s : S) (at : Spot) (e : PlainDocEvent × Position) (x : Cause) → events at.place ≡ Some e
+      → is_end e.0 ≡ false
       → step s at ≡ Err x → each_at is_end step events (suc n) s at ≡ Err x
-  each_fails n s at e x is end r = each_going n s at e is end ∙ ap (λ y. y >>= λ x. each_at is_end step events n x.0 x.1) r
+  each_fails n s at e x is end r = each_going n s at e is end
+      ∙ ap (λ y. y >>= λ x. each_at is_end step events n x.0 x.1) r
 
   -- it is read
-  pub each_more : (n : ℕ) (s s' : S) (at next : Spot) (e : PlainDocEvent × Position) → events at.place ≡ Some e → is_end e.0 ≡ false
+  pub each_more : (n : ℕ) (s s' : S) (at next : Spot) (e : PlainDocEvent × Position) → events at.place ≡ Some e
+      → is_end e.0 ≡ false
       → step s at ≡ Ok (s', next) → each_at is_end step events (suc n) s at ≡ each_at is_end step events n s' next
-  each_more n s s' at next e is end r = each_going n s at e is end ∙ ap (λ y. y >>= λ x. each_at is_end step events n x.0 x.1) r
+  each_more n s s' at next e is end r = each_going n s at e is end
+      ∙ ap (λ y. y >>= λ x. each_at is_end step events n x.0 x.1) r
 
-pub wrap_fails : {A B C : Type 0} (f : A → B) (r : Result (A × C) Cause) (x : Cause) → r ≡ Err x → ◌≡◌ {A = Result (B × C) Cause} (wrap f r) (Err x)
+pub wrap_fails : {A B C : Type 0} (f : A → B) (r : Result (A × C) Cause) (x : Cause) → r ≡ Err x
+    → ◌≡◌ {A = Result (B × C) Cause} (wrap f r) (Err x)
 wrap_fails f r x h = rw h
 
 pub wrap_finds : {A B C : Type 0} (f : A → B) (r : Result (A × C) Cause) (v : A) (c : C) → r ≡ Ok (v, c)
@@ -47,16 +57,19 @@ wrap_finds f r v c h = rw h
 pub enough : (n : ℕ) → suc n - 1 ≡ n
 enough n = omega arith
 
-pub pursue_many : (read : Spot → Reading PlainData) (j p n : ℕ) → n ≡ 0 → pursue read j p n ≡ Err RepetitionLimitExceeded
+pub pursue_many : (read : Spot → Reading PlainData) (j p n : ℕ) → n ≡ 0 → pursue read j p n
+    ≡ Err RepetitionLimitExceeded
 pursue_many read j p n e = rw e
 
-pub pursue_fails : (read : Spot → Reading PlainData) (j p n : ℕ) (x : Cause) → 0 < n → read (record { place = j; left = n - 1 }) ≡ Err x
+pub pursue_fails : (read : Spot → Reading PlainData) (j p n : ℕ) (x : Cause) → 0 < n
+    → read (record { place = j; left = n - 1 }) ≡ Err x
     → pursue read j p n ≡ Err x
 pursue_fails read j p zero x lt h = absurd (omega arith)
 pursue_fails read j p (suc n) x lt h = rw (rw (enough n) at h)
 
 pub pursue_finds : (read : Spot → Reading PlainData) (j p n : ℕ) (v : PlainData) (next : Spot) → 0 < n
-    → read (record { place = j; left = n - 1 }) ≡ Ok (v, next) → pursue read j p n ≡ Ok (v, record { place = p + 1; left = next.left })
+    → read (record { place = j; left = n - 1 }) ≡ Ok (v, next) → pursue read j p n
+    ≡ Ok (v, record { place = p + 1; left = next.left })
 pursue_finds read j p zero v next lt h = absurd (omega arith)
 pursue_finds read j p (suc n) v next lt h = rw (rw (enough n) at h)
 

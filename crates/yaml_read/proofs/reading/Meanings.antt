@@ -2,7 +2,8 @@
 use Rattle.std.proofs.Common.{◌≡◌, ℕ, suc, ◌+◌, Bool, refl, ap, ap₂, Ok, Some, sym, ◌∙◌, Result}
 use Rattle.std.specs.Prelude.{max, set, List}
 use Rattle.yaml_base.specs.declared.error.Cause.{Cause}
-use Rattle.yaml_shape.specs.PlainData.{PlainData, PlainItems, PlainEntries, any_data, variant_data, ignored_data, seq_data, item, map_data, some_data, newtype_data, tuple_data}
+use Rattle.yaml_shape.specs.PlainData.{PlainData, PlainItems, PlainEntries, any_data, variant_data, ignored_data}
+use Rattle.yaml_shape.specs.PlainData.{seq_data, item, map_data, some_data, newtype_data, tuple_data}
 use Rattle.yaml_shape.specs.PlainShape.{PlainShape, ignored_shape}
 use Rattle.yaml_tree.specs.Tree.{sequence, tagged}
 use Rattle.yaml_tree.specs.Tree as tree
@@ -10,10 +11,14 @@ use Rattle.yaml_read.specs.AnyData.{tree_in, trees_in, pairs_in}
 use Rattle.yaml_read.specs.DocTree.{DocNode, DocNodes, DocPairs}
 use Rattle.yaml_read.specs.Fields.{Fields, Slots, find, name_in, struct_of}
 use Rattle.yaml_read.specs.Handing.{Handing, as_ignored}
-use Rattle.yaml_read.specs.Meaning.{Means, means_node, MeansAs, means_some, means_newtype, means_ignored, means_target, means_void, means_scalar, means_list, means_mapping}
+use Rattle.yaml_read.specs.Meaning.{Means, means_node, MeansAs, means_some, means_newtype, means_ignored, means_target}
+use Rattle.yaml_read.specs.Meaning.{means_void, means_scalar, means_list, means_mapping}
 use Rattle.yaml_read.specs.Meaning.{means_bare, means_struct, MeanFields, means_no_fields, means_field, means_unknown}
-use Rattle.yaml_read.specs.Meaning.{means_variant, means_tagged, means_tuple_variant, means_any_list, means_struct_variant, means_any_mapping}
-use Rattle.yaml_read.specs.Meaning.{MeansList, means_seq, means_tuple, means_tuple_struct, MeansPairs, means_map, MeanEach, means_none, means_more, MeanRow, means_no_elements, means_element, MeanPairs, means_no_pairs, means_pair}
+use Rattle.yaml_read.specs.Meaning.{means_variant, means_tagged, means_tuple_variant, means_any_list}
+use Rattle.yaml_read.specs.Meaning.{means_struct_variant, means_any_mapping}
+use Rattle.yaml_read.specs.Meaning.{MeansList, means_seq, means_tuple, means_tuple_struct, MeansPairs, means_map}
+use Rattle.yaml_read.specs.Meaning.{MeanEach, means_none, means_more, MeanRow, means_no_elements, means_element}
+use Rattle.yaml_read.specs.Meaning.{MeanPairs, means_no_pairs, means_pair}
 use Rattle.yaml_read.proofs.FieldLaws.{same_place, same_number}
 
 -- the same data, with the same counts
@@ -27,12 +32,14 @@ ok_is h = cc
 
 module _ (table : List PlainShape) (root : DocNode) where
   mutual
-    pub one_meaning : {s : PlainShape} {n : DocNode} {taken : Bool} {v v' : PlainData} {d d' k k' : ℕ} → Means table root s n taken v d k → Means table root s n taken v' d' k' → Same v v' d d' k k'
+    pub one_meaning : {s : PlainShape} {n : DocNode} {taken : Bool} {v v' : PlainData} {d d' k k' : ℕ}
+        → Means table root s n taken v d k → Means table root s n taken v' d' k' → Same v v' d d' k k'
     one_meaning (means_node {h} late to m) (means_node {h = h'} late' to' m') =
         let same : h ≡ h' = sym to ∙ to' in
         one_meaning_as m (rw (← same) at m')
 
-    one_meaning_as : {h : Handing} {s : PlainShape} {n : DocNode} {taken : Bool} {v v' : PlainData} {d d' k k' : ℕ} → MeansAs table root h s n taken v d k → MeansAs table root h s n taken v' d' k' → Same v v' d d' k k'
+    one_meaning_as : {h : Handing} {s : PlainShape} {n : DocNode} {taken : Bool} {v v' : PlainData} {d d' k k' : ℕ}
+        → MeansAs table root h s n taken v d k → MeansAs table root h s n taken v' d' k' → Same v v' d d' k k'
     one_meaning_as (means_some {t} is m) (means_some {t = t'} is' m') =
         let same : t ≡ t' = cc in
         let r = one_meaning m (rw (← same) at m') in
@@ -50,13 +57,19 @@ module _ (table : List PlainShape) (root : DocNode) where
         record { data_is = ap (variant_data place) r.data_is; nestings = r.nestings; follows = r.follows }
     one_meaning_as (means_tagged {name} m) (means_tagged m') =
         let r = one_meaning m m' in
-        record { data_is = ap (λ v. any_data (tagged name (tree_in v))) r.data_is; nestings = r.nestings; follows = r.follows }
+        record {
+          data_is = ap (λ v. any_data (tagged name (tree_in v))) r.data_is;
+          nestings = r.nestings;
+          follows = r.follows;
+        }
     one_meaning_as (means_target {n} e m) (means_target {n = n'} e' m') =
         let same : n ≡ n' = cc in
         let r = one_meaning m (rw (← same) at m') in
         record { data_is = r.data_is; nestings = r.nestings; follows = ap suc r.follows }
-    one_meaning_as (means_void e) (means_void e') = record { data_is = ok_is (sym e ∙ e'); nestings = refl; follows = refl }
-    one_meaning_as (means_scalar e) (means_scalar e') = record { data_is = ok_is (sym e ∙ e'); nestings = refl; follows = refl }
+    one_meaning_as (means_void e) (means_void e') =
+        record { data_is = ok_is (sym e ∙ e'); nestings = refl; follows = refl }
+    one_meaning_as (means_scalar e) (means_scalar e') =
+        record { data_is = ok_is (sym e ∙ e'); nestings = refl; follows = refl }
     one_meaning_as (means_list m) (means_list m') =
         let r = one_list m m' in
         record { data_is = r.data_is; nestings = ap suc r.nestings; follows = r.follows }
@@ -64,7 +77,8 @@ module _ (table : List PlainShape) (root : DocNode) where
         let r = one_mapping m m' in
         record { data_is = r.data_is; nestings = ap suc r.nestings; follows = r.follows }
 
-    one_list : {s : PlainShape} {ns : DocNodes} {v v' : PlainData} {d d' k k' : ℕ} → MeansList table root s ns v d k → MeansList table root s ns v' d' k' → Same v v' d d' k k'
+    one_list : {s : PlainShape} {ns : DocNodes} {v v' : PlainData} {d d' k k' : ℕ} → MeansList table root s ns v d k
+        → MeansList table root s ns v' d' k' → Same v v' d d' k k'
     one_list (means_seq {s} is m) (means_seq {s = s'} is' m') =
         let same : s ≡ s' = cc in
         let r = each_means_one m (rw (← same) at m') in
@@ -80,9 +94,14 @@ module _ (table : List PlainShape) (root : DocNode) where
         record { data_is = ap tuple_data r.data_is; nestings = r.nestings; follows = r.follows }
     one_list (means_any_list m) (means_any_list m') =
         let r = each_means_one m m' in
-        record { data_is = ap (λ vs. any_data (sequence (trees_in vs))) r.data_is; nestings = r.nestings; follows = r.follows }
+        record {
+          data_is = ap (λ vs. any_data (sequence (trees_in vs))) r.data_is;
+          nestings = r.nestings;
+          follows = r.follows;
+        }
 
-    one_mapping : {s : PlainShape} {ps : DocPairs} {v v' : PlainData} {d d' k k' : ℕ} → MeansPairs table root s ps v d k → MeansPairs table root s ps v' d' k' → Same v v' d d' k k'
+    one_mapping : {s : PlainShape} {ps : DocPairs} {v v' : PlainData} {d d' k k' : ℕ} → MeansPairs table root s ps v d k
+        → MeansPairs table root s ps v' d' k' → Same v v' d d' k k'
     one_mapping (means_map {s} {t} is there m) (means_map {s = s'} {t = t'} is' there' m') =
         let same : s ≡ s' = cc in
         let same' : t ≡ t' = cc in
@@ -98,24 +117,39 @@ module _ (table : List PlainShape) (root : DocNode) where
         record { data_is = ok_is made; nestings = r.nestings; follows = r.follows }
     one_mapping (means_any_mapping m apart) (means_any_mapping m' apart') =
         let r = pairs_mean_one m m' in
-        record { data_is = ap (λ vs. any_data (tree.mapping (pairs_in vs))) r.data_is; nestings = r.nestings; follows = r.follows }
+        record {
+          data_is = ap (λ vs. any_data (tree.mapping (pairs_in vs))) r.data_is;
+          nestings = r.nestings;
+          follows = r.follows;
+        }
 
-    each_means_one : {s : PlainShape} {ns : DocNodes} {vs vs' : PlainItems} {d d' k k' : ℕ} → MeanEach table root s ns vs d k → MeanEach table root s ns vs' d' k' → Same vs vs' d d' k k'
+    each_means_one : {s : PlainShape} {ns : DocNodes} {vs vs' : PlainItems} {d d' k k' : ℕ}
+        → MeanEach table root s ns vs d k → MeanEach table root s ns vs' d' k' → Same vs vs' d d' k k'
     each_means_one means_none means_none = record { data_is = refl; nestings = refl; follows = refl }
     each_means_one (means_more m ms) (means_more m' ms') =
         let r = one_meaning m m' in
         let rs = each_means_one ms ms' in
-        record { data_is = ap₂ item r.data_is rs.data_is; nestings = ap₂ max r.nestings rs.nestings; follows = ap₂ ◌+◌ r.follows rs.follows }
+        record {
+          data_is = ap₂ item r.data_is rs.data_is;
+          nestings = ap₂ max r.nestings rs.nestings;
+          follows = ap₂ ◌+◌ r.follows rs.follows;
+        }
 
-    row_means_one : {ids : List ℕ} {ns : DocNodes} {vs vs' : PlainItems} {d d' k k' : ℕ} → MeanRow table root ids ns vs d k → MeanRow table root ids ns vs' d' k' → Same vs vs' d d' k k'
+    row_means_one : {ids : List ℕ} {ns : DocNodes} {vs vs' : PlainItems} {d d' k k' : ℕ}
+        → MeanRow table root ids ns vs d k → MeanRow table root ids ns vs' d' k' → Same vs vs' d d' k k'
     row_means_one means_no_elements means_no_elements = record { data_is = refl; nestings = refl; follows = refl }
     row_means_one (means_element {s} is m ms) (means_element {s = s'} is' m' ms') =
         let same : s ≡ s' = cc in
         let r = one_meaning m (rw (← same) at m') in
         let rs = row_means_one ms ms' in
-        record { data_is = ap₂ item r.data_is rs.data_is; nestings = ap₂ max r.nestings rs.nestings; follows = ap₂ ◌+◌ r.follows rs.follows }
+        record {
+          data_is = ap₂ item r.data_is rs.data_is;
+          nestings = ap₂ max r.nestings rs.nestings;
+          follows = ap₂ ◌+◌ r.follows rs.follows;
+        }
 
-    pairs_mean_one : {s t : PlainShape} {ps : DocPairs} {vs vs' : PlainEntries} {d d' k k' : ℕ} → MeanPairs table root s t ps vs d k → MeanPairs table root s t ps vs' d' k' → Same vs vs' d d' k k'
+    pairs_mean_one : {s t : PlainShape} {ps : DocPairs} {vs vs' : PlainEntries} {d d' k k' : ℕ}
+        → MeanPairs table root s t ps vs d k → MeanPairs table root s t ps vs' d' k' → Same vs vs' d d' k k'
     pairs_mean_one means_no_pairs means_no_pairs = record { data_is = refl; nestings = refl; follows = refl }
     pairs_mean_one (means_pair l m ms) (means_pair l' m' ms') =
         let q = one_meaning l l' in
@@ -149,9 +183,11 @@ module _ (table : List PlainShape) (root : DocNode) where
         record { data_is = rs.data_is; nestings = cc; follows = cc }
 
   -- a node that is stepped over costs nothing
-  free_as : {h : Handing} {s : PlainShape} {n : DocNode} {taken : Bool} {v : PlainData} {d k : ℕ} → h ≡ as_ignored → MeansAs table root h s n taken v d k → (v ≡ ignored_data) × (d ≡ 0) × (k ≡ 0)
+  free_as : {h : Handing} {s : PlainShape} {n : DocNode} {taken : Bool} {v : PlainData} {d k : ℕ} → h ≡ as_ignored
+      → MeansAs table root h s n taken v d k → (v ≡ ignored_data) × (d ≡ 0) × (k ≡ 0)
   free_as e means_ignored = (refl, refl, refl)
   free_as e _ = absurd cc
 
-  pub ignored_is_free : {n : DocNode} {taken : Bool} {v : PlainData} {d k : ℕ} → Means table root ignored_shape n taken v d k → (v ≡ ignored_data) × (d ≡ 0) × (k ≡ 0)
+  pub ignored_is_free : {n : DocNode} {taken : Bool} {v : PlainData} {d k : ℕ}
+      → Means table root ignored_shape n taken v d k → (v ≡ ignored_data) × (d ≡ 0) × (k ≡ 0)
   ignored_is_free (means_node late to m) = free_as (sym to) m

@@ -1,5 +1,6 @@
 -- Placing a fault changes no answer, no place where a reading ends, and no fault of a limit.
-use Rattle.std.proofs.Common.{◌≡◌, ℕ, Bool, true, false, Result, Ok, Err, refl, sym, ap, ◌∙◌, Option, Some, None, zero, suc, ◌<◌, ◌-◌, arith}
+use Rattle.std.proofs.Common.{◌≡◌, ℕ, Bool, true, false, Result, Ok, Err, refl, sym, ap, ◌∙◌, Option, Some, None, zero}
+use Rattle.std.proofs.Common.{suc, ◌<◌, ◌-◌, arith}
 use Rattle.yaml_base.specs.Answer.{is_memory}
 use Rattle.yaml_base.specs.CausePlace.{filled}
 use Rattle.yaml_base.specs.Position.{Position}
@@ -19,7 +20,8 @@ use Rattle.yaml_read.proofs.reading.TreeWalks.{landed}
 
 module _ (here : Bool) (mark : Position) (way : Way) where
   -- both readers place alike
-  pub landed_place : {A : Type 0} (end : ℕ) (q : Reading A) (r : Answer A) → q ≡ landed end r → place here mark way q ≡ landed end (place here mark way r)
+  pub landed_place : {A : Type 0} (end : ℕ) (q : Reading A) (r : Answer A) → q ≡ landed end r → place here mark way q
+      ≡ landed end (place here mark way r)
   landed_place end q (Ok x) e = rw e
   landed_place end q (Err y) e = rw e
 
@@ -33,19 +35,23 @@ filled_memory Memory p = refl
 filled_memory _ p = refl
 
 -- a node's reading is its step, with its fault placed
-pub node_unfolds : (source : Source) (way : Way) (s : PlainShape) (nest : ℕ) (taken : Option Around) (at : Spot) (fuel : ℕ) → 0 < fuel
-    → node_at source fuel way s nest taken at ≡ place_at way s (is_some taken) (source.events at.place) (node_step source (node_at source (fuel - 1)) way s nest taken at)
+pub node_unfolds : (source : Source) (way : Way) (s : PlainShape) (nest : ℕ) (taken : Option Around) (at : Spot)
+    (fuel : ℕ) → 0 < fuel
+    → node_at source fuel way s nest taken at ≡ place_at way s (is_some taken) (source.events at.place)
+    (node_step source (node_at source (fuel - 1)) way s nest taken at)
 unfolding node_at
 node_unfolds source way s nest taken at zero lt = absurd (omega arith)
 node_unfolds source way s nest taken at (suc f) lt = rw (enough f)
 
 module _ (way : Way) (s : PlainShape) (taken : Bool) where
-  pub place_ok : {A : Type 0} (e : Option (PlainDocEvent × Position)) (x : A) → ◌≡◌ {A = Result A Cause} (place_at way s taken e (Ok x)) (Ok x)
+  pub place_ok : {A : Type 0} (e : Option (PlainDocEvent × Position)) (x : A)
+      → ◌≡◌ {A = Result A Cause} (place_at way s taken e (Ok x)) (Ok x)
   place_ok None x = refl
   place_ok (Some e) x = refl
 
   -- a fault is placed at the node's first event, where the call for the shape places it
-  pub place_here : {A : Type 0} (o : Option (PlainDocEvent × Position)) (e : PlainDocEvent) (m : Position) (y : Cause) → o ≡ Some (e, m)
+  pub place_here : {A : Type 0} (o : Option (PlainDocEvent × Position)) (e : PlainDocEvent) (m : Position) (y : Cause)
+      → o ≡ Some (e, m)
       → places s taken e ≡ true → ◌≡◌ {A = Result A Cause} (place_at way s taken o (Err y)) (Err (placed true m way y))
   place_here o e m y is p = rw (is, p)
 
@@ -53,11 +59,13 @@ module _ (way : Way) (s : PlainShape) (taken : Bool) where
   err_is h = cc
 
   -- a fault is placed alike, whatever the answer would have been, and it is want of memory as before
-  pub place_moved : {A B : Type 0} (e : Option (PlainDocEvent × Position)) (f y : Cause) → place_at {A = A} way s taken e (Err f) ≡ Err y → place_at {A = B} way s taken e (Err f) ≡ Err y
+  pub place_moved : {A B : Type 0} (e : Option (PlainDocEvent × Position)) (f y : Cause)
+      → place_at {A = A} way s taken e (Err f) ≡ Err y → place_at {A = B} way s taken e (Err f) ≡ Err y
   place_moved None f y h = ap Err (err_is h)
   place_moved (Some e) f y h = ap Err (err_is h)
 
-  pub place_memory : {A : Type 0} (e : Option (PlainDocEvent × Position)) (f y : Cause) → place_at {A = A} way s taken e (Err f) ≡ Err y → is_memory f ≡ is_memory y
+  pub place_memory : {A : Type 0} (e : Option (PlainDocEvent × Position)) (f y : Cause)
+      → place_at {A = A} way s taken e (Err f) ≡ Err y → is_memory f ≡ is_memory y
   place_memory None f y h = ap is_memory (err_is h)
   place_memory (Some e) f y h = chosen (places s taken e.0) ∙ ap is_memory (err_is h)
     where

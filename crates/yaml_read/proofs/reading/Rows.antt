@@ -1,5 +1,6 @@
 -- What becomes of a tuple's elements, by how many there are.
-use Rattle.std.proofs.Common.{◌≡◌, ℕ, zero, suc, ◌+◌, ◌<◌, ◌≤◌, Bool, true, false, List, [], ◌∷◌, length, None, Result, Ok, Err, refl, arith, ◌==◌}
+use Rattle.std.proofs.Common.{◌≡◌, ℕ, zero, suc, ◌+◌, ◌<◌, ◌≤◌, Bool, true, false, List, [], ◌∷◌, length, None, Result}
+use Rattle.std.proofs.Common.{Ok, Err, refl, arith, ◌==◌}
 use Rattle.std.specs.Prelude.{if◌then◌else◌, drop}
 use Rattle.std.proofs.lemmas.Bool.{eqb-true}
 use Rattle.yaml_base.specs.declared.error.Cause.{Cause}
@@ -36,6 +37,8 @@ pub row_long : (few : List ℕ) (count : ℕ) (ids : List ℕ) (vs : List PlainD
 row_long few count ids vs extra e some = rw e (chosen (extra == 0) refl)
   where
     chosen : (b : Bool) → (extra == 0) ≡ b
-        → ◌≡◌ {A = Result PlainData Cause} (if b then Ok (tuple_data (items_of vs)) else Err (InvalidLength (length vs + extra) (sequence_text count) None)) (Err (InvalidLength (length vs + extra) (sequence_text count) None))
+        → ◌≡◌ {A = Result PlainData Cause} (if b then Ok (tuple_data (items_of vs)) else Err
+        (InvalidLength (length vs + extra) (sequence_text count) None))
+        (Err (InvalidLength (length vs + extra) (sequence_text count) None))
     chosen true z = absurd (some (eqb-true extra 0 z))
     chosen false z = refl

@@ -20,18 +20,21 @@ data_err Q e y h = absurd cc
 
 module _ {A B : Type 0} where
   -- one step, and then another
-  pub data_then : (Q : B → Type 0) (r : Result A Cause) (f : A → Result B Cause) → IfData (λ x. IfData Q (f x)) r → IfData Q (r >>= f)
+  pub data_then : (Q : B → Type 0) (r : Result A Cause) (f : A → Result B Cause) → IfData (λ x. IfData Q (f x)) r
+      → IfData Q (r >>= f)
   data_then Q (Ok x) f h y e = h x refl y e
   data_then Q (Err e) f h y e' = absurd cc
 
 module _ {A B C : Type 0} where
   -- what is made of an answer
-  pub data_wrap : (Q : B × C → Type 0) (f : A → B) (r : Result (A × C) Cause) → IfData (λ x. Q (f x.0, x.1)) r → IfData Q (wrap f r)
+  pub data_wrap : (Q : B × C → Type 0) (f : A → B) (r : Result (A × C) Cause) → IfData (λ x. Q (f x.0, x.1)) r
+      → IfData Q (wrap f r)
   data_wrap Q f r h = data_then Q r (λ x. Ok (f x.0, x.1)) (λ x e. data_ok Q (f x.0, x.1) (h x e))
 
 module _ {A : Type 0} where
   -- a collection that is gone into
-  pub data_enter : (Q : A → Type 0) (nest : ℕ) (mark : Position) (go : ℕ → Result A Cause) → ((n : ℕ) → nest ≡ suc n → IfData Q (go n))
+  pub data_enter : (Q : A → Type 0) (nest : ℕ) (mark : Position) (go : ℕ → Result A Cause)
+      → ((n : ℕ) → nest ≡ suc n → IfData Q (go n))
       → IfData Q (enter nest mark go)
   data_enter Q zero mark go h = data_err Q _
   data_enter Q (suc n) mark go h = h n refl
@@ -43,23 +46,28 @@ module _ {A : Type 0} where
   data_follow Q (suc n) go h = h n refl
 
   -- a shape that is looked up
-  pub data_with : (Q : A → Type 0) (o : Option PlainShape) (go : PlainShape → Result A Cause) → ((s : PlainShape) → o ≡ Some s → IfData Q (go s))
+  pub data_with : (Q : A → Type 0) (o : Option PlainShape) (go : PlainShape → Result A Cause)
+      → ((s : PlainShape) → o ≡ Some s → IfData Q (go s))
       → IfData Q (with_shape o go)
   data_with Q None go h = data_err Q _
   data_with Q (Some s) go h = h s refl
 
   -- no fault comes first
-  pub data_unless : (Q : A → Type 0) (o : Option Cause) (r : Result A Cause) → (o ≡ None → IfData Q r) → IfData Q (unless o r)
+  pub data_unless : (Q : A → Type 0) (o : Option Cause) (r : Result A Cause) → (o ≡ None → IfData Q r)
+      → IfData Q (unless o r)
   data_unless Q None r h = h refl
   data_unless Q (Some e) r h = data_err Q e
 
   -- an answer with where the reading ended
-  pub data_ending : {C : Type 0} (Q : A × C → Type 0) (end : C) (r : Result A Cause) → ((v : A) → r ≡ Ok v → Q (v, end)) → IfData Q (ending end r)
+  pub data_ending : {C : Type 0} (Q : A × C → Type 0) (end : C) (r : Result A Cause) → ((v : A) → r ≡ Ok v → Q (v, end))
+      → IfData Q (ending end r)
   data_ending Q end (Err e) h = data_err Q e
   data_ending Q end (Ok v) h = data_ok Q (v, end) (h v refl)
 
 module _ {S A C : Type 0} where
   -- what is made of the state at the end
-  pub data_finish : (Q : A × C → Type 0) (f : S → Result A Cause) (r : Result (S × C) Cause) → IfData (λ x. IfData (λ v. Q (v, x.1)) (f x.0)) r
+  pub data_finish : (Q : A × C → Type 0) (f : S → Result A Cause) (r : Result (S × C) Cause)
+      → IfData (λ x. IfData (λ v. Q (v, x.1)) (f x.0)) r
       → IfData Q (finish f r)
-  data_finish Q f r h = data_then Q r _ (λ x e. data_then Q (f x.0) (λ v. Ok (v, x.1)) (λ v e'. data_ok Q (v, x.1) (h x e v e')))
+  data_finish Q f r h = data_then Q r _ (λ x e. data_then Q (f x.0) (λ v. Ok (v, x.1))
+      (λ v e'. data_ok Q (v, x.1) (h x e v e')))

@@ -1,5 +1,6 @@
 -- What a document gives, from what its reading gives.
-use Rattle.std.proofs.Common.{◌≡◌, ℕ, suc, ◌+◌, ◌*◌, ◌<◌, ◌≤◌, List, [], ◌∷◌, map, length, Some, None, Result, Ok, Err, false, refl, sym, ap, subst, ◌∙◌, arith}
+use Rattle.std.proofs.Common.{◌≡◌, ℕ, suc, ◌+◌, ◌*◌, ◌<◌, ◌≤◌, List, [], ◌∷◌, map, length, Some, None, Result, Ok, Err}
+use Rattle.std.proofs.Common.{false, refl, sym, ap, subst, ◌∙◌, arith}
 use Rattle.std.specs.Prelude.{slice_get}
 use Rattle.std.proofs.lemmas.List.{length-map}
 use Rattle.std.proofs.lemmas.Option.{slice_get_within}
@@ -52,14 +53,22 @@ whole_reading limits table document s =
     (record { place = 0; left = limits.follows * length document.events })
 
 -- what the walk over a document's events gives is that reading
-pub seen_whole : (limits : PlainLimits) (table : List PlainShape) (s : PlainShape) → reach table s ≤ 4096 → (document : PlainDocument)
-    (es : List (DocEvent × Position)) (ends : List ℕ) (r : Reading PlainData) → marked_events_of es ≡ document.events → ends ≡ ends_of (map (λ e. e.0) document.events)
+pub seen_whole : (limits : PlainLimits) (table : List PlainShape) (s : PlainShape) → reach table s ≤ 4096
+    → (document : PlainDocument)
+    (es : List (DocEvent × Position)) (ends : List ℕ) (r : Reading PlainData) → marked_events_of es ≡ document.events
+    → ends ≡ ends_of (map (λ e. e.0) document.events)
     → ((fuel : ℕ) → depth table s false limits.nesting (limits.follows * length es) < fuel
-    → node_at (record { table = table; events = slice_get (marked_events_of es); ends = slice_get ends; size = length es }) fuel root_way s limits.nesting None
+    → node_at (record {
+      table = table;
+      events = slice_get (marked_events_of es);
+      ends = slice_get ends;
+      size = length es;
+    }) fuel root_way s limits.nesting None
     (record { place = 0; left = limits.follows * length es }) ≡ r)
     → whole_reading limits table document s ≡ r
 seen_whole limits table s small document es ends r seen numbers gives =
-    let size : length es ≡ length document.events = sym (length-map es (λ e. (doc_event_of e.0, e.1))) ∙ ap length seen in
+    let size : length es ≡ length document.events = sym (length-map es (λ e. (doc_event_of e.0, e.1)))
+    ∙ ap length seen in
     let same = gives (whole_fuel limits (length es)) (omega (arith, small)) in
     rw (seen, size, numbers) at same
 
@@ -69,7 +78,8 @@ same_ok x y h = cc
 err_is : {A : Type 0} (e f : Cause) → ◌≡◌ {A = Result A Cause} (Err e) (Err f) → e ≡ f
 err_is e f h = cc
 
-landed_ok : (p : ℕ) (r : Answer PlainData) (v : PlainData) (next : Spot) → landed p r ≡ Ok (v, next) → (r >>= λ x. Ok x.0) ≡ Ok v
+landed_ok : (p : ℕ) (r : Answer PlainData) (v : PlainData) (next : Spot) → landed p r ≡ Ok (v, next)
+    → (r >>= λ x. Ok x.0) ≡ Ok v
 landed_ok p (Ok x) v next h = ap (λ (y : PlainData × Spot). Ok y.0) (same_ok _ _ h)
 landed_ok p (Err y) v next h = absurd cc
 
@@ -91,37 +101,55 @@ module _ (limits : PlainLimits) (table : List PlainShape) (s : PlainShape) (docu
     shown = subst (Shows (slice_get document.events) 0) is.events (shows_list document.events)
 
     -- what reading by places answers is what reading the tree answers
-    tied : whole_reading limits table document s ≡ landed (0 + length (events_of root)) (whole_tree limits table document.events s root)
+    tied : whole_reading limits table document s ≡ landed (0 + length (events_of root))
+        (whole_tree limits table document.events s root)
     tied =
-        reader_tied (whole_source table document) (λ p e. slice_get_within document.events p e) (node_ends document.events) (marks_of document.events) (λ p. refl) root shown is.known
-        (whole_fuel limits (length document.events)) root_way s limits.nesting None root (record { place = 0; left = limits.follows * length document.events }) shown
+        reader_tied (whole_source table document) (λ p e. slice_get_within document.events p e)
+        (node_ends document.events) (marks_of document.events) (λ p. refl) root shown is.known
+        (whole_fuel limits (length document.events)) root_way s limits.nesting None root
+        (record { place = 0; left = limits.follows * length document.events }) shown
 
     -- an answer is what the tree means
-    answer_read : (v : PlainData) → answer_of limits table s document root ≡ Ok v → Reads limits table s root (length document.events) v
+    answer_read : (v : PlainData) → answer_of limits table s document root ≡ Ok v
+        → Reads limits table s root (length document.events) v
     answer_read v h =
         let r = answer_ok (whole_tree limits table document.events s root) v h in
-        let f = tree_sound table root (marks_of document.events) (whole_fuel limits (length document.events)) root_way s limits.nesting None root
+        let f = tree_sound table root (marks_of document.events)
+        (whole_fuel limits (length document.events)) root_way s limits.nesting None root
         (record { place = 0; left = limits.follows * length document.events }) (v, r.0) r.1 in
-        record { nestings = f.d; followed = f.k; means = f.meaning; nests_within = f.nested; follows_within = omega (arith, f.followed) }
+        record {
+          nestings = f.d;
+          followed = f.k;
+          means = f.meaning;
+          nests_within = f.nested;
+          follows_within = omega (arith, f.followed);
+        }
 
   -- data that reading by places finds is the answer of the tree, and so is a fault
-  pub answered : (v : PlainData) (next : Spot) → whole_reading limits table document s ≡ Ok (v, next) → (root : DocNode) → IsTreeOf document root → Ok v ≡ answer_of limits table s document root
-  answered v next h root is = sym (landed_ok _ (whole_tree limits table document.events s root) v next (sym (tied root is) ∙ h))
+  pub answered : (v : PlainData) (next : Spot) → whole_reading limits table document s ≡ Ok (v, next) → (root : DocNode)
+      → IsTreeOf document root → Ok v ≡ answer_of limits table s document root
+  answered v next h root is = sym (landed_ok _ (whole_tree limits table document.events s root) v next
+      (sym (tied root is) ∙ h))
 
-  pub refused : (y : Cause) → whole_reading limits table document s ≡ Err y → (root : DocNode) → IsTreeOf document root → Err y ≡ answer_of limits table s document root
+  pub refused : (y : Cause) → whole_reading limits table document s ≡ Err y → (root : DocNode) → IsTreeOf document root
+      → Err y ≡ answer_of limits table s document root
   refused y h root is = sym (landed_err _ (whole_tree limits table document.events s root) y (sym (tied root is) ∙ h))
 
   -- walks through optionals end
-  module _ (small : (id : ℕ) → rank table id ≤ 4096) (falls : (id content : ℕ) → shape_at table id ≡ Some (option_shape content) → rank table content < rank table id)
+  module _ (small : (id : ℕ) → rank table id ≤ 4096) (falls : (id content : ℕ) → shape_at table id
+      ≡ Some (option_shape content) → rank table content < rank table id)
       (low : reach table s ≤ 4096) where
     outcome : (root : DocNode) (v : PlainData) (d k : ℕ) → Means table root s root false v d k
-        → Outcome (whole_tree limits table document.events s root) v limits.nesting (limits.follows * length document.events) d k
+        → Outcome (whole_tree limits table document.events s root) v limits.nesting
+        (limits.follows * length document.events) d k
     outcome root v d k m =
-        tree_outcome table root (marks_of document.events) small falls m root_way (whole_fuel limits (length document.events)) limits.nesting None
+        tree_outcome table root (marks_of document.events) small falls m root_way
+        (whole_fuel limits (length document.events)) limits.nesting None
         (record { place = 0; left = limits.follows * length document.events }) refl (omega (arith, low))
 
     -- within the limits what the tree means is answered
-    read_answer : (root : DocNode) (v : PlainData) → Reads limits table s root (length document.events) v → answer_of limits table s document root ≡ Ok v
+    read_answer : (root : DocNode) (v : PlainData) → Reads limits table s root (length document.events) v
+        → answer_of limits table s document root ≡ Ok v
     read_answer root v r = elim (outcome root v r.nestings r.followed r.means) [
       | reads a b e ↦ ap (λ (q : Answer PlainData). q >>= λ x. Ok x.0) e
       | deep m a e ↦ absurd (omega (arith, r.nests_within))
@@ -129,7 +157,8 @@ module _ (limits : PlainLimits) (table : List PlainShape) (s : PlainShape) (docu
     ]
 
     -- a refusal of what has a meaning is one that the limits ask for
-    answer_refusal : (root : DocNode) (v : PlainData) (d k : ℕ) (y : Cause) → Means table root s root false v d k → answer_of limits table s document root ≡ Err y
+    answer_refusal : (root : DocNode) (v : PlainData) (d k : ℕ) (y : Cause) → Means table root s root false v d k
+        → answer_of limits table s document root ≡ Err y
         → IsRefusal limits (length document.events) d k y
     answer_refusal root v d k y m h =
         let f = answer_err (whole_tree limits table document.events s root) y h in
@@ -144,7 +173,8 @@ module _ (limits : PlainLimits) (table : List PlainShape) (s : PlainShape) (docu
 
     -- what answers as the tree does, and no data of a document that was cut off, is what the document gives
     pub gives_of_exact : (given : Result PlainData Cause) → ((v : PlainData) → given ≡ Ok v → document.ending ≡ None)
-        → ((root : DocNode) → IsTreeOf document root → given ≡ answer_of limits table s document root) → DocumentGives limits table s document given
+        → ((root : DocNode) → IsTreeOf document root → given ≡ answer_of limits table s document root)
+        → DocumentGives limits table s document given
     gives_of_exact given whole exact = record {
       whole = whole;
       found = λ root v is e. answer_read root is v (sym (exact root is) ∙ e);

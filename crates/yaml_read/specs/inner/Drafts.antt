@@ -1,8 +1,10 @@
 -- The events of a document before its end is reached: aliases wait for their targets.
-use Rattle.std.specs.Prelude.{ℕ, ◌≡◌, ◌+◌, List, [], ◌∷◌, ◌++◌, map, length, Bool, true, false, IsTrue, All, Option, Some, None}
+use Rattle.std.specs.Prelude.{ℕ, ◌≡◌, ◌+◌, List, [], ◌∷◌, ◌++◌, map, length, Bool, true, false, IsTrue, All, Option}
+use Rattle.std.specs.Prelude.{Some, None}
 use Rattle.std.specs.Prelude.{suc, zero}
 use Rattle.yaml_base.specs.Position.{Position}
-use Rattle.yaml_base.specs.PlainEvent.{PlainEvent, alias, scalar, sequence_start, sequence_end, mapping_start, mapping_end}
+use Rattle.yaml_base.specs.PlainEvent.{PlainEvent, alias, scalar, sequence_start, sequence_end, mapping_start}
+use Rattle.yaml_base.specs.PlainEvent.{mapping_end}
 use Rattle.yaml_read.specs.DocEventView.{marked_events_of}
 use Rattle.yaml_read.specs.Documents.{Find, Input, anchors_in}
 use Rattle.yaml_read.specs.Gathering.{AreCuts, documents_in}
@@ -63,7 +65,8 @@ abbrev pub Settled : Type 0
 Settled = List (PlainDocEvent × Position) × Option ℕ
 
 -- one alias gets its target, and then the later ones; nothing is done where it is unknown
-abbrev pub settle : Option ℕ → ℕ → List (PlainDocEvent × Position) → (List (PlainDocEvent × Position) → Settled) → Settled
+abbrev pub settle : Option ℕ → ℕ → List (PlainDocEvent × Position) → (List (PlainDocEvent × Position) → Settled)
+    → Settled
 settle None place events later = (events, Some place)
 settle (Some target) place events later = later (aimed place target events)
 

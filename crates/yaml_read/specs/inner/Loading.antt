@@ -39,7 +39,8 @@ is_inside _ = false
 -- the documents that are to come make the documents of all events complete
 abbrev pub AreAll : Option PlainFault → Input → List PlainDocument → Bool → Input → Type 0
 AreAll fault all documents opened left =
-    (documents ++ map (document_from fault) (after_starts opened left) ≡ map (document_from fault) (after_starts false all))
+    (documents ++ map (document_from fault) (after_starts opened left)
+    ≡ map (document_from fault) (after_starts false all))
     × (is_open_after opened left ≡ is_open_after false all)
 
 -- the draft holds the documents that have ended
@@ -55,7 +56,8 @@ pub record IsOpenDraft (fault : Option PlainFault) (all left : Input) (d : Draft
   pub seen : Input
   pub draft : IsDraft events numbers seen d
   pub cuts : AreCuts events numbers d.cuts.items
-  pub complete : AreAll fault all (documents_in events d.cuts.items ++ document_from fault (seen ++ left) ∷ []) true left
+  pub complete : AreAll fault all (documents_in events d.cuts.items ++ document_from fault (seen ++ left) ∷ []) true
+      left
 
 -- the draft where a document is open, and where none is
 abbrev pub IsOnWay : Bool → Option PlainFault → Input → Input → Draft → Type 0

@@ -8,7 +8,8 @@ pub record EndsView : Type 0 where
   pub numbers : List ℕ
   pub unended : List ℕ
 
--- The numbers once the open collections, the innermost first, are ended by the events from a place on, where a number of
+-- The numbers once the open collections, the innermost first, are ended by the events from a place on, where a number
+-- of
 -- collections are open within the first of them.
 abbrev pub filled : List ℕ → ℕ → ℕ → List PlainDocEvent → List ℕ → List ℕ
 filled [] inner place later numbers = numbers

@@ -29,8 +29,10 @@ use Rattle.yaml_read.specs.ScalarFound.{sequence_fault, mapping_fault}
 use Rattle.yaml_read.specs.ScalarShapes.{scalar_answer, void_answer}
 use Rattle.yaml_read.specs.Steps.{◌>>=◌, ending, wrap, enter, follow, finish, with_shape, unless}
 use Rattle.yaml_read.specs.TreeReader.{Spot, after, mark_or_first}
-pub use Rattle.yaml_read.specs.inner.Takes.{takes_sequence, takes_mapping, takes, is_leaf, other_answer, fields_in, rows_in}
-pub use Rattle.yaml_read.specs.inner.Takes.{row_shape, Owner, of_tuple, of_tuple_struct, of_tuple_variant, owner_named, few_text}
+pub use Rattle.yaml_read.specs.inner.Takes.{takes_sequence, takes_mapping, takes, is_leaf, other_answer, fields_in}
+pub use Rattle.yaml_read.specs.inner.Takes.{rows_in}
+pub use Rattle.yaml_read.specs.inner.Takes.{row_shape, Owner, of_tuple, of_tuple_struct, of_tuple_variant, owner_named}
+pub use Rattle.yaml_read.specs.inner.Takes.{few_text}
 
 -- what reading answers: a value and where it ended, or a fault
 abbrev pub Reading : Type 0 → Type 0
@@ -40,7 +42,8 @@ Reading A = Result (A × Spot) Cause
 abbrev pub Events : Type 0
 Events = ℕ → Option (PlainDocEvent × Position)
 
--- what is read: the shapes, the events, where the collection ends that begins at each place, and how many events there are
+-- what is read: the shapes, the events, where the collection ends that begins at each place, and how many events there
+-- are
 pub record Source : Type 0 where
   pub table : List PlainShape
   pub events : Events
@@ -69,7 +72,8 @@ turn is_end step more s at None = Err EndOfStream
 turn is_end step more s at (Some e) = if is_end e.0 then Ok (s, after at) else (step s at >>= λ x. more x.0 x.1)
 
 -- the parts of a collection to its end, in at most so many turns; the number of the events is always enough
-unfoldable pub each_at : {S : Type 0} → (PlainDocEvent → Bool) → (S → Spot → Reading S) → Events → ℕ → S → Spot → Reading S
+unfoldable pub each_at : {S : Type 0} → (PlainDocEvent → Bool) → (S → Spot → Reading S) → Events → ℕ → S → Spot
+    → Reading S
 each_at is_end step events zero s at = Err Memory
 each_at is_end step events (suc n) s at = turn is_end step (each_at is_end step events n) s at (events at.place)
 
@@ -99,7 +103,8 @@ place_at way s taken (Some e) r = place (places s taken e.0) e.1 way r
 
 module _ (source : Source) where
   -- one more entry
-  abbrev pub entry_at : (Way → Reader) → Way → (key value : PlainShape) → (nest : ℕ) → List (PlainData × PlainData) → Spot
+  abbrev pub entry_at : (Way → Reader) → Way → (key value : PlainShape) → (nest : ℕ) → List (PlainData × PlainData)
+      → Spot
       → Reading (List (PlainData × PlainData))
   entry_at read way s t nest vs at =
       wrap {B = Way × PlainData} (λ k. (value_at way (source.events at.place), k)) (read way s nest None at)
@@ -138,7 +143,8 @@ module _ (source : Source) where
       (skip_at at) row
 
   -- the key of a field, and then its value
-  abbrev pub field_key_at : (Way → Reader) → Way → (strict : Bool) → Fields → (nest : ℕ) → Slots → Spot → Reading (Option (ℕ × ℕ) × Way)
+  abbrev pub field_key_at : (Way → Reader) → Way → (strict : Bool) → Fields → (nest : ℕ) → Slots → Spot
+      → Reading (Option (ℕ × ℕ) × Way)
   field_key_at read way strict fields nest slots at =
       finish (λ k. field_named strict fields slots (name_in k)
       (record { mark = mark_or_first (source.events (text_at at.place (source.events at.place))); path = way.text })
@@ -162,7 +168,8 @@ module _ (source : Source) where
   -- the elements of a tuple
   abbrev pub rows_at : (Way → Reader) → Way → (few ids : List ℕ) → ℕ → Position → Spot → Reading PlainData
   rows_at read way few ids nest mark at =
-      enter nest mark (λ n. finish (row_data few (length ids)) (sequence_parts (row_at read way n) source.size (row_of ids) at))
+      enter nest mark (λ n. finish (row_data few (length ids))
+      (sequence_parts (row_at read way n) source.size (row_of ids) at))
 
   -- the fields of a struct
   abbrev pub fields_at : (Way → Reader) → Way → (strict : Bool) → Fields → ℕ → Position → Spot → Reading PlainData
@@ -218,7 +225,8 @@ module _ (source : Source) where
   handed_at (as_newtype c) read way s nest taken at e mark =
       enter nest mark (λ m. with_shape (shape_at source.table c) (λ t. wrap newtype_data (read way t m taken at)))
   handed_at as_ignored read way s nest taken at e mark = skip_at at
-  handed_at (as_bare fields) read way s nest taken at e mark = ending (after at) (struct_of source.table fields (no_slots fields))
+  handed_at (as_bare fields) read way s nest taken at e mark =
+      ending (after at) (struct_of source.table fields (no_slots fields))
   handed_at (as_variant place around content) read way s nest taken at e mark =
       with_shape (content_shape source.table around.name around.variant content) (λ t.
       wrap (variant_data place) (read way t nest (Some around) at))

@@ -5,7 +5,8 @@ use Rattle.yaml_base.specs.declared.error.Cause.TheVariants.{EndOfStream}
 use Rattle.yaml_shape.specs.Expected.{tuple_text, tuple_struct_text, tuple_variant_with_text}
 use Rattle.yaml_shape.specs.PlainData.{PlainData}
 use Rattle.yaml_shape.specs.PlainShape.{PlainShape, bool_shape, char_shape, integer_shape, str_shape, identifier_shape}
-use Rattle.yaml_shape.specs.PlainShape.{unit_shape, unit_struct_shape, seq_shape, tuple_shape, tuple_struct_shape, map_shape}
+use Rattle.yaml_shape.specs.PlainShape.{unit_shape, unit_struct_shape, seq_shape, tuple_shape, tuple_struct_shape}
+use Rattle.yaml_shape.specs.PlainShape.{map_shape}
 use Rattle.yaml_shape.specs.PlainShape.{struct_shape, any_shape, tuple_variant_shape, struct_variant_shape}
 use Rattle.yaml_read.specs.Fields.{Fields}
 use Rattle.yaml_read.specs.PlainDocEvent.{PlainDocEvent, a_scalar, sequence_begins, mapping_begins}

@@ -25,7 +25,8 @@ use Rattle.yaml_read.specs.declared.de.row.Elements.{Elements}
 use Rattle.yaml_read.specs.declared.de.row.Owner.{Owner as CodeOwner}
 use Rattle.yaml_read.specs.declared.de.row.Owner.TheVariants as owner
 use Rattle.yaml_read.specs.declared.de.source.Source.{Source as CodeSource}
-use Rattle.yaml_read.specs.inner.Reader.{Source, Events, Reader, node_at, Owner, of_tuple, of_tuple_struct, of_tuple_variant}
+use Rattle.yaml_read.specs.inner.Reader.{Source, Events, Reader, node_at, Owner, of_tuple, of_tuple_struct}
+use Rattle.yaml_read.specs.inner.Reader.{of_tuple_variant}
 use Rattle.yaml_read.specs.Places.{Way}
 
 -- the event at each place
@@ -58,7 +59,11 @@ spot_of w = record { place = w.place; left = w.left }
 
 -- the elements that were read of a tuple with these shapes
 abbrev pub row_view : List ℕ → Elements → Row
-row_view ids row = record { left = drop (length row.read.items) ids; read = map data_of row.read.items; extra = row.extra }
+row_view ids row = record {
+  left = drop (length row.read.items) ids;
+  read = map data_of row.read.items;
+  extra = row.extra;
+}
 
 -- whose elements are read
 abbrev pub owner_of : CodeOwner → Owner
@@ -92,7 +97,8 @@ variant_view = option_map (λ v. (v.0, content_of v.1.now))
 abbrev pub IsAmong : Fields → ℕ × ShapeId → Type 0
 IsAmong fields f = slice_get (numbers_of fields) f.0 ≡ Some f.1.0
 
--- The most steps that may follow among n events: the rest of the way, and the whole way for each follow that is left, each twice.
+-- The most steps that may follow among n events: the rest of the way, and the whole way for each follow that is left,
+-- each twice.
 abbrev pub potential : (n : ℕ) → Walk → ℕ
 potential n w = 2 * (n - w.place) + 2 * (n * w.left)
 
@@ -100,7 +106,8 @@ potential n w = 2 * (n - w.place) + 2 * (n * w.left)
 abbrev pub Costs : (n : ℕ) → Walk → Walk → Type 0
 Costs n old new = new.steps.count ≤ old.steps.count + potential n old
 
--- The walk went over a node: it is further on, within the document, with no more follows left, each event that it passed is
+-- The walk went over a node: it is further on, within the document, with no more follows left, each event that it
+-- passed is
 -- counted, and the steps taken and the steps that may follow are together no more than before.
 abbrev pub Moves : (n : ℕ) → Walk → Walk → Type 0
 Moves n old new = (old.place < new.place) × (new.place ≤ n) × (new.left ≤ old.left)

@@ -16,8 +16,8 @@ use std::alloc::Global;
 use yaml_base::Result;
 use yaml_shape::{Data, Shape};
 
-// A whole document that is one scalar with a meaning takes no memory as a boolean, an integer or a unit, nor as a text that
-// the source shows; nor does any whole document that is stepped over.
+// A whole document that is one scalar with a meaning takes no memory as a boolean, an integer or a unit, nor as a text
+// that the source shows; nor does any whole document that is stepped over.
 impl<'de> Document<'de> {
     /// The data of the document as a value of any kind.
     pub fn deserialize_any(&self, alloc: Global) -> Result<Data<'de>>

@@ -14,7 +14,8 @@ ghost use Rattle.yaml_read.specs.NodeTags.{untaken_name};
 ghost use Rattle.yaml_read.specs.Places.{way_of};
 ghost use Rattle.yaml_read.specs.Steps.{with_shape};
 ghost use Rattle.yaml_read.specs.inner.Reader.{shape_step, node_step};
-ghost use Rattle.yaml_read.specs.inner.Walks.{around_of, plain_around, source_of, spot_of, reader_of, seen, Moves, Costs};
+ghost use Rattle.yaml_read.specs.inner.Walks.{around_of, plain_around, source_of, spot_of, reader_of, seen, Moves};
+ghost use Rattle.yaml_read.specs.inner.Walks.{Costs};
 
 use crate::de::around::{Around, untaken_name};
 use crate::de::contents::{found_in_fields, found_in_row};
@@ -57,9 +58,11 @@ impl<'s, 'de> Source<'s, 'de> {
         requires shape { shape_of shape.now ≡ enum_shape name.now (variants_of variants.now) }
         requires named { NamesWithin (length self.now.schema.now) (shape_of shape.now) }
         requires forward { GoForward self.now.ends.now }
-        ensures gives { (fuel : ℕ) → depth self.now.schema.now (shape_of shape.now) (is_some (around_of taken.entry)) nest walk.old.left < suc fuel
+        ensures gives { (fuel : ℕ) → depth self.now.schema.now (shape_of shape.now)
+            (is_some (around_of taken.entry)) nest walk.old.left < suc fuel
             → Gives (λ x. (data_of x, spot_of walk.new)) result
-            (shape_step (source_of self.now) (reader_of fuel self.now) (way_of path.now) (shape_of shape.now) nest (around_of taken.entry)
+            (shape_step (source_of self.now) (reader_of fuel self.now) (way_of path.now) (shape_of shape.now) nest
+            (around_of taken.entry)
             (spot_of walk.old) (seen self.now.events.now walk.old.place)) }
         ensures moves { OnOk result (Moves (length self.now.events.now) walk.old walk.new) }
         ensures cost { Costs (length self.now.events.now) walk.old walk.new }

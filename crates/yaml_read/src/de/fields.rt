@@ -119,8 +119,8 @@ pub(super) fn missing_field(alloc: Global, name: &str) -> Refusal
     }
 }
 
-/// The field that the name of a key is looked up as, if it is one. A strict struct refuses other names at the key's mark;
-/// a field that was read already is refused.
+/// The field that the name of a key is looked up as, if it is one. A strict struct refuses other names at the key's
+/// mark; a field that was read already is refused.
 pub(super) fn field_named(
     alloc: Global,
     path: &Path<'_>,

@@ -63,7 +63,8 @@ pub(super) fn found_scalar_for(
     scalar: &DocScalar<'_>,
 ) -> Refusal
     ensures { is_memory result ≡ false
-        → result ≡ fault_in (sort_of taken (doc_scalar_of scalar.now)) scalar.now.value.items (expected_of expected.now) }
+        → result ≡ fault_in (sort_of taken (doc_scalar_of scalar.now)) scalar.now.value.items
+        (expected_of expected.now) }
 {
     match found_in(alloc, taken, scalar) {
         Ok(found) => found_other(alloc, found, expected),

@@ -7,7 +7,8 @@ ghost use Rattle.yaml_base.specs.Integers.{number_in, decimal};
 ghost use Rattle.yaml_read.specs.DocEventView.{doc_scalar_of};
 ghost use Rattle.yaml_read.specs.ScalarShapes.{plain_text, signed_text, unsigned_text, utf8_text};
 ghost use Rattle.yaml_read.specs.CoreTags.{int_tag};
-ghost use Rattle.yaml_shape.specs.PlainShape.{i64 as long, i128 as longest, u64 as unsigned_long, u128 as unsigned_longest};
+ghost use Rattle.yaml_shape.specs.PlainShape.{i64 as long, i128 as longest, u64 as unsigned_long};
+ghost use Rattle.yaml_shape.specs.PlainShape.{u128 as unsigned_longest};
 
 use crate::de::sort::{is_plain_or_tagged_literal, text_of, utf8_text};
 use crate::doc_event::DocScalar;
@@ -108,7 +109,8 @@ pub(super) fn signed_128(taken: bool, scalar: &DocScalar<'_>) -> Option<i128>
 /// The integer of 64 bits without a sign that a scalar writes.
 #[tactic(auto, unfolding(crate::specs::CoreTags::int_tag))]
 pub(super) fn unsigned_64(taken: bool, scalar: &DocScalar<'_>) -> Option<u128>
-    ensures { result ≡ option_and_then (unsigned_text unsigned_long) (plain_text int_tag taken (doc_scalar_of scalar.now)) }
+    ensures { result ≡ option_and_then (unsigned_text unsigned_long)
+        (plain_text int_tag taken (doc_scalar_of scalar.now)) }
 {
     if !is_plain_or_tagged_literal(Tag::INT, taken, scalar) {
         return None;
@@ -119,7 +121,8 @@ pub(super) fn unsigned_64(taken: bool, scalar: &DocScalar<'_>) -> Option<u128>
 /// The integer of 128 bits without a sign that a scalar writes.
 #[tactic(auto, unfolding(crate::specs::CoreTags::int_tag))]
 pub(super) fn unsigned_128(taken: bool, scalar: &DocScalar<'_>) -> Option<u128>
-    ensures { result ≡ option_and_then (unsigned_text unsigned_longest) (plain_text int_tag taken (doc_scalar_of scalar.now)) }
+    ensures { result ≡ option_and_then (unsigned_text unsigned_longest)
+        (plain_text int_tag taken (doc_scalar_of scalar.now)) }
 {
     if !is_plain_or_tagged_literal(Tag::INT, taken, scalar) {
         return None;

@@ -44,7 +44,8 @@ impl<'de> Document<'de> {
         self.deserialize(alloc, schema, id)
     }
 
-    /// The data of the document as a struct around one content, under the shape with this number, which is of that kind.
+    /// The data of the document as a struct around one content, under the shape with this number, which is of that
+    /// kind.
     pub fn deserialize_newtype_struct(
         &self,
         alloc: Global,
@@ -81,7 +82,8 @@ impl<'de> Document<'de> {
         self.deserialize(alloc, schema, id)
     }
 
-    /// The data of the document as a struct whose fields have no names, under the shape with this number, which is of that kind.
+    /// The data of the document as a struct whose fields have no names, under the shape with this number, which is of
+    /// that kind.
     pub fn deserialize_tuple_struct(
         &self,
         alloc: Global,

@@ -43,9 +43,11 @@ impl<'s, 'de> Source<'s, 'de> {
         requires mapping { shape_of shape.now ≡ map_shape key.0 value.0 }
         requires named { NamesWithin (length self.now.schema.now) (shape_of shape.now) }
         requires forward { GoForward self.now.ends.now }
-        ensures gives { (fuel : ℕ) → depth self.now.schema.now (shape_of shape.now) (is_some (around_of taken.entry)) nest walk.old.left < suc fuel
+        ensures gives { (fuel : ℕ) → depth self.now.schema.now (shape_of shape.now)
+            (is_some (around_of taken.entry)) nest walk.old.left < suc fuel
             → Gives (λ x. (data_of x, spot_of walk.new)) result
-            (shape_step (source_of self.now) (reader_of fuel self.now) (way_of path.now) (shape_of shape.now) nest (around_of taken.entry)
+            (shape_step (source_of self.now) (reader_of fuel self.now) (way_of path.now) (shape_of shape.now) nest
+            (around_of taken.entry)
             (spot_of walk.old) (seen self.now.events.now walk.old.place)) }
         ensures moves { OnOk result (Moves (length self.now.events.now) walk.old walk.new) }
         ensures cost { Costs (length self.now.events.now) walk.old walk.new }
@@ -87,7 +89,8 @@ impl<'s, 'de> Source<'s, 'de> {
             → length self.now.events.now < turns + walk.old.place
             → Gives (λ x. (map entry_of x.items, spot_of walk.new)) result
             (mapping_parts (source_of self.now)
-            (entry_at (source_of self.now) (reader_of fuel self.now) (way_of path.now) (shape_of key.now) (shape_of value.now) nest)
+            (entry_at (source_of self.now) (reader_of fuel self.now) (way_of path.now) (shape_of key.now)
+            (shape_of value.now) nest)
             turns [] (spot_of walk.old)) }
         ensures moves { OnOk result (Moves (length self.now.events.now) walk.old walk.new) }
         ensures cost { Costs (length self.now.events.now) walk.old walk.new }

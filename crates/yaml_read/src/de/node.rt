@@ -73,9 +73,11 @@ impl<'s, 'de> Source<'s, 'de> {
     ) -> Result<Data<'de>>
         requires named { NamesWithin (length self.now.schema.now) (shape_of shape.now) }
         requires forward { GoForward self.now.ends.now }
-        ensures gives { (fuel : ℕ) → depth self.now.schema.now (shape_of shape.now) (is_some (around_of taken.entry)) nest walk.old.left < fuel
+        ensures gives { (fuel : ℕ) → depth self.now.schema.now (shape_of shape.now)
+            (is_some (around_of taken.entry)) nest walk.old.left < fuel
             → Gives (λ x. (data_of x, spot_of walk.new)) result
-            (reader_of fuel self.now (way_of path.now) (shape_of shape.now) nest (around_of taken.entry) (spot_of walk.old)) }
+            (reader_of fuel self.now (way_of path.now) (shape_of shape.now) nest (around_of taken.entry)
+            (spot_of walk.old)) }
         ensures moves { OnOk result (Moves (length self.now.events.now) walk.old walk.new) }
         ensures cost { Costs (length self.now.events.now) walk.old walk.new }
     {
@@ -98,9 +100,11 @@ impl<'s, 'de> Source<'s, 'de> {
     ) -> Result<Data<'de>>
         requires named { NamesWithin (length self.now.schema.now) (shape_of shape.now) }
         requires forward { GoForward self.now.ends.now }
-        ensures gives { (fuel : ℕ) → depth self.now.schema.now (shape_of shape.now) (is_some (around_of taken.entry)) nest walk.old.left < suc fuel
+        ensures gives { (fuel : ℕ) → depth self.now.schema.now (shape_of shape.now)
+            (is_some (around_of taken.entry)) nest walk.old.left < suc fuel
             → Gives (λ x. (data_of x, spot_of walk.new)) result
-            (node_step (source_of self.now) (reader_of fuel self.now) (way_of path.now) (shape_of shape.now) nest (around_of taken.entry) (spot_of walk.old)) }
+            (node_step (source_of self.now) (reader_of fuel self.now) (way_of path.now) (shape_of shape.now) nest
+            (around_of taken.entry) (spot_of walk.old)) }
         ensures moves { OnOk result (Moves (length self.now.events.now) walk.old walk.new) }
         ensures cost { Costs (length self.now.events.now) walk.old walk.new }
     {
@@ -156,7 +160,8 @@ impl<'s, 'de> Source<'s, 'de> {
         }
     }
 
-    /// A node that is no collection of its shape's own: an alias, a scalar, void, or a collection that the shape does not read.
+    /// A node that is no collection of its shape's own: an alias, a scalar, void, or a collection that the shape does
+    /// not read.
     #[cycle(read)]
     pub(super) fn read_simple(
         &self,
@@ -171,9 +176,11 @@ impl<'s, 'de> Source<'s, 'de> {
         requires forward { GoForward self.now.ends.now }
         requires within { walk.old.place < length self.now.events.now }
         requires other { takes (shape_of shape.now) (doc_event_of event.now) ≡ false }
-        ensures gives { (fuel : ℕ) (mark : Position) → depth self.now.schema.now (shape_of shape.now) (is_some (around_of taken.entry)) nest walk.old.left < suc fuel
+        ensures gives { (fuel : ℕ) (mark : Position) → depth self.now.schema.now (shape_of shape.now)
+            (is_some (around_of taken.entry)) nest walk.old.left < suc fuel
             → Gives (λ x. (data_of x, spot_of walk.new)) result
-            (event_at (source_of self.now) (reader_of fuel self.now) (way_of path.now) (shape_of shape.now) nest (around_of taken.entry)
+            (event_at (source_of self.now) (reader_of fuel self.now) (way_of path.now) (shape_of shape.now) nest
+            (around_of taken.entry)
             (spot_of walk.old) (doc_event_of event.now) mark) }
         ensures moves { OnOk result (Moves (length self.now.events.now) walk.old walk.new) }
         ensures cost { Costs (length self.now.events.now) walk.old walk.new }
@@ -217,9 +224,11 @@ impl<'s, 'de> Source<'s, 'de> {
         requires leaf { is_leaf (shape_of shape.now) ≡ true }
         requires named { NamesWithin (length self.now.schema.now) (shape_of shape.now) }
         requires forward { GoForward self.now.ends.now }
-        ensures gives { (fuel : ℕ) → depth self.now.schema.now (shape_of shape.now) (is_some (around_of taken.entry)) nest walk.old.left < suc fuel
+        ensures gives { (fuel : ℕ) → depth self.now.schema.now (shape_of shape.now)
+            (is_some (around_of taken.entry)) nest walk.old.left < suc fuel
             → Gives (λ x. (data_of x, spot_of walk.new)) result
-            (node_step (source_of self.now) (reader_of fuel self.now) (way_of path.now) (shape_of shape.now) nest (around_of taken.entry) (spot_of walk.old)) }
+            (node_step (source_of self.now) (reader_of fuel self.now) (way_of path.now) (shape_of shape.now) nest
+            (around_of taken.entry) (spot_of walk.old)) }
         ensures moves { OnOk result (Moves (length self.now.events.now) walk.old walk.new) }
         ensures cost { Costs (length self.now.events.now) walk.old walk.new }
     {

@@ -50,9 +50,11 @@ impl<'s, 'de> Source<'s, 'de> {
         requires option { shape_of shape.now ≡ option_shape content.0 }
         requires named { NamesWithin (length self.now.schema.now) (shape_of shape.now) }
         requires forward { GoForward self.now.ends.now }
-        ensures gives { (fuel : ℕ) → depth self.now.schema.now (shape_of shape.now) (is_some (around_of taken.entry)) nest walk.old.left < suc fuel
+        ensures gives { (fuel : ℕ) → depth self.now.schema.now (shape_of shape.now)
+            (is_some (around_of taken.entry)) nest walk.old.left < suc fuel
             → Gives (λ x. (data_of x, spot_of walk.new)) result
-            (shape_step (source_of self.now) (reader_of fuel self.now) (way_of path.now) (shape_of shape.now) nest (around_of taken.entry)
+            (shape_step (source_of self.now) (reader_of fuel self.now) (way_of path.now) (shape_of shape.now) nest
+            (around_of taken.entry)
             (spot_of walk.old) (seen self.now.events.now walk.old.place)) }
         ensures moves { OnOk result (Moves (length self.now.events.now) walk.old walk.new) }
         ensures cost { Costs (length self.now.events.now) walk.old walk.new }
@@ -81,9 +83,11 @@ impl<'s, 'de> Source<'s, 'de> {
     ) -> Result<Data<'de>>
         requires named { inner.0 < length self.now.schema.now }
         requires forward { GoForward self.now.ends.now }
-        ensures gives { (fuel : ℕ) (name : List ℕ) → 8200 * (walk.old.left + nest) + untaken_reach (is_some (around_of taken.entry)) < suc fuel
+        ensures gives { (fuel : ℕ) (name : List ℕ) → 8200 * (walk.old.left + nest) + untaken_reach
+            (is_some (around_of taken.entry)) < suc fuel
             → Gives (λ x. (data_of x, spot_of walk.new)) result
-            (shape_step (source_of self.now) (reader_of fuel self.now) (way_of path.now) (newtype_shape name inner.0) nest (around_of taken.entry)
+            (shape_step (source_of self.now) (reader_of fuel self.now) (way_of path.now)
+            (newtype_shape name inner.0) nest (around_of taken.entry)
             (spot_of walk.old) (seen self.now.events.now walk.old.place)) }
         ensures moves { OnOk result (Moves (length self.now.events.now) walk.old walk.new) }
         ensures cost { Costs (length self.now.events.now) walk.old walk.new }

@@ -22,8 +22,8 @@ use yaml_base::{Mark, Path};
 use yaml_shape::{Data, Shape};
 
 impl<'s, 'de> Source<'s, 'de> {
-    /// A part of a collection, which begins with the event. Of a scalar it is known at once what it gives under a shape that
-    /// reads scalars alone.
+    /// A part of a collection, which begins with the event. Of a scalar it is known at once what it gives under a shape
+    /// that reads scalars alone.
     #[cycle(read)]
     #[inline(always)]
     pub(super) fn read_part(
@@ -131,7 +131,8 @@ impl<'s, 'de> Source<'s, 'de> {
         requires forward { GoForward self.now.ends.now }
         ensures gives { (fuel : ℕ) → depth self.now.schema.now (shape_of shape.now) false nest walk.old.left < fuel
             → Gives (λ x. (data_of x, spot_of walk.new)) result
-            (reader_of fuel self.now (value_under (way_of path.now) (doc_event_of key.now)) (shape_of shape.now) nest None
+            (reader_of fuel self.now (value_under (way_of path.now) (doc_event_of key.now))
+            (shape_of shape.now) nest None
             (spot_of walk.old)) }
         ensures moves { OnOk result (Moves (length self.now.events.now) walk.old walk.new) }
         ensures cost { Costs (length self.now.events.now) walk.old walk.new }

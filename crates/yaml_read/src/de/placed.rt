@@ -50,7 +50,8 @@ impl<'s, 'de> Source<'s, 'de> {
         place: usize,
         refusal: Refusal,
     ) -> Refusal
-        ensures { Fails result (place_at {A = Spot} (way_of path.now) (shape_of shape.now) (is_some (around_of taken.entry))
+        ensures { Fails result (place_at {A = Spot} (way_of path.now) (shape_of shape.now)
+            (is_some (around_of taken.entry))
             (seen self.now.events.now place) (Err refusal)) }
     {
         let Some((event, mark)) = self.event(place) else {

@@ -4,7 +4,8 @@ ghost use Rattle.std.specs.Prelude.{◌≡◌};
 ghost use Rattle.std.specs.Option.{option_copied};
 ghost use Rattle.yaml_read.specs.DocEventView.{doc_scalar_of};
 ghost use Rattle.yaml_read.specs.ScalarShapes.{is_plain_or_tagged_literal, text_of, utf8_text};
-ghost use Rattle.yaml_read.specs.ScalarSorts.{is_plain, is_literal, is_tag, is_local, has_untaken, is_resolved, sort_of};
+ghost use Rattle.yaml_read.specs.ScalarSorts.{is_plain, is_literal, is_tag, is_local, has_untaken, is_resolved};
+ghost use Rattle.yaml_read.specs.ScalarSorts.{sort_of};
 
 use crate::doc_event::DocScalar;
 use yaml_base::{ScalarStyle, Tag};

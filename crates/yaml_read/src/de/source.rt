@@ -16,8 +16,8 @@ use std::alloc::Global;
 use yaml_base::Mark;
 use yaml_shape::{Schema, Shape, ShapeId};
 
-/// Where a reading takes its memory, the shapes, the document's events, and for each event where the collection ends that
-/// begins there.
+/// Where a reading takes its memory, the shapes, the document's events, and for each event where the collection ends
+/// that begins there.
 #[derive(Clone, Copy)]
 pub(crate) struct Source<'s, 'de> {
     pub(crate) alloc: Global,
@@ -37,7 +37,8 @@ impl<'s, 'de> Source<'s, 'de> {
 
     /// The scalar at a place, where there is one, with its mark.
     pub(crate) fn scalar(&self, place: usize) -> Option<(&'s DocScalar<'de>, &'s Mark)>
-        ensures found { IfSome result (λ s. seen self.now.events.now place ≡ Some (a_scalar (doc_scalar_of s.0.now), s.1.now)) }
+        ensures found { IfSome result (λ s. seen self.now.events.now place
+            ≡ Some (a_scalar (doc_scalar_of s.0.now), s.1.now)) }
         ensures within { IfSome result (λ _. place < length self.now.events.now) }
     {
         match self.event(place)? {

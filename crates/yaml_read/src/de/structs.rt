@@ -13,8 +13,10 @@ ghost use Rattle.yaml_read.specs.Fields.{name_in, no_slots, struct_of, field_dat
 ghost use Rattle.yaml_read.specs.Handing.{depth, is_bare};
 ghost use Rattle.yaml_read.specs.Places.{way_of};
 ghost use Rattle.yaml_read.specs.TreeReader.{mark_or_first};
-ghost use Rattle.yaml_read.specs.inner.Reader.{shape_step, field_at, field_key_at, mapping_parts, value_at, text_at, fields_in};
-ghost use Rattle.yaml_read.specs.inner.Walks.{around_of, source_of, spot_of, reader_of, seen, slots_of, field_view, IsAmong, Moves, Costs};
+ghost use Rattle.yaml_read.specs.inner.Reader.{shape_step, field_at, field_key_at, mapping_parts, value_at, text_at};
+ghost use Rattle.yaml_read.specs.inner.Reader.{fields_in};
+ghost use Rattle.yaml_read.specs.inner.Walks.{around_of, source_of, spot_of, reader_of, seen, slots_of, field_view};
+ghost use Rattle.yaml_read.specs.inner.Walks.{IsAmong, Moves, Costs};
 
 use crate::de::around::Around;
 use crate::de::field_index::FieldIndex;
@@ -67,9 +69,11 @@ impl<'s, 'de> Source<'s, 'de> {
         requires named { NamesWithin (length self.now.schema.now) (shape_of shape.now) }
         requires named_fields { All (λ id. id < length self.now.schema.now) (numbers_of (fields_of fields.now)) }
         requires forward { GoForward self.now.ends.now }
-        ensures gives { (fuel : ℕ) → depth self.now.schema.now (shape_of shape.now) (is_some (around_of taken.entry)) nest walk.old.left < suc fuel
+        ensures gives { (fuel : ℕ) → depth self.now.schema.now (shape_of shape.now)
+            (is_some (around_of taken.entry)) nest walk.old.left < suc fuel
             → Gives (λ x. (data_of x, spot_of walk.new)) result
-            (shape_step (source_of self.now) (reader_of fuel self.now) (way_of path.now) (shape_of shape.now) nest (around_of taken.entry)
+            (shape_step (source_of self.now) (reader_of fuel self.now) (way_of path.now) (shape_of shape.now) nest
+            (around_of taken.entry)
             (spot_of walk.old) (seen self.now.events.now walk.old.place)) }
         ensures moves { OnOk result (Moves (length self.now.events.now) walk.old walk.new) }
         ensures cost { Costs (length self.now.events.now) walk.old walk.new }
@@ -112,7 +116,8 @@ impl<'s, 'de> Source<'s, 'de> {
             → length self.now.events.now < turns + walk.old.place
             → Gives (λ x. (slots_of x.items, spot_of walk.new)) result
             (mapping_parts (source_of self.now)
-            (field_at (source_of self.now) (reader_of fuel self.now) (way_of path.now) strict (fields_of fields.now) nest)
+            (field_at (source_of self.now) (reader_of fuel self.now) (way_of path.now) strict
+            (fields_of fields.now) nest)
             turns (no_slots (fields_of fields.now)) (spot_of walk.old)) }
         ensures moves { OnOk result (Moves (length self.now.events.now) walk.old walk.new) }
         ensures cost { Costs (length self.now.events.now) walk.old walk.new }
@@ -153,7 +158,8 @@ impl<'s, 'de> Source<'s, 'de> {
         requires forward { GoForward self.now.ends.now }
         ensures gives { (fuel : ℕ) → 8200 * (walk.old.left + nest) + 8196 < fuel
             → Gives (λ _. (slots_of slots.new.items, spot_of walk.new)) result
-            (field_at (source_of self.now) (reader_of fuel self.now) (way_of path.now) strict (fields_of fields.now) nest
+            (field_at (source_of self.now) (reader_of fuel self.now) (way_of path.now) strict
+            (fields_of fields.now) nest
             (slots_of slots.old.items) (spot_of walk.old)) }
         ensures wide { OnOk result (length slots.new.items ≡ length fields.now) }
         ensures moves { OnOk result (Moves (length self.now.events.now) walk.old walk.new) }
@@ -193,8 +199,12 @@ impl<'s, 'de> Source<'s, 'de> {
         requires within { walk.old.place < length self.now.events.now }
         requires forward { GoForward self.now.ends.now }
         ensures gives { (fuel : ℕ) → 8200 * (walk.old.left + nest) + 4100 < fuel
-            → Gives (λ x. ((field_view x, value_at (way_of path.now) (seen self.now.events.now walk.old.place)), spot_of walk.new)) result
-            (field_key_at (source_of self.now) (reader_of fuel self.now) (way_of path.now) strict (fields_of fields.now) nest
+            → Gives (λ x. (
+              (field_view x, value_at (way_of path.now) (seen self.now.events.now walk.old.place)),
+              spot_of walk.new,
+            )) result
+            (field_key_at (source_of self.now) (reader_of fuel self.now) (way_of path.now) strict
+            (fields_of fields.now) nest
             (slots_of slots.now) (spot_of walk.old)) }
         ensures found { IfOk result (λ key. IfSome key (IsAmong (fields_of fields.now))) }
         ensures moves { OnOk result (Moves (length self.now.events.now) walk.old walk.new) }
@@ -232,7 +242,8 @@ impl<'s, 'de> Source<'s, 'de> {
     // The data of a field: what was read, or absent where its shape is an optional.
     fn field_data(&self, field: &(String, ShapeId), slot: Option<Data<'de>>) -> Result<Data<'de>>
         requires named { field.now.1.0 < length self.now.schema.now }
-        ensures { Gives data_of result (field_data self.now.schema.now (field_of field.now) (option_map data_of slot.entry)) }
+        ensures { Gives data_of result (field_data self.now.schema.now (field_of field.now)
+            (option_map data_of slot.entry)) }
     {
         match slot {
             Some(data) => Ok(data),
@@ -250,7 +261,8 @@ impl<'s, 'de> Source<'s, 'de> {
         slots: Vec<Option<Data<'de>>>,
     ) -> Result<Data<'de>>
         requires named { All (λ id. id < length self.now.schema.now) (numbers_of (fields_of fields.now)) }
-        ensures { Gives data_of result (struct_of self.now.schema.now (fields_of fields.now) (slots_of slots.entry.items)) }
+        ensures { Gives data_of result (struct_of self.now.schema.now (fields_of fields.now)
+            (slots_of slots.entry.items)) }
     {
         let mut items = Vec::with_capacity(self.alloc, fields.len())?;
         let mut rest = slots.into_iter();

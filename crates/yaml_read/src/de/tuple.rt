@@ -39,9 +39,11 @@ impl<'s, 'de> Source<'s, 'de> {
         requires tuple { shape_of shape.now ≡ row_shape (option_copied name) (ids_of items.now) }
         requires named { NamesWithin (length self.now.schema.now) (shape_of shape.now) }
         requires forward { GoForward self.now.ends.now }
-        ensures gives { (fuel : ℕ) → depth self.now.schema.now (shape_of shape.now) (is_some (around_of taken.entry)) nest walk.old.left < suc fuel
+        ensures gives { (fuel : ℕ) → depth self.now.schema.now (shape_of shape.now)
+            (is_some (around_of taken.entry)) nest walk.old.left < suc fuel
             → Gives (λ x. (data_of x, spot_of walk.new)) result
-            (shape_step (source_of self.now) (reader_of fuel self.now) (way_of path.now) (shape_of shape.now) nest (around_of taken.entry)
+            (shape_step (source_of self.now) (reader_of fuel self.now) (way_of path.now) (shape_of shape.now) nest
+            (around_of taken.entry)
             (spot_of walk.old) (seen self.now.events.now walk.old.place)) }
         ensures moves { OnOk result (Moves (length self.now.events.now) walk.old walk.new) }
         ensures cost { Costs (length self.now.events.now) walk.old walk.new }
@@ -77,7 +79,8 @@ impl<'s, 'de> Source<'s, 'de> {
         ensures gives { (fuel turns : ℕ) → 8200 * (walk.old.left + nest) + 8196 < fuel
             → length self.now.events.now < turns + walk.old.place
             → Gives (λ x. (row_view (ids_of items.now) x, spot_of walk.new)) result
-            (sequence_parts (source_of self.now) (row_at (source_of self.now) (reader_of fuel self.now) (way_of path.now) nest)
+            (sequence_parts (source_of self.now) (row_at (source_of self.now) (reader_of fuel self.now)
+            (way_of path.now) nest)
             turns (row_of (ids_of items.now)) (spot_of walk.old)) }
         ensures few { IfOk result (λ x. length x.read.items + x.extra ≤ length self.now.events.now) }
         ensures moves { OnOk result (Moves (length self.now.events.now) walk.old walk.new) }

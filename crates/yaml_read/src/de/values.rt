@@ -39,9 +39,11 @@ impl<'s, 'de> Source<'s, 'de> {
     ) -> Result<Data<'de>>
         requires shape { shape_of shape.now ≡ any_shape }
         requires forward { GoForward self.now.ends.now }
-        ensures gives { (fuel : ℕ) → depth self.now.schema.now (shape_of shape.now) (is_some (around_of taken.entry)) nest walk.old.left < suc fuel
+        ensures gives { (fuel : ℕ) → depth self.now.schema.now (shape_of shape.now)
+            (is_some (around_of taken.entry)) nest walk.old.left < suc fuel
             → Gives (λ x. (data_of x, spot_of walk.new)) result
-            (shape_step (source_of self.now) (reader_of fuel self.now) (way_of path.now) (shape_of shape.now) nest (around_of taken.entry)
+            (shape_step (source_of self.now) (reader_of fuel self.now) (way_of path.now) (shape_of shape.now) nest
+            (around_of taken.entry)
             (spot_of walk.old) (seen self.now.events.now walk.old.place)) }
         ensures moves { OnOk result (Moves (length self.now.events.now) walk.old walk.new) }
         ensures cost { Costs (length self.now.events.now) walk.old walk.new }

@@ -22,8 +22,8 @@ fn is_before(named: &[(Anchor, usize)], at: usize, alias: &(Anchor, usize)) -> b
     }
 }
 
-// Where the alias belongs among the anchors. Aliases often follow in the order of their anchors, or against it, so it is
-// looked for near the place of the alias before, and only then by halves.
+// Where the alias belongs among the anchors. Aliases often follow in the order of their anchors, or against it, so it
+// is looked for near the place of the alias before, and only then by halves.
 fn place_of(named: &[(Anchor, usize)], alias: &(Anchor, usize), near: usize) -> usize
     requires { IsInOrder named.now }
     ensures place { IsPlaceOf named.now alias.now result }

@@ -79,7 +79,8 @@ fn push_lines(line: &str, count: u32, text: &mut String) -> Result<(), AllocErro
     Ok(())
 }
 
-// What a list with 100 aliases reads as, in a list that has so many aliases of it: 100 follows, and 101 for each of these.
+// What a list with 100 aliases reads as, in a list that has so many aliases of it: 100 follows, and 101 for each of
+// these.
 fn reading_of_aliases(alloc: Global, count: u32) -> Result<String, Fail> {
     let mut text = String::from_str(alloc, "+STR; +DOC; +SEQ; +SEQ &a; =VAL &z :0; ")?;
     push_lines("=ALI *z; ", 100, &mut text)?;

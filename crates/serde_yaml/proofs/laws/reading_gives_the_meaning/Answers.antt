@@ -8,5 +8,6 @@ returns c = λ limits table s input fault given is. record {
       means limits table s input given v (λ roots e. c.a_stream_is_cut_into_its_documents.ensures roots input e) fault
       (λ f. c.the_parsers_fault_comes_last.ensures.last input f) is h;
   only = λ v none reads.
-      gives limits table s input given v (λ roots e. c.a_stream_is_cut_into_its_documents.ensures roots input e) fault is none reads;
+      gives limits table s input given v (λ roots e. c.a_stream_is_cut_into_its_documents.ensures roots input e) fault
+      is none reads;
 }

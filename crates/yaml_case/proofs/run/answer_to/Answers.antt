@@ -15,9 +15,15 @@ returns-in-Err-BadLine c =
     (codes "bad line " ++ decimal c.in-Err-BadLine.number, line, bad_line c.in-Err-BadLine.number first refl refl)
 
 pub returns-in_ok-data_line-in-Ok-read : goal.returns-in_ok-data_line-in-Ok-read
-returns-in_ok-data_line-in-Ok-read c =
-    (data_text (data_of c.in-Ok-read.content), c.in_ok-data_line-in-Ok-read.ensures, found _ _ _ c.in-Ok.ensures c.in-Ok-read.ensures refl refl)
+returns-in_ok-data_line-in-Ok-read c = (
+  data_text (data_of c.in-Ok-read.content),
+  c.in_ok-data_line-in-Ok-read.ensures,
+  found _ _ _ c.in-Ok.ensures c.in-Ok-read.ensures refl refl,
+)
 
 pub returns-in_ok-fault_line-in-Err : goal.returns-in_ok-fault_line-in-Err
-returns-in_ok-fault_line-in-Err c =
-    (codes "fault: " ++ error_text c.in-Err.error, c.in_ok-fault_line-in-Err.ensures, fault_reply _ _ _ _ _ c.in-Err.error c.in-Ok.ensures c.in-Err.ensures)
+returns-in_ok-fault_line-in-Err c = (
+  codes "fault: " ++ error_text c.in-Err.error,
+  c.in_ok-fault_line-in-Err.ensures,
+  fault_reply _ _ _ _ _ c.in-Err.error c.in-Ok.ensures c.in-Err.ensures,
+)

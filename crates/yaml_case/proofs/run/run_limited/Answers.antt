@@ -22,7 +22,8 @@ pub returns-in-Ok-answer_to-clause-prints : goal.returns-in-Ok-answer_to-clause-
 returns-in-Ok-answer_to-clause-prints g c = λ read written.
     let w = c.print.ensures.written written in
     let a = c.in-Ok-answer_to.ensures in
-    let whole = subst (λ i. IsReply c.in-Some.named c.args.limits i c.in-Ok-answer_to.answer.status a.0) c.as_slice.ensures.value a.2 in
+    let whole = subst (λ i. IsReply c.in-Some.named c.args.limits i c.in-Ok-answer_to.answer.status a.0)
+    c.as_slice.ensures.value a.2 in
     let ended = subst (λ s. IsReply c.in-Some.named c.args.limits c.in-Ok.input.items s a.0) (sym w.0) whole in (
       a.0,
       c.in-Ok.input.items,
@@ -34,8 +35,13 @@ returns-in-Ok-answer_to-clause-prints g c = λ read written.
 
 pub returns-clause-prints : goal.returns-clause-prints
 returns-clause-prints g c = λ read written.
-    let w = c.out_of_memory-in-Err.ensures.written written in
-    (codes "fault: out of memory", c.in-Ok.input.items, c.in-Ok.ensures, wants_memory c.in-Some.named _ _ _ _ c.in-Some.ensures w.0, w.1)
+    let w = c.out_of_memory-in-Err.ensures.written written in (
+      codes "fault: out of memory",
+      c.in-Ok.input.items,
+      c.in-Ok.ensures,
+      wants_memory c.in-Some.named _ _ _ _ c.in-Some.ensures w.0,
+      w.1,
+    )
 
 pub returns-in-Ok-answer_to-clause-unwritten : goal.returns-in-Ok-answer_to-clause-unwritten
 returns-in-Ok-answer_to-clause-unwritten g c = λ failed.

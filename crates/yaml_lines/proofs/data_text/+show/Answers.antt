@@ -17,8 +17,10 @@ show-returns-in-Map t c = rw (c.in-Map.is, show-Map c.in-Map.entries) c.show_ent
 
 pub show_items-loop-index-preserved : goal.show_items-loop-index-preserved
 show_items-loop-index-preserved t c =
-    shown item_text _ _ _ c.loop-index-test.true c.item-item.is _ _ _ _ c.loop-index.invariant c.in_ok-separate.ensures c.in_ok-show.ensures
+    shown item_text _ _ _ c.loop-index-test.true c.item-item.is _ _ _ _ c.loop-index.invariant c.in_ok-separate.ensures
+    c.in_ok-show.ensures
 
 pub show_entries-loop-index-preserved : goal.show_entries-loop-index-preserved
 show_entries-loop-index-preserved t c =
-    shown entry_text _ _ _ c.loop-index-test.true c.entry-item.is _ _ _ _ c.loop-index.invariant c.in_ok-separate.ensures c.in_ok-show_entry.ensures
+    shown entry_text _ _ _ c.loop-index-test.true c.entry-item.is _ _ _ _ c.loop-index.invariant
+    c.in_ok-separate.ensures c.in_ok-show_entry.ensures

@@ -9,8 +9,10 @@ use Rattle.yaml_read.specs.inner.Drafts.{IsBetween}
 use Rattle.yaml_read.specs.MarkedEvents.{plain_events, plain_marked}
 use Rattle.yaml_read.specs.StreamMachine.{next_state, state_of}
 use Rattle.yaml_read.specs.inner.Loading.{IsOnWay, is_inside, open_before, open_behind}
-use Rattle.yaml_read.proofs.LoadingLaws.{flags_differ, flags_same, inside_phase, nothing_left, on_way, open_faulted, ready_if, turns}
-use Rattle.yaml_read.proofs.WrongPlaces.{at_place, next_parts, right_end, run_plain, wrong_end, wrong_not_well_formed, wrong_plain}
+use Rattle.yaml_read.proofs.LoadingLaws.{flags_differ, flags_same, inside_phase, nothing_left, on_way, open_faulted}
+use Rattle.yaml_read.proofs.LoadingLaws.{ready_if, turns}
+use Rattle.yaml_read.proofs.WrongPlaces.{at_place, next_parts, right_end, run_plain, wrong_end, wrong_not_well_formed}
+use Rattle.yaml_read.proofs.WrongPlaces.{wrong_plain}
 use Rattle.yaml_read.proofs.loader.load.Goals as goal
 
 pub returns-in-None-clause-wrong : goal.returns-in-None-clause-wrong
@@ -31,7 +33,8 @@ pub step-requires : goal.step-requires
 step-requires c = λ before.
     let moves = rw c.in-Some-2.is at c.in_ok-next.ensures in
     let state = state_of c.events.phase c.events.opened.items in
-    ready_if (is_inside state) c.args.fault (plain_marked c.args.events.items) (plain_marked (into_iter_items c.events.rest)) c.events.draft
+    ready_if (is_inside state) c.args.fault (plain_marked c.args.events.items)
+    (plain_marked (into_iter_items c.events.rest)) c.events.draft
     c.events.invariant.way ((turns state (event_of c.in-Some.event) _ moves.0).0 ∙ before)
 
 pub events-preserved : goal.events-preserved
@@ -60,7 +63,8 @@ events-preserved c =
       way =
           on_way (open_behind e) (is_inside after) c.args.fault (plain_marked events) rest c.step.new.self (sym turn.1)
           (c.in_ok-step.ensures c.args.fault (plain_marked events) left rest (ap plain_marked c.in-Some.ensures.items)
-          (on_way (is_inside state) (open_before e) c.args.fault (plain_marked events) left c.events.draft turn.0 c.events.invariant.way));
+          (on_way (is_inside state) (open_before e) c.args.fault (plain_marked events) left c.events.draft turn.0
+          c.events.invariant.way));
     }
 
 pub returns-then-is_after-is_some-clause-wrong : goal.returns-then-is_after-is_some-clause-wrong
@@ -72,14 +76,17 @@ returns-then-is_after-is_some-clause-wrong c = λ _.
     let end = c.events.invariant.now ∙ none in (
       c.events.place,
       c.new-then-is_after-is_some.ensures,
-      wrong_end (is_some c.args.fault) c.events.phase c.events.opened.items events c.events.place c.events.invariant.within end
-          c.events.invariant.ran (sym c.is_after.ensures ∙ flags_same _ _ c.if-is_after-is_some.true ∙ c.is_some.ensures ∙ given),
+      wrong_end (is_some c.args.fault) c.events.phase c.events.opened.items events c.events.place
+          c.events.invariant.within end
+          c.events.invariant.ran (sym c.is_after.ensures ∙ flags_same _ _ c.if-is_after-is_some.true ∙ c.is_some.ensures
+          ∙ given),
     )
 
 pub close-requires : goal.close-requires
 close-requires c = λ inside.
     let state = state_of c.events.phase c.events.opened.items in
-    ready_if (is_inside state) c.args.fault (plain_marked c.args.events.items) (plain_marked (into_iter_items c.events.rest)) c.events.draft
+    ready_if (is_inside state) c.args.fault (plain_marked c.args.events.items)
+    (plain_marked (into_iter_items c.events.rest)) c.events.draft
     c.events.invariant.way (inside_phase c.events.phase c.events.opened.items ∙ sym c.is_inside.ensures ∙ inside)
 
 pub returns-clause-accepted : goal.returns-clause-accepted
@@ -89,8 +96,10 @@ returns-clause-accepted c =
     let none : into_iter_items c.events.rest ≡ [] =
     nothing_left (into_iter_items c.events.rest) (omega (arith, c.events.rest.rest.ok, c.in_default.ensures.cases.0)) in
     let end = c.events.invariant.now ∙ none in
-    right_end (is_some c.args.fault) c.events.phase c.events.opened.items events c.events.place c.events.invariant.within end
-    c.events.invariant.ran (λ same. flags_differ _ _ c.if-is_after-is_some.false (c.is_after.ensures ∙ same ∙ sym (c.is_some.ensures ∙ given)))
+    right_end (is_some c.args.fault) c.events.phase c.events.opened.items events c.events.place
+    c.events.invariant.within end
+    c.events.invariant.ran (λ same. flags_differ _ _ c.if-is_after-is_some.false
+    (c.is_after.ensures ∙ same ∙ sym (c.is_some.ensures ∙ given)))
 
 pub returns-clause-documents : goal.returns-clause-documents
 returns-clause-documents c =

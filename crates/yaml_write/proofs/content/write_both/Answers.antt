@@ -9,5 +9,7 @@ use Rattle.yaml_write.proofs.content.write_both.Goals as goal
 
 pub returns : goal.returns
 returns c =
-    adds-joined pair_node emit_node_events emit_node_events pair_events pair-row (content_written c.args.first) (content_written c.args.second)
-    c.args.out.now c.write_content.new.out c.write_content-2.new.out c.write_content-2.result c.in_ok-write_content.ensures c.write_content-2.ensures
+    adds-joined pair_node emit_node_events emit_node_events pair_events pair-row (content_written c.args.first)
+    (content_written c.args.second)
+    c.args.out.now c.write_content.new.out c.write_content-2.new.out c.write_content-2.result
+    c.in_ok-write_content.ensures c.write_content-2.ensures

@@ -11,7 +11,8 @@ use Rattle.yaml_write.proofs.data.+write_data.Given as goal
 abbrev pub invariant-write_elements-loop-item : goal.invariant-write_elements-loop-item
 invariant-write_elements-loop-item l =
     (made (λ part. l.initial.out ++ emit_nodes_events part) (written_elements l.schema l.id.0 (items_view l.items))
-    ≡ made (λ part. l.out ++ emit_nodes_events part) (written_elements l.schema l.id.0 (items_view (drop l.item-index l.items))))
+    ≡ made (λ part. l.out ++ emit_nodes_events part)
+    (written_elements l.schema l.id.0 (items_view (drop l.item-index l.items))))
     × Keeps l.initial.out l.out
 
 abbrev pub invariant-write_items-loop-i : goal.invariant-write_items-loop-i
@@ -23,14 +24,16 @@ invariant-write_items-loop-i l =
 
 abbrev pub invariant-write_entries-loop-entry : goal.invariant-write_entries-loop-entry
 invariant-write_entries-loop-entry l =
-    (made (λ part. l.initial.out ++ emit_pairs_events part) (written_entries l.schema l.key.0 l.value.0 (entries_view l.entries))
+    (made (λ part. l.initial.out ++ emit_pairs_events part)
+    (written_entries l.schema l.key.0 l.value.0 (entries_view l.entries))
     ≡ made (λ part. l.out ++ emit_pairs_events part)
     (written_entries l.schema l.key.0 l.value.0 (entries_view (drop l.entry-index l.entries))))
     × Keeps l.initial.out l.out
 
 abbrev pub invariant-write_fields-loop-i : goal.invariant-write_fields-loop-i
 invariant-write_fields-loop-i l =
-    (made (λ part. l.initial.out ++ emit_pairs_events part) (written_fields l.schema (fields_of l.fields) (items_view l.items))
+    (made (λ part. l.initial.out ++ emit_pairs_events part)
+    (written_fields l.schema (fields_of l.fields) (items_view l.items))
     ≡ made (λ part. l.out ++ emit_pairs_events part)
     (written_fields l.schema (fields_of (drop l.i l.fields)) (items_view (drop l.i l.items))))
     × Keeps l.initial.out l.out

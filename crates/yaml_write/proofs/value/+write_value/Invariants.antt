@@ -1,4 +1,5 @@
--- What is left to be written is as before, but for what was added, what was there is kept, and each call is on a smaller
+-- What is left to be written is as before, but for what was added, what was there is kept, and each call is on a
+-- smaller
 -- value.
 use Rattle.std.proofs.Common.{◌≡◌, ◌≤◌, ◌+◌, ◌*◌, ◌++◌, drop}
 use Rattle.yaml_base.specs.EmitTree.{emit_nodes_events, emit_pairs_events}

@@ -7,10 +7,13 @@ use Rattle.yaml_write.proofs.whole.write_part.Goals as goal
 
 pub returns-then-not-is_empty : goal.returns-then-not-is_empty
 returns-then-not-is_empty c =
-    adds-inside (reverse c.args.opened.now) (content_written c.args.content) c.args.out.now c.write_content.new.out c.write_content.result
+    adds-inside (reverse c.args.opened.now) (content_written c.args.content) c.args.out.now c.write_content.new.out
+    c.write_content.result
     (grind (arith, length-reverse c.args.opened.now)) c.write_content.ensures
 
 pub returns : goal.returns
 returns c =
-    adds-alone (reverse c.args.opened.now) (content_written c.args.content) c.args.out.now c.push.new.self c.write_content-2.new.out c.push-2.new.self c.push-2.result
-    (grind (arith, length-reverse c.args.opened.now)) c.in_ok-push.ensures.added c.in_ok-write_content.ensures c.push-2.ensures.added
+    adds-alone (reverse c.args.opened.now) (content_written c.args.content) c.args.out.now c.push.new.self
+    c.write_content-2.new.out c.push-2.new.self c.push-2.result
+    (grind (arith, length-reverse c.args.opened.now)) c.in_ok-push.ensures.added c.in_ok-write_content.ensures
+    c.push-2.ensures.added

@@ -8,15 +8,19 @@ use Rattle.serde_yaml.proofs.de.Deserializer.read_under.Goals as goal
 
 pub returns-in-One : goal.returns-in-One
 returns-in-One c =
-    answers_weaker data_of _ _ (stream_gives (splits_one c.self.view_is c.if-iterated.false (ap documents_in c.in-One.is)))
+    answers_weaker data_of _ _ (stream_gives (splits_one c.self.view_is c.if-iterated.false
+    (ap documents_in c.in-One.is)))
     c.read_first_asked.result (c.read_first_asked.ensures)
 
 pub returns-in-Some : goal.returns-in-Some
 returns-in-Some c =
     answers_weaker data_of _ _
-    (stream_gives (splits_stream c.next_document-in-Some.result c.next_document-in-Some.new.self c.self.view_is c.if-iterated.false
-    (ap documents_in c.in-Stream.is ∙ c.in-Some.ensures.items) c.next_document-in-Some.ensures.items c.next_document-in-Some.ensures.none c.is_there-others.ensures))
+    (stream_gives (splits_stream c.next_document-in-Some.result c.next_document-in-Some.new.self c.self.view_is
+    c.if-iterated.false
+    (ap documents_in c.in-Stream.is ∙ c.in-Some.ensures.items) c.next_document-in-Some.ensures.items
+    c.next_document-in-Some.ensures.none c.is_there-others.ensures))
     c.read_first_asked-in-Some.result (c.read_first_asked-in-Some.ensures)
 
 pub returns-then-iterated : goal.returns-then-iterated
-returns-then-iterated c = λ m. rw c.new.ensures (gone_through (ap (λ (s : PlainStream). s.iterated) (sym c.self.view_is) ∙ c.if-iterated.true))
+returns-then-iterated c = λ m. rw c.new.ensures
+    (gone_through (ap (λ (s : PlainStream). s.iterated) (sym c.self.view_is) ∙ c.if-iterated.true))

@@ -19,7 +19,8 @@ show_values-show_value-requires t c =
 
 pub show_values-loop-index-preserved : goal.show_values-loop-index-preserved
 show_values-loop-index-preserved t c =
-    shown value_text _ _ _ c.loop-index-test.true c.value-item.is _ _ _ _ c.loop-index.invariant c.in_ok-separate.ensures c.in_ok-show_value.ensures
+    shown value_text _ _ _ c.loop-index-test.true c.value-item.is _ _ _ _ c.loop-index.invariant
+    c.in_ok-separate.ensures c.in_ok-show_value.ensures
 
 pub show_values-returns : goal.show_values-returns
 show_values-returns t c =

@@ -6,7 +6,8 @@ use Rattle.yaml_lines.proofs.line.event.tag_part.Goals as goal
 
 pub returns-in_err-name : goal.returns-in_err-name
 returns-in_err-name c = refused _ _ c.from_residual.ensures.0 (λ found.
-    no_close _ _ c.in-Some.ensures (absent _ _ _ _ _ c.cut.ensures c.ok_or.ensures.ok_part c.in_err-name.was) found.0 found.1)
+    no_close _ _ c.in-Some.ensures (absent _ _ _ _ _ c.cut.ensures c.ok_or.ensures.ok_part c.in_err-name.was) found.0
+    found.1)
 
 pub returns-in_err-unescape : goal.returns-in_err-unescape
 returns-in_err-unescape c =

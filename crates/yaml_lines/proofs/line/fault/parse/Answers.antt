@@ -19,7 +19,8 @@ pub returns-in_err-offset-clause-says : goal.returns-in_err-offset-clause-says
 returns-in_err-offset-clause-says c =
     let name = present _ _ _ _ _ c.cut.ensures c.ok_or.ensures.ok_part c.in_ok-name.was in
     refused _ _ c.from_residual-in_err-offset.ensures.0
-    (no_offset _ _ _ name.0 name.1 (absent _ _ _ _ _ c.number_before.ensures c.ok_or-3.ensures.ok_part c.in_err-offset.was))
+    (no_offset _ _ _ name.0 name.1 (absent _ _ _ _ _ c.number_before.ensures c.ok_or-3.ensures.ok_part
+    c.in_err-offset.was))
 
 pub returns-in_err-problem-clause-says : goal.returns-in_err-problem-clause-says
 returns-in_err-problem-clause-says c =

@@ -12,7 +12,8 @@ returns-in_err-line c =
 
 pub returns-in_err-column : goal.returns-in_err-column
 returns-in_err-column c =
-    rw c.from_residual-in_err-column.ensures (no_column _ _ _ _ _ c.in_ok-index.ensures c.in_ok-line.ensures c.in_err-column.ensures)
+    rw c.from_residual-in_err-column.ensures
+    (no_column _ _ _ _ _ c.in_ok-index.ensures c.in_ok-line.ensures c.in_err-column.ensures)
 
 pub returns-in_err-mark : goal.returns-in_err-mark
 returns-in_err-mark c =

@@ -8,4 +8,5 @@ returns-in_err-digits c = rw c.from_residual.ensures (λ n rest. no_byte _ _ n r
 pub returns-in_err-number : goal.returns-in_err-number
 returns-in_err-number c =
     rw c.from_residual-in_err-number.ensures
-    (λ n rest. no_number _ _ _ _ n rest c.requires c.in_ok-digits.ensures.0 c.in_ok-digits.ensures.1 c.in_err-number.ensures)
+    (λ n rest. no_number _ _ _ _ n rest c.requires c.in_ok-digits.ensures.0 c.in_ok-digits.ensures.1
+    c.in_err-number.ensures)

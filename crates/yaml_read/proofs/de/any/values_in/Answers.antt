@@ -19,6 +19,7 @@ pub returns-in-None : goal.returns-in-None
 returns-in-None c =
     let values = trees_of c.items.values.items in
     let none_left : into_iter_items c.items.rest ≡ [] =
-    nothing_left (into_iter_items c.items.rest) (omega (arith, c.in-None.ensures.len, c.in-None.ensures.cases.0, c.items.invariant.counted)) in
+    nothing_left (into_iter_items c.items.rest)
+    (omega (arith, c.in-None.ensures.len, c.in-None.ensures.cases.0, c.items.invariant.counted)) in
     sym (then_nothing values)
     ∙ (ap (λ ds. trees_then values (trees_in_data ds)) (sym none_left) ∙ c.items.invariant.gathered)

@@ -8,7 +8,8 @@ use Rattle.yaml_read.proofs.de.any.values_in.Given as goal
 abbrev pub invariant-items : goal.invariant-items
 invariant-items l = record {
   counted : into_iter_len l.rest ≡ length (into_iter_items l.rest);
-  gathered : trees_then (trees_of l.values.items) (trees_in_data (into_iter_items l.rest)) ≡ trees_in_data l.fn.items.items;
+  gathered : trees_then (trees_of l.values.items) (trees_in_data (into_iter_items l.rest))
+      ≡ trees_in_data l.fn.items.items;
 }
 
 abbrev pub decreases-items : goal.decreases-items

@@ -17,7 +17,8 @@ places-preserved c =
     let last : c.places.place ≡ place + 1 = omega (arith, c.places-test.true) in (
       omega (arith, kept.0),
       λ name.
-          ap field_view (hash_map_updates_str c.as_str.result.now m c.insert.new.self _ c.in_ok-insert.ensures.updates name
+          ap field_view (hash_map_updates_str c.as_str.result.now m c.insert.new.self _ c.in_ok-insert.ensures.updates
+          name
           ∙ ap (λ t. cond (bytes_eq t name)
           (Some (place, (get_or c.args.fields.now place c.index-fields-place-in-places.result).1))
           (get_by (λ k. bytes_eq name k.now) m)) c.as_str.ensures.value)

@@ -24,8 +24,11 @@ returns-then-length-count c = λ m.
     let count : length ids ≡ length c.args.items.now = length-map c.args.items.now (λ (id : ShapeId). id.0) in
     let len : c.len-length.result ≡ length c.args.elements.read.items = search rules in
     let read : length vs ≡ length c.args.elements.read.items = length-map c.args.elements.read.items data_of in
-    row_short (few_text (owner_of c.args.owner) (length ids)) (length ids) ids vs c.args.elements.extra (length c.args.elements.read.items) (omega (arith, count, c.len-length.ensures, c.if-length-count.true))
-    ∙ ap Err (sym (c.refuse.ensures m ∙ c.wrong_length.ensures ∙ ap₂ (λ a b. InvalidLength a b None) (len ∙ sym read) (sym (bytes_is c.in_ok-expected.ensures) ∙ ap (few_text (owner_of c.args.owner)) (sym count))))
+    row_short (few_text (owner_of c.args.owner) (length ids)) (length ids) ids vs c.args.elements.extra
+    (length c.args.elements.read.items) (omega (arith, count, c.len-length.ensures, c.if-length-count.true))
+    ∙ ap Err (sym (c.refuse.ensures m ∙ c.wrong_length.ensures
+    ∙ ap₂ (λ a b. InvalidLength a b None) (len ∙ sym read)
+    (sym (bytes_is c.in_ok-expected.ensures) ∙ ap (few_text (owner_of c.args.owner)) (sym count))))
 
 pub returns-then-elements-eq0 : goal.returns-then-elements-eq0
 returns-then-elements-eq0 c =
@@ -33,7 +36,9 @@ returns-then-elements-eq0 c =
     let vs = map data_of c.args.elements.read.items in
     let count : length ids ≡ length c.args.items.now = length-map c.args.items.now (λ (id : ShapeId). id.0) in
     let seen_as : data_of (Tuple c.args.elements.read) ≡ tuple_data (items_of vs) = search (rules, the_lemmas) in
-    row_whole (few_text (owner_of c.args.owner) (length ids)) (length ids) _ vs c.args.elements.extra (drop_all ids (length c.args.elements.read.items) (omega (arith, count, c.len-length.ensures, c.if-length-count.false))) c.if-elements-eq0.true
+    row_whole (few_text (owner_of c.args.owner) (length ids)) (length ids) _ vs c.args.elements.extra
+    (drop_all ids (length c.args.elements.read.items)
+    (omega (arith, count, c.len-length.ensures, c.if-length-count.false))) c.if-elements-eq0.true
     ∙ ap (λ v. Ok v) (sym seen_as)
 
 pub returns : goal.returns
@@ -43,5 +48,9 @@ returns c = λ m.
     let count : length ids ≡ length c.args.items.now = length-map c.args.items.now (λ (id : ShapeId). id.0) in
     let len : c.len-length.result ≡ length c.args.elements.read.items = search rules in
     let read : length vs ≡ length c.args.elements.read.items = length-map c.args.elements.read.items data_of in
-    row_long (few_text (owner_of c.args.owner) (length ids)) (length ids) _ vs c.args.elements.extra (drop_all ids (length c.args.elements.read.items) (omega (arith, count, c.len-length.ensures, c.if-length-count.false))) c.if-elements-eq0.false
-    ∙ ap Err (sym (c.refuse-2.ensures m ∙ c.wrong_length-2.ensures ∙ ap₂ (λ a b. InvalidLength a b None) (ap (λ n. n + c.args.elements.extra) (len ∙ sym read)) (c.in-Ok.ensures.text ∙ ap sequence_text (sym count))))
+    row_long (few_text (owner_of c.args.owner) (length ids)) (length ids) _ vs c.args.elements.extra
+    (drop_all ids (length c.args.elements.read.items)
+    (omega (arith, count, c.len-length.ensures, c.if-length-count.false))) c.if-elements-eq0.false
+    ∙ ap Err (sym (c.refuse-2.ensures m ∙ c.wrong_length-2.ensures
+    ∙ ap₂ (λ a b. InvalidLength a b None) (ap (λ n. n + c.args.elements.extra) (len ∙ sym read))
+    (c.in-Ok.ensures.text ∙ ap sequence_text (sym count))))

@@ -14,35 +14,52 @@ use Rattle.yaml_read.proofs.reading.Whole.{answered, refused, gives_of_exact}
 use Rattle.yaml_read.proofs.document.Document.read_by.Goals as goal
 
 pub read_node-requires-clause-forward : goal.read_node-requires-clause-forward
-read_node-requires-clause-forward c = rw c.ends.ensures (ends_go_forward (map (λ (e : PlainDocEvent × Position). e.0) c.args.self.now.events))
+read_node-requires-clause-forward c = rw c.ends.ensures
+    (ends_go_forward (map (λ (e : PlainDocEvent × Position). e.0) c.args.self.now.events))
 
 pub returns-in-None-clause-read : goal.returns-in-None-clause-read
 returns-in-None-clause-read c = λ fresh.
-    gives_of_exact c.args.limits c.args.schema.now (shape_of c.args.shape.now) c.args.self.now c.optionals_end.ensures.small c.optionals_end.ensures.falls c.requires.small
+    gives_of_exact c.args.limits c.args.schema.now (shape_of c.args.shape.now) c.args.self.now
+    c.optionals_end.ensures.small c.optionals_end.ensures.falls c.requires.small
     (Ok (data_of c.in-Ok.data)) (λ v e. sym c.error.ensures ∙ ap option_copied c.in-None.is)
     (answered c.args.limits c.args.schema.now (shape_of c.args.shape.now) c.args.self.now _ _
-    (seen_within c.args.limits c.args.schema.now (shape_of c.args.shape.now) c.requires.small c.args.self.now c.events.result.now c.ends.result.now _
-    c.nesting.result (c.follows.result * length c.events.result.now) (sym c.nesting.ensures) (ap (λ x. x * length c.events.result.now) (sym c.follows.ensures.value))
+    (seen_within c.args.limits c.args.schema.now (shape_of c.args.shape.now) c.requires.small c.args.self.now
+    c.events.result.now c.ends.result.now _
+    c.nesting.result (c.follows.result * length c.events.result.now) (sym c.nesting.ensures)
+    (ap (λ x. x * length c.events.result.now) (sym c.follows.ensures.value))
     c.events.ensures.shown c.ends.ensures c.in-Ok.ensures.gives))
 
 pub returns-in-None-clause-cursor : goal.returns-in-None-clause-cursor
 returns-in-None-clause-cursor c =
     let size : length c.events.result.now ≡ length c.args.self.now.events =
-    sym (length-map c.events.result.now (λ (e : DocEvent × Position). (doc_event_of e.0, e.1))) ∙ ap length c.events.ensures.shown in
-    leaves c.args.limits c.args.self.now c.args.cursor.now c.pass.new.self (length c.events.result.now) c.read_node.new.walk.place c.read_node.new.walk.steps.count
+    sym (length-map c.events.result.now (λ (e : DocEvent × Position). (doc_event_of e.0, e.1)))
+    ∙ ap length c.events.ensures.shown in
+    leaves c.args.limits c.args.self.now c.args.cursor.now c.pass.new.self
+    (length c.events.result.now) c.read_node.new.walk.place c.read_node.new.walk.steps.count
     (c.is_fresh.ensures.0 c.if-not-is_fresh.false) size c.pass.ensures.place c.pass.ensures.refused c.pass.ensures.steps
     (omega (arith, c.in-Ok.ensures.moves.3, c.new-2.ensures))
-    (omega (arith, c.in-Ok.ensures.cost, c.new-2.ensures, ap (λ x. length c.events.result.now * (x * length c.events.result.now)) c.follows.ensures.value))
+    (omega (
+      arith,
+      c.in-Ok.ensures.cost,
+      c.new-2.ensures,
+      ap (λ x. length c.events.result.now * (x * length c.events.result.now)) c.follows.ensures.value,
+    ))
     (read_ends c.args.limits c.args.schema.now (shape_of c.args.shape.now) c.args.self.now _ _
-    (seen_within c.args.limits c.args.schema.now (shape_of c.args.shape.now) c.requires.small c.args.self.now c.events.result.now c.ends.result.now _
-    c.nesting.result (c.follows.result * length c.events.result.now) (sym c.nesting.ensures) (ap (λ x. x * length c.events.result.now) (sym c.follows.ensures.value))
-    c.events.ensures.shown c.ends.ensures c.in-Ok.ensures.gives) c.has_tree.ensures (sym c.error.ensures ∙ ap option_copied c.in-None.is))
+    (seen_within c.args.limits c.args.schema.now (shape_of c.args.shape.now) c.requires.small c.args.self.now
+    c.events.result.now c.ends.result.now _
+    c.nesting.result (c.follows.result * length c.events.result.now) (sym c.nesting.ensures)
+    (ap (λ x. x * length c.events.result.now) (sym c.follows.ensures.value))
+    c.events.ensures.shown c.ends.ensures c.in-Ok.ensures.gives) c.has_tree.ensures
+    (sym c.error.ensures ∙ ap option_copied c.in-None.is))
 
 pub returns-in-None-error-clause-read : goal.returns-in-None-error-clause-read
 returns-in-None-error-clause-read c = λ fresh. rw c.into_error.ensures (λ fault.
-    gives_of_exact c.args.limits c.args.schema.now (shape_of c.args.shape.now) c.args.self.now c.optionals_end.ensures.small c.optionals_end.ensures.falls c.requires.small
+    gives_of_exact c.args.limits c.args.schema.now (shape_of c.args.shape.now) c.args.self.now
+    c.optionals_end.ensures.small c.optionals_end.ensures.falls c.requires.small
     (Err c.in-Err.refusal) (λ v e. sym c.error-in-Err.ensures ∙ ap option_copied c.in-None-error.is)
     (refused c.args.limits c.args.schema.now (shape_of c.args.shape.now) c.args.self.now c.in-Err.refusal
-    (seen_within c.args.limits c.args.schema.now (shape_of c.args.shape.now) c.requires.small c.args.self.now c.events.result.now c.ends.result.now _
-    c.nesting.result (c.follows.result * length c.events.result.now) (sym c.nesting.ensures) (ap (λ x. x * length c.events.result.now) (sym c.follows.ensures.value))
+    (seen_within c.args.limits c.args.schema.now (shape_of c.args.shape.now) c.requires.small c.args.self.now
+    c.events.result.now c.ends.result.now _
+    c.nesting.result (c.follows.result * length c.events.result.now) (sym c.nesting.ensures)
+    (ap (λ x. x * length c.events.result.now) (sym c.follows.ensures.value))
     c.events.ensures.shown c.ends.ensures (λ fuel lt. c.in-Err.ensures.gives fuel lt fault))))

@@ -11,6 +11,9 @@ use Rattle.yaml_read.proofs.document.Document.read_plain.Goals as goal
 pub returns-in-Some-clause-gives : goal.returns-in-Some-clause-gives
 returns-in-Some-clause-gives c =
     let answers = c.in-Some.ensures.answers in
-    subst (λ table. DocumentGives default_limits table (shape_of c.args.shape.now) c.args.self.now (Ok (data_of c.in-Some.data))) c.empty-schema.ensures
-    (gives_of_exact default_limits _ (shape_of c.args.shape.now) c.args.self.now c.optionals_end.ensures.small c.optionals_end.ensures.falls
-    (reaches_none _ (shape_of c.args.shape.now) c.requires) (Ok (data_of c.in-Some.data)) (λ v e. answers.whole) (λ root is. answers.answer default_limits _ root is))
+    subst (λ table. DocumentGives default_limits table (shape_of c.args.shape.now) c.args.self.now
+    (Ok (data_of c.in-Some.data))) c.empty-schema.ensures
+    (gives_of_exact default_limits _ (shape_of c.args.shape.now) c.args.self.now c.optionals_end.ensures.small
+    c.optionals_end.ensures.falls
+    (reaches_none _ (shape_of c.args.shape.now) c.requires) (Ok (data_of c.in-Some.data)) (λ v e. answers.whole)
+    (λ root is. answers.answer default_limits _ root is))

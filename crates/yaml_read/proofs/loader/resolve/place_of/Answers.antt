@@ -9,4 +9,5 @@ use Rattle.yaml_read.proofs.loader.resolve.place_of.Goals as goal
 pub returns-clause-place : goal.returns-clause-place
 returns-clause-place c =
     c.partition_point.ensures.partitioned (λ x. is_lt (anchor_order x c.args.alias.now))
-    (always_returns_same _ _ _ (λ a r f k. search (rules, of_calls))) (parted c.args.named.now c.args.alias.now c.requires)
+    (always_returns_same _ _ _ (λ a r f k. search (rules, of_calls)))
+    (parted c.args.named.now c.args.alias.now c.requires)

@@ -14,7 +14,8 @@ invariant_of-self-2 c =
     let can : CanEnd before.opened = subst (λ (w : Writing). CanEnd w.opened) is c.requires in
     let events : before.events ++ ending_in before.opened ≡ c.add_end.new.out =
     ap (λ os. before.events ++ ending_in (reverse os)) (sym c.deref.ensures.value)
-    ∙ added-is (λ events. events) (ending_in (reverse c.deref.result.now)) before.events c.add_end.new.out c.in_ok-add_end.ensures in
+    ∙ added-is (λ events. events) (ending_in (reverse c.deref.result.now)) before.events c.add_end.new.out
+    c.in_ok-add_end.ensures in
     let rest : outer_of before.opened ≡ reverse c.pop-closed.new.self.items =
     last_gone c.self.inside.opened.items c.pop-closed.new.self.items c.pop-closed.result c.pop-closed.ensures.items
     (λ e. let none = rw e at c.pop-closed.ensures.cases in omega (arith, none.0)) in

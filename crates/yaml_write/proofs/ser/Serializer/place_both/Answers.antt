@@ -16,8 +16,10 @@ returns c =
     let both = joined pair_node (content_written c.args.first) (content_written c.args.second) in
     let opened : reverse c.begin_part-2.new.opened.items ≡ with_begun (with_begun before.opened) =
     c.begin_part-2.ensures.begun ∙ ap with_begun c.begin_part.ensures.begun in
-    subst (λ (w : Writing). made (with_both w) both ≡ Ok (record { events = c.add_both.new.out; opened = reverse c.begin_part-2.new.opened.items })) is
-    (placed-both before both c.add_both.new.out some c.in_ok-add_both.ensures ∙ ap Ok (λ k. record { events = c.add_both.new.out; opened = sym opened k }))
+    subst (λ (w : Writing). made (with_both w) both
+    ≡ Ok (record { events = c.add_both.new.out; opened = reverse c.begin_part-2.new.opened.items })) is
+    (placed-both before both c.add_both.new.out some c.in_ok-add_both.ensures
+    ∙ ap Ok (λ k. record { events = c.add_both.new.out; opened = sym opened k }))
 
 pub invariant_of-self-2 : goal.invariant_of-self-2
 invariant_of-self-2 c =
@@ -26,5 +28,7 @@ invariant_of-self-2 c =
     let both = joined pair_node (content_written c.args.first) (content_written c.args.second) in
     let opened : reverse c.begin_part-2.new.opened.items ≡ with_begun (with_begun before.opened) =
     c.begin_part-2.ensures.begun ∙ ap with_begun c.begin_part.ensures.begun in
-    placed-made before (record { events = c.add_both.new.out; opened = reverse c.begin_part-2.new.opened.items }) both c.self.invariant
-    (placed-both before both c.add_both.new.out some c.in_ok-add_both.ensures ∙ ap Ok (λ k. record { events = c.add_both.new.out; opened = sym opened k }))
+    placed-made before (record { events = c.add_both.new.out; opened = reverse c.begin_part-2.new.opened.items }) both
+    c.self.invariant
+    (placed-both before both c.add_both.new.out some c.in_ok-add_both.ensures
+    ∙ ap Ok (λ k. record { events = c.add_both.new.out; opened = sym opened k }))

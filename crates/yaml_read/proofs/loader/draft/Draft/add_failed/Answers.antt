@@ -9,5 +9,6 @@ returns c = λ documents h.
     let old = c.args.self.now in
     let from = c.len-from.result in
     let cut : Cut = record { from = from; to = from; error = c.in_ok-error.error } in
-    failed_more old documents h _ cut _ refl refl refl c.in_ok-push.ensures.items (omega (arith, old.events.ok, c.len-from.ensures)) refl
+    failed_more old documents h _ cut _ refl refl refl c.in_ok-push.ensures.items
+    (omega (arith, old.events.ok, c.len-from.ensures)) refl
     (c.in_ok-error.ensures ∙ ap Some c.from.ensures)

@@ -9,13 +9,15 @@ returns-in_ok-finish-in-Some c = λ all end known way.
     let old = c.args.self.now in
     let new = c.finish.new.self in
     fault_closes c.args.inside true c.args.fault c.in-Some.fault all old new c.if-inside.true c.in-Some.is
-    (λ h. all_open c.in-Some.fault all old new h (c.in_ok-finish-in-Some.ensures h.events h.numbers h.seen h.draft h.cuts)) way
+    (λ h. all_open c.in-Some.fault all old new h
+    (c.in_ok-finish-in-Some.ensures h.events h.numbers h.seen h.draft h.cuts)) way
 
 pub returns-in_ok-add_void-in-None : goal.returns-in_ok-add_void-in-None
 returns-in_ok-add_void-in-None c = λ all end known way.
     let old = c.args.self.now in
     let new = c.add_void.new.self in
-    let empty = none_held old.cuts.items (omega (arith, old.cuts.ok, eqb-true _ _ (sym c.is_empty.ensures ∙ c.if-is_empty.true))) in
+    let empty = none_held old.cuts.items
+    (omega (arith, old.cuts.ok, eqb-true _ _ (sym c.is_empty.ensures ∙ c.if-is_empty.true))) in
     none_closes c.args.inside c.args.fault all old new known c.in-None.is
     (λ h. all_void all old h new c.in-Some-end.mark empty (sym c.in-Some-end.is ∙ end)
     (c.in_ok-add_void-in-None.ensures h.documents h.between)) way

@@ -11,7 +11,8 @@ returns-in-DocumentStart c = λ fault all left rest is way.
     let start = ap event_of c.in-DocumentStart.is in
     let h = on_way (open_before e) _ fault all left c.args.self.now (ap open_before start) way in
     on_way _ (open_behind e) fault all rest c.begin.new.self (sym (ap open_behind start))
-    (on_begin fault all left rest e c.args.mark is c.args.self.now c.begin.new.self start h (c.begin.ensures.draft h.documents h.between)
+    (on_begin fault all left rest e c.args.mark is c.args.self.now c.begin.new.self start h
+    (c.begin.ensures.draft h.documents h.between)
     c.begin.ensures.cuts)
 
 pub returns-in_ok-finish-in-DocumentEnd : goal.returns-in_ok-finish-in-DocumentEnd

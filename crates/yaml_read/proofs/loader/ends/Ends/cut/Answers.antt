@@ -17,5 +17,6 @@ numbers-preserved c =
 pub returns-clause-numbers : goal.returns-clause-numbers
 returns-clause-numbers c =
     let l = c.numbers.self-inside in
-    sym (bounded_all c.args.place c.numbers.at l.numbers.items (omega (arith, l.numbers.ok, c.len.ensures, c.numbers-test.false)))
+    sym (bounded_all c.args.place c.numbers.at l.numbers.items
+    (omega (arith, l.numbers.ok, c.len.ensures, c.numbers-test.false)))
     ∙ c.numbers.invariant.bounded

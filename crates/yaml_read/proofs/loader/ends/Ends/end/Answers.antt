@@ -16,12 +16,15 @@ returns c =
             | in-Some w ↦
                 ends front seen (record { numbers = i.numbers.items; unended = i.unended.items }) held e _ c.args.place
                 w.in-Some.start c.pop.new.self.items p o q c.self.invariant w.in-Some.ensures.items
-                (c.in_ok-push.ensures.items ∙ ap (λ (j : Inside). j.numbers.items ++ c.args.place ∷ []) w.self-inside-is)
+                (c.in_ok-push.ensures.items ∙ ap (λ (j : Inside). j.numbers.items ++ c.args.place ∷ [])
+                w.self-inside-is)
                 (ap (λ (j : Inside). j.unended.items) w.self-inside-is)
             | in_default w ↦
-                stray_ends front seen (record { numbers = i.numbers.items; unended = i.unended.items }) held e _ c.args.place
+                stray_ends front seen (record { numbers = i.numbers.items; unended = i.unended.items }) held e _
+                c.args.place
                 p o (search rules)
-                (c.in_ok-push.ensures.items ∙ ap (λ (j : Inside). j.numbers.items ++ c.args.place ∷ []) w.self-inside-is)
+                (c.in_ok-push.ensures.items ∙ ap (λ (j : Inside). j.numbers.items ++ c.args.place ∷ [])
+                w.self-inside-is)
                 (ap (λ (j : Inside). j.unended.items) w.self-inside-is ∙ search rules)
           ];
     }

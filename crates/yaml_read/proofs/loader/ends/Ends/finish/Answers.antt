@@ -14,25 +14,35 @@ unended-init c = record {
 pub index_mut-requires : goal.index_mut-requires
 index_mut-requires c =
     let l = c.unended.self-inside in
-    omega (arith, l.numbers.ok, last_in l.numbers.items c.pop.new.self.items l.unended.items c.in-Some.start c.in-Some.ensures.items c.unended.invariant.within)
+    omega (
+      arith,
+      l.numbers.ok,
+      last_in l.numbers.items c.pop.new.self.items l.unended.items c.in-Some.start
+          c.in-Some.ensures.items c.unended.invariant.within,
+    )
 
 pub unended-smaller : goal.unended-smaller
-unended-smaller c = let w = c.in-Some.ensures.items in omega (arith, ap length w, length-append c.pop.new.self.items (c.in-Some.start ∷ []))
+unended-smaller c = let w = c.in-Some.ensures.items in
+    omega (arith, ap length w, length-append c.pop.new.self.items (c.in-Some.start ∷ []))
 
 pub unended-preserved : goal.unended-preserved
 unended-preserved c =
     let l = c.unended.self-inside in
     record {
       within =
-          in_front l.numbers.items (set l.numbers.items c.in-Some.start c.args.size) c.pop.new.self.items l.unended.items
-          c.in-Some.start c.in-Some.ensures.items (length-set l.numbers.items c.in-Some.start c.args.size) c.unended.invariant.within;
+          in_front l.numbers.items (set l.numbers.items c.in-Some.start c.args.size) c.pop.new.self.items
+          l.unended.items
+          c.in-Some.start c.in-Some.ensures.items (length-set l.numbers.items c.in-Some.start c.args.size)
+          c.unended.invariant.within;
       count = length-set l.numbers.items c.in-Some.start c.args.size ∙ c.unended.invariant.count;
       all =
-          finish_more l.unended.items c.pop.new.self.items c.pop.new.self.items c.in-Some.start c.args.size l.numbers.items
+          finish_more l.unended.items c.pop.new.self.items c.pop.new.self.items c.in-Some.start c.args.size
+          l.numbers.items
           (set l.numbers.items c.in-Some.start c.args.size) _ c.in-Some.ensures.items refl refl c.unended.invariant.all;
     }
 
 pub returns-clause-numbers : goal.returns-clause-numbers
 returns-clause-numbers c = λ front seen h p.
     let l = c.unended.self-inside in
-    finished front seen c.args.self.now c.args.size l.unended.items l.numbers.items h p (search rules) c.unended.invariant.all
+    finished front seen c.args.self.now c.args.size l.unended.items l.numbers.items h p
+    (search rules) c.unended.invariant.all
