@@ -23,7 +23,7 @@ use Rattle.yaml_read.specs.PlainDocument.{PlainDocument}
 use Rattle.yaml_read.specs.StreamMachine.{State, before_stream, between_documents, before_root, within, after_stream}
 use Rattle.yaml_read.specs.StreamMachine.{begins, next_state, is_done, is_open, state_of}
 use Rattle.yaml_read.specs.declared.loader.check.Phase.{Phase}
-use Rattle.yaml_read.specs.declared.loader.check.Phase.TheVariants.{Before, Between, Root, Within, After}
+use Rattle.yaml_read.specs.declared.loader.check.Phase.TheVariants.{Before, Between, Root, Within, Ended, After}
 use Rattle.yaml_read.specs.declared.doc_event.DocEvent.{DocEvent}
 use Rattle.yaml_read.specs.declared.loader.check.Open.{Open}
 use Rattle.yaml_read.specs.declared.loader.check.Open.TheVariants.{Sequence, Key, Value}
@@ -423,7 +423,8 @@ pub inside_phase : (p : Phase) (opened : List Open) → is_inside (state_of p op
 inside_phase Before opened = refl
 inside_phase Between opened = refl
 inside_phase Root opened = refl
-inside_phase Within opened = refl
+inside_phase (Within o) opened = refl
+inside_phase Ended opened = refl
 inside_phase After opened = refl
 
 -- where the events are right, a document is open only where there is a fault
@@ -432,7 +433,8 @@ open_faulted p true other h = refl
 open_faulted Before false other h = absurd (other refl)
 open_faulted Between false other h = absurd (other refl)
 open_faulted Root false other h = absurd (other refl)
-open_faulted Within false other h = absurd (other refl)
+open_faulted (Within o) false other h = absurd (other refl)
+open_faulted Ended false other h = absurd (other refl)
 open_faulted After false other h = absurd cc
 
 -- events of which none is left

@@ -1,8 +1,9 @@
 //! Which events may follow one another in a stream.
 
-ghost use Rattle.std.specs.Prelude.{◌≡◌, IfOk};
+ghost use Rattle.std.specs.Prelude.{◌≡◌, List, [], IfOk, None};
 ghost use Rattle.yaml_base.specs.PlainEvent.{event_of};
-ghost use Rattle.yaml_read.specs.StreamMachine.{Begins, IsClean, Moves, is_done, is_open};
+ghost use Rattle.yaml_read.specs.StreamMachine.{Begins, IsClean, Moves, is_done, is_open, opened_in, state_of};
+ghost use Rattle.yaml_read.specs.StreamMachine.{within};
 
 use std::alloc::AllocError;
 use yaml_base::Event;
@@ -27,40 +28,58 @@ pub(crate) enum Phase {
     Between,
     // The node of a document.
     Root,
-    // More of the open collections, or the end of the document where none is open.
-    Within,
+    // More of the innermost open collection.
+    Within(Open),
+    // The end of the document.
+    Ended,
     // Nothing more.
     After,
 }
 
-// Begins a node with the event, if one may begin so.
-fn begin(opened: &mut Vec<Open>, event: &Event<'_>) -> Result<Option<Phase>, AllocError>
-    ensures { IfOk result (λ found.
-        Begins opened.old.items (event_of event.now) opened.new.items found) }
+// The phase behind a whole node, by what the collection around it waits for then, if there is one.
+fn resumed(around: Option<Open>) -> Phase
+    ensures { (outer : List Open) → (around ≡ None → outer ≡ [])
+        → (state_of result outer ≡ within (opened_in around outer)) × IsClean result outer }
 {
-    match event {
-        Event::Alias(_) | Event::Scalar(_) => Ok(Some(Phase::Within)),
-        Event::SequenceStart(_) => {
-            opened.push(Open::Sequence)?;
-            Ok(Some(Phase::Within))
-        }
-        Event::MappingStart(_) => {
-            opened.push(Open::Key)?;
-            Ok(Some(Phase::Within))
-        }
-        _ => Ok(None),
+    match around {
+        Some(open) => Phase::Within(open),
+        None => Phase::Ended,
     }
 }
 
-// The phase after the event, if it may stand there.
-pub(crate) fn next(
-    phase: Phase,
-    opened: &mut Vec<Open>,
+// Begins a node with the event, if one may begin so. Once the node is whole, the collection around it waits for this,
+// and the others for what stands in the list, the innermost last.
+fn begin(
+    outer: &mut Vec<Open>,
+    around: Option<Open>,
     event: &Event<'_>,
 ) -> Result<Option<Phase>, AllocError>
-    requires { IsClean phase opened.old.items }
+    requires { around ≡ None → outer.old.items ≡ [] }
     ensures { IfOk result (λ found.
-        Moves phase opened.old.items (event_of event.now) opened.new.items found) }
+        Begins around outer.old.items (event_of event.now) outer.new.items found) }
+{
+    let first = match event {
+        Event::Alias(_) | Event::Scalar(_) => return Ok(Some(resumed(around))),
+        Event::SequenceStart(_) => Open::Sequence,
+        Event::MappingStart(_) => Open::Key,
+        _ => return Ok(None),
+    };
+    if let Some(open) = around {
+        outer.push(open)?;
+    }
+    Ok(Some(Phase::Within(first)))
+}
+
+// The phase after the event, if it may stand there. The list has what the collections around the innermost wait for,
+// the outermost first.
+pub(crate) fn next(
+    phase: Phase,
+    outer: &mut Vec<Open>,
+    event: &Event<'_>,
+) -> Result<Option<Phase>, AllocError>
+    requires { IsClean phase outer.old.items }
+    ensures { IfOk result (λ found.
+        Moves phase outer.old.items (event_of event.now) outer.new.items found) }
 {
     match phase {
         Phase::Before => match event {
@@ -72,30 +91,19 @@ pub(crate) fn next(
             Event::StreamEnd => Ok(Some(Phase::After)),
             _ => Ok(None),
         },
-        Phase::Root => begin(opened, event),
-        Phase::Within => match opened.pop() {
-            None => match event {
-                Event::DocumentEnd => Ok(Some(Phase::Between)),
-                _ => Ok(None),
-            },
-            Some(Open::Sequence) => match event {
-                Event::SequenceEnd => Ok(Some(Phase::Within)),
-                _ => {
-                    opened.push(Open::Sequence)?;
-                    begin(opened, event)
-                }
-            },
-            Some(Open::Key) => match event {
-                Event::MappingEnd => Ok(Some(Phase::Within)),
-                _ => {
-                    opened.push(Open::Value)?;
-                    begin(opened, event)
-                }
-            },
-            Some(Open::Value) => {
-                opened.push(Open::Key)?;
-                begin(opened, event)
-            }
+        Phase::Root => begin(outer, None, event),
+        Phase::Within(Open::Sequence) => match event {
+            Event::SequenceEnd => Ok(Some(resumed(outer.pop()))),
+            _ => begin(outer, Some(Open::Sequence), event),
+        },
+        Phase::Within(Open::Key) => match event {
+            Event::MappingEnd => Ok(Some(resumed(outer.pop()))),
+            _ => begin(outer, Some(Open::Value), event),
+        },
+        Phase::Within(Open::Value) => begin(outer, Some(Open::Key), event),
+        Phase::Ended => match event {
+            Event::DocumentEnd => Ok(Some(Phase::Between)),
+            _ => Ok(None),
         },
         Phase::After => Ok(None),
     }
@@ -112,5 +120,5 @@ pub(crate) fn is_after(phase: Phase) -> bool
 pub(crate) fn is_inside(phase: Phase) -> bool
     ensures { result ≡ is_open phase }
 {
-    matches!(phase, Phase::Root | Phase::Within)
+    matches!(phase, Phase::Root | Phase::Within(_) | Phase::Ended)
 }

@@ -87,6 +87,7 @@ impl<'de> Draft<'de> {
     }
 
     // Goes over an event that is part of the open document's node.
+    #[inline(always)]
     pub(crate) fn take(&mut self, event: Event<'de>, mark: Mark) -> Result<(), AllocError>
         requires { self.old.from ≤ length self.old.events.items }
         ensures draft { IfOk result (λ _. (events : List (Shown × Position)) (numbers : List ℕ) (seen : Input)

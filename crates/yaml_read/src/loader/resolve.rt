@@ -29,13 +29,12 @@ fn place_of(named: &[(Anchor, usize)], alias: &(Anchor, usize), near: usize) -> 
     ensures place { IsPlaceOf named.now alias.now result }
     ensures within { result ≤ length named.now }
 {
-    if near == 0 || is_before(named, near - 1, alias) {
-        if !is_before(named, near, alias) {
-            return near;
-        }
+    if is_before(named, near, alias) {
         if !is_before(named, near + 1, alias) {
             return near + 1;
         }
+    } else if near == 0 || is_before(named, near - 1, alias) {
+        return near;
     } else if near == 1 || is_before(named, near - 2, alias) {
         return near - 1;
     }

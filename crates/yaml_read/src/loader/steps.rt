@@ -13,6 +13,7 @@ use yaml_base::{Event, Mark, ParserFault};
 
 impl<'de> Draft<'de> {
     // Goes over the next event of a stream.
+    #[inline(always)]
     pub(crate) fn step(
         &mut self,
         alloc: Global,

@@ -21,7 +21,7 @@ returns-in-None-clause-wrong c = λ _.
     let i = c.events.place in
     let x : Event × Position = (c.in-Some.event, c.in-Some.mark) in
     let here = c.events.invariant.now ∙ c.in-Some.ensures.items in
-    let state = state_of c.events.phase c.events.opened.items in (
+    let state = state_of c.events.phase c.events.outer.items in (
       i,
       c.new.ensures,
       wrong_plain (is_some c.args.fault) events i x state (at_place events _ i x here) c.events.invariant.ran
@@ -32,7 +32,7 @@ returns-in-None-clause-wrong c = λ _.
 pub step-requires : goal.step-requires
 step-requires c = λ before.
     let moves = rw c.in-Some-2.is at c.in_ok-next.ensures in
-    let state = state_of c.events.phase c.events.opened.items in
+    let state = state_of c.events.phase c.events.outer.items in
     ready_if (is_inside state) c.args.fault (plain_marked c.args.events.items)
     (plain_marked (into_iter_items c.events.rest)) c.events.draft
     c.events.invariant.way ((turns state (event_of c.in-Some.event) _ moves.0).0 ∙ before)
@@ -47,8 +47,8 @@ events-preserved c =
     let here = c.events.invariant.now ∙ c.in-Some.ensures.items in
     let within = at_place events _ i x here in
     let parts = next_parts events _ i x here in
-    let state = state_of c.events.phase c.events.opened.items in
-    let after = state_of c.in-Some-2.after c.next-in-Some.new.opened.items in
+    let state = state_of c.events.phase c.events.outer.items in
+    let after = state_of c.in-Some-2.after c.next-in-Some.new.outer.items in
     let turn = turns state e after moves.0 in
     let left = plain_marked (into_iter_items c.events.rest) in
     let rest = plain_marked (into_iter_items c.next.new.self) in
@@ -76,7 +76,7 @@ returns-then-is_after-is_some-clause-wrong c = λ _.
     let end = c.events.invariant.now ∙ none in (
       c.events.place,
       c.new-then-is_after-is_some.ensures,
-      wrong_end (is_some c.args.fault) c.events.phase c.events.opened.items events c.events.place
+      wrong_end (is_some c.args.fault) c.events.phase c.events.outer.items events c.events.place
           c.events.invariant.within end
           c.events.invariant.ran (sym c.is_after.ensures ∙ flags_same _ _ c.if-is_after-is_some.true ∙ c.is_some.ensures
           ∙ given),
@@ -84,10 +84,10 @@ returns-then-is_after-is_some-clause-wrong c = λ _.
 
 pub close-requires : goal.close-requires
 close-requires c = λ inside.
-    let state = state_of c.events.phase c.events.opened.items in
+    let state = state_of c.events.phase c.events.outer.items in
     ready_if (is_inside state) c.args.fault (plain_marked c.args.events.items)
     (plain_marked (into_iter_items c.events.rest)) c.events.draft
-    c.events.invariant.way (inside_phase c.events.phase c.events.opened.items ∙ sym c.is_inside.ensures ∙ inside)
+    c.events.invariant.way (inside_phase c.events.phase c.events.outer.items ∙ sym c.is_inside.ensures ∙ inside)
 
 pub returns-clause-accepted : goal.returns-clause-accepted
 returns-clause-accepted c =
@@ -96,7 +96,7 @@ returns-clause-accepted c =
     let none : into_iter_items c.events.rest ≡ [] =
     nothing_left (into_iter_items c.events.rest) (omega (arith, c.events.rest.rest.ok, c.in_default.ensures.cases.0)) in
     let end = c.events.invariant.now ∙ none in
-    right_end (is_some c.args.fault) c.events.phase c.events.opened.items events c.events.place
+    right_end (is_some c.args.fault) c.events.phase c.events.outer.items events c.events.place
     c.events.invariant.within end
     c.events.invariant.ran (λ same. flags_differ _ _ c.if-is_after-is_some.false
     (c.is_after.ensures ∙ same ∙ sym (c.is_some.ensures ∙ given)))
@@ -108,7 +108,7 @@ returns-clause-documents c =
     let none : into_iter_items c.events.rest ≡ [] =
     nothing_left (into_iter_items c.events.rest) (omega (arith, c.events.rest.rest.ok, c.in_default.ensures.cases.0)) in
     let all = plain_marked events in
-    let inside = inside_phase c.events.phase c.events.opened.items ∙ sym c.is_inside.ensures in
+    let inside = inside_phase c.events.phase c.events.outer.items ∙ sym c.is_inside.ensures in
     subst (λ f. IsBetween (documents_of all f) c.close.new.self) c.events.invariant.fault
     (c.in_ok-close.ensures all (c.last-end.ensures ∙ ap (λ (es : _). last_mark (plain_marked es)) c.deref.ensures.value)
     (λ held. given ∙ open_faulted c.events.phase (is_some c.args.fault)
@@ -116,7 +116,7 @@ returns-clause-documents c =
     (sym c.is_inside.ensures ∙ held))
     (subst (λ f. IsOnWay c.is_inside.result f all [] c.events.draft) (sym c.events.invariant.fault)
     (subst (λ (es : _). IsOnWay c.is_inside.result c.args.fault all (plain_marked es) c.events.draft) none
-    (on_way (is_inside (state_of c.events.phase c.events.opened.items)) c.is_inside.result c.args.fault all
+    (on_way (is_inside (state_of c.events.phase c.events.outer.items)) c.is_inside.result c.args.fault all
     (plain_marked (into_iter_items c.events.rest)) c.events.draft inside c.events.invariant.way))))
 
 pub returns-in-None-clause-refused : goal.returns-in-None-clause-refused

@@ -10,12 +10,12 @@ abbrev pub invariant-events : goal.invariant-events
 invariant-events l =
     let all = l.fn.events.items in
     let left = into_iter_items l.rest in
-    let state = state_of l.phase l.opened.items in
+    let state = state_of l.phase l.outer.items in
     record {
       fault : l.fault ≡ l.fn.fault;
       within : l.place ≤ length all;
       now : drop l.place all ≡ left;
-      clean : IsClean l.phase l.opened.items;
+      clean : IsClean l.phase l.outer.items;
       ran : run (Some before_stream) (take l.place (plain_events all)) ≡ Some state;
       way : IsOnWay (is_inside state) l.fn.fault (plain_marked all) (plain_marked left) l.draft;
     }
