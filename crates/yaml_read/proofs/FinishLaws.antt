@@ -21,7 +21,8 @@ use Rattle.yaml_read.specs.declared.loader.draft.Draft.{Draft}
 use Rattle.yaml_read.specs.inner.Drafts.{IsBetween, IsDraft, aliases_in, all_drafted, drafts_of, settled}
 use Rattle.yaml_read.specs.inner.OpenEnds.{EndsView, bounded_from}
 use Rattle.yaml_read.proofs.Gatherings.{cuts_pushed, documents_pushed, long_pushed, plain_doc_events-marked}
-use Rattle.yaml_read.proofs.SettledLaws.{ends_of_cut, ends_of_whole, settled_whole}
+use Rattle.yaml_read.proofs.SettledEnds.{ends_of_cut, ends_of_whole}
+use Rattle.yaml_read.proofs.SettledLaws.{settled_whole}
 
 abbrev Events : Type 0
 Events = List (DocEvent × Position)

@@ -24,7 +24,7 @@ use Rattle.yaml_read.specs.Steps.{ending}
 use Rattle.yaml_read.specs.TreeReader.{Spot, marks_of, whole_fuel, read_tree}
 use Rattle.yaml_read.specs.inner.Answered.{IsAnswered}
 use Rattle.yaml_read.specs.inner.Reader.{is_leaf}
-use Rattle.yaml_read.proofs.reading.Exits.{leaf_scalar}
+use Rattle.yaml_read.proofs.reading.LeafExits.{leaf_scalar}
 use Rattle.yaml_read.proofs.reading.Whole.{whole_source, answered}
 
 -- a document whose first event is a scalar, and that has a tree, gives the data of the scalar

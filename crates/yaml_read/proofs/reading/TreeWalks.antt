@@ -66,8 +66,8 @@ module _ (events : Events) (size : ℕ) (within : (p : ℕ) (e : PlainDocEvent �
     no_turn : (p : ℕ) (e : PlainDocEvent × Position) → events p ≡ Some e → size < 0 + p → ⊥
     no_turn p e is big = let here = within p e is in omega arith
 
-    pub nodes_tied : {S : Type 0} (step : S → Spot → Reading S) (part : S → DocNode → Spot → Answer S) → IsTied step part
-        → (turns : ℕ) (s : S) (ns : DocNodes) (at : Spot)
+    pub nodes_tied : {S : Type 0} (step : S → Spot → Reading S) (part : S → DocNode → Spot → Answer S)
+        → IsTied step part → (turns : ℕ) (s : S) (ns : DocNodes) (at : Spot)
         → Shows events at.place (events_of_nodes ns ++ sequence_ends ∷ []) → size < turns + at.place
         → each_at is_sequence_end step events turns s at
         ≡ landed (at.place + length (events_of_nodes ns ++ sequence_ends ∷ [])) (each_node part s ns at)

@@ -22,7 +22,8 @@ use Rattle.yaml_read.specs.Steps.{◌>>=◌}
 use Rattle.yaml_read.specs.TreeReader.{PlainLimits, Spot, Answer, marks_of, whole_fuel, whole_tree, answer_of}
 use Rattle.yaml_read.specs.declared.doc_event.DocEvent.{DocEvent}
 use Rattle.yaml_read.specs.inner.Reader.{Source, Reading, Events, node_at}
-use Rattle.yaml_read.proofs.reading.Complete.{Outcome, reads, deep, many, tree_outcome}
+use Rattle.yaml_read.proofs.reading.Outcomes.{Outcome, reads, deep, many}
+use Rattle.yaml_read.proofs.reading.Complete.{tree_outcome}
 use Rattle.yaml_read.proofs.reading.EndLaws.{node_ends}
 use Rattle.yaml_read.proofs.reading.Shown.{Shows}
 use Rattle.yaml_read.proofs.reading.Sound.{tree_sound}

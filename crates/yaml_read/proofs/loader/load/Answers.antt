@@ -9,8 +9,9 @@ use Rattle.yaml_read.specs.inner.Drafts.{IsBetween}
 use Rattle.yaml_read.specs.MarkedEvents.{plain_events, plain_marked}
 use Rattle.yaml_read.specs.StreamMachine.{next_state, state_of}
 use Rattle.yaml_read.specs.inner.Loading.{IsOnWay, is_inside, open_before, open_behind}
-use Rattle.yaml_read.proofs.LoadingLaws.{flags_differ, flags_same, inside_phase, nothing_left, on_way, open_faulted}
-use Rattle.yaml_read.proofs.LoadingLaws.{ready_if, turns}
+use Rattle.yaml_read.proofs.LoadingEnds.{flags_differ, flags_same, nothing_left}
+use Rattle.yaml_read.proofs.LoadingTurns.{inside_phase, open_faulted, turns}
+use Rattle.yaml_read.proofs.LoadingLaws.{on_way, ready_if}
 use Rattle.yaml_read.proofs.WrongPlaces.{at_place, next_parts, right_end, run_plain, wrong_end, wrong_not_well_formed}
 use Rattle.yaml_read.proofs.WrongPlaces.{wrong_plain}
 use Rattle.yaml_read.proofs.loader.load.Goals as goal

@@ -2,7 +2,7 @@
 use Rattle.std.proofs.Common.{◌<◌, length, refl, sym}
 use Rattle.std.proofs.lemmas.Bool.{ltb-true, ltb-false}
 use Rattle.std.proofs.lemmas.Option.{slice_get_read}
-use Rattle.yaml_read.proofs.FieldCode.{free_here, free_outside}
+use Rattle.yaml_read.proofs.SlotCode.{free_here, free_outside}
 use Rattle.yaml_read.proofs.de.fields.is_free.Goals as goal
 
 pub returns-in-Some : goal.returns-in-Some

@@ -1,6 +1,6 @@
 -- The slots are as many as the fields.
 use Rattle.std.proofs.Common.{◌≡◌, length, arith}
-use Rattle.yaml_read.proofs.FieldCode.{empty_slots}
+use Rattle.yaml_read.proofs.SlotCode.{empty_slots}
 use Rattle.yaml_read.proofs.de.fields.no_slots.Goals as goal
 
 pub returns : goal.returns

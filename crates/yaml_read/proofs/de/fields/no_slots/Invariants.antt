@@ -1,6 +1,6 @@
 -- What stands there is empty, and no more than there are fields.
 use Rattle.std.proofs.Common.{◌-◌, ◌≤◌, length}
-use Rattle.yaml_read.proofs.FieldCode.{AllEmpty}
+use Rattle.yaml_read.proofs.SlotCode.{AllEmpty}
 use Rattle.yaml_read.proofs.de.fields.no_slots.Given as goal
 
 abbrev pub invariant-slots : goal.invariant-slots

@@ -1,6 +1,6 @@
 -- In a list in order, what is in front of one that is in front is so too, and what is behind one that is not is not.
 use Rattle.std.proofs.Common.{◌∙◌, ap, is_lt, sym}
-use Rattle.yaml_read.proofs.AnchorSearch.{all_before, none_before}
+use Rattle.yaml_read.proofs.AnchorOrders.{all_before, none_before}
 use Rattle.yaml_read.proofs.loader.resolve.is_before.Goals as goal
 
 pub returns-in-Some-clause-before : goal.returns-in-Some-clause-before

@@ -3,7 +3,7 @@ use Rattle.std.proofs.Common.{rules, of_calls}
 use Rattle.std.specs.Ordering.{is_lt}
 use Rattle.std.proofs.lemmas.Fn.{always_returns_same}
 use Rattle.yaml_read.specs.inner.AnchorOrder.{anchor_order}
-use Rattle.yaml_read.proofs.AnchorSearch.{parted}
+use Rattle.yaml_read.proofs.AnchorOrders.{parted}
 use Rattle.yaml_read.proofs.loader.resolve.place_of.Goals as goal
 
 pub returns-clause-place : goal.returns-clause-place

@@ -47,12 +47,14 @@ use Rattle.yaml_read.proofs.reading.ContentExits.{any_tagged_step, any_list_step
 use Rattle.yaml_read.proofs.reading.ContentExits.{wrap_onto_finds, wrap_onto_fails}
 use Rattle.yaml_read.proofs.reading.ValueExits.{step_rows, any_no_key, any_repeated, any_no_value, any_entry}
 use Rattle.yaml_read.proofs.reading.Exits.{gives_ending_at, same_spot, not_sequence_end, not_mapping_end, entry_is}
-use Rattle.yaml_read.proofs.reading.Exits.{leaf_as_is, leaf_late, row_as_is, option_as_is, all_at}
-use Rattle.yaml_read.proofs.reading.Exits.{step_late, step_ended, step_event, step_content, step_newtype, step_seq}
-use Rattle.yaml_read.proofs.reading.Exits.{step_row, step_map, leaf_alias, leaf_scalar, no_key, no_value, one_entry}
-use Rattle.yaml_read.proofs.reading.Exits.{fields_as_is, step_struct, no_name, unknown_name, known_name, key_looked_up}
-use Rattle.yaml_read.proofs.reading.Exits.{key_fails, gives_key, gives_wrapped, name_scalar, scalar_mark}
-use Rattle.yaml_read.proofs.reading.Exits.{row_skips, row_reads, drop_here, drop_none, finish_fails, gives_finish}
+use Rattle.yaml_read.proofs.reading.Exits.{row_as_is, option_as_is, step_late, step_ended, step_event, step_content}
+use Rattle.yaml_read.proofs.reading.Exits.{step_newtype, step_seq, step_row, step_map, gives_wrapped, finish_fails}
+use Rattle.yaml_read.proofs.reading.Exits.{gives_finish}
+use Rattle.yaml_read.proofs.reading.LeafExits.{leaf_as_is, leaf_late, leaf_alias, leaf_scalar, name_scalar, scalar_mark}
+use Rattle.yaml_read.proofs.reading.PartExits.{all_at, no_key, no_value, one_entry, row_skips, row_reads, drop_here}
+use Rattle.yaml_read.proofs.reading.PartExits.{drop_none}
+use Rattle.yaml_read.proofs.reading.FieldExits.{fields_as_is, step_struct, no_name, unknown_name, known_name}
+use Rattle.yaml_read.proofs.reading.FieldExits.{key_looked_up, key_fails, gives_key}
 use Rattle.yaml_read.proofs.reading.Loops.{each_ended, each_end, each_fails, each_more, wrap_fails, wrap_finds}
 use Rattle.yaml_read.proofs.reading.Loops.{pursue_fails, pursue_finds}
 use Rattle.yaml_read.proofs.reading.PlaceLaws.{filled_memory, node_unfolds, place_here, place_ok, place_moved}

@@ -10,7 +10,8 @@ use Rattle.yaml_shape.specs.declared.data.Data.{Struct, the_lemmas}
 use Rattle.yaml_read.specs.Fields.{field_data}
 use Rattle.yaml_read.specs.Steps.{◌>>=◌}
 use Rattle.yaml_read.specs.inner.Walks.{slots_of}
-use Rattle.yaml_read.proofs.FieldCode.{number_within, taken, gathered_next, gathered_ends, gathered_all, handed_on}
+use Rattle.yaml_read.proofs.FieldCode.{number_within}
+use Rattle.yaml_read.proofs.SlotCode.{taken, gathered_next, gathered_ends, gathered_all, handed_on}
 use Rattle.yaml_read.proofs.de.source.Source.finish_struct.Goals as goal
 
 pub field_data-requires : goal.field_data-requires

@@ -6,7 +6,7 @@ use Rattle.yaml_shape.specs.DataView.{data_of}
 use Rattle.yaml_shape.specs.ShapeView.{fields_of}
 use Rattle.yaml_read.specs.Fields.{all_fields}
 use Rattle.yaml_read.specs.inner.Walks.{slots_of}
-use Rattle.yaml_read.proofs.FieldCode.{behind_these}
+use Rattle.yaml_read.proofs.SlotCode.{behind_these}
 use Rattle.yaml_read.proofs.de.source.Source.finish_struct.Given as goal
 
 abbrev pub invariant-loop-field : goal.invariant-loop-field

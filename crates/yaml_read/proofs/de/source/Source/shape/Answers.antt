@@ -1,6 +1,6 @@
 -- A shape that another names.
 use Rattle.std.proofs.Common.{arith}
-use Rattle.yaml_read.proofs.reading.Complete.{reach_rank}
+use Rattle.yaml_read.proofs.reading.Reaches.{reach_rank}
 use Rattle.yaml_read.proofs.de.source.Source.shape.Goals as goal
 
 pub returns-clause-reach : goal.returns-clause-reach

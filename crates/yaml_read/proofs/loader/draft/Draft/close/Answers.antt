@@ -1,7 +1,7 @@
 -- The end of the events ends the open document, or adds the one that the fault, or an empty stream, leaves.
 use Rattle.std.proofs.Common.{arith, ◌∙◌, sym, true}
 use Rattle.std.proofs.lemmas.Bool.{eqb-true}
-use Rattle.yaml_read.proofs.LoadingLaws.{all_open, all_void, fault_closes, none_closes, none_held}
+use Rattle.yaml_read.proofs.LoadingEnds.{all_open, all_void, fault_closes, none_closes, none_held}
 use Rattle.yaml_read.proofs.loader.draft.Draft.close.Goals as goal
 
 pub returns-in_ok-finish-in-Some : goal.returns-in_ok-finish-in-Some

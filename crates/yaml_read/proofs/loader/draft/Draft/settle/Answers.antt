@@ -3,7 +3,8 @@ use Rattle.std.proofs.Common.{List, ◌∙◌, ap, drop, sym}
 use Rattle.yaml_read.specs.DocEventView.{marked_events_of}
 use Rattle.yaml_read.specs.Documents.{Find, find_in}
 use Rattle.yaml_read.specs.inner.Drafts.{settled}
-use Rattle.yaml_read.proofs.AnchorSearch.{Named, same_find}
+use Rattle.yaml_read.proofs.AnchorOrders.{Named}
+use Rattle.yaml_read.proofs.SortedAnchors.{same_find}
 use Rattle.yaml_read.proofs.loader.draft.Draft.settle.Goals as goal
 
 pub returns-clause-settled : goal.returns-clause-settled

@@ -8,12 +8,6 @@ use Rattle.yaml_read.specs.inner.Drafts.{drafted, drafts_of}
 use Rattle.yaml_read.specs.inner.OpenEnds.{HasNumbers}
 use Rattle.yaml_read.proofs.DraftLaws.{draft_event, drafts_long, whole_long}
 use Rattle.yaml_read.proofs.loader.draft.Draft.take.Goals as goal
-use Rattle.yaml_read.proofs.loader.draft.Draft.take.Goals.{in-Alias+in_ok-push-in-Alias+in_ok-pass-in-Alias}
-use Rattle.yaml_read.proofs.loader.draft.Draft.take.Goals.{in-Scalar+in_ok-name-in-Scalar+in_ok-pass-in-Scalar}
-use Rattle.yaml_read.proofs.loader.draft.Draft.take.Goals.{in-SequenceStart+in_ok-name-in-SequenceStart+in_ok-begin-in-SequenceStart}
-use Rattle.yaml_read.proofs.loader.draft.Draft.take.Goals.{in-SequenceEnd+in_ok-end-in-SequenceEnd}
-use Rattle.yaml_read.proofs.loader.draft.Draft.take.Goals.{in-MappingStart+in_ok-name-in-MappingStart+in_ok-begin-in-MappingStart}
-use Rattle.yaml_read.proofs.loader.draft.Draft.take.Goals.{in-MappingEnd+in_ok-end-in-MappingEnd}
 
 pub returns-clause-draft : goal.returns-clause-draft
 returns-clause-draft c = λ events numbers seen h node.
@@ -23,7 +17,7 @@ returns-clause-draft c = λ events numbers seen h node.
     let at : place ≡ length seen = omega (arith, old.events.ok, c.len.ensures, whole_long events numbers seen old h) in
     let at' : place ≡ length (drafts_of seen) = at ∙ sym (drafts_long events numbers seen old h) in
     elim c.match-event.branch [
-      | in-Alias+in_ok-push-in-Alias+in_ok-pass-in-Alias w ↦
+      | goal.in-Alias+in_ok-push-in-Alias+in_ok-pass-in-Alias w ↦
           draft_event events numbers seen old h c.match-event.self _ (event_of c.args.event)
           (alias w.in-Alias.anchor) mark c.match-event.event place
           node (ap event_of w.in-Alias.is) at (ap (λ (m : Draft). m.from) w.self-is) refl
@@ -34,7 +28,7 @@ returns-clause-draft c = λ events numbers seen h node.
           (sym (ap (λ (m : Draft). m.ends) w.self-is))
           (w.in_ok-pass-in-Alias.ensures.numbers numbers (drafts_of seen)
           (drafted (alias w.in-Alias.anchor)) h.ends at' refl refl))
-      | in-Scalar+in_ok-name-in-Scalar+in_ok-pass-in-Scalar w ↦
+      | goal.in-Scalar+in_ok-name-in-Scalar+in_ok-pass-in-Scalar w ↦
           draft_event events numbers seen old h c.match-event.self _ (event_of c.args.event)
           (scalar (scalar_of w.in-Scalar.scalar)) mark c.match-event.event place
           node (ap event_of w.in-Scalar.is) at (ap (λ (m : Draft). m.from) w.self-is) refl
@@ -46,7 +40,7 @@ returns-clause-draft c = λ events numbers seen h node.
           (sym (ap (λ (m : Draft). m.ends) w.self-is))
           (w.in_ok-pass-in-Scalar.ensures.numbers numbers (drafts_of seen)
           (drafted (scalar (scalar_of w.in-Scalar.scalar))) h.ends at' refl refl))
-      | in-SequenceStart+in_ok-name-in-SequenceStart+in_ok-begin-in-SequenceStart w ↦
+      | goal.in-SequenceStart+in_ok-name-in-SequenceStart+in_ok-begin-in-SequenceStart w ↦
           draft_event events numbers seen old h c.match-event.self _ (event_of c.args.event)
           (sequence_start w.in-SequenceStart.start.anchor w.in-SequenceStart.start.tag) mark c.match-event.event
           place
@@ -60,7 +54,7 @@ returns-clause-draft c = λ events numbers seen h node.
           (sym (ap (λ (m : Draft). m.ends) w.self-is))
           (w.in_ok-begin-in-SequenceStart.ensures.numbers numbers (drafts_of seen)
           (drafted (sequence_start w.in-SequenceStart.start.anchor w.in-SequenceStart.start.tag)) h.ends at' refl))
-      | in-SequenceEnd+in_ok-end-in-SequenceEnd w ↦
+      | goal.in-SequenceEnd+in_ok-end-in-SequenceEnd w ↦
           draft_event events numbers seen old h c.match-event.self _ (event_of c.args.event)
           (sequence_end) mark c.match-event.event place
           node (ap event_of w.in-SequenceEnd.is) at (ap (λ (m : Draft). m.from) w.self-is) refl
@@ -71,7 +65,7 @@ returns-clause-draft c = λ events numbers seen h node.
           (sym (ap (λ (m : Draft). m.ends) w.self-is))
           (w.in_ok-end-in-SequenceEnd.ensures.numbers numbers (drafts_of seen)
           (drafted (sequence_end)) h.ends at' refl refl))
-      | in-MappingStart+in_ok-name-in-MappingStart+in_ok-begin-in-MappingStart w ↦
+      | goal.in-MappingStart+in_ok-name-in-MappingStart+in_ok-begin-in-MappingStart w ↦
           draft_event events numbers seen old h c.match-event.self _ (event_of c.args.event)
           (mapping_start w.in-MappingStart.start.anchor w.in-MappingStart.start.tag) mark c.match-event.event place
           node (ap event_of w.in-MappingStart.is) at (ap (λ (m : Draft). m.from) w.self-is) refl
@@ -84,7 +78,7 @@ returns-clause-draft c = λ events numbers seen h node.
           (sym (ap (λ (m : Draft). m.ends) w.self-is))
           (w.in_ok-begin-in-MappingStart.ensures.numbers numbers (drafts_of seen)
           (drafted (mapping_start w.in-MappingStart.start.anchor w.in-MappingStart.start.tag)) h.ends at' refl))
-      | in-MappingEnd+in_ok-end-in-MappingEnd w ↦
+      | goal.in-MappingEnd+in_ok-end-in-MappingEnd w ↦
           draft_event events numbers seen old h c.match-event.self _ (event_of c.args.event)
           (mapping_end) mark c.match-event.event place
           node (ap event_of w.in-MappingEnd.is) at (ap (λ (m : Draft). m.from) w.self-is) refl

@@ -1,0 +1,179 @@
+-- The slots of a struct as the code fills them, and as it takes the data of the fields from them.
+use Rattle.std.proofs.Common.{◌≡◌, ℕ, zero, suc, ◌+◌, ◌≤◌, List, [], ◌∷◌, ◌++◌, map, length, Option, Some, None, Bool}
+use Rattle.std.proofs.Common.{true, false, Result, Ok, Err, refl, sym, ap, ◌∙◌, arith, append_assoc, append-nil}
+use Rattle.std.proofs.Common.{add-one, String}
+use Rattle.std.specs.Prelude.{drop, slice_get, not}
+use Rattle.std.specs.Option.{option_map, option_flatten, option_to_list, is_some, is_none, MatchOption}
+use Rattle.std.specs.declared.alloc.Global.{Global}
+use Rattle.std.proofs.lemmas.List.{map-append}
+use Rattle.std.specs.Result.{IsErrAnd}
+use Rattle.yaml_base.specs.Answer.{Gives, is_memory}
+use Rattle.yaml_base.specs.declared.error.Cause.{Cause}
+use Rattle.yaml_shape.specs.DataView.{data_of}
+use Rattle.yaml_shape.specs.PlainData.{PlainData}
+use Rattle.yaml_shape.specs.PlainShape.{PlainShape}
+use Rattle.yaml_shape.specs.ShapeView.{field_of, fields_of}
+use Rattle.yaml_shape.specs.declared.data.Data.{Data}
+use Rattle.yaml_shape.specs.declared.shape.ShapeId.{ShapeId}
+use Rattle.yaml_read.specs.Fields.{Fields, Slots, is_free, no_slots, field_data, all_fields}
+use Rattle.yaml_read.specs.Steps.{◌>>=◌}
+use Rattle.yaml_read.specs.inner.Walks.{slots_of}
+use Rattle.yaml_read.proofs.FieldCode.{Declared, same_some}
+
+-- the code's slots
+abbrev pub CodeSlots : Type 0
+CodeSlots = List (Option Data)
+
+-- whether a place is free, by what is in it
+pub free_here : (slots : CodeSlots) (place : ℕ) (s : Option Data) (r : Bool) → slice_get slots place ≡ Some s
+    → is_some s ≡ not r → r ≡ is_free (slots_of slots) place
+free_here [] place s r h e = absurd cc
+free_here (t ∷ slots) zero s r h e = tested s r e ∙ sym (ap (λ o. is_none (option_map data_of o)) (same_some h))
+  where
+    tested : (s : Option Data) (r : Bool) → is_some s ≡ not r → r ≡ is_none (option_map data_of s)
+    tested None true e = refl
+    tested None false e = absurd cc
+    tested (Some d) true e = absurd cc
+    tested (Some d) false e = refl
+free_here (t ∷ slots) (suc place) s r h e = free_here slots place s r h e
+
+pub free_outside : (slots : CodeSlots) (place : ℕ) → length slots ≤ place
+    → true ≡ is_free (slots_of slots) place
+free_outside [] place h = refl
+free_outside (t ∷ slots) zero h = absurd (omega arith)
+free_outside (t ∷ slots) (suc place) h = free_outside slots place (omega arith)
+
+-- as many empty slots as there are fields
+abbrev pub AllEmpty : CodeSlots → Type 0
+AllEmpty slots = slots_of slots ≡ map (λ s. None) slots
+
+pub one_more_empty : (slots : CodeSlots) → AllEmpty slots → AllEmpty (slots ++ None ∷ [])
+one_more_empty slots h = simp map-append (ap (λ l. l ++ None ∷ []) h)
+
+pub empty_slots : (slots : CodeSlots) (fields : Declared) → AllEmpty slots → length slots ≡ length fields
+    → slots_of slots ≡ no_slots (fields_of fields)
+empty_slots slots fields h size = h ∙ as_many slots fields size
+  where
+    as_many : (slots : CodeSlots) (fields : Declared) → length slots ≡ length fields
+        → ◌≡◌ {A = Slots} (map (λ s. None) slots) (no_slots (fields_of fields))
+    as_many [] [] e = refl
+    as_many [] (f ∷ fs) e = absurd (omega arith)
+    as_many (s ∷ slots) [] e = absurd (omega arith)
+    as_many (s ∷ slots) (f ∷ fs) e = ap (λ l. None ∷ l) (as_many slots fs (omega arith))
+
+-- the slot that comes next, if there is one, and those behind it
+abbrev pub slot_first : Slots → Option PlainData
+slot_first [] = None
+slot_first (s ∷ slots) = s
+
+abbrev pub slots_rest : Slots → Slots
+slots_rest [] = []
+slots_rest (s ∷ slots) = slots
+
+-- how the slots that are left are tied to the one that was taken
+pub record Taken (old : CodeSlots) (r : Option (Option Data)) (new : CodeSlots) (count : ℕ) : Type 0 where
+  pub first : slot_first (slots_of old) ≡ option_map data_of (option_flatten r)
+  pub rest : slots_rest (slots_of old) ≡ slots_of new
+  pub counted : count ≡ length new
+
+pub taken : (old : CodeSlots) (r : Option (Option Data)) (new : CodeSlots) (before after : ℕ)
+    → MatchOption r ((before ≡ 0) × (after ≡ 0)) (λ s. (old ≡ s ∷ new) × (after + 1 ≡ before))
+    → old ≡ option_to_list r ++ new → before ≡ length old → Taken old r new after
+taken old None new before after h e counted =
+    let empty : old ≡ [] = no_more old (omega (arith, h.0)) in
+    let left : new ≡ [] = sym e ∙ empty in
+    record { first = rw empty refl; rest = rw (empty, left) refl; counted = rw left (h.1) }
+  where
+    no_more : (l : CodeSlots) → length l ≡ 0 → l ≡ []
+    no_more [] h = refl
+    no_more (s ∷ l) h = absurd (omega arith)
+taken old (Some s) new before after h e counted =
+    let size : length old ≡ length (s ∷ new) = ap length e in
+    record { first = rw e refl; rest = rw e refl; counted = omega (arith, h.1) }
+
+-- what is left of the fields from a place on
+drop_seen : (fields : Declared) (place : ℕ) (f : String Global × ShapeId) → slice_get fields place ≡ Some f
+    → drop place (fields_of fields) ≡ field_of f ∷ drop (place + 1) (fields_of fields)
+drop_seen fields place f h =
+    by_step fields place h ∙ ap (λ n. field_of f ∷ drop n (fields_of fields)) (sym (add-one place))
+  where
+    by_step : (fields : Declared) (place : ℕ) → slice_get fields place ≡ Some f
+        → drop place (fields_of fields) ≡ field_of f ∷ drop (suc place) (fields_of fields)
+    by_step [] place h = absurd cc
+    by_step (g ∷ fs) zero h = ap (λ x. field_of x ∷ fields_of fs) (same_some h)
+    by_step (g ∷ fs) (suc place) h = by_step fs place h
+
+drop_past : (fields : Declared) (place : ℕ) → length fields ≤ place → drop place (fields_of fields) ≡ []
+drop_past [] zero h = refl
+drop_past [] (suc place) h = refl
+drop_past (g ∷ fs) zero h = absurd (omega arith)
+drop_past (g ∷ fs) (suc place) h = drop_past fs place (omega arith)
+
+module _ (table : List PlainShape) where
+  -- the data of the fields that are left, behind the data before them
+  abbrev pub behind_these : List PlainData → Fields → Slots → Result (List PlainData) Cause
+  behind_these before fields slots = all_fields table fields slots >>= λ vs. Ok (before ++ vs)
+
+  one_field : (f : List ℕ × ℕ) (fs : Fields) (slots : Slots) → all_fields table (f ∷ fs) slots
+      ≡ (field_data table f (slot_first slots) >>= λ v. all_fields table fs (slots_rest slots) >>= λ vs. Ok (v ∷ vs))
+  one_field f fs [] = refl
+  one_field f fs (s ∷ slots) = refl
+
+  -- one more field
+  gathered_one : (before : List PlainData) (f : List ℕ × ℕ) (fs : Fields) (slots : Slots) (v : PlainData)
+      → field_data table f (slot_first slots) ≡ Ok v
+      → behind_these before (f ∷ fs) slots ≡ behind_these (before ++ v ∷ []) fs (slots_rest slots)
+  gathered_one before f fs slots v h =
+      rw (one_field f fs slots, h) (moved (all_fields table fs (slots_rest slots)))
+    where
+      moved : (r : Result (List PlainData) Cause)
+          → ((r >>= λ vs. Ok (v ∷ vs)) >>= λ vs. Ok (before ++ vs)) ≡ (r >>= λ vs. Ok ((before ++ v ∷ []) ++ vs))
+      moved (Ok vs) = ap Ok (sym (append_assoc before (v ∷ []) vs))
+      moved (Err y) = refl
+
+  -- one that is missing
+  gathered_fails : (before : List PlainData) (f : List ℕ × ℕ) (fs : Fields) (slots : Slots) (y : Cause)
+      → field_data table f (slot_first slots) ≡ Err y → behind_these before (f ∷ fs) slots ≡ Err y
+  gathered_fails before f fs slots y h = rw (one_field f fs slots, h) refl
+
+  -- the step of the code over one field: it takes a slot, and reads the field's data from it
+  pub gathered_next : (before : List Data) (fields : Declared) (place : ℕ) (f : String Global × ShapeId)
+      (old new : CodeSlots) (r : Option (Option Data)) (count : ℕ) (v : Data)
+      (whole : Result (List PlainData) Cause)
+      → slice_get fields place ≡ Some f → Taken old r new count
+      → field_data table (field_of f) (option_map data_of (option_flatten r)) ≡ Ok (data_of v)
+      → behind_these (map data_of before) (drop place (fields_of fields)) (slots_of old) ≡ whole
+      → behind_these (map data_of (before ++ v ∷ [])) (drop (place + 1) (fields_of fields)) (slots_of new) ≡ whole
+  gathered_next before fields place f old new r count v whole here t read left =
+      let next = drop (place + 1) (fields_of fields) in
+      ap (λ vs. behind_these vs next (slots_of new)) (map-append data_of before (v ∷ []))
+      ∙ (ap (behind_these (map data_of before ++ data_of v ∷ []) next) (sym t.rest)
+      ∙ (sym (gathered_one (map data_of before) (field_of f) next (slots_of old) (data_of v)
+      (ap (field_data table (field_of f)) t.first ∙ read))
+      ∙ (ap (λ fs. behind_these (map data_of before) fs (slots_of old)) (sym (drop_seen fields place f here)) ∙ left)))
+
+  pub gathered_ends : (before : List Data) (fields : Declared) (place : ℕ) (f : String Global × ShapeId)
+      (old new : CodeSlots) (r : Option (Option Data)) (count : ℕ) (y : Cause)
+      (whole : Result (List PlainData) Cause)
+      → slice_get fields place ≡ Some f → Taken old r new count
+      → field_data table (field_of f) (option_map data_of (option_flatten r)) ≡ Err y
+      → behind_these (map data_of before) (drop place (fields_of fields)) (slots_of old) ≡ whole
+      → whole ≡ Err y
+  gathered_ends before fields place f old new r count y whole here t read left =
+      sym left ∙ (ap (λ fs. behind_these (map data_of before) fs (slots_of old)) (drop_seen fields place f here)
+      ∙ gathered_fails (map data_of before) (field_of f) (drop (place + 1) (fields_of fields)) (slots_of old) y
+      (ap (field_data table (field_of f)) t.first ∙ read))
+
+  pub gathered_all : (before : List Data) (fields : Declared) (place : ℕ) (slots : Slots)
+      (whole : Result (List PlainData) Cause) → length fields ≤ place
+      → behind_these (map data_of before) (drop place (fields_of fields)) slots ≡ whole
+      → whole ≡ Ok (map data_of before)
+  gathered_all before fields place slots whole past left =
+      sym left ∙ (ap (λ fs. behind_these (map data_of before) fs slots) (drop_past fields place past)
+      ∙ ap Ok (append-nil (map data_of before)))
+
+-- what a `?` hands on
+pub handed_on : {T Y : Type 0} (view : T → Y) (r : Result T Cause) (y : Cause) (given : Result Y Cause)
+    → IsErrAnd r (λ e. e ≡ y) → (is_memory y ≡ false → given ≡ Err y) → Gives view r given
+handed_on view (Ok x) y given e h = absurd e
+handed_on view (Err x) y given e h = λ small. h (ap is_memory (sym e) ∙ small) ∙ ap Err (sym e)

@@ -1,0 +1,109 @@
+-- What reading a scalar comes to, under a shape that reads scalars alone.
+use Rattle.std.proofs.Common.{◌≡◌, ℕ, zero, suc, ◌+◌, ◌-◌, ◌<◌, Bool, true, false, List, Some, None, Option, Result, Ok}
+use Rattle.std.proofs.Common.{Err, refl, sym, ap, ◌∙◌, arith}
+use Rattle.std.specs.Option.{is_some}
+use Rattle.yaml_base.specs.Position.{Position}
+use Rattle.yaml_base.specs.declared.error.Cause.{Cause}
+use Rattle.yaml_shape.specs.PlainData.{PlainData}
+use Rattle.yaml_shape.specs.PlainShape.{PlainShape, bool_shape, char_shape, integer_shape, str_shape, identifier_shape}
+use Rattle.yaml_shape.specs.PlainShape.{unit_shape, unit_struct_shape}
+use Rattle.yaml_read.specs.Handing.{as_is, handed, early}
+use Rattle.yaml_read.specs.NodeTags.{Around}
+use Rattle.yaml_read.specs.Places.{Way, place, placed, places}
+use Rattle.yaml_read.specs.PlainDocEvent.{PlainDocEvent, alias_to, a_scalar}
+use Rattle.yaml_base.specs.PlainEvent.{PlainScalar}
+use Rattle.yaml_read.specs.ScalarShapes.{scalar_answer, text_of, lent_text}
+use Rattle.yaml_read.specs.Steps.{ending}
+use Rattle.yaml_read.specs.TreeReader.{Spot, after, mark_or_first}
+use Rattle.yaml_read.specs.inner.Reader.{Source, is_leaf, text_at, node_at, pursue}
+use Rattle.yaml_read.proofs.reading.Loops.{pursue_fails, pursue_finds}
+
+-- a shape that reads scalars alone hands nothing on, and places its faults
+pub leaf_as_is : (s : PlainShape) (taken : Bool) (e : PlainDocEvent) → is_leaf s ≡ true → handed s taken e ≡ as_is
+leaf_as_is bool_shape taken e h = refl
+leaf_as_is char_shape taken e h = refl
+leaf_as_is (integer_shape i) taken e h = refl
+leaf_as_is str_shape taken e h = refl
+leaf_as_is identifier_shape taken e h = refl
+leaf_as_is unit_shape taken e h = refl
+leaf_as_is (unit_struct_shape name) taken e h = refl
+leaf_as_is _ taken e h = absurd cc
+
+pub leaf_late : (s : PlainShape) → is_leaf s ≡ true → early s ≡ None
+leaf_late bool_shape h = refl
+leaf_late char_shape h = refl
+leaf_late (integer_shape i) h = refl
+leaf_late str_shape h = refl
+leaf_late identifier_shape h = refl
+leaf_late unit_shape h = refl
+leaf_late (unit_struct_shape name) h = refl
+leaf_late _ h = absurd cc
+
+pub leaf_places : (s : PlainShape) (taken : Bool) (e : PlainDocEvent) → is_leaf s ≡ true → places s taken e ≡ true
+leaf_places bool_shape taken e h = refl
+leaf_places char_shape taken e h = refl
+leaf_places (integer_shape i) taken e h = refl
+leaf_places str_shape taken e h = refl
+leaf_places identifier_shape taken e h = refl
+leaf_places unit_shape taken e h = refl
+leaf_places (unit_struct_shape name) taken e h = refl
+leaf_places _ taken e h = absurd cc
+
+-- a scalar under a shape that reads scalars alone
+pub leaf_scalar : (source : Source) (way : Way) (s : PlainShape) (nest : ℕ) (taken : Option Around) (at : Spot)
+    (fuel : ℕ) (w : PlainScalar) (m : Position)
+    → 0 < fuel → is_leaf s ≡ true → source.events at.place ≡ Some (a_scalar w, m)
+    → node_at source fuel way s nest taken at ≡ place true m way (ending (after at) (scalar_answer s (is_some taken) w))
+unfolding node_at
+leaf_scalar source way s nest taken at zero w m lt leaf is = absurd (omega arith)
+leaf_scalar source way s nest taken at (suc fuel) w m lt leaf is =
+    rw (
+      is,
+      leaf_late s leaf,
+      leaf_as_is s (is_some taken) (a_scalar w) leaf,
+      leaf_places s (is_some taken) (a_scalar w) leaf,
+    )
+
+-- an alias of a scalar under such a shape
+pub leaf_alias : (source : Source) (way : Way) (s : PlainShape) (nest : ℕ) (at : Spot) (fuel left j : ℕ)
+    (w : PlainScalar) (m n : Position)
+    → 1 < fuel → is_leaf s ≡ true → left + 1 ≡ at.left → source.events at.place ≡ Some (alias_to j, m) → source.events j
+    ≡ Some (a_scalar w, n)
+    → node_at source fuel way s nest None at
+    ≡ place true m way (place true n way (ending (record { place = at.place + 1; left = left })
+    (scalar_answer s false w)))
+unfolding node_at
+leaf_alias source way s nest at zero left j w m n lt leaf some is there = absurd (omega arith)
+leaf_alias source way s nest at (suc fuel) left j w m n lt leaf some is there =
+    (rw (is, leaf_late s leaf, leaf_as_is s false (alias_to j) leaf, leaf_places s false (alias_to j) leaf))
+    ∙ ap (place true m way) (followed (scalar_answer s false w)
+    (leaf_scalar source way s nest None (record { place = j; left = left }) fuel w n (omega arith) leaf there))
+  where
+    added : (l : ℕ) → l + 1 - 1 ≡ l
+    added l = omega arith
+
+    followed : (r : Result PlainData Cause)
+        → node_at source fuel way s nest None (record { place = j; left = left })
+        ≡ place true n way (ending (record { place = j + 1; left = left }) r)
+        → pursue (node_at source fuel way s nest None) j at.place at.left
+        ≡ place true n way (ending (record { place = at.place + 1; left = left }) r)
+    followed (Ok v) h = ap (pursue (node_at source fuel way s nest None) j at.place) (sym some)
+        ∙ pursue_finds (node_at source fuel way s nest None) j at.place (left + 1) v
+        (record { place = j + 1; left = left }) (omega arith) (rw (added left) h)
+    followed (Err y) h = ap (pursue (node_at source fuel way s nest None) j at.place) (sym some)
+        ∙ pursue_fails (node_at source fuel way s nest None) j at.place (left + 1) (placed true n way y) (omega arith)
+        (rw (added left) h)
+
+-- a name that is a scalar
+pub name_scalar : (source : Source) (way : Way) (nest : ℕ) (at : Spot) (fuel : ℕ) (w : PlainScalar) (m : Position)
+    (text : List ℕ) → 0 < fuel
+    → source.events at.place ≡ Some (a_scalar w, m) → text_of w ≡ Some text
+    → node_at source fuel way identifier_shape nest None at ≡ Ok (lent_text w text, after at)
+name_scalar source way nest at fuel w m text lt is there =
+    leaf_scalar source way identifier_shape nest None at fuel w m lt refl is ∙ (rw there refl)
+
+pub scalar_mark : (source : Source) (place : ℕ) (w : PlainScalar) (m : Position) → source.events place
+    ≡ Some (a_scalar w, m)
+    → m ≡ mark_or_first (source.events (text_at place (source.events place)))
+scalar_mark source place w m is = sym (ap (λ o. mark_or_first (source.events (text_at place o))) is
+    ∙ ap mark_or_first is)
