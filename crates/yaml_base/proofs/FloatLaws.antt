@@ -155,7 +155,8 @@ is_float-Decides text = (sound, complete)
           | inr k ↦ elim k [
             | inl w ↦ infinity (sign_of text) (unsigned_part text) (sign-split text) w
             | inr d ↦
-                decimal (sign_of text) (unsigned_part text) (sign-split text) (decimal_float-sound (unsigned_part text) d)
+                decimal (sign_of text) (unsigned_part text) (sign-split text)
+                (decimal_float-sound (unsigned_part text) d)
           ]
         ]
 

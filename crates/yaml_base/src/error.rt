@@ -1,15 +1,15 @@
 //! Why a document was not read, or a value not written.
 
 ghost use Rattle.std.specs.Prelude.{◌≡◌, ◌≢◌, IfErr, IfOk, None, Some, string_bytes};
-ghost use Rattle.std.specs.Option.{option_copied, option_map};
-ghost use Rattle.yaml_base.specs.CausePlace.{cause_mark, cause_place, filled};
-ghost use Rattle.yaml_base.specs.ErrorText.{parser_fault};
+ghost use Rattle.std.specs.Option.{option_map};
+ghost use Rattle.yaml_base.specs.CausePlace.{cause_mark, filled};
 ghost use Rattle.yaml_base.specs.PathText.{path_text};
 ghost use Rattle.yaml_base.specs.Position.{counted_from_one};
 ghost use Rattle.yaml_base.specs.declared.error.Cause.TheVariants.{Custom, Memory};
 
 mod copy;
 mod fill;
+mod find;
 mod message;
 mod print;
 
@@ -163,52 +163,6 @@ pub enum Cause {
     EmptyTag,
     /// A text is no number.
     FailedToParseNumber,
-}
-
-impl Cause {
-    // The parser's fault, if that is the cause.
-    fn parser_fault(&self) -> Option<&ParserFault>
-        ensures { option_copied result ≡ parser_fault self.now }
-    {
-        match self {
-            Cause::Parser(fault) => Some(fault),
-            _ => None,
-        }
-    }
-
-    // Where the fault stands, if it is of a kind that has a place, and the place is known.
-    fn place(&self) -> Option<&Place>
-        ensures { option_copied result ≡ cause_place self.now }
-    {
-        match self {
-            Cause::InvalidType { place, .. }
-            | Cause::InvalidValue { place, .. }
-            | Cause::InvalidLength { place, .. }
-            | Cause::UnknownVariant { place, .. }
-            | Cause::UnknownField { place, .. }
-            | Cause::MissingField { place, .. }
-            | Cause::DuplicateField { place, .. }
-            | Cause::DuplicateEntry { place, .. }
-            | Cause::NestedEnum { place, .. }
-            | Cause::FloatUnsupported { place, .. }
-            | Cause::Custom { place, .. } => place.as_ref(),
-            _ => None,
-        }
-    }
-
-    // The mark of the fault, if it has one: its own, its problem's or its place's.
-    fn mark(&self) -> Option<Mark>
-        ensures { result ≡ cause_mark self.now }
-    {
-        match self {
-            Cause::RecursionLimitExceeded(mark) | Cause::UnknownAnchor(mark) => Some(*mark),
-            Cause::Parser(fault) => Some(fault.mark()),
-            _ => {
-                let place = self.place()?;
-                Some(place.mark)
-            }
-        }
-    }
 }
 
 /// A fault: why a call failed, and where.

@@ -1,4 +1,6 @@
 //! What no contract shows: that calls succeed, worked inputs, and inputs that are deep or wide.
+mod anchors;
 mod cuts;
 mod documents;
 mod large;
+mod marks;

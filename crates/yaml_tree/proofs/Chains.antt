@@ -1,6 +1,6 @@
 -- Chains of places: what is left of one, what it passes over, and one more place in it.
-use Rattle.std.specs.Prelude.{◌≡◌, ℕ, zero, suc, ◌+◌, ◌-◌, ◌*◌, ◌^◌, ◌<◌, ◌≤◌, ◌≢◌, ◌==◌, ◌%◌, ◌++◌, ◌∷◌, [], List, length, refl}
-use Rattle.std.specs.Prelude.{Bool, true, false, if◌then◌else◌, ◌⊎◌}
+use Rattle.std.specs.Prelude.{◌≡◌, ℕ, zero, suc, ◌+◌, ◌-◌, ◌*◌, ◌^◌, ◌<◌, ◌≤◌, ◌≢◌, ◌==◌, ◌%◌, ◌++◌, ◌∷◌, []}
+use Rattle.std.specs.Prelude.{Bool, true, false, if◌then◌else◌, List, length, refl, ◌⊎◌}
 use Rattle.std.proofs.Common.{ap, arith, sym, ◌∙◌, get_or, set, subst, inl, inr, eq-or-lt_of_le}
 use Rattle.std.proofs.lemmas.Bool.Decides.{eqb_tells}
 use Rattle.std.proofs.lemmas.Nat.{leading_top, mod_below, one_shl}

@@ -1,15 +1,17 @@
--- Lists of values that are seen alike stay so with one more at the end of each.
-use Rattle.std.specs.Prelude.{◌≡◌, ℕ, ◌+◌, ◌<◌, ◌≤◌, true, List, [], ◌∷◌, ◌++◌, length, map}
+-- Lists of values and entries that are seen alike: they stay so with one more at the end of each, and copies are
+-- indexed as what they are copied from.
+use Rattle.std.specs.Prelude.{◌≡◌, ℕ, ◌+◌, ◌<◌, ◌≤◌, true, List, [], ◌∷◌, ◌++◌, length, map, refl}
 use Rattle.std.proofs.Common.{ap, sym, ◌∙◌, subst, get_or, take}
-use Rattle.std.proofs.lemmas.List.{map_push, take_all, take_more}
+use Rattle.std.proofs.lemmas.List.{length-map, map_push, take_all, take_more}
 use Rattle.yaml_tree.specs.Entries.{SameEntry}
-use Rattle.yaml_tree.specs.Index.{IsIndexed, lasts_of, earliers_of}
+use Rattle.yaml_tree.specs.Hash.{hash_of}
+use Rattle.yaml_tree.specs.Index.{IsIndexed, lasts_of, earliers_of, hashes_of}
 use Rattle.yaml_tree.specs.Mapping.{keys_distinct}
 use Rattle.yaml_tree.specs.Tree.{Tree, Trees, no_trees, tree, Pairs, no_pairs, pair}
 use Rattle.yaml_tree.specs.View.{tree_of, trees_of, entry_pairs}
 use Rattle.yaml_tree.specs.declared.mapping.Entry.{Entry}
 use Rattle.yaml_tree.specs.declared.value.Value.{Value}
-use Rattle.yaml_tree.proofs.Indexed.{SameEntries, indexed-copies}
+use Rattle.yaml_tree.proofs.Indexed.{indexed-alike}
 
 -- ---- values
 first_tree : {a b : Tree} {xs ys : Trees} → tree a xs ≡ tree b ys → a ≡ b
@@ -32,6 +34,32 @@ pub trees_of-more : (copies vs : List Value) (i : ℕ) (v w : Value) → trees_o
 trees_of-more copies vs i v w e lt is f =
     trees_of-alike copies (take i vs) v w e f
     ∙ ap trees_of (ap (λ x. take i vs ++ x ∷ []) is ∙ sym (take_more vs i w lt))
+
+-- ---- what the index keeps
+-- the hashes of the keys of pairs
+abbrev pair_hashes : Pairs → List ℕ
+pair_hashes no_pairs = []
+pair_hashes (pair k v ps) = hash_of k ∷ pair_hashes ps
+
+hashes_of-pairs : (es : List Entry) → hashes_of es ≡ pair_hashes (entry_pairs es)
+hashes_of-pairs [] = refl
+hashes_of-pairs (e ∷ es) = ap (λ hs. hash_of (tree_of e.key) ∷ hs) (hashes_of-pairs es)
+
+-- the same pairs, and the same that is kept for the index
+abbrev pub SameEntries : List Entry → List Entry → Type 0
+SameEntries es fs =
+    (entry_pairs es ≡ entry_pairs fs) × (lasts_of es ≡ lasts_of fs) × (earliers_of es ≡ earliers_of fs)
+
+-- copies of entries are in their chains as the entries are
+pub indexed-copies : (es fs : List Entry) → SameEntries fs es → IsIndexed es → IsIndexed fs
+indexed-copies es fs same indexed =
+    let len = sym (length-map es (λ e. e.last)) ∙ (ap length (sym same.1) ∙ length-map fs (λ e. e.last)) in
+    let hashes = hashes_of-pairs es ∙ (ap pair_hashes (sym same.0) ∙ sym (hashes_of-pairs fs)) in
+    indexed-alike es fs (len, sym same.1, sym same.2, hashes) indexed
+
+-- so are entries that are equal to copies
+pub same-is : (xs ys zs : List Entry) → xs ≡ ys → SameEntries ys zs → SameEntries xs zs
+same-is xs ys zs is same = subst (λ es. SameEntries es zs) (sym is) same
 
 -- ---- entries
 first_key : {k l v w : Tree} {ps qs : Pairs} → pair k v ps ≡ pair l w qs → k ≡ l

@@ -14,7 +14,7 @@ use Rattle.yaml_tree.specs.Hash.{hash_of}
 use Rattle.yaml_tree.specs.Index.{last_before, chain_at, AreChains, lasts_of, earliers_of, hashes_of, IsChained}
 use Rattle.yaml_tree.specs.Index.{IsIndexedTo, IsIndexed, chain_count}
 use Rattle.yaml_tree.specs.Lookup.{place_of}
-use Rattle.yaml_tree.specs.Tree.{Tree, Pairs, no_pairs, pair}
+use Rattle.yaml_tree.specs.Tree.{Tree, pair}
 use Rattle.yaml_tree.specs.View.{tree_of, entry_pairs}
 use Rattle.yaml_tree.specs.declared.mapping.Entry.{Entry}
 use Rattle.yaml_tree.specs.declared.value.Value.{Value}
@@ -76,7 +76,8 @@ absent_at k es i j d lt (inr less) here behind = behind j d (omega (arith, less)
 -- no entry from this place on has the key, where the one here has not, nor those behind it
 pub absent-here : (k : Tree) (es : List Entry) (i : ℕ) → ((d : Entry) → tree_eq k (tree_of (get_or es i d).key) ≡ false)
     → IsAbsentFrom k es (suc i) → IsAbsentFrom k es i
-absent-here k es i here behind j d from lt = absent_at k es i j d lt (eq-or-lt_of_le {n = i} {m = j} from) (here d) behind
+absent-here k es i here behind j d from lt =
+    absent_at k es i j d lt (eq-or-lt_of_le {n = i} {m = j} from) (here d) behind
 
 -- the entry at this place has another key, where it is the one that is known to
 pub other_key_here : (k : Tree) (es : List Entry) (i other : ℕ) (d : Entry) → d ≡ get_or es i d → i ≡ other
@@ -275,29 +276,3 @@ indexed-with_value es i d v indexed =
       sym (map-set_same (λ e. e.earlier) es i new d refl),
       sym (map-set_same (λ e. hash_of (tree_of e.key)) es i new d refl),
     ) indexed
-
--- ---- copies
--- the hashes of the keys of pairs
-abbrev pair_hashes : Pairs → List ℕ
-pair_hashes no_pairs = []
-pair_hashes (pair k v ps) = hash_of k ∷ pair_hashes ps
-
-hashes_of-pairs : (es : List Entry) → hashes_of es ≡ pair_hashes (entry_pairs es)
-hashes_of-pairs [] = refl
-hashes_of-pairs (e ∷ es) = ap (λ hs. hash_of (tree_of e.key) ∷ hs) (hashes_of-pairs es)
-
--- the same pairs, and the same that is kept for the index
-abbrev pub SameEntries : List Entry → List Entry → Type 0
-SameEntries es fs =
-    (entry_pairs es ≡ entry_pairs fs) × (lasts_of es ≡ lasts_of fs) × (earliers_of es ≡ earliers_of fs)
-
--- copies of entries are in their chains as the entries are
-pub indexed-copies : (es fs : List Entry) → SameEntries fs es → IsIndexed es → IsIndexed fs
-indexed-copies es fs same indexed =
-    let len = sym (length-map es (λ e. e.last)) ∙ (ap length (sym same.1) ∙ length-map fs (λ e. e.last)) in
-    let hashes = hashes_of-pairs es ∙ (ap pair_hashes (sym same.0) ∙ sym (hashes_of-pairs fs)) in
-    indexed-alike es fs (len, sym same.1, sym same.2, hashes) indexed
-
--- so are entries that are equal to copies
-pub same-is : (xs ys zs : List Entry) → xs ≡ ys → SameEntries ys zs → SameEntries xs zs
-same-is xs ys zs is same = subst (λ es. SameEntries es zs) (sym is) same

@@ -1,6 +1,6 @@
 -- The index of a mapping: chains of entries whose keys' hashes leave one remainder, kept in the entries themselves.
-use Rattle.std.specs.Prelude.{◌≡◌, ℕ, zero, suc, ◌-◌, ◌<◌, ◌≤◌, ◌%◌, ◌^◌, ◌==◌, nat_lt, if◌then◌else◌, List, length, map}
-use Rattle.std.specs.Prelude.{slice_index_or}
+use Rattle.std.specs.Prelude.{◌≡◌, ℕ, zero, suc, ◌-◌, ◌<◌, ◌≤◌, ◌%◌, ◌^◌, ◌==◌}
+use Rattle.std.specs.Prelude.{nat_lt, if◌then◌else◌, List, length, map, slice_index_or}
 use Rattle.std.specs.Int.{leading_zeros, w64}
 use Rattle.yaml_tree.specs.Hash.{hash_of}
 use Rattle.yaml_tree.specs.View.{tree_of}

@@ -52,7 +52,8 @@ const ROWS: &[(CauseLiteral, &str)] = &[
     // Faults of the parser.
     (
         Parser(FaultKind::Parser, 10, (1, 0), Some((0, 0))),
-        "Error { kind: PARSER, problem: \"did not find expected ',' or ']'\", problem_mark: Mark { line: 2, column: 1 }, context: \"while parsing a flow sequence\" }",
+        "Error { kind: PARSER, problem: \"did not find expected ',' or ']'\", \
+            problem_mark: Mark { line: 2, column: 1 }, context: \"while parsing a flow sequence\" }",
     ),
     (
         Parser(FaultKind::Reader, 10, (0, 0), None),
@@ -64,7 +65,9 @@ const ROWS: &[(CauseLiteral, &str)] = &[
     ),
     (
         Parser(FaultKind::Scanner, 10, (1, 0), Some((1, 0))),
-        "Error { kind: SCANNER, problem: \"did not find expected ',' or ']'\", problem_mark: Mark { line: 2, column: 1 }, context: \"while parsing a flow sequence\", context_mark: Mark { line: 2, column: 1 } }",
+        "Error { kind: SCANNER, problem: \"did not find expected ',' or ']'\", \
+            problem_mark: Mark { line: 2, column: 1 }, context: \"while parsing a flow sequence\", \
+            context_mark: Mark { line: 2, column: 1 } }",
     ),
     (
         Parser(FaultKind::Memory, 0, (0, 0), None),

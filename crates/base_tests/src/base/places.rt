@@ -29,7 +29,8 @@ fn marks_count_from_one(rt: HostRuntime) -> Result<(), Fail> {
             u64::MAX,
             u64::MAX - 1,
             u64::MAX - 1,
-            "line 18446744073709551615 column 18446744073709551615 Mark { line: 18446744073709551615, column: 18446744073709551615 }",
+            "line 18446744073709551615 column 18446744073709551615 \
+                Mark { line: 18446744073709551615, column: 18446744073709551615 }",
         ),
     ] {
         let mark = Mark::new(index, line, column).ok_or("mark")?;

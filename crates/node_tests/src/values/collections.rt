@@ -108,7 +108,8 @@ const TWICE: &[Row] = &[
     ),
     (
         ANY,
-        "0:0:0 +MAP; +MAP; =VAL :a; =VAL :1; =VAL :b; =VAL :2; -MAP; =VAL :1; +MAP; =VAL :b; =VAL :2; =VAL :a; =VAL :1; -MAP; =VAL :2; -MAP",
+        "0:0:0 +MAP; +MAP; =VAL :a; =VAL :1; =VAL :b; =VAL :2; -MAP; =VAL :1; \
+            +MAP; =VAL :b; =VAL :2; =VAL :a; =VAL :1; -MAP; =VAL :2; -MAP",
         "duplicate entry in YAML map",
     ),
     (

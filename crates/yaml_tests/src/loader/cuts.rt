@@ -1,10 +1,7 @@
 //! Streams, and what they are cut into.
-use crate::loader::documents::{load, shows};
-use std::alloc::Global;
+use crate::loader::documents::shows;
 use std::test::Fail;
-use test_rows::lines::{FAULT, events};
-use yaml_base::Mark;
-use yaml_read::{DocEvent, Document, Loader};
+use test_rows::lines::FAULT;
 
 // Documents one after another, and the parser's fault within, between and in front of them.
 #[test]
@@ -33,82 +30,6 @@ fn documents_and_faults(rt: HostRuntime) -> Result<(), Fail> {
         ("+STR; 10:1:0 !ERR PARSER 0 bad", "bad at line 2 column 1"),
         ("10:1:0 !ERR PARSER 0 bad", "bad at line 2 column 1"),
         ("+STR; -STR", "void"),
-    ] {
-        assert!(rt; shows(rt.alloc(), text, expected)?, "{text}");
-    }
-    Ok(())
-}
-
-// Unknown anchors cut, and what follows them in their document belongs to none.
-#[test]
-fn unknown_anchors(rt: HostRuntime) -> Result<(), Fail> {
-    for (text, expected) in [
-        (
-            "+STR; +DOC; +SEQ; =ALI *x; -SEQ; -DOC; +DOC; =VAL :h; -DOC; -STR",
-            "+SEQ; unknown anchor at line 1 column 2 / =VAL :h",
-        ),
-        (
-            "+STR; +DOC; +SEQ; =ALI *x; 10:1:0 !ERR PARSER 0 bad",
-            "+SEQ; unknown anchor at line 1 column 2",
-        ),
-        (
-            "+STR; +DOC; +SEQ; =ALI *x; +SEQ; =VAL :a; 10:1:0 !ERR PARSER 0 bad",
-            "+SEQ; unknown anchor at line 1 column 2",
-        ),
-        (
-            "+STR; +DOC; +SEQ; =ALI *x; -SEQ; -DOC; 10:1:0 !ERR PARSER 0 bad",
-            "+SEQ; unknown anchor at line 1 column 2 / bad at line 2 column 1",
-        ),
-        (
-            "+STR; +DOC; +MAP; =VAL :b; +SEQ; =ALI *a; -SEQ; =VAL :d; -MAP; =VAL :e; -DOC; +DOC; =VAL :h; -DOC; -STR",
-            "event list is not a stream at event 8",
-        ),
-        (
-            "+STR; +DOC; +MAP; =VAL :b; +SEQ; =ALI *a; -SEQ; =VAL :d; =VAL :e; -MAP; -DOC; +DOC; =VAL :h; -DOC; -STR",
-            "+MAP; =VAL :b; +SEQ; unknown anchor at line 1 column 4 / =VAL :h",
-        ),
-        (
-            "+STR; +DOC; =VAL &a :p; -DOC; +DOC; +SEQ; =VAL &a :q; =ALI *a; -SEQ; -DOC; +DOC; =ALI *a; -DOC; -STR",
-            "=VAL :p / +SEQ; =VAL :q; =ALI 1; -SEQ / unknown anchor at line 1 column 10",
-        ),
-    ] {
-        assert!(rt; shows(rt.alloc(), text, expected)?, "{text}");
-    }
-    Ok(())
-}
-
-// The last node so anchored counts, by the starts of nodes.
-#[test]
-fn anchors_named_again(rt: HostRuntime) -> Result<(), Fail> {
-    for (text, expected) in [
-        (
-            "+STR; +DOC; +SEQ; =VAL &a :p; =VAL &a :q; =VAL &a :r; =ALI *a; -SEQ; -DOC; -STR",
-            "+SEQ; =VAL :p; =VAL :q; =VAL :r; =ALI 3; -SEQ",
-        ),
-        (
-            "+STR; +DOC; +SEQ; =VAL &a :p; =ALI *a; =VAL &a :q; =ALI *a; =VAL &a :r; =ALI *a; -SEQ; -DOC; -STR",
-            "+SEQ; =VAL :p; =ALI 1; =VAL :q; =ALI 3; =VAL :r; =ALI 5; -SEQ",
-        ),
-        (
-            "+STR; +DOC; +SEQ; =VAL &c :p; =VAL &c :q; =ALI *c; =VAL &c :r; -SEQ; -DOC; -STR",
-            "+SEQ; =VAL :p; =VAL :q; =ALI 2; =VAL :r; -SEQ",
-        ),
-        (
-            "+STR; +DOC; +SEQ; =VAL &a :p; =VAL &a :q; =VAL &b :r; =ALI *a; -SEQ; -DOC; -STR",
-            "+SEQ; =VAL :p; =VAL :q; =VAL :r; =ALI 2; -SEQ",
-        ),
-        (
-            "+STR; +DOC; +SEQ &a; =ALI *a; -SEQ; -DOC; -STR",
-            "+SEQ; =ALI 0; -SEQ",
-        ),
-        (
-            "+STR; +DOC; +MAP; =VAL &k :a; =ALI *k; =VAL &k :b; -MAP; -DOC; -STR",
-            "event list is not a stream at event 6",
-        ),
-        (
-            "+STR; +DOC; +MAP; =VAL &k :a; =ALI *k; =VAL &k :b; =ALI *k; -MAP; -DOC; -STR",
-            "+MAP; =VAL :a; =ALI 1; =VAL :b; =ALI 3; -MAP",
-        ),
     ] {
         assert!(rt; shows(rt.alloc(), text, expected)?, "{text}");
     }
@@ -239,73 +160,5 @@ fn cut_everywhere(rt: HostRuntime) -> Result<(), Fail> {
             "{with_fault}"
         );
     }
-    Ok(())
-}
-
-// Whether these are the marks of events.
-fn are_marks(events: &[(DocEvent<'_>, Mark)], marks: &[u64]) -> bool {
-    let mut same = events.len() == marks.len();
-    for (event, mark) in events.iter().zip(marks) {
-        same = same && event.1.index() == *mark;
-    }
-    same
-}
-
-// Whether ends are these.
-fn are_ends(found: &[usize], ends: &[usize]) -> bool {
-    found == ends
-}
-
-// Whether a document has events of these marks, and these ends.
-fn is_document(document: &Document<'_>, marks: &[u64], ends: &[usize]) -> bool {
-    are_marks(document.events(), marks) && are_ends(document.ends(), ends)
-}
-
-// Whether the next document is there, with events of these marks and with these ends.
-fn next_is(loader: &mut Loader<'_>, marks: &[u64], ends: &[usize]) -> bool {
-    match loader.next_document() {
-        Some(document) => is_document(&document, marks, ends),
-        None => false,
-    }
-}
-
-// The marks of a document's events, and its ends.
-type Row = (&'static [u64], &'static [usize]);
-
-// Whether the next documents are these.
-fn are_next(loader: &mut Loader<'_>, rows: &[Row]) -> bool {
-    let mut same = true;
-    for (marks, ends) in rows {
-        same = same && next_is(loader, marks, ends);
-    }
-    same
-}
-
-// Whether the documents of a text begin as these.
-fn begins_as(alloc: Global, text: &str, rows: &[Row]) -> Result<bool, Fail> {
-    let mut loader = load(alloc, events(alloc, text)?, None)?;
-    Ok(are_next(&mut loader, rows))
-}
-
-// Two documents.
-const TWO: &str =
-    "+STR; +DOC; =VAL :a; -DOC; +DOC; +SEQ; +MAP; =VAL :b; =VAL :c; -MAP; +SEQ; =VAL :d; -SEQ; -SEQ; -DOC; -STR";
-
-#[test]
-fn marks_and_ends(rt: HostRuntime) -> Result<(), Fail> {
-    let empty: Row = (&[1], &[0]);
-    assert!(rt;
-        begins_as(rt.alloc(), "+STR; -STR", &[empty])?,
-        "the empty stream"
-    );
-    let first: Row = (&[2], &[0]);
-    let second: Row = (
-        &[5, 6, 7, 8, 9, 10, 11, 12, 13],
-        &[8, 4, 2, 3, 4, 7, 6, 7, 8],
-    );
-    assert!(rt;
-        begins_as(rt.alloc(), TWO, &[first, second])?,
-        "two documents"
-    );
     Ok(())
 }

@@ -54,7 +54,8 @@ const ROWS: &[Row] = &[
         128,
         1,
         "any",
-        "0:0:0 +SEQ\n0:0:0 +SEQ &a\n0:0:0 =VAL &z :0\n0:0:0 =ALI *z\n0:0:0 -SEQ\n0:0:0 =ALI *a\n0:0:0 =ALI *a\n0:0:0 =ALI *a\n0:0:0 =ALI *a\n0:0:0 =ALI *a\n0:0:0 -SEQ\n",
+        "0:0:0 +SEQ\n0:0:0 +SEQ &a\n0:0:0 =VAL &z :0\n0:0:0 =ALI *z\n0:0:0 -SEQ\n\
+            0:0:0 =ALI *a\n0:0:0 =ALI *a\n0:0:0 =ALI *a\n0:0:0 =ALI *a\n0:0:0 =ALI *a\n0:0:0 -SEQ\n",
         "[[0, 0], [0, 0], [0, 0], [0, 0], [0, 0], [0, 0]]\n",
         Status::Read,
     ),
@@ -62,7 +63,8 @@ const ROWS: &[Row] = &[
         128,
         1,
         "any",
-        "0:0:0 +SEQ\n0:0:0 +SEQ &a\n0:0:0 =VAL &z :0\n0:0:0 =ALI *z\n0:0:0 -SEQ\n0:0:0 =ALI *a\n0:0:0 =ALI *a\n0:0:0 =ALI *a\n0:0:0 =ALI *a\n0:0:0 =ALI *a\n0:0:0 =ALI *a\n0:0:0 -SEQ\n",
+        "0:0:0 +SEQ\n0:0:0 +SEQ &a\n0:0:0 =VAL &z :0\n0:0:0 =ALI *z\n0:0:0 -SEQ\n\
+            0:0:0 =ALI *a\n0:0:0 =ALI *a\n0:0:0 =ALI *a\n0:0:0 =ALI *a\n0:0:0 =ALI *a\n0:0:0 =ALI *a\n0:0:0 -SEQ\n",
         "fault: repetition limit exceeded\n",
         Status::Fault,
     ),

@@ -189,13 +189,15 @@ const ROWS: &[Row] = &[
     // Structs: a field of no such name is stepped over, or is a fault.
     (
         "basic",
-        "0:0:0 +MAP\n0:0:0 =VAL :v\n0:0:0 =VAL :true\n9:0:9 =VAL :x\n0:0:0 =VAL :1\n0:0:0 =VAL :w\n0:0:0 =VAL :true\n0:0:0 -MAP\n",
+        "0:0:0 +MAP\n0:0:0 =VAL :v\n0:0:0 =VAL :true\n\
+            9:0:9 =VAL :x\n0:0:0 =VAL :1\n0:0:0 =VAL :w\n0:0:0 =VAL :true\n0:0:0 -MAP\n",
         "struct(true, true)\n",
         Status::Read,
     ),
     (
         "strict",
-        "0:0:0 +MAP\n0:0:0 =VAL :v\n0:0:0 =VAL :true\n9:0:9 =VAL :x\n0:0:0 =VAL :1\n0:0:0 =VAL :w\n0:0:0 =VAL :true\n0:0:0 -MAP\n",
+        "0:0:0 +MAP\n0:0:0 =VAL :v\n0:0:0 =VAL :true\n\
+            9:0:9 =VAL :x\n0:0:0 =VAL :1\n0:0:0 =VAL :w\n0:0:0 =VAL :true\n0:0:0 -MAP\n",
         "fault: unknown field `x`, expected `v` or `w` at line 1 column 10\n",
         Status::Fault,
     ),

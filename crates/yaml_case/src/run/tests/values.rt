@@ -37,7 +37,8 @@ const ROWS: &[Row] = &[
     ),
     (
         "any",
-        "0:0:0 +SEQ\n0:0:0 =VAL &a :1\n0:0:0 +SEQ\n0:0:0 =ALI *a\n0:0:0 =VAL &a :2\n0:0:0 -SEQ\n0:0:0 =ALI *a\n0:0:0 -SEQ\n",
+        "0:0:0 +SEQ\n0:0:0 =VAL &a :1\n\
+            0:0:0 +SEQ\n0:0:0 =ALI *a\n0:0:0 =VAL &a :2\n0:0:0 -SEQ\n0:0:0 =ALI *a\n0:0:0 -SEQ\n",
         "[1, [1, 2], 2]\n",
         Status::Read,
     ),

@@ -9,4 +9,5 @@ returns c =
     let entries = c.self.inside.entries in
     c.len.ensures
     ∙ (entries.ok.0
-    ∙ (sym (pair_count-entry_pairs entries.items) ∙ ap pair_count (pairs_of-view _ _ c.self.view_is c.self.invariant.0)))
+    ∙ (sym (pair_count-entry_pairs entries.items)
+    ∙ ap pair_count (pairs_of-view _ _ c.self.view_is c.self.invariant.0)))

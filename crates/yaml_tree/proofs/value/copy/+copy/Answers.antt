@@ -1,8 +1,7 @@
 -- Each turn copies one more.
 use Rattle.std.proofs.Common.{ap, ◌∙◌}
 use Rattle.yaml_tree.specs.View.{trees_of}
-use Rattle.yaml_tree.proofs.Indexed.{same-is}
-use Rattle.yaml_tree.proofs.Copies.{copied-all, entries-more, trees_of-more}
+use Rattle.yaml_tree.proofs.Copies.{copied-all, entries-more, same-is, trees_of-more}
 use Rattle.yaml_tree.proofs.value.copy.+copy.Goals as goal
 
 pub copy_items-loop-item-preserved : goal.copy_items-loop-item-preserved

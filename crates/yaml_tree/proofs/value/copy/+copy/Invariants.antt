@@ -1,7 +1,7 @@
 -- The copies so far are those of the values before.
 use Rattle.std.proofs.Common.{◌≡◌, take}
 use Rattle.yaml_tree.specs.View.{trees_of}
-use Rattle.yaml_tree.proofs.Indexed.{SameEntries}
+use Rattle.yaml_tree.proofs.Copies.{SameEntries}
 use Rattle.yaml_tree.proofs.value.copy.+copy.Given as goal
 
 abbrev pub invariant-copy_items-loop-item : goal.invariant-copy_items-loop-item

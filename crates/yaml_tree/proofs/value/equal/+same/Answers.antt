@@ -7,8 +7,6 @@ use Rattle.yaml_tree.proofs.Indexed.{IsAbsentFrom, IsSought, sought-first, sough
 use Rattle.yaml_tree.proofs.Lookups.{holds_at_found, is_value_equal, has_pair-value_at, place_of-guess}
 use Rattle.yaml_tree.proofs.Views.{items_of-view, pairs_of-view, trees_eq-lengths, pairs_eq-lengths, pairs_eq-entries}
 use Rattle.yaml_tree.proofs.value.equal.+same.Goals as goal
-use Rattle.yaml_tree.proofs.value.equal.+same.Goals.{find_in_chain-else-place-other-via-then-place-other+else-same_value}
-use Rattle.yaml_tree.proofs.value.equal.+same.Goals.{find_in_chain-else-place-other-via-else-place-other}
 
 pub find_near-returns-then-same_value-clause-place : goal.find_near-returns-then-same_value-clause-place
 find_near-returns-then-same_value-clause-place t c =
@@ -23,7 +21,8 @@ is_among-returns-in-Some t c =
     let es = c.args.entries.now in
     let held = holds_at_found k es es (Some c.in-Some.i) refl c.in-Some.ensures.place in
     c.same_value.ensures
-    ∙ sym (has_pair-value_at k v (entry_pairs es) c.requires.distinct ∙ ap (is_value_equal v) (held c.index-entries-i.result).0)
+    ∙ sym (has_pair-value_at k v (entry_pairs es) c.requires.distinct
+    ∙ ap (is_value_equal v) (held c.index-entries-i.result).0)
 
 pub is_among-returns-in-None : goal.is_among-returns-in-None
 is_among-returns-in-None t c =
@@ -81,9 +80,9 @@ next t c =
     let d = c.index-entries-place.result in
     sought-next c.args.chains left k es d c.loop-left-test.true c.requires.chained c.index-entries-place.is
     (elim c.else-place-other.branch [
-      | find_in_chain-else-place-other-via-then-place-other+else-same_value w ↦
+      | goal.find_in_chain-else-place-other-via-then-place-other+else-same_value w ↦
           sym w.same_value.ensures ∙ w.if-same_value.false
-      | find_in_chain-else-place-other-via-else-place-other w ↦
+      | goal.find_in_chain-else-place-other-via-else-place-other w ↦
           other_key_here k es (left - 1) c.args.other d c.index-entries-place.is w.if-place-other.false
           (omega (arith, c.loop-left-test.true, c.loop-left.invariant.1)) c.requires.other
     ]) c.loop-left.invariant
