@@ -113,7 +113,8 @@ impl<'s, 'de> Source<'s, 'de> {
             → Gives (λ x. (data_of x, spot_of walk.new)) result
             (with_shape
             (content_shape self.now.schema.now around.now.name.now around.now.variant.now (content_of content.now))
-            (λ t. reader_of fuel self.now (way_of path.now) t nest (Some (plain_around around.now)) (spot_of walk.old))) }
+            (λ t. reader_of fuel self.now (way_of path.now) t nest (Some (plain_around around.now))
+            (spot_of walk.old))) }
         ensures moves { OnOk result (Moves (length self.now.events.now) walk.old walk.new) }
         ensures cost { Costs (length self.now.events.now) walk.old walk.new }
     {

@@ -812,7 +812,8 @@ read_elements-returns-in-Err-read_node t c =
       cost = omega (arith, l.invariant.cost, c.in-Err-read_node.ensures.cost);
     }
 
-pub read_elements-loop-event-preserved-in_default-item_here : goal.read_elements-loop-event-preserved-in_default-item_here
+pub read_elements-loop-event-preserved-in_default-item_here
+    : goal.read_elements-loop-event-preserved-in_default-item_here
 read_elements-loop-event-preserved-in_default-item_here t c =
     let l = c.loop-event in
     let len : c.len-count.result ≡ length l.read.items = search rules in
@@ -1486,7 +1487,8 @@ read_content-returns-in-Err-clause-gives t c = λ fuel lt fault.
     (c.in-Err.ensures.gives (fuel - 1) (omega (arith, lt)) (sym (filled_memory _ _) ∙ ap is_memory (sym told) ∙ fault))
     ∙ ap Err (sym told))
 
-pub read_content-returns-in-Ok-read_variant_fields-clause-gives : goal.read_content-returns-in-Ok-read_variant_fields-clause-gives
+pub read_content-returns-in-Ok-read_variant_fields-clause-gives
+    : goal.read_content-returns-in-Ok-read_variant_fields-clause-gives
 read_content-returns-in-Ok-read_variant_fields-clause-gives t c = λ fuel lt.
     rw (c.in-Struct.is, ← c.deref-in-Struct.ensures.value)
     (node_placed (source_of c.args.self.now) (way_of c.args.path.now)
@@ -1496,7 +1498,8 @@ read_content-returns-in-Ok-read_variant_fields-clause-gives t c = λ fuel lt.
     ∙ ap (place true c.args.mark (way_of c.args.path.now))
     (c.in-Ok-read_variant_fields.ensures.gives (fuel - 1) (omega (arith, lt))))
 
-pub read_content-returns-in-Err-read_variant_fields-clause-gives : goal.read_content-returns-in-Err-read_variant_fields-clause-gives
+pub read_content-returns-in-Err-read_variant_fields-clause-gives
+    : goal.read_content-returns-in-Err-read_variant_fields-clause-gives
 read_content-returns-in-Err-read_variant_fields-clause-gives t c = λ fuel lt fault.
     let told = c.at_place-in-Err-read_variant_fields.ensures fault in
     rw (c.in-Struct.is, ← c.deref-in-Struct.ensures.value)
@@ -1509,7 +1512,8 @@ read_content-returns-in-Err-read_variant_fields-clause-gives t c = λ fuel lt fa
     (sym (filled_memory _ _) ∙ ap is_memory (sym told) ∙ fault))
     ∙ ap Err (sym told))
 
-pub read_content-returns-in-Ok-read_variant_fields-2-clause-gives : goal.read_content-returns-in-Ok-read_variant_fields-2-clause-gives
+pub read_content-returns-in-Ok-read_variant_fields-2-clause-gives
+    : goal.read_content-returns-in-Ok-read_variant_fields-2-clause-gives
 read_content-returns-in-Ok-read_variant_fields-2-clause-gives t c = λ fuel lt.
     rw (c.in-StrictStruct.is, ← c.deref-in-StrictStruct.ensures.value)
     (node_placed (source_of c.args.self.now) (way_of c.args.path.now)
@@ -1519,7 +1523,8 @@ read_content-returns-in-Ok-read_variant_fields-2-clause-gives t c = λ fuel lt.
     ∙ ap (place true c.args.mark (way_of c.args.path.now))
     (c.in-Ok-read_variant_fields-2.ensures.gives (fuel - 1) (omega (arith, lt))))
 
-pub read_content-returns-in-Err-read_variant_fields-2-clause-gives : goal.read_content-returns-in-Err-read_variant_fields-2-clause-gives
+pub read_content-returns-in-Err-read_variant_fields-2-clause-gives
+    : goal.read_content-returns-in-Err-read_variant_fields-2-clause-gives
 read_content-returns-in-Err-read_variant_fields-2-clause-gives t c = λ fuel lt fault.
     let told = c.at_place-in-Err-read_variant_fields-2.ensures fault in
     rw (c.in-StrictStruct.is, ← c.deref-in-StrictStruct.ensures.value)
