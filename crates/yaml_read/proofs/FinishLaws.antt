@@ -18,7 +18,7 @@ use Rattle.yaml_read.specs.PlainDocument.{PlainDocument}
 use Rattle.yaml_read.specs.declared.doc_event.DocEvent.{DocEvent}
 use Rattle.yaml_read.specs.declared.loader.draft.Cut.{Cut}
 use Rattle.yaml_read.specs.declared.loader.draft.Draft.{Draft}
-use Rattle.yaml_read.specs.inner.Drafts.{IsBetween, IsDraft, aliases_in, all_drafted, drafts_of, settled}
+use Rattle.yaml_read.specs.inner.Drafts.{IsBetween, IsDraft, drafts_of, settled}
 use Rattle.yaml_read.specs.inner.OpenEnds.{EndsView, bounded_from}
 use Rattle.yaml_read.proofs.Gatherings.{cuts_pushed, documents_pushed, long_pushed, plain_doc_events-marked}
 use Rattle.yaml_read.proofs.SettledEnds.{ends_of_cut, ends_of_whole}
@@ -109,10 +109,9 @@ module _ (events : Events) (numbers : List ℕ) (seen : Input) (old : Draft) (h 
     abbrev more : Events
     more = drop old.from settled_events
 
-    same : settled find (aliases_in 0 seen) (all_drafted seen) ≡ (marked_events_of more, o)
+    same : settled find old.anchors.aliases.items (marked_events_of h.now) ≡ (marked_events_of more, o)
     same =
-        ap (λ es. settled find (aliases_in 0 seen) es) (sym (ap marked_events_of now_is ∙ h.shown))
-        ∙ ap (λ xs. settled find xs (marked_events_of (drop old.from old.events.items))) (sym h.aliases)
+        ap (λ es. settled find old.anchors.aliases.items es) (sym (ap marked_events_of now_is))
         ∙ ap (λ ns. settled (find_in ns) old.anchors.aliases.items (marked_events_of (drop old.from old.events.items)))
         (sym h.named)
         ∙ is
@@ -130,8 +129,8 @@ module _ (events : Events) (numbers : List ℕ) (seen : Input) (old : Draft) (h 
       → Closed new cut → ending_in cut.error ≡ ending_of None false fault
       → IsBetween (documents_in events old.cuts.items ++ document_of (anchors_in 0 seen) seen false fault ∷ []) new
   closed_whole new cut fault cuts is front all c ending =
-      let found = settled_whole find seen (all_drafted seen) (marked_events_of (drop old.from new.events.items)) None
-      h.nodes refl
+      let found = settled_whole find seen (marked_events_of h.now) (marked_events_of (drop old.from new.events.items))
+      old.anchors.aliases.items None h.nodes h.taken
       (same new.events.items None is front) in
       closed new cut (drop old.from new.events.items) (ends_of (drafts_of seen)) None fault cuts c
       (whole_is new.events.items None is front) found.0 all
@@ -157,7 +156,8 @@ module _ (events : Events) (numbers : List ℕ) (seen : Input) (old : Draft) (h 
       → IsBetween (documents_in events old.cuts.items ++ document_of (anchors_in 0 seen) seen false fault ∷ []) new
   closed_cut new cut fault settled_events at mark all cuts is front within marked taken numbered bounded c ending =
       let late = drop old.from settled_events in
-      let found = settled_whole find seen (all_drafted seen) (marked_events_of late) (Some at) h.nodes refl
+      let found = settled_whole find seen (marked_events_of h.now) (marked_events_of late)
+      old.anchors.aliases.items (Some at) h.nodes h.taken
       (same settled_events (Some at) is front) in
       let known : marked_events_of (take at late) ≡ known_events find 0 seen =
       sym (marked_taken at late) ∙ found.0 in

@@ -16,6 +16,7 @@ pub mod FoundLaws
 pub mod FreeLaws
 pub mod Gatherings
 pub mod KindLaws
+pub mod LastAnchor
 pub mod LoadingEnds
 pub mod LoadingLaws
 pub mod LoadingTurns

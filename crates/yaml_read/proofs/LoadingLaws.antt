@@ -1,43 +1,32 @@
 -- Each event that may stand where it stands leads the draft on.
-use Rattle.std.proofs.Common.{◌≡◌, List, [], ◌∷◌, ◌++◌, map, refl, sym, ◌∙◌, ap, subst, arith, append_assoc, append-nil}
+use Rattle.std.proofs.Common.{◌≡◌, ◌+◌, ℕ, length, List, [], ◌∷◌, ◌++◌, map, refl, sym, ◌∙◌, ap, subst, arith, append_assoc, append-nil}
 use Rattle.std.proofs.Common.{Option, Some, None, All, IsTrue, Bool, true, false, not, cond, ◌||◌}
 use Rattle.std.proofs.lemmas.List.Elements.{All-tail}
 use Rattle.yaml_base.specs.Position.{Position}
-use Rattle.yaml_base.specs.PlainEvent.{PlainEvent, event_of, stream_start, stream_end, document_start, document_end}
+use Rattle.yaml_base.specs.PlainEvent.{PlainEvent, stream_start, stream_end, document_start, document_end}
 use Rattle.yaml_base.specs.PlainEvent.{alias, scalar, sequence_start, sequence_end, mapping_start, mapping_end}
 use Rattle.yaml_base.specs.PlainFault.{PlainFault}
-use Rattle.yaml_base.specs.declared.event.Event.{Event}
-use Rattle.yaml_base.specs.declared.event.Event.TheVariants as event
-use Rattle.yaml_read.specs.Documents.{Input, after_starts, anchors_in, body, document_from, document_of, ending_of}
+use Rattle.yaml_base.specs.Tree.{anchor_at}
+use Rattle.yaml_read.specs.DocEventView.{doc_event_of}
+use Rattle.yaml_read.specs.Documents.{Input, after_starts, anchor_of, anchors_in, body, document_from, document_of}
+use Rattle.yaml_read.specs.Documents.{ending_of}
 use Rattle.yaml_read.specs.Documents.{find_in, is_document_end, is_document_start, is_ended, is_open_after}
 use Rattle.yaml_read.specs.Documents.{known_events, unknown_mark}
 use Rattle.yaml_read.specs.Gathering.{AreCuts, documents_in}
+use Rattle.yaml_read.specs.PlainDocEvent.{PlainDocEvent}
 use Rattle.yaml_read.specs.PlainDocument.{PlainDocument}
+use Rattle.yaml_read.specs.declared.doc_event.DocEvent.{DocEvent}
 use Rattle.yaml_read.specs.declared.loader.draft.Cut.{Cut}
 use Rattle.yaml_read.specs.declared.loader.draft.Draft.{Draft}
-use Rattle.yaml_read.specs.inner.Drafts.{IsBetween, IsDraft, is_of_node}
-use Rattle.yaml_read.specs.inner.Loading.{IsClosedDraft, IsOnWay, IsOpenDraft, IsReady, open_before, open_behind}
-use Rattle.yaml_read.proofs.DraftLaws.{aliases_in_range, as_many, begins_within}
-
--- an event that neither begins nor ends a stream or a document is part of a node
-pub other_is_node : (e : Event) → (e ≡ event.StreamStart → ⊥) → (e ≡ event.StreamEnd → ⊥)
-    → (e ≡ event.DocumentStart → ⊥)
-    → (e ≡ event.DocumentEnd → ⊥) → is_of_node (event_of e) ≡ true
-other_is_node event.StreamStart a b c d = absurd (a refl)
-other_is_node event.StreamEnd a b c d = absurd (b refl)
-other_is_node event.DocumentStart a b c d = absurd (c refl)
-other_is_node event.DocumentEnd a b c d = absurd (d refl)
-other_is_node (event.Alias x) a b c d = refl
-other_is_node (event.Scalar x) a b c d = refl
-other_is_node (event.SequenceStart x) a b c d = refl
-other_is_node event.SequenceEnd a b c d = refl
-other_is_node (event.MappingStart x) a b c d = refl
-other_is_node event.MappingEnd a b c d = refl
+use Rattle.yaml_read.specs.inner.Drafts.{IsBetween, IsDraft, IsTaken, Waiting, drafted, drafts_of, is_of_node}
+use Rattle.yaml_read.specs.inner.OpenEnds.{HasNumbers}
+use Rattle.yaml_read.specs.inner.Loading.{IsClosedDraft, IsOnWay, IsOpenDraft, IsReady, Takes, open_before, open_behind}
+use Rattle.yaml_read.proofs.DraftLaws.{aliases_in_range, as_many, begins_within, draft_more, drafts_long, whole_long}
 
 abbrev NodeFacts : PlainEvent → Type 0
 NodeFacts e = (open_before e ≡ true) × (open_behind e ≡ true) × (is_document_end e ≡ false)
 
-pub node_facts : (e : PlainEvent) → is_of_node e ≡ true → NodeFacts e
+node_facts : (e : PlainEvent) → is_of_node e ≡ true → NodeFacts e
 node_facts stream_start h = absurd cc
 node_facts stream_end h = absurd cc
 node_facts document_start h = absurd cc
@@ -208,3 +197,27 @@ ready_if false fault all left d h is = absurd cc
 pub on_way : (opened before : Bool) (fault : Option PlainFault) (all left : Input) (d : Draft) → opened ≡ before
     → IsOnWay opened fault all left d → IsOnWay before fault all left d
 on_way opened before fault all left d is h = subst (λ b. IsOnWay b fault all left d) is h
+
+-- a draft that takes an event of a node in goes over it
+pub takes : (e : PlainEvent) (mark : Position) (old new : Draft) (d : DocEvent) (place : ℕ) → is_of_node e ≡ true
+    → old.from + place ≡ length old.events.items → new.from ≡ old.from → new.cuts ≡ old.cuts
+    → new.events.items ≡ old.events.items ++ (d, mark) ∷ []
+    → new.anchors.named.items ≡ old.anchors.named.items ++ anchor_at (anchor_of e) place
+    → ((seen : Input) → old.anchors.named.items ≡ anchors_in 0 seen → place ≡ length seen
+    → (here : Waiting) × IsTaken (find_in (anchors_in 0 seen)) place e (doc_event_of d) here
+    × (new.anchors.aliases.items ≡ old.anchors.aliases.items ++ here))
+    → ((front : List ℕ) (seen : List PlainDocEvent) → HasNumbers front seen old.ends → place ≡ length seen
+    → HasNumbers front (seen ++ drafted e ∷ []) new.ends)
+    → Takes e mark old new
+takes e mark old new d place node there from cuts pushed named taken ends = λ fault all left rest is way.
+    let facts = node_facts e node in
+    let h = on_way (open_before e) true fault all left old facts.0 way in
+    let draft = h.draft in
+    let at : place ≡ length h.seen = omega (arith, there, whole_long h.events h.numbers h.seen old draft) in
+    let (here, taken', waits) = taken h.seen draft.named at in
+    on_way true (open_behind e) fault all rest new (sym facts.1)
+    (on_node fault all left rest e mark is old new node h
+    (draft_more h.events h.numbers h.seen old draft new e mark d here node from pushed
+    (subst (λ k. IsTaken (find_in (anchors_in 0 h.seen)) k e (doc_event_of d) here) at taken')
+    (named ∙ ap (λ k. old.anchors.named.items ++ anchor_at (anchor_of e) k) at) waits
+    (ends h.numbers (drafts_of h.seen) draft.ends (at ∙ sym (drafts_long h.events h.numbers h.seen old draft)))) cuts)

@@ -1,6 +1,7 @@
 -- Where the aliases of a draft have got their targets, its events are those of the document.
 use Rattle.std.proofs.Common.{◌≡◌, ℕ, ◌+◌, List, [], ◌∷◌, ◌++◌, length, take, refl, sym, ◌∙◌, ap, subst, arith}
 use Rattle.std.proofs.Common.{append_assoc, append-nil, length-append, Option, Some, None, All, IsTrue, option_map}
+use Rattle.std.proofs.Common.{inl, inr}
 use Rattle.std.specs.Prelude.{slice_get}
 use Rattle.std.proofs.lemmas.List.Elements.{All-tail}
 use Rattle.yaml_base.specs.Position.{Position}
@@ -8,7 +9,7 @@ use Rattle.yaml_base.specs.PlainEvent.{PlainEvent, stream_start, stream_end, doc
 use Rattle.yaml_base.specs.PlainEvent.{scalar, sequence_start, sequence_end, mapping_start, mapping_end}
 use Rattle.yaml_read.specs.Documents.{Find, Input, becomes, known_events, or_mark, then_events, unknown_mark}
 use Rattle.yaml_read.specs.PlainDocEvent.{PlainDocEvent, alias_to}
-use Rattle.yaml_read.specs.inner.Drafts.{Settled, aimed, aliases_in, all_drafted, drafted, is_of_node, settle, settled}
+use Rattle.yaml_read.specs.inner.Drafts.{AreTaken, IsTaken, Settled, Waiting, aimed, drafted, is_of_node, settle, settled}
 
 abbrev pub Marked : Type 0
 Marked = List (PlainDocEvent × Position)
@@ -60,91 +61,94 @@ settled_step find place seen front e mark d (events, Some at) is h = (
   ap (λ o. or_mark o mark (unknown_mark find (place + 1) seen)) is ∙ h.1,
 )
 
--- an alias by its target
-settled_alias : (find : Find) (seen : Input) (front : Marked) (a : List ℕ) (mark : Position) (o : Option ℕ) (place : ℕ)
+-- an alias that waits, by its target
+settled_waiting : (find : Find) (seen : Input) (front later : Marked) (left : Waiting) (a : List ℕ) (mark : Position)
+    (o : Option ℕ) (place : ℕ)
     → place ≡ length front → find a place ≡ o
-    → ((target : ℕ) → IsSettled find (place + 1) seen (front ++ (alias_to target, mark) ∷ [])
-    (settled find (aliases_in (place + 1) seen) ((front ++ (alias_to target, mark) ∷ []) ++ all_drafted seen)))
+    → ((d : PlainDocEvent) → IsSettled find (place + 1) seen (front ++ (d, mark) ∷ [])
+    (settled find left ((front ++ (d, mark) ∷ []) ++ later)))
     → IsSettled find place ((alias a, mark) ∷ seen) front
-    (settle o place (front ++ (alias_to 0, mark) ∷ all_drafted seen) (settled find (aliases_in (place + 1) seen)))
-settled_alias find seen front a mark None place at is later = (
-  ap (λ n. take n (front ++ (alias_to 0, mark) ∷ all_drafted seen)) at
-      ∙ take_front front ((alias_to 0, mark) ∷ all_drafted seen)
+    (settle o place (front ++ (alias_to 0, mark) ∷ later) (settled find left))
+settled_waiting find seen front later left a mark None place at is next = (
+  ap (λ n. take n (front ++ (alias_to 0, mark) ∷ later)) at ∙ take_front front ((alias_to 0, mark) ∷ later)
       ∙ sym (append-nil front)
       ∙ ap (λ t. front ++ then_events (option_map alias_to t) mark (known_events find (place + 1) seen)) (sym is),
   ap (λ t. or_mark (option_map alias_to t) mark (unknown_mark find (place + 1) seen)) is
       ∙ sym (ap (option_map (λ (e : PlainDocEvent × Position). e.1))
-      (ap (slice_get (front ++ (alias_to 0, mark) ∷ all_drafted seen)) at
-      ∙ get_behind front (all_drafted seen) (alias_to 0, mark))),
+      (ap (slice_get (front ++ (alias_to 0, mark) ∷ later)) at ∙ get_behind front later (alias_to 0, mark))),
 )
-settled_alias find seen front a mark (Some target) place at is later =
-    let es : aimed place target (front ++ (alias_to 0, mark) ∷ all_drafted seen)
-    ≡ (front ++ (alias_to target, mark) ∷ []) ++ all_drafted seen =
-    ap (λ n. aimed n target (front ++ (alias_to 0, mark) ∷ all_drafted seen)) at
-    ∙ aimed_at front (all_drafted seen) (alias_to 0, mark) target
-    ∙ sym (behind front (all_drafted seen) (alias_to target, mark)) in
-    subst (λ x. IsSettled find place ((alias a, mark) ∷ seen) front (settled find (aliases_in (place + 1) seen) x))
-    (sym es)
-    (settled_step find place seen front (alias a) mark (alias_to target) _ (ap (option_map alias_to) is) (later target))
+settled_waiting find seen front later left a mark (Some target) place at is next =
+    let es : aimed place target (front ++ (alias_to 0, mark) ∷ later) ≡ (front ++ (alias_to target, mark) ∷ []) ++ later =
+    ap (λ n. aimed n target (front ++ (alias_to 0, mark) ∷ later)) at
+    ∙ aimed_at front later (alias_to 0, mark) target
+    ∙ sym (behind front later (alias_to target, mark)) in
+    subst (λ x. IsSettled find place ((alias a, mark) ∷ seen) front (settled find left x)) (sym es)
+    (settled_step find place seen front (alias a) mark (alias_to target) _ (ap (option_map alias_to) is)
+    (next (alias_to target)))
 
-settled_plain : (find : Find) (seen : Input) (place : ℕ) (front : Marked) (e : PlainEvent) (mark : Position)
-    → becomes find place e ≡ Some (drafted e)
-    → IsSettled find (place + 1) seen (front ++ (drafted e, mark) ∷ [])
-    (settled find (aliases_in (place + 1) seen) ((front ++ (drafted e, mark) ∷ []) ++ all_drafted seen))
-    → IsSettled find place ((e, mark) ∷ seen) front
-    (settled find (aliases_in (place + 1) seen) (front ++ (drafted e, mark) ∷ all_drafted seen))
-settled_plain find seen place front e mark is next =
-    settled_step find place seen front e mark (drafted e) _ is
-    (subst (λ es. IsSettled find (place + 1) seen (front ++ (drafted e, mark) ∷ [])
-    (settled find (aliases_in (place + 1) seen) es))
-    (behind front (all_drafted seen) (drafted e, mark)) next)
+-- an event that is what it becomes
+settled_known : (find : Find) (seen : Input) (front later : Marked) (left : Waiting) (e : PlainEvent) (mark : Position)
+    (d : PlainDocEvent) (place : ℕ) → becomes find place e ≡ Some d
+    → IsSettled find (place + 1) seen (front ++ (d, mark) ∷ [])
+    (settled find left ((front ++ (d, mark) ∷ []) ++ later))
+    → IsSettled find place ((e, mark) ∷ seen) front (settled find left (front ++ (d, mark) ∷ later))
+settled_known find seen front later left e mark d place is next =
+    settled_step find place seen front e mark d _ is
+    (subst (λ es. IsSettled find (place + 1) seen (front ++ (d, mark) ∷ []) (settled find left es))
+    (behind front later (d, mark)) next)
+
+-- an event that is no alias stands for itself
+plain_known : (find : Find) (place : ℕ) (e : PlainEvent) (d : PlainDocEvent) → becomes find place e ≡ Some (drafted e)
+    → d ≡ drafted e → becomes find place e ≡ Some d
+plain_known find place e d known is = known ∙ ap Some (sym is)
+
+-- one event, and those behind it
+settled_one : (find : Find) (seen : Input) (front later : Marked) (left here : Waiting) (e : PlainEvent)
+    (mark : Position) (d : PlainDocEvent) (place : ℕ)
+    → place ≡ length front → IsTrue (is_of_node e) → IsTaken find place e d here
+    → ((d : PlainDocEvent) → IsSettled find (place + 1) seen (front ++ (d, mark) ∷ [])
+    (settled find left ((front ++ (d, mark) ∷ []) ++ later)))
+    → IsSettled find place ((e, mark) ∷ seen) front (settled find (here ++ left) (front ++ (d, mark) ∷ later))
+settled_one find seen front later left here (alias a) mark d place at node (inl w) next =
+    rw (w.0, w.1) (settled_waiting find seen front later left a mark (find a place) place at refl next)
+settled_one find seen front later left here (alias a) mark d place at node (inr k) next =
+    rw k.1 (settled_known find seen front later left (alias a) mark d place k.0 (next d))
+settled_one find seen front later left here (scalar s) mark d place at node is next =
+    rw is.1 (settled_known find seen front later left (scalar s) mark d place
+    (plain_known find place (scalar s) d refl is.0) (next d))
+settled_one find seen front later left here (sequence_start a t) mark d place at node is next =
+    rw is.1 (settled_known find seen front later left (sequence_start a t) mark d place
+    (plain_known find place (sequence_start a t) d refl is.0) (next d))
+settled_one find seen front later left here sequence_end mark d place at node is next =
+    rw is.1 (settled_known find seen front later left sequence_end mark d place
+    (plain_known find place sequence_end d refl is.0) (next d))
+settled_one find seen front later left here (mapping_start a t) mark d place at node is next =
+    rw is.1 (settled_known find seen front later left (mapping_start a t) mark d place
+    (plain_known find place (mapping_start a t) d refl is.0) (next d))
+settled_one find seen front later left here mapping_end mark d place at node is next =
+    rw is.1 (settled_known find seen front later left mapping_end mark d place
+    (plain_known find place mapping_end d refl is.0) (next d))
+settled_one find seen front later left here stream_start mark d place at node is next = absurd (cc)
+settled_one find seen front later left here stream_end mark d place at node is next = absurd (cc)
+settled_one find seen front later left here document_start mark d place at node is next = absurd (cc)
+settled_one find seen front later left here document_end mark d place at node is next = absurd (cc)
 
 nodes_left : (e : PlainEvent × Position) (seen : Input) → ToNodes (e ∷ seen) → ToNodes seen
 nodes_left e seen nodes = All-tail (λ (x : PlainEvent × Position). IsTrue (is_of_node x.0)) e seen nodes
 
--- the aliases of events from a place on
-settled_from : (find : Find) (seen : Input) (place : ℕ) (front : Marked) → place ≡ length front → ToNodes seen
-    → IsSettled find place seen front (settled find (aliases_in place seen) (front ++ all_drafted seen))
-settled_from find [] place front at nodes = (refl, refl)
-settled_from find ((alias a, mark) ∷ seen) place front at nodes =
-    settled_alias find seen front a mark (find a place) place at refl
-    (λ target. settled_from find seen (place + 1) (front ++ (alias_to target, mark) ∷ [])
-    (omega (arith, at, one_longer front (alias_to target, mark))) (nodes_left (alias a, mark) seen nodes))
-settled_from find ((scalar s, mark) ∷ seen) place front at nodes =
-    settled_plain find seen place front (scalar s) mark refl
-    (settled_from find seen (place + 1) (front ++ (drafted (scalar s), mark) ∷ [])
-    (omega (arith, at, one_longer front (drafted (scalar s), mark))) (nodes_left (scalar s, mark) seen nodes))
-settled_from find ((sequence_start a t, mark) ∷ seen) place front at nodes =
-    settled_plain find seen place front (sequence_start a t) mark refl
-    (settled_from find seen (place + 1) (front ++ (drafted (sequence_start a t), mark) ∷ [])
-    (omega (arith, at, one_longer front (drafted (sequence_start a t), mark)))
-    (nodes_left (sequence_start a t, mark) seen nodes))
-settled_from find ((sequence_end, mark) ∷ seen) place front at nodes =
-    settled_plain find seen place front sequence_end mark refl
-    (settled_from find seen (place + 1) (front ++ (drafted sequence_end, mark) ∷ [])
-    (omega (arith, at, one_longer front (drafted sequence_end, mark))) (nodes_left (sequence_end, mark) seen nodes))
-settled_from find ((mapping_start a t, mark) ∷ seen) place front at nodes =
-    settled_plain find seen place front (mapping_start a t) mark refl
-    (settled_from find seen (place + 1) (front ++ (drafted (mapping_start a t), mark) ∷ [])
-    (omega (arith, at, one_longer front (drafted (mapping_start a t), mark)))
-    (nodes_left (mapping_start a t, mark) seen nodes))
-settled_from find ((mapping_end, mark) ∷ seen) place front at nodes =
-    settled_plain find seen place front mapping_end mark refl
-    (settled_from find seen (place + 1) (front ++ (drafted mapping_end, mark) ∷ [])
-    (omega (arith, at, one_longer front (drafted mapping_end, mark))) (nodes_left (mapping_end, mark) seen nodes))
-settled_from find ((stream_start, mark) ∷ seen) place front at nodes =
-    absurd (let h = nodes 0 (stream_start, mark) (omega arith) in cc)
-settled_from find ((stream_end, mark) ∷ seen) place front at nodes =
-    absurd (let h = nodes 0 (stream_end, mark) (omega arith) in cc)
-settled_from find ((document_start, mark) ∷ seen) place front at nodes =
-    absurd (let h = nodes 0 (document_start, mark) (omega arith) in cc)
-settled_from find ((document_end, mark) ∷ seen) place front at nodes =
-    absurd (let h = nodes 0 (document_end, mark) (omega arith) in cc)
+-- the events from a place on
+settled_from : (find : Find) (seen : Input) (place : ℕ) (front events : Marked) (waiting : Waiting)
+    → place ≡ length front → ToNodes seen → AreTaken find place seen events waiting
+    → IsSettled find place seen front (settled find waiting (front ++ events))
+settled_from find [] place front events waiting at nodes (none, empty) = rw (none, empty) (refl, refl)
+settled_from find (e ∷ seen) place front events waiting at nodes (d, here, later, left, is, rest, es, ws) =
+    rw (es, ws) (settled_one find seen front later left here e.0 e.1 d place at (nodes 0 e (omega arith)) is
+    (λ d'. settled_from find seen (place + 1) (front ++ (d', e.1) ∷ []) later left
+    (omega (arith, at, one_longer front (d', e.1))) (nodes_left e seen nodes) rest))
 
--- the aliases of a document
-pub settled_whole : (find : Find) (seen : Input) (events now : Marked) (o : Option ℕ) → ToNodes seen → events
-    ≡ all_drafted seen
-    → settled find (aliases_in 0 seen) events ≡ (now, o) → IsSettled find 0 seen [] (now, o)
-settled_whole find seen events now o nodes are is =
-    subst (IsSettled find 0 seen []) (ap (settled find (aliases_in 0 seen)) (sym are) ∙ is)
-    (settled_from find seen 0 [] refl nodes)
+-- the events of a document
+pub settled_whole : (find : Find) (seen : Input) (events now : Marked) (waiting : Waiting) (o : Option ℕ)
+    → ToNodes seen → AreTaken find 0 seen events waiting → settled find waiting events ≡ (now, o)
+    → IsSettled find 0 seen [] (now, o)
+settled_whole find seen events now waiting o nodes taken is =
+    subst (IsSettled find 0 seen []) is (settled_from find seen 0 [] events waiting refl nodes taken)

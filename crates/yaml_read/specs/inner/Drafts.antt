@@ -1,12 +1,12 @@
--- The events of a document before its end is reached: aliases wait for their targets.
-use Rattle.std.specs.Prelude.{ℕ, ◌≡◌, ◌+◌, List, [], ◌∷◌, ◌++◌, map, length, Bool, true, false, IsTrue, All, Option}
+-- The events of a document before its end is reached: aliases have their targets, or wait for them.
+use Rattle.std.specs.Prelude.{ℕ, ◌≡◌, ◌⊎◌, ◌+◌, List, [], ◌∷◌, ◌++◌, map, length, Bool, true, false, IsTrue, All, Option}
 use Rattle.std.specs.Prelude.{Some, None}
 use Rattle.std.specs.Prelude.{suc, zero}
 use Rattle.yaml_base.specs.Position.{Position}
 use Rattle.yaml_base.specs.PlainEvent.{PlainEvent, alias, scalar, sequence_start, sequence_end, mapping_start}
 use Rattle.yaml_base.specs.PlainEvent.{mapping_end}
 use Rattle.yaml_read.specs.DocEventView.{marked_events_of}
-use Rattle.yaml_read.specs.Documents.{Find, Input, anchors_in}
+use Rattle.yaml_read.specs.Documents.{Find, Input, anchors_in, becomes, find_in}
 use Rattle.yaml_read.specs.Gathering.{AreCuts, documents_in}
 use Rattle.yaml_read.specs.PlainDocEvent.{PlainDocEvent, alias_to, a_scalar, sequence_begins, sequence_ends}
 use Rattle.yaml_read.specs.PlainDocEvent.{mapping_begins, mapping_ends, a_void}
@@ -36,23 +36,28 @@ drafted (mapping_start anchor tag) = mapping_begins tag
 drafted mapping_end = mapping_ends
 drafted _ = a_void
 
--- what stands for events
-abbrev pub all_drafted : Input → List (PlainDocEvent × Position)
-all_drafted input = map (λ e. (drafted e.0, e.1)) input
-
--- the same, without marks
+-- what stands for events, without marks
 abbrev pub drafts_of : Input → List PlainDocEvent
 drafts_of input = map (λ e. drafted e.0) input
 
--- the anchor of an alias, beside its place
-abbrev pub alias_at : PlainEvent → ℕ → List (List ℕ × ℕ)
-alias_at (alias anchor) place = (anchor, place) ∷ []
-alias_at _ place = []
+-- the anchors of the aliases that wait for their targets, each beside the place of its alias
+abbrev pub Waiting : Type 0
+Waiting = List (List ℕ × ℕ)
 
--- the anchors of the aliases, in order, each beside the place of the alias
-abbrev pub aliases_in : ℕ → Input → List (List ℕ × ℕ)
-aliases_in place [] = []
-aliases_in place (e ∷ input) = alias_at e.0 place ++ aliases_in (place + 1) input
+-- what stands for an event at a place: for an alias what it becomes, or nothing yet, and then it waits
+abbrev pub IsTaken : Find → ℕ → PlainEvent → PlainDocEvent → Waiting → Type 0
+IsTaken find place (alias anchor) d waiting =
+    ((d ≡ alias_to 0) × (waiting ≡ (anchor, place) ∷ []))
+    ⊎ ((becomes find place (alias anchor) ≡ Some d) × (waiting ≡ []))
+IsTaken find place e d waiting = (d ≡ drafted e) × (waiting ≡ [])
+
+-- the same for events one after another, the first of them at a place
+abbrev pub AreTaken : Find → ℕ → Input → List (PlainDocEvent × Position) → Waiting → Type 0
+AreTaken find place [] events waiting = (events ≡ []) × (waiting ≡ [])
+AreTaken find place (e ∷ seen) events waiting =
+    (d : PlainDocEvent) × (here : Waiting) × (later : List (PlainDocEvent × Position)) × (left : Waiting)
+    × IsTaken find place e.0 d here × AreTaken find (place + 1) seen later left
+    × (events ≡ (d, e.1) ∷ later) × (waiting ≡ here ++ left)
 
 -- an alias at a place gets its target
 abbrev pub aimed : ℕ → ℕ → List (PlainDocEvent × Position) → List (PlainDocEvent × Position)
@@ -82,10 +87,9 @@ pub record IsDraft (events : List (DocEvent × Position)) (numbers : List ℕ) (
   pub from : d.from ≡ length events
   pub now : List (DocEvent × Position)
   pub whole : d.events.items ≡ events ++ now
-  pub shown : marked_events_of now ≡ all_drafted seen
+  pub taken : AreTaken (find_in (anchors_in 0 seen)) 0 seen (marked_events_of now) d.anchors.aliases.items
   pub ends : HasNumbers numbers (drafts_of seen) d.ends
   pub named : d.anchors.named.items ≡ anchors_in 0 seen
-  pub aliases : d.anchors.aliases.items ≡ aliases_in 0 seen
 
 -- no document is open, and those that were have their ranges
 pub record IsBetween (documents : List PlainDocument) (d : Draft) : Type 0 where

@@ -63,3 +63,8 @@ pub record IsOpenDraft (fault : Option PlainFault) (all left : Input) (d : Draft
 abbrev pub IsOnWay : Bool → Option PlainFault → Input → Input → Draft → Type 0
 IsOnWay true fault all left d = IsOpenDraft fault all left d
 IsOnWay false fault all left d = IsClosedDraft fault all left d
+
+-- a draft goes over an event
+abbrev pub Takes : PlainEvent → Position → Draft → Draft → Type 0
+Takes e mark old new = (fault : Option PlainFault) (all left rest : Input) → left ≡ (e, mark) ∷ rest
+    → IsOnWay (open_before e) fault all left old → IsOnWay (open_behind e) fault all rest new

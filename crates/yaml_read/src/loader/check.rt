@@ -1,12 +1,14 @@
 //! Which events may follow one another in a stream.
 
-ghost use Rattle.std.specs.Prelude.{◌≡◌, List, [], IfOk, None};
-ghost use Rattle.yaml_base.specs.PlainEvent.{event_of};
-ghost use Rattle.yaml_read.specs.StreamMachine.{Begins, IsClean, Moves, is_done, is_open, opened_in, state_of};
+ghost use Rattle.std.specs.Prelude.{◌≡◌, ℕ, List, [], IfOk, IfSome, None, Option, true};
+ghost use Rattle.yaml_base.specs.PlainEvent.{PlainScalar, alias, document_end, document_start, mapping_end};
+ghost use Rattle.yaml_base.specs.PlainEvent.{mapping_start, scalar, sequence_end, sequence_start, stream_end};
+ghost use Rattle.yaml_base.specs.PlainEvent.{stream_start};
+ghost use Rattle.yaml_read.specs.StreamMachine.{IsClean, Moves, is_done, is_open, opened_in, state_of};
 ghost use Rattle.yaml_read.specs.StreamMachine.{within};
+ghost use Rattle.yaml_read.specs.declared.loader.check.Open.TheVariants.{Sequence, Key, Value};
 
 use std::alloc::AllocError;
-use yaml_base::Event;
 
 // What an open collection waits for.
 #[derive(Clone, Copy)]
@@ -36,7 +38,61 @@ pub(crate) enum Phase {
     After,
 }
 
-// The phase behind a whole node, by what the collection around it waits for then, if there is one.
+// What an open collection waits for behind one of its nodes.
+fn behind(around: Open) -> Open
+    ensures sequence { around ≡ Sequence → result ≡ Sequence }
+    ensures key { around ≡ Key → result ≡ Value }
+    ensures value { around ≡ Value → result ≡ Key }
+{
+    match around {
+        Open::Sequence => Open::Sequence,
+        Open::Key => Open::Value,
+        Open::Value => Open::Key,
+    }
+}
+
+// The phase behind a scalar or an alias, if one may stand there.
+#[inline(always)]
+pub(crate) fn after_leaf(phase: Phase) -> Option<Phase>
+    ensures scalar { (outer : List Open) (s : PlainScalar) → IsClean phase outer
+        → Moves phase outer (scalar s) outer result }
+    ensures alias { (outer : List Open) (anchor : List ℕ) → IsClean phase outer
+        → Moves phase outer (alias anchor) outer result }
+    ensures inside { IfSome result (λ _. is_open phase ≡ true) }
+{
+    match phase {
+        Phase::Within(open) => Some(Phase::Within(behind(open))),
+        Phase::Root => Some(Phase::Ended),
+        _ => None,
+    }
+}
+
+// The phase behind the start of a collection that waits for this first, if one may begin there. What the collection
+// around it waits for then goes behind the list.
+#[inline(always)]
+pub(crate) fn after_start(
+    phase: Phase,
+    outer: &mut Vec<Open>,
+    first: Open,
+) -> Result<Option<Phase>, AllocError>
+    requires { IsClean phase outer.old.items }
+    ensures sequence { IfOk result (λ found. first ≡ Sequence → (anchor tag : Option (List ℕ))
+        → Moves phase outer.old.items (sequence_start anchor tag) outer.new.items found) }
+    ensures mapping { IfOk result (λ found. first ≡ Key → (anchor tag : Option (List ℕ))
+        → Moves phase outer.old.items (mapping_start anchor tag) outer.new.items found) }
+    ensures inside { IfOk result (λ found. IfSome found (λ _. is_open phase ≡ true)) }
+{
+    match phase {
+        Phase::Within(open) => {
+            outer.push(behind(open))?;
+            Ok(Some(Phase::Within(first)))
+        }
+        Phase::Root => Ok(Some(Phase::Within(first))),
+        _ => Ok(None),
+    }
+}
+
+// The phase behind a whole collection, by what the one around it waits for then, if there is one.
 fn resumed(around: Option<Open>) -> Phase
     ensures { (outer : List Open) → (around ≡ None → outer ≡ [])
         → (state_of result outer ≡ within (opened_in around outer)) × IsClean result outer }
@@ -47,65 +103,68 @@ fn resumed(around: Option<Open>) -> Phase
     }
 }
 
-// Begins a node with the event, if one may begin so. Once the node is whole, the collection around it waits for this,
-// and the others for what stands in the list, the innermost last.
-fn begin(
-    outer: &mut Vec<Open>,
-    around: Option<Open>,
-    event: &Event<'_>,
-) -> Result<Option<Phase>, AllocError>
-    requires { around ≡ None → outer.old.items ≡ [] }
-    ensures { IfOk result (λ found.
-        Begins around outer.old.items (event_of event.now) outer.new.items found) }
-{
-    let first = match event {
-        Event::Alias(_) | Event::Scalar(_) => return Ok(Some(resumed(around))),
-        Event::SequenceStart(_) => Open::Sequence,
-        Event::MappingStart(_) => Open::Key,
-        _ => return Ok(None),
-    };
-    if let Some(open) = around {
-        outer.push(open)?;
-    }
-    Ok(Some(Phase::Within(first)))
-}
-
-// The phase after the event, if it may stand there. The list has what the collections around the innermost wait for,
-// the outermost first.
-pub(crate) fn next(
-    phase: Phase,
-    outer: &mut Vec<Open>,
-    event: &Event<'_>,
-) -> Result<Option<Phase>, AllocError>
+// The phase behind the end of a sequence, if it may stand there.
+pub(crate) fn after_sequence(phase: Phase, outer: &mut Vec<Open>) -> Option<Phase>
     requires { IsClean phase outer.old.items }
-    ensures { IfOk result (λ found.
-        Moves phase outer.old.items (event_of event.now) outer.new.items found) }
+    ensures moves { Moves phase outer.old.items sequence_end outer.new.items result }
+    ensures inside { IfSome result (λ _. is_open phase ≡ true) }
 {
     match phase {
-        Phase::Before => match event {
-            Event::StreamStart => Ok(Some(Phase::Between)),
-            _ => Ok(None),
-        },
-        Phase::Between => match event {
-            Event::DocumentStart => Ok(Some(Phase::Root)),
-            Event::StreamEnd => Ok(Some(Phase::After)),
-            _ => Ok(None),
-        },
-        Phase::Root => begin(outer, None, event),
-        Phase::Within(Open::Sequence) => match event {
-            Event::SequenceEnd => Ok(Some(resumed(outer.pop()))),
-            _ => begin(outer, Some(Open::Sequence), event),
-        },
-        Phase::Within(Open::Key) => match event {
-            Event::MappingEnd => Ok(Some(resumed(outer.pop()))),
-            _ => begin(outer, Some(Open::Value), event),
-        },
-        Phase::Within(Open::Value) => begin(outer, Some(Open::Key), event),
-        Phase::Ended => match event {
-            Event::DocumentEnd => Ok(Some(Phase::Between)),
-            _ => Ok(None),
-        },
-        Phase::After => Ok(None),
+        Phase::Within(Open::Sequence) => Some(resumed(outer.pop())),
+        _ => None,
+    }
+}
+
+// The phase behind the end of a mapping, if it may stand there.
+pub(crate) fn after_mapping(phase: Phase, outer: &mut Vec<Open>) -> Option<Phase>
+    requires { IsClean phase outer.old.items }
+    ensures moves { Moves phase outer.old.items mapping_end outer.new.items result }
+    ensures inside { IfSome result (λ _. is_open phase ≡ true) }
+{
+    match phase {
+        Phase::Within(Open::Key) => Some(resumed(outer.pop())),
+        _ => None,
+    }
+}
+
+// The phase behind the start of the stream, if it may stand there.
+pub(crate) fn after_stream_start(phase: Phase) -> Option<Phase>
+    ensures { (outer : List Open) → IsClean phase outer → Moves phase outer stream_start outer result }
+{
+    match phase {
+        Phase::Before => Some(Phase::Between),
+        _ => None,
+    }
+}
+
+// The phase behind the end of the stream, if it may stand there.
+pub(crate) fn after_stream_end(phase: Phase) -> Option<Phase>
+    ensures { (outer : List Open) → IsClean phase outer → Moves phase outer stream_end outer result }
+{
+    match phase {
+        Phase::Between => Some(Phase::After),
+        _ => None,
+    }
+}
+
+// The phase behind the start of a document, if it may stand there.
+pub(crate) fn after_document_start(phase: Phase) -> Option<Phase>
+    ensures { (outer : List Open) → IsClean phase outer → Moves phase outer document_start outer result }
+{
+    match phase {
+        Phase::Between => Some(Phase::Root),
+        _ => None,
+    }
+}
+
+// The phase behind the end of a document, if it may stand there.
+pub(crate) fn after_document_end(phase: Phase) -> Option<Phase>
+    ensures moves { (outer : List Open) → IsClean phase outer → Moves phase outer document_end outer result }
+    ensures inside { IfSome result (λ _. is_open phase ≡ true) }
+{
+    match phase {
+        Phase::Ended => Some(Phase::Between),
+        _ => None,
     }
 }
 

@@ -3,7 +3,6 @@
 ghost use Rattle.std.specs.Prelude.{◌≡◌, ◌∷◌, ◌++◌, ◌<◌, ◌≤◌, ◌+◌, ℕ, [], All, List, IfOk, IfSome, Some, drop};
 ghost use Rattle.std.specs.Prelude.{false, length, slice_get, take, true};
 ghost use Rattle.std.specs.Option.{option_map};
-ghost use Rattle.yaml_base.specs.PlainEvent.{event_of};
 ghost use Rattle.yaml_base.specs.Position.{Position};
 ghost use Rattle.yaml_read.specs.DocEventView.{marked_events_of};
 ghost use Rattle.yaml_read.specs.Documents.{Input, anchors_in, document_of, ending_of, find_in};
@@ -11,15 +10,15 @@ ghost use Rattle.yaml_read.specs.Documents.{failed_document, void_document};
 ghost use Rattle.yaml_read.specs.Gathering.{AreCuts, documents_in, ending_in};
 ghost use Rattle.yaml_read.specs.PlainDocument.{PlainDocument};
 ghost use Rattle.yaml_read.specs.declared.doc_event.DocEvent.{DocEvent as Shown};
-ghost use Rattle.yaml_read.specs.inner.Drafts.{IsBetween, IsDraft, is_of_node, settled};
+ghost use Rattle.yaml_read.specs.inner.Drafts.{IsBetween, IsDraft, settled};
 ghost use Rattle.yaml_read.specs.inner.OpenEnds.{bounded_from};
 
-use crate::doc_event::{DocEvent, DocScalar, DocStart};
+use crate::doc_event::DocEvent;
 use crate::loader::anchors::Anchors;
 use crate::loader::ends::Ends;
 use crate::loader::resolve::resolve;
 use std::alloc::{AllocError, Global};
-use yaml_base::{Cause, Error, Event, Mark, ParserFault};
+use yaml_base::{Cause, Error, Mark, ParserFault};
 
 // A document's range of the events, and the fault that cut it off, if one did.
 #[derive(Drop)]
@@ -86,59 +85,8 @@ impl<'de> Draft<'de> {
         self.from = self.events.len();
     }
 
-    // Goes over an event that is part of the open document's node.
-    #[inline(always)]
-    pub(crate) fn take(&mut self, event: Event<'de>, mark: Mark) -> Result<(), AllocError>
-        requires { self.old.from ≤ length self.old.events.items }
-        ensures draft { IfOk result (λ _. (events : List (Shown × Position)) (numbers : List ℕ) (seen : Input)
-            → IsDraft events numbers seen self.old → is_of_node (event_of event.entry) ≡ true
-            → IsDraft events numbers (seen ++ (event_of event.entry, mark) ∷ []) self.new) }
-        ensures cuts { IfOk result (λ _. self.new.cuts ≡ self.old.cuts) }
-    {
-        let place = self.events.len() - self.from;
-        let event = match event {
-            Event::Alias(anchor) => {
-                self.anchors.aliases.push((anchor, place))?;
-                self.ends.pass(place)?;
-                DocEvent::Alias(0)
-            }
-            Event::Scalar(scalar) => {
-                self.anchors.name(scalar.anchor, place)?;
-                self.ends.pass(place)?;
-                DocEvent::Scalar(DocScalar {
-                    tag: scalar.tag,
-                    value: scalar.value,
-                    style: scalar.style,
-                    repr: scalar.repr,
-                })
-            }
-            Event::SequenceStart(start) => {
-                self.anchors.name(start.anchor, place)?;
-                self.ends.begin(place)?;
-                DocEvent::SequenceStart(DocStart { tag: start.tag })
-            }
-            Event::SequenceEnd => {
-                self.ends.end(place)?;
-                DocEvent::SequenceEnd
-            }
-            Event::MappingStart(start) => {
-                self.anchors.name(start.anchor, place)?;
-                self.ends.begin(place)?;
-                DocEvent::MappingStart(DocStart { tag: start.tag })
-            }
-            Event::MappingEnd => {
-                self.ends.end(place)?;
-                DocEvent::MappingEnd
-            }
-            // No other event is part of a node.
-            _ => return Ok(()),
-        };
-        self.events.push((event, mark))?;
-        Ok(())
-    }
-
-    // Gives the aliases of the open document their targets, up to the first unknown one, and answers the place of that
-    // one. Without aliases the anchors are not looked at.
+    // Gives the aliases of the open document that wait their targets, up to the first unknown one, and answers the place
+    // of that one. Where none waits the anchors are not looked at.
     fn settle(&mut self) -> Option<usize>
         requires from { self.old.from ≤ length self.old.events.items }
         requires within { All (λ x. self.old.from + x.1 < length self.old.events.items)

@@ -27,20 +27,22 @@ returns-in-None-clause-wrong c = λ _.
       c.new.ensures,
       wrong_plain (is_some c.args.fault) events i x state (at_place events _ i x here) c.events.invariant.ran
           (ap (λ (y : Event × Position). next_state state (event_of y.0)) (next_parts events _ i x here).0
-          ∙ (rw c.in-None.is at c.in_ok-next.ensures)),
+          ∙ (rw c.in-None.is at c.in_ok-step.ensures.moves)),
     )
 
 pub step-requires : goal.step-requires
-step-requires c = λ before.
-    let moves = rw c.in-Some-2.is at c.in_ok-next.ensures in
-    let state = state_of c.events.phase c.events.outer.items in
-    ready_if (is_inside state) c.args.fault (plain_marked c.args.events.items)
-    (plain_marked (into_iter_items c.events.rest)) c.events.draft
-    c.events.invariant.way ((turns state (event_of c.in-Some.event) _ moves.0).0 ∙ before)
+step-requires c = record {
+  clean = c.events.invariant.clean;
+  ready = λ opened.
+      let state = state_of c.events.phase c.events.outer.items in
+      ready_if (is_inside state) c.args.fault (plain_marked c.args.events.items)
+      (plain_marked (into_iter_items c.events.rest)) c.events.draft
+      c.events.invariant.way (inside_phase c.events.phase c.events.outer.items ∙ opened);
+}
 
 pub events-preserved : goal.events-preserved
 events-preserved c =
-    let moves = rw c.in-Some-2.is at c.in_ok-next.ensures in
+    let moves = rw c.in-Some-2.is at c.in_ok-step.ensures.moves in
     let events = c.args.events.items in
     let i = c.events.place in
     let e = event_of c.in-Some.event in
@@ -49,7 +51,7 @@ events-preserved c =
     let within = at_place events _ i x here in
     let parts = next_parts events _ i x here in
     let state = state_of c.events.phase c.events.outer.items in
-    let after = state_of c.in-Some-2.after c.next-in-Some.new.outer.items in
+    let after = state_of c.in-Some-2.after c.step.new.outer.items in
     let turn = turns state e after moves.0 in
     let left = plain_marked (into_iter_items c.events.rest) in
     let rest = plain_marked (into_iter_items c.next.new.self) in
@@ -63,7 +65,7 @@ events-preserved c =
           ∙ ap (λ (y : Event × Position). next_state state (event_of y.0)) parts.0 ∙ moves.0;
       way =
           on_way (open_behind e) (is_inside after) c.args.fault (plain_marked events) rest c.step.new.self (sym turn.1)
-          (c.in_ok-step.ensures c.args.fault (plain_marked events) left rest (ap plain_marked c.in-Some.ensures.items)
+          ((rw c.in-Some-2.is at c.in_ok-step.ensures.draft) c.args.fault (plain_marked events) left rest (ap plain_marked c.in-Some.ensures.items)
           (on_way (is_inside state) (open_before e) c.args.fault (plain_marked events) left c.events.draft turn.0
           c.events.invariant.way));
     }
