@@ -1,10 +1,10 @@
 -- The anchor that was named last is the one in front of what comes next.
-use Rattle.std.proofs.Common.{◌≡◌, ℕ, suc, ◌+◌, ◌<◌, ◌≤◌, List, [], ◌∷◌, ◌++◌, ◌-◌, length, get_or, refl, sym, ◌∙◌, ap}
-use Rattle.std.proofs.Common.{subst, arith, Bool, true, false, nat_lt, Option, Some, None, inl, inr, All}
+use Rattle.std.proofs.Common.{◌≡◌, ℕ, suc, ◌+◌, ◌<◌, ◌≤◌, List, [], ◌∷◌, ◌++◌, ◌-◌, length, get_or, sym, ◌∙◌, ap}
+use Rattle.std.proofs.Common.{subst, arith, true, false, nat_lt, Option, Some, None, inl, inr, All}
 use Rattle.std.specs.Str.{bytes_eq}
 use Rattle.std.proofs.lemmas.Bool.{cases_Bool, lt-ltb, ltb-true}
 use Rattle.std.proofs.lemmas.List.Elements.{All-cons}
-use Rattle.yaml_base.specs.Tree.{anchor_at, greatest_below}
+use Rattle.yaml_base.specs.Tree.{anchor_at}
 use Rattle.yaml_read.specs.Documents.{Input, anchor_of, anchors_in, find_in}
 use Rattle.yaml_read.proofs.AnchorOrders.{Named}
 use Rattle.yaml_read.proofs.AnchorSearch.{Bounded, find_some, number, number_as, number_of_other}

@@ -1,12 +1,14 @@
 -- What the events read so far, and those left, make of a draft.
-use Rattle.std.specs.Prelude.{◌≡◌, ◌≤◌, ◌<◌, ◌+◌, ℕ, List, [], ◌∷◌, ◌++◌, map, length, All, Bool, true, false, Option}
+use Rattle.std.specs.Prelude.{◌≡◌, ◌≤◌, ◌<◌, ◌+◌, ℕ, List, [], ◌∷◌, ◌++◌, map, length, All, Bool, true, false, IfSome, Option}
 use Rattle.yaml_base.specs.Position.{Position}
 use Rattle.yaml_base.specs.PlainEvent.{PlainEvent, stream_start, stream_end, document_start, document_end}
 use Rattle.yaml_base.specs.PlainFault.{PlainFault}
 use Rattle.yaml_read.specs.Documents.{Input, after_starts, document_from, is_open_after}
 use Rattle.yaml_read.specs.Gathering.{AreCuts, documents_in}
 use Rattle.yaml_read.specs.PlainDocument.{PlainDocument}
-use Rattle.yaml_read.specs.StreamMachine.{State, before_root, within}
+use Rattle.yaml_read.specs.StreamMachine.{Moves, State, before_root, within}
+use Rattle.yaml_read.specs.declared.loader.check.Open.{Open}
+use Rattle.yaml_read.specs.declared.loader.check.Phase.{Phase}
 use Rattle.yaml_read.specs.declared.doc_event.DocEvent.{DocEvent}
 use Rattle.yaml_read.specs.declared.loader.draft.Draft.{Draft}
 use Rattle.yaml_read.specs.inner.Drafts.{IsBetween, IsDraft}
@@ -68,3 +70,9 @@ IsOnWay false fault all left d = IsClosedDraft fault all left d
 abbrev pub Takes : PlainEvent → Position → Draft → Draft → Type 0
 Takes e mark old new = (fault : Option PlainFault) (all left rest : Input) → left ≡ (e, mark) ∷ rest
     → IsOnWay (open_before e) fault all left old → IsOnWay (open_behind e) fault all rest new
+
+-- An event leads from a phase to another, and the draft goes over it; or it may not stand there. What the collections
+-- around the innermost wait for stands beside each phase.
+abbrev pub Steps : Phase → List Open → PlainEvent → Position → Draft → List Open → Draft → Option Phase → Type 0
+Steps phase outer e mark old behind new found =
+    Moves phase outer e behind found × IfSome found (λ _. Takes e mark old new)

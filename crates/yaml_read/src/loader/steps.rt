@@ -1,12 +1,13 @@
 //! The steps by which events become documents.
 
-ghost use Rattle.std.specs.Prelude.{◌≡◌, ◌+◌, ◌≤◌, [], IfOk, IfSome, is_some, length, true};
-ghost use Rattle.yaml_base.specs.PlainEvent.{alias, event_of, mapping_end, mapping_start, scalar as scalar_event};
+ghost use Rattle.std.specs.Prelude.{◌≡◌, ◌+◌, ◌≤◌, [], IfOk, List, is_some, length, true};
+ghost use Rattle.yaml_base.specs.Position.{Position};
+ghost use Rattle.yaml_base.specs.PlainEvent.{alias, document_end, document_start, mapping_end, mapping_start, scalar as scalar_event};
 ghost use Rattle.yaml_base.specs.PlainEvent.{scalar_of, sequence_end, sequence_start};
 ghost use Rattle.yaml_read.specs.Documents.{Input, documents_of, last_mark};
-ghost use Rattle.yaml_read.specs.StreamMachine.{IsClean, Moves, is_open};
+ghost use Rattle.yaml_read.specs.StreamMachine.{IsClean, is_open};
 ghost use Rattle.yaml_read.specs.inner.Drafts.{IsBetween};
-ghost use Rattle.yaml_read.specs.inner.Loading.{IsOnWay, IsReady, Takes};
+ghost use Rattle.yaml_read.specs.inner.Loading.{IsOnWay, IsReady, Steps};
 
 use crate::doc_event::{DocEvent, DocScalar, DocStart};
 use crate::loader::check::{
@@ -15,7 +16,7 @@ use crate::loader::check::{
 };
 use crate::loader::draft::Draft;
 use std::alloc::{AllocError, Global};
-use yaml_base::{Anchor, Event, MappingStart, Mark, ParserFault, Scalar, SequenceStart};
+use yaml_base::{Anchor, MappingStart, Mark, ParserFault, Scalar, SequenceStart};
 
 impl<'de> Draft<'de> {
     // The place of the next event in the open document.
@@ -26,12 +27,21 @@ impl<'de> Draft<'de> {
         self.events.len() - self.from
     }
 
-    // Goes over a scalar.
+    // Goes over a scalar, if one may stand in this phase, and answers the phase behind it.
     #[inline(always)]
-    fn scalar(&mut self, scalar: Scalar<'de>, mark: Mark) -> Result<(), AllocError>
-        requires { self.old.from ≤ length self.old.events.items }
-        ensures { IfOk result (λ _. Takes (scalar_event (scalar_of scalar.entry)) mark self.old self.new) }
+    pub(crate) fn scalar(
+        &mut self,
+        phase: Phase,
+        scalar: Scalar<'de>,
+        mark: Mark,
+    ) -> Result<Option<Phase>, AllocError>
+        requires { is_open phase ≡ true → IsReady self.old }
+        ensures { (outer : List Open) → IsClean phase outer → IfOk result (λ found.
+            Steps phase outer (scalar_event (scalar_of scalar.entry)) mark self.old outer self.new found) }
     {
+        let Some(after) = after_leaf(phase) else {
+            return Ok(None);
+        };
         let Scalar {
             anchor,
             tag,
@@ -51,149 +61,153 @@ impl<'de> Draft<'de> {
             }),
             mark,
         ))?;
-        Ok(())
+        Ok(Some(after))
     }
 
-    // Goes over an alias.
+    // Goes over an alias, if one may stand in this phase, and answers the phase behind it.
     #[inline(always)]
-    fn alias(&mut self, anchor: Anchor, mark: Mark) -> Result<(), AllocError>
-        requires { self.old.from ≤ length self.old.events.items }
-        ensures { IfOk result (λ _. Takes (alias anchor) mark self.old self.new) }
+    pub(crate) fn alias(
+        &mut self,
+        phase: Phase,
+        anchor: Anchor,
+        mark: Mark,
+    ) -> Result<Option<Phase>, AllocError>
+        requires { is_open phase ≡ true → IsReady self.old }
+        ensures { (outer : List Open) → IsClean phase outer → IfOk result (λ found.
+            Steps phase outer (alias anchor) mark self.old outer self.new found) }
     {
+        let Some(after) = after_leaf(phase) else {
+            return Ok(None);
+        };
         let place = self.place();
         let target = self.anchors.refer(anchor, place)?;
         self.ends.pass(place)?;
         self.events.push((DocEvent::Alias(target), mark))?;
-        Ok(())
+        Ok(Some(after))
     }
 
-    // Goes over the start of a sequence.
+    // Goes over the start of a sequence, if one may stand in this phase, and answers the phase behind it.
     #[inline(always)]
-    fn begin_sequence(&mut self, start: SequenceStart, mark: Mark) -> Result<(), AllocError>
-        requires { self.old.from ≤ length self.old.events.items }
-        ensures { IfOk result (λ _. Takes (sequence_start start.anchor start.tag) mark self.old self.new) }
-    {
-        let place = self.place();
-        self.anchors.name(start.anchor, place)?;
-        self.ends.begin(place)?;
-        self.events.push((DocEvent::SequenceStart(DocStart { tag: start.tag }), mark))?;
-        Ok(())
-    }
-
-    // Goes over the start of a mapping.
-    #[inline(always)]
-    fn begin_mapping(&mut self, start: MappingStart, mark: Mark) -> Result<(), AllocError>
-        requires { self.old.from ≤ length self.old.events.items }
-        ensures { IfOk result (λ _. Takes (mapping_start start.anchor start.tag) mark self.old self.new) }
-    {
-        let place = self.place();
-        self.anchors.name(start.anchor, place)?;
-        self.ends.begin(place)?;
-        self.events.push((DocEvent::MappingStart(DocStart { tag: start.tag }), mark))?;
-        Ok(())
-    }
-
-    // Goes over the end of a sequence.
-    #[inline(always)]
-    fn end_sequence(&mut self, mark: Mark) -> Result<(), AllocError>
-        requires { self.old.from ≤ length self.old.events.items }
-        ensures { IfOk result (λ _. Takes sequence_end mark self.old self.new) }
-    {
-        let place = self.place();
-        self.ends.end(place)?;
-        self.events.push((DocEvent::SequenceEnd, mark))?;
-        Ok(())
-    }
-
-    // Goes over the end of a mapping.
-    #[inline(always)]
-    fn end_mapping(&mut self, mark: Mark) -> Result<(), AllocError>
-        requires { self.old.from ≤ length self.old.events.items }
-        ensures { IfOk result (λ _. Takes mapping_end mark self.old self.new) }
-    {
-        let place = self.place();
-        self.ends.end(place)?;
-        self.events.push((DocEvent::MappingEnd, mark))?;
-        Ok(())
-    }
-
-    // Goes over the next event of a stream, if it may stand there, and answers the phase behind it.
-    #[inline(always)]
-    pub(crate) fn step(
+    pub(crate) fn begin_sequence(
         &mut self,
-        alloc: Global,
         phase: Phase,
         outer: &mut Vec<Open>,
-        event: Event<'de>,
+        start: SequenceStart,
         mark: Mark,
     ) -> Result<Option<Phase>, AllocError>
         requires clean { IsClean phase outer.old.items }
         requires ready { is_open phase ≡ true → IsReady self.old }
-        ensures moves { IfOk result (λ found.
-            Moves phase outer.old.items (event_of event.entry) outer.new.items found) }
-        ensures draft { IfOk result (λ found. IfSome found (λ _.
-            Takes (event_of event.entry) mark self.old self.new)) }
+        ensures { IfOk result (λ found. Steps phase outer.old.items (sequence_start start.anchor start.tag) mark
+            self.old outer.new.items self.new found) }
     {
-        match event {
-            Event::Scalar(scalar) => match after_leaf(phase) {
-                Some(after) => {
-                    self.scalar(scalar, mark)?;
-                    Ok(Some(after))
-                }
-                None => Ok(None),
-            },
-            Event::Alias(anchor) => match after_leaf(phase) {
-                Some(after) => {
-                    self.alias(anchor, mark)?;
-                    Ok(Some(after))
-                }
-                None => Ok(None),
-            },
-            Event::SequenceStart(start) => match after_start(phase, outer, Open::Sequence)? {
-                Some(after) => {
-                    self.begin_sequence(start, mark)?;
-                    Ok(Some(after))
-                }
-                None => Ok(None),
-            },
-            Event::MappingStart(start) => match after_start(phase, outer, Open::Key)? {
-                Some(after) => {
-                    self.begin_mapping(start, mark)?;
-                    Ok(Some(after))
-                }
-                None => Ok(None),
-            },
-            Event::SequenceEnd => match after_sequence(phase, outer) {
-                Some(after) => {
-                    self.end_sequence(mark)?;
-                    Ok(Some(after))
-                }
-                None => Ok(None),
-            },
-            Event::MappingEnd => match after_mapping(phase, outer) {
-                Some(after) => {
-                    self.end_mapping(mark)?;
-                    Ok(Some(after))
-                }
-                None => Ok(None),
-            },
-            Event::DocumentStart => match after_document_start(phase) {
-                Some(after) => {
-                    self.begin();
-                    Ok(Some(after))
-                }
-                None => Ok(None),
-            },
-            Event::DocumentEnd => match after_document_end(phase) {
-                Some(after) => {
-                    self.finish(alloc, None)?;
-                    Ok(Some(after))
-                }
-                None => Ok(None),
-            },
-            Event::StreamStart => Ok(after_stream_start(phase)),
-            Event::StreamEnd => Ok(after_stream_end(phase)),
-        }
+        let after = match after_start(phase, outer, Open::Sequence)? {
+            Some(after) => after,
+            None => return Ok(None),
+        };
+        let place = self.place();
+        self.anchors.name(start.anchor, place)?;
+        self.ends.begin(place)?;
+        self.events.push((DocEvent::SequenceStart(DocStart { tag: start.tag }), mark))?;
+        Ok(Some(after))
+    }
+
+    // Goes over the start of a mapping, if one may stand in this phase, and answers the phase behind it.
+    #[inline(always)]
+    pub(crate) fn begin_mapping(
+        &mut self,
+        phase: Phase,
+        outer: &mut Vec<Open>,
+        start: MappingStart,
+        mark: Mark,
+    ) -> Result<Option<Phase>, AllocError>
+        requires clean { IsClean phase outer.old.items }
+        requires ready { is_open phase ≡ true → IsReady self.old }
+        ensures { IfOk result (λ found. Steps phase outer.old.items (mapping_start start.anchor start.tag) mark
+            self.old outer.new.items self.new found) }
+    {
+        let after = match after_start(phase, outer, Open::Key)? {
+            Some(after) => after,
+            None => return Ok(None),
+        };
+        let place = self.place();
+        self.anchors.name(start.anchor, place)?;
+        self.ends.begin(place)?;
+        self.events.push((DocEvent::MappingStart(DocStart { tag: start.tag }), mark))?;
+        Ok(Some(after))
+    }
+
+    // Goes over the end of a sequence, if one may stand in this phase, and answers the phase behind it.
+    #[inline(always)]
+    pub(crate) fn end_sequence(
+        &mut self,
+        phase: Phase,
+        outer: &mut Vec<Open>,
+        mark: Mark,
+    ) -> Result<Option<Phase>, AllocError>
+        requires clean { IsClean phase outer.old.items }
+        requires ready { is_open phase ≡ true → IsReady self.old }
+        ensures { IfOk result (λ found.
+            Steps phase outer.old.items sequence_end mark self.old outer.new.items self.new found) }
+    {
+        let Some(after) = after_sequence(phase, outer) else {
+            return Ok(None);
+        };
+        let place = self.place();
+        self.ends.end(place)?;
+        self.events.push((DocEvent::SequenceEnd, mark))?;
+        Ok(Some(after))
+    }
+
+    // Goes over the end of a mapping, if one may stand in this phase, and answers the phase behind it.
+    #[inline(always)]
+    pub(crate) fn end_mapping(
+        &mut self,
+        phase: Phase,
+        outer: &mut Vec<Open>,
+        mark: Mark,
+    ) -> Result<Option<Phase>, AllocError>
+        requires clean { IsClean phase outer.old.items }
+        requires ready { is_open phase ≡ true → IsReady self.old }
+        ensures { IfOk result (λ found.
+            Steps phase outer.old.items mapping_end mark self.old outer.new.items self.new found) }
+    {
+        let Some(after) = after_mapping(phase, outer) else {
+            return Ok(None);
+        };
+        let place = self.place();
+        self.ends.end(place)?;
+        self.events.push((DocEvent::MappingEnd, mark))?;
+        Ok(Some(after))
+    }
+
+    // Goes over the start of a document, if one may stand in this phase, and answers the phase behind it.
+    pub(crate) fn begin_document(&mut self, phase: Phase) -> Option<Phase>
+        ensures { (outer : List Open) (mark : Position) → IsClean phase outer
+            → Steps phase outer document_start mark self.old outer self.new result }
+    {
+        let Some(after) = after_document_start(phase) else {
+            return None;
+        };
+        self.begin();
+        Some(after)
+    }
+
+    // Goes over the end of a document, if one may stand in this phase, and answers the phase behind it.
+    #[inline(always)]
+    pub(crate) fn end_document(
+        &mut self,
+        alloc: Global,
+        phase: Phase,
+    ) -> Result<Option<Phase>, AllocError>
+        requires { is_open phase ≡ true → IsReady self.old }
+        ensures { (outer : List Open) (mark : Position) → IsClean phase outer → IfOk result (λ found.
+            Steps phase outer document_end mark self.old outer self.new found) }
+    {
+        let Some(after) = after_document_end(phase) else {
+            return Ok(None);
+        };
+        self.finish(alloc, None)?;
+        Ok(Some(after))
     }
 
     // Goes over the end of the events, within a document or not. The mark is that of the last event.

@@ -8,6 +8,9 @@ use Rattle.yaml_read.proofs.loader.draft.Draft.alias.Goals as goal
 pub returns : goal.returns
 returns c =
     let e = alias c.args.anchor in
-    takes e c.args.mark c.args.self.now _ _ c.place-place.result refl c.place-place.ensures refl refl
-    c.in_ok-push.ensures.items (c.in_ok-target.ensures.named ∙ sym (append-nil _)) c.in_ok-target.ensures.taken
-    (λ front seen h at. c.in_ok-pass.ensures.numbers front seen (drafted e) h at refl refl)
+    λ outer clean. (
+      c.in-Some.ensures.alias outer c.args.anchor clean,
+      takes e c.args.mark c.args.self.now _ _ c.place-place.result refl c.place-place.ensures refl refl
+          c.in_ok-push.ensures.items (c.in_ok-target.ensures.named ∙ sym (append-nil _)) c.in_ok-target.ensures.taken
+          (λ front seen h at. c.in_ok-pass.ensures.numbers front seen (drafted e) h at refl refl),
+    )

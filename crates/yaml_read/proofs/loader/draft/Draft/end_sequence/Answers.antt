@@ -6,7 +6,9 @@ use Rattle.yaml_read.proofs.LoadingLaws.{takes}
 use Rattle.yaml_read.proofs.loader.draft.Draft.end_sequence.Goals as goal
 
 pub returns : goal.returns
-returns c =
-    takes sequence_end c.args.mark c.args.self.now _ _ c.place-place.result refl c.place-place.ensures refl refl
-    c.in_ok-push.ensures.items (sym (append-nil _)) (λ seen named at. ([], (refl, refl), sym (append-nil _)))
-    (λ front seen h at. c.in_ok-end.ensures.numbers front seen (drafted sequence_end) h at refl refl)
+returns c = (
+  c.in-Some.ensures.moves,
+  takes sequence_end c.args.mark c.args.self.now _ _ c.place-place.result refl c.place-place.ensures refl refl
+      c.in_ok-push.ensures.items (sym (append-nil _)) (λ seen named at. ([], (refl, refl), sym (append-nil _)))
+      (λ front seen h at. c.in_ok-end.ensures.numbers front seen (drafted sequence_end) h at refl refl),
+)

@@ -8,7 +8,10 @@ use Rattle.yaml_read.proofs.loader.draft.Draft.scalar.Goals as goal
 pub returns : goal.returns
 returns c =
     let e = scalar (scalar_of c.args.scalar) in
-    takes e c.args.mark c.args.self.now _ _ c.place-place.result refl c.place-place.ensures refl refl
-    c.in_ok-push.ensures.items c.in_ok-name.ensures.named
-    (λ seen named at. ([], (refl, refl), c.in_ok-name.ensures.aliases ∙ sym (append-nil _)))
-    (λ front seen h at. c.in_ok-pass.ensures.numbers front seen (drafted e) h at refl refl)
+    λ outer clean. (
+      c.in-Some.ensures.scalar outer (scalar_of c.args.scalar) clean,
+      takes e c.args.mark c.args.self.now _ _ c.place-place.result refl c.place-place.ensures refl refl
+          c.in_ok-push.ensures.items c.in_ok-name.ensures.named
+          (λ seen named at. ([], (refl, refl), c.in_ok-name.ensures.aliases ∙ sym (append-nil _)))
+          (λ front seen h at. c.in_ok-pass.ensures.numbers front seen (drafted e) h at refl refl),
+    )
