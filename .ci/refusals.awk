@@ -25,6 +25,27 @@ function lies_in(name, file, place, line, number, inside, above, at, found) {
     return found
 }
 
+# Whether this function of an edited file is one of the cycle's, by the attribute above it.
+function is_in_cycle(name, file, cycle, line, at, given, found) {
+    given = ""
+    found = 0
+    while ((getline line < file) > 0) {
+        if (line ~ /^ *#\[cycle\(/) {
+            given = line
+            sub(/^ *#\[cycle\(/, "", given)
+            sub(/\).*/, "", given)
+        }
+        if (match(line, /^ *(pub(\([a-z]+\))? )?(const )?fn [a-z_0-9]+/)) {
+            at = substr(line, RSTART, RLENGTH)
+            sub(/.* /, "", at)
+            if (at == name && given == cycle) found = 1
+            given = ""
+        }
+    }
+    close(file)
+    return found
+}
+
 BEGIN { wanted = split(keys, all, " ") }
 
 broken == "broken" ? /^src\/.* error\[/ : /^note: src\/.*: it is not proved that/ {
@@ -40,18 +61,26 @@ broken == "broken" ? /^src\/.* error\[/ : /^note: src\/.*: it is not proved that
     }
 }
 
-# a written answer that no longer answers its goal, told by the function's folder, or by its name where several
-# functions that call each other have one folder
-broken != "broken" && /^\.\/proofs\/.*: error: `[^`]*`: / && !/is not in scope|has no field|has no `|is no name|was not admitted|\(nearest: / {
+# a written answer that no longer answers its goal, told by the function's folder; or by its name, where functions that
+# call each other have one folder, which is the cycle's and not of the function's file, and answers in files below it
+broken != "broken" && /^\.\/proofs\/.*: error: `[^`]*`: / && !/is not in scope|has no field|has no `|is no name|was not admitted|\(nearest: |which was rejected/ {
     split($0, part, ":")
     folders = split(part[1], folder, "/")
+    cycle = ""
+    for (i = 1; i < folders; i++) if (folder[i] ~ /^\+/) cycle = substr(folder[i], 2)
     split($0, named, "`")
     for (i = 1; i <= wanted; i++) {
         split(all[i], key, ":")
-        sub(/^src\//, "./proofs/", key[1])
-        sub(/\.rt$/, "/", key[1])
-        is_its_folder = index($0, key[1]) == 1
-        if (is_its_folder && (folder[folders - 1] == key[2] || index(named[2], key[2] "-") == 1)) {
+        own = key[1]
+        sub(/^src\//, "./proofs/", own)
+        sub(/\.rt$/, "/", own)
+        is_its_folder = index($0, own) == 1
+        is_its_name = index(named[2], key[2] "-") == 1
+        if (is_its_folder && (folder[folders - 1] == key[2] || is_its_name)) {
+            print
+            exit
+        }
+        if (cycle != "" && is_its_name && is_in_cycle(key[2], key[1], cycle)) {
             print
             exit
         }

@@ -2,6 +2,7 @@
 
 ghost use Rattle.std.specs.Prelude.{◌≡◌};
 ghost use Rattle.std.specs.Option.{option_copied};
+ghost use Rattle.yaml_read.specs.CoreTags.{bool_tag, int_tag, float_tag, null_tag};
 ghost use Rattle.yaml_read.specs.DocEventView.{doc_scalar_of};
 ghost use Rattle.yaml_read.specs.ScalarShapes.{is_plain_or_tagged_literal, text_of, utf8_text};
 ghost use Rattle.yaml_read.specs.ScalarSorts.{is_plain, is_literal, is_tag, is_local, has_untaken, is_resolved};
@@ -110,20 +111,51 @@ pub(super) fn is_plain_or_tagged_literal(name: &str, taken: bool, scalar: &DocSc
     is_plain(scalar.style) || (is_literal(scalar.style) && has_untaken(name, taken, scalar))
 }
 
+// Whether the scalar has the tag of booleans, and it is not taken.
+#[tactic(auto, unfolding(crate::specs::CoreTags::bool_tag))]
+fn has_bool_tag(taken: bool, scalar: &DocScalar<'_>) -> bool
+    ensures { result ≡ has_untaken bool_tag taken (doc_scalar_of scalar.now) }
+{
+    has_untaken(Tag::BOOL, taken, scalar)
+}
+
+// Whether the scalar has the tag of integers, and it is not taken.
+#[tactic(auto, unfolding(crate::specs::CoreTags::int_tag))]
+fn has_int_tag(taken: bool, scalar: &DocScalar<'_>) -> bool
+    ensures { result ≡ has_untaken int_tag taken (doc_scalar_of scalar.now) }
+{
+    has_untaken(Tag::INT, taken, scalar)
+}
+
+// Whether the scalar has the tag of floats, and it is not taken.
+#[tactic(auto, unfolding(crate::specs::CoreTags::float_tag))]
+fn has_float_tag(taken: bool, scalar: &DocScalar<'_>) -> bool
+    ensures { result ≡ has_untaken float_tag taken (doc_scalar_of scalar.now) }
+{
+    has_untaken(Tag::FLOAT, taken, scalar)
+}
+
+// Whether the scalar has the tag of null, and it is not taken.
+#[tactic(auto, unfolding(crate::specs::CoreTags::null_tag))]
+fn has_null_tag(taken: bool, scalar: &DocScalar<'_>) -> bool
+    ensures { result ≡ has_untaken null_tag taken (doc_scalar_of scalar.now) }
+{
+    has_untaken(Tag::NULL, taken, scalar)
+}
+
 /// The row of a scalar. The flag says whether its tag is taken.
-#[tactic(auto, unfolding(crate::specs::CoreTags::bool_tag, crate::specs::CoreTags::int_tag, crate::specs::CoreTags::float_tag, crate::specs::CoreTags::null_tag))]
 pub(super) fn sort_of(taken: bool, scalar: &DocScalar<'_>) -> ScalarSort
     ensures { result ≡ sort_of taken (doc_scalar_of scalar.now) }
 {
     if text_of(scalar).is_none() {
         ScalarSort::NoText
-    } else if has_untaken(Tag::BOOL, taken, scalar) {
+    } else if has_bool_tag(taken, scalar) {
         ScalarSort::TaggedBool
-    } else if has_untaken(Tag::INT, taken, scalar) {
+    } else if has_int_tag(taken, scalar) {
         ScalarSort::TaggedInt
-    } else if has_untaken(Tag::FLOAT, taken, scalar) {
+    } else if has_float_tag(taken, scalar) {
         ScalarSort::TaggedFloat
-    } else if has_untaken(Tag::NULL, taken, scalar) {
+    } else if has_null_tag(taken, scalar) {
         ScalarSort::TaggedNull
     } else if is_resolved(taken, scalar) {
         ScalarSort::Resolved
