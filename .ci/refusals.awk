@@ -63,7 +63,8 @@ broken == "broken" ? /^src\/.* error\[/ : /^note: src\/.*: it is not proved that
 
 # a written answer that no longer answers its goal, told by the function's folder; or by its name, where functions that
 # call each other have one folder, which is the cycle's and not of the function's file, and answers in files below it
-broken != "broken" && /^\.\/proofs\/.*: error: `[^`]*`: / && !/is not in scope|has no field|has no `|is no name|was not admitted|\(nearest: |which was rejected/ {
+broken != "broken" && /^\.\/proofs\/.*: error: `[^`]*`: / &&
+    !/is not in scope|has no field|has no `|is no name|was not admitted|\(nearest: |which was rejected/ {
     split($0, part, ":")
     folders = split(part[1], folder, "/")
     cycle = ""

@@ -199,7 +199,8 @@ module _ (events : Events) (numbers : List ℕ) (seen : Input) (old : Draft) (h 
         map-append (λ (x : DocEvent × Position). (doc_event_of x.0, x.1)) h.now ((d, mark) ∷ []) in
         let taken =
         taken_more more 0 seen (marked_events_of h.now) old.anchors.aliases.items here (e, mark) (doc_event_of d)
-        (all_taken_same (find_in (anchors_in 0 seen)) more 0 seen (marked_events_of h.now) old.anchors.aliases.items again
+        (all_taken_same (find_in (anchors_in 0 seen)) more 0 seen
+        (marked_events_of h.now) old.anchors.aliases.items again
         h.taken)
         (subst (λ k. IsTaken more k e (doc_event_of d) here) from_none
         (taken_same (find_in (anchors_in 0 seen)) more (length seen) e (doc_event_of d) here here_again is)) in

@@ -1,5 +1,6 @@
 -- Each event that may stand where it stands leads the draft on.
-use Rattle.std.proofs.Common.{◌≡◌, ◌+◌, ℕ, length, List, [], ◌∷◌, ◌++◌, map, refl, sym, ◌∙◌, ap, subst, arith, append_assoc, append-nil}
+use Rattle.std.proofs.Common.{◌≡◌, ◌+◌, ℕ, length, List, [], ◌∷◌, ◌++◌, map, refl, sym, ◌∙◌, ap, subst, arith}
+use Rattle.std.proofs.Common.{append_assoc, append-nil}
 use Rattle.std.proofs.Common.{Option, Some, None, All, IsTrue, Bool, true, false, not, cond, ◌||◌}
 use Rattle.std.proofs.lemmas.List.Elements.{All-tail}
 use Rattle.yaml_base.specs.Position.{Position}

@@ -9,7 +9,8 @@ use Rattle.yaml_base.specs.PlainEvent.{PlainEvent, stream_start, stream_end, doc
 use Rattle.yaml_base.specs.PlainEvent.{scalar, sequence_start, sequence_end, mapping_start, mapping_end}
 use Rattle.yaml_read.specs.Documents.{Find, Input, becomes, known_events, or_mark, then_events, unknown_mark}
 use Rattle.yaml_read.specs.PlainDocEvent.{PlainDocEvent, alias_to}
-use Rattle.yaml_read.specs.inner.Drafts.{AreTaken, IsTaken, Settled, Waiting, aimed, drafted, is_of_node, settle, settled}
+use Rattle.yaml_read.specs.inner.Drafts.{AreTaken, IsTaken, Settled, Waiting, aimed, drafted, is_of_node, settle}
+use Rattle.yaml_read.specs.inner.Drafts.{settled}
 
 abbrev pub Marked : Type 0
 Marked = List (PlainDocEvent × Position)
@@ -78,7 +79,8 @@ settled_waiting find seen front later left a mark None place at is next = (
       (ap (slice_get (front ++ (alias_to 0, mark) ∷ later)) at ∙ get_behind front later (alias_to 0, mark))),
 )
 settled_waiting find seen front later left a mark (Some target) place at is next =
-    let es : aimed place target (front ++ (alias_to 0, mark) ∷ later) ≡ (front ++ (alias_to target, mark) ∷ []) ++ later =
+    let es : aimed place target (front ++ (alias_to 0, mark) ∷ later) ≡ (front ++ (alias_to target, mark) ∷ [])
+    ++ later =
     ap (λ n. aimed n target (front ++ (alias_to 0, mark) ∷ later)) at
     ∙ aimed_at front later (alias_to 0, mark) target
     ∙ sym (behind front later (alias_to target, mark)) in

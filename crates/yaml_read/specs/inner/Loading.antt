@@ -1,5 +1,6 @@
 -- What the events read so far, and those left, make of a draft.
-use Rattle.std.specs.Prelude.{◌≡◌, ◌≤◌, ◌<◌, ◌+◌, ℕ, List, [], ◌∷◌, ◌++◌, map, length, All, Bool, true, false, IfSome, Option}
+use Rattle.std.specs.Prelude.{◌≡◌, ◌≤◌, ◌<◌, ◌+◌, ℕ, List, [], ◌∷◌, ◌++◌, map, length, All, Bool, true, false, IfSome}
+use Rattle.std.specs.Prelude.{Option}
 use Rattle.yaml_base.specs.Position.{Position}
 use Rattle.yaml_base.specs.PlainEvent.{PlainEvent, stream_start, stream_end, document_start, document_end}
 use Rattle.yaml_base.specs.PlainFault.{PlainFault}

@@ -85,8 +85,8 @@ impl<'de> Draft<'de> {
         self.from = self.events.len();
     }
 
-    // Gives the aliases of the open document that wait their targets, up to the first unknown one, and answers the place
-    // of that one. Where none waits the anchors are not looked at.
+    // Gives the aliases of the open document that wait their targets, up to the first unknown one, and answers the
+    // place of that one. Where none waits the anchors are not looked at.
     fn settle(&mut self) -> Option<usize>
         requires from { self.old.from ≤ length self.old.events.items }
         requires within { All (λ x. self.old.from + x.1 < length self.old.events.items)

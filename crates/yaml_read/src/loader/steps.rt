@@ -2,7 +2,8 @@
 
 ghost use Rattle.std.specs.Prelude.{◌≡◌, ◌+◌, ◌≤◌, [], IfOk, List, is_some, length, true};
 ghost use Rattle.yaml_base.specs.Position.{Position};
-ghost use Rattle.yaml_base.specs.PlainEvent.{alias, document_end, document_start, mapping_end, mapping_start, scalar as scalar_event};
+ghost use Rattle.yaml_base.specs.PlainEvent.{alias, document_end, document_start, mapping_end, mapping_start};
+ghost use Rattle.yaml_base.specs.PlainEvent.{scalar as scalar_event};
 ghost use Rattle.yaml_base.specs.PlainEvent.{scalar_of, sequence_end, sequence_start};
 ghost use Rattle.yaml_read.specs.Documents.{Input, documents_of, last_mark};
 ghost use Rattle.yaml_read.specs.StreamMachine.{IsClean, is_open};

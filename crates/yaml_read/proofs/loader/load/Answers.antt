@@ -1,5 +1,6 @@
 -- The events go wrong where the machine stops, else the draft goes on with each of them.
-use Rattle.std.proofs.Common.{◌≡◌, ◌∙◌, [], IfSome, List, None, Option, Some, ap, arith, is_some, refl, subst, sym, true}
+use Rattle.std.proofs.Common.{◌≡◌, ◌∙◌, [], IfSome, List, None, Option, Some, ap, arith, is_some, refl, subst, sym}
+use Rattle.std.proofs.Common.{true}
 use Rattle.std.specs.Vec.Iter.{into_iter_items}
 use Rattle.yaml_base.specs.Position.{Position}
 use Rattle.yaml_base.specs.PlainEvent.{event_of, stream_end, stream_start}
@@ -26,7 +27,8 @@ if_some None h = tt
 if_some (Some x) h = h
 
 begins_stream : (mark : Position) (d : Draft) → Takes stream_start mark d d
-begins_stream mark d = λ fault all left rest is way. on_stream fault all left rest stream_start mark is d d refl way refl
+begins_stream mark d = λ fault all left rest is way. on_stream fault all left rest stream_start mark is d d refl
+    way refl
 
 ends_stream : (mark : Position) (d : Draft) → Takes stream_end mark d d
 ends_stream mark d = λ fault all left rest is way. on_stream fault all left rest stream_end mark is d d refl way refl
@@ -47,25 +49,38 @@ returns-in-None-clause-wrong c = λ _.
     c.match-event.draft c.match-event.next =
     elim c.match-event.branch [
       | goal.in-Scalar+in_ok-next-in-Scalar w ↦
-          rw (ap event_of w.in-Scalar.is, w.next-is, w.draft-is, w.outer-is) (w.in_ok-next-in-Scalar.ensures outer clean)
+          rw (ap event_of w.in-Scalar.is, w.next-is, w.draft-is, w.outer-is)
+          (w.in_ok-next-in-Scalar.ensures outer clean)
       | goal.in-Alias+in_ok-next-in-Alias w ↦
           rw (ap event_of w.in-Alias.is, w.next-is, w.draft-is, w.outer-is) (w.in_ok-next-in-Alias.ensures outer clean)
       | goal.in-SequenceStart+in_ok-next-in-SequenceStart w ↦
-          rw (ap event_of w.in-SequenceStart.is, w.next-is, w.draft-is, w.outer-is) (w.in_ok-next-in-SequenceStart.ensures)
+          rw (ap event_of w.in-SequenceStart.is, w.next-is, w.draft-is, w.outer-is)
+          (w.in_ok-next-in-SequenceStart.ensures)
       | goal.in-SequenceEnd+in_ok-next-in-SequenceEnd w ↦
           rw (ap event_of w.in-SequenceEnd.is, w.next-is, w.draft-is, w.outer-is) (w.in_ok-next-in-SequenceEnd.ensures)
       | goal.in-MappingStart+in_ok-next-in-MappingStart w ↦
-          rw (ap event_of w.in-MappingStart.is, w.next-is, w.draft-is, w.outer-is) (w.in_ok-next-in-MappingStart.ensures)
+          rw (ap event_of w.in-MappingStart.is, w.next-is, w.draft-is, w.outer-is)
+          (w.in_ok-next-in-MappingStart.ensures)
       | goal.in-MappingEnd+in_ok-next-in-MappingEnd w ↦
           rw (ap event_of w.in-MappingEnd.is, w.next-is, w.draft-is, w.outer-is) (w.in_ok-next-in-MappingEnd.ensures)
       | goal.in-DocumentStart w ↦
-          rw (ap event_of w.in-DocumentStart.is, w.next-is, w.draft-is, w.outer-is) (w.begin_document-next.ensures outer mark clean)
+          rw (ap event_of w.in-DocumentStart.is, w.next-is, w.draft-is, w.outer-is)
+          (w.begin_document-next.ensures outer mark clean)
       | goal.in-DocumentEnd+in_ok-next-in-DocumentEnd w ↦
-          rw (ap event_of w.in-DocumentEnd.is, w.next-is, w.draft-is, w.outer-is) (w.in_ok-next-in-DocumentEnd.ensures outer mark clean)
+          rw (ap event_of w.in-DocumentEnd.is, w.next-is, w.draft-is, w.outer-is)
+          (w.in_ok-next-in-DocumentEnd.ensures outer mark clean)
       | goal.in-StreamStart w ↦
-          rw (ap event_of w.in-StreamStart.is, w.next-is, w.draft-is, w.outer-is) (w.after_stream_start-next.ensures outer clean, if_some w.after_stream_start-next.result (begins_stream mark draft))
+          rw (ap event_of w.in-StreamStart.is, w.next-is, w.draft-is, w.outer-is) (
+            w.after_stream_start-next.ensures outer clean,
+            if_some w.after_stream_start-next.result
+                (begins_stream mark draft),
+          )
       | goal.in-StreamEnd w ↦
-          rw (ap event_of w.in-StreamEnd.is, w.next-is, w.draft-is, w.outer-is) (w.after_stream_end-next.ensures outer clean, if_some w.after_stream_end-next.result (ends_stream mark draft))
+          rw (ap event_of w.in-StreamEnd.is, w.next-is, w.draft-is, w.outer-is) (
+            w.after_stream_end-next.ensures outer clean,
+            if_some w.after_stream_end-next.result
+                (ends_stream mark draft),
+          )
     ] in
     let events = c.args.events.items in
     let i = c.events.place in
@@ -81,37 +96,44 @@ returns-in-None-clause-wrong c = λ _.
 
 pub scalar-requires : goal.scalar-requires
 scalar-requires c =
-    ready_in c.args.fault (plain_marked c.args.events.items) (plain_marked (into_iter_items c.events.rest)) c.events.draft
+    ready_in c.args.fault (plain_marked c.args.events.items)
+    (plain_marked (into_iter_items c.events.rest)) c.events.draft
     c.events.phase c.events.outer.items c.events.invariant.way
 
 pub alias-requires : goal.alias-requires
 alias-requires c =
-    ready_in c.args.fault (plain_marked c.args.events.items) (plain_marked (into_iter_items c.events.rest)) c.events.draft
+    ready_in c.args.fault (plain_marked c.args.events.items)
+    (plain_marked (into_iter_items c.events.rest)) c.events.draft
     c.events.phase c.events.outer.items c.events.invariant.way
 
 pub begin_sequence-requires-clause-ready : goal.begin_sequence-requires-clause-ready
 begin_sequence-requires-clause-ready c =
-    ready_in c.args.fault (plain_marked c.args.events.items) (plain_marked (into_iter_items c.events.rest)) c.events.draft
+    ready_in c.args.fault (plain_marked c.args.events.items)
+    (plain_marked (into_iter_items c.events.rest)) c.events.draft
     c.events.phase c.events.outer.items c.events.invariant.way
 
 pub end_sequence-requires-clause-ready : goal.end_sequence-requires-clause-ready
 end_sequence-requires-clause-ready c =
-    ready_in c.args.fault (plain_marked c.args.events.items) (plain_marked (into_iter_items c.events.rest)) c.events.draft
+    ready_in c.args.fault (plain_marked c.args.events.items)
+    (plain_marked (into_iter_items c.events.rest)) c.events.draft
     c.events.phase c.events.outer.items c.events.invariant.way
 
 pub begin_mapping-requires-clause-ready : goal.begin_mapping-requires-clause-ready
 begin_mapping-requires-clause-ready c =
-    ready_in c.args.fault (plain_marked c.args.events.items) (plain_marked (into_iter_items c.events.rest)) c.events.draft
+    ready_in c.args.fault (plain_marked c.args.events.items)
+    (plain_marked (into_iter_items c.events.rest)) c.events.draft
     c.events.phase c.events.outer.items c.events.invariant.way
 
 pub end_mapping-requires-clause-ready : goal.end_mapping-requires-clause-ready
 end_mapping-requires-clause-ready c =
-    ready_in c.args.fault (plain_marked c.args.events.items) (plain_marked (into_iter_items c.events.rest)) c.events.draft
+    ready_in c.args.fault (plain_marked c.args.events.items)
+    (plain_marked (into_iter_items c.events.rest)) c.events.draft
     c.events.phase c.events.outer.items c.events.invariant.way
 
 pub end_document-requires : goal.end_document-requires
 end_document-requires c =
-    ready_in c.args.fault (plain_marked c.args.events.items) (plain_marked (into_iter_items c.events.rest)) c.events.draft
+    ready_in c.args.fault (plain_marked c.args.events.items)
+    (plain_marked (into_iter_items c.events.rest)) c.events.draft
     c.events.phase c.events.outer.items c.events.invariant.way
 
 pub events-preserved : goal.events-preserved
@@ -124,25 +146,38 @@ events-preserved c =
     c.match-event.draft c.match-event.next =
     elim c.match-event.branch [
       | goal.in-Scalar+in_ok-next-in-Scalar w ↦
-          rw (ap event_of w.in-Scalar.is, w.next-is, w.draft-is, w.outer-is) (w.in_ok-next-in-Scalar.ensures outer clean)
+          rw (ap event_of w.in-Scalar.is, w.next-is, w.draft-is, w.outer-is)
+          (w.in_ok-next-in-Scalar.ensures outer clean)
       | goal.in-Alias+in_ok-next-in-Alias w ↦
           rw (ap event_of w.in-Alias.is, w.next-is, w.draft-is, w.outer-is) (w.in_ok-next-in-Alias.ensures outer clean)
       | goal.in-SequenceStart+in_ok-next-in-SequenceStart w ↦
-          rw (ap event_of w.in-SequenceStart.is, w.next-is, w.draft-is, w.outer-is) (w.in_ok-next-in-SequenceStart.ensures)
+          rw (ap event_of w.in-SequenceStart.is, w.next-is, w.draft-is, w.outer-is)
+          (w.in_ok-next-in-SequenceStart.ensures)
       | goal.in-SequenceEnd+in_ok-next-in-SequenceEnd w ↦
           rw (ap event_of w.in-SequenceEnd.is, w.next-is, w.draft-is, w.outer-is) (w.in_ok-next-in-SequenceEnd.ensures)
       | goal.in-MappingStart+in_ok-next-in-MappingStart w ↦
-          rw (ap event_of w.in-MappingStart.is, w.next-is, w.draft-is, w.outer-is) (w.in_ok-next-in-MappingStart.ensures)
+          rw (ap event_of w.in-MappingStart.is, w.next-is, w.draft-is, w.outer-is)
+          (w.in_ok-next-in-MappingStart.ensures)
       | goal.in-MappingEnd+in_ok-next-in-MappingEnd w ↦
           rw (ap event_of w.in-MappingEnd.is, w.next-is, w.draft-is, w.outer-is) (w.in_ok-next-in-MappingEnd.ensures)
       | goal.in-DocumentStart w ↦
-          rw (ap event_of w.in-DocumentStart.is, w.next-is, w.draft-is, w.outer-is) (w.begin_document-next.ensures outer mark clean)
+          rw (ap event_of w.in-DocumentStart.is, w.next-is, w.draft-is, w.outer-is)
+          (w.begin_document-next.ensures outer mark clean)
       | goal.in-DocumentEnd+in_ok-next-in-DocumentEnd w ↦
-          rw (ap event_of w.in-DocumentEnd.is, w.next-is, w.draft-is, w.outer-is) (w.in_ok-next-in-DocumentEnd.ensures outer mark clean)
+          rw (ap event_of w.in-DocumentEnd.is, w.next-is, w.draft-is, w.outer-is)
+          (w.in_ok-next-in-DocumentEnd.ensures outer mark clean)
       | goal.in-StreamStart w ↦
-          rw (ap event_of w.in-StreamStart.is, w.next-is, w.draft-is, w.outer-is) (w.after_stream_start-next.ensures outer clean, if_some w.after_stream_start-next.result (begins_stream mark draft))
+          rw (ap event_of w.in-StreamStart.is, w.next-is, w.draft-is, w.outer-is) (
+            w.after_stream_start-next.ensures outer clean,
+            if_some w.after_stream_start-next.result
+                (begins_stream mark draft),
+          )
       | goal.in-StreamEnd w ↦
-          rw (ap event_of w.in-StreamEnd.is, w.next-is, w.draft-is, w.outer-is) (w.after_stream_end-next.ensures outer clean, if_some w.after_stream_end-next.result (ends_stream mark draft))
+          rw (ap event_of w.in-StreamEnd.is, w.next-is, w.draft-is, w.outer-is) (
+            w.after_stream_end-next.ensures outer clean,
+            if_some w.after_stream_end-next.result
+                (ends_stream mark draft),
+          )
     ] in
     let moves = rw c.in-Some-next.is at told.0 in
     let events = c.args.events.items in
@@ -166,8 +201,10 @@ events-preserved c =
           run_plain events i x state within c.events.invariant.ran
           ∙ ap (λ (y : Event × Position). next_state state (event_of y.0)) parts.0 ∙ moves.0;
       way =
-          on_way (open_behind e) (is_inside after) c.args.fault (plain_marked events) rest c.match-event.draft (sym turn.1)
-          ((rw c.in-Some-next.is at told.1) c.args.fault (plain_marked events) left rest (ap plain_marked c.in-Some.ensures.items)
+          on_way (open_behind e) (is_inside after) c.args.fault (plain_marked events) rest c.match-event.draft
+          (sym turn.1)
+          ((rw c.in-Some-next.is at told.1) c.args.fault (plain_marked events) left rest
+          (ap plain_marked c.in-Some.ensures.items)
           (on_way (is_inside state) (open_before e) c.args.fault (plain_marked events) left c.events.draft turn.0
           c.events.invariant.way));
     }
