@@ -1,0 +1,9 @@
+//! Tests that what is written reads back, by the public calls of the writer and of the reader.
+#![tactic(auto)]
+
+#[cfg(test)]
+mod again;
+#[cfg(test)]
+mod renderer;
+#[cfg(test)]
+mod shapes;

@@ -1,0 +1,31 @@
+-- How data that was written comes back from a parser, and reads back.
+use Rattle.std.specs.Prelude.{◌≡◌, ℕ, List, [], ◌∷◌, ◌++◌, None, Ok, IsTrue}
+use Rattle.yaml_base.specs.EmitEvents.{PlainEmit, emit_stream_start, emit_stream_end}
+use Rattle.yaml_base.specs.EmitTree.{EmitNode, emit_documents_events}
+use Rattle.yaml_base.specs.Renders.{Renders}
+use Rattle.yaml_shape.specs.PlainData.{PlainData}
+use Rattle.yaml_shape.specs.PlainShape.{PlainShape}
+use Rattle.yaml_read.specs.Documents.{Input}
+use Rattle.yaml_read.specs.MarkedEvents.{events_in}
+use Rattle.yaml_read.specs.TreeReader.{PlainLimits}
+use Rattle.yaml_write.specs.Written.{written}
+use Rattle.serde_yaml.specs.Headline.{ReadsAs}
+use Rattle.yaml_round.specs.SameOrder.{same_data}
+
+-- the events that a stream of one document is written as
+abbrev pub written_stream : EmitNode → List PlainEmit
+written_stream root = emit_stream_start ∷ (emit_documents_events (root ∷ []) ++ emit_stream_end ∷ [])
+
+-- The events come back from a parser of what the data is written as, the only document of a stream: the same structure,
+-- tags and texts, in permitted styles, with any marks and sources.
+pub record ComesBack (table : List PlainShape) (id : ℕ) (d : PlainData) (input : Input) : Type 0 where
+  pub root : EmitNode
+  pub is_written : written table id None d ≡ Ok root
+  pub rendered : Renders (written_stream root) (events_in input)
+
+-- the input reads as data that is equal, with the pairs of its mappings in the same order
+pub record ReadsBack (limits : PlainLimits) (table : List PlainShape) (s : PlainShape) (input : Input)
+    (d : PlainData) : Type 0 where
+  pub found : PlainData
+  pub reads : ReadsAs limits table s input found
+  pub same : IsTrue (same_data d found)

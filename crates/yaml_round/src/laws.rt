@@ -1,0 +1,61 @@
+//! Laws of writing and reading together, each the contract of a function that does nothing.
+
+ghost use Rattle.std.specs.Prelude.{◌≡◌, ℕ, List, Option, None, Some, Ok, Result, IsTrue};
+ghost use Rattle.std.specs.Option.{is_some};
+ghost use Rattle.std.specs.Str.{is_utf8};
+ghost use Rattle.yaml_base.specs.AskedStyles.{asked_style};
+ghost use Rattle.yaml_base.specs.PlainEvent.{PlainScalar};
+ghost use Rattle.yaml_base.specs.Renders.{RendersScalar};
+ghost use Rattle.yaml_base.specs.declared.error.Cause.{Cause};
+ghost use Rattle.yaml_shape.specs.EqualData.{EqualData};
+ghost use Rattle.yaml_shape.specs.PlainData.{PlainData, any_data};
+ghost use Rattle.yaml_shape.specs.PlainShape.{PlainShape, any_shape, str_shape, shape_at};
+ghost use Rattle.yaml_shape.specs.Validity.{IsValidSchema};
+ghost use Rattle.yaml_tree.specs.Tree.{string};
+ghost use Rattle.yaml_read.specs.DocTree.{DocNode, word};
+ghost use Rattle.yaml_read.specs.Documents.{Input};
+ghost use Rattle.yaml_read.specs.Meaning.{Means};
+ghost use Rattle.yaml_read.specs.ScalarShapes.{lent_text};
+ghost use Rattle.yaml_read.specs.TreeReader.{PlainLimits};
+ghost use Rattle.serde_yaml.specs.StreamReads.{InputGives};
+ghost use Rattle.yaml_round.specs.Fits.{Fits};
+ghost use Rattle.yaml_round.specs.Held.{IsHeld, is_table};
+ghost use Rattle.yaml_round.specs.ReadsBack.{ComesBack, ReadsBack};
+ghost use Rattle.yaml_round.specs.SameOrder.{same_data};
+
+use serde_yaml::laws::reading_gives_the_meaning;
+
+/// A string as it is written, under a tag that is taken or under none, and rendered in any permitted style, means that
+/// string: as a text, and as any value.
+pub fn a_written_string_means_itself()
+    ensures text { (table : List PlainShape) (root : DocNode) (tag : Option (List ℕ)) (text : List ℕ)
+        (w : PlainScalar) → IsTrue (is_utf8 text) → RendersScalar tag text (asked_style text) w
+        → Means table root str_shape (word w) (is_some tag) (lent_text w text) 0 0 }
+    ensures any { (table : List PlainShape) (root : DocNode) (tag : Option (List ℕ)) (text : List ℕ)
+        (w : PlainScalar) → IsTrue (is_utf8 text) → RendersScalar tag text (asked_style text) w
+        → Means table root any_shape (word w) (is_some tag) (any_data (string text)) 0 0 }
+{}
+
+/// Data that fits, written as the only document of a stream and rendered in any permitted styles, reads back equal,
+/// with the pairs of its mappings in the same order, however few follows are allowed. That texts are UTF-8 and that
+/// characters are characters is asked of the plain data, as it holds of all data in memory.
+pub fn written_data_reads_back()
+    ensures reads { (limits : PlainLimits) (table : List PlainShape) (id : ℕ) (s : PlainShape) (d : PlainData)
+        (input : Input)
+        → IsValidSchema table → IsTrue (is_table table) → shape_at table id ≡ Some s → IsHeld d
+        → Fits limits.nesting table id d → ComesBack table id d input → ReadsBack limits table s input d }
+
+    // So what `Deserializer::from_events` takes, and `Deserializer::deserialize_limited` then gives, is that data.
+    ensures given { (limits : PlainLimits) (table : List PlainShape) (id : ℕ) (s : PlainShape) (d : PlainData)
+        (input : Input) (given : Result PlainData Cause)
+        → IsValidSchema table → IsTrue (is_table table) → shape_at table id ≡ Some s → IsHeld d
+        → Fits limits.nesting table id d → ComesBack table id d input → InputGives limits table s input None given
+        → (found : PlainData) × (given ≡ Ok found) × IsTrue (same_data d found) }
+{
+    reading_gives_the_meaning();
+}
+
+/// Data that is equal with the pairs of its mappings in one order is equal.
+pub fn equal_in_one_order_is_equal()
+    ensures { (a b : PlainData) → IsTrue (same_data a b) → EqualData a b }
+{}

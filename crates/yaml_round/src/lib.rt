@@ -1,0 +1,5 @@
+//! What is written reads back: laws over `yaml_write` and `serde_yaml` together.
+#![tactic(auto)]
+
+pub mod held;
+pub mod laws;
