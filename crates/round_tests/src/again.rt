@@ -84,7 +84,11 @@ fn check(rt: &(impl Abort + AllocGlobal), rows: &[Row]) -> Result<(), Fail> {
     let alloc = rt.alloc();
     let schema = schema(alloc)?;
     for &(id, node, expected) in rows {
-        assert_eq!(rt; told(alloc, &schema, id, node)?.as_str(), expected, "{node}");
+        assert_eq!(rt;
+            told(alloc, &schema, id, node)?.as_str(),
+            expected,
+            "{node}"
+        );
         let events = written_again(alloc, &schema, id, node)?;
         for turn in 0..TURNS {
             let text = read_again(alloc, &schema, id, &events, turn)?;

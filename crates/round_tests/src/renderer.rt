@@ -42,11 +42,7 @@ fn tag(alloc: Global, text: &Option<String>) -> Result<Option<Tag>, AllocError> 
 }
 
 // A scalar in the style of a turn.
-fn scalar(
-    alloc: Global,
-    asked: &EmitScalar,
-    turn: usize,
-) -> Result<Scalar<'static>, AllocError> {
+fn scalar(alloc: Global, asked: &EmitScalar, turn: usize) -> Result<Scalar<'static>, AllocError> {
     Ok(Scalar {
         anchor: None,
         tag: tag(alloc, &asked.tag)?,

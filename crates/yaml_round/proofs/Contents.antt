@@ -32,7 +32,8 @@ use Rattle.yaml_round.proofs.LocalNames.{is_local-local_tag, is_local-value_tag}
 use Rattle.yaml_round.proofs.Outcomes.{same_answer, made_ok, tag_of}
 use Rattle.yaml_round.proofs.RenderedTrees.{IsRendered}
 use Rattle.yaml_round.proofs.ScalarLeaves.{signed_within, unsigned_within, number_within}
-use Rattle.yaml_round.proofs.ShapesOfData.{signed_is, unsigned_is, option_is, newtype_is, variant_is, passes_there, shape_there}
+use Rattle.yaml_round.proofs.ShapesOfData.{signed_is, unsigned_is, option_is, newtype_is, variant_is, passes_there}
+use Rattle.yaml_round.proofs.ShapesOfData.{shape_there}
 use Rattle.yaml_round.proofs.TagsWritten.{data_has_tag, tuple_has_tag, struct_has_tag}
 use Rattle.yaml_round.proofs.ValuesReturn.{value_has_tag}
 

@@ -71,7 +71,8 @@ all_pass test (x ∷ xs) h =
 pub found_is_held : (r : Option (Bor Shape)) (o : Option PlainShape) (s : PlainShape)
     → option_map (λ s. shape_of s.now) r ≡ o → o ≡ Some s → is_table_shape s ≡ true
 found_is_held None o s h is = absurd (none-some s (h ∙ is))
-found_is_held (Some b) o s h is = let e : shape_of b.now ≡ s = same_element _ _ (h ∙ is) in rw (← e) (shape_is_held b.now)
+found_is_held (Some b) o s h is = let e : shape_of b.now ≡ s = same_element _ _ (h ∙ is) in rw (← e)
+    (shape_is_held b.now)
 
 -- what holds below a number and of it holds below the next
 pub one_more : (P : ℕ → Type 0) (n i : ℕ) → i < n + 1 → (i < n → P i) → P n → P i

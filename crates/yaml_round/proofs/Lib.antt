@@ -1,13 +1,17 @@
 -- Lemmas of this crate.
 pub mod ByPlace
 pub mod Contents
+pub mod DataFound
 pub mod DataReturn
 pub mod Decimals
 pub mod FieldsInOrder
 pub mod HeldLaws
 pub mod LeafPresence
+pub mod LeavesReturn
+pub mod ListsReturn
 pub mod LocalNames
 pub mod Outcomes
+pub mod PartsReturn
 pub mod RenderedScalars
 pub mod RenderedTrees
 pub mod SameOrders
@@ -16,3 +20,4 @@ pub mod ShapesOfData
 pub mod StreamsReturn
 pub mod TagsWritten
 pub mod ValuesReturn
+pub mod VariantsReturn

@@ -117,7 +117,8 @@ mutual
         root = sequence_node None tag all.roots;
         tree = list tag all.trees;
         later = g.later;
-        split = f.split ∙ (λ i. f.is i ∷ (all.split ∙ ap (nodes_events all.roots) (g.split ∙ ap (λ x. x ∷ g.later) g.is)) i);
+        split = f.split ∙ (λ i. f.is i ∷
+            (all.split ∙ ap (nodes_events all.roots) (g.split ∙ ap (λ x. x ∷ g.later) g.is)) i);
         renders = g.renders;
         resolves = λ find number. ap (option_map (list tag)) (all.resolves find (number + 1));
         rendered = (all.trees, refl, all.rendered);
@@ -131,7 +132,8 @@ mutual
         root = mapping_node None tag all.roots;
         tree = mapping tag all.trees;
         later = g.later;
-        split = f.split ∙ (λ i. f.is i ∷ (all.split ∙ ap (pairs_events all.roots) (g.split ∙ ap (λ x. x ∷ g.later) g.is)) i);
+        split = f.split ∙ (λ i. f.is i ∷
+            (all.split ∙ ap (pairs_events all.roots) (g.split ∙ ap (λ x. x ∷ g.later) g.is)) i);
         renders = g.renders;
         resolves = λ find number. ap (option_map (mapping tag)) (all.resolves find (number + 1));
         rendered = (all.trees, refl, all.rendered);
@@ -149,7 +151,8 @@ mutual
     rendered = refl;
   }
   all_come (emit_node e es) rest events h =
-      let one = comes e (emit_nodes_events es ++ rest) events (joint (emit_node_events e) (emit_nodes_events es) rest events h) in
+      let one = comes e (emit_nodes_events es ++ rest) events
+      (joint (emit_node_events e) (emit_nodes_events es) rest events h) in
       let all = all_come es rest one.later one.renders in
       record {
         roots = tree.node one.root all.roots;
@@ -157,7 +160,8 @@ mutual
         later = all.later;
         split = one.split ∙ ap (node_events one.root) all.split;
         renders = all.renders;
-        resolves = λ find number. λ i. nodes_of (one.resolves find number i) (all.resolves find (number + size_of one.root) i);
+        resolves = λ find number. λ i. nodes_of (one.resolves find number i)
+            (all.resolves find (number + size_of one.root) i);
         rendered = (one.tree, all.trees, refl, one.rendered, all.rendered);
       }
 

@@ -1,7 +1,8 @@
 -- Which shape data has: what the test of each kind of data says of the shape.
 use Rattle.std.specs.Prelude.{Bool, true, ◌⊎◌, slice_get}
 use Rattle.std.proofs.Common.{◌≡◌, ℕ, ℤ, List, Option, Some, None, refl, inl, inr}
-use Rattle.yaml_shape.specs.HasShape.{has_shape, passes, is_any, is_bool, is_char, takes_signed, takes_unsigned, is_text}
+use Rattle.yaml_shape.specs.HasShape.{has_shape, passes, is_any, is_bool, is_char, takes_signed, takes_unsigned}
+use Rattle.yaml_shape.specs.HasShape.{is_text}
 use Rattle.yaml_shape.specs.HasShape.{on_option, is_unit, on_newtype, on_seq, on_tuple, on_map, on_struct}
 use Rattle.yaml_shape.specs.HasShape.{on_variant, is_ignored, is_unit_data}
 use Rattle.yaml_shape.specs.PlainData.{PlainData, any_data, bool_data, char_data, signed_data, unsigned_data, text_data}

@@ -186,7 +186,8 @@ module _ (table : List PlainShape) (root : DocNode) where
           same = refl;
         }
     pairs_return (pair k v ps) es ns is fits h r =
-        let j = joined_ok pair_before (joined pair_node (written_value None k) (written_value None v)) (written_pairs ps)
+        let j = joined_ok pair_before (joined pair_node (written_value None k) (written_value None v))
+        (written_pairs ps)
         es h in
         let i = joined_ok pair_node (written_value None k) (written_value None v) j.0 j.2 in
         let made : es ≡ emit_pair i.0 i.1 j.1 = j.4 ∙ ap (λ p. pair_before p j.1) i.4 in

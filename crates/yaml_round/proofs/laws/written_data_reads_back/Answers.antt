@@ -9,5 +9,8 @@ returns-clause-reads c = λ limits table id s d input valid named is held fits b
 
 pub returns-clause-given : goal.returns-clause-given
 returns-clause-given c = λ limits table id s d input given valid named is held fits back gives.
-    let r = reads_back limits table id s d input valid named is held fits back in
-    (r.found, (c.reading_gives_the_meaning.ensures limits table s input _ given gives).only r.found refl r.reads, r.same)
+    let r = reads_back limits table id s d input valid named is held fits back in (
+      r.found,
+      (c.reading_gives_the_meaning.ensures limits table s input _ given gives).only r.found refl r.reads,
+      r.same,
+    )
