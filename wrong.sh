@@ -37,8 +37,7 @@ work=$(mktemp -d)
 trap 'rm -rf "$work"' EXIT
 trap 'exit 1' HUP INT TERM
 
-# Lists the edits, and proves the crates as they stand, since a refusal of an edit says nothing of a crate that is
-# refused itself.
+# Lists the edits, and the crates that they are of.
 proved=' '
 for named in "$@"; do
     name=${named%%/*}
@@ -56,12 +55,34 @@ for named in "$@"; do
     case $proved in
         *" $name "*) continue ;;
     esac
-    if ! (cd "crates/$name" && rt check) > "$work/log" 2>&1; then
-        echo "$name: it is not proved without an edit"
-        tail -n 3 "$work/log"
-        exit 1
-    fi
     proved="$proved$name "
+done
+
+# Proves crates as they stand until none is left that no other job has taken, since a refusal of an edit says nothing
+# of a crate that is refused itself.
+prove_crates() {
+    for name in $proved; do
+        mkdir "$work/proof.$name" 2> /dev/null || continue
+        (cd "crates/$name" && rt check --jobs 1) > "$work/proof.$name/log" 2>&1 || : > "$work/proof.$name/failed"
+    done
+}
+
+# Runs a step in each job.
+run_jobs() {
+    job=0
+    while [ "$job" -lt "$jobs" ]; do
+        job=$((job + 1))
+        "$1" "$job" &
+    done
+    wait
+}
+
+run_jobs prove_crates
+for name in $proved; do
+    [ -e "$work/proof.$name/failed" ] || continue
+    echo "$name: it is not proved without an edit"
+    tail -n 3 "$work/proof.$name/log"
+    exit 1
 done
 
 # Copies the crate $1 to the tree $2: its files, and links to the work that is kept, which a check replaces and never
@@ -133,6 +154,47 @@ copy_tree() {
     done
 }
 
+# Prints the full names of the functions of the crate $1 that the others name as FILE:NAME, each told by the end of its
+# name, and where several end so by the file; nothing where one of them is not told.
+full_names() {
+    crate=$1
+    shift
+    for key in "$@"; do
+        name=${key##*:}
+        module=$(printf '%s\n' "${key%%:*}" | sed 's|^src/||; s|\.rt$||; s|/|::|g')
+        awk -v name="::$name" -v own="$crate::$module::$name" '
+            /^(fn|checked) / {
+                full = $2
+                sub(/[:,]$/, "", full)
+                if (substr(full, length(full) - length(name) + 1) == name && !(full in seen)) {
+                    seen[full] = 1
+                    count++
+                    one = full
+                }
+                if (full == own) exact = full
+            }
+            END {
+                if (exact != "") print exact
+                else if (count == 1) print one
+                else print "?"
+            }' "$work/proof.$crate/log"
+    done | awk '{ if ($0 == "?") unknown = 1; names = names " " $0 } END { if (!unknown) print names }'
+}
+
+# Checks the functions of the edited crate that the second and later arguments name, alone, in the folder of the crate,
+# and prints the goal that refused one of them; nothing where none did, or where they are not told by their names.
+refused_alone() {
+    crate=$1
+    shift
+    names=$(full_names "$crate" "$@")
+    [ -n "$names" ] || return
+    for full in $names; do
+        rt check --jobs 1 --only "$full" 2>&1
+    done > "$tree/log"
+    ! grep -q ' error\[' "$tree/log" || return
+    awk -v keys="$*" -v broken=alone -f "$root/.ci/refusals.awk" < "$tree/log" | cut -c 1-200
+}
+
 # Tries batches until none is left that no other job has taken. An edit is left for later that no goal of a function
 # that it changes refuses; one that breaks types or borrows there is left to be tried alone.
 try_batches() {
@@ -149,7 +211,23 @@ try_batches() {
                 echo "crates/$name/$edit" >> "$work/alone"
             fi
         done < "$tree/batch"
-        rt check --jobs 1 > "$tree/log" 2>&1
+        # a small batch is first tried by its functions alone
+        if [ "$(wc -l < "$tree/made")" -le 2 ]; then
+            : > "$tree/left"
+            while read -r edit keys; do
+                # shellcheck disable=SC2086
+                found=$(refused_alone "$name" $keys)
+                if [ -n "$found" ]; then
+                    say "$name: $(basename "$edit" .edit): refused: $found"
+                else
+                    printf '%s %s\n' "$edit" "$keys" >> "$tree/left"
+                fi
+            done < "$tree/made"
+            mv "$tree/left" "$tree/made"
+        fi
+        if [ -s "$tree/made" ]; then
+            rt check --jobs 1 > "$tree/log" 2>&1
+        fi
         ended=alone
         ! grep -q ' error\[' "$tree/log" || ended=broken
         while read -r edit keys; do
@@ -177,8 +255,14 @@ try_edits() {
         mkdir "$work/$name.$(basename "$edit")" 2> /dev/null || continue
         cd "$tree/crates/$name" || exit 1
         if why=$(awk -f "$root/.ci/apply.awk" "$root/$edit"); then
-            rt check --jobs 1 > "$tree/log" 2>&1
-            line=$(verdict $? "$tree/log" "$root/$edit")
+            # shellcheck disable=SC2046
+            found=$(refused_alone "$name" $(awk -f "$root/.ci/batches.awk" "$root/$edit" | cut -d ' ' -f 3-))
+            if [ -n "$found" ]; then
+                line="refused: $found"
+            else
+                rt check --jobs 1 > "$tree/log" 2>&1
+                line=$(verdict $? "$tree/log" "$root/$edit")
+            fi
         else
             line="NOT READ: $why"
         fi
@@ -201,16 +285,6 @@ make_batches() {
         cut -d ' ' -f 1 "$work/batches.$name" | sort -nu | sed "s/^/$name /" >> "$work/batches"
     done
     : > "$work/alone"
-}
-
-# Runs a step in each job.
-run_jobs() {
-    job=0
-    while [ "$job" -lt "$jobs" ]; do
-        job=$((job + 1))
-        "$1" "$job" &
-    done
-    wait
 }
 
 job=0
