@@ -63,7 +63,7 @@ option_zero None = refl
 option_zero (Some s) = ap Some (raised_zero s)
 
 -- a table stands in a longer one that begins with it
-stands_first : (part back : List PlainShape) → StandsIn 0 part (part ++ back)
+pub stands_first : (part back : List PlainShape) → StandsIn 0 part (part ++ back)
 stands_first part back id within
     = ap (shape_at (part ++ back)) (same_sum id)
     ∙ (at_left part back id within ∙ sym (option_zero (shape_at part id)))

@@ -1,7 +1,8 @@
 -- The shape of a type: a table of shapes, and the number of one of them.
-use Rattle.std.specs.Prelude.{ℕ, ◌≡◌, ◌<◌, List, [], ◌∷◌, ◌++◌, length}
+use Rattle.std.specs.Prelude.{ℕ, ◌≡◌, ◌<◌, ◌+◌, List, [], ◌∷◌, ◌++◌, length}
 use Rattle.yaml_shape.specs.PlainShape.{PlainShape, any_shape, bool_shape, char_shape, integer_shape, str_shape}
-use Rattle.yaml_shape.specs.PlainShape.{unit_shape}
+use Rattle.yaml_shape.specs.PlainShape.{unit_shape, option_shape, seq_shape, map_shape, tuple_shape}
+use Rattle.yaml_shape.specs.Join.{joined, joined_all, starts_behind}
 use Rattle.yaml_shape.specs.Validity.{AllNameWithin}
 use Rattle.yaml_shape.specs.declared.shape.ShapeId.{ShapeId}
 
@@ -36,3 +37,19 @@ IsLeaf _ = ⊥
 -- the table of this shape alone
 abbrev pub leaf_start : PlainShape → Start
 leaf_start shape = with_shape [] shape
+
+-- optionals of it
+abbrev pub option_start : Start → Start
+option_start content = with_shape content.0 (option_shape content.1)
+
+-- sequences of it
+abbrev pub seq_start : Start → Start
+seq_start element = with_shape element.0 (seq_shape element.1)
+
+-- mappings from the first to the second, their tables in a row
+abbrev pub map_start : Start → Start → Start
+map_start key value = with_shape (joined key.0 value.0) (map_shape key.1 (length key.0 + value.1))
+
+-- tuples of them, their tables in a row
+abbrev pub tuple_start : List Start → Start
+tuple_start parts = with_shape (joined_all [] parts) (tuple_shape (starts_behind 0 parts))
