@@ -1,5 +1,5 @@
 -- Values built of items one by one, as a loop does it.
-use Rattle.std.proofs.Common.{◌≡◌, ℕ, List, [], ◌∷◌, ◌++◌, Bool, sym, subst, inl, inr, append_assoc, append-nil}
+use Rattle.std.proofs.Common.{ℕ, List, [], ◌∷◌, ◌++◌, sym, subst, inl, inr, append_assoc, append-nil}
 use Rattle.std.specs.Prelude.{IsTrue}
 use Rattle.yaml_tree.specs.TakeOut.{and_left, and_right}
 use Rattle.yaml_shape.specs.PlainData.{PlainData, PlainItems, no_items, item}

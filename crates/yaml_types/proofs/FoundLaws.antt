@@ -1,5 +1,5 @@
 -- Data of the shape of a type that has parts is of the kind of that shape.
-use Rattle.std.proofs.Common.{◌≡◌, ◌≢◌, ℕ, List, [], ◌∷◌, ◌++◌, length, Bool, true, false, Option, Some, refl, rules}
+use Rattle.std.proofs.Common.{◌≡◌, ◌≢◌, ℕ, List, [], ◌∷◌, ◌++◌, length, Bool, true, false, Some, refl, rules}
 use Rattle.std.proofs.Common.{sym, ◌∙◌, ap, All}
 use Rattle.std.specs.Prelude.{Box, Vec, IsTrue}
 use Rattle.std.specs.declared.alloc.Global.{Global}

@@ -38,7 +38,8 @@ module _ {T : Type 0} (written : T → PlainData) (kept : T → Type 0) where
       → AreWritten xs i made.items → data_of (Seq made) ≡ seq_written written xs
   written_all xs lent made i same end are =
       data_of-Seq made
-      ∙ ap (λ ds. seq_data (items_of ds)) (are.0 ∙ ap (map written) (take_all i xs (subst (λ l. length l ≤ i) same end)))
+      ∙ ap (λ ds. seq_data (items_of ds))
+      (are.0 ∙ ap (map written) (take_all i xs (subst (λ l. length l ≤ i) same end)))
 
 -- a key with a value as plain data
 pub entry_of-made : (key value : Data)

@@ -1,5 +1,5 @@
 -- Maps are equal again where their keys and values are.
-use Rattle.std.specs.Prelude.{◌≡◌, ℕ, List, [], ◌∷◌, ◌++◌, map, Bool, true, ◌&&◌, ◌⊎◌, refl}
+use Rattle.std.specs.Prelude.{◌≡◌, ℕ, List, [], ◌∷◌, ◌++◌, map, Bool, true, ◌&&◌, refl}
 use Rattle.std.proofs.Common.{sym, ◌∙◌, ap, subst, inl, inr, append_assoc, append-nil}
 use Rattle.std.specs.declared.cmp.Ordering.{Ordering}
 use Rattle.std.specs.declared.cmp.Ordering.TheVariants.{Less, Equal, Greater}
@@ -113,7 +113,7 @@ module _ {K V : Type 0} (one : K → PlainData) (two : V → PlainData) (built :
   entries_accepted law law' (x ∷ pairs) (entry a c es) m e (inr r) =
       let rest = and_right (data_eq (one x.0) a) _ e in
       elim r.1 [
-        inl q ↦ law' x.1 c m (and_left _ _ rest) q
+        | inl q ↦ law' x.1 c m (and_left _ _ rest) q
         | inr q ↦ entries_accepted law law' pairs es m (and_right (data_eq (two x.1) c) _ rest) q.1
       ]
 

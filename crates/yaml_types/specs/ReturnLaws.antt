@@ -1,18 +1,17 @@
 -- Values that have parts are equal again where their parts are.
 use Rattle.std.specs.Prelude.{◌≡◌, ℕ, List, [], ◌∷◌, map, Bool, true, ◌&&◌, Option, Some, None, IfSome, All, refl}
 use Rattle.std.proofs.Common.{inl, inr}
-use Rattle.std.specs.Prelude.{◌⊎◌}
 use Rattle.std.specs.Option.{option_eq}
 use Rattle.std.specs.Cmp.Lexicographic.{pointwise}
 use Rattle.std.proofs.lemmas.List.Elements.{All-head, All-tail}
 use Rattle.yaml_tree.specs.TakeOut.{from_false, and_left, and_right}
 use Rattle.yaml_shape.specs.DataView.{items_of}
 use Rattle.yaml_shape.specs.EqualData.{data_eq, items_eq, EqualData}
-use Rattle.yaml_shape.specs.PlainData.{PlainData, PlainItems, none_data, some_data, seq_data, tuple_data, no_items, item}
-use Rattle.yaml_types.specs.BuiltParts.{BuiltOption, BuiltItems, BuiltSeq, BuiltTwo, BuiltPair, BuiltThree, BuiltTriple}
+use Rattle.yaml_shape.specs.PlainData.{PlainData, PlainItems, none_data, some_data, seq_data, tuple_data, no_items}
+use Rattle.yaml_shape.specs.PlainData.{item}
+use Rattle.yaml_types.specs.BuiltParts.{BuiltOption, BuiltItems, BuiltSeq, BuiltTwo, BuiltPair}
 use Rattle.yaml_types.specs.RefusalParts.{RefusedOption, RefusedItems, RefusedSeq, RefusedTwo, RefusedPair}
-use Rattle.yaml_types.specs.RefusalParts.{RefusedThree, RefusedTriple}
-use Rattle.yaml_types.specs.WrittenParts.{option_written, seq_written, pair_written, triple_written}
+use Rattle.yaml_types.specs.WrittenParts.{option_written, seq_written, pair_written}
 
 -- of data equal to that of a value, only values equal to it are built
 abbrev pub AreReturned : {T : Type 0} → (T → Type 0) → (T → PlainData) → (PlainData → T → Type 0) → (T → T → Bool)

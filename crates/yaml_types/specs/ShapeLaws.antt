@@ -1,5 +1,5 @@
 -- Data is of the shape of a type that has parts just where its parts are of theirs.
-use Rattle.std.proofs.Common.{◌≡◌, ◌<◌, ◌+◌, ℕ, List, [], ◌∷◌, ◌++◌, map, length, Bool, true, ◌&&◌, Some, refl, sym, ◌∙◌}
+use Rattle.std.proofs.Common.{◌≡◌, ◌<◌, ◌+◌, ℕ, List, [], ◌∷◌, ◌++◌, map, length, Bool, true, ◌&&◌, refl, ◌∙◌}
 use Rattle.std.proofs.Common.{ap, arith, All, append_assoc}
 use Rattle.std.proofs.lemmas.List.Elements.{All-nil, All-cons, All-head, All-tail, All-weaker}
 use Rattle.yaml_shape.specs.PlainShape.{PlainShape, option_shape, seq_shape, map_shape, tuple_shape, shape_at}
@@ -9,7 +9,7 @@ use Rattle.yaml_shape.specs.Validity.{AllNameWithin}
 use Rattle.yaml_shape.specs.HasShape.{passes, on_option, on_seq, on_tuple, on_map, has_shape, all_have, each_has}
 use Rattle.yaml_shape.specs.HasShape.{entries_have}
 use Rattle.yaml_shape.specs.Join.{joined, joined_all, starts_behind, StartsWithin, raised}
-use Rattle.yaml_shape.specs.Kept.{Keeps, KeepsAll}
+use Rattle.yaml_shape.specs.Kept.{KeepsAll}
 use Rattle.yaml_shape.proofs.JoinData.{keeps}
 use Rattle.yaml_shape.proofs.Stands.{stands_first, keeps_all}
 use Rattle.yaml_types.specs.Start.{Start, IsClosed, option_start, seq_start, map_start, tuple_start}

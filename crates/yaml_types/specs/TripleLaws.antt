@@ -1,5 +1,5 @@
 -- Triples are equal again where their parts are.
-use Rattle.std.specs.Prelude.{◌≡◌, ℕ, List, Bool, true, ◌&&◌, ◌⊎◌}
+use Rattle.std.specs.Prelude.{◌≡◌, ℕ, List, Bool, true, ◌&&◌}
 use Rattle.std.proofs.Common.{inl, inr}
 use Rattle.yaml_tree.specs.TakeOut.{and_left, and_right}
 use Rattle.yaml_shape.specs.EqualData.{data_eq, items_eq, EqualData}
@@ -48,7 +48,7 @@ module _ {A B C : Type 0} (one : A → PlainData) (two : B → PlainData) (three
     three_accepted law law' law'' x (item a (item b (item c no_items))) m e (inr r) =
         let rest = and_right (data_eq (one x.0) a) _ e in
         elim r.1 [
-          inl q ↦ law' x.1 b m (and_left _ _ rest) q
+          | inl q ↦ law' x.1 b m (and_left _ _ rest) q
           | inr q ↦ law'' x.2 c m (and_left _ _ (and_right (data_eq (two x.1) b) _ rest)) q.1
         ]
     three_accepted law law' law'' x no_items m e r = r

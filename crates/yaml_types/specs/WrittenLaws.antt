@@ -1,5 +1,5 @@
 -- The data of values that have parts is of their shape.
-use Rattle.std.specs.Prelude.{◌≡◌, List, [], ◌∷◌, map, Bool, true, ◌&&◌, Option, Some, None, IfSome, All, refl}
+use Rattle.std.specs.Prelude.{◌≡◌, List, [], ◌∷◌, map, true, ◌&&◌, Option, Some, None, IfSome, All, refl}
 use Rattle.std.proofs.Common.{◌∙◌}
 use Rattle.std.proofs.lemmas.List.Elements.{All-head, All-tail}
 use Rattle.yaml_shape.specs.DataView.{items_of, entries_of}

@@ -1,9 +1,9 @@
 -- The data of values that have parts.
-use Rattle.std.specs.Prelude.{List, [], ◌∷◌, map, Option, Some, None, All}
+use Rattle.std.specs.Prelude.{List, map, Option, Some, None, All}
 use Rattle.std.specs.BTreeMap.{BTreeMap, IsOrdered}
 use Rattle.std.specs.declared.cmp.Ordering.{Ordering}
 use Rattle.yaml_shape.specs.DataView.{items_of, entries_of}
-use Rattle.yaml_shape.specs.PlainData.{PlainData, PlainItems, PlainEntries, none_data, some_data, seq_data, tuple_data}
+use Rattle.yaml_shape.specs.PlainData.{PlainData, none_data, some_data, seq_data, tuple_data}
 use Rattle.yaml_shape.specs.PlainData.{map_data, no_items, item}
 
 -- nothing, or the content

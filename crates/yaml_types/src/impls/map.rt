@@ -63,7 +63,8 @@ fn build_entries<'de, K: Deserialize<'de> + Ord + Drop, V: Deserialize<'de> + Dr
 }
 
 /// A mapping. A later entry takes the place of an earlier one with its key.
-impl<'de, K: Deserialize<'de> + Ord + Drop, V: Deserialize<'de> + Drop> Deserialize<'de> for BTreeMap<K, V> {
+impl<'de, K: Deserialize<'de> + Ord + Drop, V: Deserialize<'de> + Drop> Deserialize<'de>
+    for BTreeMap<K, V> {
     ghost use Rattle.yaml_types.specs.Start.{map_start};
     ghost use Rattle.yaml_types.specs.BuiltParts.{BuiltMap};
     ghost use Rattle.yaml_types.specs.RefusalParts.{RefusedMap};
@@ -131,7 +132,8 @@ impl<K: Serialize + Ord, V: Serialize> Serialize for BTreeMap<K, V> {
     }
 }
 
-impl<'de, K: RoundTrip<'de> + Ord + Drop, V: RoundTrip<'de> + Drop> RoundTrip<'de> for BTreeMap<K, V> {
+impl<'de, K: RoundTrip<'de> + Ord + Drop, V: RoundTrip<'de> + Drop> RoundTrip<'de>
+    for BTreeMap<K, V> {
     ghost use Rattle.yaml_types.specs.Start.{map_start};
     ghost use Rattle.yaml_types.specs.MapLaws.{map_returned, map_accepted};
 

@@ -47,9 +47,9 @@ fn build_three<'de, A: Deserialize<'de> + Drop, B: Deserialize<'de> + Drop, C: D
     }
 }
 
-impl<'de, A: Deserialize<'de> + Drop, B: Deserialize<'de> + Drop, C: Deserialize<'de>> Deserialize<'de>
-    for (A, B, C)
-{
+impl<'de, A: Deserialize<'de> + Drop, B: Deserialize<'de> + Drop, C: Deserialize<'de>> Deserialize<
+    'de,
+> for (A, B, C) {
     ghost use Rattle.yaml_types.specs.Start.{tuple_start};
     ghost use Rattle.yaml_types.specs.BuiltParts.{BuiltTriple};
     ghost use Rattle.yaml_types.specs.RefusalParts.{RefusedTriple};
@@ -112,7 +112,8 @@ impl<A: Serialize, B: Serialize, C: Serialize> Serialize for (A, B, C) {
     }
 }
 
-impl<'de, A: RoundTrip<'de> + Drop, B: RoundTrip<'de> + Drop, C: RoundTrip<'de>> RoundTrip<'de> for (A, B, C) {
+impl<'de, A: RoundTrip<'de> + Drop, B: RoundTrip<'de> + Drop, C: RoundTrip<'de>> RoundTrip<'de>
+    for (A, B, C) {
     ghost use Rattle.yaml_types.specs.Start.{tuple_start};
     ghost use Rattle.yaml_types.specs.TripleLaws.{triple_returned, triple_accepted};
 

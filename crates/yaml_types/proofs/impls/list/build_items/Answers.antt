@@ -1,5 +1,5 @@
 -- Each item is built in its turn.
-use Rattle.std.proofs.Common.{◌≡◌, [], subst, ap, sym, arith}
+use Rattle.std.proofs.Common.{subst, sym, arith}
 use Rattle.yaml_shape.specs.DataView.{data_of, items_view}
 use Rattle.yaml_shape.proofs.PartLaws.{empty}
 use Rattle.yaml_types.proofs.BuildLaws.{IsBuilding, building_more, building_all}
@@ -23,6 +23,9 @@ returns-clause-ok g c =
     c.loop-item.values.items
     (subst (λ rest. IsBuilding g.T.Deserialize.start g.T.Deserialize.built g.T.Deserialize.refused
     (items_view c.args.items.items) c.loop-item.values.items (items_view rest))
-    (empty c.loop-item.item-iterator.rest.items (omega (arith, c.loop-item.item-iterator.rest.ok.0,
-    c.in-None.ensures.steps.0)))
+    (empty c.loop-item.item-iterator.rest.items (omega (
+      arith,
+      c.loop-item.item-iterator.rest.ok.0,
+      c.in-None.ensures.steps.0,
+    )))
     c.loop-item.invariant)

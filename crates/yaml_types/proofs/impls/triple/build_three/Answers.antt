@@ -69,8 +69,11 @@ unreachable-requires-in_default-next-2 g c =
     let second = next_of g.B.Deserialize.start (g.C.Deserialize.start ∷ []) c.next.new.self.rest.items
     c.next-2.new.self.rest.items c.in-Some-next.second c.in-Some-next.ensures.items first.1 in
     some_left g.C.Deserialize.start [] c.next-2.new.self.rest.items
-    (empty c.next-2.new.self.rest.items (omega (arith, c.next-2.new.self.rest.ok.0,
-    c.in_default-next-2.ensures.cases.0)))
+    (empty c.next-2.new.self.rest.items (omega (
+      arith,
+      c.next-2.new.self.rest.ok.0,
+      c.in_default-next-2.ensures.cases.0,
+    )))
     second.1
 
 pub build-requires-3 : goal.build-requires-3

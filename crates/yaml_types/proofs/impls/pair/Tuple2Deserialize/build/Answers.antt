@@ -1,6 +1,6 @@
 -- Data of the shape is a tuple, whose elements are of theirs.
 use Rattle.std.proofs.Common.{[], ◌∷◌, refl}
-use Rattle.yaml_types.specs.Start.{IsClosed, tuple_start}
+use Rattle.yaml_types.specs.Start.{IsClosed}
 use Rattle.yaml_types.specs.StartLaws.{both_closed}
 use Rattle.yaml_types.proofs.FoundLaws.{not_tuple, parts_found}
 use Rattle.yaml_types.proofs.impls.pair.Tuple2Deserialize.build.Goals as goal
