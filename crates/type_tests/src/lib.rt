@@ -1,0 +1,13 @@
+//! Tests of `yaml_types` by its public calls.
+#![tactic(auto)]
+
+#[cfg(test)]
+mod maps;
+#[cfg(test)]
+mod parts;
+#[cfg(test)]
+mod plain;
+#[cfg(test)]
+mod spelled;
+#[cfg(test)]
+mod turned;

@@ -1,0 +1,46 @@
+//! Maps: their order, and keys that are repeated.
+
+use super::turned::{comes_back, read, turned};
+use std::alloc::{AllocError, Global};
+use std::collections::BTreeMap;
+use std::test::Fail;
+use yaml_shape::{Data, Entry, Text};
+
+// Entries from texts to integers with a sign.
+fn entries<'a>(alloc: Global, rows: &[(&'a str, i128)]) -> Result<Data<'a>, AllocError> {
+    let mut entries = Vec::with_capacity(alloc, rows.len())?;
+    for &(key, value) in rows {
+        entries.push(Entry {
+            key: Data::Str(Text::Borrowed(key)),
+            value: Data::Signed(value),
+        })?;
+    }
+    Ok(Data::Map(entries))
+}
+
+const ROWS: &[(&[(&str, i128)], &str)] = &[
+    (&[], "{}"),
+    (&[("a", 1)], "{&a: 1 }"),
+    (&[("b", 2), ("a", 1), ("c", 3)], "{&a: 1 &b: 2 &c: 3 }"),
+    (&[("a", 1), ("a", 2)], "{&a: 2 }"),
+    (&[("b", 1), ("a", 2), ("b", 3), ("a", 4)], "{&a: 4 &b: 3 }"),
+];
+
+#[test]
+fn keys_ascend_and_the_last_of_a_repeated_key_counts(rt: HostRuntime) -> Result<(), Fail> {
+    for &(rows, expected) in ROWS {
+        let text = turned::<BTreeMap<String, i64>>(rt.alloc(), entries(rt.alloc(), rows)?)?;
+        assert_eq!(rt; text.as_str(), expected);
+    }
+    Ok(())
+}
+
+#[test]
+fn maps_come_back(rt: HostRuntime) -> Result<(), Fail> {
+    let alloc = rt.alloc();
+    let map = read::<BTreeMap<String, i64>>(alloc, entries(alloc, &[("b", 2), ("a", 1)])?)?;
+    assert_eq!(rt; map.len(), 2);
+    assert_eq!(rt; map.get("a").copied(), Some(1));
+    assert!(rt; comes_back(alloc, &map)?);
+    Ok(())
+}

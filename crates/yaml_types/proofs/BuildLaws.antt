@@ -1,0 +1,50 @@
+-- Values built of items one by one, as a loop does it.
+use Rattle.std.proofs.Common.{ℕ, List, [], ◌∷◌, ◌++◌, sym, subst, inl, inr, append_assoc, append-nil}
+use Rattle.std.specs.Prelude.{IsTrue}
+use Rattle.yaml_tree.specs.TakeOut.{and_left, and_right}
+use Rattle.yaml_shape.specs.PlainData.{PlainData, PlainItems, no_items, item}
+use Rattle.yaml_shape.specs.HasShape.{has_shape, all_have}
+use Rattle.yaml_types.specs.Start.{Start}
+use Rattle.yaml_types.specs.BuiltParts.{BuiltItems}
+use Rattle.yaml_types.specs.RefusalParts.{RefusedItems}
+
+-- what the rest of the items gives decides what the whole does
+pub record IsBuilding {T : Type 0} (s : Start) (built : PlainData → T → Type 0) (refused : PlainData → List ℕ → Type 0)
+    (whole : PlainItems) (values : List T) (rest : PlainItems) : Type 0 where
+  pub shaped : IsTrue (all_have s.0 s.1 rest)
+  pub rest_built : (more : List T) → BuiltItems built rest more → BuiltItems built whole (values ++ more)
+  pub rest_refused : (message : List ℕ) → RefusedItems built refused rest message
+      → RefusedItems built refused whole message
+
+module _ {T : Type 0} (s : Start) (built : PlainData → T → Type 0) (refused : PlainData → List ℕ → Type 0)
+    (whole : PlainItems) where
+  -- at first
+  pub building_none : IsTrue (all_have s.0 s.1 whole) → IsBuilding s built refused whole [] whole
+  building_none h = record { shaped = h; rest_built = λ more b. b; rest_refused = λ message r. r }
+
+  -- one more
+  pub building_more : (values : List T) (d : PlainData) (ds : PlainItems) (x : T)
+      → IsBuilding s built refused whole values (item d ds) → built d x
+      → IsBuilding s built refused whole (values ++ x ∷ []) ds
+  building_more values d ds x are b = record {
+    shaped = and_right (has_shape s.0 s.1 d) _ are.shaped;
+    rest_built = λ more h. subst (BuiltItems built whole) (sym (append_assoc values (x ∷ []) more))
+        (are.rest_built (x ∷ more) (b, h));
+    rest_refused = λ message h. are.rest_refused message (inr ((x, b), h));
+  }
+
+  -- all
+  pub building_all : (values : List T) → IsBuilding s built refused whole values no_items
+      → BuiltItems built whole values
+  building_all values are = subst (BuiltItems built whole) (append-nil values) (are.rest_built [] tt)
+
+  -- the next is refused
+  pub building_refused : (values : List T) (d : PlainData) (ds : PlainItems) (message : List ℕ)
+      → IsBuilding s built refused whole values (item d ds) → refused d message
+      → RefusedItems built refused whole message
+  building_refused values d ds message are r = are.rest_refused message (inl r)
+
+  -- the next is of the shape
+  pub next_shaped : (values : List T) (d : PlainData) (ds : PlainItems)
+      → IsBuilding s built refused whole values (item d ds) → IsTrue (has_shape s.0 s.1 d)
+  next_shaped values d ds are = and_left (has_shape s.0 s.1 d) _ are.shaped

@@ -1,0 +1,96 @@
+-- The data of values one by one, as a loop makes it.
+use Rattle.std.proofs.Common.{◌≡◌, ◌<◌, ◌≤◌, ◌+◌, ℕ, List, [], ◌∷◌, ◌++◌, map, length, take, get_or, refl, sym, ◌∙◌}
+use Rattle.std.proofs.Common.{ap, subst, All, append_assoc, append-nil, rules}
+use Rattle.std.specs.Prelude.{Vec}
+use Rattle.std.specs.declared.alloc.Global.{Global}
+use Rattle.std.proofs.lemmas.List.{map-append, take_more, take_all}
+use Rattle.std.proofs.lemmas.List.Elements.{All-more, All-nil, All-push}
+use Rattle.yaml_shape.specs.PlainData.{PlainData, seq_data, map_data}
+use Rattle.yaml_shape.specs.DataView.{data_of, items_of, entry_of, entries_of}
+use Rattle.yaml_shape.specs.declared.data.Data.{Data, Seq, Map, the_lemmas}
+use Rattle.yaml_shape.specs.declared.data.Entry.{Entry, roll-Entry}
+use Rattle.yaml_types.specs.WrittenParts.{seq_written, map_written, PairsKeep}
+use Rattle.yaml_types.proofs.FoundLaws.{data_of-Seq, data_of-Map}
+
+module _ {T : Type 0} (written : T → PlainData) (kept : T → Type 0) where
+  -- the data is that of the first values, which keep what they do
+  abbrev pub AreWritten : List T → ℕ → List Data → Type 0
+  AreWritten xs i made = (map data_of made ≡ map written (take i xs)) × All kept (take i xs)
+
+  -- one more
+  pub written_more : (xs lent : List T) (made pushed : List Data) (i : ℕ) (x : T) (d : Data) → lent ≡ xs
+      → i < length lent → x ≡ get_or lent i x → pushed ≡ made ++ d ∷ [] → data_of d ≡ written x → kept x
+      → AreWritten xs i made → AreWritten xs (i + 1) pushed
+  written_more xs lent made pushed i x d same lt is push ok keeps are =
+      let within : i < length xs = subst (λ l. i < length l) same lt in
+      let here : x ≡ get_or xs i x = is ∙ ap (λ l. get_or l i x) same in
+      let more : take (i + 1) xs ≡ take i xs ++ x ∷ [] =
+      take_more xs i x within ∙ ap (λ y. take i xs ++ y ∷ []) (sym here) in (
+        ap (map data_of) push
+            ∙ (map-append data_of made (d ∷ [])
+            ∙ ((λ t. are.0 t ++ ok t ∷ [])
+            ∙ (sym (map-append written (take i xs) (x ∷ [])) ∙ ap (map written) (sym more)))),
+        All-more kept xs i x within are.1 (subst kept here keeps),
+      )
+
+  -- all
+  pub written_all : (xs lent : List T) (made : Vec Data Global) (i : ℕ) → lent ≡ xs → length lent ≤ i
+      → AreWritten xs i made.items → data_of (Seq made) ≡ seq_written written xs
+  written_all xs lent made i same end are =
+      data_of-Seq made
+      ∙ ap (λ ds. seq_data (items_of ds))
+      (are.0 ∙ ap (map written) (take_all i xs (subst (λ l. length l ≤ i) same end)))
+
+-- a key with a value as plain data
+pub entry_of-made : (key value : Data)
+    → entry_of (roll-Entry record { key = key; value = value }) ≡ (data_of key, data_of value)
+entry_of-made key value = search (rules, the_lemmas)
+
+module _ {K V : Type 0} (one : K → PlainData) (two : V → PlainData) (key : K → Type 0) (value : V → Type 0) where
+  -- the data is that of the first pairs, which keep what they do, and others are left
+  pub record AreListed (whole : List (K × V)) (made : List Entry) (rest : List (K × V)) : Type 0 where
+    pub front : List (K × V)
+    pub row : front ++ rest ≡ whole
+    pub written : map entry_of made ≡ map (λ p. (one p.0, two p.1)) front
+    pub keep : PairsKeep key value front
+
+  -- at first
+  pub listed_none : (whole : List (K × V)) → AreListed whole [] whole
+  listed_none whole = record {
+    front = [];
+    row = refl;
+    written = refl;
+    keep = All-nil (λ p. key p.0 × value p.1);
+  }
+
+  -- one more
+  pub listed_more : (whole left rest : List (K × V)) (made pushed : List Entry) (k : K) (v : V) (e : Entry)
+      → left ≡ (k, v) ∷ rest → pushed ≡ made ++ e ∷ [] → entry_of e ≡ (one k, two v) → key k → value v
+      → AreListed whole made left → AreListed whole pushed rest
+  listed_more whole left rest made pushed k v e next push is kk kv are = record {
+    front = are.front ++ (k, v) ∷ [];
+    row = append_assoc are.front ((k, v) ∷ []) rest ∙ (ap (λ l. are.front ++ l) (sym next) ∙ are.row);
+    written = ap (map entry_of) push
+        ∙ (map-append entry_of made (e ∷ [])
+        ∙ ((λ t. are.written t ++ is t ∷ []) ∙ sym (map-append (λ p. (one p.0, two p.1)) are.front ((k, v) ∷ []))));
+    keep = All-push (λ p. key p.0 × value p.1) are.front (k, v) are.keep (kk, kv);
+  }
+
+  all_listed : (whole rest : List (K × V)) (made : Vec Entry Global) → rest ≡ []
+      → (are : AreListed whole made.items rest) → are.front ≡ whole
+  all_listed whole rest made none are =
+      sym (append-nil are.front) ∙ (ap (λ l. are.front ++ l) (sym none) ∙ are.row)
+
+  -- all
+  pub listed_all : (whole rest : List (K × V)) (made : Vec Entry Global) → rest ≡ []
+      → AreListed whole made.items rest → data_of (Map made) ≡ map_written one two whole
+  listed_all whole rest made none are =
+      data_of-Map made
+      ∙ ap (λ es. map_data (entries_of es))
+      (are.written ∙ ap (map (λ p. (one p.0, two p.1))) (all_listed whole rest made none are))
+
+  -- all keep what they do
+  pub listed_keep : (whole rest : List (K × V)) (made : Vec Entry Global) → rest ≡ []
+      → AreListed whole made.items rest → PairsKeep key value whole
+  listed_keep whole rest made none are =
+      subst (PairsKeep key value) (all_listed whole rest made none are) are.keep

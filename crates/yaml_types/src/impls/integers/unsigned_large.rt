@@ -1,0 +1,203 @@
+//! Integers without a sign, of 64 and 128 bits and of the machine's width, 64 bits.
+
+use crate::fault::BuildFault;
+use crate::leaf::leaf_schema;
+use crate::traits::{Deserialize, RoundTrip, Serialize};
+use std::alloc::Global;
+use yaml_base::Error;
+use yaml_shape::{Data, Schema, SchemaFault, Shape, ShapeId};
+
+impl<'de> Deserialize<'de> for u64 {
+    ghost use Rattle.yaml_shape.specs.PlainShape.{integer_shape, u64};
+    ghost use Rattle.yaml_types.specs.Start.{leaf_start};
+    ghost use Rattle.yaml_types.specs.Built.{BuiltUnsigned};
+    ghost use Rattle.yaml_types.specs.Refusal.{NeverRefused};
+    ghost use Rattle.yaml_types.specs.StartLaws.{closed_leaf};
+
+    ghost start = { leaf_start (integer_shape u64) };
+
+    ghost built = { BuiltUnsigned };
+
+    ghost refused = { NeverRefused };
+
+    ghost closed = { closed_leaf (integer_shape u64) tt };
+
+    fn schema(alloc: Global) -> Result<(Schema, ShapeId), SchemaFault> {
+        leaf_schema(alloc, Shape::U64)
+    }
+
+    fn build(_alloc: Global, found: Data<'de>) -> Result<u64, BuildFault> {
+        match found {
+            Data::Unsigned(n) => Ok(n as u64),
+            _ => unreachable!(),
+        }
+    }
+}
+
+impl Serialize for u64 {
+    ghost use Rattle.std.specs.Prelude.{pos, IsTrue};
+    ghost use Rattle.yaml_shape.specs.PlainShape.{integer_shape, u64};
+    ghost use Rattle.yaml_shape.specs.PlainData.{unsigned_data};
+    ghost use Rattle.yaml_shape.specs.IntegerTypes.{is_of_type};
+    ghost use Rattle.yaml_types.specs.Start.{leaf_start};
+    ghost use Rattle.yaml_types.specs.StartLaws.{closed_leaf};
+
+    ghost start = { leaf_start (integer_shape u64) };
+
+    ghost kept = { λ n. IsTrue (is_of_type u64 (pos n)) };
+
+    ghost written = { unsigned_data };
+
+    ghost closed = { closed_leaf (integer_shape u64) tt };
+
+    ghost of_shape = { λ _ within. within };
+
+    fn schema(alloc: Global) -> Result<(Schema, ShapeId), SchemaFault> {
+        leaf_schema(alloc, Shape::U64)
+    }
+
+    fn to_data<'a>(&'a self, _alloc: Global) -> Result<Data<'a>, Error> {
+        Ok(Data::Unsigned(*self as u128))
+    }
+}
+
+impl<'de> RoundTrip<'de> for u64 {
+    ghost use Rattle.std.specs.Prelude.{refl};
+    ghost use Rattle.yaml_types.specs.PlainLaws.{unsigned_returned};
+
+    ghost one_schema = { refl };
+
+    ghost returned = { λ x y d _ equal built. unsigned_returned x y d equal built };
+
+    ghost accepted = { λ _ _ _ _ refused. refused };
+}
+
+impl<'de> Deserialize<'de> for u128 {
+    ghost use Rattle.yaml_shape.specs.PlainShape.{integer_shape, u128};
+    ghost use Rattle.yaml_types.specs.Start.{leaf_start};
+    ghost use Rattle.yaml_types.specs.Built.{BuiltUnsigned};
+    ghost use Rattle.yaml_types.specs.Refusal.{NeverRefused};
+    ghost use Rattle.yaml_types.specs.StartLaws.{closed_leaf};
+
+    ghost start = { leaf_start (integer_shape u128) };
+
+    ghost built = { BuiltUnsigned };
+
+    ghost refused = { NeverRefused };
+
+    ghost closed = { closed_leaf (integer_shape u128) tt };
+
+    fn schema(alloc: Global) -> Result<(Schema, ShapeId), SchemaFault> {
+        leaf_schema(alloc, Shape::U128)
+    }
+
+    fn build(_alloc: Global, found: Data<'de>) -> Result<u128, BuildFault> {
+        match found {
+            Data::Unsigned(n) => Ok(n),
+            _ => unreachable!(),
+        }
+    }
+}
+
+impl Serialize for u128 {
+    ghost use Rattle.std.specs.Prelude.{pos, IsTrue};
+    ghost use Rattle.yaml_shape.specs.PlainShape.{integer_shape, u128};
+    ghost use Rattle.yaml_shape.specs.PlainData.{unsigned_data};
+    ghost use Rattle.yaml_shape.specs.IntegerTypes.{is_of_type};
+    ghost use Rattle.yaml_types.specs.Start.{leaf_start};
+    ghost use Rattle.yaml_types.specs.StartLaws.{closed_leaf};
+
+    ghost start = { leaf_start (integer_shape u128) };
+
+    ghost kept = { λ n. IsTrue (is_of_type u128 (pos n)) };
+
+    ghost written = { unsigned_data };
+
+    ghost closed = { closed_leaf (integer_shape u128) tt };
+
+    ghost of_shape = { λ _ within. within };
+
+    fn schema(alloc: Global) -> Result<(Schema, ShapeId), SchemaFault> {
+        leaf_schema(alloc, Shape::U128)
+    }
+
+    fn to_data<'a>(&'a self, _alloc: Global) -> Result<Data<'a>, Error> {
+        Ok(Data::Unsigned(*self))
+    }
+}
+
+impl<'de> RoundTrip<'de> for u128 {
+    ghost use Rattle.std.specs.Prelude.{refl};
+    ghost use Rattle.yaml_types.specs.PlainLaws.{unsigned_returned};
+
+    ghost one_schema = { refl };
+
+    ghost returned = { λ x y d _ equal built. unsigned_returned x y d equal built };
+
+    ghost accepted = { λ _ _ _ _ refused. refused };
+}
+
+impl<'de> Deserialize<'de> for usize {
+    ghost use Rattle.yaml_shape.specs.PlainShape.{integer_shape, usize};
+    ghost use Rattle.yaml_types.specs.Start.{leaf_start};
+    ghost use Rattle.yaml_types.specs.Built.{BuiltUnsigned};
+    ghost use Rattle.yaml_types.specs.Refusal.{NeverRefused};
+    ghost use Rattle.yaml_types.specs.StartLaws.{closed_leaf};
+
+    ghost start = { leaf_start (integer_shape usize) };
+
+    ghost built = { BuiltUnsigned };
+
+    ghost refused = { NeverRefused };
+
+    ghost closed = { closed_leaf (integer_shape usize) tt };
+
+    fn schema(alloc: Global) -> Result<(Schema, ShapeId), SchemaFault> {
+        leaf_schema(alloc, Shape::Usize)
+    }
+
+    fn build(_alloc: Global, found: Data<'de>) -> Result<usize, BuildFault> {
+        match found {
+            Data::Unsigned(n) => Ok(n as usize),
+            _ => unreachable!(),
+        }
+    }
+}
+
+impl Serialize for usize {
+    ghost use Rattle.std.specs.Prelude.{pos, IsTrue};
+    ghost use Rattle.yaml_shape.specs.PlainShape.{integer_shape, usize};
+    ghost use Rattle.yaml_shape.specs.PlainData.{unsigned_data};
+    ghost use Rattle.yaml_shape.specs.IntegerTypes.{is_of_type};
+    ghost use Rattle.yaml_types.specs.Start.{leaf_start};
+    ghost use Rattle.yaml_types.specs.StartLaws.{closed_leaf};
+
+    ghost start = { leaf_start (integer_shape usize) };
+
+    ghost kept = { λ n. IsTrue (is_of_type usize (pos n)) };
+
+    ghost written = { unsigned_data };
+
+    ghost closed = { closed_leaf (integer_shape usize) tt };
+
+    ghost of_shape = { λ _ within. within };
+
+    fn schema(alloc: Global) -> Result<(Schema, ShapeId), SchemaFault> {
+        leaf_schema(alloc, Shape::Usize)
+    }
+
+    fn to_data<'a>(&'a self, _alloc: Global) -> Result<Data<'a>, Error> {
+        Ok(Data::Unsigned(*self as u128))
+    }
+}
+
+impl<'de> RoundTrip<'de> for usize {
+    ghost use Rattle.std.specs.Prelude.{refl};
+    ghost use Rattle.yaml_types.specs.PlainLaws.{unsigned_returned};
+
+    ghost one_schema = { refl };
+
+    ghost returned = { λ x y d _ equal built. unsigned_returned x y d equal built };
+
+    ghost accepted = { λ _ _ _ _ refused. refused };
+}

@@ -1,0 +1,103 @@
+//! Sequences of a type.
+
+ghost use Rattle.std.specs.Prelude.{IsTrue, IfOk, IfErr};
+ghost use Rattle.yaml_shape.specs.DataView.{items_view};
+ghost use Rattle.yaml_shape.specs.HasShape.{all_have};
+ghost use Rattle.yaml_types.specs.BuiltParts.{BuiltItems};
+ghost use Rattle.yaml_types.specs.Refusal.{IsRefusal};
+ghost use Rattle.yaml_types.specs.RefusalParts.{RefusedItems};
+
+use crate::fault::BuildFault;
+use crate::traits::{Deserialize, RoundTrip, Serialize};
+use std::alloc::Global;
+use yaml_base::Error;
+use yaml_shape::{Data, Schema, SchemaFault, ShapeId, seq_of};
+
+// The values of the items, in order.
+fn build_items<'de, T: Deserialize<'de> + Drop>(
+    alloc: Global,
+    items: Vec<Data<'de>>,
+) -> Result<Vec<T>, BuildFault>
+    requires { IsTrue (all_have T.start.0 T.start.1 (items_view items.items)) }
+    ensures ok { IfOk result (λ values. BuiltItems T.built (items_view items.entry.items) values.items) }
+    ensures refused { IfErr result (IsRefusal (RefusedItems T.built T.refused (items_view items.entry.items))) }
+{
+    let mut values = Vec::with_capacity(alloc, items.len())?;
+    for item in items {
+        match T::build(alloc, item) {
+            Ok(value) => values.push(value)?,
+            Err(fault) => return Err(fault),
+        }
+    }
+    Ok(values)
+}
+
+impl<'de, T: Deserialize<'de> + Drop> Deserialize<'de> for Vec<T> {
+    ghost use Rattle.yaml_types.specs.Start.{seq_start};
+    ghost use Rattle.yaml_types.specs.BuiltParts.{BuiltSeq};
+    ghost use Rattle.yaml_types.specs.RefusalParts.{RefusedSeq};
+    ghost use Rattle.yaml_types.specs.StartLaws.{closed_seq};
+
+    ghost start = { seq_start T.start };
+
+    ghost built = { λ d xs. BuiltSeq T.built d xs.items };
+
+    ghost refused = { RefusedSeq T.built T.refused };
+
+    ghost closed = { closed_seq T.start T.closed };
+
+    fn schema(alloc: Global) -> Result<(Schema, ShapeId), SchemaFault> {
+        let (schema, element) = T::schema(alloc)?;
+        seq_of(alloc, schema, element)
+    }
+
+    fn build(alloc: Global, found: Data<'de>) -> Result<Vec<T>, BuildFault> {
+        match found {
+            Data::Seq(items) => build_items(alloc, items),
+            _ => unreachable!(),
+        }
+    }
+}
+
+impl<T: Serialize> Serialize for Vec<T> {
+    ghost use Rattle.std.specs.Prelude.{All};
+    ghost use Rattle.yaml_types.specs.Start.{seq_start};
+    ghost use Rattle.yaml_types.specs.WrittenParts.{seq_written};
+    ghost use Rattle.yaml_types.specs.StartLaws.{closed_seq};
+    ghost use Rattle.yaml_types.specs.WrittenLaws.{seq_of_shape};
+
+    ghost start = { seq_start T.start };
+
+    ghost kept = { λ xs. All T.kept xs.items };
+
+    ghost written = { λ xs. seq_written T.written xs.items };
+
+    ghost closed = { closed_seq T.start T.closed };
+
+    ghost of_shape = { λ xs. seq_of_shape T.start T.kept T.written T.closed T.of_shape xs.items };
+
+    fn schema(alloc: Global) -> Result<(Schema, ShapeId), SchemaFault> {
+        let (schema, element) = T::schema(alloc)?;
+        seq_of(alloc, schema, element)
+    }
+
+    fn to_data<'a>(&'a self, alloc: Global) -> Result<Data<'a>, Error> {
+        let mut items = Vec::with_capacity(alloc, self.len())?;
+        for value in self {
+            items.push(value.to_data(alloc)?)?;
+        }
+        Ok(Data::Seq(items))
+    }
+}
+
+impl<'de, T: RoundTrip<'de> + Drop> RoundTrip<'de> for Vec<T> {
+    ghost use Rattle.std.proofs.Common.{ap};
+    ghost use Rattle.yaml_types.specs.Start.{seq_start};
+    ghost use Rattle.yaml_types.specs.ReturnLaws.{seq_returned, seq_accepted};
+
+    ghost one_schema = { ap seq_start T.one_schema };
+
+    ghost returned = { λ xs ys. seq_returned T.kept T.written T.built T.eq T.returned xs.items ys.items };
+
+    ghost accepted = { λ xs. seq_accepted T.written T.refused T.built T.accepted xs.items };
+}

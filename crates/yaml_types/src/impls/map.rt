@@ -1,0 +1,146 @@
+//! Maps in the order of their keys.
+
+ghost use Rattle.std.specs.Prelude.{[], IsTrue, IfOk, IfErr};
+ghost use Rattle.yaml_shape.specs.DataView.{entry_of, entries_view};
+ghost use Rattle.yaml_shape.specs.HasShape.{HasShape};
+ghost use Rattle.yaml_types.specs.BuiltParts.{BuiltBoth, BuiltEntries};
+ghost use Rattle.yaml_types.specs.PartShapes.{entries_match};
+ghost use Rattle.yaml_types.specs.Refusal.{IsRefusal};
+ghost use Rattle.yaml_types.specs.RefusalParts.{RefusedBoth, RefusedEntries};
+
+use crate::fault::BuildFault;
+use crate::traits::{Deserialize, RoundTrip, Serialize};
+use std::alloc::Global;
+use std::collections::BTreeMap;
+use yaml_base::Error;
+use yaml_shape::{Data, Entry, Schema, SchemaFault, ShapeId, map_of};
+
+// The key and the value of an entry.
+fn build_both<'de, K: Deserialize<'de> + Drop, V: Deserialize<'de>>(
+    alloc: Global,
+    pair: Entry<'de>,
+) -> Result<(K, V), BuildFault>
+    requires key { HasShape K.start.0 K.start.1 (entry_of pair).0 }
+    requires value { HasShape V.start.0 V.start.1 (entry_of pair).1 }
+    ensures ok { IfOk result (BuiltBoth K.built V.built (entry_of pair.entry)) }
+    ensures refused { IfErr result (IsRefusal (RefusedBoth K.built K.refused V.refused (entry_of pair.entry))) }
+{
+    let Entry { key, value } = pair;
+    let key = match K::build(alloc, key) {
+        Ok(key) => key,
+        Err(fault) => {
+            drop(value);
+            return Err(fault);
+        }
+    };
+    match V::build(alloc, value) {
+        Ok(value) => Ok((key, value)),
+        Err(fault) => Err(fault),
+    }
+}
+
+// The map of the entries, put in one after another.
+fn build_entries<'de, K: Deserialize<'de> + Ord + Drop, V: Deserialize<'de> + Drop>(
+    alloc: Global,
+    entries: Vec<Entry<'de>>,
+) -> Result<BTreeMap<K, V>, BuildFault>
+    requires { IsTrue (entries_match K.start V.start (entries_view entries.items)) }
+    ensures ok { IfOk result (λ map. BuiltEntries K.cmp K.built V.built (entries_view entries.entry.items) []
+        map.entries) }
+    ensures refused { IfErr result (IsRefusal (RefusedEntries K.built V.built K.refused V.refused
+        (entries_view entries.entry.items))) }
+{
+    let mut map = BTreeMap::new(alloc);
+    for pair in entries {
+        match build_both(alloc, pair) {
+            Ok((key, value)) => {
+                let _ = map.insert(key, value)?;
+            }
+            Err(fault) => return Err(fault),
+        }
+    }
+    Ok(map)
+}
+
+/// A mapping. A later entry takes the place of an earlier one with its key.
+impl<'de, K: Deserialize<'de> + Ord + Drop, V: Deserialize<'de> + Drop> Deserialize<'de>
+    for BTreeMap<K, V> {
+    ghost use Rattle.yaml_types.specs.Start.{map_start};
+    ghost use Rattle.yaml_types.specs.BuiltParts.{BuiltMap};
+    ghost use Rattle.yaml_types.specs.RefusalParts.{RefusedMap};
+    ghost use Rattle.yaml_types.specs.StartLaws.{closed_map};
+
+    ghost start = { map_start K.start V.start };
+
+    ghost built = { λ d m. BuiltMap K.cmp K.built V.built d m.entries };
+
+    ghost refused = { RefusedMap K.built V.built K.refused V.refused };
+
+    ghost closed = { closed_map K.start V.start K.closed V.closed };
+
+    fn schema(alloc: Global) -> Result<(Schema, ShapeId), SchemaFault> {
+        let (keys, key) = K::schema(alloc)?;
+        let (values, value) = V::schema(alloc)?;
+        map_of(alloc, keys, key, values, value)
+    }
+
+    fn build(alloc: Global, found: Data<'de>) -> Result<BTreeMap<K, V>, BuildFault> {
+        match found {
+            Data::Map(entries) => build_entries(alloc, entries),
+            _ => unreachable!(),
+        }
+    }
+}
+
+impl<K: Serialize + Ord, V: Serialize> Serialize for BTreeMap<K, V> {
+    ghost use Rattle.yaml_types.specs.Start.{map_start};
+    ghost use Rattle.yaml_types.specs.WrittenParts.{map_written, MapKeeps};
+    ghost use Rattle.yaml_types.specs.StartLaws.{closed_map};
+    ghost use Rattle.yaml_types.specs.WrittenLaws.{map_of_shape};
+
+    ghost start = { map_start K.start V.start };
+
+    ghost kept = { MapKeeps K.cmp K.kept V.kept };
+
+    ghost written = { λ m. map_written K.written V.written m.entries };
+
+    ghost closed = { closed_map K.start V.start K.closed V.closed };
+
+    ghost of_shape = { λ m kept. map_of_shape K.start V.start K.kept V.kept K.written V.written K.closed V.closed
+        K.of_shape V.of_shape m.entries kept.0 };
+
+    fn schema(alloc: Global) -> Result<(Schema, ShapeId), SchemaFault> {
+        let (keys, key) = K::schema(alloc)?;
+        let (values, value) = V::schema(alloc)?;
+        map_of(alloc, keys, key, values, value)
+    }
+
+    fn to_data<'a>(&'a self, alloc: Global) -> Result<Data<'a>, Error> {
+        let mut entries = Vec::with_capacity(alloc, self.len())?;
+        for (key, value) in self.iter() {
+            let key = key.to_data(alloc)?;
+            let value = match value.to_data(alloc) {
+                Ok(value) => value,
+                Err(fault) => {
+                    drop(key);
+                    return Err(fault);
+                }
+            };
+            entries.push(Entry { key, value })?;
+        }
+        Ok(Data::Map(entries))
+    }
+}
+
+impl<'de, K: RoundTrip<'de> + Ord + Drop, V: RoundTrip<'de> + Drop> RoundTrip<'de>
+    for BTreeMap<K, V> {
+    ghost use Rattle.yaml_types.specs.Start.{map_start};
+    ghost use Rattle.yaml_types.specs.MapLaws.{map_returned, map_accepted};
+
+    ghost one_schema = { λ t. map_start (K.one_schema t) (V.one_schema t) };
+
+    ghost returned = { map_returned K.cmp K.total K.kept V.kept K.written V.written K.built V.built K.eq V.eq
+        K.matches_eq K.returned V.returned };
+
+    ghost accepted = { map_accepted K.written V.written K.built V.built K.refused V.refused K.accepted V.accepted };
+}

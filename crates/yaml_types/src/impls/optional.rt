@@ -1,0 +1,83 @@
+//! Optionals of a type.
+
+use crate::fault::BuildFault;
+use crate::traits::{Deserialize, RoundTrip, Serialize};
+use std::alloc::Global;
+use yaml_base::Error;
+use yaml_shape::{Data, Schema, SchemaFault, ShapeId, option_of};
+
+impl<'de, T: Deserialize<'de>> Deserialize<'de> for Option<T> {
+    ghost use Rattle.yaml_types.specs.Start.{option_start};
+    ghost use Rattle.yaml_types.specs.BuiltParts.{BuiltOption};
+    ghost use Rattle.yaml_types.specs.RefusalParts.{RefusedOption};
+    ghost use Rattle.yaml_types.specs.StartLaws.{closed_option};
+
+    ghost start = { option_start T.start };
+
+    ghost built = { BuiltOption T.built };
+
+    ghost refused = { RefusedOption T.refused };
+
+    ghost closed = { closed_option T.start T.closed };
+
+    fn schema(alloc: Global) -> Result<(Schema, ShapeId), SchemaFault> {
+        let (schema, content) = T::schema(alloc)?;
+        option_of(alloc, schema, content)
+    }
+
+    fn build(alloc: Global, found: Data<'de>) -> Result<Option<T>, BuildFault> {
+        match found {
+            Data::None => Ok(None),
+            Data::Some(content) => match T::build(alloc, Box::into_inner(content)) {
+                Ok(value) => Ok(Some(value)),
+                Err(fault) => Err(fault),
+            },
+            _ => unreachable!(),
+        }
+    }
+}
+
+impl<T: Serialize> Serialize for Option<T> {
+    ghost use Rattle.std.specs.Prelude.{IfSome};
+    ghost use Rattle.yaml_types.specs.Start.{option_start};
+    ghost use Rattle.yaml_types.specs.WrittenParts.{option_written};
+    ghost use Rattle.yaml_types.specs.StartLaws.{closed_option};
+    ghost use Rattle.yaml_types.specs.WrittenLaws.{option_of_shape};
+
+    ghost start = { option_start T.start };
+
+    ghost kept = { λ x. IfSome x T.kept };
+
+    ghost written = { option_written T.written };
+
+    ghost closed = { closed_option T.start T.closed };
+
+    ghost of_shape = { option_of_shape T.start T.kept T.written T.closed T.of_shape };
+
+    fn schema(alloc: Global) -> Result<(Schema, ShapeId), SchemaFault> {
+        let (schema, content) = T::schema(alloc)?;
+        option_of(alloc, schema, content)
+    }
+
+    fn to_data<'a>(&'a self, alloc: Global) -> Result<Data<'a>, Error> {
+        match self {
+            None => Ok(Data::None),
+            Some(value) => {
+                let content = value.to_data(alloc)?;
+                Ok(Data::Some(Box::new(alloc, content)?))
+            }
+        }
+    }
+}
+
+impl<'de, T: RoundTrip<'de>> RoundTrip<'de> for Option<T> {
+    ghost use Rattle.std.proofs.Common.{ap};
+    ghost use Rattle.yaml_types.specs.Start.{option_start};
+    ghost use Rattle.yaml_types.specs.ReturnLaws.{option_returned, option_accepted};
+
+    ghost one_schema = { ap option_start T.one_schema };
+
+    ghost returned = { option_returned T.kept T.written T.built T.eq T.returned };
+
+    ghost accepted = { option_accepted T.written T.refused T.accepted };
+}

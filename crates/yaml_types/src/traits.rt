@@ -1,0 +1,88 @@
+//! What a type is to have to be read from data and written as data.
+
+ghost use Rattle.std.specs.Prelude.{◌≡◌, ℕ, List, true, length, IsTrue, IfOk, IfErr, OnOk};
+ghost use Rattle.yaml_base.specs.Answer.{is_memory};
+ghost use Rattle.yaml_shape.specs.PlainData.{PlainData};
+ghost use Rattle.yaml_shape.specs.DataView.{data_of};
+ghost use Rattle.yaml_shape.specs.HasShape.{HasShape};
+ghost use Rattle.yaml_shape.specs.EqualData.{EqualData};
+ghost use Rattle.yaml_shape.specs.Join.{IsTooLarge};
+ghost use Rattle.yaml_types.specs.Start.{Start, IsStart, IsClosed};
+ghost use Rattle.yaml_types.specs.Refusal.{IsRefusal};
+
+use crate::fault::BuildFault;
+use std::alloc::Global;
+use yaml_base::Error;
+use yaml_shape::{Data, Schema, SchemaFault, ShapeId};
+
+/// A type whose values are built of data of one shape. `'de` is how long texts are lent that a value keeps.
+pub trait Deserialize<'de>: Sized {
+    // The table of shapes, and the number of the one of the type.
+    ghost start: { Start };
+
+    // Which values are those of data.
+    ghost built: { PlainData → Self → Type 0 };
+
+    // By which messages data is refused.
+    ghost refused: { PlainData → List ℕ → Type 0 };
+
+    /// The shape of the type: a schema, and its number there. Refused by `S4` where the table would have more than
+    /// 4,096 shapes, and by `S5`.
+    fn schema(alloc: Global) -> Result<(Schema, ShapeId), SchemaFault>
+        ensures ok { IfOk result (IsStart start) }
+        ensures refused { IfErr result (IsTooLarge (length start.0)) };
+
+    /// The value of data of the shape; `Typed::new` is the test of what is asked. Texts of the data may be lent to
+    /// the value. The data is dropped on refusal.
+    fn build(alloc: Global, found: Data<'de>) -> Result<Self, BuildFault>
+        requires { HasShape start.0 start.1 (data_of found) }
+        ensures ok { IfOk result (built (data_of found.entry)) }
+        ensures refused { IfErr result (IsRefusal (refused (data_of found.entry))) };
+
+    // The shape is in the table, which names no shape outside.
+    ghost closed: { IsClosed start };
+}
+
+/// A type whose values are written as data of one shape.
+pub trait Serialize {
+    // The table of shapes, and the number of the one of the type.
+    ghost start: { Start };
+
+    // What a value of the type always keeps, as an integer its range.
+    ghost kept: { Self → Type 0 } = { λ _. Unit {0} };
+
+    // The data of a value.
+    ghost written: { Self → PlainData };
+
+    /// The shape of the type: a schema, and its number there. Refused by `S4` where the table would have more than
+    /// 4,096 shapes, and by `S5`.
+    fn schema(alloc: Global) -> Result<(Schema, ShapeId), SchemaFault>
+        ensures ok { IfOk result (IsStart start) }
+        ensures refused { IfErr result (IsTooLarge (length start.0)) };
+
+    /// The value as data, which borrows its texts from the value. Refused only for want of memory.
+    fn to_data<'a>(&'a self, alloc: Global) -> Result<Data<'a>, Error>
+        ensures ok { IfOk result (λ made. data_of made ≡ written self.now) }
+        ensures kept { OnOk result (kept self.now) }
+        ensures refused { IfErr result (λ fault. IsTrue (is_memory fault)) };
+
+    // The shape is in the table, which names no shape outside.
+    ghost closed: { IsClosed start };
+
+    // The data is of the shape.
+    ghost of_shape: { (x : Self) → kept x → HasShape start.0 start.1 (written x) };
+}
+
+/// A type whose values are equal again once they were written as data, and built of data that is equal to it.
+pub trait RoundTrip<'de>: Deserialize<'de> + Serialize + PartialEq {
+    // Both have the same shape.
+    ghost one_schema: { Self.Deserialize.start ≡ Self.Serialize.start };
+
+    // Of data that is equal to what a value is written as, only values equal to it are built.
+    ghost returned: { (x y : Self) (d : PlainData) → Self.kept x → EqualData (Self.written x) d → Self.built d y
+        → Self.eq x y ≡ true };
+
+    // Such data is not refused by a message.
+    ghost accepted: { (x : Self) (d : PlainData) (message : List ℕ) → EqualData (Self.written x) d
+        → Self.refused d message → ⊥ };
+}
