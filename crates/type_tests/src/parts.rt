@@ -10,7 +10,7 @@ fn some<'a>(alloc: Global, content: Data<'a>) -> Result<Data<'a>, AllocError> {
     Ok(Data::Some(Box::new(alloc, content)?))
 }
 
-// A text that is not lent.
+// A text that is not borrowed.
 fn owned<'a>(alloc: Global, text: &str) -> Result<Data<'a>, AllocError> {
     Ok(Data::Str(Text::Owned(String::from_str(alloc, text)?)))
 }
@@ -90,7 +90,7 @@ fn types_that_have_parts(rt: HostRuntime) -> Result<(), Fail> {
     Ok(())
 }
 
-// The message by which data is refused that has an owned text where a lent one is to be.
+// The message by which data is refused that has an owned text where a borrowed one is to be.
 fn refused(alloc: Global, kind: u32) -> Result<String, Fail> {
     let text = owned(alloc, "x")?;
     match kind {

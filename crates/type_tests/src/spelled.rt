@@ -1,4 +1,4 @@
-//! Data as a text: what is lent begins with `&`.
+//! Data as a text: what is borrowed begins with `&`.
 
 use std::alloc::{AllocError, Global};
 use yaml_shape::{Data, Entry, Text};

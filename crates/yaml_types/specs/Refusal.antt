@@ -4,7 +4,7 @@ use Rattle.yaml_shape.specs.PlainData.{PlainData, text_data}
 use Rattle.yaml_types.specs.declared.fault.BuildFault.{BuildFault}
 use Rattle.yaml_types.specs.declared.fault.BuildFault.TheVariants.{Memory, Message}
 
--- the fault is one of these messages, or want of memory
+-- the fault is one of these messages, or running out of memory
 abbrev pub IsRefusal : (List ℕ → Type 0) → BuildFault → Type 0
 IsRefusal refused Memory = Unit {0}
 IsRefusal refused (Message text) = refused (string_bytes text)
@@ -13,7 +13,7 @@ IsRefusal refused (Message text) = refused (string_bytes text)
 abbrev pub NeverRefused : PlainData → List ℕ → Type 0
 NeverRefused d message = ⊥
 
--- a text is refused that is not lent
+-- a text is refused that is not borrowed
 abbrev pub RefusedStr : PlainData → List ℕ → Type 0
 RefusedStr (text_data false a) message = message ≡ codes "expected a borrowed string"
 RefusedStr _ message = ⊥

@@ -15,7 +15,7 @@ use std::alloc::Global;
 use yaml_base::Error;
 use yaml_shape::{Data, Schema, SchemaFault, ShapeId};
 
-/// A type whose values are built of data of one shape. `'de` is how long texts are lent that a value keeps.
+/// A type whose values are built of data of one shape. `'de` is how long a value may keep borrowed texts.
 pub trait Deserialize<'de>: Sized {
     // The table of shapes, and the number of the one of the type.
     ghost start: { Start };
@@ -32,8 +32,8 @@ pub trait Deserialize<'de>: Sized {
         ensures ok { IfOk result (IsStart start) }
         ensures refused { IfErr result (IsTooLarge (length start.0)) };
 
-    /// The value of data of the shape; `Typed::new` is the test of what is asked. Texts of the data may be lent to
-    /// the value. The data is dropped on refusal.
+    /// The value of data of the shape; `Typed::new` is the test of what is asked. The value may keep texts that
+    /// the data borrows. The data is dropped on refusal.
     fn build(alloc: Global, found: Data<'de>) -> Result<Self, BuildFault>
         requires { HasShape start.0 start.1 (data_of found) }
         ensures ok { IfOk result (built (data_of found.entry)) }
@@ -60,7 +60,7 @@ pub trait Serialize {
         ensures ok { IfOk result (IsStart start) }
         ensures refused { IfErr result (IsTooLarge (length start.0)) };
 
-    /// The value as data, which borrows its texts from the value. Refused only for want of memory.
+    /// The value as data, which borrows its texts from the value. Refused only where memory runs out.
     fn to_data<'a>(&'a self, alloc: Global) -> Result<Data<'a>, Error>
         ensures ok { IfOk result (λ made. data_of made ≡ written self.now) }
         ensures kept { OnOk result (kept self.now) }

@@ -1,4 +1,4 @@
-//! Texts, owned and lent.
+//! Texts, owned and borrowed.
 
 ghost use Rattle.std.specs.Prelude.{[], ◌∷◌, IfOk, IfErr};
 ghost use Rattle.yaml_shape.specs.DataView.{data_of};
@@ -80,7 +80,7 @@ impl<'de> RoundTrip<'de> for String {
     ghost accepted = { λ _ _ _ _ refused. refused };
 }
 
-/// A text that the data lends. Owned text is refused, since no value could keep it.
+/// A text that the data borrows. Owned text is refused, since no value could keep it.
 impl<'de> Deserialize<'de> for &'de str {
     ghost use Rattle.yaml_shape.specs.PlainShape.{str_shape};
     ghost use Rattle.yaml_types.specs.Start.{leaf_start};
