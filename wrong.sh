@@ -58,6 +58,14 @@ for named in "$@"; do
     proved="$proved$name "
 done
 
+# What takes longest is begun first, and a crate takes the longer the more work it keeps.
+by_size() {
+    for name in $proved; do
+        printf '%s %s\n' "$(du -s "crates/$name/out" 2> /dev/null | cut -f 1)" "$name"
+    done | sort -rn | awk '{ print $NF }'
+}
+proved=" $(by_size | tr '\n' ' ')"
+
 # Proves crates as they stand until none is left that no other job has taken, since a refusal of an edit says nothing
 # of a crate that is refused itself.
 prove_crates() {
@@ -204,6 +212,7 @@ try_batches() {
         grep "^$number " "$work/batches.$name" > "$tree/batch"
         cd "$tree/crates/$name" || exit 1
         : > "$tree/made"
+        : > "$tree/log"
         while read -r _ edit keys; do
             if awk -f "$root/.ci/apply.awk" "$edit" > /dev/null; then
                 printf '%s %s\n' "$edit" "$keys" >> "$tree/made"
@@ -282,8 +291,13 @@ make_batches() {
         sed -n "s|^crates/$name/||p" "$work/alone" > "$work/of_crate"
         [ -s "$work/of_crate" ] || continue
         (cd "crates/$name" && xargs awk -f "$root/.ci/batches.awk") < "$work/of_crate" > "$work/batches.$name"
-        cut -d ' ' -f 1 "$work/batches.$name" | sort -nu | sed "s/^/$name /" >> "$work/batches"
+        cut -d ' ' -f 1 "$work/batches.$name" | sort -n | uniq -c | awk -v name="$name" '{ print name, $2, $1 }' \
+            >> "$work/batches"
     done
+    # small batches, each of which takes one check or two of a function, fill what is left of the time
+    awk '$3 > 2 { print $1, $2 } $3 <= 2 { small[++count] = $1 " " $2 } END { for (i = 1; i <= count; i++) print small[i] }' \
+        "$work/batches" > "$work/sorted"
+    mv "$work/sorted" "$work/batches"
     : > "$work/alone"
 }
 
