@@ -6,7 +6,8 @@ use std::alloc::{AllocError, Global};
 use std::test::Fail;
 use yaml_round::held::{data_is_held, schema_is_held};
 use yaml_round::laws::{
-    a_written_string_means_itself, equal_in_one_order_is_equal, written_data_reads_back,
+    a_written_string_means_itself, a_written_value_reads_back, equal_in_one_order_is_equal,
+    written_data_reads_back,
 };
 use yaml_shape::{Data, Entry, Text};
 
@@ -30,5 +31,6 @@ fn laws_and_what_is_held(rt: HostRuntime) -> Result<(), Fail> {
     a_written_string_means_itself();
     equal_in_one_order_is_equal();
     written_data_reads_back();
+    a_written_value_reads_back::<Vec<Option<i64>>>();
     Ok(())
 }

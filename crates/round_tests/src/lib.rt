@@ -9,3 +9,5 @@ mod laws;
 mod renderer;
 #[cfg(test)]
 mod shapes;
+#[cfg(test)]
+mod typed;

@@ -2,3 +2,4 @@
 pub mod FirstDocument
 pub mod KindLaws
 pub mod HeadlineLaws
+pub mod TypedLaws

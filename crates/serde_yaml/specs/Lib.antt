@@ -4,3 +4,5 @@ pub mod Headline
 pub mod PlainStream
 pub mod StreamReads
 pub mod StreamView
+pub mod TypedReads
+pub mod TypedWrites

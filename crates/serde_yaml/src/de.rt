@@ -3,6 +3,7 @@
 mod asked;
 mod calls;
 mod kinds;
+mod typed;
 
 ghost use Rattle.std.specs.Prelude.{◌≡◌, ℕ, ◌<◌, length, Result, Some, IfOk, IfErr, false, is_some};
 ghost use Rattle.yaml_base.specs.Answer.{Answers, is_memory};
@@ -20,6 +21,7 @@ ghost use Rattle.serde_yaml.specs.StreamReads.{StreamGives, stream_of, unless_mo
 
 use std::alloc::Global;
 use std::marker::Model;
+pub use typed::{from_events, from_events_limited};
 use yaml_base::{Cause, Error, Event, Mark, ParserFault, Result};
 use yaml_read::{Document, Limits, Loader};
 use yaml_shape::{Data, Schema, ShapeId};

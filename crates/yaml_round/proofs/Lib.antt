@@ -19,5 +19,6 @@ pub mod ScalarLeaves
 pub mod ShapesOfData
 pub mod StreamsReturn
 pub mod TagsWritten
+pub mod TypedReturn
 pub mod ValuesReturn
 pub mod VariantsReturn

@@ -1,7 +1,6 @@
 -- How data that was written comes back from a parser, and reads back.
-use Rattle.std.specs.Prelude.{◌≡◌, ℕ, List, [], ◌∷◌, ◌++◌, None, Ok, IsTrue}
-use Rattle.yaml_base.specs.EmitEvents.{PlainEmit, emit_stream_start, emit_stream_end}
-use Rattle.yaml_base.specs.EmitTree.{EmitNode, emit_documents_events}
+use Rattle.std.specs.Prelude.{◌≡◌, ℕ, List, None, Ok, IsTrue}
+use Rattle.yaml_base.specs.EmitTree.{EmitNode}
 use Rattle.yaml_base.specs.Renders.{Renders}
 use Rattle.yaml_shape.specs.PlainData.{PlainData}
 use Rattle.yaml_shape.specs.PlainShape.{PlainShape}
@@ -10,11 +9,8 @@ use Rattle.yaml_read.specs.MarkedEvents.{events_in}
 use Rattle.yaml_read.specs.TreeReader.{PlainLimits}
 use Rattle.yaml_write.specs.Written.{written}
 use Rattle.serde_yaml.specs.Headline.{ReadsAs}
+use Rattle.serde_yaml.specs.TypedWrites.{written_stream}
 use Rattle.yaml_round.specs.SameOrder.{same_data}
-
--- the events that a stream of one document is written as
-abbrev pub written_stream : EmitNode → List PlainEmit
-written_stream root = emit_stream_start ∷ (emit_documents_events (root ∷ []) ++ emit_stream_end ∷ [])
 
 -- The events come back from a parser of what the data is written as, the only document of a stream: the same structure,
 -- tags and texts, in permitted styles, with any marks and sources.

@@ -1,11 +1,12 @@
 //! Laws of writing and reading together, each the contract of a function that does nothing.
 
-ghost use Rattle.std.specs.Prelude.{◌≡◌, ℕ, List, Option, None, Some, Ok, Result, IsTrue};
+ghost use Rattle.std.specs.Prelude.{◌≡◌, ℕ, List, Option, None, Some, Ok, Result, true, IsTrue};
 ghost use Rattle.std.specs.Option.{is_some};
 ghost use Rattle.std.specs.Str.{is_utf8};
 ghost use Rattle.yaml_base.specs.AskedStyles.{asked_style};
+ghost use Rattle.yaml_base.specs.EmitEvents.{PlainEmit};
 ghost use Rattle.yaml_base.specs.PlainEvent.{PlainScalar};
-ghost use Rattle.yaml_base.specs.Renders.{RendersScalar};
+ghost use Rattle.yaml_base.specs.Renders.{Renders, RendersScalar};
 ghost use Rattle.yaml_base.specs.declared.error.Cause.{Cause};
 ghost use Rattle.yaml_shape.specs.EqualData.{EqualData};
 ghost use Rattle.yaml_shape.specs.PlainData.{PlainData, any_data};
@@ -14,16 +15,20 @@ ghost use Rattle.yaml_shape.specs.Validity.{IsValidSchema};
 ghost use Rattle.yaml_tree.specs.Tree.{string};
 ghost use Rattle.yaml_read.specs.DocTree.{DocNode, word};
 ghost use Rattle.yaml_read.specs.Documents.{Input};
+ghost use Rattle.yaml_read.specs.MarkedEvents.{events_in};
 ghost use Rattle.yaml_read.specs.Meaning.{Means};
 ghost use Rattle.yaml_read.specs.ScalarShapes.{lent_text};
 ghost use Rattle.yaml_read.specs.TreeReader.{PlainLimits};
 ghost use Rattle.serde_yaml.specs.StreamReads.{InputGives};
+ghost use Rattle.serde_yaml.specs.TypedReads.{TypeGives};
+ghost use Rattle.serde_yaml.specs.TypedWrites.{TypeWrites};
 ghost use Rattle.yaml_round.specs.Fits.{Fits};
 ghost use Rattle.yaml_round.specs.Held.{IsHeld, is_table};
 ghost use Rattle.yaml_round.specs.ReadsBack.{ComesBack, ReadsBack};
 ghost use Rattle.yaml_round.specs.SameOrder.{same_data};
 
 use serde_yaml::laws::reading_gives_the_meaning;
+use yaml_types::RoundTrip;
 
 /// A string as it is written, under a tag that is taken or under none, and rendered in any permitted style, means that
 /// string: as a text, and as any value.
@@ -53,6 +58,21 @@ pub fn written_data_reads_back()
         → (found : PlainData) × (given ≡ Ok found) × IsTrue (same_data d found) }
 {
     reading_gives_the_meaning();
+}
+
+/// What `to_events` writes of a value that fits, rendered in any permitted styles, `from_events_limited` reads as an
+/// equal value, however few follows are allowed. What is asked of the plain data and of the type's table holds of all
+/// data and schemas in memory.
+pub fn a_written_value_reads_back<'de, T: RoundTrip<'de>>()
+    ensures { (limits : PlainLimits) (x : T) (events : List PlainEmit) (input : Input) (given : Result T Cause)
+        → IsTrue (is_table T.Serialize.start.0) → T.kept x → IsHeld (T.written x)
+        → Fits limits.nesting T.Serialize.start.0 T.Serialize.start.1 (T.written x)
+        → TypeWrites T.Serialize.start (T.written x) (Ok events) → Renders events (events_in input)
+        → TypeGives limits T.Deserialize.start T.built T.refused input None given
+        → (y : T) × (given ≡ Ok y) × (T.eq x y ≡ true) }
+{
+    written_data_reads_back();
+    equal_in_one_order_is_equal();
 }
 
 /// Data that is equal with the pairs of its mappings in one order is equal.

@@ -1,10 +1,12 @@
 //! The example of the README, word for word.
 
-use serde_yaml::{Deserializer, Error, Result};
+use serde_yaml::{
+    Data, Deserializer, Error, Event, MappingStart, Mark, Result, Scalar, ScalarStyle, Schema,
+    Shape, ShapeId, from_events, to_events,
+};
 use std::alloc::Global;
+use std::collections::BTreeMap;
 use std::test::Fail;
-use yaml_base::{Event, MappingStart, Mark, Scalar, ScalarStyle};
-use yaml_shape::{Data, Schema, Shape, ShapeId};
 
 // The mark at a column of the first line, each counted from 0.
 fn at(column: u32) -> Mark {
@@ -40,7 +42,18 @@ fn events<'de>(alloc: Global) -> Result<Vec<(Event<'de>, Mark)>> {
     ]?)
 }
 
-// The port that a document names, if it names one.
+#[test]
+fn a_value_of_a_type(rt: HostRuntime) -> std::result::Result<(), Fail> {
+    let alloc = rt.alloc();
+    let ports: BTreeMap<String, u16> = from_events(alloc, events(alloc)?, None)?;
+    assert_eq!(rt; ports.get("port"), Some(&8080));
+    // and back: the events of a stream of one document, for an emitter
+    let written = to_events(alloc, &ports)?;
+    assert_eq!(rt; written.len(), 8);
+    Ok(())
+}
+
+// The port that a document names, if it names one, by shapes that are put together at run time.
 fn port(alloc: Global, events: Vec<(Event<'_>, Mark)>) -> Result<Option<i128>> {
     // shape 0 is a mapping from shape 1, texts, to shape 2, integers of 64 bits
     let shapes = vec![in alloc; Shape::Map(ShapeId(1), ShapeId(2)), Shape::Str, Shape::I64]?;
@@ -63,7 +76,7 @@ fn port(alloc: Global, events: Vec<(Event<'_>, Mark)>) -> Result<Option<i128>> {
 }
 
 #[test]
-fn reads_the_port_of_a_document(rt: HostRuntime) -> std::result::Result<(), Fail> {
+fn data_of_a_shape(rt: HostRuntime) -> std::result::Result<(), Fail> {
     let alloc = rt.alloc();
     assert_eq!(rt; port(alloc, events(alloc)?)?, Some(8080));
     Ok(())

@@ -1,0 +1,158 @@
+-- What is read and written under the shape of a type.
+use Rattle.std.proofs.Common.{◌≡◌, ◌<◌, ℕ, List, [], ◌∷◌, length, Option, Some, None, Bool, true, false}
+use Rattle.std.proofs.Common.{Result, Ok, Err}
+use Rattle.std.proofs.Common.{get_or, is_some, refl, sym, ap, subst, ◌∙◌}
+use Rattle.std.specs.Prelude.{IfOk, string_bytes}
+use Rattle.std.proofs.lemmas.Option.{slice_get-get_or}
+use Rattle.yaml_base.specs.Answer.{Answers, Gives, is_memory}
+use Rattle.yaml_base.specs.EmitEvents.{PlainEmit}
+use Rattle.yaml_base.specs.PlainEvent.{event_of}
+use Rattle.yaml_base.specs.PlainFault.{PlainFault}
+use Rattle.yaml_base.specs.Position.{Position}
+use Rattle.yaml_base.specs.Stream.{IsWellFormed}
+use Rattle.yaml_base.specs.declared.event.Event.{Event}
+use Rattle.yaml_base.specs.declared.error.Cause.{Cause}
+use Rattle.yaml_base.specs.declared.error.Cause.TheVariants.{NotAStream}
+use Rattle.yaml_shape.specs.DataView.{data_of}
+use Rattle.yaml_shape.specs.HasShape.{HasShape}
+use Rattle.yaml_shape.specs.Join.{IsTooLarge}
+use Rattle.yaml_shape.specs.Validity.{IsValidSchema}
+use Rattle.yaml_shape.specs.declared.fault.SchemaFault.{SchemaFault}
+use Rattle.yaml_shape.specs.PlainData.{PlainData}
+use Rattle.yaml_shape.specs.PlainShape.{PlainShape, any_shape, shape_at}
+use Rattle.yaml_shape.specs.declared.data.Data.{Data}
+use Rattle.yaml_read.specs.DocTree.{DocNode, nothing}
+use Rattle.yaml_read.specs.Documents.{Input}
+use Rattle.yaml_read.specs.MarkedEvents.{events_in, plain_events, plain_marked}
+use Rattle.yaml_read.specs.Meaning.{Means}
+use Rattle.yaml_read.specs.TreeReader.{PlainLimits}
+use Rattle.yaml_read.specs.WrongPlace.{IsWrongAt}
+use Rattle.yaml_types.specs.Refusal.{IsRefusal}
+use Rattle.yaml_types.specs.Start.{Start, IsClosed}
+use Rattle.yaml_types.specs.declared.fault.BuildFault.{BuildFault}
+use Rattle.yaml_types.specs.declared.fault.BuildFault.TheVariants as build
+use Rattle.yaml_types.specs.declared.fault.BuildFault.TheVariants.{Message}
+use Rattle.yaml_write.specs.Outcomes.{made}
+use Rattle.yaml_write.specs.Written.{written}
+use Rattle.serde_yaml.specs.TypedReads as reads
+use Rattle.serde_yaml.specs.TypedReads.{TypeGives, Makes, no_schema, build_cause}
+use Rattle.serde_yaml.specs.TypedWrites as writes
+use Rattle.serde_yaml.specs.TypedWrites.{TypeWrites, written_stream}
+use Rattle.serde_yaml.specs.Headline.{ReadsAs, one_document, no_document, GivesMeaning}
+use Rattle.serde_yaml.specs.PlainStream.{PlainStream}
+use Rattle.serde_yaml.specs.StreamReads.{StreamGives, InputGives, no_stream, a_stream, stream_of}
+
+-- what a node means has its shape
+abbrev pub MeaningsHaveShapes : Type 0
+MeaningsHaveShapes = (table : List PlainShape) (root n : DocNode) (id : ℕ) (s : PlainShape) (taken : Bool)
+    (v : PlainData) (d k : ℕ) → shape_at table id ≡ Some s → Means table root s n taken v d k → HasShape table id v
+
+-- what an input gives is what it means
+abbrev pub InputsGiveMeanings : Type 0
+InputsGiveMeanings = (limits : PlainLimits) (table : List PlainShape) (s : PlainShape) (input : Input)
+    (fault : Option PlainFault) (given : Result PlainData Cause) → InputGives limits table s input fault given
+    → GivesMeaning limits table s input fault given
+
+read_has : MeaningsHaveShapes → (limits : PlainLimits) (table : List PlainShape) (id : ℕ) (s : PlainShape)
+    (input : Input) (v : PlainData) → shape_at table id ≡ Some s → ReadsAs limits table s input v → HasShape table id v
+read_has law limits table id s input v at (one_document root tree e is reads) =
+    law table tree tree id s false v reads.nestings reads.followed at reads.means
+read_has law limits table id s input v at (no_document e reads) =
+    law table nothing nothing id s false v reads.nestings reads.followed at reads.means
+
+pub given_has : MeaningsHaveShapes → InputsGiveMeanings → (limits : PlainLimits) (table : List PlainShape) (id : ℕ)
+    (input : Input) (fault : Option PlainFault) (given : Result PlainData Cause) (v : PlainData) → id < length table
+    → ((s : PlainShape) → shape_at table id ≡ Some s → InputGives limits table s input fault given) → given ≡ Ok v
+    → HasShape table id v
+given_has law meaning limits table id input fault given v within gives h =
+    let s : PlainShape = get_or table id any_shape in
+    let at : shape_at table id ≡ Some s = slice_get-get_or table id any_shape within in
+    let means = (meaning limits table s input fault given (gives s at)).found v h in
+    read_has law limits table id s input v at means.1
+
+-- the events of marked events are those events
+same_events : (events : List (Event × Position)) → plain_events events ≡ events_in (plain_marked events)
+same_events [] = refl
+same_events (e ∷ events) = ap (λ es. event_of e.0 ∷ es) (same_events events)
+
+-- what a stream of events gives, they give as an input
+pub stream_input : {limits : PlainLimits} {table : List PlainShape} {s : PlainShape} (events : List (Event × Position))
+    (fault : Option PlainFault) {stream : PlainStream} → IsWellFormed (is_some fault) (plain_events events)
+    → stream ≡ stream_of (plain_marked events) fault
+    → (given : Result PlainData Cause) → StreamGives limits table s stream given
+    → InputGives limits table s (plain_marked events) fault given
+stream_input {limits} {table} {s} events fault formed is given g =
+    a_stream (subst (IsWellFormed (is_some fault)) (same_events events) formed)
+    (subst (λ stream. StreamGives limits table s stream given) is g)
+
+-- events that are no stream give the fault that they are refused by
+pub refused_input : {limits : PlainLimits} {table : List PlainShape} {s : PlainShape}
+    (events : List (Event × Position)) (fault : Option PlainFault) (cause : Cause)
+    → (place : ℕ) × (cause ≡ NotAStream place) × IsWrongAt (is_some fault) (plain_events events) place
+    → InputGives limits table s (plain_marked events) fault (Err cause)
+refused_input {limits} {table} {s} events fault cause wrong =
+    subst (λ e. InputGives limits table s (plain_marked events) fault (Err e)) (sym wrong.1)
+    (no_stream wrong.0 (subst (λ es. IsWrongAt (is_some fault) es wrong.0) (same_events events) wrong.2))
+
+-- data that is answered has the shape
+pub answered_has : MeaningsHaveShapes → InputsGiveMeanings → (limits : PlainLimits) (table : List PlainShape) (id : ℕ)
+    (input : Input) (fault : Option PlainFault) → id < length table → (result : Result Data Cause)
+    → ((s : PlainShape) → shape_at table id ≡ Some s → Answers data_of result (InputGives limits table s input fault))
+    → IfOk result (λ found. HasShape table id (data_of found))
+answered_has law meaning limits table id input fault within (Ok found) gives =
+    given_has law meaning limits table id input fault (Ok (data_of found)) (data_of found) within gives refl
+answered_has law meaning limits table id input fault within (Err cause) gives = tt
+
+-- the fault for a type that has no schema
+abbrev pub IsNoSchema : SchemaFault → Cause → Type 0
+IsNoSchema fault cause = (size : ℕ) → IsTooLarge size fault → is_memory cause ≡ false
+    → (4096 < size) × (cause ≡ no_schema)
+
+-- data that makes no value is refused by one of the messages
+pub no_value : {T : Type 0} (built : PlainData → T → Type 0) (refused : PlainData → List ℕ → Type 0) (d : PlainData)
+    (refusal : BuildFault) (cause : Cause) → IsRefusal (refused d) refusal → cause ≡ build_cause refusal
+    → is_memory cause ≡ false → Makes {T = T} built refused (Ok d) (Err cause)
+no_value built refused d (Message text) cause by is m = (string_bytes text, by, is)
+no_value built refused d build.Memory cause by is m =
+    let bad : true ≡ false = sym (ap is_memory is) ∙ m in absurd cc
+
+module _ {T : Type 0} (limits : PlainLimits) (start : Start) (built : PlainData → T → Type 0)
+    (refused : PlainData → List ℕ → Type 0) (input : Input) (fault : Option PlainFault) where
+  pub no_type : (refusal : SchemaFault) (cause : Cause) → IsTooLarge (length start.0) refusal → IsNoSchema refusal cause
+      → is_memory cause ≡ false → TypeGives limits start built refused input fault (Err cause)
+  no_type refusal cause large is m =
+      let no = is (length start.0) large m in
+      subst (λ e. TypeGives limits start built refused input fault (Err e)) (sym no.1) (reads.no_shape no.0)
+
+  -- what a type makes of what is read under its shape, the input gives
+  pub type_gives : (table : List PlainShape) (id : ℕ) (read : Result PlainData Cause) (given : Result T Cause)
+      → table ≡ start.0 → id ≡ start.1 → IsClosed start → IsValidSchema table
+      → ((s : PlainShape) → shape_at table id ≡ Some s → InputGives limits table s input fault read)
+      → Makes built refused read given → TypeGives limits start built refused input fault given
+  type_gives table id read given p q closed valid gives makes =
+      let s : PlainShape = get_or start.0 start.1 any_shape in
+      let at : shape_at start.0 start.1 ≡ Some s = slice_get-get_or start.0 start.1 any_shape closed.within in
+      reads.of_shape (subst IsValidSchema p valid) at
+      (subst (λ t. shape_at t start.1 ≡ Some s → InputGives limits t s input fault read) p
+      (subst (λ i. shape_at table i ≡ Some s → InputGives limits table s input fault read) q (gives s)) at) makes
+
+module _ (start : Start) (d : PlainData) where
+  pub no_type_written : (refusal : SchemaFault) (cause : Cause) → IsTooLarge (length start.0) refusal
+      → IsNoSchema refusal cause → is_memory cause ≡ false → TypeWrites start d (Err cause)
+  no_type_written refusal cause large is m =
+      let no = is (length start.0) large m in
+      subst (λ e. TypeWrites start d (Err e)) (sym no.1) (writes.no_shape no.0)
+
+  written_by : {X : Type 0} (view : X → List PlainEmit) (table : List PlainShape) (id : ℕ) (result : Result X Cause)
+      → IsValidSchema table → Gives view result (made written_stream (written table id None d))
+      → Answers view result (TypeWrites (table, id) d)
+  written_by view table id (Ok x) valid g = subst (TypeWrites (table, id) d) g (writes.of_shape valid)
+  written_by view table id (Err cause) valid g = λ m. subst (TypeWrites (table, id) d) (g m) (writes.of_shape valid)
+
+  -- what is written by the shape of a type, the type writes
+  pub type_writes : {X : Type 0} (view : X → List PlainEmit) (table : List PlainShape) (id : ℕ)
+      (result : Result X Cause) → table ≡ start.0 → id ≡ start.1 → IsValidSchema table
+      → Gives view result (made written_stream (written table id None d)) → Answers view result (TypeWrites start d)
+  type_writes view table id result p q valid g =
+      subst (λ t. Answers view result (TypeWrites (t, start.1) d)) p
+      (subst (λ i. Answers view result (TypeWrites (table, i) d)) q (written_by view table id result valid g))

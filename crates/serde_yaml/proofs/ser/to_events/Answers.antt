@@ -1,0 +1,16 @@
+-- A value is written as the only document of a stream, as its data is written under the type's shape.
+use Rattle.std.proofs.Common.{map, sym}
+use Rattle.yaml_base.specs.EmitEvents.{emit_of}
+use Rattle.serde_yaml.proofs.TypedLaws.{no_type_written, type_writes}
+use Rattle.serde_yaml.proofs.ser.to_events.Goals as goal
+
+pub returns-in-Err : goal.returns-in-Err
+returns-in-Err g c =
+    no_type_written g.T.Serialize.start _ c.in-Err.refused c.schema_refusal.result c.in-Err.ensures.refused
+    c.schema_refusal.ensures
+
+pub returns-in-Ok-to_data : goal.returns-in-Ok-to_data
+returns-in-Ok-to_data g c =
+    rw (sym c.in-Ok-to_data.ensures.ok)
+    (type_writes g.T.Serialize.start _ (λ events. map emit_of events.items) _ _ c.write_stream.result
+    c.in-Ok.ensures.ok.table c.in-Ok.ensures.ok.number c.write_stream.ensures.valid c.write_stream.ensures.written)

@@ -1,0 +1,59 @@
+//! Writing a value of a type as a stream.
+
+ghost use Rattle.std.specs.Prelude.{map, None};
+ghost use Rattle.yaml_base.specs.Answer.{Answers, Gives};
+ghost use Rattle.yaml_base.specs.EmitEvents.{emit_of};
+ghost use Rattle.yaml_shape.specs.DataView.{data_of};
+ghost use Rattle.yaml_shape.specs.HasShape.{HasShape};
+ghost use Rattle.yaml_shape.specs.Validity.{IsValidSchema};
+ghost use Rattle.yaml_write.specs.Outcomes.{made};
+ghost use Rattle.yaml_write.specs.Written.{written};
+ghost use Rattle.serde_yaml.specs.TypedWrites.{TypeWrites, written_stream};
+
+use crate::refusal::schema_refusal;
+use std::alloc::Global;
+use yaml_base::Result;
+use yaml_base::emitter::EmitEvent;
+use yaml_shape::{Data, Schema, ShapeId, Typed};
+use yaml_types::Serialize;
+use yaml_write::Serializer;
+
+// The events of a whole stream whose one document is the data, by its shape.
+fn write_stream(
+    alloc: Global,
+    schema: &Schema,
+    id: ShapeId,
+    content: &Data<'_>,
+) -> Result<Vec<EmitEvent>>
+    requires { HasShape schema.now id.0 (data_of content.now) }
+    ensures valid { IsValidSchema schema.now }
+    ensures written { Gives (λ events. map emit_of events.items) result
+        (made written_stream (written schema.now id.0 None (data_of content.now))) }
+{
+    schema.is_valid();
+    let mut serializer = Serializer::new(alloc)?;
+    match Typed::new(schema, id, content) {
+        Some(value) => serializer.serialize_typed(&value)?,
+        None => unreachable!(),
+    }
+    match serializer.into_inner() {
+        Ok(events) => Ok(events),
+        Err((fault, _)) => Err(fault),
+    }
+}
+
+/// The events of a whole stream whose one document is the value, as the type's own `to_data` gives it. A value whose
+/// data has bytes, or a tag upon a tag, is refused, and so is a type without a schema.
+pub fn to_events<T: Serialize>(alloc: Global, value: &T) -> Result<Vec<EmitEvent>>
+    ensures { Answers (λ events. map emit_of events.items) result
+        (TypeWrites T.start (T.written value.now)) }
+{
+    let (schema, id) = match T::schema(alloc) {
+        Ok(start) => start,
+        Err(refused) => return Err(schema_refusal(alloc, refused)),
+    };
+    match value.to_data(alloc) {
+        Ok(content) => write_stream(alloc, &schema, id, &content),
+        Err(refused) => Err(refused),
+    }
+}
