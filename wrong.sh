@@ -4,12 +4,13 @@
 #     sh wrong.sh [--jobs N] [NAME | NAME/EDIT]..
 #
 # The edits are made in copies of the tree over the work that earlier checks kept: several at once in one copy, where
-# no two change one function, and each that was not refused there once more, alone. In a copy the whole crate is
-# checked. A line an edit says how it ended; the last line counts them. Ends with status 0 only if a goal that did not
-# prove refused each edit: among others a goal of a function that the edit changes. An edit that is not read, one that
-# breaks types or borrows, and one that only takes away a name that a proof file cites show nothing of a contract, and
-# are told apart. `--jobs` is how many copies are checked side by side, at first as many as there are processors, and
-# memory for 3 GB each. Where WRONG_LOGS names a folder, the output of each check is kept there.
+# no two change one function, and the functions that they change are checked there and no others. What was not refused
+# so is tried alone, at last by a check of the whole crate. A line an edit says how it ended; the last line counts them.
+# Ends with status 0 only if a goal that did not prove refused each edit: among others a goal of a function that the
+# edit changes. An edit that is not read, one that breaks types or borrows, and one that only takes away a name that a
+# proof file cites show nothing of a contract, and are told apart. `--jobs` is how many copies are checked side by side,
+# at first as many as there are processors, and memory for 3 GB each. Where WRONG_LOGS names a folder, the output of
+# each check is kept there.
 set -u
 export LC_ALL=C
 root=$(cd "$(dirname "$0")" && pwd)
@@ -162,45 +163,52 @@ copy_tree() {
     done
 }
 
-# Prints the full names of the functions of the crate $1 that the others name as FILE:NAME, each told by the end of its
-# name, and where several end so by the file; nothing where one of them is not told.
+# Prints the full names of the functions of the crate $1 that the others name as FILE:NAME: those that end in the name and
+# lie in the file, or all that end so where none does, since a method may stand in another file than its type.
 full_names() {
     crate=$1
     shift
-    for key in "$@"; do
-        name=${key##*:}
-        module=$(printf '%s\n' "${key%%:*}" | sed 's|^src/||; s|\.rt$||; s|/|::|g')
-        awk -v name="::$name" -v own="$crate::$module::$name" '
-            /^(fn|checked) / {
-                full = $2
-                sub(/[:,]$/, "", full)
-                if (substr(full, length(full) - length(name) + 1) == name && !(full in seen)) {
-                    seen[full] = 1
-                    count++
-                    one = full
+    awk -v crate="$crate" -v keys="$*" '
+        function is_end(end, full) { return substr(full, length(full) - length(end) + 1) == end }
+        /^(fn|checked) / {
+            full = $2
+            sub(/[:,]$/, "", full)
+            known[full] = 1
+        }
+        END {
+            wanted = split(keys, key, " ")
+            for (i = 1; i <= wanted; i++) {
+                split(key[i], part, ":")
+                sub(/^src\//, "", part[1])
+                sub(/\.rt$/, "", part[1])
+                gsub(/\//, "::", part[1])
+                inside = 0
+                for (full in known) if (is_end("::" part[2], full) && index(full, crate "::" part[1] "::") == 1) inside++
+                for (full in known) {
+                    if (!is_end("::" part[2], full)) continue
+                    if (!inside || index(full, crate "::" part[1] "::") == 1) names[full] = 1
                 }
-                if (full == own) exact = full
             }
-            END {
-                if (exact != "") print exact
-                else if (count == 1) print one
-                else print "?"
-            }' "$work/proof.$crate/log"
-    done | awk '{ if ($0 == "?") unknown = 1; names = names " " $0 } END { if (!unknown) print names }'
+            for (full in names) print full
+        }' "$work/proof.$crate/log"
 }
 
-# Checks the functions of the edited crate that the second and later arguments name, alone, in the folder of the crate,
-# and prints the goal that refused one of them; nothing where none did, or where they are not told by their names.
-refused_alone() {
-    crate=$1
-    shift
-    names=$(full_names "$crate" "$@")
+# Checks some functions of the edited crate $1, which the others name as FILE:NAME, and no more, in the folder of the
+# crate; nothing where none of them is known.
+check_functions() {
+    : > "$tree/log"
+    names=$(full_names "$@")
     [ -n "$names" ] || return
-    for full in $names; do
-        rt check --jobs 1 --only "$full" 2>&1
-    done > "$tree/log"
-    ! grep -q ' error\[' "$tree/log" || return
-    awk -v keys="$*" -v broken=alone -f "$root/.ci/refusals.awk" < "$tree/log" | cut -c 1-200
+    # shellcheck disable=SC2046
+    rt check --jobs 1 $(printf -- ' --only %s' $names) > "$tree/log" 2>&1
+}
+
+# Prints the goal that refused one of the functions, named as FILE:NAME by the second and later arguments, in the check
+# that was made last; or, where $1 is "broken", an error of types or borrows in one of them.
+refusal() {
+    ended=$1
+    shift
+    awk -v keys="$*" -v broken="$ended" -f "$root/.ci/refusals.awk" < "$tree/log" | cut -c 1-200
 }
 
 # Tries batches until none is left that no other job has taken. An edit is left for later that no goal of a function
@@ -212,7 +220,6 @@ try_batches() {
         grep "^$number " "$work/batches.$name" > "$tree/batch"
         cd "$tree/crates/$name" || exit 1
         : > "$tree/made"
-        : > "$tree/log"
         while read -r _ edit keys; do
             if awk -f "$root/.ci/apply.awk" "$edit" > /dev/null; then
                 printf '%s %s\n' "$edit" "$keys" >> "$tree/made"
@@ -220,30 +227,16 @@ try_batches() {
                 echo "crates/$name/$edit" >> "$work/alone"
             fi
         done < "$tree/batch"
-        # a small batch is first tried by its functions alone
-        if [ "$(wc -l < "$tree/made")" -le 2 ]; then
-            : > "$tree/left"
-            while read -r edit keys; do
-                # shellcheck disable=SC2086
-                found=$(refused_alone "$name" $keys)
-                if [ -n "$found" ]; then
-                    say "$name: $(basename "$edit" .edit): refused: $found"
-                else
-                    printf '%s %s\n' "$edit" "$keys" >> "$tree/left"
-                fi
-            done < "$tree/made"
-            mv "$tree/left" "$tree/made"
-        fi
-        if [ -s "$tree/made" ]; then
-            rt check --jobs 1 > "$tree/log" 2>&1
-        fi
-        ended=alone
-        ! grep -q ' error\[' "$tree/log" || ended=broken
+        # shellcheck disable=SC2046
+        check_functions "$name" $(cut -d ' ' -f 2- "$tree/made")
+        kind=goals
+        ! grep -q ' error\[' "$tree/log" || kind=broken
         while read -r edit keys; do
-            found=$(awk -v keys="$keys" -v broken="$ended" -f "$root/.ci/refusals.awk" < "$tree/log" | cut -c 1-200)
+            # shellcheck disable=SC2086
+            found=$(refusal $kind $keys)
             if [ -z "$found" ]; then
                 echo "crates/$name/$edit" >> "$work/alone"
-            elif [ "$ended" = broken ]; then
+            elif [ "$kind" = broken ]; then
                 echo "crates/$name/$edit" >> "$work/broken"
             else
                 say "$name: $(basename "$edit" .edit): refused: $found"
@@ -263,12 +256,12 @@ try_edits() {
         title="$name: $(basename "$edit" .edit)"
         mkdir "$work/$name.$(basename "$edit")" 2> /dev/null || continue
         cd "$tree/crates/$name" || exit 1
+        keys=$(awk -f "$root/.ci/batches.awk" "$root/$edit" | cut -d ' ' -f 3-)
         if why=$(awk -f "$root/.ci/apply.awk" "$root/$edit"); then
-            # shellcheck disable=SC2046
-            found=$(refused_alone "$name" $(awk -f "$root/.ci/batches.awk" "$root/$edit" | cut -d ' ' -f 3-))
-            if [ -n "$found" ]; then
-                line="refused: $found"
-            else
+            # shellcheck disable=SC2086
+            check_functions "$name" $keys
+            line="refused: $(refusal goals $keys)"
+            if [ "$line" = "refused: " ]; then
                 rt check --jobs 1 > "$tree/log" 2>&1
                 line=$(verdict $? "$tree/log" "$root/$edit")
             fi

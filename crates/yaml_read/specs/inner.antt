@@ -4,6 +4,7 @@ pub mod Answered
 pub mod Drafts
 pub mod Expectations
 pub mod Loading
+pub mod Numbers
 pub mod OpenEnds
 pub mod Reader
 pub mod Refusals

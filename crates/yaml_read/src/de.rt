@@ -33,6 +33,7 @@ mod text;
 mod tuple;
 mod values;
 mod variants;
+mod widths;
 
 ghost use Rattle.std.specs.Prelude.{◌≡◌, ◌≢◌, ◌<◌, ◌≤◌, length, Some, Err, is_ok, false};
 ghost use Rattle.yaml_base.specs.Answer.{Answers, is_memory};

@@ -1,11 +1,10 @@
 //! A scalar under the shape of an integer.
 
-ghost use Rattle.std.specs.Prelude.{◌≡◌, ◌-◌, ◌^◌, Err, is_ok, option_and_then};
+ghost use Rattle.std.specs.Prelude.{◌≡◌, Err, is_ok, option_and_then};
 ghost use Rattle.std.specs.Option.{option_map_or};
 ghost use Rattle.yaml_base.specs.Answer.{Gives};
 ghost use Rattle.yaml_shape.specs.DataView.{data_of};
 ghost use Rattle.yaml_shape.specs.Expected.{expected_text};
-ghost use Rattle.yaml_shape.specs.IntegerTypes.{least, greatest};
 ghost use Rattle.yaml_shape.specs.PlainShape.{i64 as long, i128 as longest, u64 as unsigned_long};
 ghost use Rattle.yaml_shape.specs.PlainShape.{u128 as unsigned_longest};
 ghost use Rattle.yaml_shape.specs.ShapeView.{shape_of};
@@ -14,6 +13,7 @@ ghost use Rattle.yaml_read.specs.DocEventView.{doc_scalar_of};
 ghost use Rattle.yaml_read.specs.ScalarFound.{scalar_fault};
 ghost use Rattle.yaml_read.specs.ScalarShapes.{plain_text, signed_between, signed_text};
 ghost use Rattle.yaml_read.specs.ScalarShapes.{unsigned_text, unsigned_up_to};
+ghost use Rattle.yaml_read.specs.inner.Numbers.{signed_number, unsigned_number};
 
 use crate::de::found::{found_integer_outside, found_scalar};
 use crate::de::integer::{signed_64, signed_128, unsigned_64, unsigned_128};
@@ -89,13 +89,9 @@ pub(super) fn read_signed_128<'de>(
     scalar: &DocScalar<'de>,
 ) -> Result<Data<'de>>
     ensures gives { Gives data_of result
-        (option_map_or (signed_between (least longest) (greatest longest) (expected_text (shape_of shape.now)))
-        (option_and_then (signed_text longest) (plain_text int_tag taken (doc_scalar_of scalar.now)))
-        (Err (scalar_fault (shape_of shape.now) taken (doc_scalar_of scalar.now)))) }
+        (signed_number longest (shape_of shape.now) taken (doc_scalar_of scalar.now)) }
     ensures free { is_ok result ≡ is_ok
-        (option_map_or (signed_between (least longest) (greatest longest) (expected_text (shape_of shape.now)))
-        (option_and_then (signed_text longest) (plain_text int_tag taken (doc_scalar_of scalar.now)))
-        (Err (scalar_fault (shape_of shape.now) taken (doc_scalar_of scalar.now)))) }
+        (signed_number longest (shape_of shape.now) taken (doc_scalar_of scalar.now)) }
 {
     match signed_128(taken, scalar) {
         Some(integer) => signed_between(alloc, shape, integer, i128::MIN, i128::MAX),
@@ -134,13 +130,9 @@ pub(super) fn read_unsigned_128<'de>(
     scalar: &DocScalar<'de>,
 ) -> Result<Data<'de>>
     ensures gives { Gives data_of result
-        (option_map_or (unsigned_up_to (2 ^ 128 - 1) (expected_text (shape_of shape.now)))
-        (option_and_then (unsigned_text unsigned_longest) (plain_text int_tag taken (doc_scalar_of scalar.now)))
-        (Err (scalar_fault (shape_of shape.now) taken (doc_scalar_of scalar.now)))) }
+        (unsigned_number unsigned_longest (shape_of shape.now) taken (doc_scalar_of scalar.now)) }
     ensures free { is_ok result ≡ is_ok
-        (option_map_or (unsigned_up_to (2 ^ 128 - 1) (expected_text (shape_of shape.now)))
-        (option_and_then (unsigned_text unsigned_longest) (plain_text int_tag taken (doc_scalar_of scalar.now)))
-        (Err (scalar_fault (shape_of shape.now) taken (doc_scalar_of scalar.now)))) }
+        (unsigned_number unsigned_longest (shape_of shape.now) taken (doc_scalar_of scalar.now)) }
 {
     match unsigned_128(taken, scalar) {
         Some(integer) => unsigned_up_to(alloc, shape, integer, u128::MAX),
