@@ -11,6 +11,8 @@ pub mod MeaningShapes
 pub mod Meanings
 pub mod OutcomeSteps
 pub mod Outcomes
+pub mod OwnFaults
+pub mod OwnReadings
 pub mod PartExits
 pub mod PlaceLaws
 pub mod Reaches

@@ -37,7 +37,7 @@ mod widths;
 
 ghost use Rattle.std.specs.Prelude.{◌≡◌, ◌≢◌, ◌<◌, ◌≤◌, length, Some, Err, is_ok, false};
 ghost use Rattle.yaml_base.specs.Answer.{Answers, is_memory};
-ghost use Rattle.yaml_base.specs.declared.error.Cause.TheVariants.{EndOfStream};
+ghost use Rattle.yaml_base.specs.declared.error.Cause.TheVariants.{EndOfStream, MoreThanOneDocument};
 ghost use Rattle.yaml_shape.specs.DataView.{data_of};
 ghost use Rattle.yaml_shape.specs.PlainShape.{PlainShape, shape_at};
 ghost use Rattle.yaml_shape.specs.ShapeView.{shape_of};
@@ -46,6 +46,7 @@ ghost use Rattle.yaml_read.specs.CursorReads.{LeavesCursor};
 ghost use Rattle.yaml_read.specs.Handing.{reach};
 ghost use Rattle.yaml_read.specs.PlainCursor.{fresh_cursor};
 ghost use Rattle.yaml_read.specs.Reads.{DocumentGives};
+ghost use Rattle.yaml_read.specs.StreamLaw.{IsEnding};
 ghost use Rattle.yaml_read.specs.TreeReader.{default_limits};
 
 use crate::cursor::Cursor;
@@ -73,6 +74,8 @@ pub(crate) fn copied(fault: &Error, alloc: Global) -> Error
 fn told(refusal: Refusal, ending: &Error, alloc: Global) -> Error
     ensures ended { refusal ≡ EndOfStream → is_memory result ≡ false → result ≡ ending.now }
     ensures kept { refusal ≢ EndOfStream → result ≡ refusal }
+    ensures own { refusal ≢ MoreThanOneDocument → IsEnding (Some ending.now) → is_memory result ≡ false
+        → result ≢ MoreThanOneDocument }
 {
     let fault = refusal.into_error();
     if matches!(fault.cause(), Cause::EndOfStream) {

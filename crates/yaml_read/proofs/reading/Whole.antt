@@ -1,11 +1,13 @@
 -- What a document gives, from what its reading gives.
 use Rattle.std.proofs.Common.{◌≡◌, ℕ, suc, ◌+◌, ◌*◌, ◌<◌, ◌≤◌, List, [], ◌∷◌, map, length, Some, None, Result, Ok, Err}
 use Rattle.std.proofs.Common.{false, refl, sym, ap, subst, ◌∙◌, arith}
-use Rattle.std.specs.Prelude.{slice_get}
+use Rattle.std.specs.Prelude.{◌≢◌, slice_get}
 use Rattle.std.proofs.lemmas.List.{length-map}
 use Rattle.std.proofs.lemmas.Option.{slice_get_within}
 use Rattle.yaml_base.specs.Position.{Position}
+use Rattle.yaml_base.specs.Answer.{is_memory}
 use Rattle.yaml_base.specs.declared.error.Cause.{Cause}
+use Rattle.yaml_base.specs.declared.error.Cause.TheVariants.{MoreThanOneDocument}
 use Rattle.yaml_shape.specs.PlainData.{PlainData}
 use Rattle.yaml_shape.specs.PlainShape.{PlainShape, option_shape, shape_at}
 use Rattle.yaml_shape.specs.Walks.{rank}
@@ -25,6 +27,8 @@ use Rattle.yaml_read.specs.inner.Reader.{Source, Reading, Events, node_at}
 use Rattle.yaml_read.proofs.reading.Outcomes.{Outcome, reads, deep, many}
 use Rattle.yaml_read.proofs.reading.Complete.{tree_outcome}
 use Rattle.yaml_read.proofs.reading.EndLaws.{node_ends}
+use Rattle.yaml_read.proofs.reading.OwnFaults.{own_apart}
+use Rattle.yaml_read.proofs.reading.OwnReadings.{own_node}
 use Rattle.yaml_read.proofs.reading.Shown.{Shows}
 use Rattle.yaml_read.proofs.reading.Sound.{tree_sound}
 use Rattle.yaml_read.proofs.reading.TreeLaws.{reader_tied}
@@ -136,6 +140,33 @@ module _ (limits : PlainLimits) (table : List PlainShape) (s : PlainShape) (docu
       → Err y ≡ answer_of limits table s document root
   refused y h root is = sym (landed_err _ (whole_tree limits table document.events s root) y (sym (tied root is) ∙ h))
 
+  -- no fault that reading by places answers says that there are other documents
+  pub own_fault : (y : Cause) → whole_reading limits table document s ≡ Err y → ◌≢◌ {A = Result PlainData Cause} (Err y)
+      (Err MoreThanOneDocument)
+  own_fault y h e = own_apart (whole_reading limits table document s)
+      (own_node (whole_source table document) (whole_fuel limits (length document.events)) root_way s limits.nesting None
+      (record { place = 0; left = limits.follows * length document.events })) (h ∙ ap Err (err_is y MoreThanOneDocument e))
+
+  -- nor does running out of memory
+  pub own_refusal : (y : Cause) → (is_memory y ≡ false → whole_reading limits table document s ≡ Err y)
+      → y ≢ MoreThanOneDocument
+  own_refusal y h e = own_fault y (h (ap is_memory e)) (ap Err e)
+
+  -- a document that was cut off is refused by what cut it off, or by a fault that reading answers
+  pub cut_gives : (y ending : Cause) → document.ending ≡ Some ending → y ≢ MoreThanOneDocument
+      → DocumentGives limits table s document (Err y)
+  cut_gives y ending cut own = record {
+    whole = λ v e. absurd cc;
+    found = λ root v is e. absurd cc;
+    only = λ root v is r. absurd (uncut root is);
+    refused = λ root v d k fault is m e. absurd (uncut root is);
+    own = λ e. own (err_is y MoreThanOneDocument e);
+    exact = λ root is. absurd (uncut root is);
+  }
+    where
+      uncut : (root : DocNode) → IsTreeOf document root → ⊥
+      uncut root is = let bad = sym cut ∙ is.whole in absurd cc
+
   -- walks through optionals end
   module _ (small : (id : ℕ) → rank table id ≤ 4096) (falls : (id content : ℕ) → shape_at table id
       ≡ Some (option_shape content) → rank table content < rank table id)
@@ -174,12 +205,14 @@ module _ (limits : PlainLimits) (table : List PlainShape) (s : PlainShape) (docu
 
     -- what answers as the tree does, and no data of a document that was cut off, is what the document gives
     pub gives_of_exact : (given : Result PlainData Cause) → ((v : PlainData) → given ≡ Ok v → document.ending ≡ None)
+        → given ≢ Err MoreThanOneDocument
         → ((root : DocNode) → IsTreeOf document root → given ≡ answer_of limits table s document root)
         → DocumentGives limits table s document given
-    gives_of_exact given whole exact = record {
+    gives_of_exact given whole own exact = record {
       whole = whole;
       found = λ root v is e. answer_read root is v (sym (exact root is) ∙ e);
       only = λ root v is r. exact root is ∙ read_answer root v r;
       refused = λ root v d k fault is m e. answer_refusal root v d k fault m (sym (exact root is) ∙ e);
+      own = own;
       exact = exact;
     }

@@ -2,7 +2,7 @@
 
 ghost use Rattle.std.specs.Prelude.{◌≡◌, All, IfOk};
 ghost use Rattle.yaml_read.specs.Gathering.{AreCuts, documents_in};
-ghost use Rattle.yaml_read.specs.StreamLaw.{HasTree};
+ghost use Rattle.yaml_read.specs.StreamLaw.{IsDocument};
 
 use crate::document::Document;
 use crate::loader::draft::{Cut, Draft};
@@ -12,7 +12,7 @@ use std::rc::Rc;
 // The documents, each with a share of the events and of their numbers. The only error is want of memory.
 pub(crate) fn share<'de>(alloc: Global, draft: Draft<'de>) -> Result<Vec<Document<'de>>, AllocError>
     requires cuts { AreCuts draft.events.items draft.ends.numbers draft.cuts.items }
-    requires trees { All HasTree (documents_in draft.events.items draft.cuts.items) }
+    requires documents { All IsDocument (documents_in draft.events.items draft.cuts.items) }
     ensures { IfOk result (λ documents.
         documents.items ≡ documents_in draft.entry.events.items draft.entry.cuts.items) }
 {

@@ -1,5 +1,5 @@
 -- What a document gives, and how its cursor is left, from what its reading gives.
-use Rattle.std.proofs.Common.{◌≡◌, ◌*◌, Ok, Err, sym, ap, ◌∙◌, map, length, arith}
+use Rattle.std.proofs.Common.{◌≡◌, ◌*◌, Ok, Err, sym, ap, subst, ◌∙◌, map, length, arith}
 use Rattle.std.proofs.lemmas.List.{length-map}
 use Rattle.std.specs.Option.{option_copied}
 use Rattle.yaml_base.specs.Position.{Position}
@@ -7,10 +7,12 @@ use Rattle.yaml_shape.specs.DataView.{data_of}
 use Rattle.yaml_shape.specs.ShapeView.{shape_of}
 use Rattle.yaml_read.specs.DocEventView.{doc_event_of}
 use Rattle.yaml_read.specs.PlainDocEvent.{PlainDocEvent}
+use Rattle.yaml_read.specs.StreamLaw.{IsEnding}
 use Rattle.yaml_read.specs.declared.doc_event.DocEvent.{DocEvent}
 use Rattle.yaml_read.proofs.WholeEnds.{seen_within, read_ends, leaves}
 use Rattle.yaml_read.proofs.reading.EndLaws.{ends_go_forward}
-use Rattle.yaml_read.proofs.reading.Whole.{answered, refused, gives_of_exact}
+use Rattle.yaml_read.proofs.reading.Whole.{answered, refused, own_fault, own_refusal, cut_gives}
+use Rattle.yaml_read.proofs.reading.Whole.{gives_of_exact}
 use Rattle.yaml_read.proofs.document.Document.read_by.Goals as goal
 
 pub read_node-requires-clause-forward : goal.read_node-requires-clause-forward
@@ -21,7 +23,7 @@ pub returns-in-None-clause-read : goal.returns-in-None-clause-read
 returns-in-None-clause-read c = λ fresh.
     gives_of_exact c.args.limits c.args.schema.now (shape_of c.args.shape.now) c.args.self.now
     c.optionals_end.ensures.small c.optionals_end.ensures.falls c.requires.small
-    (Ok (data_of c.in-Ok.data)) (λ v e. sym c.error.ensures ∙ ap option_copied c.in-None.is)
+    (Ok (data_of c.in-Ok.data)) (λ v e. sym c.error.ensures.shown ∙ ap option_copied c.in-None.is) (λ e. absurd cc)
     (answered c.args.limits c.args.schema.now (shape_of c.args.shape.now) c.args.self.now _ _
     (seen_within c.args.limits c.args.schema.now (shape_of c.args.shape.now) c.requires.small c.args.self.now
     c.events.result.now c.ends.result.now _
@@ -50,16 +52,31 @@ returns-in-None-clause-cursor c =
     c.nesting.result (c.follows.result * length c.events.result.now) (sym c.nesting.ensures)
     (ap (λ x. x * length c.events.result.now) (sym c.follows.ensures.value))
     c.events.ensures.shown c.ends.ensures c.in-Ok.ensures.gives) c.has_tree.ensures
-    (sym c.error.ensures ∙ ap option_copied c.in-None.is))
+    (sym c.error.ensures.shown ∙ ap option_copied c.in-None.is))
 
 pub returns-in-None-error-clause-read : goal.returns-in-None-error-clause-read
 returns-in-None-error-clause-read c = λ fresh. rw c.into_error.ensures (λ fault.
-    gives_of_exact c.args.limits c.args.schema.now (shape_of c.args.shape.now) c.args.self.now
-    c.optionals_end.ensures.small c.optionals_end.ensures.falls c.requires.small
-    (Err c.in-Err.refusal) (λ v e. sym c.error-in-Err.ensures ∙ ap option_copied c.in-None-error.is)
-    (refused c.args.limits c.args.schema.now (shape_of c.args.shape.now) c.args.self.now c.in-Err.refusal
-    (seen_within c.args.limits c.args.schema.now (shape_of c.args.shape.now) c.requires.small c.args.self.now
+    let seen = seen_within c.args.limits c.args.schema.now (shape_of c.args.shape.now) c.requires.small c.args.self.now
     c.events.result.now c.ends.result.now _
     c.nesting.result (c.follows.result * length c.events.result.now) (sym c.nesting.ensures)
     (ap (λ x. x * length c.events.result.now) (sym c.follows.ensures.value))
-    c.events.ensures.shown c.ends.ensures (λ fuel lt. c.in-Err.ensures.gives fuel lt fault))))
+    c.events.ensures.shown c.ends.ensures (λ fuel lt. c.in-Err.ensures.gives fuel lt fault) in
+    gives_of_exact c.args.limits c.args.schema.now (shape_of c.args.shape.now) c.args.self.now
+    c.optionals_end.ensures.small c.optionals_end.ensures.falls c.requires.small
+    (Err c.in-Err.refusal) (λ v e. sym c.error-in-Err.ensures.shown ∙ ap option_copied c.in-None-error.is)
+    (own_fault c.args.limits c.args.schema.now (shape_of c.args.shape.now) c.args.self.now c.in-Err.refusal seen)
+    (refused c.args.limits c.args.schema.now (shape_of c.args.shape.now) c.args.self.now c.in-Err.refusal seen))
+
+pub returns-clause-read : goal.returns-clause-read
+returns-clause-read c = λ fresh fault.
+    let cut = sym c.error-in-Err.ensures.shown ∙ ap option_copied c.in-Some-error.is in
+    cut_gives c.args.limits c.args.schema.now (shape_of c.args.shape.now) c.args.self.now c.told.result
+    c.in-Some-error.ending.now cut
+    (c.told.ensures.own
+    (own_refusal c.args.limits c.args.schema.now (shape_of c.args.shape.now) c.args.self.now c.in-Err.refusal
+    (λ known. seen_within c.args.limits c.args.schema.now (shape_of c.args.shape.now) c.requires.small c.args.self.now
+    c.events.result.now c.ends.result.now _
+    c.nesting.result (c.follows.result * length c.events.result.now) (sym c.nesting.ensures)
+    (ap (λ x. x * length c.events.result.now) (sym c.follows.ensures.value))
+    c.events.ensures.shown c.ends.ensures (λ fuel lt. c.in-Err.ensures.gives fuel lt known)))
+    (subst IsEnding cut c.error-in-Err.ensures.kind) fault)

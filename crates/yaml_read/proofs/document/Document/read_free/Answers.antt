@@ -9,7 +9,7 @@ use Rattle.yaml_read.proofs.document.Document.read_free.Goals.{in-IgnoredAny, in
 pub returns-then-matches-clause-answers : goal.returns-then-matches-clause-answers
 returns-then-matches-clause-answers c = elim c.match-matches.branch [
   | in-IgnoredAny w ↦ ignored_answered _ _ _ ignored_is (ap shape_of w.in-IgnoredAny.is)
-      (not_cut c.error.result _ c.error.ensures (sym c.is_some.ensures ∙ c.if-is_some.false))
+      (not_cut c.error.result _ c.error.ensures.shown (sym c.is_some.ensures ∙ c.if-is_some.false))
   | in_default w ↦ let bad : true ≡ false = sym c.if-matches.true ∙ w.matches-is in absurd cc
 ]
 
@@ -17,7 +17,7 @@ pub returns-clause-answers : goal.returns-clause-answers
 returns-clause-answers c =
     if_some c.read_first_scalar.result (λ x h. scalar_answered (shape_of c.args.shape.now) c.args.self.now h.0 h.1
     (data_of x) (sym c.is_leaf.ensures ∙ c.if-not-is_leaf.false)
-    (not_cut c.error.result _ c.error.ensures (sym c.is_some.ensures ∙ c.if-is_some.false)) h.2 h.3)
+    (not_cut c.error.result _ c.error.ensures.shown (sym c.is_some.ensures ∙ c.if-is_some.false)) h.2 h.3)
     c.read_first_scalar.ensures.answers
 
 pub returns-clause-scalar : goal.returns-clause-scalar

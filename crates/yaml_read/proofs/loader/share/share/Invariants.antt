@@ -2,7 +2,7 @@
 use Rattle.std.proofs.Common.{◌≡◌, ◌++◌, All, length}
 use Rattle.std.specs.Vec.Iter.{into_iter_items}
 use Rattle.yaml_read.specs.Gathering.{AreCuts, documents_in}
-use Rattle.yaml_read.specs.StreamLaw.{HasTree}
+use Rattle.yaml_read.specs.StreamLaw.{IsDocument}
 use Rattle.yaml_read.proofs.loader.share.share.Given as goal
 
 abbrev pub invariant-cuts : goal.invariant-cuts
@@ -10,7 +10,7 @@ invariant-cuts l =
     let left = into_iter_items l.rest in
     record {
       cuts : AreCuts l.events.value.items l.ends.value.items left;
-      trees : All HasTree (documents_in l.events.value.items left);
+      kept : All IsDocument (documents_in l.events.value.items left);
       documents :
           l.documents.items ++ documents_in l.events.value.items left
           ≡ documents_in l.fn.draft.events.items l.fn.draft.cuts.items;
