@@ -5,15 +5,17 @@ mod de;
 pub mod laws;
 mod refusal;
 mod ser;
+pub mod value;
 
 pub use de::{Deserializer, from_events, from_events_limited};
 pub use ser::to_events;
 pub use yaml_base::{
-    Anchor, Cause, Error, Event, FaultKind, Found, Location, MappingStart, Mark, ParserFault, Path,
-    Place, Result, Scalar, ScalarStyle, SequenceStart, Tag, emitter,
+    Anchor, Cause, EntryKey, Error, Event, FaultKind, Found, Location, MappingStart, Mark,
+    ParserFault, Path, Place, Result, Scalar, ScalarStyle, SequenceStart, Tag, WordList, Words,
+    emitter,
 };
 pub use yaml_read::Limits;
 pub use yaml_shape::{Data, Entry, Schema, SchemaFault, Shape, ShapeId, Text, Typed, VariantShape};
-pub use yaml_tree::{Mapping, Number, Sequence, TaggedValue, Value};
+pub use yaml_tree::{Mapping, Number, Sequence, TaggedValue, TreeFault, Value};
 pub use yaml_types::{BuildFault, Deserialize, RoundTrip, Serialize};
 pub use yaml_write::{OpenKind, Serializer};

@@ -1,6 +1,6 @@
 //! Writing a value of a type as a stream.
 
-ghost use Rattle.std.specs.Prelude.{map, None};
+ghost use Rattle.std.specs.Prelude.{map, None, OnOk};
 ghost use Rattle.yaml_base.specs.Answer.{Answers, Gives};
 ghost use Rattle.yaml_base.specs.EmitEvents.{emit_of};
 ghost use Rattle.yaml_shape.specs.DataView.{data_of};
@@ -45,8 +45,11 @@ fn write_stream(
 /// The events of a whole stream whose one document is the value, as the type's own `to_data` gives it. A value whose
 /// data has bytes, or a tag upon a tag, is refused, and so is a type without a schema.
 pub fn to_events<T: Serialize>(alloc: Global, value: &T) -> Result<Vec<EmitEvent>>
-    ensures { Answers (λ events. map emit_of events.items) result
+    ensures written { Answers (λ events. map emit_of events.items) result
         (TypeWrites T.start (T.written value.now)) }
+
+    // What was written keeps what the type's laws ask of a value.
+    ensures kept { OnOk result (T.kept value.now) }
 {
     let (schema, id) = match T::schema(alloc) {
         Ok(start) => start,

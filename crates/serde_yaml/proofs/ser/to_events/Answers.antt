@@ -4,13 +4,13 @@ use Rattle.yaml_base.specs.EmitEvents.{emit_of}
 use Rattle.serde_yaml.proofs.TypedLaws.{no_type_written, type_writes}
 use Rattle.serde_yaml.proofs.ser.to_events.Goals as goal
 
-pub returns-in-Err : goal.returns-in-Err
-returns-in-Err g c =
+pub returns-in-Err-clause-written : goal.returns-in-Err-clause-written
+returns-in-Err-clause-written g c =
     no_type_written g.T.Serialize.start _ c.in-Err.refused c.schema_refusal.result c.in-Err.ensures.refused
     c.schema_refusal.ensures
 
-pub returns-in-Ok-to_data : goal.returns-in-Ok-to_data
-returns-in-Ok-to_data g c =
+pub returns-in-Ok-to_data-clause-written : goal.returns-in-Ok-to_data-clause-written
+returns-in-Ok-to_data-clause-written g c =
     rw (sym c.in-Ok-to_data.ensures.ok)
     (type_writes g.T.Serialize.start _ (λ events. map emit_of events.items) _ _ c.write_stream.result
     c.in-Ok.ensures.ok.table c.in-Ok.ensures.ok.number c.write_stream.ensures.valid c.write_stream.ensures.written)

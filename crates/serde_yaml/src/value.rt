@@ -1,0 +1,3 @@
+//! Values of any kind, and what they are made of.
+
+pub use yaml_tree::{Mapping, Number, Sequence, Tag, TaggedValue, TreeFault, Value};
