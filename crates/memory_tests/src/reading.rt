@@ -1,0 +1,245 @@
+//! Loading and reading with little memory.
+
+use super::calls::{
+    document_of, is_at_end, is_refused, load, next_of, read, refused, shows_the_end, tells,
+};
+use super::shapes::{KINDS, LETTER, LETTERS, schema};
+use serde_yaml::from_events;
+use std::alloc::Global;
+use std::test::Fail;
+use test_memory::{Outcome, Scene, Shortage, refusals};
+use test_rows::lines::{events, input};
+use test_rows::rows::stream_lines;
+use yaml_base::{Error, Event, Mark, Result as Answer};
+use yaml_read::{Cursor, Document, Loader};
+use yaml_shape::{Data, Schema, ShapeId};
+
+// Whether a document comes, and has a fault.
+fn next_has_fault(loader: &mut Loader<'static>) -> Option<bool> {
+    let document = next_of(loader)?;
+    Some(document.error().is_some())
+}
+
+// How loading ended: with a whole document, one that the parser's fault cut off, and no more; or refused.
+fn loaded(answer: Answer<Loader<'static>>) -> Outcome {
+    match answer {
+        Ok(loader) => {
+            let mut loader = loader;
+            let whole = next_has_fault(&mut loader) == Some(false);
+            let cut = next_has_fault(&mut loader) == Some(true);
+            if whole && cut && next_has_fault(&mut loader).is_none() {
+                Outcome::Answered
+            } else {
+                Outcome::Wrong("other documents")
+            }
+        }
+        Err(fault) => refused(fault),
+    }
+}
+
+// A document, and then the parser's fault.
+struct Loading;
+
+impl Scene for Loading {
+    fn play(&self, alloc: Global, memory: &mut Shortage, pieces: usize) -> Result<Outcome, Fail> {
+        let input = input(alloc, "+STR; +DOC; =VAL :0; -DOC; 10:1:0 !ERR PARSER 0 bad")?;
+        memory.leave(alloc, pieces)?;
+        let answer = load(alloc, input.events, input.fault);
+        memory.restore();
+        Ok(loaded(answer))
+    }
+}
+
+#[test]
+fn loading(rt: HostRuntime) -> Result<(), Fail> {
+    assert!(rt; refusals(rt.alloc(), &Loading)? > 0);
+    Ok(())
+}
+
+// A node that is read under a shape, with the text of its data or of its fault.
+struct Reading {
+    node: &'static str,
+    shape: ShapeId,
+    expected: &'static str,
+}
+
+// Whether a cursor that was refused stays at the end, and the document is read by another as ever.
+fn stands(
+    alloc: Global,
+    document: &Document<'_>,
+    schema: &Schema,
+    id: ShapeId,
+    refused: &mut Cursor,
+    expected: &str,
+) -> Result<bool, Fail> {
+    if !schema.has(id) || refused.is_fresh() || !shows_the_end(alloc, document, refused) {
+        return Ok(false);
+    }
+    let by_refused = read(alloc, document, schema, id, refused);
+    let mut cursor = Cursor::new();
+    let by_other = read(alloc, document, schema, id, &mut cursor);
+    Ok(is_at_end(by_refused) && tells(alloc, by_other, expected)?)
+}
+
+impl Scene for Reading {
+    fn play(&self, alloc: Global, memory: &mut Shortage, pieces: usize) -> Result<Outcome, Fail> {
+        let schema = schema(alloc)?;
+        let document = document_of(alloc, self.node)?;
+        let mut cursor = Cursor::new();
+        if !schema.has(self.shape) {
+            return Ok(Outcome::Wrong("no such shape"));
+        }
+        memory.leave(alloc, pieces)?;
+        let answer = read(alloc, &document, &schema, self.shape, &mut cursor);
+        memory.restore();
+        if is_refused(&answer) {
+            if stands(
+                alloc,
+                &document,
+                &schema,
+                self.shape,
+                &mut cursor,
+                self.expected,
+            )? {
+                return Ok(Outcome::Refused);
+            }
+            return Ok(Outcome::Wrong("something changed"));
+        }
+        if tells(alloc, answer, self.expected)? {
+            return Ok(Outcome::Answered);
+        }
+        Ok(Outcome::Wrong("another answer"))
+    }
+}
+
+const READINGS: &[Reading] = &[
+    Reading {
+        node: "+SEQ; =VAL <!Newtype> :1; +SEQ <!Tuple>; =VAL :0; =VAL :0; =VAL :0; -SEQ; =VAL :Unit; =VAL <!Unit> :; -SEQ",
+        shape: KINDS,
+        expected: "[variant 1 1, variant 2 (0, 0, 0), variant 0 (), variant 0 ()]",
+    },
+    Reading {
+        node: "=VAL <!X> :1",
+        shape: LETTER,
+        expected: "unknown variant `X`, expected `A` or `B`",
+    },
+    Reading {
+        node: "2:1:0 +SEQ; 3:1:2 =VAL <!X> :; -SEQ",
+        shape: LETTERS,
+        expected: "unknown variant `X`, expected `A` or `B` at line 2 column 1",
+    },
+    Reading {
+        node: "2:1:0 +SEQ; 3:1:2 =VAL :X; -SEQ",
+        shape: LETTERS,
+        expected: ".[0]: unknown variant `X`, expected `A` or `B` at line 2 column 3",
+    },
+    Reading {
+        node: "+SEQ; =VAL &e :A; =ALI *e; -SEQ",
+        shape: LETTERS,
+        expected: "[variant 0 (), variant 0 ()]",
+    },
+];
+
+#[test]
+fn reading(rt: HostRuntime) -> Result<(), Fail> {
+    for row in READINGS {
+        let (node, expected) = (row.node, row.expected);
+        assert!(rt; refusals(rt.alloc(), row)? > 0, "{node}: {expected}");
+    }
+    Ok(())
+}
+
+// The fault by which a node is refused.
+fn fault_of(alloc: Global, node: &str) -> Result<Error, Fail> {
+    let schema = schema(alloc)?;
+    let document = document_of(alloc, node)?;
+    let mut cursor = Cursor::new();
+    if !schema.has(LETTER) {
+        return Err(Fail::new("no such shape"));
+    }
+    match read(alloc, &document, &schema, LETTER, &mut cursor) {
+        Ok(_) => Err(Fail::new("no fault")),
+        Err(fault) => Ok(fault),
+    }
+}
+
+// A fault that is copied.
+struct Copying;
+
+// The text of a fault.
+fn text_of(alloc: Global, fault: &Error) -> Result<String, Fail> {
+    Ok(fault.to_string(alloc)?)
+}
+
+// A copy of a fault.
+fn copy_of(alloc: Global, fault: &Error) -> Answer<Error> {
+    fault.copy(alloc)
+}
+
+impl Scene for Copying {
+    fn play(&self, alloc: Global, memory: &mut Shortage, pieces: usize) -> Result<Outcome, Fail> {
+        let fault = fault_of(alloc, "=VAL <!X> :1")?;
+        memory.leave(alloc, pieces)?;
+        let answer = copy_of(alloc, &fault);
+        memory.restore();
+        let text = text_of(alloc, &fault)?;
+        if text.as_str() != "unknown variant `X`, expected `A` or `B`" {
+            return Ok(Outcome::Wrong("the fault changed"));
+        }
+        match answer {
+            Ok(copy) => {
+                if text_of(alloc, &copy)?.as_str() == text.as_str() {
+                    Ok(Outcome::Answered)
+                } else {
+                    Ok(Outcome::Wrong("another fault"))
+                }
+            }
+            Err(refusal) => Ok(refused(refusal)),
+        }
+    }
+}
+
+#[test]
+fn copying_a_fault(rt: HostRuntime) -> Result<(), Fail> {
+    assert!(rt; refusals(rt.alloc(), &Copying)? > 0);
+    Ok(())
+}
+
+// A sequence that is read as a list of texts.
+struct Building;
+
+// What events read as.
+fn texts_of(alloc: Global, events: Vec<(Event<'static>, Mark)>) -> Answer<Vec<String>> {
+    from_events(alloc, events, None)
+}
+
+// Whether these are two texts.
+fn are(texts: &[String], first: &str, second: &str) -> bool {
+    texts.len() == 2 && texts[0].as_str() == first && texts[1].as_str() == second
+}
+
+impl Scene for Building {
+    fn play(&self, alloc: Global, memory: &mut Shortage, pieces: usize) -> Result<Outcome, Fail> {
+        let lines = stream_lines(alloc, "+SEQ; =VAL :one; =VAL 'two; -SEQ")?;
+        let events = events(alloc, lines.as_str())?;
+        memory.leave(alloc, pieces)?;
+        let answer = texts_of(alloc, events);
+        memory.restore();
+        match answer {
+            Ok(texts) => {
+                if are(texts.as_slice(), "one", "two") {
+                    Ok(Outcome::Answered)
+                } else {
+                    Ok(Outcome::Wrong("other texts"))
+                }
+            }
+            Err(fault) => Ok(refused(fault)),
+        }
+    }
+}
+
+#[test]
+fn building_a_value(rt: HostRuntime) -> Result<(), Fail> {
+    assert!(rt; refusals(rt.alloc(), &Building)? > 0);
+    Ok(())
+}

@@ -1,0 +1,158 @@
+//! Values and mappings that grow with little memory.
+
+use super::calls::{document_of, read};
+use super::shapes::{ANY, schema};
+use std::alloc::Global;
+use std::test::Fail;
+use test_memory::{Outcome, Scene, Shortage, refusals};
+use yaml_read::Cursor;
+use yaml_shape::Data;
+use yaml_tree::{Mapping, Number, TreeFault, Value};
+
+// A number as a value.
+fn number(whole: i64) -> Value {
+    Value::Number(Number::from_i64(whole))
+}
+
+// Puts a number at a number.
+fn put(mapping: &mut Mapping, key: i64, value: i64) -> Result<Option<Value>, TreeFault> {
+    mapping.insert(number(key), number(value))
+}
+
+// The pairs of 0 to so many numbers, each with itself.
+fn mapping_of(alloc: Global, pairs: i64) -> Result<Mapping, Fail> {
+    let mut mapping = Mapping::new(alloc);
+    for key in 0..pairs {
+        put(&mut mapping, key, key)?;
+    }
+    Ok(mapping)
+}
+
+// Whether two mappings have the same pairs in the same order.
+fn are_same(left: &Mapping, right: &Mapping) -> bool {
+    let mut rest = right.iter();
+    for (key, value) in left.iter() {
+        match rest.next() {
+            Some((other, found)) => {
+                if key != other || value != found {
+                    return false;
+                }
+            }
+            None => return false,
+        }
+    }
+    rest.next().is_none()
+}
+
+// A key that is put into a mapping of so many numbers.
+#[derive(Drop)]
+struct Inserting {
+    pairs: i64,
+    key: i64,
+}
+
+// Whether a mapping has one pair more than another, at a key that is new, or the same keys.
+fn has_gained(mapping: &Mapping, before: &Mapping, key: i64) -> bool {
+    let gained = if before.get(&number(key)).is_some() {
+        0
+    } else {
+        1
+    };
+    mapping.len().checked_sub(before.len()) == Some(gained)
+        && mapping.get(&number(key)) == Some(&number(7))
+}
+
+impl Scene for Inserting {
+    fn play(&self, alloc: Global, memory: &mut Shortage, pieces: usize) -> Result<Outcome, Fail> {
+        let before = mapping_of(alloc, self.pairs)?;
+        let mut mapping = mapping_of(alloc, self.pairs)?;
+        memory.leave(alloc, pieces)?;
+        let answer = put(&mut mapping, self.key, 7);
+        memory.restore();
+        let is_refused = match answer {
+            Ok(_) => false,
+            Err(TreeFault::Memory) => true,
+            Err(TreeFault::EmptyTag) => return Ok(Outcome::Wrong("another fault")),
+        };
+        if is_refused {
+            if !are_same(&mapping, &before) {
+                return Ok(Outcome::Wrong("the mapping changed"));
+            }
+            put(&mut mapping, self.key, 7)?;
+        }
+        if !has_gained(&mapping, &before, self.key) {
+            return Ok(Outcome::Wrong("another mapping"));
+        }
+        if is_refused {
+            return Ok(Outcome::Refused);
+        }
+        Ok(Outcome::Answered)
+    }
+}
+
+#[test]
+fn inserting(rt: HostRuntime) -> Result<(), Fail> {
+    for (pairs, key, takes_memory) in [
+        (0, 0, true),
+        (1, 0, false),
+        (4, 4, true),
+        (4, 3, false),
+        (16, 16, true),
+        (16, 0, false),
+    ] {
+        let refused = refusals(rt.alloc(), &Inserting { pairs, key })?;
+        assert_eq!(rt; refused > 0, takes_memory, "{key} into {pairs}");
+    }
+    Ok(())
+}
+
+// A value that is copied.
+struct Copying;
+
+// What a node is as any value.
+fn value_of(alloc: Global, node: &str) -> Result<Value, Fail> {
+    let schema = schema(alloc)?;
+    let document = document_of(alloc, node)?;
+    let mut cursor = Cursor::new();
+    if !schema.has(ANY) {
+        return Err(Fail::new("no such shape"));
+    }
+    match read(alloc, &document, &schema, ANY, &mut cursor) {
+        Ok(Data::Any(value)) => Ok(value),
+        _ => Err(Fail::new("no value")),
+    }
+}
+
+// A copy of a value.
+fn copy_of(alloc: Global, value: &Value) -> Result<Value, TreeFault> {
+    value.copy(alloc)
+}
+
+impl Scene for Copying {
+    fn play(&self, alloc: Global, memory: &mut Shortage, pieces: usize) -> Result<Outcome, Fail> {
+        let value = value_of(
+            alloc,
+            "+SEQ; =VAL <!Newtype> :1; +SEQ <!Tuple>; =VAL :0; =VAL :0; =VAL :0; -SEQ; =VAL :Unit; =VAL <!Unit> :; -SEQ",
+        )?;
+        memory.leave(alloc, pieces)?;
+        let answer = copy_of(alloc, &value);
+        memory.restore();
+        match answer {
+            Ok(copy) => {
+                if copy == value {
+                    Ok(Outcome::Answered)
+                } else {
+                    Ok(Outcome::Wrong("another value"))
+                }
+            }
+            Err(TreeFault::Memory) => Ok(Outcome::Refused),
+            Err(TreeFault::EmptyTag) => Ok(Outcome::Wrong("another fault")),
+        }
+    }
+}
+
+#[test]
+fn copying(rt: HostRuntime) -> Result<(), Fail> {
+    assert!(rt; refusals(rt.alloc(), &Copying)? > 0);
+    Ok(())
+}

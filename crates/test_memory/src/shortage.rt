@@ -1,0 +1,85 @@
+//! Memory that is used up.
+
+use std::alloc::{AllocError, Global};
+
+// How many blocks are taken at most.
+const BLOCKS: usize = 100_000;
+
+// The size of the first block that is asked for, which is more than there is.
+const LARGEST: usize = 1 << 40;
+
+// What is kept for making what a call needs: a block that the allocator takes from its heap, and asks of the system
+// no more.
+const RESERVE: usize = 100_000;
+
+// A block that is too large for the lists of small blocks that the allocator keeps when they are freed.
+const PAD: usize = 4096;
+
+// The least by which two blocks of the allocator differ.
+const PIECE: usize = 16;
+
+// Takes blocks, each as large as can be had, until not a byte is left.
+fn drain(alloc: Global, blocks: &mut Vec<Vec<u8>>, largest: usize) {
+    let mut size = largest;
+    for _ in 0..BLOCKS {
+        if size == 0 || blocks.len() == blocks.capacity() {
+            return;
+        }
+        match Vec::with_capacity(alloc, size) {
+            Ok(block) => {
+                if blocks.push(block).is_err() {
+                    return;
+                }
+            }
+            Err(_) => size /= 2,
+        }
+    }
+}
+
+/// Memory of this process that is used up, but for a reserve in which a test makes what it needs. Dropping it gives all
+/// memory back.
+///
+/// It counts on an allocator that takes blocks by halves of a size of its own, as glibc's does, and on a system that
+/// gives memory out before it is touched. Nothing is touched, so that it takes no time and no memory to speak of.
+#[derive(Drop)]
+pub struct Shortage {
+    large: Vec<Vec<u8>>,
+    small: Vec<Vec<u8>>,
+    fence: Vec<u8>,
+    pad: Option<Vec<u8>>,
+}
+
+impl Shortage {
+    /// Uses up all memory but the reserve.
+    pub fn new(alloc: Global) -> Result<Shortage, AllocError> {
+        let mut large = Vec::with_capacity(alloc, BLOCKS)?;
+        let small = Vec::with_capacity(alloc, BLOCKS)?;
+        let reserve: Vec<u8> = Vec::with_capacity(alloc, RESERVE)?;
+        // keeps the reserve from growing into what lies behind it
+        let fence = Vec::with_capacity(alloc, PAD)?;
+        drain(alloc, &mut large, LARGEST);
+        drop(reserve);
+        Ok(Shortage {
+            large,
+            small,
+            fence,
+            pad: None,
+        })
+    }
+
+    /// Uses up what is left of the reserve, but for so many pieces of 16 bytes.
+    pub fn leave(&mut self, alloc: Global, pieces: usize) -> Result<(), AllocError> {
+        let left = pieces.saturating_mul(PIECE);
+        let kept: Vec<u8> = Vec::with_capacity(alloc, PAD.saturating_add(left))?;
+        drain(alloc, &mut self.small, RESERVE);
+        drop(kept);
+        self.pad = Some(Vec::with_capacity(alloc, PAD)?);
+        Ok(())
+    }
+
+    /// Gives the reserve back.
+    pub fn restore(&mut self) {
+        self.pad = None;
+        self.small.clear();
+    }
+}
