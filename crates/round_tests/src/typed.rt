@@ -100,11 +100,19 @@ fn values_come_back(rt: HostRuntime) -> Result<(), Fail> {
     Ok(())
 }
 
+const NULL: &str = "StreamStart
+DocumentStart
+Scalar(EmitScalar { tag: None, value: \"null\", style: Plain })
+DocumentEnd
+StreamEnd
+";
+
 // A present optional of nothing is written as null, and so it is read as absent: it does not fit.
 #[test]
 fn nothing_within_an_optional_is_lost(rt: HostRuntime) -> Result<(), Fail> {
     let alloc = rt.alloc();
     let written = to_events(alloc, &Some(()))?;
+    assert_eq!(rt; told(alloc, &written)?.as_str(), NULL);
     let found: Option<()> = from_events(alloc, rendered(alloc, &written, 0)?, None)?;
     assert_eq!(rt; found, None);
     Ok(())
