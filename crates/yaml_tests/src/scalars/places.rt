@@ -97,12 +97,12 @@ const ROWS: &[Row] = &[
     ),
     (
         TWO_BYTES,
-        "0:1:0 +SEQ; =VAL :0; =VAL :0; =VAL :0; -SEQ",
+        "0:1:0 +SEQ; 0:0:0 =VAL :0; 0:0:0 =VAL :0; 0:0:0 =VAL :0; 0:1:0 -SEQ",
         "invalid length 3, expected sequence of 2 elements at line 2 column 1",
     ),
     (
         THREE_BYTES,
-        "0:1:0 +SEQ; =VAL :0; =VAL :0; -SEQ",
+        "0:1:0 +SEQ; 0:0:0 =VAL :0; 0:0:0 =VAL :0; 0:1:0 -SEQ",
         "invalid length 2, expected a tuple of size 3 at line 2 column 1",
     ),
     (

@@ -136,7 +136,8 @@ fn documents_come_one_by_one(rt: HostRuntime) -> Result<(), Fail> {
             "1 / [2, 2] / unknown anchor at line 1 column 10 / none",
         ),
         (
-            "+STR; +DOC; =VAL &a :1; -DOC; +DOC; +SEQ; =VAL &a :2; =ALI *a; -SEQ; -DOC; +DOC; 0:0:0 =ALI *a; -DOC; -STR",
+            "+STR; +DOC; =VAL &a :1; -DOC; +DOC; +SEQ; =VAL &a :2; =ALI *a; -SEQ; -DOC; \
+                +DOC; 0:0:0 =ALI *a; -DOC; -STR",
             [ANY, ANY, ANY, ANY],
             "1 / [2, 2] / unknown anchor / none",
         ),

@@ -45,6 +45,7 @@ fn unit_field(alloc: Global) -> Result<Shape, AllocError> {
 
 /// The schema of the shapes.
 pub fn schema(alloc: Global) -> Result<Schema, Fail> {
+    let unit_field = unit_field(alloc)?;
     let shapes = vec![in alloc;
         Shape::I64,
         Shape::Str,
@@ -56,7 +57,7 @@ pub fn schema(alloc: Global) -> Result<Schema, Fail> {
         Shape::Usize,
         Shape::Bytes,
         Shape::Unit,
-        unit_field(alloc)?,
+        unit_field,
     ]?;
     schema_of(alloc, shapes)
 }
