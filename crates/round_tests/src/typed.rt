@@ -35,8 +35,8 @@ fn refusal<'de, T: Deserialize<'de> + Drop>(alloc: Global, lines: &str) -> Resul
     message::<T>(alloc, from_events(alloc, events(alloc, lines)?, None))
 }
 
-// The events, a line each.
-fn told(alloc: Global, events: &[EmitEvent]) -> Result<String, Fail> {
+/// The events, a line each.
+pub fn told(alloc: Global, events: &[EmitEvent]) -> Result<String, Fail> {
     let mut out = String::new(alloc);
     for event in events {
         write!(out, "{event:?}\n")?;
