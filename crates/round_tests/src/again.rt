@@ -3,7 +3,7 @@
 use super::renderer::rendered;
 use super::shapes::{
     ANY, BOOL, CHAR, ENUM, ENUMS, I64, IGNORED, MAP, NEWTYPE, NOTHING, OPTION, OPTIONS, OUTER, STR,
-    STRUCT, TEXT, TUPLE, U128, UNIT, schema,
+    STRICT, STRUCT, TEXT, TUPLE, U128, UNIT, schema,
 };
 use std::alloc::Global;
 use std::process::Abort;
@@ -187,6 +187,11 @@ const ENUMS_ROWS: &[Row] = &[
         "[variant 1 1, variant 0 ()]",
     ),
     (OUTER, "=VAL <!Inner> :A", "variant 0 variant 0 ()"),
+    (
+        STRICT,
+        "+MAP <!C>; =VAL :d; =VAL :true; -MAP",
+        "variant 0 struct(true)",
+    ),
 ];
 
 #[test]
@@ -219,6 +224,45 @@ const VALUES: &[Row] = &[
 #[test]
 fn values_read_back(rt: HostRuntime) -> Result<(), Fail> {
     check(&rt, VALUES)
+}
+
+// Writes a text. It promises nothing, so that its callers are proved quickly.
+fn write_text(out: &mut Serializer, text: &str) -> Result<(), Fail> {
+    Ok(out.serialize_str(text)?)
+}
+
+// The events of a stream of one document of a text.
+fn text_written(alloc: Global, text: &str) -> Result<Vec<EmitEvent>, Fail> {
+    let mut out = Serializer::new(alloc)?;
+    write_text(&mut out, text)?;
+    events_of(out)
+}
+
+// A text, and how it is shown.
+const TEXTS: &[(&str, &str)] = &[
+    ("true", "\"true\""),
+    ("1", "\"1\""),
+    ("null", "\"null\""),
+    ("007", "\"007\""),
+    ("1e999", "\"1e999\""),
+    ("a", "\"a\""),
+    ("a\nb", "\"a\\x0ab\""),
+];
+
+#[test]
+fn a_text_reads_back_as_text_under_any_and_str(rt: HostRuntime) -> Result<(), Fail> {
+    let alloc = rt.alloc();
+    let schema = schema(alloc)?;
+    for &(text, expected) in TEXTS {
+        let events = text_written(alloc, text)?;
+        for turn in 0..TURNS {
+            for id in [ANY, STR] {
+                let found = read_again(alloc, &schema, id, &events, turn)?;
+                assert_eq!(rt; found.as_str(), expected, "{text} in turn {turn}");
+            }
+        }
+    }
+    Ok(())
 }
 
 // A present optional whose content is written as null reads back absent: such data does not fit.

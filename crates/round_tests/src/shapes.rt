@@ -43,6 +43,8 @@ pub const ENUMS: ShapeId = ShapeId(17);
 
 pub const OUTER: ShapeId = ShapeId(18);
 
+pub const STRICT: ShapeId = ShapeId(19);
+
 // A name.
 fn name(alloc: Global, text: &str) -> Result<String, AllocError> {
     String::from_str(alloc, text)
@@ -101,6 +103,16 @@ fn around(alloc: Global) -> Result<Shape, AllocError> {
     })
 }
 
+// An enum of one variant, whose fields are strict.
+fn strict(alloc: Global) -> Result<Shape, AllocError> {
+    let fields = fields(alloc, &[("d", BOOL)])?;
+    let content = (name(alloc, "C")?, VariantShape::StrictStruct(fields));
+    Ok(Shape::Enum {
+        name: name(alloc, "E")?,
+        variants: vec![in alloc; content]?,
+    })
+}
+
 // A shape that has a name.
 fn named(alloc: Global, number: u32) -> Result<Shape, AllocError> {
     match number {
@@ -113,7 +125,8 @@ fn named(alloc: Global, number: u32) -> Result<Shape, AllocError> {
             fields: fields(alloc, &[("b", I64), ("a", OPTION), ("true", STR)])?,
         }),
         16 => of_each_kind(alloc),
-        _ => around(alloc),
+        18 => around(alloc),
+        _ => strict(alloc),
     }
 }
 
@@ -142,7 +155,7 @@ fn shape(alloc: Global, number: u32) -> Result<Shape, AllocError> {
 /// The schema of all these shapes.
 pub fn schema(alloc: Global) -> Result<Schema, Fail> {
     let mut shapes = Vec::new(alloc);
-    for number in 0..19 {
+    for number in 0..20 {
         shapes.push(shape(alloc, number)?)?;
     }
     schema_of(alloc, shapes)

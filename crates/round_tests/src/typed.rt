@@ -35,8 +35,8 @@ fn refusal<'de, T: Deserialize<'de> + Drop>(alloc: Global, lines: &str) -> Resul
     message::<T>(alloc, from_events(alloc, events(alloc, lines)?, None))
 }
 
-// The events, a line each.
-fn told(alloc: Global, events: &[EmitEvent]) -> Result<String, Fail> {
+/// The events, a line each.
+pub fn told(alloc: Global, events: &[EmitEvent]) -> Result<String, Fail> {
     let mut out = String::new(alloc);
     for event in events {
         write!(out, "{event:?}\n")?;
@@ -100,11 +100,19 @@ fn values_come_back(rt: HostRuntime) -> Result<(), Fail> {
     Ok(())
 }
 
+const NULL: &str = "StreamStart
+DocumentStart
+Scalar(EmitScalar { tag: None, value: \"null\", style: Plain })
+DocumentEnd
+StreamEnd
+";
+
 // A present optional of nothing is written as null, and so it is read as absent: it does not fit.
 #[test]
 fn nothing_within_an_optional_is_lost(rt: HostRuntime) -> Result<(), Fail> {
     let alloc = rt.alloc();
     let written = to_events(alloc, &Some(()))?;
+    assert_eq!(rt; told(alloc, &written)?.as_str(), NULL);
     let found: Option<()> = from_events(alloc, rendered(alloc, &written, 0)?, None)?;
     assert_eq!(rt; found, None);
     Ok(())

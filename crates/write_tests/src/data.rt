@@ -186,7 +186,7 @@ fn content<'a>(alloc: Global, number: usize) -> Result<(usize, Data<'a>), Fail> 
         0 => Ok((0, Data::Unit)),
         1 => Ok((1, int(1))),
         2 => Ok((2, Data::Tuple(same(alloc, 0, 3)?))),
-        3 => Ok((3, Data::Struct(same(alloc, 32, 3)?))),
+        3 => Ok((3, Data::Struct(vec![in alloc; int(32), int(64), int(96)]?))),
         4 => Ok((4, Data::Struct(vec![in alloc; int(1), int(2)]?))),
         5 => Ok((5, any(alloc, &LIST)?)),
         7 => Ok((7, Data::None)),
@@ -222,7 +222,7 @@ const CONTENTS: &[(usize, &str)] = &[
     (2, "+SEQ !Tuple plain 0 plain 0 plain 0 -SEQ"),
     (
         3,
-        "+MAP !Color any r plain 32 any g plain 32 any b plain 32 -MAP",
+        "+MAP !Color any r plain 32 any g plain 64 any b plain 96 -MAP",
     ),
     (4, "+MAP !Strict any e plain 1 any d plain 2 -MAP"),
     (5, "+SEQ !Any plain !t null -SEQ"),

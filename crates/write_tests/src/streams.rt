@@ -4,7 +4,7 @@ use super::nodes::{COLLECTIONS, EMPTY, Node, SINGLE};
 use super::runs::{holds, succeed};
 use super::shown::shown;
 use super::steps::{Step, does};
-use super::values::Literal;
+use super::values::{Literal, Shaped};
 use std::alloc::Global;
 use std::process::Abort;
 use std::test::Fail;
@@ -35,6 +35,30 @@ fn nothing_written(rt: HostRuntime) -> Result<(), Fail> {
     out.flush()?;
     assert!(rt; holds(rt.alloc(), &out, "")? && out.open_kind().is_none());
     assert!(rt; ends_as(rt.alloc(), out, "+STR -STR")?);
+    Ok(())
+}
+
+// A mapping of one entry, each of whose parts is of a shape of its own.
+const ONE_ENTRY: &[Step] = &[
+    Step::Open(OpenKind::Map),
+    Step::Entry(
+        Literal::Shaped(Shaped::Map("a", 1)),
+        Literal::Shaped(Shaped::Integer(2)),
+    ),
+    Step::End,
+];
+
+#[test]
+fn one_entry_written(rt: HostRuntime) -> Result<(), Fail> {
+    let mut out = Serializer::new(rt.alloc())?;
+    assert!(rt; succeed(rt.alloc(), &mut out, ONE_ENTRY)?);
+    assert!(rt;
+        ends_as(
+            rt.alloc(),
+            out,
+            "+STR +DOC +MAP +MAP any a plain 1 -MAP plain 2 -MAP -DOC -STR"
+        )?
+    );
     Ok(())
 }
 

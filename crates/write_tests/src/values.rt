@@ -2,7 +2,7 @@
 
 use std::alloc::{AllocError, Global};
 use std::test::Fail;
-use yaml_shape::{Data, Schema, Shape, ShapeId, VariantShape};
+use yaml_shape::{Data, Entry, Schema, Shape, ShapeId, Text, VariantShape};
 use yaml_tree::{Mapping, Number, Sequence, Tag, TaggedValue, Value};
 
 /// Data that is no value.
@@ -16,6 +16,10 @@ pub enum Shaped {
     Variant,
     /// A variant whose content is that variant.
     VariantInVariant,
+    /// An integer.
+    Integer(i64),
+    /// A map of one pair, from a text to an integer.
+    Map(&'static str, i64),
 }
 
 /// A value as a literal, or other data.
@@ -84,7 +88,7 @@ fn variants(alloc: Global, own: u32) -> Result<Vec<(String, VariantShape)>, Allo
     ]?)
 }
 
-/// The shapes of all literals: any value, bytes, a pair with bytes, an enum.
+/// The shapes of all literals: any value, bytes, a pair with bytes, an enum, integers, and maps from texts to them.
 pub fn schema(alloc: Global) -> Result<Schema, Fail> {
     let shapes = vec![in alloc;
         Shape::Any,
@@ -94,6 +98,9 @@ pub fn schema(alloc: Global) -> Result<Schema, Fail> {
             name: String::from_str(alloc, "E")?,
             variants: variants(alloc, 3)?
         },
+        Shape::I64,
+        Shape::Str,
+        Shape::Map(ShapeId(5), ShapeId(4)),
     ]?;
     Ok(Schema::new(alloc, shapes)?)
 }
@@ -114,6 +121,15 @@ fn null_and_bytes<'a>(alloc: Global) -> Result<Data<'a>, Fail> {
     Ok(Data::Tuple(vec![in alloc; null, Data::Bytes(Vec::new(alloc))]?))
 }
 
+// A map of one pair.
+fn map<'a>(alloc: Global, key: &'static str, value: i64) -> Result<Data<'a>, AllocError> {
+    let pair = Entry {
+        key: Data::Str(Text::Borrowed(key)),
+        value: Data::Signed(value as i128),
+    };
+    Ok(Data::Map(vec![in alloc; pair]?))
+}
+
 /// The data of a literal, and the number of its shape.
 pub fn data<'a>(alloc: Global, literal: &Literal) -> Result<(ShapeId, Data<'a>), Fail> {
     match literal {
@@ -123,6 +139,10 @@ pub fn data<'a>(alloc: Global, literal: &Literal) -> Result<(ShapeId, Data<'a>),
         Literal::Shaped(Shaped::VariantInVariant) => {
             Ok((ShapeId(3), variant(alloc, 1, variant_of_one(alloc)?)?))
         }
+        Literal::Shaped(Shaped::Integer(number)) => {
+            Ok((ShapeId(4), Data::Signed(*number as i128)))
+        }
+        Literal::Shaped(Shaped::Map(key, number)) => Ok((ShapeId(6), map(alloc, key, *number)?)),
         _ => Ok((ShapeId(0), Data::Any(value(alloc, literal)?))),
     }
 }

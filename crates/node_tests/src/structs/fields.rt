@@ -1,8 +1,8 @@
 //! What structs read as.
 
 use super::shapes::{
-    BASIC, BASICS, DEEP, LATE, NOTHING, OPTIONAL, STRICT, STRICTS, TEXTS, UNIT_FIELD, WRAPPED,
-    check,
+    BASIC, BASICS, DEEP, LAST_OPTIONAL, LATE, NOTHING, OPTIONAL, STRICT, STRICTS, TEXTS,
+    UNIT_FIELD, WRAPPED, check,
 };
 use std::test::Fail;
 use test_rows::rows::Row;
@@ -92,6 +92,11 @@ const ROWS: &[Row] = &[
         "new(struct(true, true))",
     ),
     (OPTIONAL, "=VAL :", "struct(none)"),
+    (
+        LAST_OPTIONAL,
+        "+MAP; =VAL :a; =VAL :1; -MAP",
+        "struct(1, none)",
+    ),
 ];
 
 #[test]

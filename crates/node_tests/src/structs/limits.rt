@@ -56,12 +56,20 @@ fn a_newtype_is_a_nesting(rt: HostRuntime) -> Result<(), Fail> {
 #[test]
 fn a_newtype_within_itself_is_nested_too_deeply(rt: HostRuntime) -> Result<(), Fail> {
     let alloc = rt.alloc();
-    let shapes = vec![in alloc; newtype(alloc, ShapeId(0))?]?;
-    let refused = reading(alloc, "5:2:3 =VAL :x", shapes)?;
-    assert_eq!(rt;
-        refused.as_str(),
-        "recursion limit exceeded at line 3 column 4"
-    );
+    for &(node, expected) in &[
+        (
+            "5:2:3 =VAL :x",
+            "recursion limit exceeded at line 3 column 4",
+        ),
+        (
+            "0:0:4 =VAL :1",
+            "recursion limit exceeded at line 1 column 5",
+        ),
+    ] {
+        let shapes = vec![in alloc; newtype(alloc, ShapeId(0))?]?;
+        let refused = reading(alloc, node, shapes)?;
+        assert_eq!(rt; refused.as_str(), expected, "{node}");
+    }
     Ok(())
 }
 

@@ -1,8 +1,8 @@
 //! Structs that are refused: fields that are missing, there twice or unknown, and nodes that are no struct.
 
 use super::shapes::{
-    BASIC, BASICS, DEEP, LATE, NOTHING, OPTIONAL, STRICT, STRICTS, TEXTS, UNIT_FIELD, WRAPPED,
-    check,
+    BASIC, BASICS, DEEP, LATE, NOTHING, OPTIONAL, STRICT, STRICTS, TEXTS, UNIT_FIELD,
+    WITHIN_ITSELF, WRAPPED, check,
 };
 use std::test::Fail;
 use test_rows::rows::Row;
@@ -108,9 +108,20 @@ const ROWS: &[Row] = &[
         ".[0]: unknown field `x`, expected `v` or `w` at line 1 column 5",
     ),
     (
+        STRICTS,
+        "0:0:0 +SEQ; 0:0:0 +MAP; 0:0:0 =VAL :v; 0:0:0 =VAL :true; 0:0:9 =VAL :x; 0:0:0 =VAL :1; \
+            0:0:0 =VAL :w; 0:0:0 =VAL :true; 0:0:0 -MAP; 0:0:0 -SEQ",
+        ".[0]: unknown field `x`, expected `v` or `w` at line 1 column 10",
+    ),
+    (
         NOTHING,
         "+MAP; =VAL :x; =VAL :1; -MAP",
         "unknown field `x`, there are no fields at line 1 column 2",
+    ),
+    (
+        NOTHING,
+        "0:0:0 +MAP; 0:0:0 =VAL :x; 0:0:0 =VAL :1; 0:0:0 -MAP",
+        "unknown field `x`, there are no fields",
     ),
     (
         NOTHING,
@@ -135,6 +146,17 @@ const ROWS: &[Row] = &[
         UNIT_FIELD,
         "+MAP; =VAL :b; +SEQ; =ALI *a; -SEQ; =VAL :c; =VAL :~; -MAP",
         "unknown anchor at line 1 column 4",
+    ),
+    (
+        UNIT_FIELD,
+        "0:0:0 +MAP; 0:0:0 =VAL :b; 0:0:3 +SEQ; 0:0:4 =ALI *a; 0:0:3 -SEQ; \
+            0:1:0 =VAL :c; 0:1:3 =VAL :~; 0:0:0 -MAP",
+        "unknown anchor at line 1 column 5",
+    ),
+    (
+        WITHIN_ITSELF,
+        "0:0:0 +MAP &a; 0:0:0 =VAL :x; 0:0:0 =ALI *a; 0:0:0 -MAP",
+        "recursion limit exceeded",
     ),
     (
         BASICS,

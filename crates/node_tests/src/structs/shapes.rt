@@ -40,6 +40,12 @@ pub const WRAPPED: ShapeId = ShapeId(14);
 
 pub const OPTIONAL: ShapeId = ShapeId(15);
 
+pub const LAST_OPTIONAL: ShapeId = ShapeId(16);
+
+pub const WITHIN_ITSELF: ShapeId = ShapeId(17);
+
+const SOME_OF_ITSELF: ShapeId = ShapeId(18);
+
 // The fields, by their names and shapes.
 fn fields(alloc: Global, named: &[(&str, ShapeId)]) -> Result<Vec<(String, ShapeId)>, AllocError> {
     let mut fields = Vec::new(alloc);
@@ -65,34 +71,46 @@ fn strict_of(alloc: Global, name: &str, named: &[(&str, ShapeId)]) -> Result<Sha
     })
 }
 
-// The shapes, in the order of their numbers.
-fn shapes(alloc: Global) -> Result<Vec<Shape>, AllocError> {
-    Ok(vec![in alloc;
-        Shape::Bool,
-        Shape::I64,
-        Shape::Str,
-        Shape::Option(I64),
-        Shape::Unit,
-        fields_of(alloc, "Basic", &[("v", BOOL), ("w", BOOL)])?,
-        strict_of(alloc, "Basic", &[("v", BOOL), ("w", BOOL)])?,
-        fields_of(alloc, "Texts", &[("empty", STR), ("tilde", STR)])?,
-        fields_of(alloc, "Late", &[("x", OPTION), ("y", I64), ("z", I64)])?,
-        strict_of(alloc, "Nothing", &[])?,
-        fields_of(alloc, "Unit", &[("c", UNIT)])?,
-        Shape::Seq(STRICT),
-        Shape::Map(STR, BASIC),
-        fields_of(alloc, "Deep", &[("a", BASIC), ("b", OPTION)])?,
-        Shape::Newtype {
-            name: String::from_str(alloc, "Wrapped")?,
-            inner: BASIC,
-        },
-        fields_of(alloc, "Optional", &[("b", OPTION)])?,
-    ]?)
+// A newtype around a struct.
+fn wrapped(alloc: Global) -> Result<Shape, AllocError> {
+    Ok(Shape::Newtype {
+        name: String::from_str(alloc, "Wrapped")?,
+        inner: BASIC,
+    })
+}
+
+// The shape with this number.
+fn shape(alloc: Global, number: u32) -> Result<Shape, AllocError> {
+    match number {
+        0 => Ok(Shape::Bool),
+        1 => Ok(Shape::I64),
+        2 => Ok(Shape::Str),
+        3 => Ok(Shape::Option(I64)),
+        4 => Ok(Shape::Unit),
+        5 => fields_of(alloc, "Basic", &[("v", BOOL), ("w", BOOL)]),
+        6 => strict_of(alloc, "Basic", &[("v", BOOL), ("w", BOOL)]),
+        7 => fields_of(alloc, "Texts", &[("empty", STR), ("tilde", STR)]),
+        8 => fields_of(alloc, "Late", &[("x", OPTION), ("y", I64), ("z", I64)]),
+        9 => strict_of(alloc, "Nothing", &[]),
+        10 => fields_of(alloc, "Unit", &[("c", UNIT)]),
+        11 => Ok(Shape::Seq(STRICT)),
+        12 => Ok(Shape::Map(STR, BASIC)),
+        13 => fields_of(alloc, "Deep", &[("a", BASIC), ("b", OPTION)]),
+        14 => wrapped(alloc),
+        15 => fields_of(alloc, "Optional", &[("b", OPTION)]),
+        16 => fields_of(alloc, "Last", &[("a", I64), ("b", OPTION)]),
+        17 => fields_of(alloc, "S", &[("x", SOME_OF_ITSELF)]),
+        _ => Ok(Shape::Option(WITHIN_ITSELF)),
+    }
 }
 
 // The schema of the shapes.
 fn schema(alloc: Global) -> Result<Schema, Fail> {
-    schema_of(alloc, shapes(alloc)?)
+    let mut shapes = Vec::new(alloc);
+    for number in 0..19 {
+        shapes.push(shape(alloc, number)?)?;
+    }
+    schema_of(alloc, shapes)
 }
 
 /// Reads the node of each row.

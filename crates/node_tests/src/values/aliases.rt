@@ -1,6 +1,6 @@
 //! Aliases among any values: each stands for the last node with its anchor before it.
 
-use super::shapes::{ANY, PAIR, check};
+use super::shapes::{ANY, IGNORED, NUMBERS, PAIR, TRUTHS_AS_KEYS, check};
 use std::test::Fail;
 use test_rows::rows::Row;
 
@@ -31,6 +31,12 @@ const ROWS: &[Row] = &[
         "{\"first\": 1, \"second\": 1, \"third\": 3}",
     ),
     (
+        NUMBERS,
+        "+MAP; =VAL :first; =VAL &alias :1; =VAL :second; =ALI *alias; =VAL :third; =VAL :3; -MAP",
+        "{\"first\": 1, \"second\": 1, \"third\": 3}",
+    ),
+    (ANY, "+SEQ; =VAL &\\xff :1; =ALI *\\xff; -SEQ", "[1, 1]"),
+    (
         ANY,
         "+MAP; +MAP &m; =VAL :k; =VAL :x; -MAP; =VAL :; =VAL :a; =ALI *m; -MAP",
         "{{\"k\": \"x\"}: null, \"a\": {\"k\": \"x\"}}",
@@ -45,6 +51,7 @@ const ROWS: &[Row] = &[
         "0:0:0 +SEQ &a; =ALI *a; -SEQ",
         "recursion limit exceeded",
     ),
+    (IGNORED, "0:0:0 +SEQ &a; =ALI *a; -SEQ", "ignored"),
     (
         ANY,
         "0:0:0 +MAP &a; =VAL :x; =ALI *a; -MAP",
@@ -74,6 +81,12 @@ const ROWS: &[Row] = &[
         PAIR,
         "+SEQ; 3:1:2 =VAL &a :1.5; 9:4:4 =ALI *a; -SEQ",
         ".[1]: floating point `1.5` is not supported at line 2 column 3",
+    ),
+    (
+        TRUTHS_AS_KEYS,
+        "0:0:0 +MAP; 0:0:0 =VAL :; 0:0:0 +MAP &m; 0:0:0 =VAL :k; 0:0:9 =VAL :x; 0:0:0 -MAP; \
+            0:0:0 =ALI *m; 0:0:0 =VAL :; 0:0:0 -MAP",
+        "k: invalid type: string \"x\", expected a boolean at line 1 column 10",
     ),
 ];
 

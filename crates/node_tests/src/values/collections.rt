@@ -1,6 +1,8 @@
 //! Sequences and mappings that are read as any value, and keys that stand twice.
 
-use super::shapes::{ANY, KEYS, LIST, OPTION, TEXTS, UNKNOWN, WRAPPED, check};
+use super::shapes::{
+    ANY, KEYS, LIST, NUMBERS, OPTION, TEXTS, UNKNOWN, UNKNOWN_TRUTHS, WRAPPED, check,
+};
 use std::test::Fail;
 use test_rows::rows::Row;
 
@@ -34,6 +36,11 @@ const ROWS: &[Row] = &[
         "{\"a\": 1, \"a\": 2}",
     ),
     (
+        NUMBERS,
+        "+MAP; =VAL :a; =VAL :1; =VAL 'a; =VAL :2; -MAP",
+        "{\"a\": 1, \"a\": 2}",
+    ),
+    (
         KEYS,
         "+MAP; +MAP; =VAL :a; =VAL :1; -MAP; =VAL :7; -MAP",
         "{{\"a\": 1}: 7}",
@@ -57,6 +64,11 @@ const ROWS: &[Row] = &[
         UNKNOWN,
         "+MAP; =VAL :\\xff; 3:0:9 =VAL :1.5; -MAP",
         "?: floating point `1.5` is not supported at line 1 column 10",
+    ),
+    (
+        UNKNOWN_TRUTHS,
+        "0:0:0 +MAP; 0:0:0 =VAL :\\xff; 0:0:0 =VAL :x; 0:0:0 -MAP",
+        "?: invalid type: string \"x\", expected a boolean",
     ),
     (
         ANY,

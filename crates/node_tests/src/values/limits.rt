@@ -9,9 +9,13 @@ use test_rows::sources::{push_plain, schema_of};
 use yaml_base::{Event, Mark};
 use yaml_shape::{Shape, ShapeId};
 
-// What events read as.
-fn reading_of_events(alloc: Global, events: Vec<(Event<'static>, Mark)>) -> Result<String, Fail> {
-    let schema = schema_of(alloc, vec![in alloc; Shape::Any]?)?;
+// What events read as under a shape.
+fn reading_as(
+    alloc: Global,
+    shape: Shape,
+    events: Vec<(Event<'static>, Mark)>,
+) -> Result<String, Fail> {
+    let schema = schema_of(alloc, vec![in alloc; shape]?)?;
     if !schema.has(ShapeId(0)) {
         return Err("no shape")?;
     }
@@ -19,9 +23,19 @@ fn reading_of_events(alloc: Global, events: Vec<(Event<'static>, Mark)>) -> Resu
     Ok(reading_of(alloc, stream, &schema, ShapeId(0))?)
 }
 
+// What events read as.
+fn reading_of_events(alloc: Global, events: Vec<(Event<'static>, Mark)>) -> Result<String, Fail> {
+    reading_as(alloc, Shape::Any, events)
+}
+
+// The events of the stream of a node.
+fn events_of(alloc: Global, node: &str) -> Result<Vec<(Event<'static>, Mark)>, Fail> {
+    events(alloc, stream_lines(alloc, node)?.as_str())
+}
+
 // What a node reads as.
 fn reading(alloc: Global, node: &str) -> Result<String, Fail> {
-    reading_of_events(alloc, events(alloc, stream_lines(alloc, node)?.as_str())?)
+    reading_of_events(alloc, events_of(alloc, node)?)
 }
 
 // A text so many times.
@@ -33,53 +47,63 @@ fn repeated(alloc: Global, text: &str, count: u32) -> Result<String, AllocError>
     Ok(all)
 }
 
-// The lines of so many collections, one within another, each of which begins with these lines.
-fn nested(alloc: Global, start: &str, end: &str, depth: u32) -> Result<String, AllocError> {
+// The lines of so many collections, one within another, each of which begins with these lines, around these.
+fn nested(
+    alloc: Global,
+    (start, inner, end): (&str, &str, &str),
+    depth: u32,
+) -> Result<String, AllocError> {
     let starts = repeated(alloc, start, depth)?;
     let ends = repeated(alloc, end, depth)?;
-    format!(in alloc; "{starts}=VAL :x; {ends}")
+    format!(in alloc; "{starts}{inner}{ends}")
 }
 
 // What so many collections read as, one within another.
-fn reading_of_nested(alloc: Global, start: &str, end: &str, depth: u32) -> Result<String, Fail> {
-    reading(alloc, nested(alloc, start, end, depth)?.as_str())
+fn reading_of_nested(alloc: Global, lines: (&str, &str, &str), depth: u32) -> Result<String, Fail> {
+    reading(alloc, nested(alloc, lines, depth)?.as_str())
 }
 
 // The text of so many sequences, one within another, around a text.
-fn shown_nested(alloc: Global, depth: u32) -> Result<String, AllocError> {
+fn shown_nested(alloc: Global, inner: &str, depth: u32) -> Result<String, AllocError> {
     let left = repeated(alloc, "[", depth)?;
     let right = repeated(alloc, "]", depth)?;
-    format!(in alloc; "{left}\"x\"{right}")
+    format!(in alloc; "{left}{inner}{right}")
 }
 
 #[test]
 fn reads_128_nestings(rt: HostRuntime) -> Result<(), Fail> {
-    let read = reading_of_nested(rt.alloc(), "+SEQ; ", "-SEQ; ", 128)?;
-    assert_eq!(rt; read.as_str(), shown_nested(rt.alloc(), 128)?.as_str());
+    for &(inner, shown) in &[("=VAL :x; ", "\"x\""), ("", "")] {
+        let read = reading_of_nested(rt.alloc(), ("+SEQ; ", inner, "-SEQ; "), 128)?;
+        assert_eq!(rt;
+            read.as_str(),
+            shown_nested(rt.alloc(), shown, 128)?.as_str()
+        );
+    }
     Ok(())
 }
 
 #[test]
 fn refuses_the_next_nesting(rt: HostRuntime) -> Result<(), Fail> {
-    for &(start, end, expected) in &[
+    for &(lines, expected) in &[
         (
-            "+SEQ; ",
-            "-SEQ; ",
+            ("+SEQ; ", "=VAL :x; ", "-SEQ; "),
             "recursion limit exceeded at line 1 column 129",
         ),
         (
-            "+SEQ <!t>; ",
-            "-SEQ; ",
+            ("+SEQ; ", "", "-SEQ; "),
             "recursion limit exceeded at line 1 column 129",
         ),
         (
-            "0:0:7 +MAP; =VAL :k; ",
-            "-MAP; ",
+            ("+SEQ <!t>; ", "=VAL :x; ", "-SEQ; "),
+            "recursion limit exceeded at line 1 column 129",
+        ),
+        (
+            ("0:0:7 +MAP; =VAL :k; ", "=VAL :x; ", "-MAP; "),
             "recursion limit exceeded at line 1 column 8",
         ),
     ] {
-        let refused = reading_of_nested(rt.alloc(), start, end, 129)?;
-        assert_eq!(rt; refused.as_str(), expected, "{start}");
+        let refused = reading_of_nested(rt.alloc(), lines, 129)?;
+        assert_eq!(rt; refused.as_str(), expected, "{lines:?}");
     }
     Ok(())
 }
@@ -124,6 +148,47 @@ fn lists_of_nine_lists_are_read_up_to_the_limit_of_follows(rt: HostRuntime) -> R
     assert!(rt; read.as_str() == shown_lists(alloc, 4)?.as_str());
     let refused = reading(alloc, lists(alloc, &names)?.as_str())?;
     assert_eq!(rt; refused.as_str(), "repetition limit exceeded");
+    Ok(())
+}
+
+// Each list but the first has nine times the list before it.
+const BOMB: &[(&str, &str)] = &[
+    ("b", "a"),
+    ("c", "b"),
+    ("d", "c"),
+    ("e", "d"),
+    ("f", "e"),
+    ("g", "f"),
+    ("h", "g"),
+    ("i", "h"),
+    ("j", "i"),
+    ("k", "j"),
+    ("l", "k"),
+    ("m", "l"),
+    ("n", "m"),
+    ("o", "n"),
+    ("p", "o"),
+    ("q", "p"),
+    ("r", "q"),
+    ("s", "r"),
+    ("t", "s"),
+    ("u", "t"),
+    ("v", "u"),
+    ("w", "v"),
+    ("x", "w"),
+    ("y", "x"),
+    ("z", "y"),
+];
+
+// The last of 26 lists stands for 9 to the power of 26 texts, which no machine could make.
+#[test]
+fn a_bomb_is_refused_and_stepped_over(rt: HostRuntime) -> Result<(), Fail> {
+    let alloc = rt.alloc();
+    let node = lists(alloc, BOMB)?;
+    let refused = reading(alloc, node.as_str())?;
+    assert_eq!(rt; refused.as_str(), "repetition limit exceeded");
+    let ignored = reading_as(alloc, Shape::IgnoredAny, events_of(alloc, node.as_str())?)?;
+    assert_eq!(rt; ignored.as_str(), "ignored");
     Ok(())
 }
 

@@ -12,7 +12,7 @@ const STR: ShapeId = ShapeId(0);
 
 const I64: ShapeId = ShapeId(1);
 
-const IGNORED: ShapeId = ShapeId(2);
+pub const IGNORED: ShapeId = ShapeId(2);
 
 pub const ANY: ShapeId = ShapeId(3);
 
@@ -29,6 +29,16 @@ pub const KEYS: ShapeId = ShapeId(8);
 pub const UNKNOWN: ShapeId = ShapeId(9);
 
 pub const PAIR: ShapeId = ShapeId(10);
+
+pub const NUMBERS: ShapeId = ShapeId(11);
+
+const BOOL: ShapeId = ShapeId(12);
+
+const TRUTHS: ShapeId = ShapeId(13);
+
+pub const TRUTHS_AS_KEYS: ShapeId = ShapeId(14);
+
+pub const UNKNOWN_TRUTHS: ShapeId = ShapeId(15);
 
 // The shapes, in the order of their numbers.
 fn shapes(alloc: Global) -> Result<Vec<Shape>, AllocError> {
@@ -47,6 +57,11 @@ fn shapes(alloc: Global) -> Result<Vec<Shape>, AllocError> {
         Shape::Map(ANY, I64),
         Shape::Map(IGNORED, ANY),
         Shape::Tuple(vec![in alloc; IGNORED, ANY]?),
+        Shape::Map(STR, I64),
+        Shape::Bool,
+        Shape::Map(STR, BOOL),
+        Shape::Map(TRUTHS, IGNORED),
+        Shape::Map(IGNORED, BOOL),
     ]?)
 }
 

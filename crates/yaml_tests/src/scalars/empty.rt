@@ -1,7 +1,7 @@
 //! What stands for an empty collection: an empty plain scalar, no node.
 
 use super::reading::{Row, check};
-use super::shapes::{EMPTY, LIST, MAP, PAIR, PAIR_STRUCT, SINGLE};
+use super::shapes::{EMPTY, LIST, MAP, PAIR, PAIR_STRUCT, SINGLE, TWO_BYTES};
 use std::test::Fail;
 
 const ROWS: &[Row] = &[
@@ -76,6 +76,11 @@ const ROWS: &[Row] = &[
         PAIR,
         "+MAP; -MAP",
         "invalid type: map, expected a tuple of size 2",
+    ),
+    (
+        TWO_BYTES,
+        "=VAL :",
+        "invalid length 0, expected a tuple of size 2",
     ),
     (
         PAIR_STRUCT,

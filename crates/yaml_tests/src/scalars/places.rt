@@ -1,8 +1,17 @@
 //! Where a fault stands: the mark and the path of the innermost call.
 
 use super::reading::{Row, check};
-use super::shapes::{BYTE, EMPTY, LIST, LISTS, MAP, OPTION, PAIR, PAIR_STRUCT, SINGLE, UNIT};
+use super::shapes::{
+    BYTE, EMPTY, LETTER, LIST, LISTS, MAP, OPTION, PAIR, PAIR_STRUCT, SINGLE, THREE_BYTES,
+    TWO_BYTES, U64, UNIT, schema,
+};
+use std::alloc::Global;
 use std::test::Fail;
+use test_rows::lines::events;
+use test_rows::reading::{data_of, stream_of};
+use test_rows::rows::stream_lines;
+use yaml_base::Error;
+use yaml_shape::{Data, Schema, ShapeId};
 
 const ROWS: &[Row] = &[
     (
@@ -87,6 +96,16 @@ const ROWS: &[Row] = &[
         "invalid length 3, expected sequence of 2 elements at line 3 column 4",
     ),
     (
+        TWO_BYTES,
+        "0:1:0 +SEQ; 0:0:0 =VAL :0; 0:0:0 =VAL :0; 0:0:0 =VAL :0; 0:1:0 -SEQ",
+        "invalid length 3, expected sequence of 2 elements at line 2 column 1",
+    ),
+    (
+        THREE_BYTES,
+        "0:1:0 +SEQ; 0:0:0 =VAL :0; 0:0:0 =VAL :0; 0:1:0 -SEQ",
+        "invalid length 2, expected a tuple of size 3 at line 2 column 1",
+    ),
+    (
         SINGLE,
         "1:2:3 +SEQ; -SEQ",
         "invalid length 0, expected tuple struct N with 1 element at line 3 column 4",
@@ -131,4 +150,48 @@ const ROWS: &[Row] = &[
 #[test]
 fn a_fault_has_the_place_of_the_innermost_call(rt: HostRuntime) -> Result<(), Fail> {
     check(&rt, ROWS)
+}
+
+// Where a fault stands, as people count: its line and its column. The fault is dropped here, so that its callers need
+// not.
+fn location(fault: Error) -> Option<(usize, usize)> {
+    let location = fault.location()?;
+    Some((location.line(), location.column()))
+}
+
+// Where the fault in an answer stands.
+fn location_in(answer: Result<Data<'_>, Error>) -> Result<Option<(usize, usize)>, Fail> {
+    match answer {
+        Ok(_) => Err("no fault")?,
+        Err(fault) => Ok(location(fault)),
+    }
+}
+
+// Where the fault stands by which a node is refused.
+fn location_of(
+    alloc: Global,
+    schema: &Schema,
+    id: ShapeId,
+    node: &str,
+) -> Result<Option<(usize, usize)>, Fail> {
+    if !schema.has(id) {
+        return Err("no such shape")?;
+    }
+    let lines = stream_lines(alloc, node)?;
+    let stream = stream_of(alloc, events(alloc, lines.as_str())?, None)?;
+    location_in(data_of(alloc, stream, schema, id))
+}
+
+#[test]
+fn only_a_fault_with_a_place_has_a_location(rt: HostRuntime) -> Result<(), Fail> {
+    let schema = schema(rt.alloc())?;
+    for &(id, node, expected) in &[
+        (U64, "0:0:0 =VAL :-0", Some((1, 1))),
+        (OPTION, "0:0:0 =VAL <tag:yaml.org,2002:null> :x", None),
+        (LETTER, "0:0:0 =VAL <!X> :1", None),
+    ] {
+        let found = location_of(rt.alloc(), &schema, id, node)?;
+        assert_eq!(rt; found, expected, "{node}");
+    }
+    Ok(())
 }

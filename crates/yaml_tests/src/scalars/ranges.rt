@@ -85,6 +85,7 @@ const ROWS: &[Row] = &[
     (U8, "=VAL :255", "255"),
     (U8, "=VAL :256", "invalid value: integer `256`, expected u8"),
     (U8, "=VAL :-1", "invalid type: integer `-1`, expected u8"),
+    (U8, "=VAL :300", "invalid value: integer `300`, expected u8"),
     (U16, "=VAL :0", "0"),
     (U16, "=VAL :65535", "65535"),
     (

@@ -3,7 +3,7 @@
 use std::alloc::{AllocError, Global};
 use std::test::Fail;
 use test_rows::sources::schema_of;
-use yaml_shape::{Schema, Shape, ShapeId};
+use yaml_shape::{Schema, Shape, ShapeId, VariantShape};
 
 pub const BOOL: ShapeId = ShapeId(0);
 
@@ -61,6 +61,24 @@ pub const LISTS: ShapeId = ShapeId(26);
 
 pub const BYTE: ShapeId = ShapeId(27);
 
+pub const TWO_BYTES: ShapeId = ShapeId(28);
+
+pub const THREE_BYTES: ShapeId = ShapeId(29);
+
+pub const LETTER: ShapeId = ShapeId(30);
+
+// An enum of two units.
+fn letter(alloc: Global) -> Result<Shape, AllocError> {
+    let mut variants = Vec::new(alloc);
+    for name in ["A", "B"] {
+        variants.push((String::from_str(alloc, name)?, VariantShape::Unit))?;
+    }
+    Ok(Shape::Enum {
+        name: String::from_str(alloc, "E")?,
+        variants,
+    })
+}
+
 // A shape with a name, by its number.
 fn named(alloc: Global, number: u32) -> Result<Shape, AllocError> {
     let name = String::from_str(alloc, "N")?;
@@ -105,6 +123,9 @@ fn shape(alloc: Global, number: u32) -> Result<Shape, AllocError> {
         24 => Ok(Shape::Tuple(Vec::new(alloc))),
         26 => Ok(Shape::Seq(LIST)),
         27 => Ok(Shape::Tuple(vec![in alloc; U8]?)),
+        28 => Ok(Shape::Tuple(vec![in alloc; U8, U8]?)),
+        29 => Ok(Shape::Tuple(vec![in alloc; U8, U8, U8]?)),
+        30 => letter(alloc),
         _ => named(alloc, number),
     }
 }
@@ -112,7 +133,7 @@ fn shape(alloc: Global, number: u32) -> Result<Shape, AllocError> {
 /// The schema of the shapes.
 pub fn schema(alloc: Global) -> Result<Schema, Fail> {
     let mut shapes = Vec::new(alloc);
-    for number in 0..28 {
+    for number in 0..31 {
         shapes.push(shape(alloc, number)?)?;
     }
     schema_of(alloc, shapes)

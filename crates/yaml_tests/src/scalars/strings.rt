@@ -82,6 +82,11 @@ const ROWS: &[Row] = &[
         "=VAL 'ab",
         "invalid value: string \"ab\", expected a character",
     ),
+    (
+        CHAR,
+        "=VAL :ab",
+        "invalid value: string \"ab\", expected a character",
+    ),
     (CHAR, "=VAL |a", "\"a\""),
     (CHAR, "=VAL >a", "\"a\""),
     (CHAR, "=VAL <tag:yaml.org,2002:int> :x", "\"x\""),

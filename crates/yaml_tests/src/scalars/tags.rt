@@ -1,7 +1,7 @@
 //! Tags on plain, quoted and literal scalars.
 
 use super::reading::{Row, check};
-use super::shapes::{BOOL, I8, I64, U64};
+use super::shapes::{BOOL, I8, I64, U32, U64};
 use std::test::Fail;
 
 const ROWS: &[Row] = &[
@@ -120,6 +120,12 @@ const ROWS: &[Row] = &[
         I8,
         "=VAL <tag:yaml.org,2002:int> |128",
         "invalid value: integer `128`, expected i8",
+    ),
+    (U32, "=VAL <tag:yaml.org,2002:int> |7200", "7200"),
+    (
+        U32,
+        "=VAL <tag:yaml.org,2002:int> \"7",
+        "invalid type: integer `7`, expected u32",
     ),
     (U64, "=VAL <tag:yaml.org,2002:int> |12", "12"),
     (

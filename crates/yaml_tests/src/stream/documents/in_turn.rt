@@ -2,10 +2,13 @@
 
 ghost use Rattle.std.specs.Prelude.{◌<◌, length};
 
-use super::reading::{INTEGER, LIST, MAP, schema, stream_of_text};
+use super::reading::{
+    ANY, INTEGER, LIST, MAP, MAPPING, UNIT_FIELD, USIZE, schema, stream_of_text, unclosed_stream,
+};
 use serde_yaml::Deserializer;
 use std::alloc::{AllocError, Global};
 use std::test::Fail;
+use test_rows::lines::FAULT;
 use test_rows::reading::{next_of, write_reading};
 use yaml_shape::{Schema, ShapeId};
 
@@ -38,7 +41,7 @@ fn write_next(
     write_document(alloc, next_of(stream), schema, id, out)
 }
 
-// What the first four documents of a stream read as, each under its shape.
+// Writes what the first four documents of a stream read as, each under its shape.
 fn write_four(
     alloc: Global,
     stream: &mut Deserializer<'_>,
@@ -57,6 +60,19 @@ fn write_four(
     Ok(())
 }
 
+// What the first four documents of a stream read as, each under its shape.
+fn four_of(
+    alloc: Global,
+    stream: Deserializer<'_>,
+    schema: &Schema,
+    shapes: &[ShapeId; 4],
+) -> Result<String, AllocError> {
+    let mut stream = stream;
+    let mut out = String::new(alloc);
+    write_four(alloc, &mut stream, schema, shapes, &mut out)?;
+    Ok(out)
+}
+
 // What the first four documents of the stream of a text read as, each under its shape.
 fn four_documents(
     alloc: Global,
@@ -64,10 +80,8 @@ fn four_documents(
     schema: &Schema,
     shapes: &[ShapeId; 4],
 ) -> Result<String, Fail> {
-    let mut stream = stream_of_text(alloc, text)?;
-    let mut out = String::new(alloc);
-    write_four(alloc, &mut stream, schema, shapes, &mut out)?;
-    Ok(out)
+    let stream = stream_of_text(alloc, text)?;
+    Ok(four_of(alloc, stream, schema, shapes)?)
 }
 
 #[test]
@@ -86,6 +100,11 @@ fn documents_come_one_by_one(rt: HostRuntime) -> Result<(), Fail> {
             "0 / 1 / none / none",
         ),
         (
+            "+STR; +DOC; =VAL :0; -DOC; +DOC; =VAL :1; -DOC; -STR",
+            [USIZE, USIZE, USIZE, USIZE],
+            "0 / 1 / none / none",
+        ),
+        (
             "+STR; -STR",
             [LIST, LIST, LIST, LIST],
             "[] / none / none / none",
@@ -94,6 +113,12 @@ fn documents_come_one_by_one(rt: HostRuntime) -> Result<(), Fail> {
             "+STR; +DOC; +SEQ; =ALI *x; -SEQ; -DOC; +DOC; =VAL :7; -DOC; -STR",
             [LIST, INTEGER, INTEGER, INTEGER],
             "unknown anchor at line 1 column 2 / 7 / none / none",
+        ),
+        (
+            "+STR; +DOC; 0:0:0 +MAP; 0:0:0 =VAL :b; 0:0:3 +SEQ; 0:0:4 =ALI *a; 0:0:3 -SEQ; \
+                0:1:0 =VAL :c; 0:1:3 =VAL :~; 0:0:0 -MAP; -DOC; +DOC; =VAL :7; -DOC; -STR",
+            [UNIT_FIELD, INTEGER, INTEGER, INTEGER],
+            "unknown anchor at line 1 column 5 / 7 / none / none",
         ),
         (
             "+STR; +DOC; +SEQ; =ALI *x; 10:1:0 !ERR PARSER 0 bad",
@@ -109,6 +134,12 @@ fn documents_come_one_by_one(rt: HostRuntime) -> Result<(), Fail> {
             "+STR; +DOC; =VAL &a :1; -DOC; +DOC; +SEQ; =VAL &a :2; =ALI *a; -SEQ; -DOC; +DOC; =ALI *a; -DOC; -STR",
             [INTEGER, LIST, INTEGER, INTEGER],
             "1 / [2, 2] / unknown anchor at line 1 column 10 / none",
+        ),
+        (
+            "+STR; +DOC; =VAL &a :1; -DOC; +DOC; +SEQ; =VAL &a :2; =ALI *a; -SEQ; -DOC; \
+                +DOC; 0:0:0 =ALI *a; -DOC; -STR",
+            [ANY, ANY, ANY, ANY],
+            "1 / [2, 2] / unknown anchor / none",
         ),
         (
             "+STR; +DOC; =VAL :1; -DOC; +DOC; +SEQ; =VAL :x; 10:1:0 !ERR PARSER 0 bad",
@@ -129,6 +160,44 @@ fn documents_come_one_by_one(rt: HostRuntime) -> Result<(), Fail> {
     ] {
         let out = four_documents(alloc, text, &schema, shapes)?;
         assert!(rt; out.as_str() == *expected, "{text}");
+    }
+    Ok(())
+}
+
+#[test]
+fn a_fault_behind_a_document_is_a_failing_one(rt: HostRuntime) -> Result<(), Fail> {
+    let alloc = rt.alloc();
+    let schema = schema(alloc)?;
+    let stream = unclosed_stream(alloc, "+STR; +DOC; =VAL :0; -DOC")?;
+    let shapes = [INTEGER, INTEGER, INTEGER, INTEGER];
+    let out = four_of(alloc, stream, &schema, &shapes)?;
+    assert_eq!(rt;
+        out.as_str(),
+        "0 / did not find expected ',' or ']' at line 2 column 1, while parsing a flow sequence / none / none"
+    );
+    Ok(())
+}
+
+// What the first four documents of the stream of a text that is cut off read as.
+fn documents_of_cut(alloc: Global, text: &str, schema: &Schema) -> Result<String, Fail> {
+    let cut = format!(in alloc; "{text}{FAULT}")?;
+    four_documents(alloc, cut.as_str(), schema, &[ANY, ANY, ANY, ANY])
+}
+
+#[test]
+fn a_document_that_is_cut_is_a_failing_one(rt: HostRuntime) -> Result<(), Fail> {
+    let alloc = rt.alloc();
+    let schema = schema(alloc)?;
+    let mut text = String::new(alloc);
+    for &next in MAPPING {
+        let expected = if next == "-STR" {
+            "{\"first\": 1, \"second\": 1, \"third\": 3} / bad at line 2 column 1 / none / none"
+        } else {
+            "bad at line 2 column 1 / none / none / none"
+        };
+        let out = documents_of_cut(alloc, text.as_str(), &schema)?;
+        assert!(rt; out.as_str() == expected, "{text}");
+        text.push_str(next)?;
     }
     Ok(())
 }

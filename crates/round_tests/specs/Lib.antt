@@ -1,0 +1,2 @@
+-- The shape and the data of a type of the tests.
+pub mod Color
