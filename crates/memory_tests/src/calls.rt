@@ -13,6 +13,10 @@ use yaml_base::{Cause, Error, Event, Mark, ParserFault, Result as Answer};
 use yaml_read::{Cursor, Document, Loader};
 use yaml_shape::{Data, Schema, ShapeId};
 
+/// A list of a variant of each kind but those of structs.
+pub const EACH_KIND: &str = "+SEQ; =VAL <!Newtype> :1; \
+    +SEQ <!Tuple>; =VAL :0; =VAL :0; =VAL :0; -SEQ; =VAL :Unit; =VAL <!Unit> :; -SEQ";
+
 /// How a call ended that was refused by a fault.
 pub fn refused(fault: Error) -> Outcome {
     match fault.cause() {

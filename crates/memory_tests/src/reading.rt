@@ -1,7 +1,8 @@
 //! Loading and reading with little memory.
 
 use super::calls::{
-    document_of, is_at_end, is_refused, load, next_of, read, refused, shows_the_end, tells,
+    EACH_KIND, document_of, is_at_end, is_refused, load, next_of, read, refused, shows_the_end,
+    tells,
 };
 use super::shapes::{KINDS, LETTER, LETTERS, schema};
 use serde_yaml::from_events;
@@ -114,7 +115,7 @@ impl Scene for Reading {
 
 const READINGS: &[Reading] = &[
     Reading {
-        node: "+SEQ; =VAL <!Newtype> :1; +SEQ <!Tuple>; =VAL :0; =VAL :0; =VAL :0; -SEQ; =VAL :Unit; =VAL <!Unit> :; -SEQ",
+        node: EACH_KIND,
         shape: KINDS,
         expected: "[variant 1 1, variant 2 (0, 0, 0), variant 0 (), variant 0 ()]",
     },

@@ -1,6 +1,6 @@
 //! Values and mappings that grow with little memory.
 
-use super::calls::{document_of, read};
+use super::calls::{EACH_KIND, document_of, read};
 use super::shapes::{ANY, schema};
 use std::alloc::Global;
 use std::test::Fail;
@@ -130,10 +130,7 @@ fn copy_of(alloc: Global, value: &Value) -> Result<Value, TreeFault> {
 
 impl Scene for Copying {
     fn play(&self, alloc: Global, memory: &mut Shortage, pieces: usize) -> Result<Outcome, Fail> {
-        let value = value_of(
-            alloc,
-            "+SEQ; =VAL <!Newtype> :1; +SEQ <!Tuple>; =VAL :0; =VAL :0; =VAL :0; -SEQ; =VAL :Unit; =VAL <!Unit> :; -SEQ",
-        )?;
+        let value = value_of(alloc, EACH_KIND)?;
         memory.leave(alloc, pieces)?;
         let answer = copy_of(alloc, &value);
         memory.restore();

@@ -1,9 +1,9 @@
 -- The faults of a reading are those of its document: none says that there are others.
-use Rattle.std.proofs.Common.{ℕ, zero, suc, ◌+◌, ◌^◌, ◌-◌, List, [], ◌∷◌, ◌++◌, Option, Some, None, Result, Ok, Err, Bool}
-use Rattle.std.proofs.Common.{true, false, length, ◌≡◌, subst}
+use Rattle.std.proofs.Common.{ℕ, zero, suc, ◌^◌, ◌-◌, List, [], ◌∷◌, Option, Some, None, Result, Ok, Err}
+use Rattle.std.proofs.Common.{Bool, true, false, ◌≡◌, subst}
 use Rattle.std.specs.Prelude.{ℤ, pos, if◌then◌else◌, option_and_then, ◌&&◌, int_le, nat_le, ◌==◌, ◌≢◌}
 use Rattle.std.specs.Str.{chars}
-use Rattle.std.specs.Option.{option_map_or, is_some}
+use Rattle.std.specs.Option.{option_map_or}
 use Rattle.yaml_base.specs.CausePlace.{filled}
 use Rattle.yaml_base.specs.Floats.{is_float}
 use Rattle.yaml_base.specs.Kinds.{kind_of}
@@ -226,7 +226,8 @@ own_scalar shape.any_shape taken w =
 own_scalar shape.bool_shape taken w =
     own_option (λ b. Ok (bool_data b)) _ _ (λ b. own_value _) (own_scalar_fault shape.bool_shape taken w)
 own_scalar (shape.integer_shape i) taken w =
-    own_integer i (plain_text int_tag taken w) (scalar_fault (shape.integer_shape i) taken w) (own_fault_in (sort_of taken w) w.text _)
+    own_integer i (plain_text int_tag taken w) (scalar_fault (shape.integer_shape i) taken w)
+    (own_fault_in (sort_of taken w) w.text _)
 own_scalar shape.str_shape taken w = own_text (λ t. Ok (lent_text w t)) shape.str_shape taken w (λ t. own_value _)
 own_scalar shape.identifier_shape taken w =
     own_text (λ t. Ok (lent_text w t)) shape.identifier_shape taken w (λ t. own_value _)

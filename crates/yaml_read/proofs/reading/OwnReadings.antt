@@ -1,10 +1,9 @@
 -- A reading by places answers no fault but its document's own.
-use Rattle.std.proofs.Common.{ℕ, zero, suc, List, [], ◌∷◌, ◌++◌, Option, Some, None, Result, Ok, Err, Bool, true, false}
+use Rattle.std.proofs.Common.{ℕ, zero, suc, List, [], Option, Some, None, Ok, Bool, true, false}
 use Rattle.std.proofs.Common.{length}
 use Rattle.std.specs.Prelude.{if◌then◌else◌, nat_lt}
 use Rattle.std.specs.Option.{is_some}
 use Rattle.yaml_base.specs.Position.{Position}
-use Rattle.yaml_base.specs.declared.error.Cause.{Cause}
 use Rattle.yaml_shape.specs.DataView.{entries_of}
 use Rattle.yaml_shape.specs.PlainData.{PlainData, map_data}
 use Rattle.yaml_shape.specs.PlainShape.{PlainShape, shape_at}
@@ -21,15 +20,17 @@ use Rattle.yaml_read.specs.Rows.{Row, row_of}
 use Rattle.yaml_read.specs.ScalarShapes.{scalar_answer, void_answer}
 use Rattle.yaml_read.specs.Steps.{◌>>=◌}
 use Rattle.yaml_read.specs.TreeReader.{Spot, after}
-use Rattle.yaml_read.specs.inner.Reader.{Reading, Reader, Events, Source, turn, each_at, pursue, place_at, item_at, entry_at}
-use Rattle.yaml_read.specs.inner.Reader.{any_key_at, any_entry_at, skip_to, skip_event, skip_at, row_at, field_key_at}
-use Rattle.yaml_read.specs.inner.Reader.{field_value_at, field_at, sequence_parts, mapping_parts, rows_at, fields_at}
+use Rattle.yaml_read.specs.inner.Reader.{Reading, Reader, Events, Source, turn, each_at, pursue, place_at, item_at}
+use Rattle.yaml_read.specs.inner.Reader.{entry_at}
+use Rattle.yaml_read.specs.inner.Reader.{any_entry_at, skip_to, skip_event, skip_at, row_at}
+use Rattle.yaml_read.specs.inner.Reader.{field_at, rows_at, fields_at}
 use Rattle.yaml_read.specs.inner.Reader.{sequence_at, mapping_at, event_at, handed_at, shape_step, node_step, node_at}
-use Rattle.yaml_read.specs.inner.Reader.{is_sequence_end, is_mapping_end, value_at}
+use Rattle.yaml_read.specs.inner.Reader.{is_sequence_end, is_mapping_end}
 use Rattle.yaml_read.proofs.reading.OwnFaults.{Own, own_value, own_fault, own_if, own_bind, own_ending, own_wrap}
 use Rattle.yaml_read.proofs.reading.OwnFaults.{own_finish, own_enter, own_follow}
 use Rattle.yaml_read.proofs.reading.OwnFaults.{own_with_shape, own_unless, own_place, own_scalar, own_void, own_struct}
-use Rattle.yaml_read.proofs.reading.OwnFaults.{own_named, own_field_step, own_one_more, own_row, own_new_key, own_refusal}
+use Rattle.yaml_read.proofs.reading.OwnFaults.{own_named, own_field_step, own_one_more, own_row, own_new_key}
+use Rattle.yaml_read.proofs.reading.OwnFaults.{own_refusal}
 
 module _ {S : Type 0} (is_end : PlainDocEvent → Bool) (step : S → Spot → Reading S) (own : (s : S) (at : Spot)
     → Own (step s at)) where
@@ -98,7 +99,8 @@ module _ (source : Source) (read : Way → Reader)
       → Own (rows_at source read way few ids nest mark at)
   own_rows way few ids nest mark at =
       own_enter nest mark _ (λ n. own_finish _ _
-      (own_each is_sequence_end (row_at source read way n) (own_row_part way n) source.events source.size (row_of ids) at)
+      (own_each is_sequence_end (row_at source read way n) (own_row_part way n) source.events source.size
+      (row_of ids) at)
       (own_row few (length ids)))
 
   own_fields_of : (way : Way) (strict : Bool) (fields : Fields) (nest : ℕ) (mark : Position) (at : Spot)
@@ -127,9 +129,11 @@ module _ (source : Source) (read : Way → Reader)
   own_mapping : (way : Way) (s : PlainShape) (nest : ℕ) (mark : Position) (at : Spot)
       → Own (mapping_at source read way s nest mark at)
   own_mapping way (shape.map_shape a b) nest mark at =
-      own_enter nest mark _ (λ n. own_with_shape (shape_at source.table a) _ (λ s. own_with_shape (shape_at source.table b) _
+      own_enter nest mark _ (λ n. own_with_shape (shape_at source.table a) _
+      (λ s. own_with_shape (shape_at source.table b) _
       (λ t. own_wrap (λ vs. map_data (entries_of vs)) _
-      (own_each is_mapping_end (entry_at source read way s t n) (own_entry way s t n) source.events source.size [] at))))
+      (own_each is_mapping_end (entry_at source read way s t n) (own_entry way s t n) source.events source.size
+      [] at))))
   own_mapping way (shape.struct_shape strict name fields) nest mark at = own_fields_of way strict fields nest mark at
   own_mapping way (shape.struct_variant_shape strict name variant fields) nest mark at =
       own_fields_of way strict fields nest mark at

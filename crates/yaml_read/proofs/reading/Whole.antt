@@ -144,8 +144,9 @@ module _ (limits : PlainLimits) (table : List PlainShape) (s : PlainShape) (docu
   pub own_fault : (y : Cause) → whole_reading limits table document s ≡ Err y → ◌≢◌ {A = Result PlainData Cause} (Err y)
       (Err MoreThanOneDocument)
   own_fault y h e = own_apart (whole_reading limits table document s)
-      (own_node (whole_source table document) (whole_fuel limits (length document.events)) root_way s limits.nesting None
-      (record { place = 0; left = limits.follows * length document.events })) (h ∙ ap Err (err_is y MoreThanOneDocument e))
+      (own_node (whole_source table document) (whole_fuel limits (length document.events)) root_way s limits.nesting
+      None (record { place = 0; left = limits.follows * length document.events }))
+      (h ∙ ap Err (err_is y MoreThanOneDocument e))
 
   -- nor does running out of memory
   pub own_refusal : (y : Cause) → (is_memory y ≡ false → whole_reading limits table document s ≡ Err y)

@@ -23,7 +23,8 @@ pub new-requires-in-Some-clause-document : goal.new-requires-in-Some-clause-docu
 new-requires-in-Some-clause-document c =
     let events = c.in_ok-events.events.value.items in
     let cut = c.in-Some.cut in
-    let kept = subst (λ cuts. All IsDocument (documents_in events cuts)) c.in-Some.ensures.items c.cuts.invariant.kept in
+    let kept = subst (λ cuts. All IsDocument (documents_in events cuts)) c.in-Some.ensures.items
+    c.cuts.invariant.kept in
     subst (λ es. IsDocument (document_of_range es cut.from cut.to cut.error))
     (ap (λ (v : _). v.items) (sym c.in_ok-clone.ensures.cases)) (kept 0 (document_in events cut) (omega arith))
 
