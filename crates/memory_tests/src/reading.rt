@@ -52,7 +52,7 @@ impl Scene for Loading {
 }
 
 #[test]
-fn loading(rt: HostRuntime) -> Result<(), Fail> {
+fn events_that_are_loaded(rt: HostRuntime) -> Result<(), Fail> {
     assert!(rt; refusals(rt.alloc(), &Loading)? > 0);
     Ok(())
 }
@@ -142,7 +142,7 @@ const READINGS: &[Reading] = &[
 ];
 
 #[test]
-fn reading(rt: HostRuntime) -> Result<(), Fail> {
+fn nodes_that_are_read(rt: HostRuntime) -> Result<(), Fail> {
     for row in READINGS {
         let (node, expected) = (row.node, row.expected);
         assert!(rt; refusals(rt.alloc(), row)? > 0, "{node}: {expected}");

@@ -91,7 +91,7 @@ impl Scene for Making {
 }
 
 #[test]
-fn making(rt: HostRuntime) -> Result<(), Fail> {
+fn a_table_that_is_made_a_schema(rt: HostRuntime) -> Result<(), Fail> {
     assert!(rt; refusals(rt.alloc(), &Making)? > 0);
     Ok(())
 }
@@ -125,7 +125,7 @@ impl Scene for Joining {
 }
 
 #[test]
-fn joining(rt: HostRuntime) -> Result<(), Fail> {
+fn two_schemas_that_are_joined(rt: HostRuntime) -> Result<(), Fail> {
     assert!(rt; refusals(rt.alloc(), &Joining)? > 0);
     Ok(())
 }

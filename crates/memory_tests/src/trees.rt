@@ -91,7 +91,7 @@ impl Scene for Inserting {
 }
 
 #[test]
-fn inserting(rt: HostRuntime) -> Result<(), Fail> {
+fn keys_that_are_put_into_mappings(rt: HostRuntime) -> Result<(), Fail> {
     for (pairs, key, takes_memory) in [
         (0, 0, true),
         (1, 0, false),
@@ -149,7 +149,7 @@ impl Scene for Copying {
 }
 
 #[test]
-fn copying(rt: HostRuntime) -> Result<(), Fail> {
+fn a_value_that_is_copied(rt: HostRuntime) -> Result<(), Fail> {
     assert!(rt; refusals(rt.alloc(), &Copying)? > 0);
     Ok(())
 }

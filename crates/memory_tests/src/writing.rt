@@ -53,7 +53,7 @@ fn counts(alloc: Global) -> Result<Data<'static>, Fail> {
     Ok(Data::Map(vec![in alloc; entry]?))
 }
 
-fn parts(alloc: Global) -> Result<Parts, Fail> {
+fn make_parts(alloc: Global) -> Result<Parts, Fail> {
     Ok(Parts {
         schema: schema(alloc)?,
         tagged: tagged(alloc)?,
@@ -182,7 +182,7 @@ struct Writing {
 
 impl Scene for Writing {
     fn play(&self, alloc: Global, memory: &mut Shortage, pieces: usize) -> Result<Outcome, Fail> {
-        let parts = parts(alloc)?;
+        let parts = make_parts(alloc)?;
         let mut ample = serializer(alloc, &parts, self.before)?;
         let mut out = serializer(alloc, &parts, self.before)?;
         let before = state(alloc, &out)?;
@@ -280,7 +280,7 @@ fn finished(out: Serializer) -> Result<Vec<EmitEvent>, Option<Serializer>> {
 
 impl Scene for Finishing {
     fn play(&self, alloc: Global, memory: &mut Shortage, pieces: usize) -> Result<Outcome, Fail> {
-        let parts = parts(alloc)?;
+        let parts = make_parts(alloc)?;
         let out = serializer(alloc, &parts, self.calls)?;
         let before = state(alloc, &out)?;
         let mut whole = told(alloc, out.events())?;
