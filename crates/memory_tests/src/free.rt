@@ -214,7 +214,8 @@ fn documents(rt: HostRuntime) -> Result<(), Fail> {
     let second = input(alloc, DOCUMENTS)?;
     let mut loader = load(alloc, first.events, first.fault)?;
     let mut stream = stream_of(alloc, second.events, second.fault)?;
-    let (mut documents, mut streams) = ([None, None, None], [None, None, None]);
+    let mut documents: [Option<Document<'static>>; 3] = [None, None, None];
+    let mut streams: [Option<Deserializer<'static>>; 3] = [None, None, None];
     let mut memory = Shortage::new(alloc)?;
     memory.leave(alloc, 0)?;
     let before = is_used_up(alloc);
