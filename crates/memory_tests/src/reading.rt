@@ -11,7 +11,7 @@ use std::test::Fail;
 use test_memory::{Outcome, Scene, Shortage, refusals};
 use test_rows::lines::{events, input};
 use test_rows::rows::stream_lines;
-use yaml_base::{Error, Event, Mark, Result as Answer};
+use yaml_base::{Cause, Error, Event, Mark, Result as Answer};
 use yaml_read::{Cursor, Document, Loader};
 use yaml_shape::{Data, Schema, ShapeId};
 
@@ -64,52 +64,98 @@ struct Reading {
     expected: &'static str,
 }
 
-// Whether a cursor that was refused stays at the end, and the document is read by another as ever.
-fn stands(
-    alloc: Global,
-    document: &Document<'_>,
-    schema: &Schema,
-    id: ShapeId,
-    refused: &mut Cursor,
-    expected: &str,
-) -> Result<bool, Fail> {
-    if !schema.has(id) || refused.is_fresh() || !shows_the_end(alloc, document, refused) {
-        return Ok(false);
+// What a reading takes: a document, the shapes, and a cursor.
+#[derive(Drop)]
+struct Needed {
+    schema: Schema,
+    document: Document<'static>,
+    cursor: Cursor,
+}
+
+// A cursor that was never moved.
+fn fresh() -> Cursor {
+    Cursor::new()
+}
+
+fn what_is_needed(alloc: Global, node: &str) -> Result<Needed, Fail> {
+    Ok(Needed {
+        schema: schema(alloc)?,
+        document: document_of(alloc, node)?,
+        cursor: fresh(),
+    })
+}
+
+// What the document reads as by the cursor.
+fn read_by(alloc: Global, needed: &mut Needed, id: ShapeId) -> Answer<Data<'static>> {
+    if !needed.schema.has(id) {
+        return Err(Error::new(Cause::BytesUnsupported));
     }
-    let by_refused = read(alloc, document, schema, id, refused);
-    let mut cursor = Cursor::new();
-    let by_other = read(alloc, document, schema, id, &mut cursor);
-    Ok(is_at_end(by_refused) && tells(alloc, by_other, expected)?)
+    read(
+        alloc,
+        &needed.document,
+        &needed.schema,
+        id,
+        &mut needed.cursor,
+    )
+}
+
+// Whether a cursor that was refused stays at the end.
+fn is_closed(alloc: Global, needed: &mut Needed, id: ShapeId) -> bool {
+    if needed.cursor.is_fresh() {
+        return false;
+    }
+    if !shows_the_end(alloc, &needed.document, &mut needed.cursor) {
+        return false;
+    }
+    is_at_end(read_by(alloc, needed, id))
+}
+
+// How a reading ended that ran out of memory: its cursor is closed, and the document is read by another as ever.
+fn refused_reading(
+    alloc: Global,
+    needed: &mut Needed,
+    id: ShapeId,
+    expected: &str,
+) -> Result<Outcome, Fail> {
+    if !is_closed(alloc, needed, id) {
+        return Ok(Outcome::Wrong("the cursor is not closed"));
+    }
+    needed.cursor = fresh();
+    if tells(alloc, read_by(alloc, needed, id), expected)? {
+        return Ok(Outcome::Refused);
+    }
+    Ok(Outcome::Wrong("another answer with ample memory"))
+}
+
+// How a reading ended that did not run out of memory.
+fn answered(alloc: Global, answer: Answer<Data<'_>>, expected: &str) -> Result<Outcome, Fail> {
+    if tells(alloc, answer, expected)? {
+        return Ok(Outcome::Answered);
+    }
+    Ok(Outcome::Wrong("another answer"))
+}
+
+// How a reading ended.
+fn ended(
+    alloc: Global,
+    needed: &mut Needed,
+    id: ShapeId,
+    expected: &str,
+    answer: Answer<Data<'_>>,
+) -> Result<Outcome, Fail> {
+    if is_refused(&answer) {
+        return refused_reading(alloc, needed, id, expected);
+    }
+    answered(alloc, answer, expected)
 }
 
 impl Scene for Reading {
     fn play(&self, alloc: Global, memory: &mut Shortage, pieces: usize) -> Result<Outcome, Fail> {
-        let schema = schema(alloc)?;
-        let document = document_of(alloc, self.node)?;
-        let mut cursor = Cursor::new();
-        if !schema.has(self.shape) {
-            return Ok(Outcome::Wrong("no such shape"));
-        }
+        let mut needed = what_is_needed(alloc, self.node)?;
         memory.leave(alloc, pieces)?;
-        let answer = read(alloc, &document, &schema, self.shape, &mut cursor);
+        let answer = read_by(alloc, &mut needed, self.shape);
         memory.restore();
-        if is_refused(&answer) {
-            if stands(
-                alloc,
-                &document,
-                &schema,
-                self.shape,
-                &mut cursor,
-                self.expected,
-            )? {
-                return Ok(Outcome::Refused);
-            }
-            return Ok(Outcome::Wrong("something changed"));
-        }
-        if tells(alloc, answer, self.expected)? {
-            return Ok(Outcome::Answered);
-        }
-        Ok(Outcome::Wrong("another answer"))
+        ended(alloc, &mut needed, self.shape, self.expected, answer)
     }
 }
 
@@ -151,13 +197,8 @@ fn nodes_that_are_read(rt: HostRuntime) -> Result<(), Fail> {
 
 // The fault by which a node is refused.
 fn fault_of(alloc: Global, node: &str) -> Result<Error, Fail> {
-    let schema = schema(alloc)?;
-    let document = document_of(alloc, node)?;
-    let mut cursor = Cursor::new();
-    if !schema.has(LETTER) {
-        return Err(Fail::new("no such shape"));
-    }
-    match read(alloc, &document, &schema, LETTER, &mut cursor) {
+    let mut needed = what_is_needed(alloc, node)?;
+    match read_by(alloc, &mut needed, LETTER) {
         Ok(_) => Err(Fail::new("no fault")),
         Err(fault) => Ok(fault),
     }
