@@ -3,14 +3,15 @@
 #
 #     sh wrong.sh [--jobs N] [NAME | NAME/EDIT]..
 #
-# The edits are made in copies of the tree over the work that earlier checks kept: several at once in one copy, where
-# no two change one function, and the functions that they change are checked there and no others. What was not refused
-# so is tried alone, at last by a check of the whole crate. A line an edit says how it ended; the last line counts them.
-# Ends with status 0 only if a goal that did not prove refused each edit: among others a goal of a function that the
-# edit changes. An edit that is not read, one that breaks types or borrows, and one that only takes away a name that a
-# proof file cites show nothing of a contract, and are told apart. `--jobs` is how many copies are checked side by side,
-# at first as many as there are processors, and memory for 3 GB each. Where WRONG_LOGS names a folder, the output of
-# each check is kept there.
+# The edits are made in copies of the tree over the work that earlier checks kept, so `rt all check` comes first: several
+# at once in one copy, where no two change one function, and the functions that they change are checked there and no
+# others. What was not refused so is tried alone, at last by a check of the whole crate. An edit of what stands in no
+# function has a line `refused by: FILE:NAME`, which names one that shows the mistake. A line an edit says how it ended;
+# the last line counts them. Ends with status 0 only if a goal that did not prove refused each edit: among others a goal
+# of a function that the edit changes. An edit that is not read, one that breaks types or borrows, and one that only
+# takes away a name that a proof file cites show nothing of a contract, and are told apart. `--jobs` is how many copies
+# are checked side by side, at first as many as there are processors, and memory for 3 GB each. Where WRONG_LOGS names a
+# folder, the output of each check is kept there, and what it took, in seconds, in the file `times`.
 set -u
 export LC_ALL=C
 root=$(cd "$(dirname "$0")" && pwd)
@@ -67,12 +68,15 @@ by_size() {
 }
 proved=" $(by_size | tr '\n' ' ')"
 
-# Proves crates as they stand until none is left that no other job has taken, since a refusal of an edit says nothing
-# of a crate that is refused itself.
+# Proves crates as they stand, in the copy of each job, until none is left that no other job has taken, since a refusal
+# of an edit says nothing of a crate that is refused itself. In the tree itself they would wait for one another.
 prove_crates() {
+    tree=$work/tree.$1
     for name in $proved; do
         mkdir "$work/proof.$name" 2> /dev/null || continue
-        (cd "crates/$name" && rt check --jobs 1) > "$work/proof.$name/log" 2>&1 || : > "$work/proof.$name/failed"
+        begun=$(date +%s)
+        (cd "$tree/crates/$name" && rt check --jobs 1) > "$work/proof.$name/log" 2>&1 || : > "$work/proof.$name/failed"
+        keep_time "$name"
     done
 }
 
@@ -85,14 +89,6 @@ run_jobs() {
     done
     wait
 }
-
-run_jobs prove_crates
-for name in $proved; do
-    [ -e "$work/proof.$name/failed" ] || continue
-    echo "$name: it is not proved without an edit"
-    tail -n 3 "$work/proof.$name/log"
-    exit 1
-done
 
 # Copies the crate $1 to the tree $2: its files, and links to the work that is kept, which a check replaces and never
 # writes to.
@@ -147,8 +143,16 @@ say() {
     printf '%s\n' "$1" | tee -a "$work/said"
 }
 
-# Keeps the output of a check, if that is wanted.
+# Keeps how long a step took that began at $begun, if that is wanted.
+keep_time() {
+    if [ -n "${WRONG_LOGS-}" ]; then
+        printf '%s %s\n' "$(($(date +%s) - begun))" "$1" >> "$WRONG_LOGS/times"
+    fi
+}
+
+# Keeps the output of a check, and how long it took, if that is wanted.
 keep_log() {
+    keep_time "$2"
     if [ -n "${WRONG_LOGS-}" ] && [ -e "$1" ]; then
         mv "$1" "$WRONG_LOGS/$2.log"
     fi
@@ -217,6 +221,7 @@ try_batches() {
     tree=$work/tree.$1
     while read -r name number; do
         mkdir "$work/batch.$name.$number" 2> /dev/null || continue
+        begun=$(date +%s)
         grep "^$number " "$work/batches.$name" > "$tree/batch"
         cd "$tree/crates/$name" || exit 1
         : > "$tree/made"
@@ -243,7 +248,7 @@ try_batches() {
             fi
         done < "$tree/made"
         cd "$root" || exit 1
-        keep_log "$tree/log" "$name.batch$number"
+        keep_log "$tree/log" "$name.round$round.batch$number"
         copy_crate "$name" "$tree"
     done < "$work/batches"
 }
@@ -255,6 +260,7 @@ try_edits() {
         name=$(basename "$(dirname "$(dirname "$edit")")")
         title="$name: $(basename "$edit" .edit)"
         mkdir "$work/$name.$(basename "$edit")" 2> /dev/null || continue
+        begun=$(date +%s)
         cd "$tree/crates/$name" || exit 1
         keys=$(awk -f "$root/.ci/batches.awk" "$root/$edit" | cut -d ' ' -f 3-)
         if why=$(awk -f "$root/.ci/apply.awk" "$root/$edit"); then
@@ -300,6 +306,14 @@ while [ "$job" -lt "$jobs" ]; do
     copy_tree "$work/tree.$job"
 done
 
+run_jobs prove_crates
+for name in $proved; do
+    [ -e "$work/proof.$name/failed" ] || continue
+    echo "$name: it is not proved without an edit"
+    tail -n 3 "$work/proof.$name/log"
+    exit 1
+done
+
 # Where an edit's function calls one that another edit of the batch breaks, its goals are not tried: so what is left is
 # put into batches again, as long as that shows anything.
 : > "$work/said"
@@ -307,8 +321,10 @@ done
 cp "$work/edits" "$work/alone"
 left=$(wc -l < "$work/alone")
 before=$((left + 1))
+round=0
 while [ "$left" -gt 1 ] && [ "$left" -lt "$before" ]; do
     before=$left
+    round=$((round + 1))
     make_batches
     run_jobs try_batches
     left=$(wc -l < "$work/alone")

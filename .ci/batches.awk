@@ -2,7 +2,7 @@
 # batch can be tried in one copy. Functions that call each other in a cycle are checked all at once, so what changes one
 # of them is kept apart; all else goes into batches of at most 16, which can be tried side by side. Run in the crate's
 # folder on its edits; prints a line for each edit: the number of its batch, its file, and the functions that it changes,
-# each as FILE:NAME.
+# each as FILE:NAME, or those that its lines `refused by:` name.
 
 # The function around the first line of a file that has this text, or nothing; `cyclic` says whether it is in a cycle.
 function function_at(file, part, line, name, found, given, own) {
@@ -48,4 +48,5 @@ FNR == 1 { end_edit(); edit = FILENAME; count = 0; cyclic = 0 }
     name = function_at(file, substr($0, 6))
     if (name != "") keys[++count] = file ":" name
 }
+/^refused by: / { keys[++count] = substr($0, 13) }
 END { end_edit() }
