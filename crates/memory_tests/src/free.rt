@@ -62,33 +62,97 @@ fn plain_text(rt: HostRuntime) -> Result<(), Fail> {
     Ok(())
 }
 
-// A fault, of which all is told.
-fn tells_faults(fault: &Error) -> bool {
-    matches!(fault.cause(), Cause::Parser(_)) && fault.location().is_some()
+// What tags, anchors and faults are made of.
+#[derive(Drop)]
+struct Pieces {
+    tag: Vec<u8>,
+    anchor: Vec<u8>,
+    problem: String,
+    message: String,
+}
+
+fn gather(alloc: Global) -> Result<Pieces, Fail> {
+    Ok(Pieces {
+        tag: b"!x".to_vec(alloc)?,
+        anchor: b"a".to_vec(alloc)?,
+        problem: String::from_str(alloc, "bad")?,
+        message: String::from_str(alloc, "bad")?,
+    })
+}
+
+// Tags, anchors and faults.
+#[derive(Drop)]
+struct Made {
+    tag: Tag,
+    anchor: Anchor,
+    parser: Error,
+    custom: Error,
+    end: Error,
+}
+
+// What is made of the pieces.
+fn assemble(pieces: Pieces) -> Made {
+    let mark = Mark::new(3, 1, 2).unwrap();
+    let fault = ParserFault::new(FaultKind::Parser, pieces.problem, 0, mark, None, mark);
+    Made {
+        tag: Tag::new(pieces.tag),
+        anchor: Anchor::new(pieces.anchor),
+        parser: Error::from(fault),
+        custom: Error::custom(pieces.message),
+        end: Error::new(Cause::EndOfStream),
+    }
+}
+
+// Whether the tag and the anchor are what they are made of.
+fn tells_names(made: &Made) -> bool {
+    made.tag.is("!x") && made.anchor.as_slice() == b"a".as_slice()
+}
+
+// Whether a fault is the parser's.
+fn is_of_parser(fault: &Error) -> bool {
+    matches!(fault.cause(), Cause::Parser(_))
+}
+
+// Whether a fault is a message of a program's own.
+fn is_custom(fault: &Error) -> bool {
+    matches!(fault.cause(), Cause::Custom { .. })
+}
+
+// Whether a fault has a place.
+fn is_placed(fault: &Error) -> bool {
+    fault.location().is_some()
+}
+
+// Whether all of the faults is told.
+fn tells_faults(made: &Made) -> bool {
+    is_of_parser(&made.parser)
+        && is_placed(&made.parser)
+        && is_custom(&made.custom)
+        && !is_placed(&made.end)
+}
+
+// Whether all that is made is told, with still not a byte to be had.
+fn tells_all(alloc: Global, made: &Made) -> bool {
+    tells_names(made) && tells_faults(made) && is_used_up(alloc)
+}
+
+// Whether a mark, and parts of events and faults, are made where not a byte can be had.
+fn makes_parts(alloc: Global, pieces: Pieces) -> bool {
+    let before = is_used_up(alloc);
+    let made = assemble(pieces);
+    let told = tells_all(alloc, &made);
+    before && told
 }
 
 #[test]
 fn parts_of_events_and_faults(rt: HostRuntime) -> Result<(), Fail> {
     let alloc = rt.alloc();
-    let (tag, anchor) = (b"!x".to_vec(alloc)?, b"a".to_vec(alloc)?);
-    let problem = String::from_str(alloc, "bad")?;
-    let text = String::from_str(alloc, "bad")?;
+    let pieces = gather(alloc)?;
     let mut memory = Shortage::new(alloc)?;
     memory.leave(alloc, 0)?;
-    let before = is_used_up(alloc);
-    let (tag, anchor) = (Tag::new(tag), Anchor::new(anchor));
-    let mark = Mark::new(3, 1, 2).unwrap();
-    let fault = Error::from(ParserFault::new(FaultKind::Parser, problem, 0, mark, None, mark));
-    let custom = Error::custom(text);
-    let end = Error::new(Cause::EndOfStream);
-    let held = tells_faults(&fault)
-        && tag.is("!x")
-        && anchor.as_slice() == b"a".as_slice()
-        && matches!(custom.cause(), Cause::Custom { .. })
-        && end.location().is_none();
-    let after = is_used_up(alloc);
+    let held = makes_parts(alloc, pieces);
     drop(memory);
-    assert!(rt; before && held && after);
+    assert!(rt; held);
     Ok(())
 }
 

@@ -11,7 +11,7 @@ use std::test::Fail;
 use test_memory::{Outcome, Scene, Shortage, refusals};
 use test_rows::lines::{events, input};
 use test_rows::rows::stream_lines;
-use yaml_base::{Cause, Error, Event, Mark, Result as Answer};
+use yaml_base::{Cause, Error, Event, FaultKind, Mark, ParserFault, Result as Answer};
 use yaml_read::{Cursor, Document, Loader};
 use yaml_shape::{Data, Schema, ShapeId};
 
@@ -21,39 +21,87 @@ fn next_has_fault(loader: &mut Loader<'static>) -> Option<bool> {
     Some(document.error().is_some())
 }
 
-// How loading ended: with a whole document, one that the parser's fault cut off, and no more; or refused.
-fn loaded(answer: Answer<Loader<'static>>) -> Outcome {
+// How loading ended: with documents that have a fault or have none, and no more; or refused.
+fn loaded(answer: Answer<Loader<'static>>, faulted: &[bool]) -> Outcome {
     match answer {
         Ok(loader) => {
             let mut loader = loader;
-            let whole = next_has_fault(&mut loader) == Some(false);
-            let cut = next_has_fault(&mut loader) == Some(true);
-            if whole && cut && next_has_fault(&mut loader).is_none() {
+            for is_faulted in faulted {
+                if next_has_fault(&mut loader) != Some(*is_faulted) {
+                    return Outcome::Wrong("other documents");
+                }
+            }
+            if next_has_fault(&mut loader).is_none() {
                 Outcome::Answered
             } else {
-                Outcome::Wrong("other documents")
+                Outcome::Wrong("one document more")
             }
         }
         Err(fault) => refused(fault),
     }
 }
 
-// A document, and then the parser's fault.
-struct Loading;
+// Lines that are loaded, what the parser was at where it has a fault, and whether each document has one.
+struct Loading {
+    lines: &'static str,
+    context: Option<&'static str>,
+    faulted: &'static [bool],
+}
 
-impl Scene for Loading {
-    fn play(&self, alloc: Global, memory: &mut Shortage, pieces: usize) -> Result<Outcome, Fail> {
-        let input = input(alloc, "+STR; +DOC; =VAL :0; -DOC; 10:1:0 !ERR PARSER 0 bad")?;
-        memory.leave(alloc, pieces)?;
-        let answer = load(alloc, input.events, input.fault);
-        memory.restore();
-        Ok(loaded(answer))
+// The parser's fault, with what it was at.
+fn fault_within(alloc: Global, context: &str) -> Result<ParserFault, Fail> {
+    let mark = Mark::new(10, 1, 0).unwrap();
+    let problem = String::from_str(alloc, "bad")?;
+    let context = String::from_str(alloc, context)?;
+    Ok(ParserFault::new(FaultKind::Parser, problem, 0, mark, Some(context), mark))
+}
+
+// The fault behind these lines, if there is one.
+fn fault_behind(
+    alloc: Global,
+    found: Option<ParserFault>,
+    context: Option<&str>,
+) -> Result<Option<ParserFault>, Fail> {
+    match context {
+        Some(context) => Ok(Some(fault_within(alloc, context)?)),
+        None => Ok(found),
     }
 }
 
+impl Scene for Loading {
+    fn play(&self, alloc: Global, memory: &mut Shortage, pieces: usize) -> Result<Outcome, Fail> {
+        let input = input(alloc, self.lines)?;
+        let fault = fault_behind(alloc, input.fault, self.context)?;
+        memory.leave(alloc, pieces)?;
+        let answer = load(alloc, input.events, fault);
+        memory.restore();
+        Ok(loaded(answer, self.faulted))
+    }
+}
+
+const LOADINGS: &[Loading] = &[
+    Loading {
+        lines: "+STR; +DOC; =VAL :0; -DOC; 10:1:0 !ERR PARSER 0 bad",
+        context: None,
+        faulted: &[false, true],
+    },
+    Loading {
+        lines: "+STR; +DOC; =VAL :0; -DOC",
+        context: Some("while parsing a node"),
+        faulted: &[false, true],
+    },
+    Loading {
+        lines: "+STR; +DOC; =VAL :0; -DOC; +DOC; =VAL :1; -DOC; -STR",
+        context: None,
+        faulted: &[false, false],
+    },
+];
+
 #[test]
 fn events_that_are_loaded(rt: HostRuntime) -> Result<(), Fail> {
-    assert!(rt; refusals(rt.alloc(), &Loading)? > 0);
+    for (number, row) in LOADINGS.iter().enumerate() {
+        assert!(rt; refusals(rt.alloc(), row)? > 0, "row {number}");
+    }
     Ok(())
 }
 

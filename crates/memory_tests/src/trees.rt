@@ -62,6 +62,39 @@ fn has_gained(mapping: &Mapping, before: &Mapping, key: i64) -> bool {
         && mapping.get(&number(key)) == Some(&number(7))
 }
 
+// Whether a call ran out of memory, if it did nothing worse.
+fn ran_out(answer: Result<Option<Value>, TreeFault>) -> Option<bool> {
+    match answer {
+        Ok(_) => Some(false),
+        Err(TreeFault::Memory) => Some(true),
+        Err(TreeFault::EmptyTag) => None,
+    }
+}
+
+impl Inserting {
+    // What is to be said of a mapping after a call that was refused, or was not.
+    fn judge(
+        &self,
+        mapping: &mut Mapping,
+        before: &Mapping,
+        refused: bool,
+    ) -> Result<Outcome, Fail> {
+        if refused {
+            if !are_same(mapping, before) {
+                return Ok(Outcome::Wrong("the mapping changed"));
+            }
+            put(mapping, self.key, 7)?;
+        }
+        if !has_gained(mapping, before, self.key) {
+            return Ok(Outcome::Wrong("another mapping"));
+        }
+        if refused {
+            return Ok(Outcome::Refused);
+        }
+        Ok(Outcome::Answered)
+    }
+}
+
 impl Scene for Inserting {
     fn play(&self, alloc: Global, memory: &mut Shortage, pieces: usize) -> Result<Outcome, Fail> {
         let before = mapping_of(alloc, self.pairs)?;
@@ -69,24 +102,10 @@ impl Scene for Inserting {
         memory.leave(alloc, pieces)?;
         let answer = put(&mut mapping, self.key, 7);
         memory.restore();
-        let is_refused = match answer {
-            Ok(_) => false,
-            Err(TreeFault::Memory) => true,
-            Err(TreeFault::EmptyTag) => return Ok(Outcome::Wrong("another fault")),
-        };
-        if is_refused {
-            if !are_same(&mapping, &before) {
-                return Ok(Outcome::Wrong("the mapping changed"));
-            }
-            put(&mut mapping, self.key, 7)?;
+        match ran_out(answer) {
+            Some(refused) => self.judge(&mut mapping, &before, refused),
+            None => Ok(Outcome::Wrong("another fault")),
         }
-        if !has_gained(&mapping, &before, self.key) {
-            return Ok(Outcome::Wrong("another mapping"));
-        }
-        if is_refused {
-            return Ok(Outcome::Refused);
-        }
-        Ok(Outcome::Answered)
     }
 }
 

@@ -173,6 +173,57 @@ fn is_same(left: &State, right: &State) -> bool {
     left.0.as_str() == right.0.as_str() && left.1 == right.1
 }
 
+// Whether a serializer holds this.
+fn holds(alloc: Global, out: &Serializer, wanted: &State) -> Result<bool, Fail> {
+    let now = state(alloc, out)?;
+    Ok(is_same(&now, wanted))
+}
+
+// A serializer for a call with little memory, one like it for the call with ample memory, and what both hold before.
+#[derive(Drop)]
+struct Stage {
+    parts: Parts,
+    out: Serializer,
+    ample: Serializer,
+    before: State,
+}
+
+impl Stage {
+    fn new(alloc: Global, calls: &[Call]) -> Result<Stage, Fail> {
+        let parts = make_parts(alloc)?;
+        let out = serializer(alloc, &parts, calls)?;
+        let ample = serializer(alloc, &parts, calls)?;
+        let before = state(alloc, &out)?;
+        Ok(Stage {
+            parts,
+            out,
+            ample,
+            before,
+        })
+    }
+
+    // What comes of the call for which little memory may be left.
+    fn make(&mut self, call: Call) -> Ending {
+        does(&mut self.out, &self.parts, call)
+    }
+
+    // What comes of the call with ample memory.
+    fn make_with_ample_memory(&mut self, call: Call) -> Ending {
+        does(&mut self.ample, &self.parts, call)
+    }
+
+    // Whether a refused call left nothing.
+    fn is_untouched(&self, alloc: Global) -> Result<bool, Fail> {
+        holds(alloc, &self.out, &self.before)
+    }
+
+    // Whether both hold the same.
+    fn is_alike(&self, alloc: Global) -> Result<bool, Fail> {
+        let wanted = state(alloc, &self.ample)?;
+        holds(alloc, &self.out, &wanted)
+    }
+}
+
 // Calls that go through, and one behind them, with what comes of it where there is memory.
 struct Writing {
     before: &'static [Call],
@@ -180,35 +231,40 @@ struct Writing {
     ending: Ending,
 }
 
-impl Scene for Writing {
-    fn play(&self, alloc: Global, memory: &mut Shortage, pieces: usize) -> Result<Outcome, Fail> {
-        let parts = make_parts(alloc)?;
-        let mut ample = serializer(alloc, &parts, self.before)?;
-        let mut out = serializer(alloc, &parts, self.before)?;
-        let before = state(alloc, &out)?;
-        memory.leave(alloc, pieces)?;
-        let ending = does(&mut out, &parts, self.call);
-        memory.restore();
-        if does(&mut ample, &parts, self.call) != self.ending {
+impl Writing {
+    // What is to be said of a call that little memory was left for and that ended so.
+    fn judge(&self, alloc: Global, stage: &mut Stage, ending: Ending) -> Result<Outcome, Fail> {
+        if stage.make_with_ample_memory(self.call) != self.ending {
             return Ok(Outcome::Wrong("something else with ample memory"));
         }
-        if ending == Ending::NoMemory {
-            if !is_same(&state(alloc, &out)?, &before) {
+        let refused = ending == Ending::NoMemory;
+        if refused {
+            if !stage.is_untouched(alloc)? {
                 return Ok(Outcome::Wrong("a refused call left something"));
             }
-            if does(&mut out, &parts, self.call) != self.ending {
+            if stage.make(self.call) != self.ending {
                 return Ok(Outcome::Wrong("the same call ends otherwise"));
             }
         } else if ending != self.ending {
             return Ok(Outcome::Wrong("another end"));
         }
-        if !is_same(&state(alloc, &out)?, &state(alloc, &ample)?) {
+        if !stage.is_alike(alloc)? {
             return Ok(Outcome::Wrong("other events"));
         }
-        if ending == Ending::NoMemory {
+        if refused {
             return Ok(Outcome::Refused);
         }
         Ok(Outcome::Answered)
+    }
+}
+
+impl Scene for Writing {
+    fn play(&self, alloc: Global, memory: &mut Shortage, pieces: usize) -> Result<Outcome, Fail> {
+        let mut stage = Stage::new(alloc, self.before)?;
+        memory.leave(alloc, pieces)?;
+        let ending = stage.make(self.call);
+        memory.restore();
+        self.judge(alloc, &mut stage, ending)
     }
 }
 
@@ -278,33 +334,66 @@ fn finished(out: Serializer) -> Result<Vec<EmitEvent>, Option<Serializer>> {
     }
 }
 
-impl Scene for Finishing {
-    fn play(&self, alloc: Global, memory: &mut Shortage, pieces: usize) -> Result<Outcome, Fail> {
-        let parts = make_parts(alloc)?;
-        let out = serializer(alloc, &parts, self.calls)?;
-        let before = state(alloc, &out)?;
+// What a serializer holds, and the lines of its events once the stream is ended.
+#[derive(Drop)]
+struct Wanted {
+    before: State,
+    whole: String,
+}
+
+impl Wanted {
+    // What is wanted of a serializer that is not ended yet.
+    fn of(alloc: Global, out: &Serializer) -> Result<Wanted, Fail> {
+        let before = state(alloc, out)?;
         let mut whole = told(alloc, out.events())?;
         whole.push_str("StreamEnd\n")?;
-        memory.leave(alloc, pieces)?;
-        let answer = finished(out);
-        memory.restore();
-        let (events, outcome) = match answer {
-            Ok(events) => (events, Outcome::Answered),
-            Err(Some(out)) => {
-                if !is_same(&state(alloc, &out)?, &before) {
-                    return Ok(Outcome::Wrong("another serializer comes back"));
-                }
-                match finished(out) {
-                    Ok(events) => (events, Outcome::Refused),
-                    Err(_) => return Ok(Outcome::Wrong("what came back is refused")),
-                }
-            }
-            Err(None) => return Ok(Outcome::Wrong("another fault")),
-        };
-        if told(alloc, events.as_slice())?.as_str() != whole.as_str() {
+        Ok(Wanted { before, whole })
+    }
+
+    // What is to be said of the events of a stream.
+    fn judge(
+        &self,
+        alloc: Global,
+        events: &[EmitEvent],
+        outcome: Outcome,
+    ) -> Result<Outcome, Fail> {
+        let lines = told(alloc, events)?;
+        if lines.as_str() != self.whole.as_str() {
             return Ok(Outcome::Wrong("other events"));
         }
         Ok(outcome)
+    }
+
+    // What is to be said of a serializer that came back.
+    fn judge_rest(&self, alloc: Global, out: Serializer) -> Result<Outcome, Fail> {
+        if !holds(alloc, &out, &self.before)? {
+            return Ok(Outcome::Wrong("another serializer comes back"));
+        }
+        match finished(out) {
+            Ok(events) => self.judge(alloc, events.as_slice(), Outcome::Refused),
+            Err(_) => Ok(Outcome::Wrong("what came back is refused")),
+        }
+    }
+}
+
+// A serializer that made these calls.
+fn begun(alloc: Global, calls: &[Call]) -> Result<Serializer, Fail> {
+    let parts = make_parts(alloc)?;
+    serializer(alloc, &parts, calls)
+}
+
+impl Scene for Finishing {
+    fn play(&self, alloc: Global, memory: &mut Shortage, pieces: usize) -> Result<Outcome, Fail> {
+        let out = begun(alloc, self.calls)?;
+        let wanted = Wanted::of(alloc, &out)?;
+        memory.leave(alloc, pieces)?;
+        let answer = finished(out);
+        memory.restore();
+        match answer {
+            Ok(events) => wanted.judge(alloc, events.as_slice(), Outcome::Answered),
+            Err(Some(out)) => wanted.judge_rest(alloc, out),
+            Err(None) => Ok(Outcome::Wrong("another fault")),
+        }
     }
 }
 

@@ -13,3 +13,5 @@ mod renderer;
 mod shapes;
 #[cfg(test)]
 mod typed;
+#[cfg(test)]
+mod wide;

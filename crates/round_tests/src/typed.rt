@@ -1,6 +1,7 @@
 //! Values written as streams, and streams read as values.
 
 use super::renderer::rendered;
+use serde_yaml::value::{Number, Tag, TaggedValue};
 use serde_yaml::{
     Deserialize, Error, Limits, RoundTrip, Value, from_events, from_events_limited, to_events,
 };
@@ -11,7 +12,6 @@ use test_rows::lines::{BAD, events, fault};
 use test_rows::rows::stream_lines;
 use test_rows::sources::events_with_source;
 use yaml_base::emitter::EmitEvent;
-use yaml_tree::Number;
 
 // How many styles a scalar may come in, at most.
 const TURNS: usize = 5;
@@ -22,16 +22,19 @@ fn read<'de, T: Deserialize<'de>>(alloc: Global, node: &str) -> Result<T, Fail> 
     Ok(from_events(alloc, events(alloc, lines.as_str())?, None)?)
 }
 
-// The message by which a reading is refused; empty where it isn't.
-fn message<T: Drop>(alloc: Global, answer: Result<T, Error>) -> Result<String, Fail> {
+/// The message by which a call is refused; empty where it isn't.
+pub fn message<T: Drop>(alloc: Global, answer: Result<T, Error>) -> Result<String, Fail> {
     match answer {
         Ok(_) => Ok(String::new(alloc)),
         Err(fault) => Ok(fault.to_string(alloc)?),
     }
 }
 
-// The message by which a stream is refused under a type; empty where it isn't.
-fn refusal<'de, T: Deserialize<'de> + Drop>(alloc: Global, lines: &str) -> Result<String, Fail> {
+/// The message by which a stream is refused under a type; empty where it isn't.
+pub fn refusal<'de, T: Deserialize<'de> + Drop>(
+    alloc: Global,
+    lines: &str,
+) -> Result<String, Fail> {
     message::<T>(alloc, from_events(alloc, events(alloc, lines)?, None))
 }
 
@@ -106,6 +109,25 @@ Scalar(EmitScalar { tag: None, value: \"null\", style: Plain })
 DocumentEnd
 StreamEnd
 ";
+
+// A value under a tag.
+fn tagged(alloc: Global, tag: &str, value: Value) -> Result<Value, Fail> {
+    let tag = Tag::new(alloc, tag)?;
+    Ok(Value::Tagged(Box::new(alloc, TaggedValue { tag, value })?))
+}
+
+#[test]
+fn a_tag_upon_a_tag_is_not_written(rt: HostRuntime) -> Result<(), Fail> {
+    let alloc = rt.alloc();
+    let inner = tagged(alloc, "i", Value::Number(Number::from_u64(1)))?;
+    let outer = tagged(alloc, "o", inner)?;
+    let refused = message(alloc, to_events(alloc, &outer))?;
+    assert_eq!(rt;
+        refused.as_str(),
+        "serializing nested enums in YAML is not supported yet"
+    );
+    Ok(())
+}
 
 // A present optional of nothing is written as null, and so it is read as absent: it does not fit.
 #[test]

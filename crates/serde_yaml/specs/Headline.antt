@@ -14,8 +14,8 @@ use Rattle.yaml_read.specs.Resolved.{resolved}
 use Rattle.yaml_read.specs.TreeReader.{PlainLimits}
 
 -- The input reads as v under the shape: it is a stream of one document, and v is what its tree means within the limits,
--- each alias
--- standing for the last node so anchored before it. A stream without documents is read as one that stands for nothing.
+-- each alias standing for the last node so anchored before it. A stream without documents is read as one that stands
+-- for nothing.
 pub data ReadsAs (limits : PlainLimits) (table : List PlainShape) (s : PlainShape) (input : Input)
     (v : PlainData) : Type 0 where
   one_document : (root : Node) (tree : DocNode) → events_in input ≡ stream_events (root ∷ []) → resolved root

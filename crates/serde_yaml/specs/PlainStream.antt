@@ -13,13 +13,12 @@ pub record PlainStream : Type 0 where
 abbrev pub document_alone : PlainDocument → PlainStream
 document_alone document = record { documents = document ∷ []; is_document = true; iterated = false }
 
--- what going through a stream still gives: its documents, each on its own; a document on its own gives nothing more
+-- what iterating a stream still gives: its documents, each on its own; a document on its own gives nothing more
 abbrev pub items_left : PlainStream → List PlainStream
 items_left stream = if stream.is_document then [] else map document_alone stream.documents
 
--- The step of going through a stream: the first document that is left, on its own, or none where none is left. From
--- then on a
--- stream counts as gone through; a document on its own stays as it is.
+-- The step of iterating a stream: the first document that is left, on its own, or none where none is left. From then
+-- on a stream counts as iterated; a document on its own stays as it is.
 pub record GoesOn (old : PlainStream) (given : Option PlainStream) (new : PlainStream) : Type 0 where
   pub yields : YieldsFirst items_left old given new
   pub kind : new.is_document ≡ old.is_document

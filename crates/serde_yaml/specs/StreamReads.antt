@@ -14,7 +14,7 @@ use Rattle.yaml_read.specs.TreeReader.{PlainLimits}
 use Rattle.yaml_read.specs.WrongPlace.{IsWrongAt}
 use Rattle.serde_yaml.specs.PlainStream.{PlainStream}
 
--- the stream was not gone through, its first document is this one, and others follow
+-- the stream was not iterated, its first document is this one, and others follow
 pub record Begins (stream : PlainStream) (document : PlainDocument) (others : List PlainDocument) : Type 0 where
   pub fresh : stream.iterated ≡ false
   pub documents : stream.documents ≡ document ∷ others
@@ -30,8 +30,7 @@ unless_more true (Ok v) = Err MoreThanOneDocument
 unless_more more given = given
 
 -- What a stream gives, read under a shape of the table within limits: what its first document gives, unless others
--- follow; and
--- once it was gone through, nothing.
+-- follow; and once it was iterated, nothing.
 pub record StreamGives (limits : PlainLimits) (table : List PlainShape) (s : PlainShape) (stream : PlainStream)
     (given : Result PlainData Cause) : Type 0 where
   pub first : (document : PlainDocument) (others : List PlainDocument) → Begins stream document others
@@ -39,13 +38,12 @@ pub record StreamGives (limits : PlainLimits) (table : List PlainShape) (s : Pla
       × (given ≡ unless_more (follow others) found)
   pub iterated : stream.iterated ≡ true → given ≡ Err MoreThanOneDocument
 
--- the stream of an input, before it is gone through
+-- the stream of an input, before it is iterated
 abbrev pub stream_of : Input → Option PlainFault → PlainStream
 stream_of input fault = record { documents = documents_of input fault; is_document = false; iterated = false }
 
 -- What an input gives: a list of events that is no stream, or with the parser's fault no beginning of one, is refused
--- with the
--- least place that is wrong; of a stream, what the stream gives.
+-- with the least place that is wrong; of a stream, what the stream gives.
 pub data InputGives (limits : PlainLimits) (table : List PlainShape) (s : PlainShape) (input : Input)
     (fault : Option PlainFault)
     : Result PlainData Cause → Type 0 where

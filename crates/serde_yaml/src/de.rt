@@ -2,6 +2,7 @@
 
 mod asked;
 mod calls;
+mod input;
 mod kinds;
 mod typed;
 
@@ -19,6 +20,7 @@ ghost use Rattle.yaml_read.specs.TreeReader.{default_limits};
 ghost use Rattle.yaml_read.specs.WrongPlace.{IsWrongAt};
 ghost use Rattle.serde_yaml.specs.StreamReads.{StreamGives, stream_of, unless_more};
 
+pub use input::data_from_events;
 use std::alloc::Global;
 use std::marker::Model;
 pub use typed::{from_events, from_events_limited};
@@ -35,7 +37,7 @@ enum Source<'de> {
 
 /// A stream of documents that is still to be read, or one document of it.
 ///
-/// A stream of one document is read by `deserialize`. A stream of several is gone through as an iterator: each item
+/// A stream of one document is read by `deserialize`. A stream of several is iterated: each item
 /// reads its own document, and may outlive the stream.
 #[derive(Drop)]
 pub struct Deserializer<'de> {
@@ -119,11 +121,11 @@ impl<'de> Deserializer<'de> {
     }
 
     /// The data of the stream's one document under the shape with this number, within 128 nestings and 100 follows for
-    /// each of its events. Texts are lent from the source where the source shows them. `Schema::has` is the test of
+    /// each of its events. Texts are borrowed from the source where the source shows them. `Schema::has` is the test of
     /// what is asked.
     ///
     /// The first document's fault comes first: one of reading it, then the one that cut it off. A stream of several
-    /// documents whose first reads as data, and a stream that was gone through, are refused as more than one document.
+    /// documents whose first reads as data, and a stream that was iterated, are refused as more than one document.
     pub fn deserialize(self, alloc: Global, schema: &Schema, id: ShapeId) -> Result<Data<'de>>
         requires { id.0 < length schema.now }
 

@@ -7,7 +7,7 @@ mod refusal;
 mod ser;
 pub mod value;
 
-pub use de::{Deserializer, from_events, from_events_limited};
+pub use de::{Deserializer, data_from_events, from_events, from_events_limited};
 pub use ser::to_events;
 pub use yaml_base::{
     Anchor, Cause, EntryKey, Error, Event, FaultKind, Found, Location, MappingStart, Mark,

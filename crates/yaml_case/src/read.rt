@@ -7,7 +7,7 @@ ghost use Rattle.serde_yaml.specs.StreamReads.{InputGives};
 ghost use Rattle.yaml_case.specs.Shapes.{table_of, first_shape};
 
 use crate::shapes::Named;
-use serde_yaml::{Deserializer, Limits};
+use serde_yaml::{Limits, data_from_events};
 use std::alloc::Global;
 use yaml_base::{Cause, Error, Event, Mark, ParserFault, Result};
 use yaml_shape::{Data, ShapeId};
@@ -27,8 +27,5 @@ pub fn read<'de>(
     let Ok(schema) = named.schema(alloc) else {
         return Err(Error::new(Cause::Memory));
     };
-    match Deserializer::from_events(alloc, events, fault) {
-        Ok(documents) => documents.deserialize_limited(alloc, &schema, ShapeId(0), limits),
-        Err(fault) => Err(fault),
-    }
+    data_from_events(alloc, events, fault, &schema, ShapeId(0), limits)
 }

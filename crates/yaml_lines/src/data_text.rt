@@ -14,7 +14,7 @@ use std::alloc::AllocError;
 use value::show_value;
 use yaml_shape::{Data, Entry};
 
-/// Appends the text of data.
+/// Appends the text of data. The only error is that memory runs out.
 #[cycle(show)]
 pub fn show(out: &mut String, content: &Data<'_>) -> Result<(), AllocError>
     ensures { OnOk result

@@ -54,7 +54,8 @@ fn first_byte(text: &[u8]) -> Option<(u8, &[u8])>
     }
 }
 
-/// The bytes that a text with escapes stands for.
+/// The bytes that a text with escapes stands for. Refused by `Bad` where an escape is wrong or a byte is no printable
+/// ASCII, and by `Memory`.
 pub fn unescape(alloc: Global, text: &[u8]) -> Result<Vec<u8>, LineFault>
     ensures { Parses (λ bytes. bytes.items) (Spells text.now) result }
 {

@@ -31,7 +31,8 @@ pub fn first_line(text: &[u8]) -> (&[u8], &[u8])
 }
 
 impl Input {
-    /// Reads the lines of a text, of which the last may lack its line feed.
+    /// Reads the lines of a text, of which the last may lack its line feed. Refused with the number of the first bad
+    /// line, counted from 1, or by `Memory`.
     pub fn parse(alloc: Global, text: &[u8]) -> Result<Input, InputFault>
         ensures { MatchResult result
             (λ input. IsInput (lines_of text.now) (events_of input.events.items) input.fault)

@@ -1,8 +1,8 @@
 //! The example of the README, word for word.
 
 use serde_yaml::{
-    Data, Deserializer, Error, Event, MappingStart, Mark, Result, Scalar, ScalarStyle, Schema,
-    Shape, ShapeId, from_events, to_events,
+    Data, Error, Event, Limits, MappingStart, Mark, Result, Scalar, ScalarStyle, Schema, Shape,
+    ShapeId, data_from_events, from_events, to_events,
 };
 use std::alloc::Global;
 use std::collections::BTreeMap;
@@ -45,6 +45,7 @@ fn events<'de>(alloc: Global) -> Result<Vec<(Event<'de>, Mark)>> {
 #[test]
 fn a_value_of_a_type(rt: HostRuntime) -> std::result::Result<(), Fail> {
     let alloc = rt.alloc();
+    // `None`: the parser met no fault
     let ports: BTreeMap<String, u16> = from_events(alloc, events(alloc)?, None)?;
     assert_eq!(rt; ports.get("port"), Some(&8080));
     // and back: the events of a stream of one document, for an emitter
@@ -61,8 +62,8 @@ fn port(alloc: Global, events: Vec<(Event<'_>, Mark)>) -> Result<Option<i128>> {
         Ok(schema) => schema,
         Err(fault) => return Err(Error::custom(fault.to_string(alloc)?)),
     };
-    let stream = Deserializer::from_events(alloc, events, None)?;
-    let Data::Map(entries) = stream.deserialize(alloc, &schema, ShapeId(0))? else {
+    let found = data_from_events(alloc, events, None, &schema, ShapeId(0), Limits::DEFAULT)?;
+    let Data::Map(entries) = found else {
         return Ok(None);
     };
     for entry in &entries {

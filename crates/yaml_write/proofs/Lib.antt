@@ -4,3 +4,4 @@ pub mod DataLaws
 pub mod PlaceLaws
 pub mod BegunLaws
 pub mod PartsLaws
+pub mod RefusalLaws

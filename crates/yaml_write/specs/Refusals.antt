@@ -1,4 +1,4 @@
--- The cause that a refusal stands for.
+-- What is refused, and by which cause.
 use Rattle.yaml_base.specs.declared.error.Cause.{Cause}
 use Rattle.yaml_base.specs.declared.error.Cause.TheVariants as cause
 use Rattle.yaml_write.specs.declared.refusal.Refused.{Refused}
@@ -9,3 +9,8 @@ abbrev pub refusal_cause : Refused → Cause
 refusal_cause refused.Memory = cause.Memory
 refusal_cause refused.Bytes = cause.BytesUnsupported
 refusal_cause refused.TagOnTag = cause.SerializeNestedEnum
+
+-- the causes that lie in data: bytes, which nothing is written for, and a tag directly upon a tag
+pub data IsOfData : Cause → Type 0 where
+  has_bytes : IsOfData cause.BytesUnsupported
+  has_nested_tags : IsOfData cause.SerializeNestedEnum

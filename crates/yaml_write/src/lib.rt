@@ -5,6 +5,7 @@ mod buffer;
 mod content;
 mod data;
 mod in_shape;
+pub mod laws;
 mod local_tag;
 mod open;
 mod part_shapes;

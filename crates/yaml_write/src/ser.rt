@@ -46,7 +46,7 @@ impl Model for Serializer {
 }
 
 impl Serializer {
-    /// A serializer that holds the start of a stream. It keeps the allocator.
+    /// A serializer that holds the start of a stream. It keeps the allocator. The only fault is `Memory`.
     pub fn new(alloc: Global) -> Result<Serializer>
         ensures ok { IfOk result (λ serializer. serializer
             ≡ (record { events = emit_stream_start ∷ []; opened = [] })) }
@@ -90,7 +90,8 @@ impl Serializer {
         Ok(())
     }
 
-    /// All events, with the end of the stream behind them. On refusal the serializer comes back as it was.
+    /// All events, with the end of the stream behind them. It asks that nothing is open, which `open_kind` tells. The
+    /// only fault is `Memory`, and the serializer then comes back as it was.
     pub fn into_inner(self) -> std::result::Result<Vec<EmitEvent>, (Error, Serializer)>
         requires { self.opened ≡ [] }
         ensures ok { IfOk result (λ events.

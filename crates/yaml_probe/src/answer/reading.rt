@@ -12,7 +12,7 @@ ghost use Rattle.serde_yaml.specs.StreamReads.{InputGives};
 ghost use Rattle.yaml_probe.specs.Answers.{IsReading};
 
 use super::{Answer, Ending};
-use serde_yaml::Deserializer;
+use serde_yaml::{Limits, data_from_events};
 use std::alloc::{AllocError, Global};
 use yaml_base::{Error, Result};
 use yaml_lines::{Input, InputFault, show};
@@ -24,10 +24,14 @@ fn content_of(alloc: Global, schema: &Schema, id: ShapeId, input: Input) -> Resu
     ensures { (s : PlainShape) → shape_at schema.now id.0 ≡ Some s → Answers data_of result
         (InputGives default_limits schema.now s (events_of input.events.items) input.fault) }
 {
-    match Deserializer::from_events(alloc, input.events, input.fault) {
-        Ok(documents) => documents.deserialize(alloc, schema, id),
-        Err(fault) => Err(fault),
-    }
+    data_from_events(
+        alloc,
+        input.events,
+        input.fault,
+        schema,
+        id,
+        Limits::DEFAULT,
+    )
 }
 
 // The text of data.

@@ -3,7 +3,7 @@
 use crate::shape::makers::answers;
 use std::alloc::{AllocError, Global};
 use std::test::Fail;
-use yaml_shape::{Schema, SchemaFault, Shape, ShapeId, seq_of};
+use yaml_shape::{Schema, SchemaFault, Shape, ShapeId, map_of, seq_of};
 
 // So many shapes, each an optional whose content is the next, and a last one.
 fn chain(alloc: Global, count: u32, last: Shape) -> Result<Vec<Shape>, AllocError> {
@@ -114,6 +114,30 @@ fn has_room_behind(alloc: Global, count: u32) -> Result<bool, Fail> {
 fn a_join_past_the_limit(rt: HostRuntime) -> Result<(), Fail> {
     assert!(rt; has_no_room_behind(rt.alloc(), 4096)?);
     assert!(rt; has_room_behind(rt.alloc(), 4095)?);
+    Ok(())
+}
+
+// The first shape of a table.
+const FIRST: ShapeId = ShapeId(0);
+
+// The number of a mapping from the first of so many shapes to the first of so many, or none where it has no room.
+fn mapping_behind(alloc: Global, keys: u32, values: u32) -> Result<Option<u32>, Fail> {
+    let keys = Schema::new(alloc, nothings(alloc, keys)?)?;
+    let values = Schema::new(alloc, nothings(alloc, values)?)?;
+    if !keys.has(FIRST) || !values.has(FIRST) {
+        return Err("no first shape")?;
+    }
+    match map_of(alloc, keys, FIRST, values, FIRST) {
+        Ok((_, ShapeId(number))) => Ok(Some(number)),
+        Err(SchemaFault::S4) => Ok(None),
+        Err(fault) => Err(fault)?,
+    }
+}
+
+#[test]
+fn a_mapping_past_the_limit(rt: HostRuntime) -> Result<(), Fail> {
+    assert_eq!(rt; mapping_behind(rt.alloc(), 2048, 2048)?, None);
+    assert_eq!(rt; mapping_behind(rt.alloc(), 2048, 2047)?, Some(4095));
     Ok(())
 }
 

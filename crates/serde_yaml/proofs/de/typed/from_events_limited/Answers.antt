@@ -16,24 +16,24 @@ pub returns-in-Ok-build : goal.returns-in-Ok-build
 returns-in-Ok-build g c =
     let closed : IsClosed g.T.Deserialize.start = (g.met.T.Deserialize c.lifetimes (assumption c)).closed in
     type_gives c.args.limits g.T.Deserialize.start g.T.Deserialize.built g.T.Deserialize.refused
-    (plain_marked c.args.events.items) c.args.fault _ _ (Ok (data_of c.in-Ok-read_data.found)) (Ok c.in-Ok-build.value)
-    c.in-Ok.ensures.ok.table c.in-Ok.ensures.ok.number closed c.read_data.ensures.valid c.in-Ok-read_data.ensures.given
-    c.in-Ok-build.ensures.ok
+    (plain_marked c.args.events.items) c.args.fault _ _ (Ok (data_of c.in-Ok-data_from_events.found))
+    (Ok c.in-Ok-build.value) c.in-Ok.ensures.ok.table c.in-Ok.ensures.ok.number closed c.is_valid.ensures
+    c.in-Ok-data_from_events.ensures.given c.in-Ok-build.ensures.ok
 
-pub returns-in-Ok-read_data : goal.returns-in-Ok-read_data
-returns-in-Ok-read_data g c = λ m.
+pub returns-in-Ok-data_from_events : goal.returns-in-Ok-data_from_events
+returns-in-Ok-data_from_events g c = λ m.
     let closed : IsClosed g.T.Deserialize.start = (g.met.T.Deserialize c.lifetimes (assumption c)).closed in
     type_gives c.args.limits g.T.Deserialize.start g.T.Deserialize.built g.T.Deserialize.refused
-    (plain_marked c.args.events.items) c.args.fault _ _ (Ok (data_of c.in-Ok-read_data.found))
-    (Err c.build_refusal.result) c.in-Ok.ensures.ok.table c.in-Ok.ensures.ok.number closed c.read_data.ensures.valid
-    c.in-Ok-read_data.ensures.given
-    (no_value g.T.Deserialize.built g.T.Deserialize.refused (data_of c.in-Ok-read_data.found) c.in-Err-build.refused
-    c.build_refusal.result c.in-Err-build.ensures.refused c.build_refusal.ensures m)
+    (plain_marked c.args.events.items) c.args.fault _ _ (Ok (data_of c.in-Ok-data_from_events.found))
+    (Err c.build_refusal.result) c.in-Ok.ensures.ok.table c.in-Ok.ensures.ok.number closed c.is_valid.ensures
+    c.in-Ok-data_from_events.ensures.given
+    (no_value g.T.Deserialize.built g.T.Deserialize.refused (data_of c.in-Ok-data_from_events.found)
+    c.in-Err-build.refused c.build_refusal.result c.in-Err-build.ensures.refused c.build_refusal.ensures m)
 
 pub returns : goal.returns
 returns g c = λ m.
     let closed : IsClosed g.T.Deserialize.start = (g.met.T.Deserialize c.lifetimes (assumption c)).closed in
     type_gives c.args.limits g.T.Deserialize.start g.T.Deserialize.built g.T.Deserialize.refused
-    (plain_marked c.args.events.items) c.args.fault _ _ (Err c.in-Err-read_data.refused)
-    (Err c.in-Err-read_data.refused) c.in-Ok.ensures.ok.table c.in-Ok.ensures.ok.number closed c.read_data.ensures.valid
-    (λ s at. c.in-Err-read_data.ensures.given s at m) refl
+    (plain_marked c.args.events.items) c.args.fault _ _ (Err c.in-Err-data_from_events.refused)
+    (Err c.in-Err-data_from_events.refused) c.in-Ok.ensures.ok.table c.in-Ok.ensures.ok.number closed c.is_valid.ensures
+    (λ s at. c.in-Err-data_from_events.ensures.given s at m) refl
