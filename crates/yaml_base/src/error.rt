@@ -29,7 +29,7 @@ pub type Result<T> = std::result::Result<T, Error>;
 /// Where a fault of reading stands.
 #[derive(Drop)]
 pub struct Place {
-    /// The first event of the node.
+    /// The mark of the node's first event; for an unknown field that of the scalar that names it.
     pub mark: Mark,
     /// The way from the root of the document to the node, as it is printed.
     pub path: Words,
@@ -48,9 +48,9 @@ pub enum Cause {
     NotAStream(usize),
     /// The events end before the value does.
     EndOfStream,
-    /// There is a document after the first.
+    /// There is a document after the first, or the stream was iterated.
     MoreThanOneDocument,
-    /// Collections are nested deeper than the limit allows. The mark is that of the first one too many.
+    /// Collections and newtypes are nested deeper than the limit allows. The mark is that of the first one too many.
     RecursionLimitExceeded(Mark),
     /// Aliases are followed more often than the limit allows.
     RepetitionLimitExceeded,

@@ -28,7 +28,7 @@ impl Words {
         Words { text }
     }
 
-    /// The text, lent.
+    /// The text, borrowed.
     pub fn as_str(&self) -> &str
         ensures { result.now ≡ self.now }
     {
@@ -83,7 +83,7 @@ impl WordList {
         WordList { entries }
     }
 
-    /// The texts, lent.
+    /// The texts, borrowed.
     pub fn as_slice(&self) -> &[Words]
         ensures { result.now ≡ self.now }
     {

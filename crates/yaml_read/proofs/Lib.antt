@@ -1,4 +1,5 @@
 -- Lemmas of this crate.
+pub mod AliasLaws
 pub mod AnchorOrders
 pub mod AnchorSearch
 pub mod AnyCode

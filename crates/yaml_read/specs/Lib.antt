@@ -10,6 +10,7 @@ pub mod Fields
 pub mod FreeReads
 pub mod Gathering
 pub mod Handing
+pub mod Following
 pub mod Kinds
 pub mod MarkedEvents
 pub mod Meaning

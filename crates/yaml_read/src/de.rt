@@ -139,8 +139,8 @@ impl<'de> Document<'de> {
     }
 
     /// The data of the document under the shape with this number, within 128 nestings and 100 follows for each event of
-    /// the document. Texts are lent from the source where the source shows them. `Schema::has` is the test of what is
-    /// asked.
+    /// the document. Texts are borrowed from the source where the source shows them. `Schema::has` is the test of what
+    /// is asked. Refused by the first fault of reading it, or by what cut the document off.
     pub fn deserialize(&self, alloc: Global, schema: &Schema, id: ShapeId) -> Result<Data<'de>>
         requires { id.0 < length schema.now }
         ensures { (s : PlainShape) → shape_at schema.now id.0 ≡ Some s

@@ -1,14 +1,14 @@
-//! A text, lent from the source or owned.
+//! A text, borrowed from the source or owned.
 
 ghost use Rattle.std.specs.Prelude.{◌≡◌};
 ghost use Rattle.yaml_shape.specs.TextView.{text_bytes};
 
-/// A text: lent, or a text of its own. A reading lends it from the source where it can be lent.
+/// A text: borrowed, or a text of its own. A reading borrows it from the source where the source shows it.
 #[derive(Drop)]
 pub enum Text<'de> {
-    /// A text that is lent, as from the source that shows it.
+    /// A text that is borrowed, as from the source that shows it.
     Borrowed(&'de str),
-    /// A text of its own, where it can't be lent, as with escapes or in a block, or where a caller made it.
+    /// A text of its own, where it can't be borrowed, as with escapes or in a block, or where a caller made it.
     Owned(String),
 }
 
@@ -24,7 +24,7 @@ impl Text<'_> {
     }
 }
 
-/// Texts are equal where their bytes are, lent or owned.
+/// Texts are equal where their bytes are, borrowed or owned.
 impl PartialEq for Text<'_> {
     ghost use Rattle.std.specs.Cmp.{on_per, partial_equiv_from_equiv};
     ghost use Rattle.std.specs.Str.{bytes_eq};

@@ -108,8 +108,8 @@ impl Mapping {
     }
 
     /// Puts a value at a key, and answers the one that was there. A new key goes last. A key that
-    /// is there keeps its place, and then no memory is taken. On refusal the key and the value are
-    /// dropped.
+    /// is there keeps its place, and then no memory is taken. The only fault is `Memory`: the mapping is as it was, and
+    /// the key and the value are dropped.
     pub fn insert(&mut self, key: Value, value: Value) -> Result<Option<Value>, TreeFault>
         ensures ok { let old = pairs_of self.old in
             OnOk result (pairs_of self.new ≡ with_pair (tree_of key) (tree_of value) old) }

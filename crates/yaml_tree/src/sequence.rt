@@ -100,7 +100,7 @@ impl Sequence {
         self.items.iter()
     }
 
-    /// Adds a value at the end. On refusal it is dropped.
+    /// Adds a value at the end. The only fault is `Memory`: the sequence is as it was, and the value is dropped.
     pub fn push(&mut self, value: Value) -> Result<(), TreeFault>
         ensures ok { let old = items_of self.old in
             OnOk result (items_of self.new ≡ with_tree old (tree_of value)) }

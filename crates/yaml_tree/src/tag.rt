@@ -17,7 +17,7 @@ impl Tag {
     ghost use Rattle.yaml_tree.specs.Tag.{tag_name};
     ghost use Rattle.yaml_tree.specs.TagView.{tag_text};
 
-    /// The tag with this text, which is copied.
+    /// The tag with this text, which is copied. Refused by `EmptyTag` where the text is empty, and by `Memory`.
     pub fn new(alloc: Global, text: &str) -> Result<Tag, TreeFault>
         ensures ok { IfOk result (λ tag. tag_text tag ≡ text.now) }
         ensures empty { IsErrOf result TreeFault.EmptyTag ↔ (text.now ≡ []) }

@@ -122,7 +122,7 @@ impl<'de> Deserializer<'de> {
         self.read_under(alloc, Asked::Char)
     }
 
-    /// The data of the stream's one document as a text, lent from the source where the source shows it.
+    /// The data of the stream's one document as a text, borrowed from the source where the source shows it.
     pub fn deserialize_str(self, alloc: Global) -> Result<Data<'de>>
         ensures { Answers data_of result (StreamGives default_limits [] str_shape self.entry) }
     {

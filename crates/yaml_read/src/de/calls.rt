@@ -137,7 +137,7 @@ impl<'de> Document<'de> {
         self.read_plain(alloc, &Shape::Char)
     }
 
-    /// The data of the document as a text, lent from the source where the source shows it.
+    /// The data of the document as a text, borrowed from the source where the source shows it.
     pub fn deserialize_str(&self, alloc: Global) -> Result<Data<'de>>
         ensures gives { Answers data_of result (DocumentGives default_limits [] str_shape self.now) }
         ensures free { (w : PlainScalar) → IsFreeScalar str_shape self.now w → is_ok result ≡ true }

@@ -1,4 +1,4 @@
-//! The text of a scalar, lent from the source where the source shows it.
+//! The text of a scalar, borrowed from the source where the source shows it.
 
 ghost use Rattle.std.specs.Prelude.{◌≡◌, IfSome, Err, Ok, true, is_ok, is_some, nat_eq};
 ghost use Rattle.std.specs.List.{ends_with};
@@ -49,14 +49,14 @@ fn shown_bytes<'de>(scalar: &DocScalar<'de>) -> Option<&'de [u8]>
     }
 }
 
-// The data of a text that is lent.
+// The data of a text that is borrowed.
 fn lent<'de>(text: &'de str) -> Data<'de>
     ensures { data_of result ≡ text_data true text.entry.now }
 {
     Data::Str(Text::Borrowed(text))
 }
 
-/// The text of a scalar, lent where the source shows it. It takes memory where it is not lent.
+/// The text of a scalar, borrowed where the source shows it. It takes memory where it is not borrowed.
 pub(super) fn read_text<'de>(
     alloc: Global,
     shape: &Shape,

@@ -15,8 +15,8 @@ impl Value {
     ghost use Rattle.std.specs.Prelude.{◌≡◌, IfErr, IfOk};
     ghost use Rattle.yaml_tree.specs.View.{tree_of};
 
-    /// A copy: an equal value, with the pairs of mappings in the same order and the same texts of
-    /// tags.
+    /// A copy: an equal value, with the pairs of mappings in the same order and the same texts of tags. The only fault
+    /// is `Memory`.
     pub fn copy(&self, alloc: Global) -> Result<Value, TreeFault>
         ensures ok { IfOk result (λ copied. tree_of copied ≡ tree_of self.now) }
         ensures memory { IfErr result (λ e. e ≡ TreeFault.Memory) }

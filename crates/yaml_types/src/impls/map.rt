@@ -62,7 +62,7 @@ fn build_entries<'de, K: Deserialize<'de> + Ord + Drop, V: Deserialize<'de> + Dr
     Ok(map)
 }
 
-/// A mapping. A later entry takes the place of an earlier one with its key.
+/// A mapping. Of entries with equal keys the first key stays, and takes the last value.
 impl<'de, K: Deserialize<'de> + Ord + Drop, V: Deserialize<'de> + Drop> Deserialize<'de>
     for BTreeMap<K, V> {
     ghost use Rattle.yaml_types.specs.Start.{map_start};
