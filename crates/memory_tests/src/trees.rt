@@ -111,7 +111,7 @@ impl Scene for Inserting {
 
 #[test]
 fn keys_that_are_put_into_mappings(rt: HostRuntime) -> Result<(), Fail> {
-    for (pairs, key, takes_memory) in [
+    for &(pairs, key, takes_memory) in &[
         (0, 0, true),
         (1, 0, false),
         (4, 4, true),

@@ -181,7 +181,7 @@ fn texts_are_lent(rt: HostRuntime) -> Result<(), Fail> {
 #[test]
 fn streams_are_refused(rt: HostRuntime) -> Result<(), Fail> {
     let alloc = rt.alloc();
-    let rows = [
+    for &(lines, expected) in &[
         ("+STR; +DOC; =VAL :1; -DOC; -STR", ""),
         (
             "+STR; +DOC; 4:0:4 =VAL :x; -DOC; -STR",
@@ -192,8 +192,7 @@ fn streams_are_refused(rt: HostRuntime) -> Result<(), Fail> {
             "deserializing from YAML containing more than one document is not supported",
         ),
         ("+STR; -DOC", "event list is not a stream at event 1"),
-    ];
-    for (lines, expected) in rows {
+    ] {
         assert_eq!(rt; refusal::<i64>(alloc, lines)?.as_str(), expected, "{lines}");
     }
     let cut = from_events(alloc, events(alloc, "+STR; +DOC; =VAL :1")?, fault(alloc)?);

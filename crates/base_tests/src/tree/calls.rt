@@ -57,7 +57,7 @@ fn is_equal(alloc: Global, tag: &Tag, text: &str) -> Result<bool, TreeFault> {
 #[test]
 fn tags(rt: HostRuntime) -> Result<(), Fail> {
     assert_eq!(rt; Tag::new(rt.alloc(), "").err(), Some(TreeFault::EmptyTag));
-    for (left, right, equal) in [
+    for &(left, right, equal) in &[
         ("!x", "x", true),
         ("!x", "!y", false),
         ("!", "!!", true),

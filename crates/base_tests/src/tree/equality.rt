@@ -21,7 +21,7 @@ fn are_equal(alloc: Global, left: &Plain, right: &Plain, equal: bool) -> Result<
     Ok((left == right) == equal && (right == left) == equal)
 }
 
-const SCALARS: [Row; 11] = [
+const SCALARS: &[Row] = &[
     (Null, Null, true),
     (Null, Bool(false), false),
     (Null, Text(""), false),
@@ -38,12 +38,12 @@ const SCALARS: [Row; 11] = [
 #[test]
 fn equal_scalars(rt: HostRuntime) -> Result<(), Fail> {
     for (left, right, equal) in SCALARS {
-        assert!(rt; are_equal(rt.alloc(), &left, &right, equal)?);
+        assert!(rt; are_equal(rt.alloc(), left, right, *equal)?);
     }
     Ok(())
 }
 
-const SEQUENCES: [Row; 5] = [
+const SEQUENCES: &[Row] = &[
     (List(&[]), List(&[]), true),
     (List(&[]), Pairs(&[]), false),
     (List(&[ONE, TWO]), List(&[ONE, TWO]), true),
@@ -54,12 +54,12 @@ const SEQUENCES: [Row; 5] = [
 #[test]
 fn equal_sequences(rt: HostRuntime) -> Result<(), Fail> {
     for (left, right, equal) in SEQUENCES {
-        assert!(rt; are_equal(rt.alloc(), &left, &right, equal)?);
+        assert!(rt; are_equal(rt.alloc(), left, right, *equal)?);
     }
     Ok(())
 }
 
-const MAPPINGS: [Row; 8] = [
+const MAPPINGS: &[Row] = &[
     (Pairs(&[]), Pairs(&[]), true),
     (
         Pairs(&[(A, ONE), (B, TWO)]),
@@ -93,12 +93,12 @@ const MAPPINGS: [Row; 8] = [
 #[test]
 fn equal_mappings(rt: HostRuntime) -> Result<(), Fail> {
     for (left, right, equal) in MAPPINGS {
-        assert!(rt; are_equal(rt.alloc(), &left, &right, equal)?);
+        assert!(rt; are_equal(rt.alloc(), left, right, *equal)?);
     }
     Ok(())
 }
 
-const TAGGED: [Row; 6] = [
+const TAGGED: &[Row] = &[
     (Tagged("!x", &ONE), Tagged("x", &ONE), true),
     (Tagged("!x", &ONE), Tagged("!x", &TWO), false),
     (Tagged("x", &ONE), Tagged("y", &ONE), false),
@@ -110,7 +110,7 @@ const TAGGED: [Row; 6] = [
 #[test]
 fn equal_tagged_values(rt: HostRuntime) -> Result<(), Fail> {
     for (left, right, equal) in TAGGED {
-        assert!(rt; are_equal(rt.alloc(), &left, &right, equal)?);
+        assert!(rt; are_equal(rt.alloc(), left, right, *equal)?);
     }
     Ok(())
 }

@@ -195,7 +195,7 @@ fn is_told(alloc: Global, keys: Keys, count: u64) -> Result<bool, Fail> {
 
 #[test]
 fn large_mappings(rt: HostRuntime) -> Result<(), Fail> {
-    for (keys, equal, count) in [
+    for &(keys, equal, count) in &[
         (Keys::Texts, Keys::Texts, 100_000),
         (Keys::Integers, Keys::Integers, 10_000),
         (Keys::Tagged("!t"), Keys::Tagged("t"), 10_000),

@@ -5,7 +5,7 @@ use std::test::Fail;
 // Unknown anchors cut, and what follows them in their document belongs to none.
 #[test]
 fn unknown_anchors(rt: HostRuntime) -> Result<(), Fail> {
-    for (text, expected) in [
+    for &(text, expected) in &[
         (
             "+STR; +DOC; +SEQ; =ALI *x; -SEQ; -DOC; +DOC; =VAL :h; -DOC; -STR",
             "+SEQ; unknown anchor at line 1 column 2 / =VAL :h",
@@ -43,7 +43,7 @@ fn unknown_anchors(rt: HostRuntime) -> Result<(), Fail> {
 // The last node so anchored counts, by the starts of nodes.
 #[test]
 fn anchors_named_again(rt: HostRuntime) -> Result<(), Fail> {
-    for (text, expected) in [
+    for &(text, expected) in &[
         (
             "+STR; +DOC; +SEQ; =VAL &a :p; =VAL &a :q; =VAL &a :r; =ALI *a; -SEQ; -DOC; -STR",
             "+SEQ; =VAL :p; =VAL :q; =VAL :r; =ALI 3; -SEQ",

@@ -6,7 +6,7 @@ use test_rows::lines::FAULT;
 // Documents one after another, and the parser's fault within, between and in front of them.
 #[test]
 fn documents_and_faults(rt: HostRuntime) -> Result<(), Fail> {
-    for (text, expected) in [
+    for &(text, expected) in &[
         (
             "+STR; +DOC; =VAL :a; -DOC; +DOC; =VAL :b; -DOC; -STR",
             "=VAL :a / =VAL :b",
@@ -39,7 +39,7 @@ fn documents_and_faults(rt: HostRuntime) -> Result<(), Fail> {
 // Lists that are no streams.
 #[test]
 fn no_streams(rt: HostRuntime) -> Result<(), Fail> {
-    for (text, expected) in [
+    for &(text, expected) in &[
         ("+STR; +DOC; -SEQ", "event list is not a stream at event 2"),
         (
             "+STR; +DOC; +MAP; =VAL :a; =VAL :b; =VAL :c; -MAP; -DOC; -STR",
@@ -81,7 +81,7 @@ fn no_streams(rt: HostRuntime) -> Result<(), Fail> {
 #[test]
 fn cut_everywhere(rt: HostRuntime) -> Result<(), Fail> {
     let mut text = String::new(rt.alloc());
-    for (next, faulted, faultless) in [
+    for &(next, faulted, faultless) in &[
         (
             "",
             "bad at line 2 column 1",

@@ -74,7 +74,7 @@ fn table(alloc: Global, number: u32) -> Result<Vec<Shape>, AllocError> {
 
 #[test]
 fn long_tables(rt: HostRuntime) -> Result<(), Fail> {
-    for (number, expected) in [
+    for &(number, expected) in &[
         (0, "a schema"),
         (1, "more than 4096 shapes"),
         (2, "more than 4096 shapes"),

@@ -5,7 +5,7 @@ use crate::status::Status;
 
 #[test]
 fn the_fault_of_the_parser_is_told(rt: HostRuntime) {
-    let texts = [
+    for &(name, text, output, status) in &[
         (
             "list",
             "0:0:0 +STR\n0:0:0 +DOC\n0:0:0 +SEQ\n1:0:1 =VAL :1\n10:1:0 !ERR PARSER 0 did not find ',' or ']'\n",
@@ -67,15 +67,14 @@ fn the_fault_of_the_parser_is_told(rt: HostRuntime) {
             "bad line 1\n",
             Status::Refused,
         ),
-    ];
-    for (name, text, output, status) in texts {
+    ] {
         expect(&rt, name, text, output, status);
     }
 }
 
 #[test]
 fn the_first_bad_line_is_named(rt: HostRuntime) {
-    let texts = [
+    for &(text, output) in &[
         ("0:0:0 +STR\n0:0:0 +DOC\n0:0:0 +SEQX\n", "bad line 3\n"),
         ("0:0:0 +STR\n0:0:0 +DOC\n0:0:0 +SEQX", "bad line 3\n"),
         ("\n", "bad line 1\n"),
@@ -108,8 +107,7 @@ fn the_first_bad_line_is_named(rt: HostRuntime) {
         ("0:0:0 =VAL :\t\n", "bad line 1\n"),
         ("0:0:0 =VAL :\u{e9}\n", "bad line 1\n"),
         ("0:0:0 +STR\r\n", "bad line 1\n"),
-    ];
-    for (text, output) in texts {
+    ] {
         expect(&rt, "str", text, output, Status::Refused);
     }
 }

@@ -232,7 +232,7 @@ fn nodes_are_read_as_their_shape_or_refused(rt: HostRuntime) -> Result<(), Fail>
 
 #[test]
 fn a_stream_without_documents_is_read_as_its_shape_or_refused(rt: HostRuntime) {
-    for (name, output, status) in [
+    for &(name, output, status) in &[
         ("option", "none\n", Status::Read),
         ("list", "[]\n", Status::Read),
         ("ignored", "ignored\n", Status::Read),
