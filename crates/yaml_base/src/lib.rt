@@ -12,6 +12,7 @@ mod found;
 mod local_tag;
 mod location;
 mod mark;
+mod open;
 mod path;
 mod quoted;
 mod resolver;
@@ -29,6 +30,7 @@ pub use found::Found;
 pub use local_tag::parse_tag;
 pub use location::Location;
 pub use mark::Mark;
+pub use open::Open;
 pub use path::Path;
 pub use quoted::{Quoted, QuotedBytes};
 pub use resolver::{
