@@ -20,7 +20,7 @@ mod style;
 mod tag;
 mod words;
 
-pub use borrowed::parse_borrowed_str;
+pub use borrowed::{borrowed_bytes, parse_borrowed_str};
 pub use core_tags::core_tags_have_their_texts;
 pub use entry_key::EntryKey;
 pub use error::{Cause, Error, Place, Result};
