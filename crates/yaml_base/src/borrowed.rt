@@ -1,9 +1,10 @@
 //! A scalar's text as a part of the source that it was read from.
 
-ghost use Rattle.std.specs.Prelude.{◌≡◌, ◌↔◌, IfSome, IsSome, nat_eq, is_some};
+ghost use Rattle.std.specs.Prelude.{◌≡◌, ◌↔◌, ℕ, List, Option, IfSome, IsSome, IsTrue, nat_eq, is_some};
 ghost use Rattle.std.specs.List.{ends_with};
 ghost use Rattle.std.specs.Option.{option_copied};
 ghost use Rattle.yaml_base.specs.Borrowable.{IsBorrowable, is_borrowable};
+ghost use Rattle.yaml_base.specs.declared.event.ScalarStyle.{ScalarStyle as PlainStyle};
 
 use crate::event::ScalarStyle;
 
@@ -57,3 +58,10 @@ pub fn parse_borrowed_str<'de>(
     let part = borrowed_bytes(utf8_value.as_bytes(), repr, style)?;
     std::str::from_utf8(part).ok()
 }
+
+/// A law, and nothing to be run: a text is found to be borrowable exactly where it stands in its source as its style
+/// has it.
+pub fn texts_are_borrowed_where_they_stand()
+    ensures { (text : List ℕ) (source : Option (List ℕ)) (style : PlainStyle)
+        → (IsTrue (is_borrowable text source style) ↔ IsBorrowable text source style) }
+{}
