@@ -5,6 +5,7 @@ mod data;
 mod expected;
 mod fault;
 mod has_shape;
+mod held;
 mod join;
 mod names;
 mod numbers;

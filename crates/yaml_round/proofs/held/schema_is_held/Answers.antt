@@ -1,7 +1,7 @@
 -- Each shape that is looked up is held, and there are at most as many as are looked up.
 use Rattle.std.proofs.Common.{◌≡◌, Some, true, arith}
 use Rattle.yaml_shape.specs.PlainShape.{PlainShape, shape_at}
-use Rattle.yaml_round.specs.Held.{is_table_shape}
+use Rattle.yaml_shape.specs.Held.{is_table_shape}
 use Rattle.yaml_round.proofs.HeldLaws.{all_pass, found_is_held, one_more}
 use Rattle.yaml_round.proofs.held.schema_is_held.Goals as goal
 

@@ -1,7 +1,7 @@
 -- The shapes that were gone over are held.
 use Rattle.std.proofs.Common.{◌≡◌, ℕ, ◌<◌, Some, true}
 use Rattle.yaml_shape.specs.PlainShape.{PlainShape, shape_at}
-use Rattle.yaml_round.specs.Held.{is_table_shape}
+use Rattle.yaml_shape.specs.Held.{is_table_shape}
 use Rattle.yaml_round.proofs.held.schema_is_held.Given as goal
 
 abbrev pub invariant-loop-number : goal.invariant-loop-number
