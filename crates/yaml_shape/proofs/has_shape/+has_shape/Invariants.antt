@@ -1,5 +1,5 @@
--- What the walks over elements, fields and entries keep: the answer is that for those that are left, and where these are
--- held, all are.
+-- What the walks over elements, fields and entries keep: the answer is that for those that are left, and where these
+-- are held, all are.
 use Rattle.std.specs.Prelude.{◌≡◌, drop}
 use Rattle.yaml_shape.specs.ShapeView.{ids_of, fields_of}
 use Rattle.yaml_shape.specs.DataView.{items_view, entries_view}
