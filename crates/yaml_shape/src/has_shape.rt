@@ -6,7 +6,7 @@ ghost use Rattle.std.specs.Option.{option_map};
 ghost use Rattle.yaml_tree.specs.Valid.{is_value};
 ghost use Rattle.yaml_tree.specs.View.{tree_of};
 ghost use Rattle.yaml_shape.specs.ShapeView.{ids_of, fields_of, content_of, variants_of, shape_of};
-ghost use Rattle.yaml_shape.specs.DataView.{data_of, items_view, entries_view, text_of};
+ghost use Rattle.yaml_shape.specs.DataView.{data_of, items_view, entries_view, text_data_of};
 ghost use Rattle.yaml_shape.specs.Validity.{numbers_of};
 ghost use Rattle.yaml_shape.specs.HasShape.{takes_signed, takes_unsigned, has_shape, has_content, all_have};
 ghost use Rattle.yaml_shape.specs.HasShape.{each_has, entries_have, is_any, is_char, is_text};
@@ -70,7 +70,7 @@ fn takes_char(shape: &Shape, character: char) -> bool
 // Whether the shape takes texts, which are held in memory.
 fn takes_text(shape: &Shape, text: &Text<'_>) -> bool
     ensures exactly { result ≡ is_text (shape_of shape.now) }
-    ensures held { IsHeld (text_of text.now) }
+    ensures held { IsHeld (text_data_of text.now) }
 {
     text_is_held(text);
     matches!(shape, Shape::Str | Shape::Identifier)
