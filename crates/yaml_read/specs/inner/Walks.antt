@@ -1,30 +1,28 @@
 -- What the code reads, where its walk stands, and how many steps it may still take.
 use Rattle.std.specs.Prelude.{◌≡◌, ℕ, ◌+◌, ◌-◌, ◌*◌, ◌<◌, ◌≤◌, List, Option, Some, map, length, drop}
-use Rattle.std.specs.Prelude.{slice_get, [], ◌∷◌}
+use Rattle.std.specs.Prelude.{slice_get}
 use Rattle.std.specs.Option.{option_map}
 use denote.Ref.{Bor}
 use Rattle.yaml_base.specs.Position.{Position}
 use Rattle.yaml_shape.specs.DataView.{data_of}
-use Rattle.yaml_shape.specs.PlainData.{PlainData, any_data}
 use Rattle.yaml_shape.specs.Validity.{numbers_of}
 use Rattle.yaml_shape.specs.declared.data.Data.{Data}
 use Rattle.yaml_shape.specs.declared.shape.ShapeId.{ShapeId}
-use Rattle.yaml_tree.specs.Tree.{Trees, no_trees, tree, Pairs, no_pairs, pair}
 use Rattle.yaml_shape.specs.PlainShape.{PlainVariant}
 use Rattle.yaml_shape.specs.ShapeView.{content_of}
 use Rattle.yaml_shape.specs.declared.shape.VariantShape.{VariantShape}
 use Rattle.yaml_read.specs.DocEventView.{marked_events_of}
 use Rattle.yaml_read.specs.Fields.{Fields, Slots}
-use Rattle.yaml_read.specs.NodeTags.{Around}
-use Rattle.yaml_read.specs.declared.de.around.Around.{Around as CodeAround}
+use Rattle.yaml_read.specs.NodeTags.{TakenBy}
+use Rattle.yaml_read.specs.declared.de.taken_tag.TakenBy.{TakenBy as CodeAround}
 use Rattle.yaml_read.specs.Rows.{Row}
 use Rattle.yaml_read.specs.TreeReader.{Spot}
 use Rattle.yaml_read.specs.declared.doc_event.DocEvent.{DocEvent}
 use Rattle.yaml_read.specs.declared.walk.Walk.{Walk}
-use Rattle.yaml_read.specs.declared.de.row.Elements.{Elements}
-use Rattle.yaml_read.specs.declared.de.row.Owner.{Owner as CodeOwner}
-use Rattle.yaml_read.specs.declared.de.row.Owner.TheVariants as owner
-use Rattle.yaml_read.specs.declared.de.source.Source.{Source as CodeSource}
+use Rattle.yaml_read.specs.declared.de.node.tuple_length.Elements.{Elements}
+use Rattle.yaml_read.specs.declared.de.node.tuple_length.Owner.{Owner as CodeOwner}
+use Rattle.yaml_read.specs.declared.de.node.tuple_length.Owner.TheVariants as owner
+use Rattle.yaml_read.specs.declared.de.node.source.Source.{Source as CodeSource}
 use Rattle.yaml_read.specs.inner.Reader.{Source, Events, Reader, node_at, Owner, of_tuple, of_tuple_struct}
 use Rattle.yaml_read.specs.inner.Reader.{of_tuple_variant}
 use Rattle.yaml_read.specs.Places.{Way}
@@ -47,10 +45,10 @@ abbrev pub reader_of : ℕ → CodeSource → Way → Reader
 reader_of fuel c = node_at (source_of c) fuel
 
 -- what took a tag, where something did
-abbrev pub plain_around : CodeAround → Around
+abbrev pub plain_around : CodeAround → TakenBy
 plain_around a = record { name = a.name.now; variant = a.variant.now }
 
-abbrev pub around_of : Option (Bor CodeAround) → Option Around
+abbrev pub around_of : Option (Bor CodeAround) → Option TakenBy
 around_of = option_map (λ a. plain_around a.now)
 
 -- the spot of a walk
@@ -75,16 +73,6 @@ owner_of (owner.TupleVariant name variant) = of_tuple_variant name.now variant.n
 abbrev pub slots_of : List (Option Data) → Slots
 slots_of = map (option_map data_of)
 
--- the values of a list that was read as far, as the data that they were read as
-abbrev pub any_items : Trees → List PlainData
-any_items no_trees = []
-any_items (tree t ts) = any_data t ∷ any_items ts
-
--- the pairs of a mapping that was read as far, likewise
-abbrev pub any_entries : Pairs → List (PlainData × PlainData)
-any_entries no_pairs = []
-any_entries (pair k v ps) = (any_data k, any_data v) ∷ any_entries ps
-
 -- the place of a field, and the number of its shape
 abbrev pub field_view : Option (ℕ × ShapeId) → Option (ℕ × ℕ)
 field_view = option_map (λ f. (f.0, f.1.0))
@@ -107,9 +95,8 @@ abbrev pub Costs : (n : ℕ) → Walk → Walk → Type 0
 Costs n old new = new.steps.count ≤ old.steps.count + potential n old
 
 -- The walk went over a node: it is further on, within the document, with no more follows left, each event that it
--- passed is
--- counted, and the steps taken and the steps that may follow are together no more than before.
-abbrev pub Moves : (n : ℕ) → Walk → Walk → Type 0
-Moves n old new = (old.place < new.place) × (new.place ≤ n) × (new.left ≤ old.left)
+-- passed is counted, and the steps taken and the steps that may follow are together no more than before.
+abbrev pub MovesOn : (n : ℕ) → Walk → Walk → Type 0
+MovesOn n old new = (old.place < new.place) × (new.place ≤ n) × (new.left ≤ old.left)
     × (old.steps.count + new.place ≤ new.steps.count + old.place)
     × (new.steps.count + potential n new ≤ old.steps.count + potential n old)
