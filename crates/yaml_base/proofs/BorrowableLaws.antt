@@ -1,12 +1,10 @@
 -- A text at the end of a source: the test says what the definition says.
-use Rattle.std.specs.Prelude.{Option, Some, None, Result, Ok, Err, MatchResult, is_some, is_ok, IsSome, IfSome, Bool}
+use Rattle.std.specs.Prelude.{Option, Some, None, is_some, IsSome, Bool}
 use Rattle.std.specs.Prelude.{true, nat_eq, nat_lt, ◌&&◌}
 use Rattle.std.specs.Bool.{Decides}
 use Rattle.std.specs.List.{ends_with}
-use Rattle.std.specs.Result.{result_ok}
-use Rattle.std.specs.Str.{IsUtf8}
 use Rattle.std.proofs.Common.{◌≡◌, ℕ, ◌+◌, ◌-◌, ◌<◌, List, [], ◌∷◌, ◌++◌, length, take, drop, refl, sym, ap, ◌∙◌, arith}
-use Rattle.std.proofs.Common.{length-append, length-drop, Bor}
+use Rattle.std.proofs.Common.{length-append, length-drop}
 use Rattle.std.proofs.lemmas.Bool.Decides.{Decides-eqb, Decides-ltb, nat_tests}
 use Rattle.std.proofs.lemmas.List.{take-append-drop}
 use Rattle.std.proofs.lemmas.Slice.Eq.{slice_eq-Decides, ends_is}
@@ -76,16 +74,3 @@ pub borrowed-exact : {A : Type 0} (text : List ℕ) (source : Option (List ℕ))
     → (IsSome r → IsBorrowable text source style) × (IsBorrowable text source style → IsSome r)
 borrowed-exact text source style r e =
     let d = is_borrowable-Decides text source style in ((λ s. d.0 (sym e ∙ s)), (λ h. e ∙ d.1 h))
-
--- bytes that equal a text are not refused
-pub text-is_some : {A E : Type 0} (P : A → Type 0) (Q : E → Type 0) (bs text : List ℕ) (r : Result A E) (o : Option A)
-    → MatchResult r P (λ e. ¬ (IsUtf8 bs) × Q e) → is_some o ≡ is_ok r → bs ≡ text → IsUtf8 text → is_some o ≡ true
-text-is_some P Q bs text (Ok a) o h e same u = e
-text-is_some P Q bs text (Err e') o h e same u = absurd (h.0 (rw same u))
-
--- what is lent out of bytes that equal a text is the text
-pub text-part : {E : Type 0} (bs text : List ℕ) (F : E → Type 0) (r : Result (Bor (List ℕ)) E)
-    (o : Option (Bor (List ℕ)))
-    → MatchResult r (λ s. (s.now ≡ bs) × IsUtf8 bs) F → o ≡ result_ok r → bs ≡ text → IfSome o (λ part. part.now ≡ text)
-text-part bs text F (Ok a) o h e same = rw e (h.0 ∙ same)
-text-part bs text F (Err e') o h e same = rw e tt

@@ -10,4 +10,5 @@ pub mod MantissaLaws
 pub mod NumberLaws
 pub mod RangeLaws
 pub mod SignLaws
+pub mod StreamMachineLaws
 pub mod WordLaws

@@ -28,12 +28,12 @@ local_name-read Q tag rest (Ok s) o e long h k =
 local_name-read Q tag rest (Err x) o e long h k =
     rw (k, e, unproved _ _ (Decides-eqb (length rest) 0) long, unproved _ _ (utf8-Decides rest) h.0) refl
 
-local_name-complete : (tag name : List ℕ) → HasLocalName tag name → local_name tag ≡ Some name
+pub local_name-complete : (tag name : List ℕ) → HasLocalName tag name → local_name tag ≡ Some name
 local_name-complete tag name (bare e n) = rw (e, n) refl
 local_name-complete tag name (named e p u) =
     rw (e, unproved _ _ (Decides-eqb (length name) 0) (λ z. omega (arith, p, z)), is_utf8-from_IsUtf8 name u) refl
 
-local_name-sound : (tag name : List ℕ) → local_name tag ≡ Some name → HasLocalName tag name
+pub local_name-sound : (tag name : List ℕ) → local_name tag ≡ Some name → HasLocalName tag name
 local_name-sound [] name e = absurd (none-some name e)
 local_name-sound (c ∷ rest) name e =
     by (c == 33) (Decides-eqb c 33) (length rest == 0) (Decides-eqb (length rest) 0) (is_utf8 rest)

@@ -7,13 +7,14 @@ pub mod CauseText
 pub mod EmitEvents
 pub mod EmitTree
 pub mod ErrorText
-pub mod FaultText
+pub mod ParserFaultText
 pub mod Floats
 pub mod FoundText
 pub mod Integers
 pub mod Kinds
 pub mod LocalName
 pub mod MarkText
+pub mod MarkedEvents
 pub mod PathText
 pub mod PlainEvent
 pub mod PlainFault
@@ -24,4 +25,5 @@ pub mod Renders
 pub mod ScalarText
 pub mod Signs
 pub mod Stream
+pub mod StreamMachine
 pub mod Tree

@@ -12,6 +12,7 @@ mod found;
 mod local_tag;
 mod location;
 mod mark;
+mod open;
 mod path;
 mod quoted;
 mod resolver;
@@ -19,22 +20,23 @@ mod style;
 mod tag;
 mod words;
 
-pub use borrowed::parse_borrowed_str;
+pub use borrowed::{borrowed_bytes, parse_borrowed_str, texts_are_borrowed_where_they_stand};
 pub use core_tags::core_tags_have_their_texts;
 pub use entry_key::EntryKey;
 pub use error::{Cause, Error, Place, Result};
 pub use event::{Event, MappingStart, Scalar, ScalarStyle, SequenceStart};
 pub use fault::{FaultKind, ParserFault};
 pub use found::Found;
-pub use local_tag::parse_tag;
+pub use local_tag::{local_tags_have_their_names, parse_tag};
 pub use location::Location;
 pub use mark::Mark;
+pub use open::Open;
 pub use path::Path;
 pub use quoted::{Quoted, QuotedBytes};
 pub use resolver::{
-    Kind, digits_but_not_number, each_text_has_one_kind, integers_have_their_grammar,
-    is_float_text, parse_bool, parse_negative_int, parse_null, parse_signed_int,
-    parse_unsigned_int, resolve,
+    Kind, digits_but_not_number, each_text_has_one_kind, floats_have_their_grammar,
+    integers_have_their_grammar, is_float_text, parse_bool, parse_negative_int, parse_null,
+    parse_signed_int, parse_unsigned_int, resolve,
 };
 pub use style::infer_style;
 pub use tag::{Anchor, Tag};

@@ -25,3 +25,8 @@ pub fn parse_tag(tag: Option<&Tag>) -> Option<&str>
 {
     local_name(tag?.as_slice())
 }
+
+/// A law, and nothing to be run: the name that is computed of a tag is the one that a local tag has.
+pub fn local_tags_have_their_names()
+    ensures { (tag name : List ℕ) → ((local_name tag ≡ Some name) ↔ HasLocalName tag name) }
+{}

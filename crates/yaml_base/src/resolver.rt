@@ -6,7 +6,7 @@ mod kind;
 mod sign;
 mod word;
 
-pub use float::{digits_but_not_number, is_float_text};
+pub use float::{digits_but_not_number, floats_have_their_grammar, is_float_text};
 pub use integer::{
     integers_have_their_grammar, parse_negative_int, parse_signed_int, parse_unsigned_int,
 };

@@ -36,7 +36,6 @@ pub mod SmallNumbers
 pub mod SortedAnchors
 pub mod StreamEndings
 pub mod StreamLaws
-pub mod StreamMachineLaws
 pub mod StreamTrees
 pub mod Targets
 pub mod TextLaws

@@ -2,12 +2,13 @@
 use Rattle.std.proofs.Common.{◌≡◌, List, [], ◌∷◌, refl, sym, ◌∙◌, ap, Some, Bool, true, false}
 use Rattle.yaml_base.specs.PlainEvent.{PlainEvent, stream_start, stream_end, document_start, document_end, alias}
 use Rattle.yaml_base.specs.PlainEvent.{scalar, sequence_start, sequence_end, mapping_start, mapping_end}
-use Rattle.yaml_read.specs.StreamMachine.{State, before_stream, between_documents, before_root, within, after_stream}
-use Rattle.yaml_read.specs.StreamMachine.{begins, next_state, is_done, is_open, state_of}
+use Rattle.yaml_base.specs.StreamMachine.{State, before_stream, between_documents, before_root, within, after_stream}
+use Rattle.yaml_base.specs.StreamMachine.{begins, next_state}
+use Rattle.yaml_read.specs.StreamPhases.{is_done, is_open, state_of}
 use Rattle.yaml_read.specs.declared.loader.check.Phase.{Phase}
 use Rattle.yaml_read.specs.declared.loader.check.Phase.TheVariants.{Before, Between, Root, Within, Ended, After}
-use Rattle.yaml_read.specs.declared.loader.check.Open.{Open}
-use Rattle.yaml_read.specs.declared.loader.check.Open.TheVariants.{Sequence, Key, Value}
+use Rattle.yaml_base.specs.declared.open.Open.{Open}
+use Rattle.yaml_base.specs.declared.open.Open.TheVariants.{Sequence, Key, Value}
 use Rattle.yaml_read.specs.inner.Loading.{is_inside, open_before, open_behind}
 
 abbrev Turns : PlainEvent → State → State → Type 0

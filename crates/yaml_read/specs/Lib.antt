@@ -29,7 +29,7 @@ pub mod ScalarShapes
 pub mod ScalarSorts
 pub mod Steps
 pub mod StreamLaw
-pub mod StreamMachine
+pub mod StreamPhases
 pub mod TreeReader
 pub mod Variants
 pub mod WrongPlace

@@ -1,6 +1,6 @@
 //! Float text: digits with an optional point and an optional exponent, or a word.
 
-ghost use Rattle.std.specs.Prelude.{◌≡◌, ◌↔◌, ◌==◌, ◌||◌, IsTrue, count_by, position};
+ghost use Rattle.std.specs.Prelude.{◌≡◌, ◌↔◌, ◌==◌, ◌||◌, ℕ, List, IsTrue, count_by, position};
 ghost use Rattle.std.specs.Char.{is_ascii_digit};
 ghost use Rattle.std.specs.List.{list_all, list_any};
 ghost use Rattle.yaml_base.specs.Floats.{is_numeral, is_mantissa, is_exponent_mark, is_decimal_float};
@@ -94,3 +94,10 @@ pub fn digits_but_not_number(scalar: &str) -> bool
     let body = after_sign(scalar.as_bytes());
     body.len() > 1 && body[0] == b'0' && has_only_digits(body)
 }
+
+/// A law, and nothing to be run: what is computed of float text, and of digits behind a zero, is what their grammars
+/// say.
+pub fn floats_have_their_grammar()
+    ensures float { (text : List ℕ) → (IsTrue (is_float text) ↔ IsFloatText text) }
+    ensures leading_zero { (text : List ℕ) → (IsTrue (has_leading_zero text) ↔ HasLeadingZero text) }
+{}

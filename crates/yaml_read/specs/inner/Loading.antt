@@ -7,8 +7,9 @@ use Rattle.yaml_base.specs.PlainFault.{PlainFault}
 use Rattle.yaml_read.specs.Documents.{Input, after_starts, document_from, is_open_after}
 use Rattle.yaml_read.specs.Gathering.{AreCuts, documents_in}
 use Rattle.yaml_read.specs.PlainDocument.{PlainDocument}
-use Rattle.yaml_read.specs.StreamMachine.{Moves, State, before_root, within}
-use Rattle.yaml_read.specs.declared.loader.check.Open.{Open}
+use Rattle.yaml_base.specs.StreamMachine.{State, before_root, within}
+use Rattle.yaml_read.specs.StreamPhases.{Moves}
+use Rattle.yaml_base.specs.declared.open.Open.{Open}
 use Rattle.yaml_read.specs.declared.loader.check.Phase.{Phase}
 use Rattle.yaml_read.specs.declared.doc_event.DocEvent.{DocEvent}
 use Rattle.yaml_read.specs.declared.loader.draft.Draft.{Draft}

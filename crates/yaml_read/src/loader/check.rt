@@ -4,22 +4,12 @@ ghost use Rattle.std.specs.Prelude.{◌≡◌, ℕ, List, [], IfOk, IfSome, None
 ghost use Rattle.yaml_base.specs.PlainEvent.{PlainScalar, alias, document_end, document_start, mapping_end};
 ghost use Rattle.yaml_base.specs.PlainEvent.{mapping_start, scalar, sequence_end, sequence_start, stream_end};
 ghost use Rattle.yaml_base.specs.PlainEvent.{stream_start};
-ghost use Rattle.yaml_read.specs.StreamMachine.{IsClean, Moves, is_done, is_open, opened_in, state_of};
-ghost use Rattle.yaml_read.specs.StreamMachine.{within};
-ghost use Rattle.yaml_read.specs.declared.loader.check.Open.TheVariants.{Sequence, Key, Value};
+ghost use Rattle.yaml_read.specs.StreamPhases.{IsClean, Moves, is_done, is_open, opened_in, state_of};
+ghost use Rattle.yaml_base.specs.StreamMachine.{within};
+ghost use Rattle.yaml_base.specs.declared.open.Open.TheVariants.{Sequence, Key, Value};
 
 use std::alloc::AllocError;
-
-// What an open collection waits for.
-#[derive(Clone, Copy)]
-pub(crate) enum Open {
-    // A node, or the end of the sequence.
-    Sequence,
-    // A key, or the end of the mapping.
-    Key,
-    // A value.
-    Value,
-}
+use yaml_base::Open;
 
 // The part of a stream that comes next.
 #[derive(Clone, Copy)]

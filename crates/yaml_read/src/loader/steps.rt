@@ -6,18 +6,18 @@ ghost use Rattle.yaml_base.specs.PlainEvent.{alias, document_end, document_start
 ghost use Rattle.yaml_base.specs.PlainEvent.{scalar as scalar_event};
 ghost use Rattle.yaml_base.specs.PlainEvent.{scalar_of, sequence_end, sequence_start};
 ghost use Rattle.yaml_read.specs.Documents.{Input, documents_of, last_mark};
-ghost use Rattle.yaml_read.specs.StreamMachine.{IsClean, is_open};
+ghost use Rattle.yaml_read.specs.StreamPhases.{IsClean, is_open};
 ghost use Rattle.yaml_read.specs.inner.Drafts.{IsBetween};
 ghost use Rattle.yaml_read.specs.inner.Loading.{IsOnWay, IsReady, Steps};
 
 use crate::doc_event::{DocEvent, DocScalar, DocStart};
 use crate::loader::check::{
-    Open, Phase, after_document_end, after_document_start, after_leaf, after_mapping,
+    Phase, after_document_end, after_document_start, after_leaf, after_mapping,
     after_sequence, after_start, after_stream_end, after_stream_start,
 };
 use crate::loader::draft::Draft;
 use std::alloc::{AllocError, Global};
-use yaml_base::{Anchor, MappingStart, Mark, ParserFault, Scalar, SequenceStart};
+use yaml_base::{Anchor, MappingStart, Mark, Open, ParserFault, Scalar, SequenceStart};
 
 impl<'de> Draft<'de> {
     // The place of the next event in the open document.

@@ -9,8 +9,9 @@ use Rattle.yaml_base.specs.declared.event.Event.{Event}
 use Rattle.yaml_read.specs.Documents.{Input, documents_of, last_mark}
 use Rattle.yaml_read.specs.inner.Drafts.{IsBetween}
 use Rattle.yaml_read.specs.MarkedEvents.{plain_events, plain_marked}
-use Rattle.yaml_read.specs.StreamMachine.{is_open, next_state, state_of}
-use Rattle.yaml_read.specs.declared.loader.check.Open.{Open}
+use Rattle.yaml_base.specs.StreamMachine.{next_state}
+use Rattle.yaml_read.specs.StreamPhases.{is_open, state_of}
+use Rattle.yaml_base.specs.declared.open.Open.{Open}
 use Rattle.yaml_read.specs.declared.loader.check.Phase.{Phase}
 use Rattle.yaml_read.specs.declared.loader.draft.Draft.{Draft}
 use Rattle.yaml_read.specs.inner.Loading.{IsOnWay, IsReady, Steps, Takes, is_inside, open_before, open_behind}

@@ -2,7 +2,8 @@
 use Rattle.std.proofs.Common.{◌≡◌, ◌≤◌, length, drop, take, Some}
 use Rattle.std.specs.Vec.Iter.{into_iter_items}
 use Rattle.yaml_read.specs.MarkedEvents.{plain_events, plain_marked}
-use Rattle.yaml_read.specs.StreamMachine.{run, before_stream, state_of, IsClean}
+use Rattle.yaml_base.specs.StreamMachine.{run, before_stream}
+use Rattle.yaml_read.specs.StreamPhases.{state_of, IsClean}
 use Rattle.yaml_read.specs.inner.Loading.{IsOnWay, is_inside}
 use Rattle.yaml_read.proofs.loader.load.Given as goal
 

@@ -1,0 +1,12 @@
+//! What the scanner and the parser of YAML text speak of: tokens, and what may be wrong with a text.
+#![tactic(auto)]
+
+mod context;
+mod fault;
+mod problem;
+mod token;
+
+pub use context::Context;
+pub use fault::{Fault, Stop};
+pub use problem::Problem;
+pub use token::{Lead, Placed, Token};

@@ -1,0 +1,92 @@
+//! The tokens of a text.
+
+use yaml_base::{Mark, ScalarStyle};
+
+/// A token of a text. Names, handles and scalars are bytes of UTF-8.
+#[derive(Drop)]
+pub enum Token {
+    /// The text ends.
+    StreamEnd,
+    /// `%YAML`, with both numbers of the version.
+    VersionDirective {
+        /// The number before the dot.
+        major: u32,
+        /// The number behind the dot.
+        minor: u32,
+    },
+    /// `%TAG`, with a handle and what it stands for.
+    TagDirective {
+        /// The handle, with its exclamation marks.
+        handle: Vec<u8>,
+        /// What the handle stands for.
+        prefix: Vec<u8>,
+    },
+    /// `---`
+    DocumentStart,
+    /// `...`
+    DocumentEnd,
+    /// A sequence by indentation begins.
+    BlockSequenceStart,
+    /// A mapping by indentation begins.
+    BlockMappingStart,
+    /// A collection by indentation ends.
+    BlockEnd,
+    /// `[`
+    FlowSequenceStart,
+    /// `]`
+    FlowSequenceEnd,
+    /// `{`
+    FlowMappingStart,
+    /// `}`
+    FlowMappingEnd,
+    /// `-`
+    BlockEntry,
+    /// `,`
+    FlowEntry,
+    /// `?`, or the place before a key that has none.
+    Key,
+    /// `:`
+    Value,
+    /// `*` with a name.
+    Alias(Vec<u8>),
+    /// `&` with a name.
+    Anchor(Vec<u8>),
+    /// A tag.
+    Tag {
+        /// The handle, with its exclamation marks; empty where the tag is complete without one.
+        handle: Vec<u8>,
+        /// The rest.
+        suffix: Vec<u8>,
+    },
+    /// A scalar.
+    Scalar {
+        /// What it says, with its escapes and line breaks read.
+        value: Vec<u8>,
+        /// How it is written.
+        style: ScalarStyle,
+    },
+}
+
+/// What stands before a token, with no text of its own, where a `:` behind the token shows it to be a key.
+#[derive(Clone, Copy, PartialEq, Eq)]
+pub enum Lead {
+    /// Nothing.
+    Nothing,
+    /// A key.
+    Key,
+    /// A mapping by indentation begins, with a key.
+    MappingKey,
+}
+
+/// A token with the marks of its start and its end.
+#[derive(Drop)]
+pub struct Placed {
+    /// What stands before the token.
+    pub lead: Lead,
+    /// The token.
+    pub token: Token,
+    /// Where it begins.
+    pub start: Mark,
+    /// Where it ends: the place of the first byte behind it.
+    pub end: Mark,
+}
