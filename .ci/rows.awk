@@ -63,7 +63,7 @@ function in_turn(text,    part, parts, i, out) {
     parts = split(text, part, / \| /)
     for (i = 1; i <= parts; i++) {
         if (sub(/^! /, "fault: ", part[i])) failing = 1
-        out = out (i > 1 ? "\\u000a" : "") part[i]
+        out = out part[i] "\\u000a"
     }
     return out
 }

@@ -75,7 +75,7 @@ function probe_case(arguments, text, status, output,    word, words, limits, cut
     output = substr($0, end + 4)
     sub(/^ /, "", output)
     status = 0
-    if (sub(/^! ?/, "", output)) { status = 1; output = "fault: " output }
+    if (output == "!" || output ~ /^! /) { status = 1; output = "fault: " substr(output, 3) }
     else if (sub(/^\? /, "", output)) status = 2
     if (FOLDER) run_files(arguments, text, status, output)
     else if (output != "bad argument") probe_case(arguments, text, status, output)
