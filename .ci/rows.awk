@@ -51,6 +51,13 @@ function print_events(text,    line, lines, i) {
         print (line[i] ~ /^[0-9]/ ? "" : (i - 1) ":0:" (i > 3 ? i - 3 : 0) " ") line[i]
 }
 
+# Prints data, a line each, of a text in which it stands with ` | ` between.
+function print_data(text) {
+    if (text == "-") return
+    gsub(/ \| /, "\n", text)
+    print text
+}
+
 # What each document of a stream gives, which stand with ` | ` between, as lines.
 function in_turn(text,    part, parts, i, out) {
     parts = split(text, part, / \| /)
@@ -61,11 +68,25 @@ function in_turn(text,    part, parts, i, out) {
     return out
 }
 
+# The lines of events that are written, of a text in which they stand with `; ` between, and documents with ` | `.
+# Behind `! ` stands why a document is refused, behind which no other is written: nothing is left of it.
+function written(text,    part, parts, i, out) {
+    out = "+STR; "
+    parts = text == "-" ? 0 : split(text, part, / \| /)
+    for (i = 1; i <= parts; i++)
+        if (sub(/^! /, "", part[i])) failing = part[i]
+        else out = out "+DOC; " part[i] "; -DOC; "
+    out = (failing == "" ? "" : "fault: " failing "; -- events by then:; ") out "-STR"
+    gsub(/; /, "\\u000a", out)
+    return out
+}
+
 # Writes what an answer wants: data, `! ` and a fault, `!table ` and why the table is refused, or `? ` and why the case is.
 function answer(task, text) {
     failing = 0
     if (sub(/^!table /, "schema: ", text)) wanted(1, text)
     else if (sub(/^\? /, "", text)) wanted(2, text)
+    else if (task == "write") { failing = ""; text = written(text); wanted(failing != "", text) }
     else if (task == "documents") { text = in_turn(text); wanted(failing, text) }
     else if (sub(/^! /, "fault: ", text)) wanted(1, text)
     else wanted(0, text)
@@ -89,10 +110,12 @@ function row(    cut, head, lines, want, word, words, i, task, flags, whole) {
         else if (word[i] == "limits") flags = flags " limits:" word[++i]
         else complain("no such word: " word[i])
     }
+    if (sub(/^write: /, "", lines)) task = "write"
     if (numbered(word[1]) !~ /^[0-9][0-9,]*$/) complain("no such shape: " word[1])
     if (!cases++) print ""
     print "@@ " topic ":" FNR " " task ":" numbered(word[1]) flags
-    if (whole) print_events(lines == "-" ? "" : lines)
+    if (task == "write") print_data(lines)
+    else if (whole) print_events(lines == "-" ? "" : lines)
     else print_events(lines == "-" ? "+STR; -STR" : "+STR; +DOC; " lines "; -DOC; -STR")
     answer(task, want)
 }
