@@ -33,10 +33,7 @@ fn build_both<'de, K: Deserialize<'de> + Drop, V: Deserialize<'de>>(
             return Err(fault);
         }
     };
-    match V::build(alloc, value) {
-        Ok(value) => Ok((key, value)),
-        Err(fault) => Err(fault),
-    }
+    Ok((key, V::build(alloc, value)?))
 }
 
 // The map of the entries, put in one after another.
