@@ -49,12 +49,8 @@ fn build_entries<'de, K: Deserialize<'de> + Ord + Drop, V: Deserialize<'de> + Dr
 {
     let mut map = BTreeMap::new(alloc);
     for pair in entries {
-        match build_both(alloc, pair) {
-            Ok((key, value)) => {
-                let _ = map.insert(key, value)?;
-            }
-            Err(fault) => return Err(fault),
-        }
+        let (key, value) = build_both(alloc, pair)?;
+        let _ = map.insert(key, value)?;
     }
     Ok(map)
 }
