@@ -27,7 +27,7 @@ use Rattle.yaml_read.specs.MarkedEvents.{events_in, plain_events, plain_marked}
 use Rattle.yaml_read.specs.Meaning.{Means}
 use Rattle.yaml_read.specs.TreeReader.{PlainLimits}
 use Rattle.yaml_read.specs.WrongPlace.{IsWrongAt}
-use Rattle.yaml_types.specs.Refusal.{IsRefusal}
+use Rattle.yaml_types.specs.BuildRefusal.{IsBuildRefusal}
 use Rattle.yaml_types.specs.Start.{Start, IsClosed}
 use Rattle.yaml_types.specs.declared.fault.BuildFault.{BuildFault}
 use Rattle.yaml_types.specs.declared.fault.BuildFault.TheVariants as build
@@ -110,7 +110,7 @@ IsNoSchema fault cause = (size : ℕ) → IsTooLarge size fault → is_memory ca
 
 -- data that makes no value is refused by one of the messages
 pub no_value : {T : Type 0} (built : PlainData → T → Type 0) (refused : PlainData → List ℕ → Type 0) (d : PlainData)
-    (refusal : BuildFault) (cause : Cause) → IsRefusal (refused d) refusal → cause ≡ build_cause refusal
+    (refusal : BuildFault) (cause : Cause) → IsBuildRefusal (refused d) refusal → cause ≡ build_cause refusal
     → is_memory cause ≡ false → Makes {T = T} built refused (Ok d) (Err cause)
 no_value built refused d (Message text) cause by is m = (string_bytes text, by, is)
 no_value built refused d build.Memory cause by is m =

@@ -5,9 +5,9 @@ use Rattle.serde_yaml.specs.declared.de.Source.{Source}
 use Rattle.serde_yaml.specs.declared.de.Source.TheVariants.{Stream, One}
 
 -- the documents that were not handed out
-abbrev pub documents_in : Source → List PlainDocument
-documents_in (Stream loader) = loader
-documents_in (One document) = document ∷ []
+abbrev pub documents_left : Source → List PlainDocument
+documents_left (Stream loader) = loader
+documents_left (One document) = document ∷ []
 
 -- whether it is one document on its own
 abbrev pub is_one : Source → Bool

@@ -50,10 +50,10 @@ impl<'de> Model for Deserializer<'de> {
 
     ghost Value = { PlainStream };
 
-    ghost use Rattle.serde_yaml.specs.StreamView.{documents_in, is_one};
+    ghost use Rattle.serde_yaml.specs.StreamView.{documents_left, is_one};
 
     ghost view = { λ d. record {
-      documents = documents_in d.source;
+      documents = documents_left d.source;
       is_document = is_one d.source;
       iterated = d.iterated;
     } };

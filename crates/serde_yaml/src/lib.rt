@@ -3,8 +3,8 @@
 
 mod de;
 pub mod laws;
-mod refusal;
 mod ser;
+mod type_faults;
 pub mod value;
 
 pub use de::{Deserializer, data_from_events, from_events, from_events_limited};

@@ -10,7 +10,7 @@ ghost use Rattle.yaml_write.specs.Outcomes.{made};
 ghost use Rattle.yaml_write.specs.Written.{written};
 ghost use Rattle.serde_yaml.specs.TypedWrites.{TypeWrites, written_stream};
 
-use crate::refusal::schema_refusal;
+use crate::type_faults::schema_refusal;
 use std::alloc::Global;
 use yaml_base::Result;
 use yaml_base::emitter::EmitEvent;

@@ -2,7 +2,7 @@
 use Rattle.std.specs.Prelude.{ℕ, List, [], ◌∷◌, ◌++◌, codes, decimal}
 use Rattle.std.specs.Fmt.{signed_decimal}
 use Rattle.std.specs.List.{flat_map}
-use Rattle.yaml_base.specs.FaultText.{fault_text}
+use Rattle.yaml_base.specs.ParserFaultText.{parser_fault_text}
 use Rattle.yaml_base.specs.FoundText.{bool_text, found_text}
 use Rattle.yaml_base.specs.Quoted.{quoted}
 use Rattle.yaml_base.specs.declared.entry_key.EntryKey.{EntryKey}
@@ -43,7 +43,7 @@ message_text cause.RepetitionLimitExceeded = codes "repetition limit exceeded"
 message_text cause.BytesUnsupported = codes "serialization and deserialization of bytes in YAML is not implemented"
 message_text (cause.UnknownAnchor mark) = codes "unknown anchor"
 message_text cause.SerializeNestedEnum = codes "serializing nested enums in YAML is not supported yet"
-message_text (cause.Parser fault) = fault_text fault
+message_text (cause.Parser fault) = parser_fault_text fault
 message_text (cause.InvalidType found expected place) =
     codes "invalid type: " ++ (found_text found ++ (codes ", expected " ++ expected))
 message_text (cause.InvalidValue found expected place) =

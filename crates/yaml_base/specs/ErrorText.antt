@@ -4,7 +4,7 @@ use Rattle.std.specs.Option.{option_map_or}
 use Rattle.std.specs.Str.{bytes_eq}
 use Rattle.yaml_base.specs.CausePlace.{cause_mark, cause_place}
 use Rattle.yaml_base.specs.CauseText.{message_text}
-use Rattle.yaml_base.specs.FaultText.{fault_debug_text, fault_text}
+use Rattle.yaml_base.specs.ParserFaultText.{fault_debug_text, parser_fault_text}
 use Rattle.yaml_base.specs.MarkText.{is_start, mark_text}
 use Rattle.yaml_base.specs.PlainFault.{PlainFault}
 use Rattle.yaml_base.specs.Position.{Position}
@@ -34,7 +34,7 @@ mark_part (Some mark) = if is_start mark then [] else codes " at " ++ mark_text 
 
 -- the message with the path in front and the mark behind it; a parser's fault has its own text
 abbrev pub error_text : Cause → List ℕ
-error_text cause = option_map_or fault_text (parser_fault cause) (placed_text cause ++ mark_part (cause_mark cause))
+error_text cause = option_map_or parser_fault_text (parser_fault cause) (placed_text cause ++ mark_part (cause_mark cause))
 
 -- where it happened, in debug, counted from 1
 abbrev pub mark_debug_part : Option Position → List ℕ

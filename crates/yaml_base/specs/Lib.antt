@@ -7,7 +7,7 @@ pub mod CauseText
 pub mod EmitEvents
 pub mod EmitTree
 pub mod ErrorText
-pub mod FaultText
+pub mod ParserFaultText
 pub mod Floats
 pub mod FoundText
 pub mod Integers

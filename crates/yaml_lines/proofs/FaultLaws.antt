@@ -8,7 +8,7 @@ use Rattle.yaml_base.specs.declared.fault.FaultKind.{FaultKind}
 use Rattle.yaml_base.specs.declared.fault.FaultKind.TheVariants.{Memory, Reader, Scanner, Parser, Composer, Writer}
 use Rattle.yaml_base.specs.declared.fault.FaultKind.TheVariants.{Emitter, Other}
 use Rattle.yaml_lines.specs.Escape.{Lacks, Spells}
-use Rattle.yaml_lines.specs.FaultText.{kind_name, IsFaultText}
+use Rattle.yaml_lines.specs.SpelledFault.{kind_name, IsSpelledFault}
 use Rattle.yaml_lines.specs.Place.{HasNumber}
 use Rattle.yaml_lines.proofs.CutLaws.{lacks-cons, cut-unique, cut_has}
 use Rattle.yaml_lines.proofs.EscapeLaws.{Spells-unique}
@@ -38,12 +38,12 @@ pub kind_spaceless : (kind : FaultKind) → Lacks (kind_name kind) 32
 kind_spaceless kind = lacks_unspaced _ (kind_unspaced kind)
 
 -- a text with no space is no fault
-pub no_space : (text : List ℕ) → Lacks text 32 → (fault : PlainFault) → ¬ (IsFaultText text fault)
+pub no_space : (text : List ℕ) → Lacks text 32 → (fault : PlainFault) → ¬ (IsSpelledFault text fault)
 no_space text l fault f = cut_has 32 (kind_name fault.kind) f.behind_kind (subst (λ t. Lacks t 32) f.split l)
 
 -- what stands before the first space is the kind's name
 pub kind_and_rest : (text name after : List ℕ) → text ≡ name ++ 32 ∷ after → Lacks name 32 → (fault : PlainFault)
-    → (f : IsFaultText text fault)
+    → (f : IsSpelledFault text fault)
     → (kind_name fault.kind ≡ name) × (f.behind_kind ≡ after)
 kind_and_rest text name after e l fault f =
     cut-unique 32 (kind_name fault.kind) name f.behind_kind after (kind_spaceless fault.kind) l (sym f.split ∙ e)
@@ -51,13 +51,13 @@ kind_and_rest text name after e l fault f =
 -- a text whose first word is no kind's name is no fault
 pub no_kind : (text name after : List ℕ) → text ≡ name ++ 32 ∷ after → Lacks name 32
     → ((kind : FaultKind) → kind_name kind ≢ name)
-    → (fault : PlainFault) → ¬ (IsFaultText text fault)
+    → (fault : PlainFault) → ¬ (IsSpelledFault text fault)
 no_kind text name after e l none fault f = none fault.kind (kind_and_rest text name after e l fault f).0
 
 -- nor is one with no offset
 pub no_offset : (text name after : List ℕ) → text ≡ name ++ 32 ∷ after → Lacks name 32
     → ((n : ℕ) → (rest : List ℕ) → ¬ (HasNumber after 32 n rest))
-    → (fault : PlainFault) → ¬ (IsFaultText text fault)
+    → (fault : PlainFault) → ¬ (IsSpelledFault text fault)
 no_offset text name after e l none fault f =
     none fault.offset f.behind_offset (subst (λ t. HasNumber t 32 fault.offset f.behind_offset)
     (kind_and_rest text name after e l fault f).1 f.has_offset)
@@ -65,7 +65,7 @@ no_offset text name after e l none fault f =
 -- nor one with no text
 pub no_problem : (text name after rest : List ℕ) (n : ℕ) → text ≡ name ++ 32 ∷ after → Lacks name 32
     → HasNumber after 32 n rest
-    → ((bytes : List ℕ) → Spells rest bytes → ¬ (IsUtf8 bytes)) → (fault : PlainFault) → ¬ (IsFaultText text fault)
+    → ((bytes : List ℕ) → Spells rest bytes → ¬ (IsUtf8 bytes)) → (fault : PlainFault) → ¬ (IsSpelledFault text fault)
 no_problem text name after rest n e l h none fault f =
     let a = subst (λ t. HasNumber t 32 fault.offset f.behind_offset)
     (kind_and_rest text name after e l fault f).1 f.has_offset in

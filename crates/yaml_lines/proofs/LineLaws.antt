@@ -5,7 +5,7 @@ use Rattle.yaml_base.specs.Position.{Position}
 use Rattle.yaml_base.specs.PlainEvent.{PlainEvent}
 use Rattle.yaml_base.specs.PlainFault.{PlainFault}
 use Rattle.yaml_lines.specs.EventText.{IsEventText}
-use Rattle.yaml_lines.specs.FaultText.{IsFaultText}
+use Rattle.yaml_lines.specs.SpelledFault.{IsSpelledFault}
 use Rattle.yaml_lines.specs.LineText.{Said, says_event, says_fault, IsSaid, IsLine}
 use Rattle.yaml_lines.specs.Place.{IsMarked}
 use Rattle.yaml_lines.proofs.PlaceLaws.{IsMarked-unique}
@@ -13,11 +13,11 @@ use Rattle.yaml_lines.proofs.WordLaws.{no_event_at_fault}
 
 -- what begins with the word for a fault, with no fault behind it, says nothing
 pub no_fault : (text rest : List ℕ) (mark : Position) → text ≡ codes "!ERR " ++ rest
-    → ((fault : PlainFault) → ¬ (IsFaultText rest fault))
+    → ((fault : PlainFault) → ¬ (IsSpelledFault rest fault))
     → (said : Said) → ¬ (IsSaid text mark said)
 no_fault text rest mark e none (says_event event at) h = no_event_at_fault text rest e event h.1
 no_fault text rest mark e none (says_fault fault) h =
-    none fault (subst (λ t. IsFaultText t fault) (ap (λ (l : List ℕ). drop 5 l) (sym h.2 ∙ e)) h.3)
+    none fault (subst (λ t. IsSpelledFault t fault) (ap (λ (l : List ℕ). drop 5 l) (sym h.2 ∙ e)) h.3)
 
 -- nor does what lacks that word, and is no event
 pub no_event : (text : List ℕ) (mark : Position) → ((rest : List ℕ) → text ≢ codes "!ERR " ++ rest)

@@ -14,7 +14,7 @@ use Rattle.yaml_base.specs.declared.fault.FaultKind.TheVariants.{Emitter, Other}
 use Rattle.yaml_lines.specs.Escape.{Spells}
 use Rattle.yaml_lines.specs.EventText.{IsAnchorName, HasAnchor, HasTag, HasProperties, style_byte, IsContent}
 use Rattle.yaml_lines.specs.EventText.{IsScalarText, IsEventText}
-use Rattle.yaml_lines.specs.FaultText.{kind_name, IsFaultText}
+use Rattle.yaml_lines.specs.SpelledFault.{kind_name, IsSpelledFault}
 use Rattle.yaml_lines.specs.LineText.{Said, says_event, says_fault, IsSaid, IsLine}
 use Rattle.yaml_lines.specs.Place.{HasNumber}
 use Rattle.yaml_lines.proofs.CutLaws.{cut-unique, break-unique}
@@ -229,9 +229,9 @@ kind_at-name Emitter = refl
 kind_at-name Other = refl
 
 -- a fault, at its mark
-IsFaultText-unique : (text : List ℕ) (a b : PlainFault) → a.mark ≡ b.mark → IsFaultText text a → IsFaultText text b
+IsSpelledFault-unique : (text : List ℕ) (a b : PlainFault) → a.mark ≡ b.mark → IsSpelledFault text a → IsSpelledFault text b
     → a ≡ b
-IsFaultText-unique text a b m f g =
+IsSpelledFault-unique text a b m f g =
     let u = kind_and_rest text (kind_name b.kind) g.behind_kind g.split (kind_spaceless b.kind) a f in
     let kind : a.kind ≡ b.kind = sym (kind_at-name a.kind)
     ∙ (ap (λ (n : List ℕ). kind_at (get_or n 0 0)) u.0 ∙ kind_at-name b.kind) in
@@ -268,8 +268,8 @@ IsSaid-unique text mark (says_event e p) (says_event f q) x y =
 IsSaid-unique text mark (says_event e p) (says_fault f) x y = absurd (no_event_at_fault text y.1 y.2 e x.1)
 IsSaid-unique text mark (says_fault f) (says_event e p) x y = absurd (no_event_at_fault text x.1 x.2 e y.1)
 IsSaid-unique text mark (says_fault f) (says_fault g) x y =
-    ap says_fault (IsFaultText-unique x.1 f g (x.0 ∙ sym y.0) x.3
-    (subst (λ t. IsFaultText t g) (ap (λ (l : List ℕ). drop 5 l) (sym y.2 ∙ x.2)) y.3))
+    ap says_fault (IsSpelledFault-unique x.1 f g (x.0 ∙ sym y.0) x.3
+    (subst (λ t. IsSpelledFault t g) (ap (λ (l : List ℕ). drop 5 l) (sym y.2 ∙ x.2)) y.3))
 
 -- a line says one thing
 pub IsLine-unique : (line : List ℕ) (a b : Said) → IsLine line a → IsLine line b → a ≡ b

@@ -8,7 +8,7 @@ use Rattle.std.proofs.lemmas.Fmt.{IsAscii-from_digits}
 use Rattle.yaml_base.specs.Position.{Position}
 use Rattle.yaml_lines.specs.Escape.{Lacks}
 use Rattle.yaml_lines.proofs.CutLaws.{lacks-cons, cut-unique, cut_has}
-use Rattle.yaml_lines.specs.Place.{IsNumber, HasNumber, IsMarked}
+use Rattle.yaml_lines.specs.Place.{IsDecimalNumber, HasNumber, IsMarked}
 
 -- digits lack each byte that is no digit
 pub digits-lack : (byte : ℕ) (digits : List ℕ) → 10 ≤ digit_value byte → AllDigits 10 digits → Lacks digits byte
@@ -32,14 +32,14 @@ no_byte text byte n rest l a = cut_has byte a.digits rest (subst (λ t. Lacks t 
 -- nor has one where no number stands before the byte
 pub no_number : (text digits after : List ℕ) (byte n : ℕ) (rest : List ℕ) → 10 ≤ digit_value byte
     → text ≡ digits ++ byte ∷ after → Lacks digits byte
-    → ((m : ℕ) → ¬ (IsNumber digits m)) → ¬ (HasNumber text byte n rest)
+    → ((m : ℕ) → ¬ (IsDecimalNumber digits m)) → ¬ (HasNumber text byte n rest)
 no_number text digits after byte n rest h e l none a =
     let u = cut-unique byte a.digits digits rest after (digits-lack byte a.digits h a.is_number.numeral.1) l
     (sym a.split ∙ e) in
-    none n (subst (λ d. IsNumber d n) u.0 a.is_number)
+    none n (subst (λ d. IsDecimalNumber d n) u.0 a.is_number)
 
 -- digits are UTF-8
-pub number-IsUtf8 : (digits : List ℕ) (n : ℕ) → IsNumber digits n → IsUtf8 digits
+pub number-IsUtf8 : (digits : List ℕ) (n : ℕ) → IsDecimalNumber digits n → IsUtf8 digits
 number-IsUtf8 digits n a = IsUtf8-from_ascii digits (IsAscii-from_digits digits a.numeral.1)
 
 -- a line with no first number has no mark

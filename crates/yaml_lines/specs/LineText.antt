@@ -6,7 +6,7 @@ use Rattle.yaml_base.specs.PlainFault.{PlainFault}
 use Rattle.yaml_lines.specs.declared.line.Line.{Line}
 use Rattle.yaml_lines.specs.declared.line.Line.TheVariants as line
 use Rattle.yaml_lines.specs.EventText.{IsEventText}
-use Rattle.yaml_lines.specs.FaultText.{IsFaultText}
+use Rattle.yaml_lines.specs.SpelledFault.{IsSpelledFault}
 use Rattle.yaml_lines.specs.Place.{IsMarked}
 
 -- an event and its mark, or the fault of the parser
@@ -23,7 +23,7 @@ said_of (line.Fault fault) = says_fault fault
 abbrev pub IsSaid : List ℕ → Position → Said → Type 0
 IsSaid text mark (says_event event at) = (at ≡ mark) × IsEventText text event
 IsSaid text mark (says_fault fault) =
-    (fault.mark ≡ mark) × (rest : List ℕ) × (text ≡ codes "!ERR " ++ rest) × IsFaultText rest fault
+    (fault.mark ≡ mark) × (rest : List ℕ) × (text ≡ codes "!ERR " ++ rest) × IsSpelledFault rest fault
 
 -- the line says this
 pub record IsLine (line : List ℕ) (said : Said) : Type 0 where

@@ -4,7 +4,7 @@ use Rattle.std.specs.Str.Parse.{IsNumeral, digits_value}
 use Rattle.yaml_base.specs.Position.{Position}
 
 -- the decimal digits write the number, which is a `u64`
-pub record IsNumber (digits : List ℕ) (n : ℕ) : Type 0 where
+pub record IsDecimalNumber (digits : List ℕ) (n : ℕ) : Type 0 where
   pub numeral : IsNumeral 10 digits
   pub value : digits_value 10 digits ≡ n
   pub fits : n < 2 ^ 64
@@ -13,7 +13,7 @@ pub record IsNumber (digits : List ℕ) (n : ℕ) : Type 0 where
 pub record HasNumber (text : List ℕ) (byte n : ℕ) (rest : List ℕ) : Type 0 where
   pub digits : List ℕ
   pub split : text ≡ digits ++ byte ∷ rest
-  pub is_number : IsNumber digits n
+  pub is_number : IsDecimalNumber digits n
 
 -- the line begins with a mark, whose line and column can be counted from 1: three numbers, with `:` (58) behind the
 -- first two and a space (32) behind the third

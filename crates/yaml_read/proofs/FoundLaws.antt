@@ -10,9 +10,9 @@ use Rattle.yaml_base.specs.declared.found.Found.TheVariants as found
 use Rattle.yaml_read.specs.ScalarAny.{any_found, any_in}
 use Rattle.yaml_read.specs.ScalarFound.{wrong_type, found_integer, fault_in}
 use Rattle.yaml_read.specs.Steps.{◌>>=◌}
-use Rattle.yaml_read.specs.declared.de.sort.ScalarSort.{ScalarSort}
-use Rattle.yaml_read.specs.declared.de.sort.ScalarSort.TheVariants.{NoText, TaggedBool, TaggedInt, TaggedFloat}
-use Rattle.yaml_read.specs.declared.de.sort.ScalarSort.TheVariants.{TaggedNull, Resolved, String}
+use Rattle.yaml_read.specs.declared.de.scalar.sort.ScalarSort.{ScalarSort}
+use Rattle.yaml_read.specs.declared.de.scalar.sort.ScalarSort.TheVariants.{NoText, TaggedBool, TaggedInt, TaggedFloat}
+use Rattle.yaml_read.specs.declared.de.scalar.sort.ScalarSort.TheVariants.{TaggedNull, Resolved, String}
 use Rattle.yaml_read.specs.inner.Expectations.{found_in, fault_by}
 
 fault_some : {A : Type 0} (f : A → Found) (o : Option A) (e : Cause) (expected : List ℕ)

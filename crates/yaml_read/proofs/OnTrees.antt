@@ -2,7 +2,7 @@
 use Rattle.std.proofs.Common.{◌≡◌, List, [], ◌∷◌, ◌++◌, refl, subst, Option, Some, None, option_map}
 use Rattle.yaml_read.specs.DocTree.{DocNode, DocNodes, DocPairs}
 use Rattle.yaml_read.specs.DocTree as tree
-use Rattle.yaml_read.specs.Resolved.{nodes_of, pairs_of}
+use Rattle.yaml_read.specs.Resolved.{node_then_nodes, pair_then_pairs}
 
 -- what holds of what is there
 abbrev pub OnTree : {X : Type 0} → (X → Type 0) → Option X → Type 0
@@ -23,14 +23,14 @@ on_map P Q f (Some t) step h = step t h
 
 pub on_nodes : (P : DocNode → Type 0) (Q R : DocNodes → Type 0) (o : Option DocNode) (p : Option DocNodes)
     → ((n : DocNode) (ns : DocNodes) → P n → Q ns → R (tree.node n ns)) → OnTree P o → OnTree Q p
-    → OnTree R (nodes_of o p)
+    → OnTree R (node_then_nodes o p)
 on_nodes P Q R None p step h k = tt
 on_nodes P Q R (Some n) None step h k = tt
 on_nodes P Q R (Some n) (Some ns) step h k = step n ns h k
 
 pub on_pairs : (P P' : DocNode → Type 0) (Q R : DocPairs → Type 0) (o o' : Option DocNode) (p : Option DocPairs)
     → ((m n : DocNode) (ps : DocPairs) → P m → P' n → Q ps → R (tree.pair m n ps))
-    → OnTree P o → OnTree P' o' → OnTree Q p → OnTree R (pairs_of o o' p)
+    → OnTree P o → OnTree P' o' → OnTree Q p → OnTree R (pair_then_pairs o o' p)
 on_pairs P P' Q R None o' p step h k l = tt
 on_pairs P P' Q R (Some m) None p step h k l = tt
 on_pairs P P' Q R (Some m) (Some n) None step h k l = tt

@@ -10,7 +10,7 @@ use Rattle.yaml_read.specs.DocTree.{events_of_pairs}
 use Rattle.yaml_read.specs.Documents.{Find}
 use Rattle.yaml_read.specs.PlainDocEvent.{PlainDocEvent, alias_to, sequence_begins, sequence_ends, mapping_begins}
 use Rattle.yaml_read.specs.PlainDocEvent.{mapping_ends}
-use Rattle.yaml_read.specs.Resolved.{nodes_of, pairs_of, resolved_from, resolved_nodes, resolved_pairs}
+use Rattle.yaml_read.specs.Resolved.{node_then_nodes, pair_then_pairs, resolved_from, resolved_nodes, resolved_pairs}
 use Rattle.yaml_read.proofs.PlainWalks.{plain_anchors, then_known, plain_known, or_missing, plain_missing}
 use Rattle.yaml_read.proofs.NodeSizes.{nodes_size, pairs_size, size_sequence, size_mapping, size_node, size_pair}
 
@@ -94,7 +94,7 @@ told_mapping find g (Some t) a i j events rest h =
 
 told_nodes : (find : Find) (o : Option DocNode) (p : Option DocNodes) (i j k : ℕ) (events middle rest : List PlainEvent)
     → Told events_of find o i j events middle → Told events_of_nodes find p j k middle rest
-    → Told events_of_nodes find (nodes_of o p) i k events rest
+    → Told events_of_nodes find (node_then_nodes o p) i k events rest
 told_nodes find None p i j k events middle rest h q = h
 told_nodes find (Some t) None i j k events middle rest h q = h.1 ∙ q
 told_nodes find (Some t) (Some ts) i j k events middle rest h q =
@@ -103,7 +103,7 @@ told_nodes find (Some t) (Some ts) i j k events middle rest h q =
 told_pairs : (find : Find) (o p : Option DocNode) (q : Option DocPairs) (i j k l : ℕ)
     (events first second rest : List PlainEvent) → Told events_of find o i j events first
     → Told events_of find p j k first second → Told events_of_pairs find q k l second rest
-    → Told events_of_pairs find (pairs_of o p q) i l events rest
+    → Told events_of_pairs find (pair_then_pairs o p q) i l events rest
 told_pairs find None p q i j k l events first second rest a b c = a
 told_pairs find (Some x) None q i j k l events first second rest a b c = a.1 ∙ b
 told_pairs find (Some x) (Some y) None i j k l events first second rest a b c = a.1 ∙ b.1 ∙ c

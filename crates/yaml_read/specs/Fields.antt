@@ -9,8 +9,9 @@ use Rattle.yaml_base.specs.declared.error.Place.{Place}
 use Rattle.yaml_shape.specs.DataView.{items_of}
 use Rattle.yaml_shape.specs.HasShape.{passes}
 use Rattle.yaml_shape.specs.PlainData.{PlainData, text_data, none_data, struct_data}
-use Rattle.yaml_shape.specs.PlainShape.{PlainShape, option_shape, shape_at}
+use Rattle.yaml_shape.specs.PlainShape.{PlainShape, shape_at}
 use Rattle.yaml_shape.specs.Validity.{names_of}
+use Rattle.yaml_read.specs.Kinds.{is_option}
 use Rattle.yaml_read.specs.Steps.{◌>>=◌, wrap}
 
 -- the fields that a struct declares: their names, and the numbers of their shapes
@@ -59,11 +60,6 @@ abbrev pub field_step : {C : Type 0} → Slots → Option (ℕ × ℕ) → (ℕ 
     → Result (Slots × C) Cause
 field_step slots None read skip = wrap (λ v. slots) skip
 field_step slots (Some f) read skip = wrap (λ v. set slots f.0 (Some v)) (read f.1)
-
--- the shape is an optional
-abbrev pub is_option : PlainShape → Bool
-is_option (option_shape content) = true
-is_option _ = false
 
 module _ (table : List PlainShape) where
   -- the data of a field: what was read, or absent where its shape is an optional

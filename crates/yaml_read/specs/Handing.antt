@@ -7,7 +7,7 @@ use Rattle.yaml_shape.specs.PlainShape.{PlainShape, any_shape, bytes_shape, opti
 use Rattle.yaml_shape.specs.PlainShape.{struct_shape, struct_variant_shape, enum_shape, PlainVariant}
 use Rattle.yaml_shape.specs.Walks.{rank}
 use Rattle.yaml_read.specs.Fields.{Fields}
-use Rattle.yaml_read.specs.NodeTags.{Around, untaken_name}
+use Rattle.yaml_read.specs.NodeTags.{TakenBy, untaken_name}
 use Rattle.yaml_read.specs.PlainDocEvent.{PlainDocEvent, a_scalar, a_void, sequence_begins, mapping_begins}
 use Rattle.yaml_read.specs.Presence.{is_present, is_empty_plain, is_empty}
 use Rattle.yaml_read.specs.Variants.{Variants, variant_named, unknown_variant}
@@ -30,7 +30,7 @@ pub data Handing : Type 0 where
   -- a struct of which no field is there
   as_bare : Fields → Handing
   -- what the variant in the place holds, whose name is the node's tag
-  as_variant : (place : ℕ) → Around → PlainVariant → Handing
+  as_variant : (place : ℕ) → TakenBy → PlainVariant → Handing
   -- any value under the node's tag, which has this name
   as_tagged : (name : List ℕ) → Handing
   -- an enum that the node's tag does not let be read
@@ -61,7 +61,7 @@ any_by None = as_is
 any_by (Some name) = as_tagged name
 
 -- an enum, by the variant that its tag names
-abbrev pub variant_by : Around → Option (ℕ × PlainVariant) → Handing
+abbrev pub variant_by : TakenBy → Option (ℕ × PlainVariant) → Handing
 variant_by around None = as_refused
 variant_by around (Some v) = as_variant v.0 around v.1
 
@@ -83,7 +83,7 @@ handed (enum_shape name variants) false e = enum_by name variants (untaken_name 
 handed _ taken e = as_is
 
 -- The fault of an enum that the tag of the node does not let be read: it names no variant, or it is taken.
-abbrev pub refusal : PlainShape → Option Around → PlainDocEvent → Cause
+abbrev pub refusal : PlainShape → Option TakenBy → PlainDocEvent → Cause
 refusal s (Some around) e = NestedEnum around.name around.variant None
 refusal (enum_shape name variants) None e = unknown_variant variants (unwrap_or (untaken_name false e) [])
 refusal s None e = unknown_variant [] []

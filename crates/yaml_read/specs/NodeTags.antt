@@ -4,12 +4,12 @@ use Rattle.yaml_base.specs.LocalName.{local_name}
 use Rattle.yaml_read.specs.PlainDocEvent.{PlainDocEvent, a_scalar, sequence_begins, mapping_begins}
 
 -- what took the tag of a node: a variant, by the names of its enum and of itself, or a value, which has none
-pub record Around : Type 0 where
+pub record TakenBy : Type 0 where
   pub name : List ℕ
   pub variant : List ℕ
 
 -- a value under the tag
-abbrev pub around_value : Around
+abbrev pub around_value : TakenBy
 around_value = record { name = []; variant = [] }
 
 -- the tag of the node that begins with the event

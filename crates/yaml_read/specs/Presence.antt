@@ -6,7 +6,7 @@ use Rattle.yaml_base.specs.PlainEvent.{PlainScalar}
 use Rattle.yaml_base.specs.PlainWords.{is_null_word}
 use Rattle.yaml_base.specs.declared.error.Cause.{Cause}
 use Rattle.yaml_read.specs.CoreTags.{null_tag}
-use Rattle.yaml_read.specs.ScalarFound.{found_text, wrong_value}
+use Rattle.yaml_read.specs.ScalarFound.{string_found, wrong_value}
 use Rattle.yaml_read.specs.ScalarSorts.{is_plain, has_untaken}
 
 -- the scalar is plain, and without a tag, or with a taken one, has no text or a word for null
@@ -31,7 +31,7 @@ is_present taken s = not (is_absent taken s || is_false_null taken s)
 
 -- the fault of a scalar that should stand for nothing
 abbrev pub null_fault : PlainScalar → Cause
-null_fault s = wrong_value (found_text s.text) (codes "null")
+null_fault s = wrong_value (string_found s.text) (codes "null")
 
 -- the list is empty
 abbrev pub is_empty : List ℕ → Bool

@@ -15,9 +15,9 @@ use Rattle.yaml_tree.specs.Integer.{is_number}
 use Rattle.yaml_tree.specs.Tree.{Tree, null, boolean, number, string}
 use Rattle.yaml_read.specs.ScalarFound.{wrong_type, wrong_value, found_kind, found_integer}
 use Rattle.yaml_read.specs.ScalarSorts.{sort_of}
-use Rattle.yaml_read.specs.declared.de.sort.ScalarSort.{ScalarSort}
-use Rattle.yaml_read.specs.declared.de.sort.ScalarSort.TheVariants.{NoText, TaggedBool, TaggedInt, TaggedFloat}
-use Rattle.yaml_read.specs.declared.de.sort.ScalarSort.TheVariants.{TaggedNull, Resolved, String}
+use Rattle.yaml_read.specs.declared.de.scalar.sort.ScalarSort.{ScalarSort}
+use Rattle.yaml_read.specs.declared.de.scalar.sort.ScalarSort.TheVariants.{NoText, TaggedBool, TaggedInt, TaggedFloat}
+use Rattle.yaml_read.specs.declared.de.scalar.sort.ScalarSort.TheVariants.{TaggedNull, Resolved, String}
 
 -- an integer is a number where it has 64 bits, with a sign only below 0
 abbrev pub any_integer : Found → ℤ → Result Tree Cause

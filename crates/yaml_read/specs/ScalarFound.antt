@@ -16,9 +16,9 @@ use Rattle.yaml_base.specs.declared.resolver.kind.Kind.TheVariants as kind
 use Rattle.yaml_shape.specs.Expected.{expected_text}
 use Rattle.yaml_shape.specs.PlainShape.{PlainShape, enum_shape}
 use Rattle.yaml_read.specs.ScalarSorts.{sort_of}
-use Rattle.yaml_read.specs.declared.de.sort.ScalarSort.{ScalarSort}
-use Rattle.yaml_read.specs.declared.de.sort.ScalarSort.TheVariants.{NoText, TaggedBool, TaggedInt, TaggedFloat}
-use Rattle.yaml_read.specs.declared.de.sort.ScalarSort.TheVariants.{TaggedNull, Resolved, String}
+use Rattle.yaml_read.specs.declared.de.scalar.sort.ScalarSort.{ScalarSort}
+use Rattle.yaml_read.specs.declared.de.scalar.sort.ScalarSort.TheVariants.{NoText, TaggedBool, TaggedInt, TaggedFloat}
+use Rattle.yaml_read.specs.declared.de.scalar.sort.ScalarSort.TheVariants.{TaggedNull, Resolved, String}
 
 -- a node of another type than was expected; where it stands is not known yet
 abbrev pub wrong_type : Found → (expected : List ℕ) → Cause
@@ -43,8 +43,8 @@ found_integer text = option_or (option_map (λ n. found.Unsigned n) (up_to (2 ^ 
     (option_map (λ z. found.Signed z) (in_range (neg_ℤ (pos (2 ^ 127))) (pos (2 ^ 127 - 1)) (integer_of text)))
 
 -- the string, or bytes where it is none
-abbrev pub found_text : (text : List ℕ) → Found
-found_text text = if is_utf8 text then found.Str text else found.Bytes
+abbrev pub string_found : (text : List ℕ) → Found
+string_found text = if is_utf8 text then found.Str text else found.Bytes
 
 -- the fault of a scalar in a row, with this text, where something else is expected
 abbrev pub fault_in : ScalarSort → (text expected : List ℕ) → Cause

@@ -22,7 +22,7 @@ use Rattle.yaml_read.specs.Fields.{Fields, Slots, no_slots, name_in, field_named
 use Rattle.yaml_read.specs.Handing.{Handing, as_is, as_some, as_newtype, as_ignored, as_bare, as_variant, as_tagged}
 use Rattle.yaml_read.specs.Handing.{as_refused}
 use Rattle.yaml_read.specs.Handing.{handed, early, refusal}
-use Rattle.yaml_read.specs.NodeTags.{Around, around_value}
+use Rattle.yaml_read.specs.NodeTags.{TakenBy, around_value}
 use Rattle.yaml_read.specs.Places.{Way, element_under, value_under, places, place, root_way, text_place}
 use Rattle.yaml_read.specs.PlainDocEvent.{PlainDocEvent}
 use Rattle.yaml_read.specs.PlainDocument.{PlainDocument}
@@ -65,7 +65,7 @@ each_pair key value s (pair m n ps) at =
 -- reads a node under a shape, with so many nestings left, and what took its tag, if it is taken; the spot is that of
 -- the node
 abbrev pub TreeReader : Type 0
-TreeReader = PlainShape → (nest : ℕ) → (taken : Option Around) → DocNode → Spot → Answer PlainData
+TreeReader = PlainShape → (nest : ℕ) → (taken : Option TakenBy) → DocNode → Spot → Answer PlainData
 
 -- one more element
 abbrev pub item_of : (Way → TreeReader) → Way → PlainShape → (nest : ℕ) → List PlainData → DocNode → Spot
@@ -161,7 +161,7 @@ module _ (table : List PlainShape) where
   mapping_of read marks way s nest mark ps at = Err (mapping_fault s)
 
   -- a node by its kind; each collection has its mark
-  abbrev pub node_by : (Way → TreeReader) → Way → DocNode → (ℕ → Position) → PlainShape → ℕ → Option Around → DocNode
+  abbrev pub node_by : (Way → TreeReader) → Way → DocNode → (ℕ → Position) → PlainShape → ℕ → Option TakenBy → DocNode
       → Spot → Answer PlainData
   node_by read way root marks s nest taken nothing at = ending at.left (void_answer s)
   node_by read way root marks s nest taken (reference j) at =
@@ -173,7 +173,7 @@ module _ (table : List PlainShape) where
 
   -- a node as it is handed on
   abbrev pub handed_by : Handing → (Way → TreeReader) → Way → DocNode → (ℕ → Position) → PlainShape → ℕ
-      → Option Around → DocNode → Spot → Answer PlainData
+      → Option TakenBy → DocNode → Spot → Answer PlainData
   handed_by as_is read way root marks s nest taken n at = node_by read way root marks s nest taken n at
   handed_by (as_some c) read way root marks s nest taken n at =
       with_shape (shape_at table c) (λ t. wrap some_data (read way t nest taken n at))

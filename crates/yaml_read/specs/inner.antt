@@ -7,6 +7,6 @@ pub mod Loading
 pub mod Numbers
 pub mod OpenEnds
 pub mod Reader
-pub mod Refusals
+pub mod BoxedFault
 pub mod Takes
 pub mod Walks

@@ -1,39 +1,12 @@
 //! From a document to data, by a shape.
 
-mod any;
-mod around;
 mod calls;
-mod character;
-mod contents;
-mod enums;
-mod expected;
-mod field_index;
-mod fields;
-mod found;
-mod found_text;
-mod integer;
 mod kinds;
-mod mapping;
 mod node;
-mod numbers;
-mod optional;
-mod parts;
-mod placed;
 mod plain;
-mod presence;
-mod refusal;
-mod row;
+mod read_refusal;
 mod scalar;
-mod sequence;
-mod skip;
-mod sort;
-mod source;
-mod structs;
-mod text;
-mod tuple;
-mod values;
-mod variants;
-mod widths;
+mod taken_tag;
 
 ghost use Rattle.std.specs.Prelude.{◌≡◌, ◌≢◌, ◌<◌, ◌≤◌, length, Some, Err, is_ok, false};
 ghost use Rattle.yaml_base.specs.Answer.{Answers, is_memory};
@@ -50,8 +23,8 @@ ghost use Rattle.yaml_read.specs.StreamLaw.{IsEnding};
 ghost use Rattle.yaml_read.specs.TreeReader.{default_limits};
 
 use crate::cursor::Cursor;
-use crate::de::refusal::Refusal;
-use crate::de::source::Source;
+use crate::de::node::source::Source;
+use crate::de::read_refusal::Refusal;
 use crate::document::Document;
 use crate::limits::Limits;
 use crate::tally::Tally;

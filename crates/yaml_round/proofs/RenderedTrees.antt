@@ -12,7 +12,7 @@ use Rattle.yaml_base.specs.Tree.{Node, scalar_node, sequence_node, mapping_node,
 use Rattle.yaml_base.specs.Tree.{nodes_events, pairs_events, size_of}
 use Rattle.yaml_base.specs.Tree as tree
 use Rattle.yaml_read.specs.DocTree.{DocNode, DocNodes, DocPairs, word, list, mapping, no_nodes, node, no_pairs, pair}
-use Rattle.yaml_read.specs.Resolved.{resolved_from, resolved_nodes, resolved_pairs, nodes_of, pairs_of}
+use Rattle.yaml_read.specs.Resolved.{resolved_from, resolved_nodes, resolved_pairs, node_then_nodes, pair_then_pairs}
 use Rattle.yaml_read.specs.Resolved.{without_anchor}
 
 -- the node of a document is what the node to be written may come back as
@@ -160,7 +160,7 @@ mutual
         later = all.later;
         split = one.split ∙ ap (node_events one.root) all.split;
         renders = all.renders;
-        resolves = λ find number. λ i. nodes_of (one.resolves find number i)
+        resolves = λ find number. λ i. node_then_nodes (one.resolves find number i)
             (all.resolves find (number + size_of one.root) i);
         rendered = (one.tree, all.trees, refl, one.rendered, all.rendered);
       }
@@ -189,7 +189,7 @@ mutual
         split = k.split ∙ ap (node_events k.root) (v.split ∙ ap (node_events v.root) all.split);
         renders = all.renders;
         resolves = λ find number. λ i.
-            pairs_of (k.resolves find number i) (v.resolves find (number + size_of k.root) i)
+            pair_then_pairs (k.resolves find number i) (v.resolves find (number + size_of k.root) i)
             (all.resolves find (number + size_of k.root + size_of v.root) i);
         rendered = (k.tree, v.tree, all.trees, refl, k.rendered, v.rendered, all.rendered);
       }

@@ -5,7 +5,7 @@ ghost use Rattle.std.specs.Prelude.{IsTrue};
 ghost use Rattle.std.specs.Str.{is_utf8};
 ghost use Rattle.yaml_tree.specs.Valid.{is_value};
 ghost use Rattle.yaml_tree.specs.View.{tree_of};
-ghost use Rattle.yaml_shape.specs.DataView.{data_of, items_view, entries_view, text_of};
+ghost use Rattle.yaml_shape.specs.DataView.{data_of, items_view, entries_view, text_data_of};
 ghost use Rattle.yaml_round.specs.Held.{IsHeld, AreHeld, EntriesAreHeld, is_table};
 
 use yaml_shape::{Data, Entry, Schema, ShapeId, Text};
@@ -28,7 +28,7 @@ fn value_is_held(value: &Value)
 
 // A text is UTF-8.
 fn text_is_held(text: &Text<'_>)
-    ensures { IsHeld (text_of text.now) }
+    ensures { IsHeld (text_data_of text.now) }
 {
     match text {
         Text::Borrowed(text) => str_is_held(text),

@@ -8,7 +8,7 @@ use Rattle.std.proofs.lemmas.Option.{slice_get-get_or}
 use Rattle.yaml_shape.specs.declared.shape.Shape.{Shape}
 use Rattle.yaml_shape.specs.PlainShape.{PlainShape}
 use Rattle.yaml_shape.specs.ShapeView.{shape_of}
-use Rattle.yaml_shape.specs.Refusal.{IsFirstWithout}
+use Rattle.yaml_shape.specs.SchemaRefusal.{IsFirstWithout}
 
 -- what the table has at a place, as the code reads it
 pub plain_at : (shapes : List Shape) (i : ℕ) (x : Shape) → i < length shapes → x ≡ get_or shapes i x

@@ -11,7 +11,7 @@ use Rattle.yaml_shape.specs.Join.{raised, joined, IsWith}
 use Rattle.yaml_shape.specs.declared.shape.Shape.{Shape}
 use Rattle.yaml_shape.specs.declared.shape.ShapeId.{ShapeId}
 use Rattle.yaml_shape.specs.declared.fault.SchemaFault.{SchemaFault}
-use Rattle.yaml_shape.specs.Kept.{Keeps}
+use Rattle.yaml_shape.specs.Kept.{KeepsShapes}
 use Rattle.yaml_shape.proofs.NumberLaws.{All-from_map}
 use Rattle.yaml_shape.proofs.Stands.{keeps_first}
 use Rattle.yaml_shape.proofs.JoinWalks.{valid-joined, valid-added}
@@ -58,9 +58,9 @@ all_small shapes valid =
 -- a table keeps its data when one more shape is added
 pub pushed_keeps : (old new : List Shape) (shape : Shape) (table : List PlainShape) → map shape_of old ≡ table
     → new ≡ old ++ shape ∷ []
-    → IsValidSchema (map shape_of old) → Keeps 0 table (map shape_of new)
+    → IsValidSchema (map shape_of old) → KeepsShapes 0 table (map shape_of new)
 pushed_keeps old new shape table seen made valid =
-    subst (Keeps 0 table)
+    subst (KeepsShapes 0 table)
     (sym (ap (map shape_of) made
     ∙ (map-append shape_of old (shape ∷ []) ∙ ap (λ t. t ++ (shape_of shape ∷ [])) seen)))
     (keeps_first table (shape_of shape ∷ []) (subst IsValidSchema seen valid))

@@ -23,7 +23,7 @@ use Rattle.yaml_shape.specs.HasShape.{is_unit, on_newtype, on_seq, on_tuple, on_
 use Rattle.yaml_shape.specs.HasShape.{is_unit_data, on_content, has_shape, tuple_has, struct_has, all_have, each_has}
 use Rattle.yaml_shape.specs.HasShape.{entries_have}
 use Rattle.yaml_shape.specs.Join.{raised_ids, raised_content, raised}
-use Rattle.yaml_shape.specs.Kept.{StandsIn, Keeps}
+use Rattle.yaml_shape.specs.Kept.{IsRaisedIn, KeepsShapes}
 use Rattle.yaml_shape.proofs.NumberLaws.{All-from_flat_map}
 use Rattle.yaml_shape.proofs.JoinLaws.{numbers-raised, names_at}
 
@@ -148,7 +148,7 @@ at_place : (by : ℕ) (part : List PlainShape) (f g : PlainShape → Bool) (o : 
 at_place by part f g None agree = refl
 at_place by part f g (Some s) agree = agree s refl
 
-test_moved : (by : ℕ) (part whole : List PlainShape) (f g : PlainShape → Bool) (id : ℕ) → StandsIn by part whole
+test_moved : (by : ℕ) (part whole : List PlainShape) (f g : PlainShape → Bool) (id : ℕ) → IsRaisedIn by part whole
     → AllNameWithin (length part) part → id < length part
     → ((s : PlainShape) → NamesWithin (length part) s → f (raised by s) ≡ g s)
     → passes (shape_at whole (by + id)) f ≡ passes (shape_at part id) g
@@ -162,7 +162,7 @@ both a b c d p q = cc
 
 mutual
   -- data of a shape of the part is data of the shape so much later in the whole
-  pub data_moved : (by : ℕ) (part whole : List PlainShape) → StandsIn by part whole → AllNameWithin (length part) part
+  pub data_moved : (by : ℕ) (part whole : List PlainShape) → IsRaisedIn by part whole → AllNameWithin (length part) part
       → (d : PlainData) (id : ℕ) → id < length part → has_shape whole (by + id) d ≡ has_shape part id d
   data_moved by part whole stands closed (any_data v) id within
       = test_moved by part whole is_any is_any id stands closed within (λ s w. any-raised by s)
@@ -236,28 +236,28 @@ mutual
   data_moved by part whole stands closed ignored_data id within =
       test_moved by part whole is_ignored is_ignored id stands closed within (λ s w. ignored-raised by s)
 
-  tuple_moved : (by : ℕ) (part whole : List PlainShape) → StandsIn by part whole → AllNameWithin (length part) part
+  tuple_moved : (by : ℕ) (part whole : List PlainShape) → IsRaisedIn by part whole → AllNameWithin (length part) part
       → (d : PlainData) (ids : List ℕ) → All (λ id. id < length part) ids
       → tuple_has whole (raised_ids by ids) d ≡ tuple_has part ids d
   tuple_moved by part whole stands closed (tuple_data ds) ids within
       = each_moved by part whole stands closed ds ids within
   tuple_moved by part whole stands closed _ ids within = refl
 
-  struct_moved : (by : ℕ) (part whole : List PlainShape) → StandsIn by part whole → AllNameWithin (length part) part
+  struct_moved : (by : ℕ) (part whole : List PlainShape) → IsRaisedIn by part whole → AllNameWithin (length part) part
       → (d : PlainData) (ids : List ℕ) → All (λ id. id < length part) ids
       → struct_has whole (raised_ids by ids) d ≡ struct_has part ids d
   struct_moved by part whole stands closed (struct_data ds) ids within
       = each_moved by part whole stands closed ds ids within
   struct_moved by part whole stands closed _ ids within = refl
 
-  items_moved : (by : ℕ) (part whole : List PlainShape) → StandsIn by part whole → AllNameWithin (length part) part
+  items_moved : (by : ℕ) (part whole : List PlainShape) → IsRaisedIn by part whole → AllNameWithin (length part) part
       → (ds : PlainItems) (id : ℕ) → id < length part → all_have whole (by + id) ds ≡ all_have part id ds
   items_moved by part whole stands closed no_items id within = refl
   items_moved by part whole stands closed (item d ds) id within =
       both (has_shape whole (by + id) d) (all_have whole (by + id) ds) (has_shape part id d) (all_have part id ds)
       (data_moved by part whole stands closed d id within) (items_moved by part whole stands closed ds id within)
 
-  each_moved : (by : ℕ) (part whole : List PlainShape) → StandsIn by part whole → AllNameWithin (length part) part
+  each_moved : (by : ℕ) (part whole : List PlainShape) → IsRaisedIn by part whole → AllNameWithin (length part) part
       → (ds : PlainItems) (ids : List ℕ) → All (λ id. id < length part) ids
       → each_has whole (raised_ids by ids) ds ≡ each_has part ids ds
   each_moved by part whole stands closed no_items [] within = refl
@@ -269,7 +269,7 @@ mutual
       (data_moved by part whole stands closed d id (All-head (λ id. id < length part) id ids within))
       (each_moved by part whole stands closed ds ids (All-tail (λ id. id < length part) id ids within))
 
-  entries_moved : (by : ℕ) (part whole : List PlainShape) → StandsIn by part whole → AllNameWithin (length part) part
+  entries_moved : (by : ℕ) (part whole : List PlainShape) → IsRaisedIn by part whole → AllNameWithin (length part) part
       → (es : PlainEntries) (a b : ℕ) → a < length part → b < length part
       → entries_have whole (by + a) (by + b) es ≡ entries_have part a b es
   entries_moved by part whole stands closed no_entries a b l m = refl
@@ -282,6 +282,6 @@ mutual
       (data_moved by part whole stands closed v b m) (entries_moved by part whole stands closed es a b l m))
 
 -- a table keeps its data where it stands in a larger one
-pub keeps : (by : ℕ) (part whole : List PlainShape) → StandsIn by part whole → AllNameWithin (length part) part
-    → Keeps by part whole
+pub keeps : (by : ℕ) (part whole : List PlainShape) → IsRaisedIn by part whole → AllNameWithin (length part) part
+    → KeepsShapes by part whole
 keeps by part whole stands closed id d within = data_moved by part whole stands closed d id within

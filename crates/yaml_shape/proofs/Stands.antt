@@ -14,7 +14,7 @@ use Rattle.yaml_shape.specs.PlainShape.{PlainVariant, unit_variant, newtype_vari
 use Rattle.yaml_shape.specs.Validity.{AllNameWithin, IsValidSchema}
 use Rattle.yaml_shape.specs.Join.{raised_ids, raised_fields, raised_content, raised_variants, raised, joined}
 use Rattle.yaml_shape.specs.Join.{joined_all}
-use Rattle.yaml_shape.specs.Kept.{StandsIn, Keeps, KeepsAll}
+use Rattle.yaml_shape.specs.Kept.{IsRaisedIn, KeepsShapes, KeepsAllShapes}
 use Rattle.yaml_shape.proofs.JoinLaws.{at_left}
 use Rattle.yaml_shape.proofs.JoinWalks.{at_joined}
 use Rattle.yaml_shape.proofs.JoinData.{keeps}
@@ -63,13 +63,13 @@ option_zero None = refl
 option_zero (Some s) = ap Some (raised_zero s)
 
 -- a table stands in a longer one that begins with it
-pub stands_first : (part back : List PlainShape) → StandsIn 0 part (part ++ back)
+pub stands_first : (part back : List PlainShape) → IsRaisedIn 0 part (part ++ back)
 stands_first part back id within
     = ap (shape_at (part ++ back)) (same_sum id)
     ∙ (at_left part back id within ∙ sym (option_zero (shape_at part id)))
 
 -- what stands in a table stands in a longer one
-stands_longer : (by : ℕ) (part whole back : List PlainShape) → StandsIn by part whole → StandsIn by part (whole ++ back)
+stands_longer : (by : ℕ) (part whole back : List PlainShape) → IsRaisedIn by part whole → IsRaisedIn by part (whole ++ back)
 stands_longer by part whole back stands id within = at_left whole back (by + id) inside ∙ stands id within
   where
     some : (o : Option PlainShape) → (s : PlainShape) → o ≡ Some s → option_map (raised by) o ≡ Some (raised by s)
@@ -86,17 +86,17 @@ stands_longer by part whole back stands id within = at_left whole back (by + id)
         ∙ some (shape_at part id) there.0 there.1)
 
 -- the first of two tables, and the second
-pub keeps_first : (part back : List PlainShape) → IsValidSchema part → Keeps 0 part (part ++ back)
+pub keeps_first : (part back : List PlainShape) → IsValidSchema part → KeepsShapes 0 part (part ++ back)
 keeps_first part back valid = keeps 0 part (part ++ back) (stands_first part back) valid.closed
 
 pub keeps_left : (first second back : List PlainShape) → IsValidSchema first
-    → Keeps 0 first (joined first second ++ back)
+    → KeepsShapes 0 first (joined first second ++ back)
 keeps_left first second back valid =
     keeps 0 first (joined first second ++ back) (stands_longer 0 first (joined first second) back
     (stands_first first (map (raised (length first)) second))) valid.closed
 
 pub keeps_right : (first second back : List PlainShape) → IsValidSchema second
-    → Keeps (length first) second (joined first second ++ back)
+    → KeepsShapes (length first) second (joined first second ++ back)
 keeps_right first second back valid =
     keeps (length first) second (joined first second ++ back)
     (stands_longer (length first) second (joined first second) back (λ id within. at_joined first second id))
@@ -116,18 +116,18 @@ begins first (part ∷ parts) =
 -- each part of a join
 pub keeps_all : (first : List PlainShape) (parts : List (List PlainShape × ℕ)) (back : List PlainShape)
     → All (λ p. AllNameWithin (length p.0) p.0) parts
-    → KeepsAll (length first) parts (joined_all first parts ++ back)
+    → KeepsAllShapes (length first) parts (joined_all first parts ++ back)
 keeps_all first [] back closed = tt
 keeps_all first (part ∷ parts) back closed =
     let rest = begins (joined first part.0) parts in
     let whole : joined_all (joined first part.0) parts ++ back ≡ joined first part.0 ++ (rest.0 ++ back) =
     ap (λ l. l ++ back) rest.1 ∙ append_assoc (joined first part.0) rest.0 back in (
-      subst (Keeps (length first) part.0) (sym whole)
+      subst (KeepsShapes (length first) part.0) (sym whole)
           (keeps (length first) part.0 (joined first part.0 ++ (rest.0 ++ back))
           (stands_longer (length first) part.0 (joined first part.0) (rest.0 ++ back)
           (λ id within. at_joined first part.0 id))
           (All-head (λ p. AllNameWithin (length p.0) p.0) part parts closed)),
-      subst (λ n. KeepsAll n parts (joined_all (joined first part.0) parts ++ back)) (length-joined first part.0)
+      subst (λ n. KeepsAllShapes n parts (joined_all (joined first part.0) parts ++ back)) (length-joined first part.0)
           (keeps_all (joined first part.0) parts back
           (All-tail (λ p. AllNameWithin (length p.0) p.0) part parts closed)),
     )

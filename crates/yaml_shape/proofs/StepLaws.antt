@@ -6,7 +6,7 @@ use Rattle.std.specs.Prelude.{min, IsNone, IfSome}
 use Rattle.std.specs.Option.{option_and_then}
 use Rattle.yaml_shape.specs.PlainShape.{PlainShape, shape_at}
 use Rattle.yaml_shape.specs.Validity.{optional_content, step_from, walk, IsCycle}
-use Rattle.yaml_shape.specs.Refusal.{IsFirstCycle}
+use Rattle.yaml_shape.specs.SchemaRefusal.{IsFirstCycle}
 use Rattle.yaml_shape.specs.Walks.{led_from, led_on, AreWalks, lesser, IsLeastEnd}
 use Rattle.yaml_shape.proofs.WalkLaws.{walk-add, long_walk, cycle_reached}
 

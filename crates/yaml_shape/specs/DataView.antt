@@ -13,9 +13,9 @@ use Rattle.yaml_shape.specs.declared.data.Data.TheOpen.{Data-F, Entry-F}
 use Rattle.yaml_shape.specs.declared.data.Entry.{Entry, fold-Entry}
 
 -- the plain data of a text
-abbrev pub text_of : Text → PlainData
-text_of (Borrowed s) = text_data true s.now
-text_of (Owned s) = text_data false (string_bytes s)
+abbrev pub text_data_of : Text → PlainData
+text_data_of (Borrowed s) = text_data true s.now
+text_data_of (Owned s) = text_data false (string_bytes s)
 
 -- a list of plain data as the items of one
 abbrev pub items_of : List PlainData → PlainItems
@@ -34,7 +34,7 @@ data_level (Data-F.Bool b) = bool_data b
 data_level (Data-F.Char c) = char_data c
 data_level (Data-F.Signed z) = signed_data z
 data_level (Data-F.Unsigned n) = unsigned_data n
-data_level (Data-F.Str t) = text_of t
+data_level (Data-F.Str t) = text_data_of t
 data_level (Data-F.Bytes v) = bytes_data v.items
 data_level Data-F.None = none_data
 data_level (Data-F.Some d) = some_data d.value

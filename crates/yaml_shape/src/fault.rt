@@ -1,7 +1,7 @@
 //! Why a table of shapes is no schema.
 
 ghost use Rattle.std.specs.Prelude.{◌≡◌, Some};
-ghost use Rattle.yaml_shape.specs.FaultText.{fault_text};
+ghost use Rattle.yaml_shape.specs.SchemaFaultText.{schema_fault_text};
 
 use std::alloc::{AllocError, AllocFailed};
 use std::fmt;
@@ -22,7 +22,7 @@ pub enum SchemaFault {
 }
 
 impl fmt::Display for SchemaFault {
-    ghost output = { λ fault. Some (fault_text fault) };
+    ghost output = { λ fault. Some (schema_fault_text fault) };
 
     fn fmt<W: fmt::Write>(&self, f: &mut fmt::Formatter<W>) -> fmt::Result {
         match self {

@@ -4,11 +4,11 @@ ghost use Rattle.std.specs.Prelude.{◌≡◌, ◌+◌, ◌<◌, length, [], All
 ghost use Rattle.yaml_shape.specs.PlainShape.{seq_shape, option_shape, map_shape, tuple_shape};
 ghost use Rattle.yaml_shape.specs.ShapeView.{shape_of};
 ghost use Rattle.yaml_shape.specs.Validity.{NamesWithin, HasDistinctNames};
-ghost use Rattle.yaml_shape.specs.Kept.{Keeps, KeepsAll};
+ghost use Rattle.yaml_shape.specs.Kept.{KeepsShapes, KeepsAllShapes};
 ghost use Rattle.yaml_shape.specs.Join.{joined, joined_all, starts_behind, parts_of, StartsWithin, IsWith, IsTooLarge};
 
 use crate::fault::SchemaFault;
-use crate::raise::raise_all;
+use crate::moved_shapes::raise_all;
 use crate::schema::{SHAPES, Schema};
 use crate::shape::{Shape, ShapeId};
 use std::alloc::Global;
@@ -33,7 +33,7 @@ fn add(schema: Schema, shape: Shape) -> Result<(Schema, ShapeId), SchemaFault>
     requires within { NamesWithin (length schema) (shape_of shape) }
     requires distinct { HasDistinctNames (shape_of shape) }
     ensures ok { IfOk result (IsWith schema (shape_of shape)) }
-    ensures kept { IfOk result (λ r. Keeps 0 schema r.0) }
+    ensures kept { IfOk result (λ r. KeepsShapes 0 schema r.0) }
     ensures refused { IfErr result (IsTooLarge (length schema + 1)) }
 {
     let mut shapes = schema.shapes;
@@ -54,7 +54,7 @@ pub fn seq_of(
 ) -> Result<(Schema, ShapeId), SchemaFault>
     requires { element.0 < length schema }
     ensures ok { IfOk result (IsWith schema (seq_shape element.0)) }
-    ensures kept { IfOk result (λ r. Keeps 0 schema r.0) }
+    ensures kept { IfOk result (λ r. KeepsShapes 0 schema r.0) }
     ensures refused { IfErr result (IsTooLarge (length schema + 1)) }
 {
     add(schema, Shape::Seq(element))
@@ -69,7 +69,7 @@ pub fn option_of(
 ) -> Result<(Schema, ShapeId), SchemaFault>
     requires { content.0 < length schema }
     ensures ok { IfOk result (IsWith schema (option_shape content.0)) }
-    ensures kept { IfOk result (λ r. Keeps 0 schema r.0) }
+    ensures kept { IfOk result (λ r. KeepsShapes 0 schema r.0) }
     ensures refused { IfErr result (IsTooLarge (length schema + 1)) }
 {
     add(schema, Shape::Option(content))
@@ -88,8 +88,8 @@ pub fn map_of(
     requires key_in { key.0 < length keys }
     requires value_in { value.0 < length values }
     ensures ok { IfOk result (IsWith (joined keys values) (map_shape key.0 (length keys + value.0))) }
-    ensures keys_kept { IfOk result (λ r. Keeps 0 keys r.0) }
-    ensures values_kept { IfOk result (λ r. Keeps (length keys) values r.0) }
+    ensures keys_kept { IfOk result (λ r. KeepsShapes 0 keys r.0) }
+    ensures values_kept { IfOk result (λ r. KeepsShapes (length keys) values r.0) }
     ensures refused { IfErr result (IsTooLarge (length keys + length values + 1)) }
 {
     values.is_valid();
@@ -108,7 +108,7 @@ pub fn tuple_of(
     requires { All StartsWithin (parts_of parts.items) }
     ensures ok { IfOk result (IsWith (joined_all [] (parts_of parts.items))
         (tuple_shape (starts_behind 0 (parts_of parts.items)))) }
-    ensures kept { IfOk result (λ r. KeepsAll 0 (parts_of parts.items) r.0) }
+    ensures kept { IfOk result (λ r. KeepsAllShapes 0 (parts_of parts.items) r.0) }
     ensures refused { IfErr result (IsTooLarge (length (joined_all [] (parts_of parts.items)) + 1)) }
 {
     let mut starts = Vec::with_capacity(alloc, parts.len())?;

@@ -2,13 +2,13 @@
 #![tactic(auto)]
 
 mod data;
+mod distinct_names;
 mod expected;
 mod fault;
 mod has_shape;
+mod ids_within;
 mod join;
-mod names;
-mod numbers;
-mod raise;
+mod moved_shapes;
 mod schema;
 mod shape;
 mod text;

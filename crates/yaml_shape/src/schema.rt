@@ -5,12 +5,12 @@ ghost use Rattle.std.specs.Option.{option_map};
 ghost use Rattle.yaml_shape.specs.PlainShape.{option_shape, shape_at};
 ghost use Rattle.yaml_shape.specs.ShapeView.{shape_of};
 ghost use Rattle.yaml_shape.specs.Validity.{IsValidSchema};
-ghost use Rattle.yaml_shape.specs.Refusal.{IsRefused};
+ghost use Rattle.yaml_shape.specs.SchemaRefusal.{IsRefused};
 ghost use Rattle.yaml_shape.specs.Walks.{rank};
 
+use crate::distinct_names::first_repeated;
 use crate::fault::SchemaFault;
-use crate::names::first_repeated;
-use crate::numbers::first_outside;
+use crate::ids_within::first_outside;
 use crate::shape::{Shape, ShapeId};
 use crate::walks::first_cycle;
 use std::alloc::Global;

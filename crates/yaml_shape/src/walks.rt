@@ -8,7 +8,7 @@ ghost use Rattle.std.specs.Prelude.{◌≡◌, ◌≤◌, ℕ, map, length, None
 ghost use Rattle.yaml_shape.specs.ShapeView.{shape_of};
 ghost use Rattle.yaml_shape.specs.Validity.{optional_content, IsCycle};
 ghost use Rattle.yaml_shape.specs.Walks.{led_from, led_on, lesser, IsLeastEnd};
-ghost use Rattle.yaml_shape.specs.Refusal.{IsFirstCycle};
+ghost use Rattle.yaml_shape.specs.SchemaRefusal.{IsFirstCycle};
 
 use crate::shape::Shape;
 use std::alloc::{AllocError, Global};

@@ -2,7 +2,7 @@
 use Rattle.std.specs.Prelude.{◌≡◌, ℕ, ◌<◌, List, length, false, slice_index_or}
 use Rattle.yaml_tree.specs.Equal.{tree_eq}
 use Rattle.yaml_tree.specs.Tree.{Tree}
-use Rattle.yaml_tree.specs.Valid.{TaggedTree, tag_of, content_of}
+use Rattle.yaml_tree.specs.Valid.{TaggedTree, tag_of, content_under_tag}
 use Rattle.yaml_tree.specs.View.{tree_of}
 use Rattle.yaml_tree.specs.declared.mapping.Entry.{Entry}
 use Rattle.yaml_tree.specs.declared.value.Value.{Value}
@@ -34,4 +34,4 @@ SameEntry e f =
 
 -- two tagged values have one text of the tag, and one value
 abbrev pub SameTagged : TaggedTree → TaggedTree → Type 0
-SameTagged s t = (tag_of s ≡ tag_of t) × (content_of s ≡ content_of t)
+SameTagged s t = (tag_of s ≡ tag_of t) × (content_under_tag s ≡ content_under_tag t)

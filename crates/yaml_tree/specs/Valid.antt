@@ -63,12 +63,12 @@ abbrev pub tag_of : TaggedTree → List ℕ
 tag_of t = t.0.0
 
 -- the value under a tagged value's tag
-abbrev pub content_of : TaggedTree → Tree
-content_of t = t.1.0
+abbrev pub content_under_tag : TaggedTree → Tree
+content_under_tag t = t.1.0
 
 -- a tagged value as a tree
 abbrev pub tree_of_tagged : TaggedTree → Tree
-tree_of_tagged t = tagged (tag_of t) (content_of t)
+tree_of_tagged t = tagged (tag_of t) (content_under_tag t)
 
 -- a tree is told from others by itself
 abbrev pub value_tree_code : Coded ValueTree

@@ -41,7 +41,7 @@ pub struct TaggedValue {
 
 impl Model for TaggedValue {
     ghost use Rattle.yaml_tree.specs.Tree.{tree_size};
-    ghost use Rattle.yaml_tree.specs.Valid.{TaggedTree, content_of, tagged_tree_code};
+    ghost use Rattle.yaml_tree.specs.Valid.{TaggedTree, content_under_tag, tagged_tree_code};
 
     ghost Value = { TaggedTree };
 
@@ -52,7 +52,7 @@ impl Model for TaggedValue {
 
     ghost view = { λ t. (text_of_tag t.tag, (tree_of t.value, is_value-tree_of t.value)) };
 
-    ghost size = { λ t. tree_size (content_of t) };
+    ghost size = { λ t. tree_size (content_under_tag t) };
 
     ghost use Rattle.std.proofs.Common.{arith};
     ghost use Rattle.yaml_tree.specs.Falls.{deep-Value_le};

@@ -3,7 +3,7 @@ use Rattle.std.proofs.Common.{◌≡◌, ◌<◌, ℕ, zero, suc, [], ◌∷◌,
 use Rattle.yaml_shape.specs.PlainShape.{PlainShape, any_shape, bool_shape, char_shape, integer_shape, str_shape}
 use Rattle.yaml_shape.specs.PlainShape.{unit_shape}
 use Rattle.yaml_shape.specs.Validity.{NamesWithin, HasDistinctNames, step_from, walk, optional_content}
-use Rattle.yaml_shape.specs.Refusal.{IsRefused, IsFirstWithout}
+use Rattle.yaml_shape.specs.SchemaRefusal.{IsRefused, IsFirstWithout}
 use Rattle.yaml_shape.specs.Join.{IsTooLarge}
 use Rattle.yaml_shape.specs.declared.fault.SchemaFault.{SchemaFault}
 use Rattle.yaml_shape.specs.declared.fault.SchemaFault.TheVariants.{S1, S2, S3, S4, S5}

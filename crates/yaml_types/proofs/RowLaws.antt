@@ -7,13 +7,13 @@ use Rattle.yaml_shape.specs.HasShape.{HasShape, has_shape}
 use Rattle.yaml_shape.specs.declared.data.Data.{Data}
 use Rattle.yaml_types.specs.Start.{Start}
 use Rattle.yaml_types.specs.PartShapes.{items_match}
-use Rattle.yaml_types.specs.Refusal.{IsRefusal}
+use Rattle.yaml_types.specs.BuildRefusal.{IsBuildRefusal}
 use Rattle.yaml_types.specs.declared.fault.BuildFault.{BuildFault}
 use Rattle.yaml_types.specs.declared.fault.BuildFault.TheVariants.{Memory, Message}
 
 -- a fault that is one of some messages is one of more
 pub IsRefusal-more : (P Q : List ℕ → Type 0) (fault : BuildFault) → ((message : List ℕ) → P message → Q message)
-    → IsRefusal P fault → IsRefusal Q fault
+    → IsBuildRefusal P fault → IsBuildRefusal Q fault
 IsRefusal-more P Q Memory more h = tt
 IsRefusal-more P Q (Message text) more h = more _ h
 

@@ -4,7 +4,7 @@ pub mod BuiltParts
 pub mod MapLaws
 pub mod PartShapes
 pub mod PlainLaws
-pub mod Refusal
+pub mod BuildRefusal
 pub mod RefusalParts
 pub mod ReturnLaws
 pub mod ShapeLaws

@@ -9,7 +9,7 @@ use Rattle.yaml_shape.specs.Validity.{AllNameWithin}
 use Rattle.yaml_shape.specs.HasShape.{passes, on_option, on_seq, on_tuple, on_map, has_shape, all_have, each_has}
 use Rattle.yaml_shape.specs.HasShape.{entries_have}
 use Rattle.yaml_shape.specs.Join.{joined, joined_all, starts_behind, StartsWithin, raised}
-use Rattle.yaml_shape.specs.Kept.{KeepsAll}
+use Rattle.yaml_shape.specs.Kept.{KeepsAllShapes}
 use Rattle.yaml_shape.proofs.JoinData.{keeps}
 use Rattle.yaml_shape.proofs.Stands.{stands_first, keeps_all}
 use Rattle.yaml_types.specs.Start.{Start, IsClosed, option_start, seq_start, map_start, tuple_start}
@@ -53,7 +53,7 @@ seq_has s c ds =
     at_last s.0 (seq_shape s.1) (on_seq (λ element. all_have (seq_start s).0 element ds))
     ∙ elements_have s c ds
 
-parts_have : (by : ℕ) (parts : List Start) (whole : List PlainShape) → All StartsWithin parts → KeepsAll by parts whole
+parts_have : (by : ℕ) (parts : List Start) (whole : List PlainShape) → All StartsWithin parts → KeepsAllShapes by parts whole
     → (ds : PlainItems) → each_has whole (starts_behind by parts) ds ≡ items_match parts ds
 parts_have by [] whole w k no_items = refl
 parts_have by [] whole w k (item d ds) = refl

@@ -8,7 +8,7 @@ ghost use Rattle.yaml_shape.specs.HasShape.{HasShape};
 ghost use Rattle.yaml_shape.specs.EqualData.{EqualData};
 ghost use Rattle.yaml_shape.specs.Join.{IsTooLarge};
 ghost use Rattle.yaml_types.specs.Start.{Start, IsStart, IsClosed};
-ghost use Rattle.yaml_types.specs.Refusal.{IsRefusal};
+ghost use Rattle.yaml_types.specs.BuildRefusal.{IsBuildRefusal};
 
 use crate::fault::BuildFault;
 use std::alloc::Global;
@@ -37,7 +37,7 @@ pub trait Deserialize<'de>: Sized {
     fn build(alloc: Global, found: Data<'de>) -> Result<Self, BuildFault>
         requires { HasShape start.0 start.1 (data_of found) }
         ensures ok { IfOk result (built (data_of found.entry)) }
-        ensures refused { IfErr result (IsRefusal (refused (data_of found.entry))) };
+        ensures refused { IfErr result (IsBuildRefusal (refused (data_of found.entry))) };
 
     // The shape is in the table, which names no shape outside.
     ghost closed: { IsClosed start };

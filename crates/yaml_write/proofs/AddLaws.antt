@@ -4,7 +4,7 @@ use Rattle.std.proofs.lemmas.List.{append-nil}
 use Rattle.yaml_base.specs.Answer.{Fails}
 use Rattle.yaml_base.specs.EmitEvents.{PlainEmit}
 use Rattle.yaml_base.specs.declared.error.Cause.{Cause}
-use Rattle.yaml_write.specs.Adds.{Adds, Keeps}
+use Rattle.yaml_write.specs.Adds.{Adds, KeepsEvents}
 use Rattle.yaml_write.specs.Outcomes.{made, joined}
 
 -- a part is made of others, and its events are theirs in a row
@@ -31,28 +31,28 @@ fails-first f (Ok a) second cause h m = absurd (let e = h m in cc)
 fails-first f (Err other) second cause h m = let e = h m in cc
 
 -- what was there is kept
-pub keeps-all : (events : List PlainEmit) → Keeps events events
+pub keeps-all : (events : List PlainEmit) → KeepsEvents events events
 keeps-all events = ([], sym (append-nil events))
 
 -- what was there is kept where it is kept with more behind it
-pub keeps-through : (old mid new : List PlainEmit) → Keeps old mid → Keeps mid new → Keeps old new
+pub keeps-through : (old mid new : List PlainEmit) → KeepsEvents old mid → KeepsEvents mid new → KeepsEvents old new
 keeps-through old mid new first second =
     (first.0 ++ second.0, second.1 ∙ (ap (λ es. es ++ second.0) first.1 ∙ append_assoc old first.0 second.0))
 
 -- what was there is kept where a part was added
 pub keeps-added : {B : Type 0} (view : B → List PlainEmit) (given : Result B Cause) (old new : List PlainEmit)
-    → made (λ part. old ++ view part) given ≡ Ok new → Keeps old new
+    → made (λ part. old ++ view part) given ≡ Ok new → KeepsEvents old new
 keeps-added view (Err cause) old new e = absurd (cc)
 keeps-added view (Ok part) old new e = (view part, let there : old ++ view part ≡ new = cc in sym there)
 
 -- a part was added, and all is kept since
 pub kept-more : {B : Type 0} (view : B → List PlainEmit) (given : Result B Cause) (old mid new : List PlainEmit)
-    → made (λ part. old ++ view part) given ≡ Ok mid → Keeps mid new → Keeps old new
+    → made (λ part. old ++ view part) given ≡ Ok mid → KeepsEvents mid new → KeepsEvents old new
 kept-more view given old mid new e h = keeps-through old mid new (keeps-added view given old mid e) h
 
 -- all is kept, and a part was added since
 pub kept-then : {B : Type 0} (view : B → List PlainEmit) (given : Result B Cause) (old mid new : List PlainEmit)
-    → Keeps old mid → made (λ part. mid ++ view part) given ≡ Ok new → Keeps old new
+    → KeepsEvents old mid → made (λ part. mid ++ view part) given ≡ Ok new → KeepsEvents old new
 kept-then view given old mid new h e = keeps-through old mid new h (keeps-added view given mid new e)
 
 -- the first part was added, and the second is

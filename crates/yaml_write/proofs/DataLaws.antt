@@ -6,7 +6,7 @@ use Rattle.std.specs.declared.alloc.Global.{Global}
 use Rattle.yaml_base.specs.EmitTree.{emit_node, no_emit_nodes, no_emit_pairs}
 use Rattle.yaml_shape.specs.PlainShape.{PlainShape}
 use Rattle.yaml_shape.specs.PlainData.{variant_data}
-use Rattle.yaml_shape.specs.DataView.{data_of, items_view, entry_of, entries_view, text_of}
+use Rattle.yaml_shape.specs.DataView.{data_of, items_view, entry_of, entries_view, text_data_of}
 use Rattle.yaml_shape.specs.ShapeView.{ids_of, fields_of}
 use Rattle.yaml_shape.specs.TextView.{text_bytes}
 use Rattle.yaml_shape.specs.declared.data.Data.{Data, Str, Variant, the_lemmas}
@@ -21,12 +21,12 @@ use Rattle.yaml_write.specs.WrittenValue.{pair_node, pair_before}
 
 -- a text, lent or owned
 pub written-text : (t : List PlainShape) (id : ℕ) (tag : Option (List ℕ)) (text : Text)
-    → written t id tag (text_of text) ≡ Ok (string_node tag (text_bytes text))
+    → written t id tag (text_data_of text) ≡ Ok (string_node tag (text_bytes text))
 written-text t id tag (Borrowed s) = refl
 written-text t id tag (Owned s) = refl
 
 -- a text as data
-pub data_of-Str : (text : Text) → data_of (Str text) ≡ text_of text
+pub data_of-Str : (text : Text) → data_of (Str text) ≡ text_data_of text
 data_of-Str text = search (rules, the_lemmas)
 
 -- a variant as data

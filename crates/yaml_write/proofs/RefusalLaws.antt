@@ -15,7 +15,7 @@ use Rattle.yaml_write.specs.InShape.{inner_shape, element_shape, item_shapes, ke
 use Rattle.yaml_write.specs.InShape.{named_variants}
 use Rattle.yaml_write.specs.LocalTags.{local_tag, value_tag}
 use Rattle.yaml_write.specs.Outcomes.{Outcome, made, joined, under, string_node}
-use Rattle.yaml_write.specs.Refusals.{IsOfData, has_bytes, has_nested_tags}
+use Rattle.yaml_write.specs.WriteRefusals.{IsOfData, has_bytes, has_nested_tags}
 use Rattle.yaml_write.specs.Written.{written, written_tuple, written_struct, written_elements, written_items}
 use Rattle.yaml_write.specs.Written.{written_entries, written_fields, variant_by, content_by}
 use Rattle.yaml_write.specs.WrittenValue.{written_value, written_values, written_pairs, pair_node, pair_before}

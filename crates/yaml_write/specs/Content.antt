@@ -10,8 +10,8 @@ use Rattle.yaml_tree.specs.View.{tree_of}
 use Rattle.yaml_write.specs.Outcomes.{Outcome, plain_node, null_node, string_node}
 use Rattle.yaml_write.specs.Written.{written}
 use Rattle.yaml_write.specs.WrittenValue.{written_value, truth_text}
-use Rattle.yaml_write.specs.declared.content.Content.{Content}
-use Rattle.yaml_write.specs.declared.content.Content.TheVariants as content
+use Rattle.yaml_write.specs.declared.node_content.Content.{Content}
+use Rattle.yaml_write.specs.declared.node_content.Content.TheVariants as content
 
 -- what it is written as
 abbrev pub content_written : Content → Outcome

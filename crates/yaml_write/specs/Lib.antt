@@ -12,6 +12,6 @@ pub mod WrittenEvents
 pub mod Content
 pub mod WrittenTyped
 pub mod Begun
-pub mod Refusals
+pub mod WriteRefusals
 pub mod PartsOf
 pub mod Brackets

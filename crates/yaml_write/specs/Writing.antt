@@ -67,9 +67,9 @@ with_opened w kind tag = record {
 }
 
 -- the end of the innermost collection, and of the document where no other is open
-abbrev pub ending_in : List Open → List PlainEmit
-ending_in [] = []
-ending_in (o ∷ outer) = end_of o.kind ∷ document_end_in outer
+abbrev pub closing_events : List Open → List PlainEmit
+closing_events [] = []
+closing_events (o ∷ outer) = end_of o.kind ∷ document_end_in outer
 
 -- the collections around the innermost
 abbrev pub outer_of : List Open → List Open
@@ -78,4 +78,4 @@ outer_of (o ∷ outer) = outer
 
 -- with the innermost collection closed, and the document where nothing is left open
 abbrev pub with_closed : Writing → Writing
-with_closed w = record { events = w.events ++ ending_in w.opened; opened = outer_of w.opened }
+with_closed w = record { events = w.events ++ closing_events w.opened; opened = outer_of w.opened }

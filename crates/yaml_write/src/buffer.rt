@@ -10,7 +10,7 @@ ghost use Rattle.yaml_write.specs.Adds.{Adds};
 ghost use Rattle.yaml_write.specs.Brackets.{start_by, end_by};
 ghost use Rattle.yaml_write.specs.Outcomes.{plain_node, null_node, string_node};
 
-use crate::refusal::Result;
+use crate::write_refusal::Result;
 use itoa::Integer;
 use std::alloc::Global;
 use std::marker::Model;

@@ -18,13 +18,13 @@ ghost use Rattle.yaml_write.specs.WrittenValue.{pair_node};
 mod variant;
 
 use crate::buffer::EventBuffer;
-use crate::in_shape::{
+use crate::part_shapes::{PartShapes, are_named};
+use crate::shape_lookup::{
     element_shape, id_at, inner_shape, item_shapes, key_shape, named_fields, value_shape,
     variant_at,
 };
-use crate::part_shapes::{PartShapes, are_named};
-use crate::refusal::{Refusal, Result};
 use crate::value::{write_bool, write_value};
+use crate::write_refusal::{Refusal, Result};
 use variant::write_variant;
 use yaml_shape::{Data, Entry, Schema, ShapeId};
 

@@ -4,7 +4,7 @@ ghost use Rattle.std.specs.Prelude.{ℕ, List, Option, IfErr};
 ghost use Rattle.yaml_shape.specs.PlainData.{PlainData};
 ghost use Rattle.yaml_shape.specs.PlainShape.{PlainShape};
 ghost use Rattle.yaml_tree.specs.Tree.{Tree};
-ghost use Rattle.yaml_write.specs.Refusals.{IsOfData};
+ghost use Rattle.yaml_write.specs.WriteRefusals.{IsOfData};
 ghost use Rattle.yaml_write.specs.Written.{written};
 ghost use Rattle.yaml_write.specs.WrittenValue.{written_value};
 

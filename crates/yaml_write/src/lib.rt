@@ -1,18 +1,18 @@
 //! Data to events for an emitter.
 #![tactic(auto)]
 
+mod all_or_none;
 mod buffer;
-mod content;
 mod data;
-mod in_shape;
 pub mod laws;
 mod local_tag;
+mod node_content;
 mod open;
 mod part_shapes;
-mod refusal;
 mod ser;
+mod shape_lookup;
 mod value;
-mod whole;
+mod write_refusal;
 
 pub use open::OpenKind;
 pub use ser::Serializer;

@@ -7,9 +7,9 @@ ghost use Rattle.yaml_base.specs.declared.error.Cause.TheVariants.{Memory};
 ghost use Rattle.yaml_write.specs.Begun.{AreDocuments, IsBegun};
 ghost use Rattle.yaml_write.specs.Opened.{innermost};
 
+mod change;
 mod collection;
 mod part;
-mod place;
 mod value;
 
 use crate::buffer::EventBuffer;

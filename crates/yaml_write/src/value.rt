@@ -16,7 +16,7 @@ ghost use Rattle.yaml_write.specs.WrittenValue.{pair_node, truth_text};
 
 use crate::buffer::EventBuffer;
 use crate::local_tag::value_tag;
-use crate::refusal::{Refusal, Result};
+use crate::write_refusal::{Refusal, Result};
 use yaml_tree::{Mapping, Number, Sequence, TaggedValue, Value};
 
 // A boolean.

@@ -6,7 +6,7 @@ ghost use Rattle.yaml_read.specs.TreeReader.{default_limits};
 ghost use Rattle.serde_yaml.specs.TypedReads.{TypeGives};
 
 use super::input::data_from_events;
-use crate::refusal::{build_refusal, schema_refusal};
+use crate::type_faults::{build_refusal, schema_refusal};
 use std::alloc::Global;
 use yaml_base::{Event, Mark, ParserFault, Result};
 use yaml_read::Limits;

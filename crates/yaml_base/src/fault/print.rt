@@ -2,8 +2,8 @@
 
 ghost use Rattle.std.specs.Prelude.{Some, string_bytes};
 ghost use Rattle.std.specs.Option.{option_map};
-ghost use Rattle.yaml_base.specs.FaultText.{context_debug_part, context_part, fault_debug_text, fault_text};
-ghost use Rattle.yaml_base.specs.FaultText.{kind_debug_part, problem_debug_part, problem_part};
+ghost use Rattle.yaml_base.specs.ParserFaultText.{context_debug_part, context_part, fault_debug_text, parser_fault_text};
+ghost use Rattle.yaml_base.specs.ParserFaultText.{kind_debug_part, problem_debug_part, problem_part};
 
 use crate::fault::{FaultKind, ParserFault};
 use crate::mark::Mark;
@@ -53,7 +53,7 @@ impl fmt::Display for Context<'_> {
 }
 
 impl fmt::Display for ParserFault {
-    ghost output = { λ fault. Some (fault_text fault) };
+    ghost output = { λ fault. Some (parser_fault_text fault) };
 
     fn fmt<W: fmt::Write>(&self, f: &mut fmt::Formatter<W>) -> fmt::Result {
         let problem = self.problem.as_str();

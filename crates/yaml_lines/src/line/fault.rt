@@ -4,7 +4,7 @@ ghost use Rattle.std.specs.Prelude.{◌≡◌, ◌≢◌, string_bytes, IfOk, Ma
 ghost use Rattle.std.specs.Str.{IsUtf8};
 ghost use Rattle.yaml_base.specs.declared.fault.FaultKind.{FaultKind as Kind};
 ghost use Rattle.yaml_lines.specs.Escape.{Spells};
-ghost use Rattle.yaml_lines.specs.FaultText.{kind_name, IsFaultText};
+ghost use Rattle.yaml_lines.specs.SpelledFault.{kind_name, IsSpelledFault};
 ghost use Rattle.yaml_lines.specs.Parses.{Parses};
 
 use crate::escape::unescape;
@@ -44,7 +44,7 @@ fn problem(alloc: Global, text: &[u8]) -> Result<String, LineFault>
 
 /// The fault that stands behind the word for one, at this mark.
 pub fn parse(alloc: Global, text: &[u8], mark: Mark) -> Result<ParserFault, LineFault>
-    ensures says { Parses (λ fault. fault) (IsFaultText text.now) result }
+    ensures says { Parses (λ fault. fault) (IsSpelledFault text.now) result }
     ensures at { IfOk result (λ fault. fault.mark ≡ mark) }
 {
     let (name, text) = cut(text, b' ').ok_or(LineFault::Bad)?;

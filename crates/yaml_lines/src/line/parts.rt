@@ -4,7 +4,7 @@ ghost use Rattle.std.specs.Prelude.{◌≡◌, ◌≢◌, ◌≤◌, ℕ, List, 
 ghost use Rattle.std.specs.Char.{digit_value};
 ghost use Rattle.yaml_base.specs.Position.{Position};
 ghost use Rattle.yaml_lines.specs.Escape.{Lacks};
-ghost use Rattle.yaml_lines.specs.Place.{IsNumber, HasNumber, IsMarked};
+ghost use Rattle.yaml_lines.specs.Place.{IsDecimalNumber, HasNumber, IsMarked};
 
 use yaml_base::Mark;
 
@@ -27,7 +27,7 @@ pub fn cut(text: &[u8], byte: u8) -> Option<(&[u8], &[u8])>
 
 // The number that a text of decimal digits writes, if it is a `u64`.
 fn number(text: &[u8]) -> Option<u64>
-    ensures { MatchOption result ((n : ℕ) → ¬ (IsNumber text.now n)) (IsNumber text.now) }
+    ensures { MatchOption result ((n : ℕ) → ¬ (IsDecimalNumber text.now n)) (IsDecimalNumber text.now) }
 {
     if text.first() == Some(&b'+') {
         return None;

@@ -16,7 +16,7 @@ use Rattle.yaml_shape.specs.Walks.{rank}
 use Rattle.yaml_read.specs.DocTree.{DocNode, DocNodes, DocPairs, first_event}
 use Rattle.yaml_read.specs.Fields.{Fields, Slots}
 use Rattle.yaml_read.specs.Handing.{Handing, handed, early, reach, untaken_reach, depth}
-use Rattle.yaml_read.specs.NodeTags.{Around, around_value}
+use Rattle.yaml_read.specs.NodeTags.{TakenBy, around_value}
 use Rattle.yaml_read.specs.Meaning.{Means, means_node, MeansAs, means_some, means_newtype, means_ignored, means_target}
 use Rattle.yaml_read.specs.Meaning.{means_void, means_scalar, means_list, means_mapping, means_bare, means_struct}
 use Rattle.yaml_read.specs.Meaning.{MeanFields, means_no_fields, means_field, means_unknown, means_variant}
@@ -46,7 +46,7 @@ module _ (table : List PlainShape) (root : DocNode) (marks : ℕ → Position) (
   reader fuel = read_tree table fuel root marks
 
   -- a node, where the fuel is not 0
-  at_node : (fuel : ℕ) (way : Way) (s : PlainShape) (nest : ℕ) (taken : Option Around) (n : DocNode) (at : Spot)
+  at_node : (fuel : ℕ) (way : Way) (s : PlainShape) (nest : ℕ) (taken : Option TakenBy) (n : DocNode) (at : Spot)
       (h : Handing) → early s ≡ None → handed s (is_some taken) (first_event n) ≡ h
       → read_tree table (suc fuel) root marks way s nest taken n at
       ≡ place (places s (is_some taken) (first_event n)) (marks at.place) way
@@ -57,7 +57,7 @@ module _ (table : List PlainShape) (root : DocNode) (marks : ℕ → Position) (
   mutual
     pub tree_outcome : {s : PlainShape} {n : DocNode} {taken : Bool} {v : PlainData} {d k : ℕ}
         → Means table root s n taken v d k
-        → (way : Way) (fuel nest : ℕ) (around : Option Around) (at : Spot) → is_some around ≡ taken
+        → (way : Way) (fuel nest : ℕ) (around : Option TakenBy) (at : Spot) → is_some around ≡ taken
         → depth table s taken nest at.left < fuel
         → Outcome (read_tree table fuel root marks way s nest around n at) v nest at.left d k
     tree_outcome m way zero nest around at is lt = absurd (omega arith)
@@ -69,7 +69,7 @@ module _ (table : List PlainShape) (root : DocNode) (marks : ℕ → Position) (
 
     as_outcome : {h : Handing} {s : PlainShape} {n : DocNode} {taken : Bool} {v : PlainData} {d k : ℕ}
         → MeansAs table root h s n taken v d k
-        → (way : Way) (fuel nest : ℕ) (around : Option Around) (at : Spot) → is_some around ≡ taken
+        → (way : Way) (fuel nest : ℕ) (around : Option TakenBy) (at : Spot) → is_some around ≡ taken
         → From s taken (first_event n) h
         → depth table s taken nest at.left < suc fuel
         → Outcome (handed_by table h (reader fuel) way root marks s nest around n at) v nest at.left d k

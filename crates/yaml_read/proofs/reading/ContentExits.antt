@@ -14,7 +14,7 @@ use Rattle.yaml_tree.specs.Tree as tree
 use Rattle.yaml_read.specs.AnyData.{tree_in, trees_in, pairs_in}
 use Rattle.yaml_read.specs.Fields.{Fields}
 use Rattle.yaml_read.specs.Handing.{as_variant, is_filled_scalar}
-use Rattle.yaml_read.specs.NodeTags.{Around, around_value, untaken_name}
+use Rattle.yaml_read.specs.NodeTags.{TakenBy, around_value, untaken_name}
 use Rattle.yaml_read.specs.Places.{Way, place, places}
 use Rattle.yaml_read.specs.PlainDocEvent.{PlainDocEvent, alias_to, a_scalar, a_void}
 use Rattle.yaml_read.specs.PlainDocEvent.{sequence_begins, sequence_ends, mapping_begins, mapping_ends}
@@ -38,7 +38,7 @@ with_wrap : {A B C : Type 0} (f : A → B) (o : Option PlainShape) (go : PlainSh
 with_wrap f None go = refl
 with_wrap f (Some t) go = refl
 
-module _ (source : Source) (read : Way → Reader) (way : Way) (s : PlainShape) (nest : ℕ) (taken : Option Around)
+module _ (source : Source) (read : Way → Reader) (way : Way) (s : PlainShape) (nest : ℕ) (taken : Option TakenBy)
     (at : Spot) where
   -- what the variant holds that the tag names
   pub enum_content : (name : List ℕ) (variants : Variants) (e : PlainDocEvent) (m : Position) (tag : List ℕ)
@@ -64,7 +64,7 @@ module _ (source : Source) (read : Way → Reader) (way : Way) (s : PlainShape) 
       (step_no_variant source read way nest at name variants e m tag is h none)
 
   -- an enum within what another's tag holds
-  pub enum_nested : (name : List ℕ) (variants : Variants) (around : Around) (e : PlainDocEvent) (m : Position)
+  pub enum_nested : (name : List ℕ) (variants : Variants) (around : TakenBy) (e : PlainDocEvent) (m : Position)
       → s ≡ enum_shape name variants → taken ≡ Some around → Some (e, m) ≡ source.events at.place
       → is_filled_scalar e ≡ false
       → shape_step source read way s nest taken at (source.events at.place)
@@ -80,7 +80,7 @@ module _ (source : Source) (read : Way → Reader) (way : Way) (s : PlainShape) 
   enum_plain name variants e m o k is h = rw (o, k)
       (step_event source read way (enum_shape name variants) nest None at e m is (enum_as_is name variants e h))
 
-  pub enum_taken : (name : List ℕ) (variants : Variants) (around : Around) (e : PlainDocEvent) (m : Position)
+  pub enum_taken : (name : List ℕ) (variants : Variants) (around : TakenBy) (e : PlainDocEvent) (m : Position)
       → s ≡ enum_shape name variants → taken ≡ Some around → Some (e, m) ≡ source.events at.place
       → is_filled_scalar e ≡ true
       → shape_step source read way s nest taken at (source.events at.place)
@@ -90,7 +90,7 @@ module _ (source : Source) (read : Way → Reader) (way : Way) (s : PlainShape) 
       (taken_as_is name variants e h))
 
 -- a node whose fault is placed at it
-module _ (source : Source) (way : Way) (t : PlainShape) (nest : ℕ) (taken : Option Around) (at : Spot) where
+module _ (source : Source) (way : Way) (t : PlainShape) (nest : ℕ) (taken : Option TakenBy) (at : Spot) where
   pub node_placed : (fuel : ℕ) (e : PlainDocEvent) (m : Position) → 0 < fuel → source.events at.place ≡ Some (e, m)
       → places t (is_some taken) e ≡ true
       → node_at source fuel way t nest taken at
@@ -102,7 +102,7 @@ module _ (source : Source) (way : Way) (t : PlainShape) (nest : ℕ) (taken : Op
       ∙ (rw here refl))
 
 -- a node with a tag that is no collection of the variant's own
-module _ (source : Source) (read : Way → Reader) (way : Way) (nest : ℕ) (around : Around) (at : Spot) where
+module _ (source : Source) (read : Way → Reader) (way : Way) (nest : ℕ) (around : TakenBy) (at : Spot) where
   pub other_in_row : (name variant ids : List ℕ) (e : PlainDocEvent) (m : Position) (tag : List ℕ)
       → untaken_name false e ≡ Some tag → takes (tuple_variant_shape name variant ids) e ≡ false
       → event_at source read way (tuple_variant_shape name variant ids) nest (Some around) at e m
@@ -146,7 +146,7 @@ pub only_untaken : (taken : Bool) (e : PlainDocEvent) (name : List ℕ) → unta
 only_untaken true e name h = absurd cc
 only_untaken false e name h = refl
 
-module _ (source : Source) (read : Way → Reader) (way : Way) (s : PlainShape) (nest : ℕ) (taken : Option Around)
+module _ (source : Source) (read : Way → Reader) (way : Way) (s : PlainShape) (nest : ℕ) (taken : Option TakenBy)
     (at : Spot) where
   -- under its tag
   pub any_tagged_step : (name : List ℕ) (e : PlainDocEvent) (m : Position)
@@ -155,7 +155,7 @@ module _ (source : Source) (read : Way → Reader) (way : Way) (s : PlainShape) 
       ≡ wrap (λ v. any_data (tagged name (tree_in v))) (read way any_shape nest (Some around_value) at)
   any_tagged_step name e m o is h = rw o (by_taken taken h)
     where
-      by_taken : (k : Option Around) → untaken_name (is_some k) e ≡ Some name
+      by_taken : (k : Option TakenBy) → untaken_name (is_some k) e ≡ Some name
           → shape_step source read way any_shape nest k at (source.events at.place)
           ≡ wrap (λ v. any_data (tagged name (tree_in v))) (read way any_shape nest (Some around_value) at)
       by_taken None h' = step_tagged source read way nest at name e m is h'

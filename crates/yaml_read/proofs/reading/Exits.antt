@@ -12,7 +12,7 @@ use Rattle.yaml_shape.specs.PlainShape.{PlainShape, option_shape, newtype_shape,
 use Rattle.yaml_shape.specs.declared.data.Entry.{Entry, the_lemmas}
 use Rattle.yaml_read.specs.DocEventView.{doc_event_of}
 use Rattle.yaml_read.specs.Handing.{Handing, as_is, handed, early, is_content}
-use Rattle.yaml_read.specs.NodeTags.{Around}
+use Rattle.yaml_read.specs.NodeTags.{TakenBy}
 use Rattle.yaml_read.specs.Places.{Way}
 use Rattle.yaml_read.specs.PlainDocEvent.{PlainDocEvent, sequence_begins, mapping_begins}
 use Rattle.yaml_read.specs.Rows.{row_of, row_data}
@@ -68,7 +68,7 @@ pub row_late : (s : PlainShape) (name : Option (List ℕ)) (ids : List ℕ) → 
 row_late s None ids h = rw h
 row_late s (Some name) ids h = rw h
 
-module _ (source : Source) (read : Way → Reader) (way : Way) (s : PlainShape) (nest : ℕ) (taken : Option Around)
+module _ (source : Source) (read : Way → Reader) (way : Way) (s : PlainShape) (nest : ℕ) (taken : Option TakenBy)
     (at : Spot) where
   -- no fault comes first
   pub step_late : early s ≡ None → node_step source read way s nest taken at

@@ -11,12 +11,12 @@ use Rattle.yaml_shape.specs.PlainData.{PlainData}
 use Rattle.yaml_shape.specs.PlainShape.{PlainShape, identifier_shape, struct_shape, struct_variant_shape, shape_at}
 use Rattle.yaml_read.specs.Fields.{Fields, Slots, no_slots, name_in, field_named, struct_of}
 use Rattle.yaml_read.specs.Handing.{as_is, as_bare, handed, early, is_bare}
-use Rattle.yaml_read.specs.NodeTags.{Around}
+use Rattle.yaml_read.specs.NodeTags.{TakenBy}
 use Rattle.yaml_read.specs.Places.{Way, place}
 use Rattle.yaml_read.specs.PlainDocEvent.{PlainDocEvent, mapping_begins}
 use Rattle.yaml_read.specs.Steps.{◌>>=◌, ending, wrap, finish}
 use Rattle.yaml_read.specs.TreeReader.{Spot, after, mark_or_first}
-use Rattle.yaml_read.specs.inner.Reader.{Source, Reading, Reader, value_at, text_at, fields_in, skip_at, mapping_parts}
+use Rattle.yaml_read.specs.inner.Reader.{Source, Reading, Reader, value_way, text_at, fields_in, skip_at, mapping_parts}
 use Rattle.yaml_read.specs.inner.Reader.{shape_step, mapping_at, fields_at, field_at, field_key_at}
 use Rattle.yaml_read.proofs.reading.Loops.{entered, too_deep}
 use Rattle.yaml_read.proofs.reading.Exits.{step_event}
@@ -55,7 +55,7 @@ module _ (source : Source) (read : Way → Reader) (way : Way) where
   fields_mapping _ strict fields nest mark at h = absurd cc
 
   -- a struct
-  pub step_struct : (s : PlainShape) (strict : Bool) (fields : Fields) (nest : ℕ) (taken : Option Around) (at : Spot)
+  pub step_struct : (s : PlainShape) (strict : Bool) (fields : Fields) (nest : ℕ) (taken : Option TakenBy) (at : Spot)
       (tag : Option (List ℕ)) (m : Position) → fields_in s ≡ Some (strict, fields)
       → Some (mapping_begins tag, m) ≡ source.events at.place → 0 < nest
       → shape_step source read way s nest taken at (source.events at.place)
@@ -69,7 +69,7 @@ module _ (source : Source) (read : Way → Reader) (way : Way) where
       (mapping_parts source (field_at source read way strict fields n) source.size (no_slots fields) (after at))) nest
       some
 
-  pub step_too_deep : (s : PlainShape) (strict : Bool) (fields : Fields) (nest : ℕ) (taken : Option Around) (at : Spot)
+  pub step_too_deep : (s : PlainShape) (strict : Bool) (fields : Fields) (nest : ℕ) (taken : Option TakenBy) (at : Spot)
       (tag : Option (List ℕ)) (m : Position) → fields_in s ≡ Some (strict, fields)
       → Some (mapping_begins tag, m) ≡ source.events at.place → nest ≡ 0
       → shape_step source read way s nest taken at (source.events at.place) ≡ Err (RecursionLimitExceeded m)
@@ -82,7 +82,7 @@ module _ (source : Source) (read : Way → Reader) (way : Way) where
       none
 
   -- a struct of which no field is there
-  pub step_bare : (s : PlainShape) (strict : Bool) (fields : Fields) (nest : ℕ) (taken : Option Around) (at : Spot)
+  pub step_bare : (s : PlainShape) (strict : Bool) (fields : Fields) (nest : ℕ) (taken : Option TakenBy) (at : Spot)
       (e : PlainDocEvent) (m : Position) → fields_in s ≡ Some (strict, fields)
       → Some (e, m) ≡ source.events at.place → is_bare e ≡ true
       → shape_step source read way s nest taken at (source.events at.place)
@@ -119,10 +119,10 @@ module _ (source : Source) (read : Way → Reader) (way : Way) (strict : Bool) (
       ≡ Ok (k, middle)
       → mark ≡ mark_or_first (source.events (text_at at.place (source.events at.place)))
       → field_key_at source read way strict fields nest slots at
-      ≡ keyed (value_at way (source.events at.place)) middle
+      ≡ keyed (value_way way (source.events at.place)) middle
       (field_named strict fields slots (name_in k) (record { mark = mark; path = way.text }))
   key_looked_up k middle mark h m =
-      rw (h, m) (over (value_at way (source.events at.place)) (field_named strict fields slots (name_in k) _))
+      rw (h, m) (over (value_way way (source.events at.place)) (field_named strict fields slots (name_in k) _))
     where
       over : (w : Way) (r : Result (Option (ℕ × ℕ)) Cause)
           → (◌>>=◌ {A = Option (ℕ × ℕ) × Way} {B = (Option (ℕ × ℕ) × Way) × Spot}

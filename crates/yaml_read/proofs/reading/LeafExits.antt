@@ -8,7 +8,7 @@ use Rattle.yaml_shape.specs.PlainData.{PlainData}
 use Rattle.yaml_shape.specs.PlainShape.{PlainShape, bool_shape, char_shape, integer_shape, str_shape, identifier_shape}
 use Rattle.yaml_shape.specs.PlainShape.{unit_shape, unit_struct_shape}
 use Rattle.yaml_read.specs.Handing.{as_is, handed, early}
-use Rattle.yaml_read.specs.NodeTags.{Around}
+use Rattle.yaml_read.specs.NodeTags.{TakenBy}
 use Rattle.yaml_read.specs.Places.{Way, place, placed, places}
 use Rattle.yaml_read.specs.PlainDocEvent.{PlainDocEvent, alias_to, a_scalar}
 use Rattle.yaml_base.specs.PlainEvent.{PlainScalar}
@@ -50,7 +50,7 @@ leaf_places (unit_struct_shape name) taken e h = refl
 leaf_places _ taken e h = absurd cc
 
 -- a scalar under a shape that reads scalars alone
-pub leaf_scalar : (source : Source) (way : Way) (s : PlainShape) (nest : ℕ) (taken : Option Around) (at : Spot)
+pub leaf_scalar : (source : Source) (way : Way) (s : PlainShape) (nest : ℕ) (taken : Option TakenBy) (at : Spot)
     (fuel : ℕ) (w : PlainScalar) (m : Position)
     → 0 < fuel → is_leaf s ≡ true → source.events at.place ≡ Some (a_scalar w, m)
     → node_at source fuel way s nest taken at ≡ place true m way (ending (after at) (scalar_answer s (is_some taken) w))

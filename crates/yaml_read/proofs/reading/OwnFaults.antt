@@ -26,10 +26,11 @@ use Rattle.yaml_tree.specs.Integer.{is_number}
 use Rattle.yaml_tree.specs.Mapping.{has_key}
 use Rattle.yaml_read.specs.AnyData.{tree_in, pairs_in, new_key}
 use Rattle.yaml_read.specs.CoreTags.{int_tag}
+use Rattle.yaml_read.specs.Kinds.{is_option}
 use Rattle.yaml_read.specs.Fields.{Fields, Slots, find, known_field, field_named, field_step, field_data, all_fields}
-use Rattle.yaml_read.specs.Fields.{struct_of, is_free, is_option}
+use Rattle.yaml_read.specs.Fields.{struct_of, is_free}
 use Rattle.yaml_read.specs.Handing.{early, refusal}
-use Rattle.yaml_read.specs.NodeTags.{Around}
+use Rattle.yaml_read.specs.NodeTags.{TakenBy}
 use Rattle.yaml_read.specs.Places.{Way, place, placed}
 use Rattle.yaml_read.specs.PlainDocEvent.{PlainDocEvent}
 use Rattle.yaml_read.specs.Presence.{is_absent, is_empty_plain, null_fault}
@@ -43,8 +44,8 @@ use Rattle.yaml_read.specs.ScalarShapes.{signed_text, unsigned_text, plain_text}
 use Rattle.yaml_read.specs.ScalarSorts.{sort_of}
 use Rattle.yaml_read.specs.Steps.{◌>>=◌, ending, wrap, finish, enter, follow, with_shape, unless}
 use Rattle.yaml_read.specs.Variants.{Variants, variant_named, bare_variant, named_variant}
-use Rattle.yaml_read.specs.declared.de.sort.ScalarSort.{ScalarSort}
-use Rattle.yaml_read.specs.declared.de.sort.ScalarSort.TheVariants as sort
+use Rattle.yaml_read.specs.declared.de.scalar.sort.ScalarSort.{ScalarSort}
+use Rattle.yaml_read.specs.declared.de.scalar.sort.ScalarSort.TheVariants as sort
 
 -- the fault does not say that there are other documents
 abbrev pub IsOwn : Cause → Type 0
@@ -311,7 +312,7 @@ pub own_new_key : (before : List (PlainData × PlainData)) (k : PlainData) → O
 own_new_key before k =
     own_if (has_key (tree_in k) (pairs_in (entries_of before))) _ _ (own_fault _ tt) (own_value k)
 
-pub own_refusal : (s : PlainShape) (taken : Option Around) (e : PlainDocEvent) → IsOwn (refusal s taken e)
+pub own_refusal : (s : PlainShape) (taken : Option TakenBy) (e : PlainDocEvent) → IsOwn (refusal s taken e)
 own_refusal s (Some around) e = tt
 own_refusal (shape.enum_shape n vs) None e = tt
 own_refusal s None e = tt

@@ -12,7 +12,7 @@ use Rattle.yaml_read.specs.Ends.{is_closing}
 use Rattle.yaml_read.specs.Fields.{Fields, Slots, no_slots}
 use Rattle.yaml_read.specs.Handing.{Handing, as_is, as_some, as_newtype, as_ignored, as_bare, as_variant, as_tagged}
 use Rattle.yaml_read.specs.Handing.{as_refused, handed}
-use Rattle.yaml_read.specs.NodeTags.{Around, around_value}
+use Rattle.yaml_read.specs.NodeTags.{TakenBy, around_value}
 use Rattle.yaml_read.specs.Places.{Way, places}
 use Rattle.yaml_read.specs.PlainDocEvent.{PlainDocEvent, alias_to, a_scalar, a_void}
 use Rattle.yaml_read.specs.PlainDocEvent.{sequence_begins, sequence_ends, mapping_begins, mapping_ends}
@@ -52,7 +52,7 @@ module _ {S : Type 0} (is_end : PlainDocEvent → Bool) (step : S → Spot → R
       own_turn (each_at is_end step events n) s at (events at.place) (λ t to. own_each events n t to)
 
 module _ (source : Source) (read : Way → Reader)
-    (own : (way : Way) (s : PlainShape) (nest : ℕ) (taken : Option Around) (at : Spot)
+    (own : (way : Way) (s : PlainShape) (nest : ℕ) (taken : Option TakenBy) (at : Spot)
     → Own (read way s nest taken at)) where
   own_pursue : (way : Way) (s : PlainShape) (nest : ℕ) (j p left : ℕ)
       → Own (pursue (read way s nest None) j p left)
@@ -142,7 +142,7 @@ module _ (source : Source) (read : Way → Reader)
       (own_each is_mapping_end (any_entry_at source read way n) (own_any_entry way n) source.events source.size [] at))
   own_mapping way s nest mark at = own_fault _ tt
 
-  own_event : (way : Way) (s : PlainShape) (nest : ℕ) (taken : Option Around) (at : Spot) (e : PlainDocEvent)
+  own_event : (way : Way) (s : PlainShape) (nest : ℕ) (taken : Option TakenBy) (at : Spot) (e : PlainDocEvent)
       (mark : Position) → Own (event_at source read way s nest taken at e mark)
   own_event way s nest taken at (alias_to j) mark = own_pursue way s nest j at.place at.left
   own_event way s nest taken at (a_scalar w) mark =
@@ -153,7 +153,7 @@ module _ (source : Source) (read : Way → Reader)
   own_event way s nest taken at mapping_ends mark = own_fault _ tt
   own_event way s nest taken at a_void mark = own_ending (after at) (void_answer s) (own_void s)
 
-  own_handed : (h : Handing) (way : Way) (s : PlainShape) (nest : ℕ) (taken : Option Around) (at : Spot)
+  own_handed : (h : Handing) (way : Way) (s : PlainShape) (nest : ℕ) (taken : Option TakenBy) (at : Spot)
       (e : PlainDocEvent) (mark : Position) → Own (handed_at source h read way s nest taken at e mark)
   own_handed as_is way s nest taken at e mark = own_event way s nest taken at e mark
   own_handed (as_some c) way s nest taken at e mark =
@@ -168,7 +168,7 @@ module _ (source : Source) (read : Way → Reader)
       own_wrap _ _ (own way shape.any_shape nest (Some around_value) at)
   own_handed as_refused way s nest taken at e mark = own_fault _ (own_refusal s taken e)
 
-  own_step : (way : Way) (s : PlainShape) (nest : ℕ) (taken : Option Around) (at : Spot)
+  own_step : (way : Way) (s : PlainShape) (nest : ℕ) (taken : Option TakenBy) (at : Spot)
       (e : Option (PlainDocEvent × Position))
       → Own (place_at way s (is_some taken) e (node_step source read way s nest taken at))
   own_step way s nest taken at e = own_placed e (own_unless s _ (own_shape (source.events at.place)))
@@ -183,7 +183,7 @@ module _ (source : Source) (read : Way → Reader)
       own_placed (Some e) h = own_place (places s (is_some taken) e.0) e.1 way _ h
 
 -- a node
-pub own_node : (source : Source) (fuel : ℕ) (way : Way) (s : PlainShape) (nest : ℕ) (taken : Option Around) (at : Spot)
+pub own_node : (source : Source) (fuel : ℕ) (way : Way) (s : PlainShape) (nest : ℕ) (taken : Option TakenBy) (at : Spot)
     → Own (node_at source fuel way s nest taken at)
 unfolding node_at
 own_node source zero way s nest taken at = own_fault _ tt

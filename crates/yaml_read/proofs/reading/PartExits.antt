@@ -11,7 +11,7 @@ use Rattle.yaml_read.specs.Places.{Way}
 use Rattle.yaml_read.specs.Rows.{row_step}
 use Rattle.yaml_read.specs.Steps.{wrap}
 use Rattle.yaml_read.specs.TreeReader.{Spot}
-use Rattle.yaml_read.specs.inner.Reader.{Source, Reader, value_at, entry_at}
+use Rattle.yaml_read.specs.inner.Reader.{Source, Reader, value_way, entry_at}
 
 module _ (source : Source) (read : Way → Reader) (way : Way) (s t : PlainShape) (nest : ℕ)
     (vs : List (PlainData × PlainData)) (at : Spot) where
@@ -19,12 +19,12 @@ module _ (source : Source) (read : Way → Reader) (way : Way) (s t : PlainShape
   no_key x h = rw h
 
   pub no_value : (k : PlainData) (middle : Spot) (x : Cause) → read way s nest None at ≡ Ok (k, middle)
-      → read (value_at way (source.events at.place)) t nest None middle ≡ Err x
+      → read (value_way way (source.events at.place)) t nest None middle ≡ Err x
       → entry_at source read way s t nest vs at ≡ Err x
   no_value k middle x h h' = rw (h, h')
 
   pub one_entry : (k v : PlainData) (middle next : Spot) → read way s nest None at ≡ Ok (k, middle)
-      → read (value_at way (source.events at.place)) t nest None middle ≡ Ok (v, next)
+      → read (value_way way (source.events at.place)) t nest None middle ≡ Ok (v, next)
       → entry_at source read way s t nest vs at ≡ Ok (vs ++ (k, v) ∷ [], next)
   one_entry k v middle next h h' = rw (h, h')
 

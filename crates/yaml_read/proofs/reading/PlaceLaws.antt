@@ -9,7 +9,7 @@ use Rattle.yaml_base.specs.declared.error.Cause.TheVariants.{Memory}
 use Rattle.yaml_base.specs.declared.error.Place.{Place}
 use Rattle.yaml_shape.specs.PlainShape.{PlainShape}
 use Rattle.std.specs.Option.{is_some}
-use Rattle.yaml_read.specs.NodeTags.{Around}
+use Rattle.yaml_read.specs.NodeTags.{TakenBy}
 use Rattle.yaml_read.specs.Places.{Way, placed, place, places}
 use Rattle.yaml_read.specs.PlainDocEvent.{PlainDocEvent}
 use Rattle.yaml_read.specs.TreeReader.{Answer, Spot}
@@ -35,7 +35,7 @@ filled_memory Memory p = refl
 filled_memory _ p = refl
 
 -- a node's reading is its step, with its fault placed
-pub node_unfolds : (source : Source) (way : Way) (s : PlainShape) (nest : ℕ) (taken : Option Around) (at : Spot)
+pub node_unfolds : (source : Source) (way : Way) (s : PlainShape) (nest : ℕ) (taken : Option TakenBy) (at : Spot)
     (fuel : ℕ) → 0 < fuel
     → node_at source fuel way s nest taken at ≡ place_at way s (is_some taken) (source.events at.place)
     (node_step source (node_at source (fuel - 1)) way s nest taken at)

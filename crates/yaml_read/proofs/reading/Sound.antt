@@ -15,7 +15,7 @@ use Rattle.yaml_read.specs.DocTree.{DocNode, DocPairs, nothing, reference, word,
 use Rattle.yaml_read.specs.Fields.{no_slots, struct_of}
 use Rattle.yaml_read.specs.Handing.{Handing, as_is, as_some, as_newtype, as_ignored, as_bare, as_variant, as_tagged}
 use Rattle.yaml_read.specs.Handing.{as_refused, handed, early, refusal}
-use Rattle.yaml_read.specs.NodeTags.{Around, around_value}
+use Rattle.yaml_read.specs.NodeTags.{TakenBy, around_value}
 use Rattle.yaml_read.specs.Meaning.{Means, means_node, MeansAs, means_some, means_newtype, means_ignored, means_target}
 use Rattle.yaml_read.specs.Meaning.{means_void, means_scalar, means_mapping, means_bare, means_struct, means_variant}
 use Rattle.yaml_read.specs.Meaning.{means_tagged, means_struct_variant, means_any_mapping, means_map}
@@ -94,7 +94,7 @@ module _ (table : List PlainShape) (root : DocNode) (marks : ℕ → Position) w
           followed = omega (arith, f.followed);
         }
 
-    node_sound : (s : PlainShape) (nest : ℕ) (taken : Option Around) (n : DocNode) (at : Spot)
+    node_sound : (s : PlainShape) (nest : ℕ) (taken : Option TakenBy) (n : DocNode) (at : Spot)
         → IfData (λ x. Found (MeansAs table root as_is s n (is_some taken) x.0) nest at.left x.1)
         (node_by table read way root marks s nest taken n at)
     node_sound s nest taken nothing at =
@@ -117,7 +117,7 @@ module _ (table : List PlainShape) (root : DocNode) (marks : ℕ → Position) w
     node_sound s nest taken (mapping tag ps) at =
         mapping_sound s nest (is_some taken) tag ps (marks at.place) (after at)
 
-    handed_sound : (h : Handing) (s : PlainShape) (nest : ℕ) (taken : Option Around) (n : DocNode) (at : Spot)
+    handed_sound : (h : Handing) (s : PlainShape) (nest : ℕ) (taken : Option TakenBy) (n : DocNode) (at : Spot)
         → IfData (λ x. Found (MeansAs table root h s n (is_some taken) x.0) nest at.left x.1)
         (handed_by table h read way root marks s nest taken n at)
     handed_sound as_is s nest taken n at = node_sound s nest taken n at
@@ -164,7 +164,7 @@ module _ (table : List PlainShape) (root : DocNode) (marks : ℕ → Position) w
         record { d = f.d; k = f.k; meaning = means_tagged f.meaning; nested = f.nested; followed = f.followed })
     handed_sound as_refused s nest taken n at = data_err _ (refusal s taken (first_event n))
 
-    step_sound : (s : PlainShape) (nest : ℕ) (taken : Option Around) (n : DocNode) (at : Spot)
+    step_sound : (s : PlainShape) (nest : ℕ) (taken : Option TakenBy) (n : DocNode) (at : Spot)
         → IfData (λ x. Found (Means table root s n (is_some taken) x.0) nest at.left x.1)
         (unless (early s) (handed_by table (handed s (is_some taken) (first_event n)) read way root marks s nest taken n
         at))

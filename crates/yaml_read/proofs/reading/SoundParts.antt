@@ -9,7 +9,7 @@ use Rattle.yaml_shape.specs.PlainShape.{PlainShape, any_shape}
 use Rattle.yaml_tree.specs.Mapping.{has_key, keys_distinct}
 use Rattle.yaml_read.specs.AnyData.{tree_in, new_key}
 use Rattle.yaml_read.specs.DocTree.{DocNode, DocNodes, DocPairs, no_nodes, node, no_pairs, pair, first_event}
-use Rattle.yaml_read.specs.NodeTags.{Around}
+use Rattle.yaml_read.specs.NodeTags.{TakenBy}
 use Rattle.yaml_read.specs.Meaning.{Means, MeanEach, means_none, means_more, MeanPairs, means_no_pairs, means_pair}
 use Rattle.yaml_read.specs.Places.{Way, element_under, value_under}
 use Rattle.yaml_read.specs.TreeReader.{any_key_of, Spot, behind, each_node, each_pair, TreeReader, item_of, key_of}
@@ -35,7 +35,7 @@ pub record Gathered {A : Type 0} (M : List A → ℕ → ℕ → Type 0) (before
 module _ (table : List PlainShape) (root : DocNode) where
   -- each answer of the reader is a meaning
   abbrev pub IsSound : TreeReader → Type 0
-  IsSound read = (s : PlainShape) (nest : ℕ) (taken : Option Around) (n : DocNode) (at : Spot)
+  IsSound read = (s : PlainShape) (nest : ℕ) (taken : Option TakenBy) (n : DocNode) (at : Spot)
       → IfData (λ x. Found (Means table root s n (is_some taken) x.0) nest at.left x.1) (read s nest taken n at)
 
   module _ (read : Way → TreeReader) (sound : (w : Way) → IsSound (read w)) (way : Way) where

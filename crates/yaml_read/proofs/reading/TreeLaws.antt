@@ -12,7 +12,7 @@ use Rattle.yaml_read.specs.DocTree.{events_of_pairs, node_of, first_event}
 use Rattle.yaml_read.specs.Fields.{Fields, no_slots, struct_of}
 use Rattle.yaml_read.specs.Handing.{Handing, as_is, as_some, as_newtype, as_ignored, as_bare, as_variant, as_tagged}
 use Rattle.yaml_read.specs.Handing.{as_refused, is_bare, handed, early}
-use Rattle.yaml_read.specs.NodeTags.{Around, around_value}
+use Rattle.yaml_read.specs.NodeTags.{TakenBy, around_value}
 use Rattle.yaml_read.specs.Places.{Way, places, place}
 use Rattle.yaml_read.specs.PlainDocEvent.{PlainDocEvent, alias_to, sequence_ends, mapping_ends}
 use Rattle.yaml_read.specs.ScalarShapes.{scalar_answer, void_answer}
@@ -61,7 +61,7 @@ module _ (source : Source) (within : (p : ℕ) (e : PlainDocEvent × Position) �
         back q (Err y) mid end h = rw h
 
     -- a node by its kind
-    node_tied : (s : PlainShape) (nest : ℕ) (taken : Option Around) (n : DocNode) (at : Spot) (mark : Position)
+    node_tied : (s : PlainShape) (nest : ℕ) (taken : Option TakenBy) (n : DocNode) (at : Spot) (mark : Position)
         → source.events at.place ≡ Some (first_event n, mark)
         → Shows source.events at.place (events_of n)
         → event_at source read way s nest taken at (first_event n) mark
@@ -106,7 +106,7 @@ module _ (source : Source) (within : (p : ℕ) (e : PlainDocEvent × Position) �
     bare_tied fields (mapping tag ps) at bare = absurd cc
 
     -- a node as it is handed on
-    handed_tied : (h : Handing) (s : PlainShape) (nest : ℕ) (taken : Option Around) (n : DocNode) (at : Spot)
+    handed_tied : (h : Handing) (s : PlainShape) (nest : ℕ) (taken : Option TakenBy) (n : DocNode) (at : Spot)
         (mark : Position)
         → handed s (is_some taken) (first_event n) ≡ h
         → source.events at.place ≡ Some (first_event n, mark) → Shows source.events at.place (events_of n)
@@ -131,7 +131,7 @@ module _ (source : Source) (within : (p : ℕ) (e : PlainDocEvent × Position) �
         (tied way any_shape nest (Some around_value) n at sh)
     handed_tied as_refused s nest taken n at mark to here sh = refl
 
-    step_tied : (s : PlainShape) (nest : ℕ) (taken : Option Around) (n : DocNode) (at : Spot)
+    step_tied : (s : PlainShape) (nest : ℕ) (taken : Option TakenBy) (n : DocNode) (at : Spot)
         → Shows source.events at.place (events_of n)
         → shape_step source read way s nest taken at (source.events at.place)
         ≡ landed (at.place + length (events_of n)) (handed_by source.table

@@ -13,7 +13,7 @@ use Rattle.yaml_tree.specs.Tree.{sequence}
 use Rattle.yaml_read.specs.AnyData.{trees_in}
 use Rattle.yaml_read.specs.DocTree.{DocNode, DocNodes, nothing, reference, word, list, mapping, events_of}
 use Rattle.yaml_read.specs.DocTree.{events_of_nodes, events_of_pairs}
-use Rattle.yaml_read.specs.NodeTags.{Around}
+use Rattle.yaml_read.specs.NodeTags.{TakenBy}
 use Rattle.yaml_read.specs.Places.{Way, element_under}
 use Rattle.yaml_read.specs.PlainDocEvent.{PlainDocEvent, sequence_ends, mapping_ends}
 use Rattle.yaml_read.specs.Rows.{row_of, row_step, row_data}
@@ -27,7 +27,7 @@ use Rattle.yaml_read.proofs.reading.TreeWalks.{nodes_tied}
 module _ (source : Source) where
   -- a reader by places answers what a reader of trees answers
   abbrev pub AreTied : Reader → TreeReader → Type 0
-  AreTied read tree = (s : PlainShape) (nest : ℕ) (taken : Option Around) (n : DocNode) (at : Spot)
+  AreTied read tree = (s : PlainShape) (nest : ℕ) (taken : Option TakenBy) (n : DocNode) (at : Spot)
       → Shows source.events at.place (events_of n)
       → read s nest taken at ≡ landed (at.place + length (events_of n)) (tree s nest taken n at)
 

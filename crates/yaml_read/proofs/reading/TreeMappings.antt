@@ -17,7 +17,7 @@ use Rattle.yaml_read.specs.Steps.{◌>>=◌, wrap, finish}
 use Rattle.yaml_read.specs.TreeReader.{Spot, TreeReader, key_of, value_of, fields_by, mapping_of, field_key}
 use Rattle.yaml_read.specs.TreeReader.{field_value, any_key_of, mark_or_first}
 use Rattle.yaml_read.specs.inner.Reader.{field_key_at, field_value_at, any_key_at, text_at, Source, Reader, fields_at}
-use Rattle.yaml_read.specs.inner.Reader.{skip_at, value_at, mapping_at}
+use Rattle.yaml_read.specs.inner.Reader.{skip_at, value_way, mapping_at}
 use Rattle.yaml_read.proofs.reading.Shown.{Shows, begins}
 use Rattle.yaml_read.proofs.reading.TreeWalks.{landed, landed_wrap, landed_enter, landed_with, landed_finish}
 use Rattle.yaml_read.proofs.reading.TreeWalks.{pairs_tied}
@@ -38,15 +38,15 @@ module _ (source : Source) (within : (p : ℕ) (e : PlainDocEvent × Position) �
     (way : Way) where
   -- a key, and the way to its value
   key_tied : (s : PlainShape) (nest : ℕ) (m : DocNode) (at : Spot) → Shows source.events at.place (events_of m)
-      → wrap {B = Way × PlainData} (λ k. (value_at way (source.events at.place), k)) (read way s nest None at)
+      → wrap {B = Way × PlainData} (λ k. (value_way way (source.events at.place), k)) (read way s nest None at)
       ≡ landed (at.place + length (events_of m)) (wrap {B = Way × PlainData}
       (λ k. (value_under way (first_event m), k)) (tree way s nest None m at))
   key_tied s nest m at h =
       let here = begins source.events at.place m h in
-      landed_wrap {B = Way × PlainData} _ (λ k. (value_at way (source.events at.place), k)) _ _
+      landed_wrap {B = Way × PlainData} _ (λ k. (value_way way (source.events at.place), k)) _ _
       (tied way s nest None m at h)
       ∙ ap (λ w. landed (at.place + length (events_of m))
-      (wrap {B = Way × PlainData} (λ k. (w, k)) (tree way s nest None m at))) (ap (value_at way) here.1)
+      (wrap {B = Way × PlainData} (λ k. (w, k)) (tree way s nest None m at))) (ap (value_way way) here.1)
 
   -- a key of any values, and the way to its value
   any_key_tied : (nest : ℕ) (vs : List (PlainData × PlainData)) (m : DocNode) (at : Spot)
@@ -56,11 +56,11 @@ module _ (source : Source) (within : (p : ℕ) (e : PlainDocEvent × Position) �
   any_key_tied nest vs m at h =
       let here = begins source.events at.place m h in
       landed_finish (at.place + length (events_of m))
-      (λ k. new_key vs k >>= λ k. Ok (value_at way (source.events at.place), k)) _ _
+      (λ k. new_key vs k >>= λ k. Ok (value_way way (source.events at.place), k)) _ _
       (tied way any_shape nest None m at h)
       ∙ ap (λ w. landed (at.place + length (events_of m))
       (finish (λ k. new_key vs k >>= λ k. Ok (w, k)) (tree way any_shape nest None m at)))
-      (ap (value_at way) here.1)
+      (ap (value_way way) here.1)
 
   -- the key of a field, with the way to its value
   field_key_tied : (strict : Bool) (fields : Fields) (nest : ℕ) (slots : Slots) (m : DocNode) (at : Spot)
@@ -73,11 +73,11 @@ module _ (source : Source) (within : (p : ℕ) (e : PlainDocEvent × Position) �
       ∙ marked (text_place (first_event m) at.place) in
       landed_finish (at.place + length (events_of m))
       (named way strict fields slots (mark_or_first (source.events (text_at at.place (source.events at.place))))
-      (value_at way (source.events at.place)))
+      (value_way way (source.events at.place)))
       _ _ (tied way identifier_shape nest None m at h)
       ∙ ap₂ (λ p w. landed (at.place + length (events_of m))
       (finish (named way strict fields slots p w) (tree way identifier_shape nest None m at)))
-      mark (ap (value_at way) here.1)
+      mark (ap (value_way way) here.1)
 
   -- the value of a field, or of a name that is none
   field_value_tied : (nest : ℕ) (slots : Slots) (k : Option (ℕ × ℕ) × Way) (n : DocNode) (at : Spot)
@@ -121,7 +121,7 @@ module _ (source : Source) (within : (p : ℕ) (e : PlainDocEvent × Position) �
       (λ s is. landed_with _ (shape_at source.table b) _ _ (λ t is'.
       landed_wrap _ (λ vs. map_data (entries_of vs)) _ _
       (pairs_tied source.events source.size within
-      (λ vs q. wrap {B = Way × PlainData} (λ k. (value_at way (source.events q.place), k)) (read way s n None q))
+      (λ vs q. wrap {B = Way × PlainData} (λ k. (value_way way (source.events q.place), k)) (read way s n None q))
       (λ vs k q. wrap (λ v. vs ++ (k.1, v) ∷ []) (read k.0 t n None q)) (key_of tree way s n) (value_of tree t n)
       (λ vs m q h. key_tied s n m q h) (λ vs k m q h. landed_wrap _ (λ v. vs ++ (k.1, v) ∷ []) _ _
       (tied k.0 t n None m q h)) source.size [] ps at sh (omega arith)))))

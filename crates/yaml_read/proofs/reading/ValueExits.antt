@@ -15,7 +15,7 @@ use Rattle.yaml_tree.specs.Tree as tree
 use Rattle.yaml_read.specs.AnyData.{tree_in, trees_in, pairs_in, new_key}
 use Rattle.yaml_read.specs.Fields.{Fields}
 use Rattle.yaml_read.specs.Handing.{as_is, as_variant, as_tagged, as_refused, handed, early, is_filled_scalar}
-use Rattle.yaml_read.specs.NodeTags.{Around, around_value, untaken_name}
+use Rattle.yaml_read.specs.NodeTags.{TakenBy, around_value, untaken_name}
 use Rattle.yaml_read.specs.Places.{Way, places}
 use Rattle.yaml_read.specs.PlainDocEvent.{PlainDocEvent, sequence_begins, mapping_begins}
 use Rattle.yaml_read.specs.Rows.{row_of, row_data}
@@ -23,7 +23,7 @@ use Rattle.yaml_read.specs.Steps.{wrap, finish}
 use Rattle.yaml_read.specs.TreeReader.{Spot, after}
 use Rattle.yaml_read.specs.Variants.{Variants, variant_named, unknown_variant}
 use Rattle.yaml_read.specs.inner.Reader.{Source, Reader, item_at, any_entry_at, row_at, rows_at, rows_in, fields_in}
-use Rattle.yaml_read.specs.inner.Reader.{sequence_at, value_at}
+use Rattle.yaml_read.specs.inner.Reader.{sequence_at, value_way}
 use Rattle.yaml_read.specs.inner.Reader.{sequence_parts, mapping_parts, shape_step}
 use Rattle.yaml_read.proofs.reading.Exits.{step_event, step_handed}
 use Rattle.yaml_read.proofs.reading.Loops.{entered, too_deep}
@@ -110,7 +110,7 @@ module _ (source : Source) (read : Way → Reader) (way : Way) (nest : ℕ) (at 
       (any_tagged e name h)
 
   -- any values
-  pub step_any_list : (taken : Option Around) (tag : Option (List ℕ)) (m : Position)
+  pub step_any_list : (taken : Option TakenBy) (tag : Option (List ℕ)) (m : Position)
       → untaken_name (is_some taken) (sequence_begins tag) ≡ None
       → Some (sequence_begins tag, m) ≡ source.events at.place → 0 < nest
       → shape_step source read way any_shape nest taken at (source.events at.place)
@@ -123,7 +123,7 @@ module _ (source : Source) (read : Way → Reader) (way : Way) (nest : ℕ) (at 
       (λ n. wrap (λ vs. any_data (sequence (trees_in (items_of vs))))
       (sequence_parts source (item_at read way any_shape n) source.size [] (after at))) nest some
 
-  pub step_any_mapping : (taken : Option Around) (tag : Option (List ℕ)) (m : Position)
+  pub step_any_mapping : (taken : Option TakenBy) (tag : Option (List ℕ)) (m : Position)
       → untaken_name (is_some taken) (mapping_begins tag) ≡ None
       → Some (mapping_begins tag, m) ≡ source.events at.place → 0 < nest
       → shape_step source read way any_shape nest taken at (source.events at.place)
@@ -161,7 +161,7 @@ module _ (source : Source) (read : Way → Reader) (way : Way) (nest : ℕ) (at 
       ∙ (rw h refl)
 
   -- an enum within what another's tag holds
-  pub step_nested : (name : List ℕ) (variants : Variants) (around : Around) (e : PlainDocEvent) (m : Position)
+  pub step_nested : (name : List ℕ) (variants : Variants) (around : TakenBy) (e : PlainDocEvent) (m : Position)
       → Some (e, m) ≡ source.events at.place → is_filled_scalar e ≡ false
       → shape_step source read way (enum_shape name variants) nest (Some around) at (source.events at.place)
       ≡ Err (NestedEnum around.name around.variant None)
@@ -180,7 +180,7 @@ module _ (source : Source) (read : Way → Reader) (way : Way) (nest : ℕ) (at 
       ap (λ (r : List ℕ × List ℕ). rows_at source read way r.0 r.1 nest mark at) (row_is h)
   rows_sequence _ few ids mark at h = absurd cc
 
-  pub step_rows : (s : PlainShape) (few ids : List ℕ) (taken : Option Around) (tag : Option (List ℕ)) (m : Position)
+  pub step_rows : (s : PlainShape) (few ids : List ℕ) (taken : Option TakenBy) (tag : Option (List ℕ)) (m : Position)
       → rows_in s ≡ Some (few, ids)
       → Some (sequence_begins tag, m) ≡ source.events at.place → 0 < nest
       → shape_step source read way s nest taken at (source.events at.place)
@@ -194,7 +194,7 @@ module _ (source : Source) (read : Way → Reader) (way : Way) (nest : ℕ) (at 
       (λ n. finish (row_data few (length ids))
       (sequence_parts source (row_at source read way n) source.size (row_of ids) (after at))) nest some
 
-  pub step_rows_deep : (s : PlainShape) (few ids : List ℕ) (taken : Option Around) (tag : Option (List ℕ))
+  pub step_rows_deep : (s : PlainShape) (few ids : List ℕ) (taken : Option TakenBy) (tag : Option (List ℕ))
       (m : Position) → rows_in s ≡ Some (few, ids)
       → Some (sequence_begins tag, m) ≡ source.events at.place → nest ≡ 0
       → shape_step source read way s nest taken at (source.events at.place) ≡ Err (RecursionLimitExceeded m)
@@ -218,11 +218,11 @@ module _ (source : Source) (read : Way
   any_repeated k middle x h again = rw (h, again) refl
 
   pub any_no_value : (k : PlainData) (middle : Spot) (x : Cause) → read way any_shape nest None at ≡ Ok (k, middle)
-      → new_key vs k ≡ Ok k → read (value_at way (source.events at.place)) any_shape nest None middle ≡ Err x
+      → new_key vs k ≡ Ok k → read (value_way way (source.events at.place)) any_shape nest None middle ≡ Err x
       → any_entry_at source read way nest vs at ≡ Err x
   any_no_value k middle x h new h' = rw (h, new, h') refl
 
   pub any_entry : (k v : PlainData) (middle next : Spot) → read way any_shape nest None at ≡ Ok (k, middle)
-      → new_key vs k ≡ Ok k → read (value_at way (source.events at.place)) any_shape nest None middle ≡ Ok (v, next)
+      → new_key vs k ≡ Ok k → read (value_way way (source.events at.place)) any_shape nest None middle ≡ Ok (v, next)
       → any_entry_at source read way nest vs at ≡ Ok (vs ++ (k, v) ∷ [], next)
   any_entry k v middle next h new h' = rw (h, new, h') refl

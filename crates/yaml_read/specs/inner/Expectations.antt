@@ -10,11 +10,11 @@ use Rattle.yaml_base.specs.declared.found.Found.TheVariants as found
 use Rattle.yaml_shape.specs.Expected.{expected_text, tuple_variant_text, struct_variant_text}
 use Rattle.yaml_shape.specs.ShapeView.{shape_of}
 use Rattle.yaml_read.specs.ScalarFound.{wrong_type, wrong_value, found_kind, found_integer, wanted_text}
-use Rattle.yaml_read.specs.declared.de.expected.Expected.{Expected}
-use Rattle.yaml_read.specs.declared.de.expected.Expected.TheVariants as expect
-use Rattle.yaml_read.specs.declared.de.sort.ScalarSort.{ScalarSort}
-use Rattle.yaml_read.specs.declared.de.sort.ScalarSort.TheVariants.{NoText, TaggedBool, TaggedInt, TaggedFloat}
-use Rattle.yaml_read.specs.declared.de.sort.ScalarSort.TheVariants.{TaggedNull, Resolved, String}
+use Rattle.yaml_read.specs.declared.de.scalar.expected.Expected.{Expected}
+use Rattle.yaml_read.specs.declared.de.scalar.expected.Expected.TheVariants as expect
+use Rattle.yaml_read.specs.declared.de.scalar.sort.ScalarSort.{ScalarSort}
+use Rattle.yaml_read.specs.declared.de.scalar.sort.ScalarSort.TheVariants.{NoText, TaggedBool, TaggedInt, TaggedFloat}
+use Rattle.yaml_read.specs.declared.de.scalar.sort.ScalarSort.TheVariants.{TaggedNull, Resolved, String}
 
 -- what is expected, as faults tell it
 abbrev pub expected_of : Expected → List ℕ

@@ -20,7 +20,7 @@ use Rattle.yaml_read.specs.Fields.{Fields, Slots, no_slots, name_in, field_named
 use Rattle.yaml_read.specs.Handing.{Handing, as_is, as_some, as_newtype, as_ignored, as_bare, as_variant, as_tagged}
 use Rattle.yaml_read.specs.Handing.{as_refused}
 use Rattle.yaml_read.specs.Handing.{handed, early, refusal}
-use Rattle.yaml_read.specs.NodeTags.{Around, around_value}
+use Rattle.yaml_read.specs.NodeTags.{TakenBy, around_value}
 use Rattle.yaml_read.specs.Places.{Way, element_under, value_under, places, place, text_place}
 use Rattle.yaml_read.specs.PlainDocEvent.{PlainDocEvent, alias_to, a_scalar, a_void}
 use Rattle.yaml_read.specs.PlainDocEvent.{sequence_begins, sequence_ends, mapping_begins, mapping_ends}
@@ -79,12 +79,12 @@ each_at is_end step events (suc n) s at = turn is_end step (each_at is_end step 
 
 -- reads what a shape, a number of nestings left, what took the tag, if it is taken, and a spot ask for
 abbrev pub Reader : Type 0
-Reader = PlainShape → (nest : ℕ) → (taken : Option Around) → Spot → Reading PlainData
+Reader = PlainShape → (nest : ℕ) → (taken : Option TakenBy) → Spot → Reading PlainData
 
 -- the way to the value behind a key whose first event was looked up
-abbrev pub value_at : Way → Option (PlainDocEvent × Position) → Way
-value_at way None = way
-value_at way (Some e) = value_under way e.0
+abbrev pub value_way : Way → Option (PlainDocEvent × Position) → Way
+value_way way None = way
+value_way way (Some e) = value_under way e.0
 
 -- where the text of a key stands whose first event was looked up
 abbrev pub text_at : ℕ → Option (PlainDocEvent × Position) → ℕ
@@ -107,14 +107,14 @@ module _ (source : Source) where
       → Spot
       → Reading (List (PlainData × PlainData))
   entry_at read way s t nest vs at =
-      wrap {B = Way × PlainData} (λ k. (value_at way (source.events at.place), k)) (read way s nest None at)
+      wrap {B = Way × PlainData} (λ k. (value_way way (source.events at.place), k)) (read way s nest None at)
       >>= λ k. wrap (λ v. vs ++ (k.0.1, v) ∷ []) (read k.0.0 t nest None k.1)
 
   -- a key of any values, no two of which are equal, and then its value
   abbrev pub any_key_at : (Way → Reader) → Way → (nest : ℕ) → List (PlainData × PlainData) → Spot
       → Reading (Way × PlainData)
   any_key_at read way nest vs at =
-      finish (λ k. new_key vs k >>= λ k. Ok (value_at way (source.events at.place), k))
+      finish (λ k. new_key vs k >>= λ k. Ok (value_way way (source.events at.place), k))
       (read way any_shape nest None at)
 
   abbrev pub any_entry_at : (Way → Reader) → Way → (nest : ℕ) → List (PlainData × PlainData) → Spot
@@ -148,7 +148,7 @@ module _ (source : Source) where
   field_key_at read way strict fields nest slots at =
       finish (λ k. field_named strict fields slots (name_in k)
       (record { mark = mark_or_first (source.events (text_at at.place (source.events at.place))); path = way.text })
-      >>= λ f. Ok (f, value_at way (source.events at.place))) (read way identifier_shape nest None at)
+      >>= λ f. Ok (f, value_way way (source.events at.place))) (read way identifier_shape nest None at)
 
   abbrev pub field_value_at : (Way → Reader) → (nest : ℕ) → Slots → Option (ℕ × ℕ) × Way → Spot → Reading Slots
   field_value_at read nest slots k at =
@@ -206,7 +206,7 @@ module _ (source : Source) where
   mapping_at read way s nest mark at = Err (mapping_fault s)
 
   -- a node that begins with an event, by its kind
-  abbrev pub event_at : (Way → Reader) → Way → PlainShape → ℕ → Option Around → Spot → PlainDocEvent → Position
+  abbrev pub event_at : (Way → Reader) → Way → PlainShape → ℕ → Option TakenBy → Spot → PlainDocEvent → Position
       → Reading PlainData
   event_at read way s nest taken at (alias_to j) mark = pursue (read way s nest None) j at.place at.left
   event_at read way s nest taken at (a_scalar w) mark = ending (after at) (scalar_answer s (is_some taken) w)
@@ -217,7 +217,7 @@ module _ (source : Source) where
   event_at read way s nest taken at a_void mark = ending (after at) (void_answer s)
 
   -- the same, as it is handed on
-  abbrev pub handed_at : Handing → (Way → Reader) → Way → PlainShape → ℕ → Option Around → Spot → PlainDocEvent
+  abbrev pub handed_at : Handing → (Way → Reader) → Way → PlainShape → ℕ → Option TakenBy → Spot → PlainDocEvent
       → Position → Reading PlainData
   handed_at as_is read way s nest taken at e mark = event_at read way s nest taken at e mark
   handed_at (as_some c) read way s nest taken at e mark =
@@ -235,14 +235,14 @@ module _ (source : Source) where
   handed_at as_refused read way s nest taken at e mark = Err (refusal s taken e)
 
   -- a node whose first event was looked up
-  abbrev pub shape_step : (Way → Reader) → Way → PlainShape → ℕ → Option Around → Spot
+  abbrev pub shape_step : (Way → Reader) → Way → PlainShape → ℕ → Option TakenBy → Spot
       → Option (PlainDocEvent × Position) → Reading PlainData
   shape_step read way s nest taken at None = Err EndOfStream
   shape_step read way s nest taken at (Some e) =
       handed_at (handed s (is_some taken) e.0) read way s nest taken at e.0 e.1
 
   -- the same, where no fault comes first
-  abbrev pub node_step : (Way → Reader) → Way → PlainShape → ℕ → Option Around → Spot → Reading PlainData
+  abbrev pub node_step : (Way → Reader) → Way → PlainShape → ℕ → Option TakenBy → Spot → Reading PlainData
   node_step read way s nest taken at = unless (early s) (shape_step read way s nest taken at (source.events at.place))
 
   -- A node. The first number bounds the depth; more than `depth` tells is always enough. Beyond it, as beyond

@@ -15,16 +15,16 @@ use Rattle.yaml_shape.specs.ShapeView.{content_of}
 use Rattle.yaml_shape.specs.declared.shape.VariantShape.{VariantShape}
 use Rattle.yaml_read.specs.DocEventView.{marked_events_of}
 use Rattle.yaml_read.specs.Fields.{Fields, Slots}
-use Rattle.yaml_read.specs.NodeTags.{Around}
-use Rattle.yaml_read.specs.declared.de.around.Around.{Around as CodeAround}
+use Rattle.yaml_read.specs.NodeTags.{TakenBy}
+use Rattle.yaml_read.specs.declared.de.taken_tag.TakenBy.{TakenBy as CodeAround}
 use Rattle.yaml_read.specs.Rows.{Row}
 use Rattle.yaml_read.specs.TreeReader.{Spot}
 use Rattle.yaml_read.specs.declared.doc_event.DocEvent.{DocEvent}
 use Rattle.yaml_read.specs.declared.walk.Walk.{Walk}
-use Rattle.yaml_read.specs.declared.de.row.Elements.{Elements}
-use Rattle.yaml_read.specs.declared.de.row.Owner.{Owner as CodeOwner}
-use Rattle.yaml_read.specs.declared.de.row.Owner.TheVariants as owner
-use Rattle.yaml_read.specs.declared.de.source.Source.{Source as CodeSource}
+use Rattle.yaml_read.specs.declared.de.node.tuple_length.Elements.{Elements}
+use Rattle.yaml_read.specs.declared.de.node.tuple_length.Owner.{Owner as CodeOwner}
+use Rattle.yaml_read.specs.declared.de.node.tuple_length.Owner.TheVariants as owner
+use Rattle.yaml_read.specs.declared.de.node.source.Source.{Source as CodeSource}
 use Rattle.yaml_read.specs.inner.Reader.{Source, Events, Reader, node_at, Owner, of_tuple, of_tuple_struct}
 use Rattle.yaml_read.specs.inner.Reader.{of_tuple_variant}
 use Rattle.yaml_read.specs.Places.{Way}
@@ -47,10 +47,10 @@ abbrev pub reader_of : ℕ → CodeSource → Way → Reader
 reader_of fuel c = node_at (source_of c) fuel
 
 -- what took a tag, where something did
-abbrev pub plain_around : CodeAround → Around
+abbrev pub plain_around : CodeAround → TakenBy
 plain_around a = record { name = a.name.now; variant = a.variant.now }
 
-abbrev pub around_of : Option (Bor CodeAround) → Option Around
+abbrev pub around_of : Option (Bor CodeAround) → Option TakenBy
 around_of = option_map (λ a. plain_around a.now)
 
 -- the spot of a walk
@@ -109,7 +109,7 @@ Costs n old new = new.steps.count ≤ old.steps.count + potential n old
 -- The walk went over a node: it is further on, within the document, with no more follows left, each event that it
 -- passed is
 -- counted, and the steps taken and the steps that may follow are together no more than before.
-abbrev pub Moves : (n : ℕ) → Walk → Walk → Type 0
-Moves n old new = (old.place < new.place) × (new.place ≤ n) × (new.left ≤ old.left)
+abbrev pub MovesOn : (n : ℕ) → Walk → Walk → Type 0
+MovesOn n old new = (old.place < new.place) × (new.place ≤ n) × (new.left ≤ old.left)
     × (old.steps.count + new.place ≤ new.steps.count + old.place)
     × (new.steps.count + potential n new ≤ old.steps.count + potential n old)

@@ -1,5 +1,22 @@
 //! A node under a shape: the walk through a document.
 
+mod any_node;
+mod any_parts;
+mod collection_part;
+mod content_mismatch;
+mod enums;
+mod fault_place;
+mod field_index;
+mod field_slots;
+mod mapping;
+mod optional;
+mod sequence;
+mod skip;
+pub(crate) mod source;
+mod structs;
+mod tuple;
+mod tuple_length;
+
 ghost use Rattle.std.specs.Prelude.{◌≡◌, ℕ, suc, ◌<◌, length, OnOk, true, false};
 ghost use Rattle.std.specs.Option.{is_some};
 ghost use Rattle.yaml_base.specs.Answer.{Gives, is_memory};
@@ -13,13 +30,13 @@ ghost use Rattle.yaml_read.specs.Ends.{GoForward};
 ghost use Rattle.yaml_read.specs.Handing.{depth};
 ghost use Rattle.yaml_read.specs.Places.{way_of};
 ghost use Rattle.yaml_read.specs.inner.Reader.{event_at, node_step, takes, is_leaf};
-ghost use Rattle.yaml_read.specs.inner.Walks.{around_of, source_of, spot_of, reader_of, Moves, Costs};
+ghost use Rattle.yaml_read.specs.inner.Walks.{around_of, source_of, spot_of, reader_of, MovesOn, Costs};
 
-use crate::de::around::{Around, is_taken};
-use crate::de::found::{found_mapping, found_sequence};
-use crate::de::refusal::{Refusal, Result, ended, refuse};
+use crate::de::node::source::Source;
+use crate::de::read_refusal::{Refusal, Result, ended, refuse};
+use crate::de::scalar::mismatch::{found_mapping, found_sequence};
 use crate::de::scalar::{read_scalar, read_void};
-use crate::de::source::Source;
+use crate::de::taken_tag::{TakenBy, is_taken};
 use crate::doc_event::DocEvent;
 use crate::walk::Walk;
 use std::alloc::Global;
@@ -68,7 +85,7 @@ impl<'s, 'de> Source<'s, 'de> {
         path: &Path<'_>,
         shape: &Shape,
         nest: u8,
-        taken: Option<&Around<'_>>,
+        taken: Option<&TakenBy<'_>>,
         walk: &mut Walk,
     ) -> Result<Data<'de>>
         requires named { NamesWithin (length self.now.schema.now) (shape_of shape.now) }
@@ -78,7 +95,7 @@ impl<'s, 'de> Source<'s, 'de> {
             → Gives (λ x. (data_of x, spot_of walk.new)) result
             (reader_of fuel self.now (way_of path.now) (shape_of shape.now) nest (around_of taken.entry)
             (spot_of walk.old)) }
-        ensures moves { OnOk result (Moves (length self.now.events.now) walk.old walk.new) }
+        ensures moves { OnOk result (MovesOn (length self.now.events.now) walk.old walk.new) }
         ensures cost { Costs (length self.now.events.now) walk.old walk.new }
     {
         let start = walk.place;
@@ -95,7 +112,7 @@ impl<'s, 'de> Source<'s, 'de> {
         path: &Path<'_>,
         shape: &Shape,
         nest: u8,
-        taken: Option<&Around<'_>>,
+        taken: Option<&TakenBy<'_>>,
         walk: &mut Walk,
     ) -> Result<Data<'de>>
         requires named { NamesWithin (length self.now.schema.now) (shape_of shape.now) }
@@ -105,7 +122,7 @@ impl<'s, 'de> Source<'s, 'de> {
             → Gives (λ x. (data_of x, spot_of walk.new)) result
             (node_step (source_of self.now) (reader_of fuel self.now) (way_of path.now) (shape_of shape.now) nest
             (around_of taken.entry) (spot_of walk.old)) }
-        ensures moves { OnOk result (Moves (length self.now.events.now) walk.old walk.new) }
+        ensures moves { OnOk result (MovesOn (length self.now.events.now) walk.old walk.new) }
         ensures cost { Costs (length self.now.events.now) walk.old walk.new }
     {
         match shape {
@@ -169,7 +186,7 @@ impl<'s, 'de> Source<'s, 'de> {
         shape: &Shape,
         event: &DocEvent<'de>,
         nest: u8,
-        taken: Option<&Around<'_>>,
+        taken: Option<&TakenBy<'_>>,
         walk: &mut Walk,
     ) -> Result<Data<'de>>
         requires named { NamesWithin (length self.now.schema.now) (shape_of shape.now) }
@@ -182,7 +199,7 @@ impl<'s, 'de> Source<'s, 'de> {
             (event_at (source_of self.now) (reader_of fuel self.now) (way_of path.now) (shape_of shape.now) nest
             (around_of taken.entry)
             (spot_of walk.old) (doc_event_of event.now) mark) }
-        ensures moves { OnOk result (Moves (length self.now.events.now) walk.old walk.new) }
+        ensures moves { OnOk result (MovesOn (length self.now.events.now) walk.old walk.new) }
         ensures cost { Costs (length self.now.events.now) walk.old walk.new }
     {
         walk.step();
@@ -218,7 +235,7 @@ impl<'s, 'de> Source<'s, 'de> {
         path: &Path<'_>,
         shape: &Shape,
         nest: u8,
-        taken: Option<&Around<'_>>,
+        taken: Option<&TakenBy<'_>>,
         walk: &mut Walk,
     ) -> Result<Data<'de>>
         requires leaf { is_leaf (shape_of shape.now) ≡ true }
@@ -229,7 +246,7 @@ impl<'s, 'de> Source<'s, 'de> {
             → Gives (λ x. (data_of x, spot_of walk.new)) result
             (node_step (source_of self.now) (reader_of fuel self.now) (way_of path.now) (shape_of shape.now) nest
             (around_of taken.entry) (spot_of walk.old)) }
-        ensures moves { OnOk result (Moves (length self.now.events.now) walk.old walk.new) }
+        ensures moves { OnOk result (MovesOn (length self.now.events.now) walk.old walk.new) }
         ensures cost { Costs (length self.now.events.now) walk.old walk.new }
     {
         let Some((event, _)) = self.event(walk.place) else {

@@ -11,7 +11,7 @@ impl<'de> Deserialize<'de> for bool {
     ghost use Rattle.yaml_shape.specs.PlainShape.{bool_shape};
     ghost use Rattle.yaml_types.specs.Start.{leaf_start};
     ghost use Rattle.yaml_types.specs.Built.{BuiltBool};
-    ghost use Rattle.yaml_types.specs.Refusal.{NeverRefused};
+    ghost use Rattle.yaml_types.specs.BuildRefusal.{NeverRefused};
     ghost use Rattle.yaml_types.specs.StartLaws.{closed_leaf};
 
     ghost start = { leaf_start bool_shape };

@@ -4,7 +4,7 @@ ghost use Rattle.std.specs.Prelude.{IsTrue, IfOk, IfErr};
 ghost use Rattle.yaml_shape.specs.DataView.{items_view};
 ghost use Rattle.yaml_shape.specs.HasShape.{all_have};
 ghost use Rattle.yaml_types.specs.BuiltParts.{BuiltItems};
-ghost use Rattle.yaml_types.specs.Refusal.{IsRefusal};
+ghost use Rattle.yaml_types.specs.BuildRefusal.{IsBuildRefusal};
 ghost use Rattle.yaml_types.specs.RefusalParts.{RefusedItems};
 
 use crate::fault::BuildFault;
@@ -20,7 +20,7 @@ fn build_items<'de, T: Deserialize<'de> + Drop>(
 ) -> Result<Vec<T>, BuildFault>
     requires { IsTrue (all_have T.start.0 T.start.1 (items_view items.items)) }
     ensures ok { IfOk result (λ values. BuiltItems T.built (items_view items.entry.items) values.items) }
-    ensures refused { IfErr result (IsRefusal (RefusedItems T.built T.refused (items_view items.entry.items))) }
+    ensures refused { IfErr result (IsBuildRefusal (RefusedItems T.built T.refused (items_view items.entry.items))) }
 {
     let mut values = Vec::with_capacity(alloc, items.len())?;
     for item in items {

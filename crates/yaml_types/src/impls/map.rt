@@ -5,7 +5,7 @@ ghost use Rattle.yaml_shape.specs.DataView.{entry_of, entries_view};
 ghost use Rattle.yaml_shape.specs.HasShape.{HasShape};
 ghost use Rattle.yaml_types.specs.BuiltParts.{BuiltBoth, BuiltEntries};
 ghost use Rattle.yaml_types.specs.PartShapes.{entries_match};
-ghost use Rattle.yaml_types.specs.Refusal.{IsRefusal};
+ghost use Rattle.yaml_types.specs.BuildRefusal.{IsBuildRefusal};
 ghost use Rattle.yaml_types.specs.RefusalParts.{RefusedBoth, RefusedEntries};
 
 use crate::fault::BuildFault;
@@ -23,7 +23,7 @@ fn build_both<'de, K: Deserialize<'de> + Drop, V: Deserialize<'de>>(
     requires key { HasShape K.start.0 K.start.1 (entry_of pair).0 }
     requires value { HasShape V.start.0 V.start.1 (entry_of pair).1 }
     ensures ok { IfOk result (BuiltBoth K.built V.built (entry_of pair.entry)) }
-    ensures refused { IfErr result (IsRefusal (RefusedBoth K.built K.refused V.refused (entry_of pair.entry))) }
+    ensures refused { IfErr result (IsBuildRefusal (RefusedBoth K.built K.refused V.refused (entry_of pair.entry))) }
 {
     let Entry { key, value } = pair;
     let key = match K::build(alloc, key) {
@@ -47,7 +47,7 @@ fn build_entries<'de, K: Deserialize<'de> + Ord + Drop, V: Deserialize<'de> + Dr
     requires { IsTrue (entries_match K.start V.start (entries_view entries.items)) }
     ensures ok { IfOk result (λ map. BuiltEntries K.cmp K.built V.built (entries_view entries.entry.items) []
         map.entries) }
-    ensures refused { IfErr result (IsRefusal (RefusedEntries K.built V.built K.refused V.refused
+    ensures refused { IfErr result (IsBuildRefusal (RefusedEntries K.built V.built K.refused V.refused
         (entries_view entries.entry.items))) }
 {
     let mut map = BTreeMap::new(alloc);

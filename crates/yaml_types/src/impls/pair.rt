@@ -4,7 +4,7 @@ ghost use Rattle.std.specs.Prelude.{[], ◌∷◌, IsTrue, IfOk, IfErr};
 ghost use Rattle.yaml_shape.specs.DataView.{items_view};
 ghost use Rattle.yaml_types.specs.BuiltParts.{BuiltTwo};
 ghost use Rattle.yaml_types.specs.PartShapes.{items_match};
-ghost use Rattle.yaml_types.specs.Refusal.{IsRefusal};
+ghost use Rattle.yaml_types.specs.BuildRefusal.{IsBuildRefusal};
 ghost use Rattle.yaml_types.specs.RefusalParts.{RefusedTwo};
 
 use crate::fault::BuildFault;
@@ -20,7 +20,7 @@ fn build_two<'de, A: Deserialize<'de> + Drop, B: Deserialize<'de>>(
 ) -> Result<(A, B), BuildFault>
     requires { IsTrue (items_match (A.start ∷ B.start ∷ []) (items_view items.items)) }
     ensures ok { IfOk result (BuiltTwo A.built B.built (items_view items.entry.items)) }
-    ensures refused { IfErr result (IsRefusal (RefusedTwo A.built A.refused B.refused
+    ensures refused { IfErr result (IsBuildRefusal (RefusedTwo A.built A.refused B.refused
         (items_view items.entry.items))) }
 {
     let mut items = items.into_iter();

@@ -6,7 +6,7 @@ ghost use Rattle.yaml_shape.specs.HasShape.{HasShape};
 ghost use Rattle.yaml_shape.specs.Join.{IsTooLarge};
 ghost use Rattle.yaml_shape.specs.PlainShape.{str_shape};
 ghost use Rattle.yaml_types.specs.Built.{BuiltStr};
-ghost use Rattle.yaml_types.specs.Refusal.{IsRefusal, RefusedStr};
+ghost use Rattle.yaml_types.specs.BuildRefusal.{IsBuildRefusal, RefusedStr};
 ghost use Rattle.yaml_types.specs.Start.{IsStart, leaf_start};
 
 use crate::fault::BuildFault;
@@ -20,7 +20,7 @@ impl<'de> Deserialize<'de> for String {
     ghost use Rattle.yaml_shape.specs.PlainShape.{str_shape};
     ghost use Rattle.yaml_types.specs.Start.{leaf_start};
     ghost use Rattle.yaml_types.specs.Built.{BuiltString};
-    ghost use Rattle.yaml_types.specs.Refusal.{NeverRefused};
+    ghost use Rattle.yaml_types.specs.BuildRefusal.{NeverRefused};
     ghost use Rattle.yaml_types.specs.StartLaws.{closed_leaf};
 
     ghost start = { leaf_start str_shape };
@@ -85,7 +85,7 @@ impl<'de> Deserialize<'de> for &'de str {
     ghost use Rattle.yaml_shape.specs.PlainShape.{str_shape};
     ghost use Rattle.yaml_types.specs.Start.{leaf_start};
     ghost use Rattle.yaml_types.specs.Built.{BuiltStr};
-    ghost use Rattle.yaml_types.specs.Refusal.{RefusedStr};
+    ghost use Rattle.yaml_types.specs.BuildRefusal.{RefusedStr};
     ghost use Rattle.yaml_types.specs.StartLaws.{closed_leaf};
 
     ghost start = { leaf_start str_shape };
@@ -106,7 +106,7 @@ impl<'de> Deserialize<'de> for &'de str {
     fn build(alloc: Global, found: Data<'de>) -> Result<&'de str, BuildFault>
         requires { HasShape (str_shape ∷ []) 0 (data_of found) }
         ensures ok { IfOk result (BuiltStr (data_of found.entry)) }
-        ensures refused { IfErr result (IsRefusal (RefusedStr (data_of found.entry))) }
+        ensures refused { IfErr result (IsBuildRefusal (RefusedStr (data_of found.entry))) }
     {
         match found {
             Data::Str(Text::Borrowed(text)) => Ok(text),

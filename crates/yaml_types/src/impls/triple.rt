@@ -4,7 +4,7 @@ ghost use Rattle.std.specs.Prelude.{[], ◌∷◌, IsTrue, IfOk, IfErr};
 ghost use Rattle.yaml_shape.specs.DataView.{items_view};
 ghost use Rattle.yaml_types.specs.BuiltParts.{BuiltThree};
 ghost use Rattle.yaml_types.specs.PartShapes.{items_match};
-ghost use Rattle.yaml_types.specs.Refusal.{IsRefusal};
+ghost use Rattle.yaml_types.specs.BuildRefusal.{IsBuildRefusal};
 ghost use Rattle.yaml_types.specs.RefusalParts.{RefusedThree};
 
 use crate::fault::BuildFault;
@@ -20,7 +20,7 @@ fn build_three<'de, A: Deserialize<'de> + Drop, B: Deserialize<'de> + Drop, C: D
 ) -> Result<(A, B, C), BuildFault>
     requires { IsTrue (items_match (A.start ∷ B.start ∷ C.start ∷ []) (items_view items.items)) }
     ensures ok { IfOk result (BuiltThree A.built B.built C.built (items_view items.entry.items)) }
-    ensures refused { IfErr result (IsRefusal (RefusedThree A.built B.built A.refused B.refused C.refused
+    ensures refused { IfErr result (IsBuildRefusal (RefusedThree A.built B.built A.refused B.refused C.refused
         (items_view items.entry.items))) }
 {
     let mut items = items.into_iter();

@@ -12,7 +12,7 @@ impl<'de> Deserialize<'de> for Value {
     ghost use Rattle.yaml_shape.specs.PlainShape.{any_shape};
     ghost use Rattle.yaml_types.specs.Start.{leaf_start};
     ghost use Rattle.yaml_types.specs.Built.{BuiltValue};
-    ghost use Rattle.yaml_types.specs.Refusal.{NeverRefused};
+    ghost use Rattle.yaml_types.specs.BuildRefusal.{NeverRefused};
     ghost use Rattle.yaml_types.specs.StartLaws.{closed_leaf};
 
     ghost start = { leaf_start any_shape };

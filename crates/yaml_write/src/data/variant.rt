@@ -14,7 +14,7 @@ use super::{write_collection, write_data};
 use crate::buffer::EventBuffer;
 use crate::local_tag::local_tag;
 use crate::part_shapes::PartShapes;
-use crate::refusal::{Refusal, Result};
+use crate::write_refusal::{Refusal, Result};
 use yaml_shape::{Data, Schema, ShapeId, VariantShape};
 
 // Whether the variant has content.

@@ -1,7 +1,7 @@
 //! The calls that write a part of the innermost open collection.
 
 ghost use Rattle.std.specs.Prelude.{◌≡◌, None, Ok};
-ghost use Rattle.yaml_write.specs.Adds.{Writes};
+ghost use Rattle.yaml_write.specs.Adds.{WritesOrStays};
 ghost use Rattle.yaml_write.specs.Opened.{AwaitsElement, AwaitsField, AwaitsNamedField, AwaitsKey};
 ghost use Rattle.yaml_write.specs.Opened.{AwaitsValue};
 ghost use Rattle.yaml_write.specs.Outcomes.{joined, made, string_node};
@@ -10,7 +10,7 @@ ghost use Rattle.yaml_write.specs.WrittenTyped.{typed_written};
 ghost use Rattle.yaml_write.specs.WrittenValue.{pair_node};
 
 use super::Serializer;
-use crate::content::Content;
+use crate::node_content::Content;
 use yaml_base::Result;
 use yaml_shape::Typed;
 
@@ -19,7 +19,7 @@ impl Serializer {
     /// tag, are refused.
     pub fn serialize_element(&mut self, value: &Typed<'_, '_>) -> Result<()>
         requires { AwaitsElement self.old.opened }
-        ensures { Writes (with_node self.old) (typed_written None value.now)
+        ensures { WritesOrStays (with_node self.old) (typed_written None value.now)
             self.old self.new result }
     {
         self.serialize_typed(value)
@@ -29,7 +29,7 @@ impl Serializer {
     /// Bytes, and a tag upon a tag, are refused.
     pub fn serialize_field(&mut self, value: &Typed<'_, '_>) -> Result<()>
         requires { AwaitsField self.old.opened }
-        ensures { Writes (with_node self.old) (typed_written None value.now)
+        ensures { WritesOrStays (with_node self.old) (typed_written None value.now)
             self.old self.new result }
     {
         self.serialize_typed(value)
@@ -39,7 +39,7 @@ impl Serializer {
     /// innermost open collection, and awaits no value. Bytes, and a tag upon a tag, are refused.
     pub fn serialize_struct_field(&mut self, key: &str, value: &Typed<'_, '_>) -> Result<()>
         requires { AwaitsNamedField self.old.opened }
-        ensures { Writes (with_both self.old)
+        ensures { WritesOrStays (with_both self.old)
             (made (pair_node (string_node None key.now)) (typed_written None value.now))
             self.old self.new result }
     {
@@ -53,7 +53,7 @@ impl Serializer {
     /// tag, are refused.
     pub fn serialize_key(&mut self, value: &Typed<'_, '_>) -> Result<()>
         requires { AwaitsKey self.old.opened }
-        ensures { Writes (with_node self.old) (typed_written None value.now)
+        ensures { WritesOrStays (with_node self.old) (typed_written None value.now)
             self.old self.new result }
     {
         self.serialize_typed(value)
@@ -63,7 +63,7 @@ impl Serializer {
     /// Bytes, and a tag upon a tag, are refused.
     pub fn serialize_value(&mut self, value: &Typed<'_, '_>) -> Result<()>
         requires { AwaitsValue self.old.opened }
-        ensures { Writes (with_node self.old) (typed_written None value.now)
+        ensures { WritesOrStays (with_node self.old) (typed_written None value.now)
             self.old self.new result }
     {
         self.serialize_typed(value)
@@ -73,7 +73,7 @@ impl Serializer {
     /// a tag upon a tag, are refused.
     pub fn serialize_entry(&mut self, key: &Typed<'_, '_>, value: &Typed<'_, '_>) -> Result<()>
         requires { AwaitsKey self.old.opened }
-        ensures { Writes (with_both self.old)
+        ensures { WritesOrStays (with_both self.old)
             (joined pair_node (typed_written None key.now) (typed_written None value.now))
             self.old self.new result }
     {

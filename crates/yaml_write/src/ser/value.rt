@@ -8,7 +8,7 @@ ghost use Rattle.yaml_base.specs.declared.emitter.AskedStyle.TheVariants.{Single
 ghost use Rattle.yaml_base.specs.declared.error.Cause.TheVariants.{BytesUnsupported};
 ghost use Rattle.yaml_tree.specs.TagView.{tag_text};
 ghost use Rattle.yaml_tree.specs.View.{tree_of};
-ghost use Rattle.yaml_write.specs.Adds.{Writes};
+ghost use Rattle.yaml_write.specs.Adds.{WritesOrStays};
 ghost use Rattle.yaml_write.specs.LocalTags.{local_tag, value_tag};
 ghost use Rattle.yaml_write.specs.Outcomes.{plain_node, null_node, string_node};
 ghost use Rattle.yaml_write.specs.Writing.{with_node};
@@ -16,8 +16,8 @@ ghost use Rattle.yaml_write.specs.WrittenTyped.{typed_written};
 ghost use Rattle.yaml_write.specs.WrittenValue.{truth_text, written_value};
 
 use super::Serializer;
-use crate::content::Content;
 use crate::local_tag::{local_tag, value_tag};
+use crate::node_content::Content;
 use yaml_base::{Cause, Error, Result};
 use yaml_shape::Typed;
 use yaml_tree::{Tag, Value};
@@ -25,7 +25,7 @@ use yaml_tree::{Tag, Value};
 impl Serializer {
     /// Writes a boolean, plain.
     pub fn serialize_bool(&mut self, value: bool) -> Result<()>
-        ensures { Writes (with_node self.old) (Ok (plain_node None (truth_text value)))
+        ensures { WritesOrStays (with_node self.old) (Ok (plain_node None (truth_text value)))
             self.old self.new result }
     {
         self.place(Content::Bool(value))
@@ -33,7 +33,7 @@ impl Serializer {
 
     /// Writes an integer of 8 bits with a sign, plain.
     pub fn serialize_i8(&mut self, value: i8) -> Result<()>
-        ensures { Writes (with_node self.old) (Ok (plain_node None (signed_decimal value)))
+        ensures { WritesOrStays (with_node self.old) (Ok (plain_node None (signed_decimal value)))
             self.old self.new result }
     {
         self.place(Content::Signed(value as i128))
@@ -41,7 +41,7 @@ impl Serializer {
 
     /// Writes an integer of 16 bits with a sign, plain.
     pub fn serialize_i16(&mut self, value: i16) -> Result<()>
-        ensures { Writes (with_node self.old) (Ok (plain_node None (signed_decimal value)))
+        ensures { WritesOrStays (with_node self.old) (Ok (plain_node None (signed_decimal value)))
             self.old self.new result }
     {
         self.place(Content::Signed(value as i128))
@@ -49,7 +49,7 @@ impl Serializer {
 
     /// Writes an integer of 32 bits with a sign, plain.
     pub fn serialize_i32(&mut self, value: i32) -> Result<()>
-        ensures { Writes (with_node self.old) (Ok (plain_node None (signed_decimal value)))
+        ensures { WritesOrStays (with_node self.old) (Ok (plain_node None (signed_decimal value)))
             self.old self.new result }
     {
         self.place(Content::Signed(value as i128))
@@ -57,7 +57,7 @@ impl Serializer {
 
     /// Writes an integer of 64 bits with a sign, plain.
     pub fn serialize_i64(&mut self, value: i64) -> Result<()>
-        ensures { Writes (with_node self.old) (Ok (plain_node None (signed_decimal value)))
+        ensures { WritesOrStays (with_node self.old) (Ok (plain_node None (signed_decimal value)))
             self.old self.new result }
     {
         self.place(Content::Signed(value as i128))
@@ -65,7 +65,7 @@ impl Serializer {
 
     /// Writes an integer of 128 bits with a sign, plain.
     pub fn serialize_i128(&mut self, value: i128) -> Result<()>
-        ensures { Writes (with_node self.old) (Ok (plain_node None (signed_decimal value)))
+        ensures { WritesOrStays (with_node self.old) (Ok (plain_node None (signed_decimal value)))
             self.old self.new result }
     {
         self.place(Content::Signed(value))
@@ -73,7 +73,7 @@ impl Serializer {
 
     /// Writes an integer of 8 bits without a sign, plain.
     pub fn serialize_u8(&mut self, value: u8) -> Result<()>
-        ensures { Writes (with_node self.old) (Ok (plain_node None (decimal value)))
+        ensures { WritesOrStays (with_node self.old) (Ok (plain_node None (decimal value)))
             self.old self.new result }
     {
         self.place(Content::Unsigned(value as u128))
@@ -81,7 +81,7 @@ impl Serializer {
 
     /// Writes an integer of 16 bits without a sign, plain.
     pub fn serialize_u16(&mut self, value: u16) -> Result<()>
-        ensures { Writes (with_node self.old) (Ok (plain_node None (decimal value)))
+        ensures { WritesOrStays (with_node self.old) (Ok (plain_node None (decimal value)))
             self.old self.new result }
     {
         self.place(Content::Unsigned(value as u128))
@@ -89,7 +89,7 @@ impl Serializer {
 
     /// Writes an integer of 32 bits without a sign, plain.
     pub fn serialize_u32(&mut self, value: u32) -> Result<()>
-        ensures { Writes (with_node self.old) (Ok (plain_node None (decimal value)))
+        ensures { WritesOrStays (with_node self.old) (Ok (plain_node None (decimal value)))
             self.old self.new result }
     {
         self.place(Content::Unsigned(value as u128))
@@ -97,7 +97,7 @@ impl Serializer {
 
     /// Writes an integer of 64 bits without a sign, plain.
     pub fn serialize_u64(&mut self, value: u64) -> Result<()>
-        ensures { Writes (with_node self.old) (Ok (plain_node None (decimal value)))
+        ensures { WritesOrStays (with_node self.old) (Ok (plain_node None (decimal value)))
             self.old self.new result }
     {
         self.place(Content::Unsigned(value as u128))
@@ -105,7 +105,7 @@ impl Serializer {
 
     /// Writes an integer of 128 bits without a sign, plain.
     pub fn serialize_u128(&mut self, value: u128) -> Result<()>
-        ensures { Writes (with_node self.old) (Ok (plain_node None (decimal value)))
+        ensures { WritesOrStays (with_node self.old) (Ok (plain_node None (decimal value)))
             self.old self.new result }
     {
         self.place(Content::Unsigned(value))
@@ -113,7 +113,7 @@ impl Serializer {
 
     /// Writes a character, asked in single quotes.
     pub fn serialize_char(&mut self, value: char) -> Result<()>
-        ensures { Writes (with_node self.old)
+        ensures { WritesOrStays (with_node self.old)
             (Ok (emit_scalar_node None (encode_utf8 value) SingleQuoted))
             self.old self.new result }
     {
@@ -122,7 +122,7 @@ impl Serializer {
 
     /// Writes a string, in the style that it has to be asked in to be read back as one.
     pub fn serialize_str(&mut self, value: &str) -> Result<()>
-        ensures { Writes (with_node self.old) (Ok (string_node None value.now))
+        ensures { WritesOrStays (with_node self.old) (Ok (string_node None value.now))
             self.old self.new result }
     {
         self.place(Content::Str(value))
@@ -138,21 +138,21 @@ impl Serializer {
 
     /// Writes nothing, as `null`.
     pub fn serialize_unit(&mut self) -> Result<()>
-        ensures { Writes (with_node self.old) (Ok (null_node None)) self.old self.new result }
+        ensures { WritesOrStays (with_node self.old) (Ok (null_node None)) self.old self.new result }
     {
         self.place(Content::Null)
     }
 
     /// Writes a struct without fields, as `null`.
     pub fn serialize_unit_struct(&mut self, _name: &str) -> Result<()>
-        ensures { Writes (with_node self.old) (Ok (null_node None)) self.old self.new result }
+        ensures { WritesOrStays (with_node self.old) (Ok (null_node None)) self.old self.new result }
     {
         self.place(Content::Null)
     }
 
     /// Writes a variant without content, as the string that is its name.
     pub fn serialize_unit_variant(&mut self, _name: &str, _index: u32, variant: &str) -> Result<()>
-        ensures { Writes (with_node self.old) (Ok (string_node None variant.now))
+        ensures { WritesOrStays (with_node self.old) (Ok (string_node None variant.now))
             self.old self.new result }
     {
         self.place(Content::Str(variant))
@@ -160,14 +160,14 @@ impl Serializer {
 
     /// Writes an optional that is absent, as `null`.
     pub fn serialize_none(&mut self) -> Result<()>
-        ensures { Writes (with_node self.old) (Ok (null_node None)) self.old self.new result }
+        ensures { WritesOrStays (with_node self.old) (Ok (null_node None)) self.old self.new result }
     {
         self.place(Content::Null)
     }
 
     /// Writes an optional that is present, as its content. Bytes, and a tag upon a tag, are refused.
     pub fn serialize_some(&mut self, value: &Typed<'_, '_>) -> Result<()>
-        ensures { Writes (with_node self.old) (typed_written None value.now)
+        ensures { WritesOrStays (with_node self.old) (typed_written None value.now)
             self.old self.new result }
     {
         self.serialize_typed(value)
@@ -175,7 +175,7 @@ impl Serializer {
 
     /// Writes a struct around one content, as that content. Bytes, and a tag upon a tag, are refused.
     pub fn serialize_newtype_struct(&mut self, _name: &str, value: &Typed<'_, '_>) -> Result<()>
-        ensures { Writes (with_node self.old) (typed_written None value.now)
+        ensures { WritesOrStays (with_node self.old) (typed_written None value.now)
             self.old self.new result }
     {
         self.serialize_typed(value)
@@ -190,7 +190,7 @@ impl Serializer {
         variant: &str,
         value: &Typed<'_, '_>,
     ) -> Result<()>
-        ensures { Writes (with_node self.old)
+        ensures { WritesOrStays (with_node self.old)
             (typed_written (Some (local_tag variant.now)) value.now) self.old self.new result }
     {
         let tag = local_tag(self.alloc, variant)?;
@@ -199,7 +199,7 @@ impl Serializer {
 
     /// Writes a value under a tag. A value that has a tag itself is refused.
     pub fn serialize_tagged(&mut self, tag: &Tag, value: &Value) -> Result<()>
-        ensures { Writes (with_node self.old)
+        ensures { WritesOrStays (with_node self.old)
             (written_value (Some (value_tag (tag_text tag.now))) (tree_of value.now))
             self.old self.new result }
     {
@@ -209,7 +209,7 @@ impl Serializer {
 
     /// Writes data by its shape. Bytes, and a tag upon a tag, are refused.
     pub fn serialize_typed(&mut self, value: &Typed<'_, '_>) -> Result<()>
-        ensures { Writes (with_node self.old) (typed_written None value.now)
+        ensures { WritesOrStays (with_node self.old) (typed_written None value.now)
             self.old self.new result }
     {
         self.place(Content::Data(None, value.schema(), value.id(), value.content()))

@@ -6,7 +6,7 @@ use Rattle.yaml_shape.specs.Join.{starts_behind, parts_of}
 use Rattle.yaml_shape.proofs.PartLaws.{AreJoined, AreSeen, one_joined, starts_inside, too_large, all_joined}
 use Rattle.yaml_shape.proofs.PartLaws.{next_within, empty, one_seen, all_seen}
 use Rattle.yaml_shape.specs.PlainShape.{tuple_shape}
-use Rattle.yaml_shape.specs.Kept.{KeepsAll}
+use Rattle.yaml_shape.specs.Kept.{KeepsAllShapes}
 use Rattle.yaml_shape.proofs.JoinCode.{answered}
 use Rattle.yaml_shape.proofs.Stands.{keeps_all}
 use Rattle.yaml_shape.proofs.join.tuple_of.Goals as goal
@@ -66,8 +66,8 @@ returns-clause-kept c =
     (subst (AreJoined c.args.parts.items c.loop-schema.all c.loop-schema.starts.items) none
     c.loop-schema.invariant.0) in
     answered c.add.result c.loop-schema.all (tuple_shape (ids_of c.loop-schema.starts.items))
-    (KeepsAll 0 (parts_of c.args.parts.items))
-    (subst (λ t. KeepsAll 0 (parts_of c.args.parts.items)
+    (KeepsAllShapes 0 (parts_of c.args.parts.items))
+    (subst (λ t. KeepsAllShapes 0 (parts_of c.args.parts.items)
     (t ++ tuple_shape (ids_of c.loop-schema.starts.items) ∷ [])) (sym done.0)
     (keeps_all [] (parts_of c.args.parts.items) _
     (all_seen c.args.parts.items c.loop-schema.yielded

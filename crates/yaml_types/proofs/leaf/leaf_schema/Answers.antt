@@ -1,7 +1,7 @@
 -- One shape alone is refused only for want of memory.
 use Rattle.std.proofs.Common.{map, subst}
 use Rattle.yaml_shape.specs.ShapeView.{shape_of}
-use Rattle.yaml_shape.specs.Refusal.{IsRefused}
+use Rattle.yaml_shape.specs.SchemaRefusal.{IsRefused}
 use Rattle.yaml_types.proofs.LeafLaws.{leaf_refused}
 use Rattle.yaml_types.proofs.leaf.leaf_schema.Goals as goal
 

@@ -11,7 +11,7 @@ impl<'de> Deserialize<'de> for i8 {
     ghost use Rattle.yaml_shape.specs.PlainShape.{integer_shape, i8};
     ghost use Rattle.yaml_types.specs.Start.{leaf_start};
     ghost use Rattle.yaml_types.specs.Built.{BuiltSigned};
-    ghost use Rattle.yaml_types.specs.Refusal.{NeverRefused};
+    ghost use Rattle.yaml_types.specs.BuildRefusal.{NeverRefused};
     ghost use Rattle.yaml_types.specs.StartLaws.{closed_leaf};
 
     ghost start = { leaf_start (integer_shape i8) };
@@ -76,7 +76,7 @@ impl<'de> Deserialize<'de> for i16 {
     ghost use Rattle.yaml_shape.specs.PlainShape.{integer_shape, i16};
     ghost use Rattle.yaml_types.specs.Start.{leaf_start};
     ghost use Rattle.yaml_types.specs.Built.{BuiltSigned};
-    ghost use Rattle.yaml_types.specs.Refusal.{NeverRefused};
+    ghost use Rattle.yaml_types.specs.BuildRefusal.{NeverRefused};
     ghost use Rattle.yaml_types.specs.StartLaws.{closed_leaf};
 
     ghost start = { leaf_start (integer_shape i16) };
@@ -141,7 +141,7 @@ impl<'de> Deserialize<'de> for i32 {
     ghost use Rattle.yaml_shape.specs.PlainShape.{integer_shape, i32};
     ghost use Rattle.yaml_types.specs.Start.{leaf_start};
     ghost use Rattle.yaml_types.specs.Built.{BuiltSigned};
-    ghost use Rattle.yaml_types.specs.Refusal.{NeverRefused};
+    ghost use Rattle.yaml_types.specs.BuildRefusal.{NeverRefused};
     ghost use Rattle.yaml_types.specs.StartLaws.{closed_leaf};
 
     ghost start = { leaf_start (integer_shape i32) };

@@ -11,7 +11,7 @@ impl<'de> Deserialize<'de> for u64 {
     ghost use Rattle.yaml_shape.specs.PlainShape.{integer_shape, u64};
     ghost use Rattle.yaml_types.specs.Start.{leaf_start};
     ghost use Rattle.yaml_types.specs.Built.{BuiltUnsigned};
-    ghost use Rattle.yaml_types.specs.Refusal.{NeverRefused};
+    ghost use Rattle.yaml_types.specs.BuildRefusal.{NeverRefused};
     ghost use Rattle.yaml_types.specs.StartLaws.{closed_leaf};
 
     ghost start = { leaf_start (integer_shape u64) };
@@ -76,7 +76,7 @@ impl<'de> Deserialize<'de> for u128 {
     ghost use Rattle.yaml_shape.specs.PlainShape.{integer_shape, u128};
     ghost use Rattle.yaml_types.specs.Start.{leaf_start};
     ghost use Rattle.yaml_types.specs.Built.{BuiltUnsigned};
-    ghost use Rattle.yaml_types.specs.Refusal.{NeverRefused};
+    ghost use Rattle.yaml_types.specs.BuildRefusal.{NeverRefused};
     ghost use Rattle.yaml_types.specs.StartLaws.{closed_leaf};
 
     ghost start = { leaf_start (integer_shape u128) };
@@ -141,7 +141,7 @@ impl<'de> Deserialize<'de> for usize {
     ghost use Rattle.yaml_shape.specs.PlainShape.{integer_shape, usize};
     ghost use Rattle.yaml_types.specs.Start.{leaf_start};
     ghost use Rattle.yaml_types.specs.Built.{BuiltUnsigned};
-    ghost use Rattle.yaml_types.specs.Refusal.{NeverRefused};
+    ghost use Rattle.yaml_types.specs.BuildRefusal.{NeverRefused};
     ghost use Rattle.yaml_types.specs.StartLaws.{closed_leaf};
 
     ghost start = { leaf_start (integer_shape usize) };

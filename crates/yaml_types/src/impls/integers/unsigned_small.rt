@@ -11,7 +11,7 @@ impl<'de> Deserialize<'de> for u8 {
     ghost use Rattle.yaml_shape.specs.PlainShape.{integer_shape, u8};
     ghost use Rattle.yaml_types.specs.Start.{leaf_start};
     ghost use Rattle.yaml_types.specs.Built.{BuiltUnsigned};
-    ghost use Rattle.yaml_types.specs.Refusal.{NeverRefused};
+    ghost use Rattle.yaml_types.specs.BuildRefusal.{NeverRefused};
     ghost use Rattle.yaml_types.specs.StartLaws.{closed_leaf};
 
     ghost start = { leaf_start (integer_shape u8) };
@@ -76,7 +76,7 @@ impl<'de> Deserialize<'de> for u16 {
     ghost use Rattle.yaml_shape.specs.PlainShape.{integer_shape, u16};
     ghost use Rattle.yaml_types.specs.Start.{leaf_start};
     ghost use Rattle.yaml_types.specs.Built.{BuiltUnsigned};
-    ghost use Rattle.yaml_types.specs.Refusal.{NeverRefused};
+    ghost use Rattle.yaml_types.specs.BuildRefusal.{NeverRefused};
     ghost use Rattle.yaml_types.specs.StartLaws.{closed_leaf};
 
     ghost start = { leaf_start (integer_shape u16) };
@@ -141,7 +141,7 @@ impl<'de> Deserialize<'de> for u32 {
     ghost use Rattle.yaml_shape.specs.PlainShape.{integer_shape, u32};
     ghost use Rattle.yaml_types.specs.Start.{leaf_start};
     ghost use Rattle.yaml_types.specs.Built.{BuiltUnsigned};
-    ghost use Rattle.yaml_types.specs.Refusal.{NeverRefused};
+    ghost use Rattle.yaml_types.specs.BuildRefusal.{NeverRefused};
     ghost use Rattle.yaml_types.specs.StartLaws.{closed_leaf};
 
     ghost start = { leaf_start (integer_shape u32) };

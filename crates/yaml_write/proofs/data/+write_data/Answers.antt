@@ -8,7 +8,7 @@ use Rattle.yaml_base.specs.EmitTree.{emit_node_events, emit_nodes_events, emit_p
 use Rattle.yaml_base.specs.EmitTree.{emit_node, no_emit_nodes, no_emit_pairs}
 use Rattle.yaml_shape.specs.DataView.{data_of, items_view, entries_view}
 use Rattle.yaml_shape.specs.ShapeView.{ids_of, fields_of}
-use Rattle.yaml_write.specs.Adds.{Adds, Keeps}
+use Rattle.yaml_write.specs.Adds.{Adds, KeepsEvents}
 use Rattle.yaml_write.specs.Brackets.{start_by, end_by}
 use Rattle.yaml_write.specs.InShape.{named_variants}
 use Rattle.yaml_write.specs.Outcomes.{made, string_node}
@@ -51,7 +51,7 @@ write_collection-returns-in_err-write_parts t c =
     (collection_written c.args.schema.now c.args.shapes (tag_bytes c.args.tag) (items_view c.args.items.now)) =
     fails-collection c.args.schema.now c.args.shapes (tag_bytes c.args.tag)
     (items_view c.args.items.now) c.in_err-write_parts.field-0.0 c.in_err-write_parts.ensures.0 in
-    let kept : Keeps c.args.out.now c.write_parts.new.out =
+    let kept : KeepsEvents c.args.out.now c.write_parts.new.out =
     kept-more (λ (e : PlainEmit). e ∷ []) (Ok (start_by c.are_named-named.result (tag_bytes c.args.tag)))
     c.args.out.now c.start.new.self c.write_parts.new.out c.in_ok-start.ensures c.in_err-write_parts.ensures.1 in
     search rules
@@ -83,7 +83,7 @@ write_elements-returns-in_err-write_data t c =
     (elements-left c.args.schema.now c.args.id.0 c.args.items.now c.loop-item.item-index c.item-item.result
     c.loop-item-test.true c.item-item.is))
     c.in_err-write_data.ensures.0 in
-    let kept : Keeps c.args.out.now c.write_data.new.out =
+    let kept : KeepsEvents c.args.out.now c.write_data.new.out =
     keeps-through c.args.out.now c.loop-item.out c.write_data.new.out c.loop-item.invariant.1
     c.in_err-write_data.ensures.1 in
     search rules
@@ -117,7 +117,7 @@ write_entries-returns-in_err-write_entry t c =
     (entries-left c.args.schema.now c.args.key.0 c.args.value.0 c.args.entries.now c.loop-entry.entry-index
     c.entry-item.result c.loop-entry-test.true c.entry-item.is))
     c.in_err-write_entry.ensures.0 in
-    let kept : Keeps c.args.out.now c.write_entry.new.out =
+    let kept : KeepsEvents c.args.out.now c.write_entry.new.out =
     keeps-through c.args.out.now c.loop-entry.out c.write_entry.new.out c.loop-entry.invariant.1
     c.in_err-write_entry.ensures.1 in
     search rules
@@ -132,7 +132,7 @@ write_map-returns t c =
 
 pub write_map-returns-in_err-write_entries : goal.write_map-returns-in_err-write_entries
 write_map-returns-in_err-write_entries t c =
-    let kept : Keeps c.args.out.now c.write_entries.new.out =
+    let kept : KeepsEvents c.args.out.now c.write_entries.new.out =
     kept-more (λ (e : PlainEmit). e ∷ []) (Ok (emit_mapping_start (tag_bytes c.args.tag))) c.args.out.now
     c.start_mapping.new.self c.write_entries.new.out c.in_ok-start_mapping.ensures c.in_err-write_entries.ensures.1
     in
@@ -176,7 +176,7 @@ write_items-returns-in_err-write_data t c =
     (items-left c.args.schema.now c.args.ids.now c.args.items.now c.loop-i.i c.id_at.result c.index-items-i.result
     (omega (arith, c.min-i-end.ensures)) (omega (arith, c.min-i-end.ensures)) c.id_at.ensures c.index-items-i.is))
     c.in_err-write_data.ensures.0 in
-    let kept : Keeps c.args.out.now c.write_data.new.out =
+    let kept : KeepsEvents c.args.out.now c.write_data.new.out =
     keeps-through c.args.out.now c.loop-i.out c.write_data.new.out c.loop-i.invariant.1
     c.in_err-write_data.ensures.1 in
     search rules
@@ -220,7 +220,7 @@ write_fields-returns-in_err-write_field t c =
     c.index-items-i.result
     (omega (arith, c.min-i-end.ensures)) (omega (arith, c.min-i-end.ensures)) c.index-fields-i.is c.index-items-i.is))
     c.in_err-write_field.ensures.0 in
-    let kept : Keeps c.args.out.now c.write_field.new.out =
+    let kept : KeepsEvents c.args.out.now c.write_field.new.out =
     keeps-through c.args.out.now c.loop-i.out c.write_field.new.out c.loop-i.invariant.1
     c.in_err-write_field.ensures.1 in
     search rules

@@ -3,7 +3,7 @@ use Rattle.std.proofs.Common.{◌≡◌, ◌++◌, drop}
 use Rattle.yaml_base.specs.EmitTree.{emit_nodes_events, emit_pairs_events}
 use Rattle.yaml_shape.specs.DataView.{items_view, entries_view}
 use Rattle.yaml_shape.specs.ShapeView.{ids_of, fields_of}
-use Rattle.yaml_write.specs.Adds.{Keeps}
+use Rattle.yaml_write.specs.Adds.{KeepsEvents}
 use Rattle.yaml_write.specs.Outcomes.{made}
 use Rattle.yaml_write.specs.Written.{written_elements, written_items, written_entries, written_fields}
 use Rattle.yaml_write.proofs.data.+write_data.Given as goal
@@ -13,14 +13,14 @@ invariant-write_elements-loop-item l =
     (made (λ part. l.initial.out ++ emit_nodes_events part) (written_elements l.schema l.id.0 (items_view l.items))
     ≡ made (λ part. l.out ++ emit_nodes_events part)
     (written_elements l.schema l.id.0 (items_view (drop l.item-index l.items))))
-    × Keeps l.initial.out l.out
+    × KeepsEvents l.initial.out l.out
 
 abbrev pub invariant-write_items-loop-i : goal.invariant-write_items-loop-i
 invariant-write_items-loop-i l =
     (made (λ part. l.initial.out ++ emit_nodes_events part) (written_items l.schema (ids_of l.ids) (items_view l.items))
     ≡ made (λ part. l.out ++ emit_nodes_events part)
     (written_items l.schema (ids_of (drop l.i l.ids)) (items_view (drop l.i l.items))))
-    × Keeps l.initial.out l.out
+    × KeepsEvents l.initial.out l.out
 
 abbrev pub invariant-write_entries-loop-entry : goal.invariant-write_entries-loop-entry
 invariant-write_entries-loop-entry l =
@@ -28,7 +28,7 @@ invariant-write_entries-loop-entry l =
     (written_entries l.schema l.key.0 l.value.0 (entries_view l.entries))
     ≡ made (λ part. l.out ++ emit_pairs_events part)
     (written_entries l.schema l.key.0 l.value.0 (entries_view (drop l.entry-index l.entries))))
-    × Keeps l.initial.out l.out
+    × KeepsEvents l.initial.out l.out
 
 abbrev pub invariant-write_fields-loop-i : goal.invariant-write_fields-loop-i
 invariant-write_fields-loop-i l =
@@ -36,4 +36,4 @@ invariant-write_fields-loop-i l =
     (written_fields l.schema (fields_of l.fields) (items_view l.items))
     ≡ made (λ part. l.out ++ emit_pairs_events part)
     (written_fields l.schema (fields_of (drop l.i l.fields)) (items_view (drop l.i l.items))))
-    × Keeps l.initial.out l.out
+    × KeepsEvents l.initial.out l.out

@@ -9,7 +9,7 @@ use Rattle.yaml_base.specs.EmitTree.{emit_mapping_node, emit_node, no_emit_nodes
 use Rattle.yaml_tree.specs.Valid.{items_of, pairs_of}
 use Rattle.yaml_tree.specs.Tree.{pair_list, pair_list_size}
 use Rattle.yaml_tree.specs.View.{tree_of, trees_of}
-use Rattle.yaml_write.specs.Adds.{Keeps}
+use Rattle.yaml_write.specs.Adds.{KeepsEvents}
 use Rattle.yaml_write.specs.Outcomes.{made, joined}
 use Rattle.yaml_tree.proofs.Callers.{tree_size-item, pair_list_size-pair_list}
 use Rattle.yaml_write.specs.WrittenValue.{written_value, written_values, written_pairs, pair_node, pair_before}
@@ -74,7 +74,7 @@ write_values-returns-in_err-write_value t c =
     (values-left c.as_slice-value-items.result.now c.loop-value.value-index c.value-item.result c.loop-value-test.true
     c.value-item.is)))
     c.in_err-write_value.ensures.0 in
-    let kept : Keeps c.args.out.now c.write_value.new.out =
+    let kept : KeepsEvents c.args.out.now c.write_value.new.out =
     keeps-through c.args.out.now c.loop-value.out c.write_value.new.out c.loop-value.invariant.1
     c.in_err-write_value.ensures.1 in
     search rules
@@ -114,7 +114,7 @@ write_pairs-returns-in_err-write_pair t c =
     ∙ (c.loop-key.invariant.0 ∙ ap (λ ps. made (λ part. c.loop-key.out ++ emit_pairs_events part) (written_list ps))
     c.in-Some.ensures.steps))
     c.in_err-write_pair.ensures.0 in
-    let kept : Keeps c.args.out.now c.write_pair.new.out =
+    let kept : KeepsEvents c.args.out.now c.write_pair.new.out =
     keeps-through c.args.out.now c.loop-key.out c.write_pair.new.out c.loop-key.invariant.2
     c.in_err-write_pair.ensures.1 in
     search rules

@@ -4,9 +4,9 @@
 use Rattle.std.proofs.Common.{◌≡◌, ◌≤◌, ◌+◌, ◌*◌, ◌++◌, drop}
 use Rattle.yaml_base.specs.EmitTree.{emit_nodes_events, emit_pairs_events}
 use Rattle.yaml_tree.specs.Tree.{tree_size, trees_size, pairs_size, pair_list_size}
-use Rattle.yaml_tree.specs.Valid.{items_of, pairs_of, content_of}
+use Rattle.yaml_tree.specs.Valid.{items_of, pairs_of, content_under_tag}
 use Rattle.yaml_tree.specs.View.{tree_of, trees_of}
-use Rattle.yaml_write.specs.Adds.{Keeps}
+use Rattle.yaml_write.specs.Adds.{KeepsEvents}
 use Rattle.yaml_write.specs.Outcomes.{made}
 use Rattle.yaml_write.specs.WrittenValue.{written_values}
 use Rattle.yaml_write.proofs.ValueLaws.{written_list}
@@ -31,17 +31,17 @@ abbrev pub decreases-write_pair : goal.decreases-write_pair
 decreases-write_pair l = 3 * (tree_size (tree_of l.key.now) + tree_size (tree_of l.value.now)) + 1
 
 abbrev pub decreases-write_tagged : goal.decreases-write_tagged
-decreases-write_tagged l = 3 * tree_size (content_of l.tagged.now) + 1
+decreases-write_tagged l = 3 * tree_size (content_under_tag l.tagged.now) + 1
 
 abbrev pub invariant-write_values-loop-value : goal.invariant-write_values-loop-value
 invariant-write_values-loop-value l =
     (made (λ part. l.initial.out ++ emit_nodes_events part) (written_values (trees_of l.value-items))
     ≡ made (λ part. l.out ++ emit_nodes_events part) (written_values (trees_of (drop l.value-index l.value-items))))
-    × Keeps l.initial.out l.out
+    × KeepsEvents l.initial.out l.out
 
 abbrev pub invariant-write_pairs-loop-key : goal.invariant-write_pairs-loop-key
 invariant-write_pairs-loop-key l =
     (made (λ part. l.initial.out ++ emit_pairs_events part) (written_list l.initial.key-iterator)
     ≡ made (λ part. l.out ++ emit_pairs_events part) (written_list l.key-iterator))
     × (pair_list_size l.key-iterator ≤ pairs_size (pairs_of l.pairs))
-    × Keeps l.initial.out l.out
+    × KeepsEvents l.initial.out l.out

@@ -1,7 +1,7 @@
 -- The table of a named shape is refused for want of memory alone.
 use Rattle.std.proofs.Common.{◌≡◌}
 use Rattle.std.proofs.lemmas.Result.{IfErr-weaker}
-use Rattle.yaml_shape.specs.Refusal.{IsRefused}
+use Rattle.yaml_shape.specs.SchemaRefusal.{IsRefused}
 use Rattle.yaml_shape.specs.declared.fault.SchemaFault.TheVariants.{S5}
 use Rattle.yaml_case.specs.Shapes.{table_of}
 use Rattle.yaml_case.proofs.ShapeLaws.{only_memory}

@@ -2,7 +2,7 @@
 use Rattle.std.proofs.Common.{◌≡◌, ◌++◌, sym, ap, ◌∙◌, subst, reverse, arith}
 use Rattle.yaml_write.specs.Begun.{IsBegun}
 use Rattle.yaml_write.specs.Opened.{CanEnd}
-use Rattle.yaml_write.specs.Writing.{Writing, ending_in, outer_of}
+use Rattle.yaml_write.specs.Writing.{Writing, closing_events, outer_of}
 use Rattle.yaml_write.proofs.BegunLaws.{closed, last_gone}
 use Rattle.yaml_write.proofs.PlaceLaws.{added-is}
 use Rattle.yaml_write.proofs.ser.Serializer.close.Goals as goal
@@ -12,9 +12,9 @@ invariant_of-self-2 c =
     let before : Writing = record { events = c.self.inside.written; opened = reverse c.self.inside.opened.items } in
     let is : c.args.self.now ≡ before = sym c.self.view_is in
     let can : CanEnd before.opened = subst (λ (w : Writing). CanEnd w.opened) is c.requires in
-    let events : before.events ++ ending_in before.opened ≡ c.add_end.new.out =
-    ap (λ os. before.events ++ ending_in (reverse os)) (sym c.deref.ensures.value)
-    ∙ added-is (λ events. events) (ending_in (reverse c.deref.result.now)) before.events c.add_end.new.out
+    let events : before.events ++ closing_events before.opened ≡ c.add_end.new.out =
+    ap (λ os. before.events ++ closing_events (reverse os)) (sym c.deref.ensures.value)
+    ∙ added-is (λ events. events) (closing_events (reverse c.deref.result.now)) before.events c.add_end.new.out
     c.in_ok-add_end.ensures in
     let rest : outer_of before.opened ≡ reverse c.pop-closed.new.self.items =
     last_gone c.self.inside.opened.items c.pop-closed.new.self.items c.pop-closed.result c.pop-closed.ensures.items

@@ -1,0 +1,18 @@
+-- A key is there where it has a value.
+use Rattle.std.proofs.Common.{◌≡◌, ap, ◌∙◌, Some, None, Option, refl}
+use Rattle.std.specs.Option.{is_some, option_map}
+use Rattle.yaml_tree.specs.Valid.{pairs_of}
+use Rattle.yaml_tree.specs.View.{tree_of}
+use Rattle.yaml_read.proofs.AnyLaws.{key_there}
+use Rattle.yaml_read.proofs.de.node.any_parts.has_key.Goals as goal
+
+seen_there : {A B : Type 0} (f : A → B) (o : Option A) → is_some o ≡ is_some (option_map f o)
+seen_there f None = refl
+seen_there f (Some x) = refl
+
+-- the answer is whether a value is there
+pub returns : goal.returns
+returns c =
+    c.is_some.ensures
+    ∙ (seen_there (λ v. tree_of v.now) c.get.result
+    ∙ (ap is_some c.get.ensures ∙ key_there (tree_of c.args.key.now) (pairs_of c.args.pairs.now)))

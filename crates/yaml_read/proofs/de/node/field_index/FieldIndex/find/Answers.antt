@@ -1,0 +1,12 @@
+-- The map has the first field of each name.
+use Rattle.std.proofs.Common.{ap, ◌∙◌}
+use Rattle.yaml_shape.specs.ShapeView.{fields_of}
+use Rattle.yaml_read.specs.Fields.{find}
+use Rattle.yaml_read.specs.inner.Walks.{field_view}
+use Rattle.yaml_read.proofs.de.node.field_index.FieldIndex.find.Goals as goal
+
+pub returns-in-Some : goal.returns-in-Some
+returns-in-Some c =
+    ap field_view (c.copied.ensures ∙ c.get.ensures.value)
+    ∙ c.self.invariant c.in-Some.by_name c.in-Some.is c.args.name.now
+    ∙ ap (λ fields. find (fields_of fields) c.args.name.now) c.self.view_is

@@ -1,0 +1,167 @@
+-- What the reader gives at each exit: any values.
+use Rattle.std.proofs.Common.{Ok, Some, None, ◌≡◌, ◌<◌, map, length, false, sym, ap, ◌∙◌, arith, rules, refl}
+use Rattle.std.specs.Option.{is_some, option_copied}
+use Rattle.yaml_shape.specs.DataView.{data_of, items_of, entries_of}
+use Rattle.yaml_shape.specs.PlainData.{any_data}
+use Rattle.yaml_shape.specs.ShapeView.{shape_of}
+use Rattle.yaml_shape.specs.declared.data.Data.{Any as AnyValue, the_lemmas}
+use Rattle.yaml_tree.specs.Tree.{sequence, tagged}
+use Rattle.yaml_tree.specs.Tree as tree
+use Rattle.yaml_tree.specs.Valid.{pairs_of}
+use Rattle.yaml_tree.specs.declared.value.Value.TheVariants as value
+use Rattle.yaml_read.specs.AnyData.{tree_in, trees_in, pairs_in}
+use Rattle.yaml_read.specs.DocEventView.{doc_event_of}
+use Rattle.yaml_read.specs.Handing.{reach, untaken_reach}
+use Rattle.yaml_read.specs.NodeTags.{untaken_name}
+use Rattle.yaml_read.specs.Places.{way_of}
+use Rattle.yaml_read.specs.TreeReader.{after}
+use Rattle.yaml_read.specs.inner.Walks.{around_of, source_of, spot_of, reader_of}
+use Rattle.yaml_read.proofs.reading.ContentExits.{only_untaken, any_tagged_step, any_list_step, any_mapping_step}
+use Rattle.yaml_read.proofs.reading.ContentExits.{any_plain_step, wrap_onto_finds, wrap_onto_fails}
+use Rattle.yaml_read.proofs.reading.Exits.{gives_ending_at, same_spot}
+use Rattle.yaml_read.proofs.reading.Loops.{wrap_fails, wrap_finds}
+use Rattle.yaml_read.proofs.de.node.source.Source.+read.Goals as goal
+
+pub read_any-returns-in-Ok-clause-gives : goal.read_any-returns-in-Ok-clause-gives
+read_any-returns-in-Ok-clause-gives t c = λ fuel lt.
+    let name = sym c.untaken_name.ensures ∙ ap option_copied c.in-Some-untaken_name.is in
+    let own : untaken_name (is_some (around_of c.args.taken)) (doc_event_of c.in-Some.field-0.now.0)
+    ≡ Some c.in-Some-untaken_name.name.now = ap (λ b. untaken_name b (doc_event_of c.in-Some.field-0.now.0))
+    (sym c.is_taken.ensures) ∙ name in
+    let free : is_some (around_of c.args.taken) ≡ false =
+    only_untaken (is_some (around_of c.args.taken)) (doc_event_of c.in-Some.field-0.now.0)
+    c.in-Some-untaken_name.name.now own in
+    let left : untaken_reach (is_some (around_of c.args.taken)) ≡ 4100 = ap untaken_reach free in
+    let flat : reach c.args.self.now.schema.now (shape_of c.args.shape.now) ≡ 0 =
+    ap (reach c.args.self.now.schema.now) c.requires.shape in
+    rw (any_tagged_step (source_of c.args.self.now) (reader_of fuel c.args.self.now) (way_of c.args.path.now)
+    (shape_of c.args.shape.now) c.args.nest (around_of c.args.taken)
+    (spot_of c.args.walk.now) c.in-Some-untaken_name.name.now _ _ c.requires.shape c.in-Some.ensures.found own
+    ∙ wrap_finds (λ v. any_data (tagged c.in-Some-untaken_name.name.now (tree_in v))) _ (data_of c.in-Ok.data)
+    (spot_of c.read_node.new.walk) (rw c.requires.shape at
+    (c.in-Ok.ensures.gives fuel (omega (arith, lt, left, flat)))))
+    (gives_ending_at data_of (spot_of c.read_node.new.walk) (spot_of c.read_node.new.walk) c.any_tagged.result
+    (Ok (any_data (tagged c.in-Some-untaken_name.name.now (tree_in (data_of c.in-Ok.data))))) refl
+    c.any_tagged.ensures)
+
+pub read_any-returns-in-Err-clause-gives : goal.read_any-returns-in-Err-clause-gives
+read_any-returns-in-Err-clause-gives t c = λ fuel lt fault.
+    let name = sym c.untaken_name.ensures ∙ ap option_copied c.in-Some-untaken_name.is in
+    let own : untaken_name (is_some (around_of c.args.taken)) (doc_event_of c.in-Some.field-0.now.0)
+    ≡ Some c.in-Some-untaken_name.name.now = ap (λ b. untaken_name b (doc_event_of c.in-Some.field-0.now.0))
+    (sym c.is_taken.ensures) ∙ name in
+    let free : is_some (around_of c.args.taken) ≡ false =
+    only_untaken (is_some (around_of c.args.taken)) (doc_event_of c.in-Some.field-0.now.0)
+    c.in-Some-untaken_name.name.now own in
+    let left : untaken_reach (is_some (around_of c.args.taken)) ≡ 4100 = ap untaken_reach free in
+    let flat : reach c.args.self.now.schema.now (shape_of c.args.shape.now) ≡ 0 =
+    ap (reach c.args.self.now.schema.now) c.requires.shape in
+    any_tagged_step (source_of c.args.self.now) (reader_of fuel c.args.self.now) (way_of c.args.path.now)
+    (shape_of c.args.shape.now) c.args.nest (around_of c.args.taken)
+    (spot_of c.args.walk.now) c.in-Some-untaken_name.name.now _ _ c.requires.shape c.in-Some.ensures.found own
+    ∙ wrap_fails (λ v. any_data (tagged c.in-Some-untaken_name.name.now (tree_in v))) _ _
+    (rw c.requires.shape at (c.in-Err.ensures.gives fuel (omega (arith, lt, left, flat)) fault))
+
+pub read_any-returns-in-Ok-read_items-clause-gives : goal.read_any-returns-in-Ok-read_items-clause-gives
+read_any-returns-in-Ok-read_items-clause-gives t c = λ fuel lt.
+    let none : untaken_name (is_some (around_of c.args.taken)) (doc_event_of c.in-Some.field-0.now.0) ≡ None =
+    ap (λ b. untaken_name b (doc_event_of c.in-Some.field-0.now.0)) (sym c.is_taken.ensures)
+    ∙ sym c.untaken_name.ensures ∙ ap option_copied c.in_default-untaken_name.is in
+    let flat : reach c.args.self.now.schema.now (shape_of c.args.shape.now) ≡ 0 =
+    ap (reach c.args.self.now.schema.now) c.requires.shape in
+    let some : 0 < c.args.nest = omega (arith, c.if-nest-eq0.false) in
+    let left = c.step.ensures.left in
+    rw (any_list_step (source_of c.args.self.now) (reader_of fuel c.args.self.now) (way_of c.args.path.now)
+    (shape_of c.args.shape.now) c.args.nest (around_of c.args.taken)
+    (spot_of c.args.walk.now) _ c.in-SequenceStart.field-0.tag _ c.requires.shape c.in-Some.ensures.found
+    (ap doc_event_of c.in-SequenceStart.is) none some
+    ∙ wrap_finds (λ vs. any_data (sequence (trees_in (items_of vs)))) _ _ (spot_of c.read_items.new.walk)
+    (rw (
+      c.requires.shape,
+      (same_spot (spot_of c.step.new.self)
+          (after (spot_of c.args.walk.now)) c.step.ensures.place c.step.ensures.left),
+    ) at
+    (c.in-Ok-read_items.ensures.gives fuel (length c.args.self.now.events.now) (omega (arith, lt, some, left))
+    (omega (arith, c.step.ensures.place)))))
+    (gives_ending_at data_of (spot_of c.read_items.new.walk) (spot_of c.read_items.new.walk) c.any_list.result
+    (Ok (any_data (sequence (trees_in (items_of (map data_of c.in-Ok-read_items.items.items)))))) refl
+    c.any_list.ensures)
+
+pub read_any-returns-in-Err-read_items-clause-gives : goal.read_any-returns-in-Err-read_items-clause-gives
+read_any-returns-in-Err-read_items-clause-gives t c = λ fuel lt fault.
+    let none : untaken_name (is_some (around_of c.args.taken)) (doc_event_of c.in-Some.field-0.now.0) ≡ None =
+    ap (λ b. untaken_name b (doc_event_of c.in-Some.field-0.now.0)) (sym c.is_taken.ensures)
+    ∙ sym c.untaken_name.ensures ∙ ap option_copied c.in_default-untaken_name.is in
+    let flat : reach c.args.self.now.schema.now (shape_of c.args.shape.now) ≡ 0 =
+    ap (reach c.args.self.now.schema.now) c.requires.shape in
+    let some : 0 < c.args.nest = omega (arith, c.if-nest-eq0.false) in
+    let left = c.step.ensures.left in
+    any_list_step (source_of c.args.self.now) (reader_of fuel c.args.self.now) (way_of c.args.path.now)
+    (shape_of c.args.shape.now) c.args.nest (around_of c.args.taken)
+    (spot_of c.args.walk.now) _ c.in-SequenceStart.field-0.tag _ c.requires.shape c.in-Some.ensures.found
+    (ap doc_event_of c.in-SequenceStart.is) none some
+    ∙ wrap_fails (λ vs. any_data (sequence (trees_in (items_of vs)))) _ _
+    (rw (
+      c.requires.shape,
+      (same_spot (spot_of c.step.new.self)
+          (after (spot_of c.args.walk.now)) c.step.ensures.place c.step.ensures.left),
+    ) at
+    (c.in-Err-read_items.ensures.gives fuel (length c.args.self.now.events.now) (omega (arith, lt, some, left))
+    (omega (arith, c.step.ensures.place)) fault))
+
+pub read_any-returns-in-Ok-read_pairs-clause-gives : goal.read_any-returns-in-Ok-read_pairs-clause-gives
+read_any-returns-in-Ok-read_pairs-clause-gives t c = λ fuel lt.
+    let none : untaken_name (is_some (around_of c.args.taken)) (doc_event_of c.in-Some.field-0.now.0) ≡ None =
+    ap (λ b. untaken_name b (doc_event_of c.in-Some.field-0.now.0)) (sym c.is_taken.ensures)
+    ∙ sym c.untaken_name.ensures ∙ ap option_copied c.in_default-untaken_name.is in
+    let flat : reach c.args.self.now.schema.now (shape_of c.args.shape.now) ≡ 0 =
+    ap (reach c.args.self.now.schema.now) c.requires.shape in
+    let seen_as : data_of (AnyValue (value.Mapping c.in-Ok-read_pairs.pairs))
+    ≡ any_data (tree.mapping (pairs_of c.in-Ok-read_pairs.pairs)) = search (rules, the_lemmas) in
+    let some : 0 < c.args.nest = omega (arith, c.if-nest-eq0-2.false) in
+    let left = c.step-in-MappingStart.ensures.left in
+    any_mapping_step (source_of c.args.self.now) (reader_of fuel c.args.self.now) (way_of c.args.path.now)
+    (shape_of c.args.shape.now) c.args.nest (around_of c.args.taken)
+    (spot_of c.args.walk.now) _ c.in-MappingStart.field-0.tag _ c.requires.shape c.in-Some.ensures.found
+    (ap doc_event_of c.in-MappingStart.is) none some
+    ∙ wrap_onto_finds (λ vs. pairs_in (entries_of vs)) (λ ps. any_data (tree.mapping ps)) _ _ _
+    (rw (same_spot (spot_of c.step-in-MappingStart.new.self)
+    (after (spot_of c.args.walk.now)) c.step-in-MappingStart.ensures.place c.step-in-MappingStart.ensures.left) at
+    (c.in-Ok-read_pairs.ensures.gives fuel (length c.args.self.now.events.now) (omega (arith, lt, some, left))
+    (omega (arith, c.step-in-MappingStart.ensures.place))))
+    ∙ ap (λ v. Ok (v, spot_of c.read_pairs.new.walk)) (sym seen_as)
+
+pub read_any-returns-in-Err-read_pairs-clause-gives : goal.read_any-returns-in-Err-read_pairs-clause-gives
+read_any-returns-in-Err-read_pairs-clause-gives t c = λ fuel lt fault.
+    let none : untaken_name (is_some (around_of c.args.taken)) (doc_event_of c.in-Some.field-0.now.0) ≡ None =
+    ap (λ b. untaken_name b (doc_event_of c.in-Some.field-0.now.0)) (sym c.is_taken.ensures)
+    ∙ sym c.untaken_name.ensures ∙ ap option_copied c.in_default-untaken_name.is in
+    let flat : reach c.args.self.now.schema.now (shape_of c.args.shape.now) ≡ 0 =
+    ap (reach c.args.self.now.schema.now) c.requires.shape in
+    let some : 0 < c.args.nest = omega (arith, c.if-nest-eq0-2.false) in
+    let left = c.step-in-MappingStart.ensures.left in
+    any_mapping_step (source_of c.args.self.now) (reader_of fuel c.args.self.now) (way_of c.args.path.now)
+    (shape_of c.args.shape.now) c.args.nest (around_of c.args.taken)
+    (spot_of c.args.walk.now) _ c.in-MappingStart.field-0.tag _ c.requires.shape c.in-Some.ensures.found
+    (ap doc_event_of c.in-MappingStart.is) none some
+    ∙ wrap_onto_fails (λ vs. pairs_in (entries_of vs)) (λ ps. any_data (tree.mapping ps)) _ _
+    (rw (same_spot (spot_of c.step-in-MappingStart.new.self)
+    (after (spot_of c.args.walk.now)) c.step-in-MappingStart.ensures.place c.step-in-MappingStart.ensures.left) at
+    (c.in-Err-read_pairs.ensures.gives fuel (length c.args.self.now.events.now) (omega (arith, lt, some, left))
+    (omega (arith, c.step-in-MappingStart.ensures.place)) fault))
+
+pub read_any-returns-in_default-event : goal.read_any-returns-in_default-event
+read_any-returns-in_default-event t c =
+    let none : untaken_name (is_some (around_of c.args.taken)) (doc_event_of c.in-Some.field-0.now.0) ≡ None =
+    ap (λ b. untaken_name b (doc_event_of c.in-Some.field-0.now.0)) (sym c.is_taken.ensures)
+    ∙ sym c.untaken_name.ensures ∙ ap option_copied c.in_default-untaken_name.is in
+    let flat : reach c.args.self.now.schema.now (shape_of c.args.shape.now) ≡ 0 =
+    ap (reach c.args.self.now.schema.now) c.requires.shape in
+    record {
+      gives = λ fuel lt. rw (any_plain_step (source_of c.args.self.now) (reader_of fuel c.args.self.now)
+          (way_of c.args.path.now) (shape_of c.args.shape.now) c.args.nest (around_of c.args.taken)
+          (spot_of c.args.walk.now) _ _ c.requires.shape c.in-Some.ensures.found none)
+          (c.read_simple.ensures.gives fuel _ lt);
+      moves = c.read_simple.ensures.moves;
+      cost = c.read_simple.ensures.cost;
+    }

@@ -1,0 +1,186 @@
+-- What the reader gives at each exit: mappings.
+use Rattle.std.proofs.Common.{Ok, Err, Some, ◌≡◌, ℕ, suc, ◌+◌, ◌-◌, ◌<◌, [], ◌∷◌, ◌++◌, map, length, sym, ap, ◌∙◌}
+use Rattle.std.proofs.Common.{arith, rules, length-append}
+use Rattle.std.specs.Option.{is_some}
+use Rattle.std.proofs.lemmas.List.{map-append}
+use Rattle.yaml_shape.specs.DataView.{data_of, entry_of, entries_of}
+use Rattle.yaml_shape.specs.PlainData.{map_data}
+use Rattle.yaml_shape.specs.ShapeView.{shape_of}
+use Rattle.yaml_shape.specs.declared.data.Data.{Map, the_lemmas}
+use Rattle.yaml_shape.specs.declared.data.Entry.{Entry}
+use Rattle.yaml_read.specs.DocEventView.{doc_event_of}
+use Rattle.yaml_read.specs.Handing.{handed}
+use Rattle.yaml_read.specs.Places.{way_of, value_under}
+use Rattle.yaml_read.specs.TreeReader.{Spot, after}
+use Rattle.yaml_read.specs.inner.Reader.{is_mapping_end, value_way, entry_at, mapping_parts}
+use Rattle.yaml_read.specs.inner.Walks.{around_of, source_of, spot_of, seen, reader_of}
+use Rattle.yaml_read.proofs.reading.Exits.{same_spot, not_mapping_end, entry_is, step_event, step_map}
+use Rattle.yaml_read.proofs.reading.PartExits.{no_key, no_value, one_entry}
+use Rattle.yaml_read.proofs.reading.Loops.{each_ended, each_end, each_fails, each_more, wrap_fails, wrap_finds}
+use Rattle.yaml_read.proofs.de.node.source.Source.+read.Goals as goal
+
+pub read_map-returns-in_default : goal.read_map-returns-in_default
+read_map-returns-in_default t c = record {
+  gives = λ fuel lt. rw (step_event (source_of c.args.self.now) (reader_of fuel c.args.self.now)
+      (way_of c.args.path.now) (shape_of c.args.shape.now) c.args.nest (around_of c.args.taken)
+      (spot_of c.args.walk.now) _ _ (sym c.requires.here)
+      (ap (λ s. handed s (is_some (around_of c.args.taken)) (doc_event_of c.args.event.now)) c.requires.mapping))
+      (c.read_simple.ensures.gives fuel _ lt);
+  moves = c.read_simple.ensures.moves;
+  cost = c.read_simple.ensures.cost;
+}
+
+pub read_map-returns-in-Ok-clause-gives : goal.read_map-returns-in-Ok-clause-gives
+read_map-returns-in-Ok-clause-gives t c = λ fuel lt.
+    let some : 0 < c.args.nest = omega (arith, c.if-nest-eq0.false) in
+    let left = c.step.ensures.left in
+    let seen_as : data_of (Map c.in-Ok.entries) ≡ map_data (entries_of (map entry_of c.in-Ok.entries.items)) =
+    search (rules, the_lemmas) in
+    step_map (source_of c.args.self.now) (reader_of fuel c.args.self.now) (way_of c.args.path.now)
+    (shape_of c.args.shape.now) c.args.nest (around_of c.args.taken)
+    (spot_of c.args.walk.now) c.args.key.0 c.args.value.0 _ _ _ _ c.requires.mapping
+    (sym (c.requires.here ∙ ap (λ e. Some (doc_event_of e, c.args.mark)) c.in-MappingStart.is)) some
+    c.shape-key.ensures.found c.shape-value.ensures.found
+    ∙ wrap_finds (λ vs. map_data (entries_of vs)) _ _ _
+    (rw (same_spot (spot_of c.step.new.self) (after (spot_of c.args.walk.now)) c.step.ensures.place c.step.ensures.left)
+    at (c.in-Ok.ensures.gives fuel (length c.args.self.now.events.now) (omega (arith, some, left))
+    (omega (arith, c.step.ensures.place))))
+    ∙ ap (λ v. Ok (v, spot_of c.read_entries.new.walk)) (sym seen_as)
+
+pub read_map-returns-in-Err-clause-gives : goal.read_map-returns-in-Err-clause-gives
+read_map-returns-in-Err-clause-gives t c = λ fuel lt fault.
+    let some : 0 < c.args.nest = omega (arith, c.if-nest-eq0.false) in
+    let left = c.step.ensures.left in
+    step_map (source_of c.args.self.now) (reader_of fuel c.args.self.now) (way_of c.args.path.now)
+    (shape_of c.args.shape.now) c.args.nest (around_of c.args.taken)
+    (spot_of c.args.walk.now) c.args.key.0 c.args.value.0 _ _ _ _ c.requires.mapping
+    (sym (c.requires.here ∙ ap (λ e. Some (doc_event_of e, c.args.mark)) c.in-MappingStart.is)) some
+    c.shape-key.ensures.found c.shape-value.ensures.found
+    ∙ wrap_fails (λ vs. map_data (entries_of vs)) _ _
+    (rw (same_spot (spot_of c.step.new.self) (after (spot_of c.args.walk.now)) c.step.ensures.place c.step.ensures.left)
+    at (c.in-Err.ensures.gives fuel (length c.args.self.now.events.now) (omega (arith, some, left))
+    (omega (arith, c.step.ensures.place)) fault))
+
+pub read_entries-returns-in_default-clause-gives : goal.read_entries-returns-in_default-clause-gives
+read_entries-returns-in_default-clause-gives t c = λ fuel turns lt big fault.
+    let l = c.loop-event in
+    let n = turns - length l.entries.items - 1 in
+    let split : turns ≡ suc n + length l.entries.items = omega (arith, l.invariant.turned, l.invariant.within) in
+    ap (λ (m : ℕ). mapping_parts (source_of c.args.self.now)
+    (entry_at (source_of c.args.self.now) (reader_of fuel c.args.self.now) (way_of c.args.path.now)
+    (shape_of c.args.key.now) (shape_of c.args.value.now) c.args.nest) m [] (spot_of c.args.walk.now)) split
+    ∙ l.invariant.rest fuel (suc n) lt
+    ∙ each_ended is_mapping_end (entry_at (source_of c.args.self.now) (reader_of fuel c.args.self.now)
+    (way_of c.args.path.now) (shape_of c.args.key.now) (shape_of c.args.value.now) c.args.nest)
+    (seen c.args.self.now.events.now) n _ (spot_of l.walk) (sym c.in_default.ensures.found)
+    ∙ ap Err (sym (c.ended.ensures fault))
+
+pub read_entries-returns-in-MappingEnd-clause-gives : goal.read_entries-returns-in-MappingEnd-clause-gives
+read_entries-returns-in-MappingEnd-clause-gives t c = λ fuel turns lt big.
+    let l = c.loop-event in
+    let n = turns - length l.entries.items - 1 in
+    let split : turns ≡ suc n + length l.entries.items = omega (arith, l.invariant.turned, l.invariant.within) in
+    ap (λ (m : ℕ). mapping_parts (source_of c.args.self.now)
+    (entry_at (source_of c.args.self.now) (reader_of fuel c.args.self.now) (way_of c.args.path.now)
+    (shape_of c.args.key.now) (shape_of c.args.value.now) c.args.nest) m [] (spot_of c.args.walk.now)) split
+    ∙ l.invariant.rest fuel (suc n) lt
+    ∙ each_end is_mapping_end (entry_at (source_of c.args.self.now) (reader_of fuel c.args.self.now)
+    (way_of c.args.path.now) (shape_of c.args.key.now) (shape_of c.args.value.now) c.args.nest)
+    (seen c.args.self.now.events.now) n _ (spot_of l.walk) _ (sym c.in-Some.ensures.found)
+    (ap (λ e. is_mapping_end (doc_event_of e)) c.in-MappingEnd.is)
+    ∙ ap (λ (s : Spot). Ok (map entry_of l.entries.items, s))
+    (sym (same_spot (spot_of c.step.new.self) (after (spot_of l.walk)) c.step.ensures.place c.step.ensures.left))
+
+pub read_entries-returns-in-Err : goal.read_entries-returns-in-Err
+read_entries-returns-in-Err t c =
+    let l = c.loop-event in
+    record {
+      gives = λ fuel turns lt big fault.
+          let n = turns - length l.entries.items - 1 in
+          let split : turns ≡ suc n + length l.entries.items =
+          omega (arith, l.invariant.turned, l.invariant.within, c.in-Some.ensures.within) in
+          ap (λ (m : ℕ). mapping_parts (source_of c.args.self.now)
+          (entry_at (source_of c.args.self.now) (reader_of fuel c.args.self.now) (way_of c.args.path.now)
+          (shape_of c.args.key.now) (shape_of c.args.value.now) c.args.nest) m [] (spot_of c.args.walk.now)) split
+          ∙ l.invariant.rest fuel (suc n) lt
+          ∙ each_fails is_mapping_end (entry_at (source_of c.args.self.now) (reader_of fuel c.args.self.now)
+          (way_of c.args.path.now) (shape_of c.args.key.now) (shape_of c.args.value.now) c.args.nest)
+          (seen c.args.self.now.events.now) n _ (spot_of l.walk) _ _ (sym c.in-Some.ensures.found)
+          (not_mapping_end _ c.in_default-event.not-MappingEnd)
+          (no_key (source_of c.args.self.now) (reader_of fuel c.args.self.now) (way_of c.args.path.now)
+          (shape_of c.args.key.now) (shape_of c.args.value.now) c.args.nest _ (spot_of l.walk) _
+          (c.in-Err.ensures.gives fuel (omega (arith, l.invariant.left, c.requires.reach)) fault));
+      moves = tt;
+      cost = omega (arith, l.invariant.cost, c.in-Err.ensures.cost);
+    }
+
+pub read_entries-returns-in-Err-read_value : goal.read_entries-returns-in-Err-read_value
+read_entries-returns-in-Err-read_value t c =
+    let l = c.loop-event in
+    let there : value_under (way_of c.args.path.now) _ ≡ value_way (way_of c.args.path.now)
+    (seen c.args.self.now.events.now l.walk.place) =
+    ap (value_way (way_of c.args.path.now)) c.in-Some.ensures.found in
+    let moves = c.in-Ok.ensures.moves in
+    record {
+      gives = λ fuel turns lt big fault.
+          let n = turns - length l.entries.items - 1 in
+          let split : turns ≡ suc n + length l.entries.items =
+          omega (arith, l.invariant.turned, l.invariant.within, c.in-Some.ensures.within) in
+          ap (λ (m : ℕ). mapping_parts (source_of c.args.self.now)
+          (entry_at (source_of c.args.self.now) (reader_of fuel c.args.self.now) (way_of c.args.path.now)
+          (shape_of c.args.key.now) (shape_of c.args.value.now) c.args.nest) m [] (spot_of c.args.walk.now)) split
+          ∙ l.invariant.rest fuel (suc n) lt
+          ∙ each_fails is_mapping_end (entry_at (source_of c.args.self.now) (reader_of fuel c.args.self.now)
+          (way_of c.args.path.now) (shape_of c.args.key.now) (shape_of c.args.value.now) c.args.nest)
+          (seen c.args.self.now.events.now) n _ (spot_of l.walk) _ _ (sym c.in-Some.ensures.found)
+          (not_mapping_end _ c.in_default-event.not-MappingEnd)
+          (no_value (source_of c.args.self.now) (reader_of fuel c.args.self.now) (way_of c.args.path.now)
+          (shape_of c.args.key.now) (shape_of c.args.value.now) c.args.nest _ (spot_of l.walk) _ _ _
+          (c.in-Ok.ensures.gives fuel (omega (arith, l.invariant.left, c.requires.reach)))
+          (rw there at (c.in-Err-read_value.ensures.gives fuel
+          (omega (arith, l.invariant.left, moves, c.requires.reach_value)) fault)));
+      moves = tt;
+      cost = omega (arith, l.invariant.cost, moves, c.in-Err-read_value.ensures.cost);
+    }
+
+pub read_entries-loop-event-preserved : goal.read_entries-loop-event-preserved
+read_entries-loop-event-preserved t c =
+    let l = c.loop-event in
+    let there : value_under (way_of c.args.path.now) _ ≡ value_way (way_of c.args.path.now)
+    (seen c.args.self.now.events.now l.walk.place) =
+    ap (value_way (way_of c.args.path.now)) c.in-Some.ensures.found in
+    let new : Entry = record { key = c.in-Ok.name; value = c.in-Ok-read_value.content } in
+    let one : c.push.new.self.items ≡ l.entries.items ++ new ∷ [] = search rules in
+    let longer : length c.push.new.self.items ≡ length l.entries.items + 1 =
+    rw one (length-append l.entries.items (new ∷ [])) in
+    let seen_as : map entry_of l.entries.items ++ (data_of new.key, data_of new.value) ∷ []
+    ≡ map entry_of c.push.new.self.items = rw (one, ← (entry_is new))
+    (sym (map-append entry_of l.entries.items (new ∷ []))) in
+    let moves = c.in-Ok.ensures.moves in
+    let moves' = c.in-Ok-read_value.ensures.moves in
+    record {
+      within = omega (arith, moves');
+      turned = omega (arith, moves, moves', longer, l.invariant.turned);
+      left = omega (arith, moves, moves', l.invariant.left);
+      counted = omega (arith, moves, moves', l.invariant.counted);
+      cost = omega (arith, moves, moves', l.invariant.cost);
+      rest = λ fuel n lt.
+          let split : n + length c.push.new.self.items ≡ suc n + length l.entries.items = omega (arith, longer) in
+          ap (λ (m : ℕ). mapping_parts (source_of c.args.self.now)
+          (entry_at (source_of c.args.self.now) (reader_of fuel c.args.self.now) (way_of c.args.path.now)
+          (shape_of c.args.key.now) (shape_of c.args.value.now) c.args.nest) m [] (spot_of c.args.walk.now)) split
+          ∙ l.invariant.rest fuel (suc n) lt
+          ∙ each_more is_mapping_end (entry_at (source_of c.args.self.now) (reader_of fuel c.args.self.now)
+          (way_of c.args.path.now) (shape_of c.args.key.now) (shape_of c.args.value.now) c.args.nest)
+          (seen c.args.self.now.events.now) n _ _ (spot_of l.walk) _ _ (sym c.in-Some.ensures.found)
+          (not_mapping_end _ c.in_default-event.not-MappingEnd)
+          (one_entry (source_of c.args.self.now) (reader_of fuel c.args.self.now) (way_of c.args.path.now)
+          (shape_of c.args.key.now) (shape_of c.args.value.now) c.args.nest _ (spot_of l.walk) _ _ _ _
+          (c.in-Ok.ensures.gives fuel (omega (arith, l.invariant.left, c.requires.reach)))
+          (rw there at (c.in-Ok-read_value.ensures.gives fuel
+          (omega (arith, l.invariant.left, moves, c.requires.reach_value)))))
+          ∙ ap (λ vs. mapping_parts (source_of c.args.self.now)
+          (entry_at (source_of c.args.self.now) (reader_of fuel c.args.self.now) (way_of c.args.path.now)
+          (shape_of c.args.key.now) (shape_of c.args.value.now) c.args.nest) n vs (spot_of c.read_value.new.walk))
+          seen_as;
+    }

@@ -1,0 +1,199 @@
+-- How the walk ends, and what its loops keep.
+use Rattle.std.proofs.Common.{◌≡◌, ℕ, ◌+◌, ◌*◌, ◌-◌, ◌<◌, ◌≤◌, List, [], map, length}
+use Rattle.std.specs.Prelude.{drop}
+use Rattle.yaml_shape.specs.DataView.{data_of, entry_of, entries_of}
+use Rattle.yaml_shape.specs.PlainData.{PlainData}
+use Rattle.yaml_shape.specs.ShapeView.{shape_of, ids_of, fields_of}
+use Rattle.yaml_tree.specs.Valid.{pairs_of}
+use Rattle.yaml_read.specs.AnyData.{pairs_in}
+use Rattle.yaml_read.specs.Fields.{no_slots}
+use Rattle.std.specs.Option.{is_some}
+use Rattle.yaml_read.specs.Handing.{reach, untaken_reach}
+use Rattle.yaml_read.specs.Places.{way_of}
+use Rattle.yaml_read.specs.Rows.{row_of}
+use Rattle.yaml_read.specs.inner.Reader.{sequence_parts, mapping_parts, item_at, entry_at, any_entry_at, row_at}
+use Rattle.yaml_read.specs.inner.Reader.{field_at}
+use Rattle.yaml_read.specs.inner.Walks.{around_of, source_of, spot_of, reader_of, potential, slots_of}
+use Rattle.yaml_read.proofs.de.node.source.Source.+read.Given as goal
+
+abbrev pub decreases-read_node : goal.decreases-read_node
+decreases-read_node l = 100000 * (l.walk.now.left + l.nest) +
+    (10 * untaken_reach (is_some (around_of l.taken)) + 8 * reach l.self.now.schema.now (shape_of l.shape.now) + 5)
+
+abbrev pub decreases-read_unplaced : goal.decreases-read_unplaced
+decreases-read_unplaced l = 100000 * (l.walk.now.left + l.nest) +
+    (10 * untaken_reach (is_some (around_of l.taken)) + 8 * reach l.self.now.schema.now (shape_of l.shape.now) + 4)
+
+abbrev pub decreases-read_leaf : goal.decreases-read_leaf
+decreases-read_leaf l = 100000 * (l.walk.now.left + l.nest) +
+    (10 * untaken_reach (is_some (around_of l.taken)) + 8 * reach l.self.now.schema.now (shape_of l.shape.now) + 3)
+
+abbrev pub decreases-read_option : goal.decreases-read_option
+decreases-read_option l = 100000 * (l.walk.now.left + l.nest) +
+    (10 * untaken_reach (is_some (around_of l.taken)) + 8 * reach l.self.now.schema.now (shape_of l.shape.now) + 3)
+
+abbrev pub decreases-read_newtype : goal.decreases-read_newtype
+decreases-read_newtype l = 100000 * (l.walk.now.left + l.nest) + (10 * untaken_reach (is_some (around_of l.taken)) + 3)
+
+abbrev pub decreases-read_seq : goal.decreases-read_seq
+decreases-read_seq l = 100000 * (l.walk.now.left + l.nest) +
+    (10 * untaken_reach (is_some (around_of l.taken)) + 8 * reach l.self.now.schema.now (shape_of l.shape.now) + 3)
+
+abbrev pub decreases-read_tuple : goal.decreases-read_tuple
+decreases-read_tuple l = 100000 * (l.walk.now.left + l.nest) +
+    (10 * untaken_reach (is_some (around_of l.taken)) + 8 * reach l.self.now.schema.now (shape_of l.shape.now) + 3)
+
+abbrev pub decreases-read_map : goal.decreases-read_map
+decreases-read_map l = 100000 * (l.walk.now.left + l.nest) +
+    (10 * untaken_reach (is_some (around_of l.taken)) + 8 * reach l.self.now.schema.now (shape_of l.shape.now) + 3)
+
+abbrev pub decreases-read_struct : goal.decreases-read_struct
+decreases-read_struct l = 100000 * (l.walk.now.left + l.nest) +
+    (10 * untaken_reach (is_some (around_of l.taken)) + 8 * reach l.self.now.schema.now (shape_of l.shape.now) + 3)
+
+abbrev pub decreases-read_fields : goal.decreases-read_fields
+decreases-read_fields l = 100000 * (l.walk.now.left + l.nest) + 73780
+
+abbrev pub decreases-read_field : goal.decreases-read_field
+decreases-read_field l = 100000 * (l.walk.now.left + l.nest) + 73779
+
+abbrev pub decreases-read_name : goal.decreases-read_name
+decreases-read_name l = 100000 * (l.walk.now.left + l.nest) + 41006
+
+abbrev pub decreases-read_simple : goal.decreases-read_simple
+decreases-read_simple l = 100000 * (l.walk.now.left + l.nest) +
+    (10 * untaken_reach (is_some (around_of l.taken)) + 8 * reach l.self.now.schema.now (shape_of l.shape.now) + 2)
+
+abbrev pub decreases-read_part : goal.decreases-read_part
+decreases-read_part l = 100000 * (l.walk.now.left + l.nest) +
+    (41000 + 8 * reach l.self.now.schema.now (shape_of l.shape.now) + 7)
+
+abbrev pub decreases-read_further : goal.decreases-read_further
+decreases-read_further l = 100000 * (l.walk.now.left + l.nest) +
+    (41000 + 8 * reach l.self.now.schema.now (shape_of l.shape.now) + 6)
+
+abbrev pub decreases-read_value : goal.decreases-read_value
+decreases-read_value l = 100000 * (l.walk.now.left + l.nest) +
+    (41000 + 8 * reach l.self.now.schema.now (shape_of l.shape.now) + 8)
+
+abbrev pub decreases-read_items : goal.decreases-read_items
+decreases-read_items l = 100000 * (l.walk.now.left + l.nest) + 73780
+
+abbrev pub decreases-read_elements : goal.decreases-read_elements
+decreases-read_elements l = 100000 * (l.walk.now.left + l.nest) + 73780
+
+abbrev pub decreases-read_entries : goal.decreases-read_entries
+decreases-read_entries l = 100000 * (l.walk.now.left + l.nest) + 73780
+
+abbrev pub invariant-read_items-loop-event : goal.invariant-read_items-loop-event
+invariant-read_items-loop-event l = record {
+  within : l.walk.place ≤ length l.self.events.now;
+  turned : length l.items.items + l.fn.walk.place ≤ l.walk.place;
+  left : l.walk.left ≤ l.fn.walk.left;
+  counted : l.fn.walk.steps.count + l.walk.place ≤ l.walk.steps.count + l.fn.walk.place;
+  cost : l.walk.steps.count + potential (length l.self.events.now) l.walk ≤ l.fn.walk.steps.count + potential
+      (length l.self.events.now) l.fn.walk;
+  rest : (fuel n : ℕ) → 8200 * (l.fn.walk.left + l.nest) + 8196 < fuel →
+      sequence_parts (source_of l.self) (item_at (reader_of fuel l.self) (way_of l.path) (shape_of l.element) l.nest)
+      (n + length l.items.items) [] (spot_of l.fn.walk)
+      ≡ sequence_parts (source_of l.self) (item_at (reader_of fuel l.self) (way_of l.path) (shape_of l.element) l.nest)
+      n (map data_of l.items.items) (spot_of l.walk);
+}
+
+abbrev pub decreases-read_items-loop-event : goal.decreases-read_items-loop-event
+decreases-read_items-loop-event l = length l.self.events.now - l.walk.place
+
+abbrev pub invariant-read_entries-loop-event : goal.invariant-read_entries-loop-event
+invariant-read_entries-loop-event l = record {
+  within : l.walk.place ≤ length l.self.events.now;
+  turned : length l.entries.items + l.fn.walk.place ≤ l.walk.place;
+  left : l.walk.left ≤ l.fn.walk.left;
+  counted : l.fn.walk.steps.count + l.walk.place ≤ l.walk.steps.count + l.fn.walk.place;
+  cost : l.walk.steps.count + potential (length l.self.events.now) l.walk ≤ l.fn.walk.steps.count + potential
+      (length l.self.events.now) l.fn.walk;
+  rest : (fuel n : ℕ) → 8200 * (l.fn.walk.left + l.nest) + 8196 < fuel →
+      mapping_parts (source_of l.self) (entry_at (source_of l.self) (reader_of fuel l.self) (way_of l.path)
+      (shape_of l.key) (shape_of l.value) l.nest) (n + length l.entries.items) [] (spot_of l.fn.walk)
+      ≡ mapping_parts (source_of l.self) (entry_at (source_of l.self) (reader_of fuel l.self) (way_of l.path)
+      (shape_of l.key) (shape_of l.value) l.nest) n (map entry_of l.entries.items) (spot_of l.walk);
+}
+
+abbrev pub decreases-read_entries-loop-event : goal.decreases-read_entries-loop-event
+decreases-read_entries-loop-event l = length l.self.events.now - l.walk.place
+
+abbrev pub invariant-read_elements-loop-event : goal.invariant-read_elements-loop-event
+invariant-read_elements-loop-event l = record {
+  within : l.walk.place ≤ length l.self.events.now;
+  turned : length l.read.items + l.extra + l.fn.walk.place ≤ l.walk.place;
+  left : l.walk.left ≤ l.fn.walk.left;
+  counted : l.fn.walk.steps.count + l.walk.place ≤ l.walk.steps.count + l.fn.walk.place;
+  cost : l.walk.steps.count + potential (length l.self.events.now) l.walk ≤ l.fn.walk.steps.count + potential
+      (length l.self.events.now) l.fn.walk;
+  rest : (fuel n : ℕ) → 8200 * (l.fn.walk.left + l.nest) + 8196 < fuel →
+      sequence_parts (source_of l.self) (row_at (source_of l.self) (reader_of fuel l.self) (way_of l.path) l.nest)
+      (n + (length l.read.items + l.extra)) (row_of (ids_of l.items)) (spot_of l.fn.walk)
+      ≡ sequence_parts (source_of l.self) (row_at (source_of l.self) (reader_of fuel l.self) (way_of l.path) l.nest) n
+      (record { left = drop (length l.read.items) (ids_of l.items); read = map data_of l.read.items; extra = l.extra })
+      (spot_of l.walk);
+}
+
+abbrev pub decreases-read_elements-loop-event : goal.decreases-read_elements-loop-event
+decreases-read_elements-loop-event l = length l.self.events.now - l.walk.place
+
+abbrev pub invariant-read_fields-loop-event : goal.invariant-read_fields-loop-event
+invariant-read_fields-loop-event l = (turns : ℕ) × record {
+  within : l.walk.place ≤ length l.self.events.now;
+  wide : length l.slots.items ≡ length l.fields;
+  turned : turns + l.fn.walk.place ≤ l.walk.place;
+  left : l.walk.left ≤ l.fn.walk.left;
+  counted : l.fn.walk.steps.count + l.walk.place ≤ l.walk.steps.count + l.fn.walk.place;
+  cost : l.walk.steps.count + potential (length l.self.events.now) l.walk ≤ l.fn.walk.steps.count + potential
+      (length l.self.events.now) l.fn.walk;
+  rest : (fuel n : ℕ) → 8200 * (l.fn.walk.left + l.nest) + 8196 < fuel →
+      mapping_parts (source_of l.self) (field_at (source_of l.self) (reader_of fuel l.self) (way_of l.path) l.strict
+      (fields_of l.fields) l.nest) (n + turns) (no_slots (fields_of l.fields)) (spot_of l.fn.walk)
+      ≡ mapping_parts (source_of l.self) (field_at (source_of l.self) (reader_of fuel l.self) (way_of l.path) l.strict
+      (fields_of l.fields) l.nest) n (slots_of l.slots.items) (spot_of l.walk);
+}
+
+abbrev pub decreases-read_fields-loop-event : goal.decreases-read_fields-loop-event
+decreases-read_fields-loop-event l = length l.self.events.now - l.walk.place
+
+abbrev pub decreases-read_enum : goal.decreases-read_enum
+decreases-read_enum l = 100000 * (l.walk.now.left + l.nest) +
+    (10 * untaken_reach (is_some (around_of l.taken)) + 8 * reach l.self.now.schema.now (shape_of l.shape.now) + 3)
+
+abbrev pub decreases-read_content : goal.decreases-read_content
+decreases-read_content l = 100000 * (l.walk.now.left + l.nest) + 32774
+
+abbrev pub decreases-read_variant_row : goal.decreases-read_variant_row
+decreases-read_variant_row l = 100000 * (l.walk.now.left + l.nest) + 1
+
+abbrev pub decreases-read_variant_fields : goal.decreases-read_variant_fields
+decreases-read_variant_fields l = 100000 * (l.walk.now.left + l.nest) + 1
+
+abbrev pub decreases-read_any : goal.decreases-read_any
+decreases-read_any l = 100000 * (l.walk.now.left + l.nest) +
+    (10 * untaken_reach (is_some (around_of l.taken)) + 8 * reach l.self.now.schema.now (shape_of l.shape.now) + 3)
+
+abbrev pub decreases-read_pairs : goal.decreases-read_pairs
+decreases-read_pairs l = 100000 * (l.walk.now.left + l.nest) + 73780
+
+abbrev pub invariant-read_pairs-loop-event : goal.invariant-read_pairs-loop-event
+invariant-read_pairs-loop-event l = (vs : List (PlainData × PlainData)) × record {
+  same : pairs_in (entries_of vs) ≡ pairs_of l.pairs;
+  within : l.walk.place ≤ length l.self.events.now;
+  turned : length vs + l.fn.walk.place ≤ l.walk.place;
+  left : l.walk.left ≤ l.fn.walk.left;
+  counted : l.fn.walk.steps.count + l.walk.place ≤ l.walk.steps.count + l.fn.walk.place;
+  cost : l.walk.steps.count + potential (length l.self.events.now) l.walk ≤ l.fn.walk.steps.count + potential
+      (length l.self.events.now) l.fn.walk;
+  rest : (fuel n : ℕ) → 8200 * (l.fn.walk.left + l.nest) + 8196 < fuel →
+      mapping_parts (source_of l.self) (any_entry_at (source_of l.self) (reader_of fuel l.self) (way_of l.path) l.nest)
+      (n + length vs) [] (spot_of l.fn.walk)
+      ≡ mapping_parts (source_of l.self) (any_entry_at (source_of l.self) (reader_of fuel l.self)
+      (way_of l.path) l.nest) n vs (spot_of l.walk);
+}
+
+abbrev pub decreases-read_pairs-loop-event : goal.decreases-read_pairs-loop-event
+decreases-read_pairs-loop-event l = length l.self.events.now - l.walk.place

@@ -1,0 +1,135 @@
+//! Any value: a scalar, a list, or a mapping, under its tag where it has one.
+
+ghost use Rattle.std.specs.Prelude.{◌≡◌, ℕ, suc, ◌+◌, ◌*◌, ◌<◌, ◌≤◌, [], length, IfOk, OnOk, false};
+ghost use Rattle.std.specs.Option.{is_some};
+ghost use Rattle.yaml_base.specs.Answer.{Gives};
+ghost use Rattle.yaml_shape.specs.DataView.{data_of, entries_of};
+ghost use Rattle.yaml_shape.specs.PlainShape.{any_shape};
+ghost use Rattle.yaml_shape.specs.ShapeView.{shape_of};
+ghost use Rattle.yaml_tree.specs.Valid.{pairs_of};
+ghost use Rattle.yaml_read.specs.AnyData.{pairs_in};
+ghost use Rattle.yaml_read.specs.Ends.{GoForward};
+ghost use Rattle.yaml_read.specs.Handing.{depth};
+ghost use Rattle.yaml_read.specs.Places.{way_of};
+ghost use Rattle.yaml_read.specs.Steps.{wrap};
+ghost use Rattle.yaml_read.specs.inner.Reader.{shape_step, any_entry_at, mapping_parts};
+ghost use Rattle.yaml_read.specs.inner.Walks.{around_of, source_of, spot_of, reader_of, seen, MovesOn, Costs};
+
+use crate::de::node::any_parts::{
+    any_list, any_tagged, duplicate_entry, has_key, put_pair, value_in,
+};
+use crate::de::node::source::Source;
+use crate::de::node::too_deep;
+use crate::de::read_refusal::{Result, ended};
+use crate::de::taken_tag::{TakenBy, is_taken, untaken_name};
+use crate::doc_event::DocEvent;
+use crate::walk::Walk;
+use yaml_base::Path;
+use yaml_shape::{Data, Shape};
+use yaml_tree::{Mapping, Value};
+
+impl<'s, 'de> Source<'s, 'de> {
+    /// Any value.
+    #[cycle(read)]
+    pub(crate) fn read_any(
+        &self,
+        path: &Path<'_>,
+        shape: &Shape,
+        nest: u8,
+        taken: Option<&TakenBy<'_>>,
+        walk: &mut Walk,
+    ) -> Result<Data<'de>>
+        requires shape { shape_of shape.now ≡ any_shape }
+        requires forward { GoForward self.now.ends.now }
+        ensures gives { (fuel : ℕ) → depth self.now.schema.now (shape_of shape.now)
+            (is_some (around_of taken.entry)) nest walk.old.left < suc fuel
+            → Gives (λ x. (data_of x, spot_of walk.new)) result
+            (shape_step (source_of self.now) (reader_of fuel self.now) (way_of path.now) (shape_of shape.now) nest
+            (around_of taken.entry)
+            (spot_of walk.old) (seen self.now.events.now walk.old.place)) }
+        ensures moves { OnOk result (MovesOn (length self.now.events.now) walk.old walk.new) }
+        ensures cost { Costs (length self.now.events.now) walk.old walk.new }
+    {
+        let Some((event, mark)) = self.event(walk.place) else {
+            return Err(ended(self.alloc));
+        };
+        if let Some(name) = untaken_name(event, is_taken(taken)) {
+            let around = TakenBy {
+                name: "",
+                variant: "",
+            };
+            return match self.read_node(path, shape, nest, Some(&around), walk) {
+                Ok(data) => any_tagged(self.alloc, name, data),
+                Err(refusal) => Err(refusal),
+            };
+        }
+        match event {
+            DocEvent::SequenceStart(_) => {
+                if nest == 0 {
+                    return Err(too_deep(self.alloc, *mark));
+                }
+                walk.step();
+                match self.read_items(path, shape, 0, nest - 1, walk) {
+                    Ok(items) => any_list(self.alloc, items),
+                    Err(refusal) => Err(refusal),
+                }
+            }
+            DocEvent::MappingStart(_) => {
+                if nest == 0 {
+                    return Err(too_deep(self.alloc, *mark));
+                }
+                walk.step();
+                match self.read_pairs(path, shape, nest - 1, walk) {
+                    Ok(pairs) => Ok(Data::Any(Value::Mapping(pairs))),
+                    Err(refusal) => Err(refusal),
+                }
+            }
+            _ => self.read_simple(path, shape, event, nest, taken, walk),
+        }
+    }
+
+    /// The pairs of a mapping of any values, to its end.
+    #[cycle(read)]
+    pub(crate) fn read_pairs(
+        &self,
+        path: &Path<'_>,
+        any: &Shape,
+        nest: u8,
+        walk: &mut Walk,
+    ) -> Result<Mapping>
+        requires shape { shape_of any.now ≡ any_shape }
+        requires within { walk.old.place ≤ length self.now.events.now }
+        requires forward { GoForward self.now.ends.now }
+        ensures gives { (fuel turns : ℕ) → 8200 * (walk.old.left + nest) + 8196 < fuel
+            → length self.now.events.now < turns + walk.old.place
+            → Gives (λ x. (pairs_of x, spot_of walk.new)) result
+            (wrap (λ vs. pairs_in (entries_of vs)) (mapping_parts (source_of self.now)
+            (any_entry_at (source_of self.now) (reader_of fuel self.now) (way_of path.now) nest)
+            turns [] (spot_of walk.old))) }
+        ensures moves { OnOk result (MovesOn (length self.now.events.now) walk.old walk.new) }
+        ensures cost { Costs (length self.now.events.now) walk.old walk.new }
+    {
+        let mut pairs = Mapping::new(self.alloc);
+        loop {
+            let Some((event, mark)) = self.event(walk.place) else {
+                return Err(ended(self.alloc));
+            };
+            if let DocEvent::MappingEnd = event {
+                walk.step();
+                return Ok(pairs);
+            }
+            let key = match self.read_part(path, any, false, event, *mark, nest, walk) {
+                Ok(key) => value_in(key),
+                Err(refusal) => return Err(refusal),
+            };
+            if has_key(&pairs, &key) {
+                return Err(duplicate_entry(self.alloc, &key));
+            }
+            let value = match self.read_value(path, event, any, false, nest, walk) {
+                Ok(value) => value_in(value),
+                Err(refusal) => return Err(refusal),
+            };
+            put_pair(&mut pairs, key, value)?;
+        }
+    }
+}

@@ -1,0 +1,157 @@
+//! The parts of collections.
+
+ghost use Rattle.std.specs.Prelude.{◌≡◌, ℕ, ◌<◌, length, None, OnOk, Some, false};
+ghost use Rattle.yaml_base.specs.Answer.{Gives};
+ghost use Rattle.yaml_shape.specs.DataView.{data_of};
+ghost use Rattle.yaml_shape.specs.ShapeView.{shape_of};
+ghost use Rattle.yaml_shape.specs.Validity.{NamesWithin};
+ghost use Rattle.yaml_read.specs.DocEventView.{doc_event_of};
+ghost use Rattle.yaml_read.specs.Ends.{GoForward};
+ghost use Rattle.yaml_read.specs.Handing.{depth};
+ghost use Rattle.yaml_read.specs.Places.{value_under, way_of};
+ghost use Rattle.yaml_read.specs.inner.Reader.{is_leaf};
+ghost use Rattle.yaml_read.specs.inner.Walks.{spot_of, reader_of, seen, MovesOn, Costs};
+
+use crate::de::node::fault_place::{at_place, value_path};
+use crate::de::node::source::Source;
+use crate::de::read_refusal::Result;
+use crate::de::scalar::read_scalar;
+use crate::doc_event::DocEvent;
+use crate::walk::Walk;
+use yaml_base::{Mark, Path};
+use yaml_shape::{Data, Shape};
+
+impl<'s, 'de> Source<'s, 'de> {
+    /// A part of a collection, which begins with the event. Of a scalar it is known at once what it gives under a shape
+    /// that reads scalars alone.
+    #[cycle(read)]
+    #[inline(always)]
+    pub(crate) fn read_part(
+        &self,
+        path: &Path<'_>,
+        shape: &Shape,
+        leaf: bool,
+        event: &DocEvent<'de>,
+        mark: Mark,
+        nest: u8,
+        walk: &mut Walk,
+    ) -> Result<Data<'de>>
+        requires leaf { leaf ≡ is_leaf (shape_of shape.now) }
+        requires here { seen self.now.events.now walk.old.place ≡ Some (doc_event_of event.now, mark) }
+        requires within { walk.old.place < length self.now.events.now }
+        requires named { NamesWithin (length self.now.schema.now) (shape_of shape.now) }
+        requires forward { GoForward self.now.ends.now }
+        ensures gives { (fuel : ℕ) → depth self.now.schema.now (shape_of shape.now) false nest walk.old.left < fuel
+            → Gives (λ x. (data_of x, spot_of walk.new)) result
+            (reader_of fuel self.now (way_of path.now) (shape_of shape.now) nest None (spot_of walk.old)) }
+        ensures moves { OnOk result (MovesOn (length self.now.events.now) walk.old walk.new) }
+        ensures cost { Costs (length self.now.events.now) walk.old walk.new }
+    {
+        if leaf {
+            if let DocEvent::Scalar(scalar) = event {
+                walk.step();
+                return match read_scalar(self.alloc, shape, false, scalar) {
+                    Ok(data) => Ok(data),
+                    Err(refusal) => Err(at_place(self.alloc, refusal, mark, path)),
+                };
+            }
+        }
+        self.read_further(path, shape, leaf, event, mark, nest, walk)
+    }
+
+    /// The same, where it is an alias, a collection, or a scalar under any other shape.
+    #[cycle(read)]
+    pub(crate) fn read_further(
+        &self,
+        path: &Path<'_>,
+        shape: &Shape,
+        leaf: bool,
+        event: &DocEvent<'de>,
+        mark: Mark,
+        nest: u8,
+        walk: &mut Walk,
+    ) -> Result<Data<'de>>
+        requires leaf { leaf ≡ is_leaf (shape_of shape.now) }
+        requires here { seen self.now.events.now walk.old.place ≡ Some (doc_event_of event.now, mark) }
+        requires within { walk.old.place < length self.now.events.now }
+        requires named { NamesWithin (length self.now.schema.now) (shape_of shape.now) }
+        requires forward { GoForward self.now.ends.now }
+        ensures gives { (fuel : ℕ) → depth self.now.schema.now (shape_of shape.now) false nest walk.old.left < fuel
+            → Gives (λ x. (data_of x, spot_of walk.new)) result
+            (reader_of fuel self.now (way_of path.now) (shape_of shape.now) nest None (spot_of walk.old)) }
+        ensures moves { OnOk result (MovesOn (length self.now.events.now) walk.old walk.new) }
+        ensures cost { Costs (length self.now.events.now) walk.old walk.new }
+    {
+        if leaf {
+            if let DocEvent::Alias(target) = event {
+                if walk.left > 0 {
+                    if let Some((scalar, there)) = self.scalar(*target) {
+                        walk.follow();
+                        return match read_scalar(self.alloc, shape, false, scalar) {
+                            Ok(data) => Ok(data),
+                            Err(refusal) => {
+                                let placed = at_place(self.alloc, refusal, *there, path);
+                                Err(at_place(self.alloc, placed, mark, path))
+                            }
+                        };
+                    }
+                }
+            }
+        }
+        match shape {
+            Shape::Seq(element) => {
+                match self.read_seq(path, shape, *element, event, mark, nest, None, walk) {
+                    Ok(data) => Ok(data),
+                    Err(refusal) => Err(at_place(self.alloc, refusal, mark, path)),
+                }
+            }
+            Shape::Map(key, value) => {
+                match self.read_map(path, shape, *key, *value, event, mark, nest, None, walk) {
+                    Ok(data) => Ok(data),
+                    Err(refusal) => Err(at_place(self.alloc, refusal, mark, path)),
+                }
+            }
+            _ => self.read_node(path, shape, nest, None, walk),
+        }
+    }
+
+    /// The value behind a key that begins with an event. The way to it is made up only where it is asked for.
+    #[cycle(read)]
+    pub(crate) fn read_value(
+        &self,
+        path: &Path<'_>,
+        key: &DocEvent<'de>,
+        shape: &Shape,
+        leaf: bool,
+        nest: u8,
+        walk: &mut Walk,
+    ) -> Result<Data<'de>>
+        requires leaf { leaf ≡ is_leaf (shape_of shape.now) }
+        requires named { NamesWithin (length self.now.schema.now) (shape_of shape.now) }
+        requires forward { GoForward self.now.ends.now }
+        ensures gives { (fuel : ℕ) → depth self.now.schema.now (shape_of shape.now) false nest walk.old.left < fuel
+            → Gives (λ x. (data_of x, spot_of walk.new)) result
+            (reader_of fuel self.now (value_under (way_of path.now) (doc_event_of key.now))
+            (shape_of shape.now) nest None
+            (spot_of walk.old)) }
+        ensures moves { OnOk result (MovesOn (length self.now.events.now) walk.old walk.new) }
+        ensures cost { Costs (length self.now.events.now) walk.old walk.new }
+    {
+        if leaf {
+            if let Some((scalar, mark)) = self.scalar(walk.place) {
+                walk.step();
+                return match read_scalar(self.alloc, shape, false, scalar) {
+                    Ok(data) => Ok(data),
+                    Err(refusal) => {
+                        Err(at_place(self.alloc, refusal, *mark, &value_path(&*path, &*key)))
+                    }
+                };
+            }
+        }
+        let inner = value_path(&*path, &*key);
+        match self.event(walk.place) {
+            Some((event, mark)) => self.read_part(&inner, shape, leaf, event, *mark, nest, walk),
+            None => self.read_node(&inner, shape, nest, None, walk),
+        }
+    }
+}

@@ -1,0 +1,86 @@
+//! Nodes in place of what a variant holds: their data, or what was found.
+
+ghost use Rattle.std.specs.Prelude.{◌≡◌, Bool, Err, false, true};
+ghost use Rattle.yaml_base.specs.Answer.{Gives, is_memory};
+ghost use Rattle.yaml_shape.specs.DataView.{data_of};
+ghost use Rattle.yaml_shape.specs.PlainShape.{struct_variant_shape, tuple_variant_shape};
+ghost use Rattle.yaml_shape.specs.ShapeView.{ids_of};
+ghost use Rattle.yaml_read.specs.DocEventView.{doc_event_of, doc_scalar_of};
+ghost use Rattle.yaml_read.specs.Fields.{Fields};
+ghost use Rattle.yaml_read.specs.ScalarShapes.{scalar_answer};
+ghost use Rattle.yaml_read.specs.inner.Reader.{other_answer};
+
+use crate::de::read_refusal::{Refusal, Result, ended};
+use crate::de::scalar::expected::Expected;
+use crate::de::scalar::mismatch::{
+    found_mapping_for, found_no_variant_elements, found_scalar_for, found_sequence_for,
+};
+use crate::de::scalar::presence::is_empty_plain;
+use crate::de::taken_tag::TakenBy;
+use crate::doc_event::{DocEvent, DocScalar};
+use std::alloc::Global;
+use yaml_shape::{Data, ShapeId};
+
+// A scalar in place of a variant's elements.
+fn scalar_in_row<'de>(
+    alloc: Global,
+    around: &TakenBy<'_>,
+    items: &[ShapeId],
+    scalar: &DocScalar<'_>,
+) -> Result<Data<'de>>
+    ensures { Gives data_of result (scalar_answer
+        (tuple_variant_shape around.now.name.now around.now.variant.now (ids_of items.now)) true
+        (doc_scalar_of scalar.now)) }
+{
+    let name = around.name;
+    let variant = around.variant;
+    if !is_empty_plain(scalar) {
+        let expected = Expected::TupleVariant { name, variant };
+        return Err(found_scalar_for(alloc, &expected, true, scalar));
+    }
+    if items.is_empty() {
+        return Ok(Data::Tuple(Vec::new(alloc)));
+    }
+    Err(found_no_variant_elements(alloc, name, variant, items.len()))
+}
+
+/// A node whose tag is taken, and that is no sequence, in place of a variant's elements.
+pub(crate) fn found_in_row<'de>(
+    alloc: Global,
+    around: &TakenBy<'_>,
+    items: &[ShapeId],
+    event: &DocEvent<'_>,
+) -> Result<Data<'de>>
+    ensures { Gives data_of result (other_answer
+        (tuple_variant_shape around.now.name.now around.now.variant.now (ids_of items.now))
+        (doc_event_of event.now)) }
+{
+    let expected = Expected::TupleVariant {
+        name: around.name,
+        variant: around.variant,
+    };
+    match event {
+        DocEvent::Scalar(scalar) => scalar_in_row(alloc, around, items, scalar),
+        DocEvent::SequenceStart(_) => Err(found_sequence_for(alloc, &expected)),
+        DocEvent::MappingStart(_) => Err(found_mapping_for(alloc, &expected)),
+        _ => Err(ended(alloc)),
+    }
+}
+
+/// The fault of a node whose tag is taken, and that is no mapping, in place of a variant's fields; or want of memory.
+pub(crate) fn found_in_fields(alloc: Global, around: &TakenBy<'_>, event: &DocEvent<'_>) -> Refusal
+    ensures { (strict : Bool) (fields : Fields) → is_memory result ≡ false
+        → other_answer (struct_variant_shape strict around.now.name.now around.now.variant.now fields)
+        (doc_event_of event.now) ≡ Err result }
+{
+    let expected = Expected::StructVariant {
+        name: around.name,
+        variant: around.variant,
+    };
+    match event {
+        DocEvent::Scalar(scalar) => found_scalar_for(alloc, &expected, true, scalar),
+        DocEvent::SequenceStart(_) => found_sequence_for(alloc, &expected),
+        DocEvent::MappingStart(_) => found_mapping_for(alloc, &expected),
+        _ => ended(alloc),
+    }
+}

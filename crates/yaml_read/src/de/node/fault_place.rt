@@ -1,0 +1,81 @@
+//! Giving faults their places.
+
+ghost use Rattle.std.specs.Prelude.{◌≡◌, true, false, Err};
+ghost use Rattle.std.specs.Option.{is_some};
+ghost use Rattle.yaml_base.specs.Answer.{is_memory, Fails};
+ghost use Rattle.yaml_shape.specs.ShapeView.{shape_of};
+ghost use Rattle.yaml_read.specs.DocEventView.{doc_event_of};
+ghost use Rattle.yaml_read.specs.Places.{way_of, placed, places, value_under};
+ghost use Rattle.yaml_read.specs.TreeReader.{Spot};
+ghost use Rattle.yaml_read.specs.inner.Reader.{place_at};
+ghost use Rattle.yaml_read.specs.inner.Walks.{around_of, seen};
+
+use crate::de::node::source::Source;
+use crate::de::read_refusal::{Refusal, refuse};
+use crate::de::scalar::sort::text_of;
+use crate::de::taken_tag::{TakenBy, is_taken, untaken_name};
+use crate::doc_event::DocEvent;
+use std::alloc::Global;
+use yaml_base::{Mark, Path};
+use yaml_shape::Shape;
+
+/// The fault at this place, if it has none yet, or want of memory.
+pub(crate) fn at_place(alloc: Global, refusal: Refusal, mark: Mark, path: &Path<'_>) -> Refusal
+    ensures { is_memory result ≡ false → result ≡ placed true mark (way_of path.now) refusal }
+{
+    match refusal.into_error().fix_mark(alloc, mark, path) {
+        Ok(fault) => refuse(alloc, fault),
+        Err(_) => Refusal::memory(),
+    }
+}
+
+// Whether the call for this shape places faults of a node that begins with the event, where its tag is taken or not.
+fn places(shape: &Shape, taken: bool, event: &DocEvent<'_>) -> bool
+    ensures { result ≡ places (shape_of shape.now) taken (doc_event_of event.now) }
+{
+    match shape {
+        Shape::Option(_) | Shape::Newtype { .. } | Shape::IgnoredAny | Shape::Bytes => false,
+        Shape::Enum { .. } => untaken_name(event, taken).is_none(),
+        _ => true,
+    }
+}
+
+impl<'s, 'de> Source<'s, 'de> {
+    /// The fault of the node at a place, with its place, if it has none yet; or want of memory.
+    pub(crate) fn settled(
+        &self,
+        path: &Path<'_>,
+        shape: &Shape,
+        taken: Option<&TakenBy<'_>>,
+        place: usize,
+        refusal: Refusal,
+    ) -> Refusal
+        ensures { Fails result (place_at {A = Spot} (way_of path.now) (shape_of shape.now)
+            (is_some (around_of taken.entry))
+            (seen self.now.events.now place) (Err refusal)) }
+    {
+        let Some((event, mark)) = self.event(place) else {
+            return refusal;
+        };
+        if places(shape, is_taken(taken), event) {
+            return at_place(self.alloc, refusal, *mark, path);
+        }
+        refusal
+    }
+}
+
+/// The way to the value behind a key that begins with the event.
+pub(crate) fn value_path<'a>(path: &'a Path<'a>, event: &'a DocEvent<'_>) -> Path<'a>
+    ensures { way_of result ≡ value_under (way_of path.now) (doc_event_of event.now) }
+{
+    match event {
+        DocEvent::Scalar(scalar) => match text_of(scalar) {
+            Some(text) => Path::Map {
+                parent: path,
+                key: text,
+            },
+            None => Path::Unknown { parent: path },
+        },
+        _ => Path::Unknown { parent: path },
+    }
+}

@@ -1,0 +1,285 @@
+//! A struct: a mapping from names of fields to their values.
+
+ghost use Rattle.std.specs.Prelude.{◌≡◌, ℕ, suc, ◌+◌, ◌*◌, ◌<◌, ◌≤◌, length, All, OnOk, IfOk, IfSome, Some, Ok};
+ghost use Rattle.std.specs.Option.{is_some, option_map};
+ghost use Rattle.yaml_base.specs.Answer.{Gives};
+ghost use Rattle.yaml_shape.specs.DataView.{data_of};
+ghost use Rattle.yaml_shape.specs.ShapeView.{shape_of, field_of, fields_of};
+ghost use Rattle.yaml_shape.specs.TextView.{text_bytes};
+ghost use Rattle.yaml_shape.specs.Validity.{NamesWithin, numbers_of};
+ghost use Rattle.yaml_read.specs.DocEventView.{doc_event_of};
+ghost use Rattle.yaml_read.specs.Ends.{GoForward};
+ghost use Rattle.yaml_read.specs.Fields.{name_in, no_slots, struct_of, field_data};
+ghost use Rattle.yaml_read.specs.Handing.{depth, is_bare};
+ghost use Rattle.yaml_read.specs.Places.{way_of};
+ghost use Rattle.yaml_read.specs.TreeReader.{mark_or_first};
+ghost use Rattle.yaml_read.specs.inner.Reader.{shape_step, field_at, field_key_at, mapping_parts, value_way, text_at};
+ghost use Rattle.yaml_read.specs.inner.Reader.{fields_in};
+ghost use Rattle.yaml_read.specs.inner.Walks.{around_of, source_of, spot_of, reader_of, seen, slots_of, field_view};
+ghost use Rattle.yaml_read.specs.inner.Walks.{IsAmong, MovesOn, Costs};
+
+use crate::de::node::field_index::FieldIndex;
+use crate::de::node::field_slots::{field_named, missing_field, no_slots, put};
+use crate::de::node::source::Source;
+use crate::de::node::{is_leaf, too_deep};
+use crate::de::read_refusal::{Result, ended};
+use crate::de::scalar::presence::is_empty_plain;
+use crate::de::scalar::sort::text_of;
+use crate::de::taken_tag::TakenBy;
+use crate::doc_event::DocEvent;
+use crate::walk::Walk;
+use yaml_base::{Mark, Path};
+use yaml_shape::{Data, Shape, ShapeId};
+
+/// Whether the event is that of an empty plain scalar, or of an empty stream.
+pub(crate) fn is_bare(event: &DocEvent<'_>) -> bool
+    ensures { result ≡ is_bare (doc_event_of event.now) }
+{
+    match event {
+        DocEvent::Scalar(scalar) => is_empty_plain(scalar),
+        DocEvent::Void => true,
+        _ => false,
+    }
+}
+
+// The name that a key is.
+fn name_in<'a>(key: &'a Data<'_>) -> &'a str
+    ensures { result.now ≡ name_in (data_of key.now) }
+{
+    match key {
+        Data::Str(text) => text.as_str(),
+        _ => "",
+    }
+}
+
+impl<'s, 'de> Source<'s, 'de> {
+    /// A struct, which refuses names of no field where it is strict.
+    #[cycle(read)]
+    pub(crate) fn read_struct(
+        &self,
+        path: &Path<'_>,
+        shape: &Shape,
+        fields: &[(String, ShapeId)],
+        strict: bool,
+        nest: u8,
+        taken: Option<&TakenBy<'_>>,
+        walk: &mut Walk,
+    ) -> Result<Data<'de>>
+        requires struct_of { fields_in (shape_of shape.now) ≡ Some (strict, fields_of fields.now) }
+        requires named { NamesWithin (length self.now.schema.now) (shape_of shape.now) }
+        requires named_fields { All (λ id. id < length self.now.schema.now) (numbers_of (fields_of fields.now)) }
+        requires forward { GoForward self.now.ends.now }
+        ensures gives { (fuel : ℕ) → depth self.now.schema.now (shape_of shape.now)
+            (is_some (around_of taken.entry)) nest walk.old.left < suc fuel
+            → Gives (λ x. (data_of x, spot_of walk.new)) result
+            (shape_step (source_of self.now) (reader_of fuel self.now) (way_of path.now) (shape_of shape.now) nest
+            (around_of taken.entry)
+            (spot_of walk.old) (seen self.now.events.now walk.old.place)) }
+        ensures moves { OnOk result (MovesOn (length self.now.events.now) walk.old walk.new) }
+        ensures cost { Costs (length self.now.events.now) walk.old walk.new }
+    {
+        let Some((event, mark)) = self.event(walk.place) else {
+            return Err(ended(self.alloc));
+        };
+        if is_bare(event) {
+            walk.step();
+            return self.bare_struct(fields);
+        }
+        let DocEvent::MappingStart(_) = event else {
+            return self.read_simple(path, shape, event, nest, taken, walk);
+        };
+        if nest == 0 {
+            return Err(too_deep(self.alloc, *mark));
+        }
+        let index = FieldIndex::new(self.alloc, fields)?;
+        walk.step();
+        match self.read_fields(path, &index, strict, nest - 1, walk) {
+            Ok(slots) => self.finish_struct(fields, slots),
+            Err(refusal) => Err(refusal),
+        }
+    }
+
+    /// The fields of a struct, to its end.
+    #[cycle(read)]
+    pub(crate) fn read_fields(
+        &self,
+        path: &Path<'_>,
+        fields: &FieldIndex<'_>,
+        strict: bool,
+        nest: u8,
+        walk: &mut Walk,
+    ) -> Result<Vec<Option<Data<'de>>>>
+        requires within { walk.old.place ≤ length self.now.events.now }
+        requires named { All (λ id. id < length self.now.schema.now) (numbers_of (fields_of fields.now)) }
+        requires forward { GoForward self.now.ends.now }
+        ensures gives { (fuel turns : ℕ) → 8200 * (walk.old.left + nest) + 8196 < fuel
+            → length self.now.events.now < turns + walk.old.place
+            → Gives (λ x. (slots_of x.items, spot_of walk.new)) result
+            (mapping_parts (source_of self.now)
+            (field_at (source_of self.now) (reader_of fuel self.now) (way_of path.now) strict
+            (fields_of fields.now) nest)
+            turns (no_slots (fields_of fields.now)) (spot_of walk.old)) }
+        ensures moves { OnOk result (MovesOn (length self.now.events.now) walk.old walk.new) }
+        ensures cost { Costs (length self.now.events.now) walk.old walk.new }
+    {
+        let mut slots = no_slots(self.alloc, fields.fields())?;
+        loop {
+            let Some((event, mark)) = self.event(walk.place) else {
+                return Err(ended(self.alloc));
+            };
+            if let DocEvent::MappingEnd = event {
+                walk.step();
+                return Ok(slots);
+            }
+            match self.read_field(path, fields, strict, &mut slots, event, *mark, nest, walk) {
+                Ok(()) => {}
+                Err(refusal) => return Err(refusal),
+            }
+        }
+    }
+
+    /// A key, which begins with the event, and then the value of its field.
+    #[cycle(read)]
+    pub(crate) fn read_field(
+        &self,
+        path: &Path<'_>,
+        fields: &FieldIndex<'_>,
+        strict: bool,
+        slots: &mut Vec<Option<Data<'de>>>,
+        event: &DocEvent<'de>,
+        mark: Mark,
+        nest: u8,
+        walk: &mut Walk,
+    ) -> Result<()>
+        requires here { seen self.now.events.now walk.old.place ≡ Some (doc_event_of event.now, mark) }
+        requires within { walk.old.place < length self.now.events.now }
+        requires wide { length slots.old.items ≡ length fields.now }
+        requires named { All (λ id. id < length self.now.schema.now) (numbers_of (fields_of fields.now)) }
+        requires forward { GoForward self.now.ends.now }
+        ensures gives { (fuel : ℕ) → 8200 * (walk.old.left + nest) + 8196 < fuel
+            → Gives (λ _. (slots_of slots.new.items, spot_of walk.new)) result
+            (field_at (source_of self.now) (reader_of fuel self.now) (way_of path.now) strict
+            (fields_of fields.now) nest
+            (slots_of slots.old.items) (spot_of walk.old)) }
+        ensures wide { OnOk result (length slots.new.items ≡ length fields.now) }
+        ensures moves { OnOk result (MovesOn (length self.now.events.now) walk.old walk.new) }
+        ensures cost { Costs (length self.now.events.now) walk.old walk.new }
+    {
+        let key = match self.read_name(path, fields, strict, &*slots, event, mark, nest, walk) {
+            Ok(key) => key,
+            Err(refusal) => return Err(refusal),
+        };
+        let Some((place, id)) = key else {
+            return self.pass_over(walk);
+        };
+        let shape = self.shape(id);
+        match self.read_value(path, event, shape, is_leaf(shape), nest, walk) {
+            Ok(data) => {
+                put(slots, place, data);
+                Ok(())
+            }
+            Err(refusal) => Err(refusal),
+        }
+    }
+
+    /// The key of a field: its place and its shape, or none where the value is to be stepped over.
+    #[cycle(read)]
+    pub(crate) fn read_name(
+        &self,
+        path: &Path<'_>,
+        fields: &FieldIndex<'_>,
+        strict: bool,
+        slots: &[Option<Data<'de>>],
+        event: &DocEvent<'de>,
+        mark: Mark,
+        nest: u8,
+        walk: &mut Walk,
+    ) -> Result<Option<(usize, ShapeId)>>
+        requires here { seen self.now.events.now walk.old.place ≡ Some (doc_event_of event.now, mark) }
+        requires within { walk.old.place < length self.now.events.now }
+        requires forward { GoForward self.now.ends.now }
+        ensures gives { (fuel : ℕ) → 8200 * (walk.old.left + nest) + 4100 < fuel
+            → Gives (λ x. (
+              (field_view x, value_at (way_of path.now) (seen self.now.events.now walk.old.place)),
+              spot_of walk.new,
+            )) result
+            (field_key_at (source_of self.now) (reader_of fuel self.now) (way_of path.now) strict
+            (fields_of fields.now) nest
+            (slots_of slots.now) (spot_of walk.old)) }
+        ensures found { IfOk result (λ key. IfSome key (IsAmong (fields_of fields.now))) }
+        ensures moves { OnOk result (MovesOn (length self.now.events.now) walk.old walk.new) }
+        ensures cost { Costs (length self.now.events.now) walk.old walk.new }
+    {
+        if let DocEvent::Scalar(scalar) = event {
+            if let Some(name) = text_of(scalar) {
+                walk.step();
+                return field_named(self.alloc, path, fields, strict, slots, name, mark);
+            }
+        }
+        let key = match self.read_node(path, &Shape::Identifier, nest, None, walk) {
+            Ok(key) => key,
+            Err(refusal) => return Err(refusal),
+        };
+        let at = self.text_mark(event, mark);
+        field_named(self.alloc, path, fields, strict, slots, name_in(&key), at)
+    }
+
+    // The mark of the scalar whose text a key is: an alias leads to its target.
+    fn text_mark(&self, event: &DocEvent<'_>, mark: Mark) -> Mark
+        ensures { (place : ℕ) → seen self.now.events.now place ≡ Some (doc_event_of event.now, mark)
+            → result ≡ mark_or_first (seen self.now.events.now (text_at place (seen self.now.events.now place))) }
+    {
+        let DocEvent::Alias(target) = event else {
+            return mark;
+        };
+        match (self.event(*target), Mark::new(0, 0, 0)) {
+            (Some((_, mark)), _) => *mark,
+            (None, Some(first)) => first,
+            (None, None) => mark,
+        }
+    }
+
+    // The data of a field: what was read, or absent where its shape is an optional.
+    fn field_data(&self, field: &(String, ShapeId), slot: Option<Data<'de>>) -> Result<Data<'de>>
+        requires named { field.now.1.0 < length self.now.schema.now }
+        ensures { Gives data_of result (field_data self.now.schema.now (field_of field.now)
+            (option_map data_of slot.entry)) }
+    {
+        match slot {
+            Some(data) => Ok(data),
+            None => match self.shape(field.1) {
+                Shape::Option(_) => Ok(Data::None),
+                _ => Err(missing_field(self.alloc, field.0.as_str())),
+            },
+        }
+    }
+
+    /// The struct of the fields that were read.
+    pub(crate) fn finish_struct(
+        &self,
+        fields: &[(String, ShapeId)],
+        slots: Vec<Option<Data<'de>>>,
+    ) -> Result<Data<'de>>
+        requires named { All (λ id. id < length self.now.schema.now) (numbers_of (fields_of fields.now)) }
+        ensures { Gives data_of result (struct_of self.now.schema.now (fields_of fields.now)
+            (slots_of slots.entry.items)) }
+    {
+        let mut items = Vec::with_capacity(self.alloc, fields.len())?;
+        let mut rest = slots.into_iter();
+        for field in fields {
+            let slot = rest.next().flatten();
+            items.push(self.field_data(field, slot)?)?;
+        }
+        Ok(Data::Struct(items))
+    }
+
+    /// A struct of which no field is there.
+    pub(crate) fn bare_struct(&self, fields: &[(String, ShapeId)]) -> Result<Data<'de>>
+        requires named { All (λ id. id < length self.now.schema.now) (numbers_of (fields_of fields.now)) }
+        ensures { Gives data_of result
+            (struct_of self.now.schema.now (fields_of fields.now) (no_slots (fields_of fields.now))) }
+    {
+        let slots = no_slots(self.alloc, fields)?;
+        self.finish_struct(fields, slots)
+    }
+}

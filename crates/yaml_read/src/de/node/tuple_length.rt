@@ -1,0 +1,108 @@
+//! The elements of a tuple.
+
+ghost use Rattle.std.specs.Prelude.{◌≡◌, slice_get, ◌+◌, ◌<◌, ◌^◌, length, None, Ok, string_bytes};
+ghost use Rattle.std.specs.Option.{option_map, option_copied};
+ghost use Rattle.yaml_base.specs.Answer.{Gives};
+ghost use Rattle.yaml_base.specs.declared.error.Cause.TheVariants.{InvalidLength};
+ghost use Rattle.yaml_shape.specs.DataView.{data_of};
+ghost use Rattle.yaml_shape.specs.ShapeView.{ids_of};
+ghost use Rattle.yaml_read.specs.Rows.{row_data};
+ghost use Rattle.yaml_read.specs.inner.Reader.{few_text, owner_named};
+ghost use Rattle.yaml_read.specs.inner.Walks.{owner_of, row_view};
+
+use crate::de::read_refusal::{Refusal, Result, refuse};
+use std::alloc::Global;
+use yaml_base::{Cause, Error, Words};
+use yaml_shape::{Data, ShapeId, sequence_of, tuple_struct_with, tuple_variant_with};
+
+/// The elements that were read, and how many more there are.
+#[derive(Drop)]
+pub(crate) struct Elements<'de> {
+    pub(crate) read: Vec<Data<'de>>,
+    pub(crate) extra: usize,
+}
+
+/// Whose elements are read.
+#[derive(Clone, Copy)]
+pub(crate) enum Owner<'a> {
+    /// A tuple's.
+    Tuple,
+    /// Those of the tuple struct of this name.
+    TupleStruct(&'a str),
+    /// Those of a variant: the names of its enum and of itself.
+    TupleVariant { name: &'a str, variant: &'a str },
+}
+
+impl<'a> Owner<'a> {
+    /// A tuple, or the tuple struct of a name.
+    pub(crate) fn named(name: Option<&'a str>) -> Owner<'a>
+        ensures { owner_of result ≡ owner_named (option_copied name.entry) }
+    {
+        match name {
+            None => Owner::Tuple,
+            Some(name) => Owner::TupleStruct(name),
+        }
+    }
+}
+
+/// The shape of an element.
+pub(crate) fn item_here(items: &[ShapeId], place: usize) -> Option<ShapeId>
+    ensures { option_map (λ id. id.0) result ≡ slice_get (ids_of items.now) place }
+{
+    items.get(place).copied()
+}
+
+// What a node with too few elements is expected to be.
+fn expected(alloc: Global, owner: Owner<'_>, count: usize) -> Result<String>
+    ensures { Gives string_bytes result (Ok (few_text (owner_of owner.entry) count)) }
+{
+    match owner {
+        Owner::Tuple => Ok(format!(in alloc; "a tuple of size {count}")?),
+        Owner::TupleStruct(name) => match tuple_struct_with(alloc, name, count) {
+            Ok(text) => Ok(text),
+            Err(_) => Err(Refusal::memory()),
+        },
+        Owner::TupleVariant { name, variant } => {
+            match tuple_variant_with(alloc, name, variant, count) {
+                Ok(text) => Ok(text),
+                Err(_) => Err(Refusal::memory()),
+            }
+        }
+    }
+}
+
+/// The tuple of these elements, where it has exactly one for each shape.
+pub(crate) fn finish<'de>(
+    alloc: Global,
+    owner: Owner<'_>,
+    items: &[ShapeId],
+    elements: Elements<'de>,
+) -> Result<Data<'de>>
+    requires few { length elements.read.items + elements.extra < 2 ^ 64 }
+    ensures { Gives data_of result (row_data (few_text (owner_of owner.entry) (length (ids_of items.now)))
+        (length (ids_of items.now)) (row_view (ids_of items.now) elements.entry)) }
+{
+    let count = items.len();
+    let length = elements.read.len();
+    if length < count {
+        return Err(refuse(alloc, wrong_length(length, expected(alloc, owner, count)?)));
+    }
+    if elements.extra == 0 {
+        return Ok(Data::Tuple(elements.read));
+    }
+    let Ok(expected) = sequence_of(alloc, count) else {
+        return Err(Refusal::memory());
+    };
+    Err(refuse(alloc, wrong_length(length + elements.extra, expected)))
+}
+
+// The fault of a tuple with another number of elements.
+fn wrong_length(length: usize, expected: String) -> Error
+    ensures { result ≡ InvalidLength length (string_bytes expected) None }
+{
+    Error::new(Cause::InvalidLength {
+        length,
+        expected: Words::new(expected),
+        place: None,
+    })
+}
