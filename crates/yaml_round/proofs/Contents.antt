@@ -25,7 +25,7 @@ use Rattle.yaml_write.specs.Written.{variant_by}
 use Rattle.yaml_write.specs.WrittenParts.{written_content}
 use Rattle.yaml_write.specs.WrittenValue.{written_value, written_values, written_pairs}
 use Rattle.yaml_round.specs.Fits.{is_written_null}
-use Rattle.yaml_round.specs.Held.{IsHeld}
+use Rattle.yaml_shape.specs.Held.{IsHeld}
 use Rattle.yaml_round.proofs.LeafPresence.{string_present, bool_present, signed_present, unsigned_present}
 use Rattle.yaml_round.proofs.LeafPresence.{char_present, local_present}
 use Rattle.yaml_round.proofs.LocalNames.{is_local-local_tag, is_local-value_tag}

@@ -31,8 +31,8 @@ use Rattle.yaml_write.specs.Written as writing
 use Rattle.yaml_write.specs.WrittenParts.{written_content}
 use Rattle.yaml_round.specs.Fits.{data_fits, each_fits, parts_fit, is_written_null}
 use Rattle.yaml_round.specs.Fits.{variant_passes}
-use Rattle.yaml_round.specs.Held.{IsHeld, AreHeld, EntriesAreHeld, is_table, is_table_shape, is_named_content}
-use Rattle.yaml_round.specs.Held.{are_texts}
+use Rattle.yaml_shape.specs.Held.{IsHeld, AreHeld, EntriesAreHeld, is_table, is_table_shape, is_named_content}
+use Rattle.yaml_shape.specs.Held.{are_texts}
 use Rattle.yaml_round.specs.Nestings.{nestings, items_nestings}
 use Rattle.yaml_round.proofs.ByPlace.{all_at, each_at, within, variant_at, name_at}
 use Rattle.yaml_round.proofs.Contents.{data_stands}

@@ -14,7 +14,7 @@ use Rattle.yaml_shape.specs.PlainShape.{unit_struct_shape, newtype_shape, seq_sh
 use Rattle.yaml_shape.specs.PlainShape.{map_shape, struct_shape, enum_shape, ignored_shape, tuple_variant_shape}
 use Rattle.yaml_shape.specs.PlainShape.{struct_variant_shape, shape_at}
 use Rattle.yaml_shape.specs.Validity.{numbers_of}
-use Rattle.yaml_round.specs.Held.{is_table_shape}
+use Rattle.yaml_shape.specs.Held.{is_table_shape}
 
 -- what passes a test is there
 pub passes_there : {A : Type 0} (o : Option A) (test : A → Bool) → passes o test ≡ true

@@ -21,7 +21,7 @@ use Rattle.yaml_read.specs.TreeReader.{PlainLimits}
 use Rattle.serde_yaml.specs.Headline.{one_document}
 use Rattle.serde_yaml.specs.TypedWrites.{written_stream}
 use Rattle.yaml_round.specs.Fits.{Fits}
-use Rattle.yaml_round.specs.Held.{IsHeld, is_table}
+use Rattle.yaml_shape.specs.Held.{IsHeld, is_table}
 use Rattle.yaml_round.specs.Nestings.{nestings}
 use Rattle.yaml_round.specs.ReadsBack.{ComesBack, ReadsBack}
 use Rattle.yaml_round.proofs.DataReturn.{data_returns}

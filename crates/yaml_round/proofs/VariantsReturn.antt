@@ -29,7 +29,7 @@ use Rattle.yaml_write.specs.Written as writing
 use Rattle.yaml_write.specs.WrittenParts.{written_content}
 use Rattle.yaml_round.specs.Fits.{data_fits, parts_fit}
 use Rattle.yaml_round.specs.Fits.{is_variant_name, variant_passes}
-use Rattle.yaml_round.specs.Held.{is_named_content, are_texts}
+use Rattle.yaml_shape.specs.Held.{is_named_content, are_texts}
 use Rattle.yaml_round.specs.SameOrder.{same_data}
 use Rattle.yaml_round.proofs.LocalNames.{local_name-variant}
 use Rattle.yaml_round.proofs.Outcomes.{tag_of, rendered_tag}

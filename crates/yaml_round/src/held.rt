@@ -6,9 +6,9 @@ ghost use Rattle.std.specs.Str.{is_utf8};
 ghost use Rattle.yaml_tree.specs.Valid.{is_value};
 ghost use Rattle.yaml_tree.specs.View.{tree_of};
 ghost use Rattle.yaml_shape.specs.DataView.{data_of, items_view, entries_view, text_data_of};
-ghost use Rattle.yaml_round.specs.Held.{IsHeld, AreHeld, EntriesAreHeld, is_table};
+ghost use Rattle.yaml_shape.specs.Held.{IsHeld, AreHeld, EntriesAreHeld, is_table};
 
-use yaml_shape::{Data, Entry, Schema, ShapeId, Text};
+use yaml_shape::{Data, Entry, Schema, Text};
 use yaml_tree::Value;
 
 // A text that is borrowed is UTF-8.
@@ -84,13 +84,10 @@ fn entries_are_held(entries: &[Entry<'_>])
     }
 }
 
-/// Goes over the shapes and answers nothing. A proof that calls it learns that their names are UTF-8, and that none is
-/// the content of a variant alone.
+/// Does nothing. A proof that calls it learns that the names in the schema are UTF-8, and that no shape of it is the
+/// content of a variant alone, as `Schema::is_table` promises.
 pub fn schema_is_held(schema: &Schema)
     ensures { IsTrue (is_table schema.now) }
 {
-    schema.is_valid();
-    for number in 0..4096 {
-        let _shape = schema.shape(ShapeId(number));
-    }
+    schema.is_table();
 }

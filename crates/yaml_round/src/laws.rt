@@ -23,7 +23,7 @@ ghost use Rattle.serde_yaml.specs.StreamReads.{InputGives};
 ghost use Rattle.serde_yaml.specs.TypedReads.{TypeGives};
 ghost use Rattle.serde_yaml.specs.TypedWrites.{TypeWrites};
 ghost use Rattle.yaml_round.specs.Fits.{Fits};
-ghost use Rattle.yaml_round.specs.Held.{IsHeld, is_table};
+ghost use Rattle.yaml_shape.specs.Held.{IsHeld, is_table};
 ghost use Rattle.yaml_round.specs.ReadsBack.{ComesBack, ReadsBack};
 ghost use Rattle.yaml_round.specs.SameOrder.{same_data};
 

@@ -7,6 +7,7 @@ pub mod WalkLaws
 pub mod StepLaws
 pub mod Ranks
 pub mod DataLaws
+pub mod HeldLaws
 pub mod RaiseLaws
 pub mod JoinLaws
 pub mod JoinWalks

@@ -1,16 +1,23 @@
 //! Whether data is of a shape.
 
-ghost use Rattle.std.specs.Prelude.{◌≡◌, slice_get};
+ghost use Rattle.std.specs.Prelude.{◌≡◌, true, slice_get, IsTrue};
+ghost use Rattle.std.specs.Char.{IsScalar};
 ghost use Rattle.std.specs.Option.{option_map};
+ghost use Rattle.yaml_tree.specs.Valid.{is_value};
+ghost use Rattle.yaml_tree.specs.View.{tree_of};
 ghost use Rattle.yaml_shape.specs.ShapeView.{ids_of, fields_of, content_of, variants_of, shape_of};
-ghost use Rattle.yaml_shape.specs.DataView.{data_of, items_view, entries_view};
+ghost use Rattle.yaml_shape.specs.DataView.{data_of, items_view, entries_view, text_data_of};
 ghost use Rattle.yaml_shape.specs.Validity.{numbers_of};
 ghost use Rattle.yaml_shape.specs.HasShape.{takes_signed, takes_unsigned, has_shape, has_content, all_have};
-ghost use Rattle.yaml_shape.specs.HasShape.{each_has, entries_have};
+ghost use Rattle.yaml_shape.specs.HasShape.{each_has, entries_have, is_any, is_char, is_text};
+ghost use Rattle.yaml_shape.specs.Held.{IsHeld, AreHeld, EntriesAreHeld};
 
 use crate::data::{Data, Entry};
+use crate::held::{char_is_held, text_is_held, value_is_held};
 use crate::schema::Schema;
 use crate::shape::{Shape, ShapeId, VariantShape};
+use crate::text::Text;
+use yaml_tree::Value;
 
 // Whether the integer is one with a sign that the shape takes.
 fn takes_signed(shape: &Shape, n: i128) -> bool
@@ -42,6 +49,33 @@ fn takes_unsigned(shape: &Shape, n: u128) -> bool
     }
 }
 
+// Whether the shape takes values, which are held in memory.
+fn takes_value(shape: &Shape, value: &Value) -> bool
+    ensures exactly { result ≡ is_any (shape_of shape.now) }
+    ensures held { IsTrue (is_value (tree_of value.now)) }
+{
+    value_is_held(value);
+    matches!(shape, Shape::Any)
+}
+
+// Whether the shape takes characters, which are held in memory.
+fn takes_char(shape: &Shape, character: char) -> bool
+    ensures exactly { result ≡ is_char (shape_of shape.now) }
+    ensures held { IsScalar character }
+{
+    char_is_held(character);
+    matches!(shape, Shape::Char)
+}
+
+// Whether the shape takes texts, which are held in memory.
+fn takes_text(shape: &Shape, text: &Text<'_>) -> bool
+    ensures exactly { result ≡ is_text (shape_of shape.now) }
+    ensures held { IsHeld (text_data_of text.now) }
+{
+    text_is_held(text);
+    matches!(shape, Shape::Str | Shape::Identifier)
+}
+
 // The content of the variant at this place.
 fn content_at(variants: &[(String, VariantShape)], place: usize) -> Option<&VariantShape>
     ensures { option_map (λ content. content_of content.now) result
@@ -57,18 +91,19 @@ fn content_at(variants: &[(String, VariantShape)], place: usize) -> Option<&Vari
 /// Whether the data is of the shape with this number.
 #[cycle(has_shape)]
 pub(crate) fn has_shape(schema: &Schema, id: ShapeId, data: &Data) -> bool
-    ensures { result ≡ has_shape schema.now id.0 (data_of data.now) }
+    ensures exactly { result ≡ has_shape schema.now id.0 (data_of data.now) }
+    ensures held { result ≡ true → IsHeld (data_of data.now) }
 {
     let Some(shape) = schema.shape(id) else {
         return false;
     };
     match data {
-        Data::Any(_) => matches!(shape, Shape::Any),
+        Data::Any(value) => takes_value(shape, value),
         Data::Bool(_) => matches!(shape, Shape::Bool),
-        Data::Char(_) => matches!(shape, Shape::Char),
+        Data::Char(character) => takes_char(shape, *character),
         Data::Signed(n) => takes_signed(shape, *n),
         Data::Unsigned(n) => takes_unsigned(shape, *n),
-        Data::Str(_) => matches!(shape, Shape::Str | Shape::Identifier),
+        Data::Str(text) => takes_text(shape, text),
         Data::Bytes(_) => matches!(shape, Shape::Bytes),
         Data::None => matches!(shape, Shape::Option(_)),
         Data::Some(content) => match shape {
@@ -115,7 +150,8 @@ pub(crate) fn has_shape(schema: &Schema, id: ShapeId, data: &Data) -> bool
 // Whether the data is what a variant holds.
 #[cycle(has_shape)]
 fn has_content(schema: &Schema, content: &VariantShape, data: &Data) -> bool
-    ensures { result ≡ has_content schema.now (data_of data.now) (content_of content.now) }
+    ensures exactly { result ≡ has_content schema.now (data_of data.now) (content_of content.now) }
+    ensures held { result ≡ true → IsHeld (data_of data.now) }
 {
     match content {
         VariantShape::Unit => matches!(data, Data::Unit),
@@ -138,7 +174,8 @@ fn has_content(schema: &Schema, content: &VariantShape, data: &Data) -> bool
 // Whether each element is of the shape.
 #[cycle(has_shape)]
 fn all_have(schema: &Schema, id: ShapeId, items: &[Data]) -> bool
-    ensures { result ≡ all_have schema.now id.0 (items_view items.now) }
+    ensures exactly { result ≡ all_have schema.now id.0 (items_view items.now) }
+    ensures held { result ≡ true → AreHeld (items_view items.now) }
 {
     for item in items {
         if !has_shape(schema, id, item) {
@@ -151,7 +188,8 @@ fn all_have(schema: &Schema, id: ShapeId, items: &[Data]) -> bool
 // Whether there are as many elements as shapes, and each is of its own.
 #[cycle(has_shape)]
 fn each_has(schema: &Schema, ids: &[ShapeId], items: &[Data]) -> bool
-    ensures { result ≡ each_has schema.now (ids_of ids.now) (items_view items.now) }
+    ensures exactly { result ≡ each_has schema.now (ids_of ids.now) (items_view items.now) }
+    ensures held { result ≡ true → AreHeld (items_view items.now) }
 {
     if ids.len() != items.len() {
         return false;
@@ -167,7 +205,8 @@ fn each_has(schema: &Schema, ids: &[ShapeId], items: &[Data]) -> bool
 // Whether there are as many elements as fields, and each is of its field's shape.
 #[cycle(has_shape)]
 fn fields_have(schema: &Schema, fields: &[(String, ShapeId)], items: &[Data]) -> bool
-    ensures { result ≡ each_has schema.now (numbers_of (fields_of fields.now)) (items_view items.now) }
+    ensures exactly { result ≡ each_has schema.now (numbers_of (fields_of fields.now)) (items_view items.now) }
+    ensures held { result ≡ true → AreHeld (items_view items.now) }
 {
     if fields.len() != items.len() {
         return false;
@@ -183,7 +222,8 @@ fn fields_have(schema: &Schema, fields: &[(String, ShapeId)], items: &[Data]) ->
 // Whether each key is of the first shape, and each value of the second.
 #[cycle(has_shape)]
 fn entries_have(schema: &Schema, key: ShapeId, value: ShapeId, entries: &[Entry]) -> bool
-    ensures { result ≡ entries_have schema.now key.0 value.0 (entries_view entries.now) }
+    ensures exactly { result ≡ entries_have schema.now key.0 value.0 (entries_view entries.now) }
+    ensures held { result ≡ true → EntriesAreHeld (entries_view entries.now) }
 {
     for entry in entries {
         if !has_shape(schema, key, &entry.key) || !has_shape(schema, value, &entry.value) {

@@ -6,6 +6,7 @@ mod distinct_names;
 mod expected;
 mod fault;
 mod has_shape;
+mod held;
 mod ids_within;
 mod join;
 mod moved_shapes;

@@ -2,6 +2,7 @@
 
 ghost use Rattle.std.specs.Prelude.{◌≡◌, ◌<◌, ◌≤◌, ◌↔◌, ℕ, [], map, length, Some, IsTrue, IfOk, IfErr};
 ghost use Rattle.std.specs.Option.{option_map};
+ghost use Rattle.yaml_shape.specs.Held.{is_table};
 ghost use Rattle.yaml_shape.specs.PlainShape.{option_shape, shape_at};
 ghost use Rattle.yaml_shape.specs.ShapeView.{shape_of};
 ghost use Rattle.yaml_shape.specs.Validity.{IsValidSchema};
@@ -75,6 +76,14 @@ impl Schema {
     /// Does nothing. A proof that calls it learns that this schema is valid, as each is from its making on.
     pub fn is_valid(&self)
         ensures { IsValidSchema self.now }
+    {
+        let _shapes = &self.shapes;
+    }
+
+    /// Does nothing. A proof that calls it learns that the names in this schema are UTF-8, and that no shape of it is
+    /// the content of a variant alone.
+    pub fn is_table(&self)
+        ensures { IsTrue (is_table self.now) }
     {
         let _shapes = &self.shapes;
     }

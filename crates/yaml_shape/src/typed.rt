@@ -3,6 +3,7 @@
 ghost use Rattle.std.specs.Prelude.{◌≡◌, ◌↔◌, IsSome, IfSome};
 ghost use Rattle.yaml_shape.specs.DataView.{data_of};
 ghost use Rattle.yaml_shape.specs.HasShape.{HasShape};
+ghost use Rattle.yaml_shape.specs.Held.{IsHeld};
 
 use crate::data::Data;
 use crate::has_shape::has_shape;
@@ -26,6 +27,9 @@ impl<'a, 'de> Typed<'a, 'de> {
     pub fn new(schema: &'a Schema, id: ShapeId, content: &'a Data<'de>) -> Option<Typed<'a, 'de>>
         ensures exactly { IsSome result ↔ HasShape schema.now id.0 (data_of content.now) }
         ensures parts { IfSome result (IsOf schema.now id content.now) }
+
+        // Of data that is of the shape, the texts are UTF-8, the characters are characters, and the values are values.
+        ensures held { IfSome result (λ _. IsHeld (data_of content.now)) }
     {
         if has_shape(schema, id, content) {
             Some(Typed {

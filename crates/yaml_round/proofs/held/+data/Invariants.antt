@@ -1,7 +1,7 @@
 -- What is left is held, and so is all.
 use Rattle.std.proofs.Common.{drop}
 use Rattle.yaml_shape.specs.DataView.{items_view, entries_view}
-use Rattle.yaml_round.specs.Held.{AreHeld, EntriesAreHeld}
+use Rattle.yaml_shape.specs.Held.{AreHeld, EntriesAreHeld}
 use Rattle.yaml_round.proofs.held.+data.Given as goal
 
 abbrev pub invariant-items_are_held-loop-item : goal.invariant-items_are_held-loop-item
