@@ -11,11 +11,25 @@ cd "$root" || exit 1
 failed=0
 
 # No contract says that a copy made by `Clone` is equal, so a `Clone` is derived and never written by hand; and none
-# says that memory is given back, so nothing is forgotten in place of being dropped. A proof would pass both.
-forgotten='mem::forget|ManuallyDrop|(^|[^_[:alnum:]])forget\('
+# says that memory is given back, so nothing is forgotten or leaked in place of being dropped. A proof would pass both.
+forgotten='mem::forget|ManuallyDrop|(^|[^_[:alnum:]])forget\(|[.:]leak\(|into_raw'
 cloned='impl(<.*>)? +([a-z]+::)*Clone +for '
 if grep -rnE "$forgotten|$cloned" --include='*.rt' crates/*/src; then
     echo "misuse: a value is forgotten, or Clone is written by hand, in the lines above"
+    failed=1
+fi
+
+# Contracts count the events that a reading goes over by its walk. Those that another walk goes over, or that one whose
+# count is begun anew went over before, would be in no count. So one walk is made, and one count for it and one for a
+# cursor, beside those that the two functions of `Tally` make.
+made() {
+    grep -rnE "$1" --include='*.rt' crates/yaml_read/src | grep -vE "$2"
+}
+walks=$(made '(^|[^_[:alnum:]])Walk *\{' '(struct|impl|let) Walk \{$')
+counts=$(made '(^|[^_[:alnum:]])Tally(::new\(| *\{)' '(struct|impl|for) Tally \{$')
+if [ "$(printf '%s\n' "$walks" | wc -l) $(printf '%s\n' "$counts" | wc -l)" != "1 4" ]; then
+    printf '%s\n' "$walks" "$counts"
+    echo "misuse: other walks or counts than those are made in the lines above"
     failed=1
 fi
 

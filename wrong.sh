@@ -168,7 +168,8 @@ copy_tree() {
 }
 
 # Prints the full names of the functions of the crate $1 that the others name as FILE:NAME: those that end in the name and
-# lie in the file, or all that end so where none does, since a method may stand in another file than its type.
+# lie in the file, or all of the crate that end so where none does, since a method may stand in another file than its
+# type. The proof's log names functions of lower crates too, which no edit of this one changes.
 full_names() {
     crate=$1
     shift
@@ -177,7 +178,7 @@ full_names() {
         /^(fn|checked) / {
             full = $2
             sub(/[:,]$/, "", full)
-            known[full] = 1
+            if (index(full, crate "::") == 1) known[full] = 1
         }
         END {
             wanted = split(keys, key, " ")

@@ -9,6 +9,7 @@ ghost use Rattle.yaml_base.specs.declared.event.ScalarStyle.{ScalarStyle as Plai
 use crate::event::ScalarStyle;
 
 // The end of the source that equals the bytes.
+#[inline]
 fn matching_end<'de>(source: &'de [u8], bytes: &[u8]) -> Option<&'de [u8]>
     ensures equal { IfSome result (λ part. part.now ≡ bytes.now) }
     ensures test { is_some result ≡ ends_with nat_eq source.now bytes.now }

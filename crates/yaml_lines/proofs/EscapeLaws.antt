@@ -119,10 +119,6 @@ pub record WritesThen (text : List ℕ) (bytes rest : List ℕ) : Type 0 where
   pub sound : (more : List ℕ) → Spells rest more → Spells text (bytes ++ more)
   pub complete : (all : List ℕ) → Spells text all → (more : List ℕ) × Spells rest more × (all ≡ bytes ++ more)
 
--- at the start
-pub writes_nothing : (text : List ℕ) → WritesThen text [] text
-writes_nothing text = record { sound = λ more s. s; complete = λ all s. (all, s, refl) }
-
 -- one byte more
 pub writes_more : (text bytes rest after : List ℕ) (byte : ℕ) → 0 < length rest → WritesThen text bytes rest
     → BeginsWith rest byte after

@@ -4,7 +4,6 @@ use Rattle.std.specs.List.{onto_first}
 use Rattle.std.proofs.Common.{◌≡◌, ℕ, ◌+◌, ◌<◌, List, [], ◌∷◌, ◌++◌, length, refl, sym, ap, ◌∙◌, subst, get_or, drop}
 use Rattle.std.proofs.Common.{arith, append_assoc, length-append}
 use Rattle.std.proofs.lemmas.Bool.{ne_eqb, false≢true}
-use Rattle.std.proofs.lemmas.List.{append-nil}
 use Rattle.yaml_base.specs.Position.{Position}
 use Rattle.yaml_base.specs.PlainEvent.{PlainEvent, event_of}
 use Rattle.yaml_base.specs.declared.event.Event.{Event}
@@ -137,13 +136,6 @@ read_fault lines rest more number events None line f is h r t = record {
   count = let c = h.count in omega (arith, length-append h.good (line ∷ []));
   is_input = push_fault h.good line events f h.is_input t;
 }
-
--- all is read
-pub read_all : (lines rest : List (List ℕ)) (number : ℕ) (events : MarkedEvents) (fault : Option PlainFault)
-    → HasRead lines number events fault rest → rest ≡ []
-    → IsInput lines events fault
-read_all lines rest number events fault h e =
-    subst (λ ls. IsInput ls events fault) (sym (h.split ∙ (ap (λ ls. h.good ++ ls) e ∙ append-nil h.good))) h.is_input
 
 -- the next line is bad where it says nothing
 pub bad_line : (lines rest more : List (List ℕ)) (number : ℕ) (events : MarkedEvents) (fault : Option PlainFault)

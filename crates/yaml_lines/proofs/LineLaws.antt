@@ -1,10 +1,9 @@
 -- A line says one thing.
 use Rattle.std.specs.Prelude.{codes}
-use Rattle.std.proofs.Common.{◌≡◌, ◌≢◌, ℕ, List, ◌++◌, sym, ap, ◌∙◌, subst, drop}
+use Rattle.std.proofs.Common.{◌≡◌, ℕ, List, ◌++◌, sym, ap, ◌∙◌, subst, drop}
 use Rattle.yaml_base.specs.Position.{Position}
 use Rattle.yaml_base.specs.PlainEvent.{PlainEvent}
 use Rattle.yaml_base.specs.PlainFault.{PlainFault}
-use Rattle.yaml_lines.specs.EventText.{IsEventText}
 use Rattle.yaml_lines.specs.SpelledFault.{IsSpelledFault}
 use Rattle.yaml_lines.specs.LineText.{Said, says_event, says_fault, IsSaid, IsLine}
 use Rattle.yaml_lines.specs.Place.{IsMarked}
@@ -18,13 +17,6 @@ pub no_fault : (text rest : List ℕ) (mark : Position) → text ≡ codes "!ERR
 no_fault text rest mark e none (says_event event at) h = no_event_at_fault text rest e event h.1
 no_fault text rest mark e none (says_fault fault) h =
     none fault (subst (λ t. IsSpelledFault t fault) (ap (λ (l : List ℕ). drop 5 l) (sym h.2 ∙ e)) h.3)
-
--- nor does what lacks that word, and is no event
-pub no_event : (text : List ℕ) (mark : Position) → ((rest : List ℕ) → text ≢ codes "!ERR " ++ rest)
-    → ((event : PlainEvent) → ¬ (IsEventText text event))
-    → (said : Said) → ¬ (IsSaid text mark said)
-no_event text mark other none (says_event event at) h = none event h.1
-no_event text mark other none (says_fault fault) h = other h.1 h.2
 
 -- a line says nothing where nothing stands behind its mark
 pub no_line_behind : (line text : List ℕ) (mark : Position) → IsMarked line mark text

@@ -5,14 +5,13 @@ use Rattle.std.specs.Option.{is_some}
 use Rattle.std.specs.Prelude.{if◌then◌else◌}
 use Rattle.yaml_base.specs.declared.error.Cause.{Cause}
 use Rattle.yaml_base.specs.declared.error.Cause.TheVariants.{DuplicateEntry}
-use Rattle.yaml_shape.specs.DataView.{items_of, entries_of}
-use Rattle.yaml_shape.specs.PlainData.{PlainData, any_data}
+use Rattle.yaml_shape.specs.DataView.{entries_of}
+use Rattle.yaml_shape.specs.PlainData.{PlainData}
 use Rattle.yaml_tree.specs.Equal.{tree_eq}
 use Rattle.yaml_tree.specs.EqualLaws.{tree_eq-symm}
 use Rattle.yaml_tree.specs.Mapping.{has_key, keys_distinct, value_at, with_pair}
-use Rattle.yaml_tree.specs.Tree.{Tree, Trees, no_trees, tree, with_tree, Pairs, no_pairs, pair, with_last}
-use Rattle.yaml_read.specs.AnyData.{tree_in, trees_in, pairs_in, entry_key, new_key}
-use Rattle.yaml_read.specs.inner.Walks.{any_items, any_entries}
+use Rattle.yaml_tree.specs.Tree.{Tree, Pairs, no_pairs, pair, with_last}
+use Rattle.yaml_read.specs.AnyData.{tree_in, pairs_in, entry_key, new_key}
 
 -- the pairs that a list of keys with values is
 abbrev pub pairs_of : List (PlainData × PlainData) → Pairs
@@ -86,27 +85,6 @@ pub new_is_key : (before : List (PlainData × PlainData)) (k : PlainData) → ha
 new_is_key before k h = rw h refl
 
 -- ---- values that were read as far
--- they are the values of the list
-pub items_again : (ts : Trees) → trees_in (items_of (any_items ts)) ≡ ts
-items_again no_trees = refl
-items_again (tree t ts) = ap (tree t) (items_again ts)
-
--- and the pairs those of the mapping
-pub entries_again : (ps : Pairs) → pairs_of (any_entries ps) ≡ ps
-entries_again no_pairs = refl
-entries_again (pair k v ps) = ap (pair k v) (entries_again ps)
-
--- one more value
-pub items_more : (ts : Trees) (t : Tree) → any_items (with_tree ts t) ≡ any_items ts ++ any_data t ∷ []
-items_more no_trees t = refl
-items_more (tree u ts) t = ap (λ l. any_data u ∷ l) (items_more ts t)
-
--- one more pair
-pub entries_more : (ps : Pairs) (k v : Tree)
-    → any_entries (with_last ps k v) ≡ any_entries ps ++ (any_data k, any_data v) ∷ []
-entries_more no_pairs k v = refl
-entries_more (pair l w ps) k v = ap (λ l'. (any_data l, any_data w) ∷ l') (entries_more ps k v)
-
 -- a pair whose key no other is equal to goes behind them
 pub pair_behind : (k v : Tree) (ps : Pairs) → has_key k ps ≡ false → with_pair k v ps ≡ with_last ps k v
 pair_behind k v no_pairs h = refl

@@ -4,7 +4,6 @@ use Rattle.std.proofs.Common.{Bool, true, false, refl, sym, ap, ◌∙◌, subst
 use Rattle.std.specs.Prelude.{drop, slice_get, bytes_eq, cond, if◌then◌else◌}
 use Rattle.std.specs.Option.{option_map}
 use Rattle.std.specs.declared.alloc.Global.{Global}
-use Rattle.std.proofs.lemmas.List.{length-map}
 use Rattle.std.proofs.lemmas.Option.{slice_get_within, slice_get-get_or, slice_get-map, get_or_from_slice_get}
 use Rattle.yaml_shape.specs.ShapeView.{field_of, fields_of}
 use Rattle.yaml_shape.specs.Validity.{numbers_of}
@@ -124,12 +123,6 @@ find_within (f ∷ fs) name place id h = chosen (bytes_eq f.0 name) (find fs nam
         let at : x.0 ≡ n = omega arith in
         let number : x.1 ≡ id = ap (λ (y : ℕ × ℕ). y.1) (same_some h) in
         within n id (ap (λ (m : ℕ). Some (m, x.1)) at ∙ ap (λ (m : ℕ). Some (n, m)) number)
-
-pub find_bound : (fields : Fields) (name : List ℕ) (place id : ℕ) → find fields name ≡ Some (place, id)
-    → place < length fields
-find_bound fields name place id h =
-    subst (λ n. place < n) (length-map fields (λ f. f.1))
-    (slice_get_within (map (λ (f : List ℕ × ℕ). f.1) fields) place id (find_within fields name place id h))
 
 -- the number of a field's shape is small where all are
 pub number_within : (size : ℕ) (fields : Declared) (place : ℕ) (f : String Global × ShapeId)

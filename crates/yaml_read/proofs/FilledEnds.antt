@@ -23,14 +23,6 @@ AreIn numbers starts = All (λ s. s < length numbers) starts
 pub in_set : (numbers starts : List ℕ) (at n : ℕ) → AreIn numbers starts → AreIn (set numbers at n) starts
 in_set numbers starts at n h k d l = let i = h k d l in omega (arith, length-set numbers at n)
 
--- as many numbers as before
-pub length-filled : (starts : List ℕ) (inner place : ℕ) (later : List PlainDocEvent) (numbers : List ℕ)
-    → length (filled starts inner place later numbers) ≡ length numbers
-length-filled [] inner place later numbers = refl
-length-filled (s ∷ starts) inner place later numbers =
-    length-filled starts (inner + 1) place later (set numbers s (end_place inner place later))
-    ∙ length-set numbers s (end_place inner place later)
-
 -- a number that is put behind stays there
 pub filled_push : (starts : List ℕ) (inner place : ℕ) (later : List PlainDocEvent) (numbers : List ℕ) (n : ℕ)
     → AreIn numbers starts

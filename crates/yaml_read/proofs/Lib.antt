@@ -8,7 +8,6 @@ pub mod CharacterLaws
 pub mod CutLaws
 pub mod DocumentLaws
 pub mod DraftLaws
-pub mod EntryKeys
 pub mod FieldCode
 pub mod FieldLaws
 pub mod FilledEnds

@@ -10,7 +10,6 @@ use Rattle.yaml_read.specs.Documents.{Input, after_starts, anchors_in, document_
 use Rattle.yaml_read.specs.Documents.{failed_document, last_mark, void_document, void_documents}
 use Rattle.yaml_read.specs.Gathering.{documents_in}
 use Rattle.yaml_read.specs.PlainDocument.{PlainDocument}
-use Rattle.yaml_read.specs.declared.doc_event.DocEvent.{DocEvent}
 use Rattle.yaml_read.specs.declared.loader.draft.Cut.{Cut}
 use Rattle.yaml_read.specs.declared.loader.draft.Draft.{Draft}
 use Rattle.yaml_read.specs.inner.Drafts.{IsBetween}
@@ -32,21 +31,7 @@ all_open f all old new h between =
     ∙ ap (λ b. map (document_from (Some f)) (after_starts false all) ++ cond b [] (failed_document f ∷ []))
     h.complete.1) between
 
-pub all_failed : (f : PlainFault) (all : Input) (old new : Draft) (h : IsClosedDraft (Some f) all [] old)
-    → IsBetween (h.documents ++ failed_document f ∷ []) new → IsBetween (documents_of all (Some f)) new
-all_failed f all old new h between =
-    subst (λ x. IsBetween x new)
-    (ap (λ ds. ds ++ failed_document f ∷ []) (sym (append-nil h.documents) ∙ h.complete.0)
-    ∙ ap (λ b. map (document_from (Some f)) (after_starts false all) ++ cond b [] (failed_document f ∷ []))
-    h.complete.1) between
-
--- a stream with documents has no further one, and a stream without them that of an empty stream
-some_documents : (starts : List Input) (end : Option Position) (documents : List PlainDocument) → documents
-    ≡ map (document_from None) starts
-    → (documents ≡ [] → ⊥) → documents ≡ map (document_from None) starts ++ void_documents starts end
-some_documents [] end documents is some = absurd (some is)
-some_documents (s ∷ starts) end documents is some = is ∙ sym (append-nil (map (document_from None) (s ∷ starts)))
-
+-- a stream without documents has that of an empty stream
 no_documents : (starts : List Input) (end : Option Position) (documents : List PlainDocument) → documents
     ≡ map (document_from None) starts
     → documents ≡ [] → documents ++ map void_document (option_to_list end)
@@ -54,19 +39,9 @@ no_documents : (starts : List Input) (end : Option Position) (documents : List P
 no_documents [] end documents is none = ap (λ ds. ds ++ map void_document (option_to_list end)) none
 no_documents (s ∷ starts) end documents is none = absurd (let e = sym none ∙ is in cc)
 
-no_cuts : (events : List (DocEvent × Position)) (cuts : List Cut) → documents_in events cuts ≡ [] → cuts ≡ []
-no_cuts events [] h = refl
-no_cuts events (c ∷ cuts) h = absurd cc
-
 module _ (all : Input) (old : Draft) (h : IsClosedDraft None all [] old) where
   all_found : h.documents ≡ map (document_from None) (after_starts false all)
   all_found = sym (append-nil h.documents) ∙ h.complete.0
-
-  pub all_some : (old.cuts.items ≡ [] → ⊥) → IsBetween (documents_of all None) old
-  all_some some =
-      subst (λ x. IsBetween x old)
-      (some_documents (after_starts false all) (last_mark all) h.documents all_found
-      (λ none. some (no_cuts old.events.items old.cuts.items (h.between.shown ∙ none)))) h.between
 
   pub all_void : (new : Draft) (mark : Position) → old.cuts.items ≡ [] → Some mark ≡ last_mark all
       → IsBetween (h.documents ++ void_document mark ∷ []) new → IsBetween (documents_of all None) new

@@ -1,7 +1,6 @@
 -- The aliases of a document get their targets one after another, up to the first unknown one.
-use Rattle.std.proofs.Common.{◌≡◌, ℕ, zero, suc, ◌+◌, ◌<◌, ◌≤◌, List, [], ◌∷◌, length, get_or, set, drop}
-use Rattle.std.proofs.Common.{sym, ◌∙◌, ap, arith, add-one, Option, Some, None}
-use Rattle.std.proofs.Math.ListN.{drop_of_length-le}
+use Rattle.std.proofs.Common.{◌≡◌, ℕ, zero, suc, ◌+◌, ◌<◌, List, [], ◌∷◌, length, get_or, set, drop}
+use Rattle.std.proofs.Common.{sym, ◌∙◌, ap, arith, add-one, Option, Some}
 use Rattle.std.proofs.Math.Seq.{drop-cons}
 use Rattle.std.proofs.lemmas.List.{drop-set-add, get_or-drop, length-drop}
 use Rattle.yaml_base.specs.Position.{Position}
@@ -54,16 +53,3 @@ module _ (find : Find) (aliases : List (List ℕ × ℕ)) (i : ℕ) (x : List �
       ap (settled find (drop (i + 1) aliases)) are
       ∙ ap (λ (o : Option ℕ). settle o x.1 old (settled find (drop (i + 1) aliases))) found
       ∙ ap (λ xs. settled find xs old) (sym (aliases_from aliases i x l is)) ∙ h
-
-  -- it is unknown
-  pub settled_ends : (now : Marked) (all : Settled) → None ≡ find x.0 x.1
-      → settled find (drop i aliases) now ≡ all → all ≡ (now, Some x.1)
-  settled_ends now all found h =
-      sym h ∙ ap (λ xs. settled find xs now) (aliases_from aliases i x l is)
-      ∙ ap (λ (o : Option ℕ). settle o x.1 now (settled find (drop (i + 1) aliases))) (sym found)
-
--- no alias is left
-pub settled_all : (find : Find) (aliases : List (List ℕ × ℕ)) (i : ℕ) (now : Marked) (all : Settled)
-    → length aliases ≤ i
-    → settled find (drop i aliases) now ≡ all → all ≡ (now, None)
-settled_all find aliases i now all l h = sym h ∙ ap (λ xs. settled find xs now) (drop_of_length-le aliases l)

@@ -47,9 +47,6 @@ free_outside (t ∷ slots) (suc place) h = free_outside slots place (omega arith
 abbrev pub AllEmpty : CodeSlots → Type 0
 AllEmpty slots = slots_of slots ≡ map (λ s. None) slots
 
-pub one_more_empty : (slots : CodeSlots) → AllEmpty slots → AllEmpty (slots ++ None ∷ [])
-one_more_empty slots h = simp map-append (ap (λ l. l ++ None ∷ []) h)
-
 pub empty_slots : (slots : CodeSlots) (fields : Declared) → AllEmpty slots → length slots ≡ length fields
     → slots_of slots ≡ no_slots (fields_of fields)
 empty_slots slots fields h size = h ∙ as_many slots fields size

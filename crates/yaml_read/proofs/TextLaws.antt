@@ -1,27 +1,14 @@
 -- Texts that a source shows: they are its end, and they are lent where they are UTF-8.
-use Rattle.std.proofs.Common.{◌≡◌, ℕ, ◌-◌, List, length, take, drop, Bool, true, false, refl, ◌∙◌, sym, subst}
-use Rattle.std.proofs.Common.{length-drop}
-use Rattle.std.specs.Prelude.{nat_eq, Some, None, if◌then◌else◌, Ok, Err}
-use Rattle.std.specs.List.{ends_with}
+use Rattle.std.proofs.Common.{◌≡◌, ℕ, List, Bool, true, false, refl, sym, subst}
+use Rattle.std.specs.Prelude.{Some, None, if◌then◌else◌, Ok, Err}
 use Rattle.std.specs.Option.{option_map_or}
 use Rattle.std.specs.Str.{IsUtf8, is_utf8}
-use Rattle.std.proofs.lemmas.Bool.Decides.{Decides-eqb}
-use Rattle.std.proofs.lemmas.Slice.Eq.{slice_eq-Decides}
 use Rattle.std.proofs.lemmas.Str.{is_utf8-from_IsUtf8, IsUtf8-from_is_utf8}
-use Rattle.std.proofs.Math.Seq.{take-length}
 use Rattle.yaml_base.specs.Borrowable.{is_borrowable}
 use Rattle.yaml_base.specs.PlainEvent.{PlainScalar}
 use Rattle.yaml_base.specs.declared.error.Cause.{Cause}
 use Rattle.yaml_shape.specs.PlainData.{PlainData, text_data}
 use Rattle.yaml_read.specs.ScalarShapes.{lent_text, text_of, utf8_text}
-
--- a slice that ends in a list has the list at its end
-pub end-list : (s t : List ℕ) → ends_with nat_eq s t ≡ true
-    → take (length s - (length s - length t)) (drop (length s - length t) s) ≡ t
-end-list s t e = whole ∙ sym ((slice_eq-Decides Decides-eqb t (drop (length s - length t) s) _ refl).0 e)
-  where
-    whole : take (length s - (length s - length t)) (drop (length s - length t) s) ≡ drop (length s - length t) s
-    whole = rw (← length-drop (length s - length t) s) (take-length (drop (length s - length t) s))
 
 -- bytes that are UTF-8 are a text
 pub bytes-there : (bytes : List ℕ) → IsUtf8 bytes → Some bytes ≡ utf8_text bytes

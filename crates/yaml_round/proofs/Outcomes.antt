@@ -1,10 +1,10 @@
 -- What was written, where something was.
-use Rattle.std.proofs.Common.{◌≡◌, List, ℕ, Option, Some, None, Result, Ok, Err, refl, sym, ap, ◌∙◌}
+use Rattle.std.proofs.Common.{◌≡◌, List, ℕ, Option, Result, Ok, Err, refl, sym, ap, ◌∙◌}
 use Rattle.yaml_base.specs.EmitTree.{EmitNode, emit_scalar_node, emit_sequence_node, emit_mapping_node}
 use Rattle.yaml_base.specs.declared.error.Cause.{Cause}
 use Rattle.yaml_read.specs.DocTree.{DocNode, first_event}
 use Rattle.yaml_read.specs.NodeTags.{tag_in}
-use Rattle.yaml_write.specs.Outcomes.{Outcome, made, joined, under}
+use Rattle.yaml_write.specs.Outcomes.{made, joined}
 use Rattle.yaml_round.proofs.RenderedTrees.{IsRendered}
 
 -- answers that are the same are answers of the same
@@ -23,12 +23,6 @@ pub joined_ok : {A B C : Type 0} (f : A → B → C) (r : Result A Cause) (s : R
 joined_ok f (Ok a) (Ok b) c h = (a, b, refl, refl, sym (same_answer _ _ h))
 joined_ok f (Ok a) (Err e) c h = absurd cc
 joined_ok f (Err e) s c h = absurd cc
-
--- a tag stands on what has none
-pub under_ok : (outer : Option (List ℕ)) (own : List ℕ) (write : Option (List ℕ) → Outcome) (e : EmitNode)
-    → under outer own write ≡ Ok e → (outer ≡ None) × (write (Some own) ≡ Ok e)
-under_ok None own write e h = (refl, h)
-under_ok (Some outer) own write e h = absurd cc
 
 -- the tag of a node
 abbrev pub tag_of : EmitNode → Option (List ℕ)

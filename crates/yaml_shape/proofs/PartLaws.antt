@@ -21,10 +21,6 @@ pub record AreJoined (parts : Parts) (table : List PlainShape) (starts : List Sh
   pub places : ids_of starts ++ starts_behind (length table) (parts_of rest) ≡ starts_behind 0 (parts_of parts)
   pub within : All StartsWithin (parts_of rest)
 
--- at first all are left
-pub none_joined : (parts : Parts) → All StartsWithin (parts_of parts) → AreJoined parts [] [] parts
-none_joined parts within = record { tables = refl; places = refl; within = within }
-
 pub length-joined : (first second : List PlainShape) → length (joined first second) ≡ length first + length second
 length-joined first second = length-append first (map (raised (length first)) second)
     ∙ ap (λ n. length first + n) (length-map second (raised (length first)))

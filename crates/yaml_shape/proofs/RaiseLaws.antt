@@ -1,7 +1,7 @@
 -- A list whose elements are replaced in turn, each seen as it was but raised.
-use Rattle.std.proofs.Common.{◌≡◌, ◌<◌, ◌≤◌, ◌+◌, ℕ, zero, suc, List, [], ◌∷◌, ◌++◌, map, length, take, drop, get_or}
-use Rattle.std.proofs.Common.{set, refl, sym, ◌∙◌, ap, subst, All, arith}
-use Rattle.std.proofs.lemmas.List.{take_all, take_more, take_more_set, map-append, length-set, get_or-drop}
+use Rattle.std.proofs.Common.{◌≡◌, ◌<◌, ◌+◌, ℕ, zero, suc, List, [], ◌∷◌, ◌++◌, map, length, take, drop, get_or}
+use Rattle.std.proofs.Common.{set, sym, ◌∙◌, ap, subst, All, arith}
+use Rattle.std.proofs.lemmas.List.{take_more, take_more_set, map-append, length-set, get_or-drop}
 use Rattle.std.proofs.lemmas.List.{drop-set-lt, drop-drop}
 
 -- the elements before i are raised, and the others are as they were
@@ -9,10 +9,6 @@ pub record AreRaised {X Y : Type 0} (see : X → Y) (raise : Y → Y) (old new :
   pub size : length new ≡ length old
   pub done : map see (take i new) ≡ map raise (map see (take i old))
   pub left : drop i new ≡ drop i old
-
--- none is raised at first
-pub none_raised : {X Y : Type 0} (see : X → Y) (raise : Y → Y) (xs : List X) → AreRaised see raise xs xs 0
-none_raised see raise xs = record { size = refl; done = refl; left = refl }
 
 -- one more is raised
 pub one_raised : {X Y : Type 0} (see : X → Y) (raise : Y → Y) (old new : List X) (i : ℕ) (d y : X) → i < length new
@@ -41,15 +37,6 @@ one_raised see raise old new i d y within are seen =
   where
     get_or_drop : {A : Type 0} (xs : List A) (i : ℕ) (d : A) → get_or (drop i xs) 0 d ≡ get_or xs i d
     get_or_drop xs i d = get_or-drop i xs 0 d ∙ ap (λ k. get_or xs k d) (let e : i + 0 ≡ i = omega arith in e)
-
--- all are raised at the end
-pub all_raised : {X Y : Type 0} (see : X → Y) (raise : Y → Y) (old new : List X) (i : ℕ) → length new ≤ i
-    → AreRaised see raise old new i
-    → map see new ≡ map raise (map see old)
-all_raised see raise old new i end are =
-    let size : length new ≡ length old = are.size in
-    ap (map see) (sym (take_all i new end))
-    ∙ (are.done ∙ ap (λ l. map raise (map see l)) (take_all i old (omega arith)))
 
 -- an element that isn't raised yet is as it was
 pub as_before : {X Y : Type 0} (see : X → Y) (raise : Y → Y) (P : X → Type 0) (old new : List X) (i : ℕ) (x : X)

@@ -4,29 +4,11 @@ use Rattle.std.proofs.Common.{Bool, true, false, ltb, ◌≡◌, ◌<◌, ◌≤
 use Rattle.std.proofs.Common.{Option, Some, None, map, fold, length, refl, sym, ◌∙◌, ap, arith}
 use Rattle.std.specs.Prelude.{min, IsNone, IfSome}
 use Rattle.std.specs.Option.{option_and_then}
-use Rattle.yaml_shape.specs.PlainShape.{PlainShape, shape_at}
-use Rattle.yaml_shape.specs.Validity.{optional_content, step_from, walk, IsCycle}
+use Rattle.yaml_shape.specs.PlainShape.{PlainShape}
+use Rattle.yaml_shape.specs.Validity.{walk, IsCycle}
 use Rattle.yaml_shape.specs.SchemaRefusal.{IsFirstCycle}
 use Rattle.yaml_shape.specs.Walks.{led_from, led_on, AreWalks, lesser, IsLeastEnd}
 use Rattle.yaml_shape.proofs.WalkLaws.{walk-add, long_walk, cycle_reached}
-
--- a walk of one step
-walk_one : (shapes : List PlainShape) (id : ℕ) → walk shapes 1 id ≡ step_from shapes id
-walk_one shapes id = last (step_from shapes id)
-  where
-    last : (o : Option ℕ) → option_and_then (walk shapes zero) o ≡ o
-    last None = refl
-    last (Some next) = refl
-
--- the first steps of a table
-steps_of : (shapes rest : List PlainShape) (id : ℕ)
-    → led_from (map optional_content rest) id ≡ option_and_then optional_content (shape_at rest id)
-steps_of shapes [] id = refl
-steps_of shapes (s ∷ rest) zero = refl
-steps_of shapes (s ∷ rest) (suc id) = steps_of shapes rest id
-
-pub are_first : (shapes : List PlainShape) → AreWalks shapes 1 (map optional_content shapes)
-are_first shapes id = steps_of shapes shapes id ∙ sym (walk_one shapes id)
 
 led_map : (steps rest : List (Option ℕ)) (id : ℕ)
     → led_from (map (led_on steps) rest) id ≡ led_on steps (led_from rest id)

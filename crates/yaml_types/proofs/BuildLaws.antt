@@ -1,7 +1,7 @@
 -- Values built of items one by one, as a loop does it.
-use Rattle.std.proofs.Common.{ℕ, List, [], ◌∷◌, ◌++◌, sym, subst, inl, inr, append_assoc, append-nil}
+use Rattle.std.proofs.Common.{ℕ, List, [], ◌∷◌, ◌++◌, sym, subst, inr, append_assoc, append-nil}
 use Rattle.std.specs.Prelude.{IsTrue}
-use Rattle.yaml_tree.specs.TakeOut.{and_left, and_right}
+use Rattle.yaml_tree.specs.TakeOut.{and_right}
 use Rattle.yaml_shape.specs.PlainData.{PlainData, PlainItems, no_items, item}
 use Rattle.yaml_shape.specs.HasShape.{has_shape, all_have}
 use Rattle.yaml_types.specs.Start.{Start}
@@ -18,10 +18,6 @@ pub record IsBuilding {T : Type 0} (s : Start) (built : PlainData → T → Type
 
 module _ {T : Type 0} (s : Start) (built : PlainData → T → Type 0) (refused : PlainData → List ℕ → Type 0)
     (whole : PlainItems) where
-  -- at first
-  pub building_none : IsTrue (all_have s.0 s.1 whole) → IsBuilding s built refused whole [] whole
-  building_none h = record { shaped = h; rest_built = λ more b. b; rest_refused = λ message r. r }
-
   -- one more
   pub building_more : (values : List T) (d : PlainData) (ds : PlainItems) (x : T)
       → IsBuilding s built refused whole values (item d ds) → built d x
@@ -37,14 +33,3 @@ module _ {T : Type 0} (s : Start) (built : PlainData → T → Type 0) (refused 
   pub building_all : (values : List T) → IsBuilding s built refused whole values no_items
       → BuiltItems built whole values
   building_all values are = subst (BuiltItems built whole) (append-nil values) (are.rest_built [] tt)
-
-  -- the next is refused
-  pub building_refused : (values : List T) (d : PlainData) (ds : PlainItems) (message : List ℕ)
-      → IsBuilding s built refused whole values (item d ds) → refused d message
-      → RefusedItems built refused whole message
-  building_refused values d ds message are r = are.rest_refused message (inl r)
-
-  -- the next is of the shape
-  pub next_shaped : (values : List T) (d : PlainData) (ds : PlainItems)
-      → IsBuilding s built refused whole values (item d ds) → IsTrue (has_shape s.0 s.1 d)
-  next_shaped values d ds are = and_left (has_shape s.0 s.1 d) _ are.shaped

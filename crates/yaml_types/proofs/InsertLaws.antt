@@ -1,17 +1,17 @@
 -- Entries put into a map one by one, as a loop does it.
-use Rattle.std.proofs.Common.{◌≡◌, ℕ, List, [], ◌∷◌, sym, subst, inl, inr}
+use Rattle.std.proofs.Common.{◌≡◌, ℕ, List, [], ◌∷◌, sym, subst, inr}
 use Rattle.std.specs.Prelude.{IsTrue}
 use Rattle.std.specs.declared.cmp.Ordering.{Ordering}
 use Rattle.std.specs.BTreeMap.{insert_entry}
 use Rattle.yaml_tree.specs.TakeOut.{and_left, and_right}
-use Rattle.yaml_shape.specs.PlainData.{PlainData, PlainEntries, no_entries, entry}
+use Rattle.yaml_shape.specs.PlainData.{PlainData, PlainEntries, entry}
 use Rattle.yaml_shape.specs.HasShape.{HasShape, has_shape}
 use Rattle.yaml_shape.specs.DataView.{entry_of, entries_view}
 use Rattle.yaml_shape.specs.declared.data.Entry.{Entry}
 use Rattle.yaml_types.specs.Start.{Start}
 use Rattle.yaml_types.specs.PartShapes.{entries_match}
 use Rattle.yaml_types.specs.BuiltParts.{BuiltBoth, BuiltEntries}
-use Rattle.yaml_types.specs.RefusalParts.{RefusedBoth, RefusedEntries}
+use Rattle.yaml_types.specs.RefusalParts.{RefusedEntries}
 
 module _ {K V : Type 0} (k v : Start) (cmp : K → K → Ordering) (built : PlainData → K → Type 0)
     (built' : PlainData → V → Type 0) (refused refused' : PlainData → List ℕ → Type 0) (whole : PlainEntries) where
@@ -22,10 +22,6 @@ module _ {K V : Type 0} (k v : Start) (cmp : K → K → Ordering) (built : Plai
         → BuiltEntries cmp built built' whole [] after
     pub rest_refused : (message : List ℕ) → RefusedEntries built built' refused refused' rest message
         → RefusedEntries built built' refused refused' whole message
-
-  -- at first
-  pub inserting_none : IsTrue (entries_match k v whole) → IsInserting [] whole
-  inserting_none h = record { shaped = h; rest_built = λ after b. b; rest_refused = λ message r. r }
 
   -- one more
   pub inserting_more : (now : List (K × V)) (d : PlainData × PlainData) (es : PlainEntries) (p : K × V)
@@ -62,14 +58,3 @@ module _ {K V : Type 0} (k v : Start) (cmp : K → K → Ordering) (built : Plai
   next_entry now left rest e next are =
       let here = subst (λ l. IsInserting now (entries_view l)) next are in
       (key_shaped now (entry_of e) (entries_view rest) here, value_shaped now (entry_of e) (entries_view rest) here)
-
-  -- all
-  pub inserting_all : (now : List (K × V)) → IsInserting now no_entries → BuiltEntries cmp built built' whole [] now
-  inserting_all now are = are.rest_built now (λ t. now)
-
-  -- the next is refused
-  pub inserting_refused : (now : List (K × V)) (d : PlainData × PlainData) (es : PlainEntries) (message : List ℕ)
-      → IsInserting now (entry d.0 d.1 es) → RefusedBoth built refused refused' d message
-      → RefusedEntries built built' refused refused' whole message
-  inserting_refused now d es message are (inl r) = are.rest_refused message (inl r)
-  inserting_refused now d es message are (inr r) = are.rest_refused message (inr (r.0, inl r.1))

@@ -1,16 +1,16 @@
 -- The data of values one by one, as a loop makes it.
-use Rattle.std.proofs.Common.{◌≡◌, ◌<◌, ◌≤◌, ◌+◌, ℕ, List, [], ◌∷◌, ◌++◌, map, length, take, get_or, refl, sym, ◌∙◌}
-use Rattle.std.proofs.Common.{ap, subst, All, append_assoc, append-nil, rules}
+use Rattle.std.proofs.Common.{◌≡◌, ◌<◌, ◌≤◌, ◌+◌, ℕ, List, [], ◌∷◌, ◌++◌, map, length, take, get_or, sym, ◌∙◌}
+use Rattle.std.proofs.Common.{ap, subst, All, append_assoc, rules}
 use Rattle.std.specs.Prelude.{Vec}
 use Rattle.std.specs.declared.alloc.Global.{Global}
 use Rattle.std.proofs.lemmas.List.{map-append, take_more, take_all}
-use Rattle.std.proofs.lemmas.List.Elements.{All-more, All-nil, All-push}
-use Rattle.yaml_shape.specs.PlainData.{PlainData, seq_data, map_data}
-use Rattle.yaml_shape.specs.DataView.{data_of, items_of, entry_of, entries_of}
-use Rattle.yaml_shape.specs.declared.data.Data.{Data, Seq, Map, the_lemmas}
+use Rattle.std.proofs.lemmas.List.Elements.{All-more, All-push}
+use Rattle.yaml_shape.specs.PlainData.{PlainData, seq_data}
+use Rattle.yaml_shape.specs.DataView.{data_of, items_of, entry_of}
+use Rattle.yaml_shape.specs.declared.data.Data.{Data, Seq, the_lemmas}
 use Rattle.yaml_shape.specs.declared.data.Entry.{Entry, roll-Entry}
-use Rattle.yaml_types.specs.WrittenParts.{seq_written, map_written, PairsKeep}
-use Rattle.yaml_types.proofs.FoundLaws.{data_of-Seq, data_of-Map}
+use Rattle.yaml_types.specs.WrittenParts.{seq_written, PairsKeep}
+use Rattle.yaml_types.proofs.FoundLaws.{data_of-Seq}
 
 module _ {T : Type 0} (written : T → PlainData) (kept : T → Type 0) where
   -- the data is that of the first values, which keep what they do
@@ -54,15 +54,6 @@ module _ {K V : Type 0} (one : K → PlainData) (two : V → PlainData) (key : K
     pub written : map entry_of made ≡ map (λ p. (one p.0, two p.1)) front
     pub keep : PairsKeep key value front
 
-  -- at first
-  pub listed_none : (whole : List (K × V)) → AreListed whole [] whole
-  listed_none whole = record {
-    front = [];
-    row = refl;
-    written = refl;
-    keep = All-nil (λ p. key p.0 × value p.1);
-  }
-
   -- one more
   pub listed_more : (whole left rest : List (K × V)) (made pushed : List Entry) (k : K) (v : V) (e : Entry)
       → left ≡ (k, v) ∷ rest → pushed ≡ made ++ e ∷ [] → entry_of e ≡ (one k, two v) → key k → value v
@@ -75,22 +66,3 @@ module _ {K V : Type 0} (one : K → PlainData) (two : V → PlainData) (key : K
         ∙ ((λ t. are.written t ++ is t ∷ []) ∙ sym (map-append (λ p. (one p.0, two p.1)) are.front ((k, v) ∷ []))));
     keep = All-push (λ p. key p.0 × value p.1) are.front (k, v) are.keep (kk, kv);
   }
-
-  all_listed : (whole rest : List (K × V)) (made : Vec Entry Global) → rest ≡ []
-      → (are : AreListed whole made.items rest) → are.front ≡ whole
-  all_listed whole rest made none are =
-      sym (append-nil are.front) ∙ (ap (λ l. are.front ++ l) (sym none) ∙ are.row)
-
-  -- all
-  pub listed_all : (whole rest : List (K × V)) (made : Vec Entry Global) → rest ≡ []
-      → AreListed whole made.items rest → data_of (Map made) ≡ map_written one two whole
-  listed_all whole rest made none are =
-      data_of-Map made
-      ∙ ap (λ es. map_data (entries_of es))
-      (are.written ∙ ap (map (λ p. (one p.0, two p.1))) (all_listed whole rest made none are))
-
-  -- all keep what they do
-  pub listed_keep : (whole rest : List (K × V)) (made : Vec Entry Global) → rest ≡ []
-      → AreListed whole made.items rest → PairsKeep key value whole
-  listed_keep whole rest made none are =
-      subst (PairsKeep key value) (all_listed whole rest made none are) are.keep

@@ -3,16 +3,15 @@ use Rattle.std.proofs.Common.{◌≡◌, ℕ, suc, ◌+◌, ◌++◌, ◌∷◌,
 use Rattle.std.proofs.Common.{◌&&◌, Option, Result, Ok, Err, refl, sym, ap, ◌∙◌, arith, append_assoc, subst}
 use Rattle.std.specs.Prelude.{if◌then◌else◌, option_to_list, reverse, Some, None}
 use Rattle.std.proofs.lemmas.List.{append-nil, reverse-append}
-use Rattle.yaml_base.specs.EmitEvents.{PlainEmit, emit_stream_start, emit_stream_end, emit_document_start}
+use Rattle.yaml_base.specs.EmitEvents.{emit_stream_start, emit_document_start}
 use Rattle.yaml_base.specs.EmitEvents.{emit_document_end, emit_sequence_start, emit_sequence_end, emit_mapping_start}
 use Rattle.yaml_base.specs.EmitEvents.{emit_mapping_end}
 use Rattle.yaml_base.specs.EmitTree.{EmitNode, EmitNodes, EmitPairs, emit_sequence_node, emit_mapping_node}
 use Rattle.yaml_base.specs.EmitTree.{no_emit_nodes, emit_node, no_emit_pairs, emit_pair, emit_node_events}
 use Rattle.yaml_base.specs.EmitTree.{emit_nodes_events, emit_pairs_events, emit_documents_events, emit_document_events}
-use Rattle.yaml_base.specs.EmitTree.{IsEmitStream}
 use Rattle.yaml_base.specs.declared.error.Cause.{Cause}
 use Rattle.yaml_write.specs.Begun.{Begun, row_events, beginning_events, document_beginning, is_odd, open_of, open_all}
-use Rattle.yaml_write.specs.Begun.{writing_of, IsBegun, AreDocuments}
+use Rattle.yaml_write.specs.Begun.{writing_of, IsBegun}
 use Rattle.yaml_write.specs.Outcomes.{Outcome, made}
 use Rattle.yaml_write.specs.Opened.{CanEnd}
 use Rattle.yaml_write.specs.Writing.{Writing, is_mapping, start_of, end_of, turned, with_node, with_both, with_opened}
@@ -256,24 +255,3 @@ pub last_gone : (old new : List Open) (taken : Option Open) → old ≡ new ++ o
     → outer_of (reverse old) ≡ reverse new
 last_gone old new (Some o) e h = ap (λ os. outer_of (reverse os)) e ∙ ap outer_of (reverse-append new (o ∷ []))
 last_gone old new None e h = ap (λ os. outer_of (reverse os)) e ∙ none_there new (ap length (sym e) ∙ h refl)
-
--- where nothing is open, all documents are whole
-pub all_whole : (w : Writing) → IsBegun w → w.opened ≡ [] → AreDocuments w.events
-all_whole w h e = by_collections h.0 h.1 h.2
-  where
-    by_collections : (documents : List EmitNode) (collections : List Begun) → w ≡ writing_of documents collections
-        → AreDocuments w.events
-    by_collections documents [] is = (
-      documents,
-      ap (λ (v : Writing). v.events) is
-          ∙ ap (λ es. emit_stream_start ∷ es) (append-nil (emit_documents_events documents)),
-    )
-    by_collections documents (b ∷ outer) is =
-        absurd (let k : [] ≡ open_all 0 (b ∷ outer) = sym e ∙ ap (λ (v : Writing). v.opened) is in cc)
-
--- and with the end of the stream behind them, they are a stream
-pub is_stream : (w : Writing) (all : List PlainEmit) → IsBegun w → w.opened ≡ [] → all
-    ≡ w.events ++ emit_stream_end ∷ [] → IsEmitStream all
-is_stream w all h e is =
-    let found = all_whole w h e in
-    (found.0, is ∙ ap (λ es. es ++ emit_stream_end ∷ []) found.1)

@@ -4,11 +4,10 @@ use Rattle.std.proofs.Common.{ap, ◌∙◌}
 use Rattle.std.specs.Option.{is_some}
 use Rattle.yaml_base.specs.Position.{Position}
 use Rattle.yaml_base.specs.declared.error.Cause.{Cause}
-use Rattle.yaml_base.specs.declared.error.Cause.TheVariants.{NestedEnum}
 use Rattle.yaml_shape.specs.DataView.{items_of, entries_of}
 use Rattle.yaml_shape.specs.PlainData.{any_data, variant_data}
 use Rattle.yaml_shape.specs.PlainShape.{PlainShape, any_shape, enum_shape, PlainVariant, content_shape}
-use Rattle.yaml_shape.specs.PlainShape.{tuple_variant_shape, struct_variant_shape}
+use Rattle.yaml_shape.specs.PlainShape.{struct_variant_shape}
 use Rattle.yaml_tree.specs.Tree.{sequence, tagged}
 use Rattle.yaml_tree.specs.Tree as tree
 use Rattle.yaml_read.specs.AnyData.{tree_in, trees_in, pairs_in}
@@ -20,7 +19,7 @@ use Rattle.yaml_read.specs.PlainDocEvent.{PlainDocEvent, alias_to, a_scalar, a_v
 use Rattle.yaml_read.specs.PlainDocEvent.{sequence_begins, sequence_ends, mapping_begins, mapping_ends}
 use Rattle.yaml_read.specs.Steps.{ending, wrap, with_shape}
 use Rattle.yaml_read.specs.TreeReader.{Spot, after}
-use Rattle.yaml_read.specs.Variants.{Variants, variant_named, unknown_variant}
+use Rattle.yaml_read.specs.Variants.{Variants, variant_named}
 use Rattle.yaml_read.specs.DocEventView.{doc_event_of}
 use Rattle.yaml_read.specs.declared.doc_event.DocEvent.{DocEvent}
 use Rattle.yaml_read.specs.declared.doc_event.DocEvent.TheVariants as event
@@ -29,7 +28,7 @@ use Rattle.yaml_read.specs.inner.Reader.{Source, Reader, node_at, node_step, sha
 use Rattle.yaml_read.specs.inner.Reader.{place_at, item_at, any_entry_at, sequence_parts, mapping_parts}
 use Rattle.yaml_read.proofs.reading.Exits.{step_event, step_handed}
 use Rattle.yaml_read.proofs.reading.PlaceLaws.{node_unfolds}
-use Rattle.yaml_read.proofs.reading.ValueExits.{variant_handed, step_no_variant, step_nested, enum_as_is, taken_as_is}
+use Rattle.yaml_read.proofs.reading.ValueExits.{variant_handed, enum_as_is, taken_as_is}
 use Rattle.yaml_read.proofs.reading.ValueExits.{any_as_is, step_tagged, step_any_list, step_any_mapping}
 
 -- what is made of an answer under a shape that was looked up
@@ -54,23 +53,6 @@ module _ (source : Source) (read : Way → Reader) (way : Way) (s : PlainShape) 
       (variant_handed name variants e tag number content h found)
       ∙ with_wrap (variant_data number) (content_shape source.table name tag content)
       (λ t. read way t nest (Some (record { name = name; variant = tag })) at))
-
-  -- a tag that names no variant
-  pub enum_unknown : (name : List ℕ) (variants : Variants) (e : PlainDocEvent) (m : Position) (tag : List ℕ)
-      → s ≡ enum_shape name variants → taken ≡ None → Some (e, m) ≡ source.events at.place
-      → untaken_name false e ≡ Some tag → variant_named variants tag ≡ None
-      → shape_step source read way s nest taken at (source.events at.place) ≡ Err (unknown_variant variants tag)
-  enum_unknown name variants e m tag o k is h none = rw (o, k)
-      (step_no_variant source read way nest at name variants e m tag is h none)
-
-  -- an enum within what another's tag holds
-  pub enum_nested : (name : List ℕ) (variants : Variants) (around : TakenBy) (e : PlainDocEvent) (m : Position)
-      → s ≡ enum_shape name variants → taken ≡ Some around → Some (e, m) ≡ source.events at.place
-      → is_filled_scalar e ≡ false
-      → shape_step source read way s nest taken at (source.events at.place)
-      ≡ Err (NestedEnum around.name around.variant None)
-  enum_nested name variants around e m o k is h = rw (o, k)
-      (step_nested source read way nest at name variants around e m is h)
 
   -- a node without a tag of its own, and a text within what another's tag holds
   pub enum_plain : (name : List ℕ) (variants : Variants) (e : PlainDocEvent) (m : Position)
@@ -103,18 +85,6 @@ module _ (source : Source) (way : Way) (t : PlainShape) (nest : ℕ) (taken : Op
 
 -- a node with a tag that is no collection of the variant's own
 module _ (source : Source) (read : Way → Reader) (way : Way) (nest : ℕ) (around : TakenBy) (at : Spot) where
-  pub other_in_row : (name variant ids : List ℕ) (e : PlainDocEvent) (m : Position) (tag : List ℕ)
-      → untaken_name false e ≡ Some tag → takes (tuple_variant_shape name variant ids) e ≡ false
-      → event_at source read way (tuple_variant_shape name variant ids) nest (Some around) at e m
-      ≡ ending (after at) (other_answer (tuple_variant_shape name variant ids) e)
-  other_in_row name variant ids (alias_to j) m tag h other = absurd cc
-  other_in_row name variant ids (a_scalar w) m tag h other = refl
-  other_in_row name variant ids (sequence_begins own) m tag h other = absurd cc
-  other_in_row name variant ids sequence_ends m tag h other = absurd cc
-  other_in_row name variant ids (mapping_begins own) m tag h other = refl
-  other_in_row name variant ids mapping_ends m tag h other = absurd cc
-  other_in_row name variant ids a_void m tag h other = absurd cc
-
   pub other_in_fields : (strict : Bool) (name variant : List ℕ) (fields : Fields) (e : PlainDocEvent) (m : Position)
       (tag : List ℕ)
       → untaken_name false e ≡ Some tag → takes (struct_variant_shape strict name variant fields) e ≡ false

@@ -64,10 +64,6 @@ pub row_as_is : (s : PlainShape) (name : Option (List ℕ)) (ids : List ℕ) (ta
 row_as_is s None ids taken e h = rw h
 row_as_is s (Some name) ids taken e h = rw h
 
-pub row_late : (s : PlainShape) (name : Option (List ℕ)) (ids : List ℕ) → s ≡ row_shape name ids → early s ≡ None
-row_late s None ids h = rw h
-row_late s (Some name) ids h = rw h
-
 module _ (source : Source) (read : Way → Reader) (way : Way) (s : PlainShape) (nest : ℕ) (taken : Option TakenBy)
     (at : Spot) where
   -- no fault comes first

@@ -1,32 +1,26 @@
 -- What reading a struct comes to, and what reading one of its fields does.
-use Rattle.std.proofs.Common.{◌≡◌, ℕ, ◌-◌, ◌<◌, Bool, true, false, List, Some, None, Option, Result, Ok, Err, refl, ap}
+use Rattle.std.proofs.Common.{◌≡◌, ℕ, ◌-◌, ◌<◌, Bool, false, List, Some, None, Option, Result, Ok, Err, refl, ap}
 use Rattle.std.proofs.Common.{◌∙◌}
 use Rattle.std.specs.Prelude.{set}
 use Rattle.std.specs.Option.{is_some}
 use Rattle.yaml_base.specs.Answer.{Gives}
 use Rattle.yaml_base.specs.Position.{Position}
 use Rattle.yaml_base.specs.declared.error.Cause.{Cause}
-use Rattle.yaml_base.specs.declared.error.Cause.TheVariants.{RecursionLimitExceeded}
 use Rattle.yaml_shape.specs.PlainData.{PlainData}
 use Rattle.yaml_shape.specs.PlainShape.{PlainShape, identifier_shape, struct_shape, struct_variant_shape, shape_at}
 use Rattle.yaml_read.specs.Fields.{Fields, Slots, no_slots, name_in, field_named, struct_of}
-use Rattle.yaml_read.specs.Handing.{as_is, as_bare, handed, early, is_bare}
+use Rattle.yaml_read.specs.Handing.{as_is, handed, is_bare}
 use Rattle.yaml_read.specs.NodeTags.{TakenBy}
 use Rattle.yaml_read.specs.Places.{Way, place}
 use Rattle.yaml_read.specs.PlainDocEvent.{PlainDocEvent, mapping_begins}
-use Rattle.yaml_read.specs.Steps.{◌>>=◌, ending, wrap, finish}
+use Rattle.yaml_read.specs.Steps.{◌>>=◌, wrap, finish}
 use Rattle.yaml_read.specs.TreeReader.{Spot, after, mark_or_first}
 use Rattle.yaml_read.specs.inner.Reader.{Source, Reading, Reader, value_way, text_at, fields_in, skip_at, mapping_parts}
 use Rattle.yaml_read.specs.inner.Reader.{shape_step, mapping_at, fields_at, field_at, field_key_at}
-use Rattle.yaml_read.proofs.reading.Loops.{entered, too_deep}
+use Rattle.yaml_read.proofs.reading.Loops.{entered}
 use Rattle.yaml_read.proofs.reading.Exits.{step_event}
 
--- a struct hands nothing on but what is bare, and no fault comes first
-pub fields_late : (s : PlainShape) (f : Bool × Fields) → fields_in s ≡ Some f → early s ≡ None
-fields_late (struct_shape strict name fields) f h = refl
-fields_late (struct_variant_shape strict name variant fields) f h = refl
-fields_late _ f h = absurd cc
-
+-- a struct hands nothing on but what is bare
 pub fields_as_is : (s : PlainShape) (f : Bool × Fields) (taken : Bool) (e : PlainDocEvent) → fields_in s ≡ Some f
     → is_bare e ≡ false → handed s taken e ≡ as_is
 fields_as_is (struct_shape strict name fields) f taken e h b = rw b refl
@@ -35,14 +29,6 @@ fields_as_is _ f taken e h b = absurd cc
 
 pair_is : {x y : Bool × Fields} → Some x ≡ Some y → x ≡ y
 pair_is h = cc
-
-pub fields_as_bare : (s : PlainShape) (strict : Bool) (fields : Fields) (taken : Bool) (e : PlainDocEvent) → fields_in s
-    ≡ Some (strict, fields) → is_bare e ≡ true → handed s taken e ≡ as_bare fields
-fields_as_bare (struct_shape strict' name fields') strict fields taken e h b =
-    rw b (ap (λ (f : Bool × Fields). as_bare f.1) (pair_is h))
-fields_as_bare (struct_variant_shape strict' name variant fields') strict fields taken e h b =
-    rw b (ap (λ (f : Bool × Fields). as_bare f.1) (pair_is h))
-fields_as_bare _ strict fields taken e h b = absurd cc
 
 module _ (source : Source) (read : Way → Reader) (way : Way) where
   pub fields_mapping : (s : PlainShape) (strict : Bool) (fields : Fields) (nest : ℕ) (mark : Position) (at : Spot)
@@ -68,27 +54,6 @@ module _ (source : Source) (read : Way → Reader) (way : Way) where
       ∙ entered m (λ n. finish (struct_of source.table fields)
       (mapping_parts source (field_at source read way strict fields n) source.size (no_slots fields) (after at))) nest
       some
-
-  pub step_too_deep : (s : PlainShape) (strict : Bool) (fields : Fields) (nest : ℕ) (taken : Option TakenBy) (at : Spot)
-      (tag : Option (List ℕ)) (m : Position) → fields_in s ≡ Some (strict, fields)
-      → Some (mapping_begins tag, m) ≡ source.events at.place → nest ≡ 0
-      → shape_step source read way s nest taken at (source.events at.place) ≡ Err (RecursionLimitExceeded m)
-  step_too_deep s strict fields nest taken at tag m o is none =
-      step_event source read way s nest taken at (mapping_begins tag) m is
-      (fields_as_is s (strict, fields) (is_some taken) (mapping_begins tag) o refl)
-      ∙ fields_mapping s strict fields nest m (after at) o
-      ∙ too_deep m (λ n. finish (struct_of source.table fields)
-      (mapping_parts source (field_at source read way strict fields n) source.size (no_slots fields) (after at))) nest
-      none
-
-  -- a struct of which no field is there
-  pub step_bare : (s : PlainShape) (strict : Bool) (fields : Fields) (nest : ℕ) (taken : Option TakenBy) (at : Spot)
-      (e : PlainDocEvent) (m : Position) → fields_in s ≡ Some (strict, fields)
-      → Some (e, m) ≡ source.events at.place → is_bare e ≡ true
-      → shape_step source read way s nest taken at (source.events at.place)
-      ≡ ending (after at) (struct_of source.table fields (no_slots fields))
-  step_bare s strict fields nest taken at e m o is bare =
-      rw (← is, fields_as_bare s strict fields (is_some taken) e o bare) refl
 
 -- what a name is looked up as, with the way to the value, and where the reading ended
 abbrev pub keyed : Way → Spot → Result (Option (ℕ × ℕ)) Cause → Reading (Option (ℕ × ℕ) × Way)

@@ -4,7 +4,6 @@ use Rattle.std.proofs.Common.{◌∙◌, arith}
 use Rattle.yaml_base.specs.Position.{Position}
 use Rattle.yaml_base.specs.declared.error.Cause.{Cause}
 use Rattle.yaml_base.specs.declared.error.Cause.TheVariants.{EndOfStream, RecursionLimitExceeded}
-use Rattle.yaml_base.specs.declared.error.Cause.TheVariants.{RepetitionLimitExceeded}
 use Rattle.yaml_shape.specs.PlainData.{PlainData}
 use Rattle.yaml_read.specs.PlainDocEvent.{PlainDocEvent}
 use Rattle.yaml_read.specs.Steps.{◌>>=◌, wrap, enter}
@@ -56,10 +55,6 @@ wrap_finds f r v c h = rw h
 
 pub enough : (n : ℕ) → suc n - 1 ≡ n
 enough n = omega arith
-
-pub pursue_many : (read : Spot → Reading PlainData) (j p n : ℕ) → n ≡ 0 → pursue read j p n
-    ≡ Err RepetitionLimitExceeded
-pursue_many read j p n e = rw e
 
 pub pursue_fails : (read : Spot → Reading PlainData) (j p n : ℕ) (x : Cause) → 0 < n
     → read (record { place = j; left = n - 1 }) ≡ Err x

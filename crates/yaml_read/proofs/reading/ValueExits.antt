@@ -4,29 +4,27 @@ use Rattle.std.proofs.Common.{length, Ok, ◌∷◌, ◌++◌}
 use Rattle.std.specs.Option.{is_some}
 use Rattle.yaml_base.specs.Position.{Position}
 use Rattle.yaml_base.specs.declared.error.Cause.{Cause}
-use Rattle.yaml_base.specs.declared.error.Cause.TheVariants.{NestedEnum, RecursionLimitExceeded}
 use Rattle.yaml_shape.specs.DataView.{items_of, entries_of}
-use Rattle.yaml_shape.specs.PlainData.{PlainData, any_data, variant_data}
-use Rattle.yaml_shape.specs.PlainShape.{PlainShape, any_shape, enum_shape, struct_shape, struct_variant_shape}
-use Rattle.yaml_shape.specs.PlainShape.{PlainVariant, content_shape}
+use Rattle.yaml_shape.specs.PlainData.{PlainData, any_data}
+use Rattle.yaml_shape.specs.PlainShape.{PlainShape, any_shape, enum_shape}
+use Rattle.yaml_shape.specs.PlainShape.{PlainVariant}
 use Rattle.yaml_shape.specs.PlainShape.{tuple_shape, tuple_struct_shape, tuple_variant_shape}
 use Rattle.yaml_tree.specs.Tree.{sequence, tagged}
 use Rattle.yaml_tree.specs.Tree as tree
 use Rattle.yaml_read.specs.AnyData.{tree_in, trees_in, pairs_in, new_key}
-use Rattle.yaml_read.specs.Fields.{Fields}
-use Rattle.yaml_read.specs.Handing.{as_is, as_variant, as_tagged, as_refused, handed, early, is_filled_scalar}
+use Rattle.yaml_read.specs.Handing.{as_is, as_variant, as_tagged, handed, is_filled_scalar}
 use Rattle.yaml_read.specs.NodeTags.{TakenBy, around_value, untaken_name}
-use Rattle.yaml_read.specs.Places.{Way, places}
+use Rattle.yaml_read.specs.Places.{Way}
 use Rattle.yaml_read.specs.PlainDocEvent.{PlainDocEvent, sequence_begins, mapping_begins}
 use Rattle.yaml_read.specs.Rows.{row_of, row_data}
 use Rattle.yaml_read.specs.Steps.{wrap, finish}
 use Rattle.yaml_read.specs.TreeReader.{Spot, after}
-use Rattle.yaml_read.specs.Variants.{Variants, variant_named, unknown_variant}
-use Rattle.yaml_read.specs.inner.Reader.{Source, Reader, item_at, any_entry_at, row_at, rows_at, rows_in, fields_in}
+use Rattle.yaml_read.specs.Variants.{Variants, variant_named}
+use Rattle.yaml_read.specs.inner.Reader.{Source, Reader, item_at, any_entry_at, row_at, rows_at, rows_in}
 use Rattle.yaml_read.specs.inner.Reader.{sequence_at, value_way}
 use Rattle.yaml_read.specs.inner.Reader.{sequence_parts, mapping_parts, shape_step}
 use Rattle.yaml_read.proofs.reading.Exits.{step_event, step_handed}
-use Rattle.yaml_read.proofs.reading.Loops.{entered, too_deep}
+use Rattle.yaml_read.proofs.reading.Loops.{entered}
 
 -- ---- how enums and any values are handed on
 pub any_tagged : (e : PlainDocEvent) (name : List ℕ) → untaken_name false e ≡ Some name
@@ -42,11 +40,6 @@ pub variant_handed : (name : List ℕ) (variants : Variants) (e : PlainDocEvent)
     → handed (enum_shape name variants) false e ≡ as_variant place (record { name = name; variant = tag }) content
 variant_handed name variants e tag place content h found = rw (h, found) refl
 
-pub no_variant : (name : List ℕ) (variants : Variants) (e : PlainDocEvent) (tag : List ℕ)
-    → untaken_name false e ≡ Some tag → variant_named variants tag ≡ None
-    → handed (enum_shape name variants) false e ≡ as_refused
-no_variant name variants e tag h found = rw (h, found) refl
-
 pub enum_as_is : (name : List ℕ) (variants : Variants) (e : PlainDocEvent) → untaken_name false e ≡ None
     → handed (enum_shape name variants) false e ≡ as_is
 enum_as_is name variants e h = rw h refl
@@ -55,46 +48,13 @@ pub taken_as_is : (name : List ℕ) (variants : Variants) (e : PlainDocEvent) �
     → handed (enum_shape name variants) true e ≡ as_is
 taken_as_is name variants e h = rw h refl
 
-pub taken_refused : (name : List ℕ) (variants : Variants) (e : PlainDocEvent) → is_filled_scalar e ≡ false
-    → handed (enum_shape name variants) true e ≡ as_refused
-taken_refused name variants e h = rw h refl
-
--- a row hands nothing on, and places its faults; so do the fields of a struct
+-- a row hands nothing on
 pub rows_as_is : (s : PlainShape) (r : List ℕ × List ℕ) (taken : Bool) (e : PlainDocEvent) → rows_in s ≡ Some r
     → handed s taken e ≡ as_is
 rows_as_is (tuple_shape ids) r taken e h = refl
 rows_as_is (tuple_struct_shape name ids) r taken e h = refl
 rows_as_is (tuple_variant_shape name variant ids) r taken e h = refl
 rows_as_is _ r taken e h = absurd cc
-
-pub rows_late : (s : PlainShape) (r : List ℕ × List ℕ) → rows_in s ≡ Some r → early s ≡ None
-rows_late (tuple_shape ids) r h = refl
-rows_late (tuple_struct_shape name ids) r h = refl
-rows_late (tuple_variant_shape name variant ids) r h = refl
-rows_late _ r h = absurd cc
-
-pub rows_place : (s : PlainShape) (r : List ℕ × List ℕ) (taken : Bool) (e : PlainDocEvent) → rows_in s ≡ Some r
-    → places s taken e ≡ true
-rows_place (tuple_shape ids) r taken e h = refl
-rows_place (tuple_struct_shape name ids) r taken e h = refl
-rows_place (tuple_variant_shape name variant ids) r taken e h = refl
-rows_place _ r taken e h = absurd cc
-
-pub fields_place : (s : PlainShape) (f : Bool × Fields) (taken : Bool) (e : PlainDocEvent) → fields_in s ≡ Some f
-    → places s taken e ≡ true
-fields_place (struct_shape strict name fields) f taken e h = refl
-fields_place (struct_variant_shape strict name variant fields) f taken e h = refl
-fields_place _ f taken e h = absurd cc
-
--- an enum places no fault of a node that an untaken tag names a variant of, and each other
-pub enum_passes : (name : List ℕ) (variants : Variants) (taken : Bool) (e : PlainDocEvent) (tag : List ℕ)
-    → untaken_name taken e ≡ Some tag
-    → places (enum_shape name variants) taken e ≡ false
-enum_passes name variants taken e tag h = rw h refl
-
-pub enum_places : (name : List ℕ) (variants : Variants) (taken : Bool) (e : PlainDocEvent) → untaken_name taken e ≡ None
-    → places (enum_shape name variants) taken e ≡ true
-enum_places name variants taken e h = rw h refl
 
 -- ---- the steps
 row_is : {x y : List ℕ × List ℕ} → Some x ≡ Some y → x ≡ y
@@ -136,39 +96,6 @@ module _ (source : Source) (read : Way → Reader) (way : Way) (nest : ℕ) (at 
       (λ n. wrap (λ vs. any_data (tree.mapping (pairs_in (entries_of vs))))
       (mapping_parts source (any_entry_at source read way n) source.size [] (after at))) nest some
 
-  -- what the variant holds that the tag names
-  pub step_variant : (name : List ℕ) (variants : Variants) (e : PlainDocEvent) (m : Position) (tag : List ℕ)
-      (place : ℕ) (content : PlainVariant) (t : PlainShape)
-      → Some (e, m) ≡ source.events at.place → untaken_name false e ≡ Some tag
-      → variant_named variants tag ≡ Some (place, content)
-      → content_shape source.table name tag content ≡ Some t
-      → shape_step source read way (enum_shape name variants) nest None at (source.events at.place)
-      ≡ wrap (variant_data place) (read way t nest (Some (record { name = name; variant = tag })) at)
-  step_variant name variants e m tag place content t is h found there =
-      step_handed source read way (enum_shape name variants) nest None at e m
-      (as_variant place (record { name = name; variant = tag }) content) is
-      (variant_handed name variants e tag place content h found)
-      ∙ (rw there refl)
-
-  -- a tag that names no variant
-  pub step_no_variant : (name : List ℕ) (variants : Variants) (e : PlainDocEvent) (m : Position) (tag : List ℕ)
-      → Some (e, m) ≡ source.events at.place → untaken_name false e ≡ Some tag → variant_named variants tag ≡ None
-      → shape_step source read way (enum_shape name variants) nest None at (source.events at.place) ≡ Err
-      (unknown_variant variants tag)
-  step_no_variant name variants e m tag is h found =
-      step_handed source read way (enum_shape name variants) nest None at e m as_refused is
-      (no_variant name variants e tag h found)
-      ∙ (rw h refl)
-
-  -- an enum within what another's tag holds
-  pub step_nested : (name : List ℕ) (variants : Variants) (around : TakenBy) (e : PlainDocEvent) (m : Position)
-      → Some (e, m) ≡ source.events at.place → is_filled_scalar e ≡ false
-      → shape_step source read way (enum_shape name variants) nest (Some around) at (source.events at.place)
-      ≡ Err (NestedEnum around.name around.variant None)
-  step_nested name variants around e m is h =
-      step_handed source read way (enum_shape name variants) nest (Some around) at e m as_refused is
-      (taken_refused name variants e h)
-
   -- a row, whatever its shape is called
   pub rows_sequence : (s : PlainShape) (few ids : List ℕ) (mark : Position) (at : Spot) → rows_in s ≡ Some (few, ids)
       → sequence_at source read way s nest mark at ≡ rows_at source read way few ids nest mark at
@@ -193,18 +120,6 @@ module _ (source : Source) (read : Way → Reader) (way : Way) (nest : ℕ) (at 
       ∙ entered m
       (λ n. finish (row_data few (length ids))
       (sequence_parts source (row_at source read way n) source.size (row_of ids) (after at))) nest some
-
-  pub step_rows_deep : (s : PlainShape) (few ids : List ℕ) (taken : Option TakenBy) (tag : Option (List ℕ))
-      (m : Position) → rows_in s ≡ Some (few, ids)
-      → Some (sequence_begins tag, m) ≡ source.events at.place → nest ≡ 0
-      → shape_step source read way s nest taken at (source.events at.place) ≡ Err (RecursionLimitExceeded m)
-  step_rows_deep s few ids taken tag m o is none =
-      step_event source read way s nest taken at (sequence_begins tag) m is
-      (rows_as_is s (few, ids) (is_some taken) (sequence_begins tag) o)
-      ∙ rows_sequence s few ids m (after at) o
-      ∙ too_deep m
-      (λ n. finish (row_data few (length ids))
-      (sequence_parts source (row_at source read way n) source.size (row_of ids) (after at))) nest none
 
 -- ---- the pairs of any values
 module _ (source : Source) (read : Way

@@ -1,15 +1,13 @@
 -- What the code reads, where its walk stands, and how many steps it may still take.
 use Rattle.std.specs.Prelude.{◌≡◌, ℕ, ◌+◌, ◌-◌, ◌*◌, ◌<◌, ◌≤◌, List, Option, Some, map, length, drop}
-use Rattle.std.specs.Prelude.{slice_get, [], ◌∷◌}
+use Rattle.std.specs.Prelude.{slice_get}
 use Rattle.std.specs.Option.{option_map}
 use denote.Ref.{Bor}
 use Rattle.yaml_base.specs.Position.{Position}
 use Rattle.yaml_shape.specs.DataView.{data_of}
-use Rattle.yaml_shape.specs.PlainData.{PlainData, any_data}
 use Rattle.yaml_shape.specs.Validity.{numbers_of}
 use Rattle.yaml_shape.specs.declared.data.Data.{Data}
 use Rattle.yaml_shape.specs.declared.shape.ShapeId.{ShapeId}
-use Rattle.yaml_tree.specs.Tree.{Trees, no_trees, tree, Pairs, no_pairs, pair}
 use Rattle.yaml_shape.specs.PlainShape.{PlainVariant}
 use Rattle.yaml_shape.specs.ShapeView.{content_of}
 use Rattle.yaml_shape.specs.declared.shape.VariantShape.{VariantShape}
@@ -75,16 +73,6 @@ owner_of (owner.TupleVariant name variant) = of_tuple_variant name.now variant.n
 abbrev pub slots_of : List (Option Data) → Slots
 slots_of = map (option_map data_of)
 
--- the values of a list that was read as far, as the data that they were read as
-abbrev pub any_items : Trees → List PlainData
-any_items no_trees = []
-any_items (tree t ts) = any_data t ∷ any_items ts
-
--- the pairs of a mapping that was read as far, likewise
-abbrev pub any_entries : Pairs → List (PlainData × PlainData)
-any_entries no_pairs = []
-any_entries (pair k v ps) = (any_data k, any_data v) ∷ any_entries ps
-
 -- the place of a field, and the number of its shape
 abbrev pub field_view : Option (ℕ × ShapeId) → Option (ℕ × ℕ)
 field_view = option_map (λ f. (f.0, f.1.0))
@@ -107,8 +95,7 @@ abbrev pub Costs : (n : ℕ) → Walk → Walk → Type 0
 Costs n old new = new.steps.count ≤ old.steps.count + potential n old
 
 -- The walk went over a node: it is further on, within the document, with no more follows left, each event that it
--- passed is
--- counted, and the steps taken and the steps that may follow are together no more than before.
+-- passed is counted, and the steps taken and the steps that may follow are together no more than before.
 abbrev pub MovesOn : (n : ℕ) → Walk → Walk → Type 0
 MovesOn n old new = (old.place < new.place) × (new.place ≤ n) × (new.left ≤ old.left)
     × (old.steps.count + new.place ≤ new.steps.count + old.place)

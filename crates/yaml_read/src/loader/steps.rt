@@ -12,8 +12,8 @@ ghost use Rattle.yaml_read.specs.inner.Loading.{IsOnWay, IsReady, Steps};
 
 use crate::doc_event::{DocEvent, DocScalar, DocStart};
 use crate::loader::check::{
-    Phase, after_document_end, after_document_start, after_leaf, after_mapping,
-    after_sequence, after_start, after_stream_end, after_stream_start,
+    Phase, after_document_end, after_document_start, after_leaf, after_mapping, after_sequence,
+    after_start, after_stream_end, after_stream_start,
 };
 use crate::loader::draft::Draft;
 use std::alloc::{AllocError, Global};

@@ -1,6 +1,6 @@
 //! What a reading reads.
 
-ghost use Rattle.std.specs.Prelude.{◌≡◌, ℕ, ◌<◌, ◌≤◌, length, Some, IfSome, OnSome, slice_get, All};
+ghost use Rattle.std.specs.Prelude.{◌≡◌, ℕ, ◌<◌, ◌≤◌, ◌-◌, length, Some, IfSome, OnSome, slice_get, All};
 ghost use Rattle.std.specs.Option.{option_map};
 ghost use Rattle.yaml_shape.specs.PlainShape.{shape_at};
 ghost use Rattle.yaml_shape.specs.ShapeView.{shape_of};
@@ -48,10 +48,15 @@ impl<'s, 'de> Source<'s, 'de> {
     }
 
     /// How many parts the collection that begins at a place has, where all are scalars or aliases of scalars: the room
-    /// that they take. Where that is not known, it is none.
-    pub(crate) fn room(&self, start: usize, leaf: bool) -> usize {
+    /// that they take, which is never more than for the events that are left. Where that is not known, it is none.
+    pub(crate) fn room(&self, start: usize, leaf: bool) -> usize
+        ensures few { result ≤ length self.now.events.now - start }
+    {
         match self.end(start) {
-            Some(end) if leaf => end.saturating_sub(start).saturating_sub(1),
+            Some(end) if leaf => {
+                let parts = end.saturating_sub(start).saturating_sub(1);
+                parts.min(self.events.len().saturating_sub(start))
+            }
             _ => 0,
         }
     }

@@ -1,7 +1,6 @@
 //! The text of a scalar, borrowed from the source where the source shows it.
 
-ghost use Rattle.std.specs.Prelude.{◌≡◌, IfSome, Err, Ok, true, is_ok, is_some, nat_eq};
-ghost use Rattle.std.specs.List.{ends_with};
+ghost use Rattle.std.specs.Prelude.{◌≡◌, IfSome, Err, Ok, true, is_ok, is_some};
 ghost use Rattle.std.specs.Option.{option_copied, option_map_or};
 ghost use Rattle.yaml_base.specs.Answer.{Gives};
 ghost use Rattle.yaml_base.specs.Borrowable.{is_borrowable};
@@ -17,20 +16,8 @@ use crate::de::scalar::mismatch::found_scalar;
 use crate::de::scalar::sort::text_of;
 use crate::doc_event::DocScalar;
 use std::alloc::Global;
-use yaml_base::ScalarStyle;
+use yaml_base::borrowed_bytes;
 use yaml_shape::{Data, Shape, Text};
-
-// The end of the source that equals the bytes.
-fn matching_end<'de>(source: &'de [u8], bytes: &[u8]) -> Option<&'de [u8]>
-    ensures equal { IfSome result (λ part. part.now ≡ bytes.now) }
-    ensures test { is_some result ≡ ends_with nat_eq source.now bytes.now }
-{
-    if source.ends_with(bytes) {
-        Some(&source[source.len() - bytes.len()..])
-    } else {
-        None
-    }
-}
 
 // The part of the source that shows the scalar's bytes.
 fn shown_bytes<'de>(scalar: &DocScalar<'de>) -> Option<&'de [u8]>
@@ -38,15 +25,7 @@ fn shown_bytes<'de>(scalar: &DocScalar<'de>) -> Option<&'de [u8]>
     ensures test { is_some result
         ≡ is_borrowable scalar.now.value.items (option_copied scalar.now.repr) scalar.now.style }
 {
-    let source = scalar.repr?;
-    match scalar.style {
-        ScalarStyle::Plain => matching_end(source, &scalar.value),
-        ScalarStyle::SingleQuoted | ScalarStyle::DoubleQuoted => {
-            let (_closing, body) = source.split_last()?;
-            matching_end(body, &scalar.value)
-        }
-        ScalarStyle::Literal | ScalarStyle::Folded => None,
-    }
+    borrowed_bytes(&scalar.value, scalar.repr, scalar.style)
 }
 
 // The data of a text that is borrowed.
