@@ -159,7 +159,7 @@ impl<'de> Document<'de> {
         self.read_plain(alloc, &Shape::Bytes)
     }
 
-    /// The data of the document as bytes, likewise.
+    /// The same as `deserialize_bytes`, since data owns its bytes.
     pub fn deserialize_byte_buf(&self, alloc: Global) -> Result<Data<'de>>
         ensures { Answers data_of result (DocumentGives default_limits [] bytes_shape self.now) }
     {

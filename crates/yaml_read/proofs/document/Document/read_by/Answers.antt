@@ -70,9 +70,9 @@ returns-in-None-error-clause-read c = λ fresh. rw c.into_error.ensures (λ faul
 pub returns-clause-read : goal.returns-clause-read
 returns-clause-read c = λ fresh fault.
     let cut = sym c.error-in-Err.ensures.shown ∙ ap option_copied c.in-Some-error.is in
-    cut_gives c.args.limits c.args.schema.now (shape_of c.args.shape.now) c.args.self.now c.told.result
+    cut_gives c.args.limits c.args.schema.now (shape_of c.args.shape.now) c.args.self.now c.cut_off_fault.result
     c.in-Some-error.ending.now cut
-    (c.told.ensures.own
+    (c.cut_off_fault.ensures.own
     (own_refusal c.args.limits c.args.schema.now (shape_of c.args.shape.now) c.args.self.now c.in-Err.refusal
     (λ known. seen_within c.args.limits c.args.schema.now (shape_of c.args.shape.now) c.requires.small c.args.self.now
     c.events.result.now c.ends.result.now _

@@ -1,0 +1,22 @@
+-- The events lead into a collection, with one more around it.
+use Rattle.std.proofs.Common.{◌∷◌, ◌++◌, [], ◌∙◌, ap, Some}
+use Rattle.yaml_base.specs.Position.{Position}
+use Rattle.yaml_base.specs.declared.event.Event.{Event}
+use Rattle.yaml_base.specs.StreamMachine.{within}
+use Rattle.yaml_parse.specs.declared.frame.Frame.{Frame}
+use Rattle.yaml_parse.specs.Frames.{open_of, opens, state_of}
+use Rattle.yaml_parse.proofs.Streams.{goes_to, opened_more}
+use Rattle.yaml_parse.proofs.stream.Stream.open_inner.Goals as goal
+
+pub invariant_of-self-2 : goal.invariant_of-self-2
+invariant_of-self-2 c =
+    let old = c.args.self.now in
+    let x : Event × Position = (c.args.event, c.args.mark) in
+    let around : Frame × Position = (c.args.back, old.opened) in
+    record {
+      ran = goes_to old.events.items c.push_reserved.new.self.items x (state_of old.phase old.outer.items)
+          (within (open_of c.args.first ∷ open_of c.args.back ∷ opens old.outer.items))
+          (c.push_reserved.ensures.items ∙ ap (λ es. es ++ x ∷ []) c.reserve.ensures.items) old.ran c.requires
+          ∙ ap Some (opened_more old.outer.items c.push_reserved-2.new.self.items c.args.first around
+          (c.push_reserved-2.ensures.items ∙ ap (λ xs. xs ++ around ∷ []) c.reserve-2.ensures.items));
+    }

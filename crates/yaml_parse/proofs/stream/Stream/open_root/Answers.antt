@@ -1,0 +1,19 @@
+-- The events lead into the first collection of a document.
+use Rattle.std.proofs.Common.{◌∷◌, ◌++◌, [], ◌∙◌, ap, sym, Some}
+use Rattle.yaml_base.specs.Position.{Position}
+use Rattle.yaml_base.specs.declared.event.Event.{Event}
+use Rattle.yaml_base.specs.StreamMachine.{within}
+use Rattle.yaml_parse.specs.Frames.{open_of, opens, state_of}
+use Rattle.yaml_parse.proofs.Streams.{goes_to}
+use Rattle.yaml_parse.proofs.stream.Stream.open_root.Goals as goal
+
+pub invariant_of-self-2 : goal.invariant_of-self-2
+invariant_of-self-2 c =
+    let old = c.args.self.now in
+    let x : Event × Position = (c.args.event, c.args.mark) in
+    record {
+      ran = goes_to old.events.items c.push_reserved.new.self.items x (state_of old.phase old.outer.items)
+          (within (open_of c.args.first ∷ []))
+          (c.push_reserved.ensures.items ∙ ap (λ es. es ++ x ∷ []) c.reserve.ensures.items) old.ran c.requires
+          ∙ ap (λ xs. Some (within (open_of c.args.first ∷ opens xs))) (sym c.clear.ensures.items);
+    }

@@ -1,0 +1,16 @@
+//! The tokens of YAML text to the events of a stream.
+#![tactic(auto)]
+
+mod block;
+mod directives;
+mod document;
+mod fault;
+mod flow;
+mod frame;
+mod machine;
+mod node;
+mod parse;
+mod properties;
+mod stream;
+
+pub use parse::{Parsed, parse_tokens, unread};

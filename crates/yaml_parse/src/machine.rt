@@ -1,0 +1,128 @@
+//! The machine that takes tokens one by one and gives events.
+
+use crate::fault::endless;
+use crate::frame::{Frame, Phase};
+use crate::properties::{Handle, Properties};
+use crate::stream::Stream;
+use std::alloc::Global;
+use yaml_base::Mark;
+use yaml_token::{Lead, Placed, Stop, Token};
+
+// A parser of a text, amid its tokens.
+#[derive(Drop)]
+pub(crate) struct Machine<'a> {
+    pub(crate) alloc: Global,
+    pub(crate) text: &'a [u8],
+    pub(crate) stream: Stream<'a>,
+    // What stands before the node that is to come.
+    pub(crate) properties: Option<Properties>,
+    // The end of the last indicator.
+    pub(crate) gap: Mark,
+    // Whether the document has a `%YAML` directive.
+    pub(crate) has_version: bool,
+    // What the document's `%TAG` directives say.
+    pub(crate) handles: Vec<Handle>,
+}
+
+// Where a token stands.
+#[derive(Drop)]
+pub(crate) struct Span {
+    pub(crate) start: Mark,
+    pub(crate) end: Mark,
+}
+
+// The most steps at a token.
+const STEPS: usize = 8;
+
+impl<'a> Machine<'a> {
+    // A parser that has taken no token. Takes no memory.
+    pub(crate) fn new(alloc: Global, text: &'a [u8], start: Mark) -> Machine<'a> {
+        Machine {
+            alloc,
+            text,
+            stream: Stream::new(alloc, start),
+            properties: None,
+            gap: start,
+            has_version: false,
+            handles: Vec::new(alloc),
+        }
+    }
+
+    // Goes over a token and what stands before it.
+    pub(crate) fn take(&mut self, placed: Placed) -> Result<(), Stop> {
+        let mut token = placed.token;
+        let before = Span {
+            start: placed.start,
+            end: placed.start,
+        };
+        let at = Span {
+            start: placed.start,
+            end: placed.end,
+        };
+        match placed.lead {
+            Lead::Nothing => {}
+            Lead::Key => self.feed(&mut Token::Key, &before)?,
+            Lead::MappingKey => {
+                self.feed(&mut Token::BlockMappingStart, &before)?;
+                self.feed(&mut Token::Key, &before)?;
+            }
+        }
+        self.feed(&mut token, &at)
+    }
+
+    // Goes over a token.
+    fn feed(&mut self, token: &mut Token, at: &Span) -> Result<(), Stop> {
+        for _ in 0..STEPS {
+            if self.step(token, at)? {
+                return Ok(());
+            }
+        }
+        Err(endless(at.start))
+    }
+
+    // One step at a token: whether it was used up.
+    fn step(&mut self, token: &mut Token, at: &Span) -> Result<bool, Stop> {
+        match self.stream.phase() {
+            Phase::First => self.document_start(true, token, at),
+            Phase::Next => self.document_start(false, token, at),
+            Phase::Directives => self.directive(token, at),
+            Phase::Root => self.root(token, at),
+            Phase::Content => self.content(token, at),
+            Phase::Within(frame) => self.inside(frame, token, at),
+            Phase::Ended => self.document_end(token, at),
+            Phase::Before | Phase::After => Ok(true),
+        }
+    }
+
+    // One step at a token in a collection.
+    fn inside(&mut self, frame: Frame, token: &mut Token, at: &Span) -> Result<bool, Stop> {
+        match frame {
+            Frame::BlockEntry => self.block_entry(token, at),
+            Frame::BlockNode => self.block_node(token, at),
+            Frame::IndentlessEntry => self.indentless_entry(token, at),
+            Frame::IndentlessNode => self.indentless_node(token, at),
+            Frame::BlockKey => self.block_key(token, at),
+            Frame::BlockKeyNode | Frame::BlockValueNode => self.block_part(token, at),
+            Frame::BlockValue => self.block_value(token, at),
+            Frame::FlowNode => self.flow_node(token, at),
+            Frame::FlowEntry => self.flow_entry(token, at),
+            Frame::PairKey => self.pair_key(token, at),
+            Frame::PairValue => self.pair_value(token, at),
+            Frame::PairValueNode => self.pair_value_node(token, at),
+            Frame::PairEnd => self.pair_end(at),
+            Frame::MapKey => self.map_key(token, at),
+            Frame::MapKeyNode => self.map_key_node(token, at),
+            Frame::MapValue => self.map_value(token, at),
+            Frame::MapValueNode => self.map_value_node(token, at),
+            Frame::MapNoValue => self.nothing(at.start),
+            Frame::MapEntry => self.map_entry(token, at),
+        }
+    }
+
+    // Goes on in the innermost collection by an indicator.
+    pub(crate) fn pass(&mut self, frame: Frame, at: &Span) -> Result<bool, Stop> {
+        self.gap = at.end;
+        self.stream.go(frame);
+        Ok(true)
+    }
+}

@@ -1,0 +1,248 @@
+//! Nodes, and what stands before them.
+
+ghost use Rattle.std.specs.Prelude.{◌≡◌};
+ghost use Rattle.yaml_base.specs.declared.open.Open.TheVariants.{Key, Sequence};
+ghost use Rattle.yaml_parse.specs.Frames.{open_of};
+
+use crate::fault::fault_in;
+use crate::frame::Frame;
+use crate::machine::{Machine, Span};
+use crate::properties::{Properties, WrittenTag, resolve};
+use std::mem;
+use yaml_base::{Anchor, MappingStart, Mark, Scalar, ScalarStyle, SequenceStart, Tag};
+use yaml_token::{Context, Problem, Stop, Token};
+
+// Which nodes may stand in a place.
+#[derive(Clone, Copy)]
+pub(crate) enum Nodes {
+    // Those within brackets.
+    Flow,
+    // Those by indentation too.
+    Block,
+    // And a sequence whose `-` are at the column of the key.
+    Indentless,
+}
+
+// A node's anchor and its tag, with where they begin, or else the node, and where they end.
+#[derive(Drop)]
+struct Named {
+    anchor: Option<Anchor>,
+    tag: Option<Tag>,
+    start: Mark,
+    end: Mark,
+}
+
+impl<'a> Machine<'a> {
+    // A node, or a part of what stands before one.
+    pub(crate) fn node(
+        &mut self,
+        nodes: Nodes,
+        token: &mut Token,
+        at: &Span,
+    ) -> Result<bool, Stop> {
+        match self.properties.take() {
+            Some(properties) => self.behind(properties, nodes, token, at),
+            None => self.first(nodes, token, at),
+        }
+    }
+
+    // A node with nothing before it, or the first part of what stands before one.
+    fn first(&mut self, nodes: Nodes, token: &mut Token, at: &Span) -> Result<bool, Stop> {
+        match token {
+            Token::Alias(name) => {
+                let name = mem::replace(name, Vec::new(self.alloc));
+                self.stream.alias(Anchor::new(name), at.start)?;
+                Ok(true)
+            }
+            _ => self.behind(Properties::none(at.start), nodes, token, at),
+        }
+    }
+
+    // A node behind an anchor or a tag, or the other of both.
+    fn behind(
+        &mut self,
+        mut properties: Properties,
+        nodes: Nodes,
+        token: &mut Token,
+        at: &Span,
+    ) -> Result<bool, Stop> {
+        match token {
+            Token::Anchor(name) if properties.anchor.is_none() => {
+                properties.anchor = Some(mem::replace(name, Vec::new(self.alloc)));
+                properties.end = at.end;
+                self.properties = Some(properties);
+                Ok(true)
+            }
+            Token::Tag { handle, suffix } if properties.tag.is_none() => {
+                properties.tag = Some(WrittenTag {
+                    handle: mem::replace(handle, Vec::new(self.alloc)),
+                    suffix: mem::replace(suffix, Vec::new(self.alloc)),
+                    mark: at.start,
+                });
+                properties.end = at.end;
+                self.properties = Some(properties);
+                Ok(true)
+            }
+            _ => {
+                let named = self.named(properties)?;
+                self.named_node(named, nodes, token, at)
+            }
+        }
+    }
+
+    // What stands before a node, with its tag resolved.
+    fn named(&self, properties: Properties) -> Result<Named, Stop> {
+        let Properties {
+            anchor,
+            tag,
+            start,
+            end,
+        } = properties;
+        let tag = self.tag(tag, start)?;
+        let anchor = anchor.map(|name| Anchor::new(name));
+        Ok(Named {
+            anchor,
+            tag,
+            start,
+            end,
+        })
+    }
+
+    // The tag of a node, which begins at `start`.
+    fn tag(&self, tag: Option<WrittenTag>, start: Mark) -> Result<Option<Tag>, Stop> {
+        let Some(written) = tag else {
+            return Ok(None);
+        };
+        let mark = written.mark;
+        match resolve(self.alloc, self.handles.as_slice(), written)? {
+            Some(tag) => Ok(Some(tag)),
+            None => Err(fault_in(
+                Context::ParsingANode,
+                start,
+                Problem::FoundUndefinedTagHandle,
+                mark,
+            )),
+        }
+    }
+
+    // What a node is behind its anchor and its tag.
+    fn named_node(
+        &mut self,
+        named: Named,
+        nodes: Nodes,
+        token: &mut Token,
+        at: &Span,
+    ) -> Result<bool, Stop> {
+        match token {
+            Token::BlockEntry if matches!(nodes, Nodes::Indentless) => {
+                self.sequence(named, Frame::IndentlessEntry, at.start)?;
+                Ok(false)
+            }
+            Token::Scalar { value, style } => {
+                let value = mem::replace(value, Vec::new(self.alloc));
+                self.scalar(named, value, *style, at.end)?;
+                Ok(true)
+            }
+            Token::FlowSequenceStart => {
+                self.sequence(named, Frame::FlowNode, at.start)?;
+                Ok(true)
+            }
+            Token::FlowMappingStart => {
+                self.mapping(named, Frame::MapKey, at.start)?;
+                Ok(true)
+            }
+            Token::BlockSequenceStart if !matches!(nodes, Nodes::Flow) => {
+                self.sequence(named, Frame::BlockEntry, at.start)?;
+                Ok(true)
+            }
+            Token::BlockMappingStart if !matches!(nodes, Nodes::Flow) => {
+                self.mapping(named, Frame::BlockKey, at.start)?;
+                Ok(true)
+            }
+            _ => self.no_node(named, nodes, at.start),
+        }
+    }
+
+    // An empty scalar behind an anchor or a tag; with neither a node has to stand here.
+    fn no_node(&mut self, named: Named, nodes: Nodes, mark: Mark) -> Result<bool, Stop> {
+        if named.anchor.is_none() && named.tag.is_none() {
+            let context = match nodes {
+                Nodes::Flow => Context::ParsingAFlowNode,
+                Nodes::Block | Nodes::Indentless => Context::ParsingABlockNode,
+            };
+            return Err(fault_in(
+                context,
+                named.start,
+                Problem::DidNotFindExpectedNodeContent,
+                mark,
+            ));
+        }
+        let end = named.end;
+        self.scalar(named, Vec::new(self.alloc), ScalarStyle::Plain, end)?;
+        Ok(false)
+    }
+
+    // A scalar whose text ends here.
+    fn scalar(
+        &mut self,
+        named: Named,
+        value: Vec<u8>,
+        style: ScalarStyle,
+        end: Mark,
+    ) -> Result<(), Stop> {
+        let Named {
+            anchor,
+            tag,
+            start,
+            ..
+        } = named;
+        let scalar = Scalar {
+            anchor,
+            tag,
+            value,
+            style,
+            repr: self.text.get(start.index() as usize..end.index() as usize),
+        };
+        self.stream.scalar(scalar, start)
+    }
+
+    // An empty scalar before this token, with nothing of its own.
+    pub(crate) fn nothing(&mut self, mark: Mark) -> Result<bool, Stop> {
+        let named = Named {
+            anchor: None,
+            tag: None,
+            start: mark,
+            end: mark,
+        };
+        self.scalar(named, Vec::new(self.alloc), ScalarStyle::Plain, mark)?;
+        Ok(false)
+    }
+
+    // The start of a sequence that waits for `first`.
+    fn sequence(&mut self, named: Named, first: Frame, opened: Mark) -> Result<(), Stop>
+        requires { open_of first ≡ Sequence }
+    {
+        let Named {
+            anchor,
+            tag,
+            start,
+            ..
+        } = named;
+        self.stream
+            .begin_sequence(SequenceStart { anchor, tag }, start, first, opened)
+    }
+
+    // The start of a mapping that waits for `first`.
+    fn mapping(&mut self, named: Named, first: Frame, opened: Mark) -> Result<(), Stop>
+        requires { open_of first ≡ Key }
+    {
+        let Named {
+            anchor,
+            tag,
+            start,
+            ..
+        } = named;
+        self.stream
+            .begin_mapping(MappingStart { anchor, tag }, start, first, opened)
+    }
+}

@@ -1,0 +1,86 @@
+//! Tokens to events.
+
+ghost use Rattle.std.specs.Prelude.{◌≡◌, [], IfOk, is_some, true};
+ghost use Rattle.yaml_base.specs.MarkedEvents.{plain_events};
+ghost use Rattle.yaml_base.specs.Stream.{IsWellFormed};
+
+use crate::fault::{no_end, owned};
+use crate::machine::Machine;
+use std::alloc::{AllocError, Global};
+use yaml_base::{Event, Mark, ParserFault};
+use yaml_token::{Fault, Placed, Stop};
+
+/// The events of a text, up to its end or its first fault.
+#[derive(Drop)]
+pub struct Parsed<'a> {
+    /// The events, each with the mark where it begins.
+    pub events: Vec<(Event<'a>, Mark)>,
+    /// What is wrong behind them; none where the stream has come to its end.
+    pub fault: Option<ParserFault>,
+}
+
+// The mark of the first byte.
+fn start_mark() -> Mark {
+    match Mark::new(0, 0, 0) {
+        Some(mark) => mark,
+        None => unreachable!(),
+    }
+}
+
+// Goes over all tokens, up to the first fault.
+fn take_all(machine: &mut Machine<'_>, tokens: Vec<Placed>) -> Result<(), Stop> {
+    machine.stream.begin_stream(start_mark())?;
+    for placed in tokens {
+        machine.take(placed)?;
+    }
+    Ok(())
+}
+
+/// The events of the tokens of a text, with this fault behind them if there is one, up to the parser's own first fault.
+/// The events borrow from the text. A list of tokens that neither ends nor has a fault gives a fault of kind `Other`.
+/// The only error is want of memory.
+pub fn parse_tokens<'a>(
+    alloc: Global,
+    text: &'a [u8],
+    tokens: Vec<Placed>,
+    fault: Option<Fault>,
+) -> Result<Parsed<'a>, AllocError>
+    ensures taken { IfOk result (λ parsed.
+        IsWellFormed (is_some parsed.fault) (plain_events parsed.events.items)) }
+{
+    let mut machine = Machine::new(alloc, text, start_mark());
+    let found = match take_all(&mut machine, tokens) {
+        Ok(()) => fault,
+        Err(Stop::Memory) => return Err(AllocError),
+        Err(Stop::Fault(own)) => Some(own),
+    };
+    let stream = machine.stream;
+    if stream.is_after() {
+        return Ok(Parsed {
+            events: stream.into_whole(),
+            fault: None,
+        });
+    }
+    let fault = match found {
+        Some(fault) => owned(alloc, fault)?,
+        None => owned(alloc, no_end(start_mark()))?,
+    };
+    Ok(Parsed {
+        events: stream.into_cut(),
+        fault: Some(fault),
+    })
+}
+
+/// No events, and the fault of a text that has no tokens. The only error is want of memory.
+pub fn unread<'a>(alloc: Global, fault: Fault) -> Result<Parsed<'a>, AllocError>
+    ensures taken { IfOk result (λ parsed.
+        IsWellFormed (is_some parsed.fault) (plain_events parsed.events.items)) }
+    ensures none { IfOk result (λ parsed. parsed.events.items ≡ []) }
+    ensures faulted { IfOk result (λ parsed. is_some parsed.fault ≡ true) }
+{
+    let fault = owned(alloc, fault)?;
+    Ok(Parsed {
+        events: Vec::new(alloc),
+        fault: Some(fault),
+    })
+}

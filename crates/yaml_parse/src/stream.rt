@@ -1,0 +1,282 @@
+//! The events of a stream, and which may come next.
+
+ghost use Rattle.std.specs.Prelude.{◌≡◌, ◌∷◌, [], Some, true, false};
+ghost use Rattle.std.proofs.Props.{props};
+ghost use Rattle.yaml_base.specs.MarkedEvents.{plain_events};
+ghost use Rattle.yaml_base.specs.PlainEvent.{event_of};
+ghost use Rattle.yaml_base.specs.Stream.{IsStream, IsWellFormed};
+ghost use Rattle.yaml_base.specs.StreamMachine.{before_stream, next_state, run, within};
+ghost use Rattle.yaml_base.specs.declared.open.Open.TheVariants.{Key, Sequence};
+ghost use Rattle.yaml_parse.specs.Frames.{is_done, open_of, opens, state_of};
+
+use crate::fault::misplaced;
+use crate::frame::{Frame, Phase, behind, is_key, is_same, is_sequence};
+use std::alloc::Global;
+use yaml_base::{Anchor, Event, MappingStart, Mark, Scalar, SequenceStart};
+use yaml_token::Stop;
+
+// Events that are a beginning of a stream, always.
+#[derive(Drop)]
+pub(crate) struct Stream<'a> {
+    events: Vec<(Event<'a>, Mark)>,
+    phase: Phase,
+    // Where the innermost collection began, or the directives of a document.
+    opened: Mark,
+    // What the collections around the innermost wait for, and where they began, the outermost first.
+    outer: Vec<(Frame, Mark)>,
+    ghost ran: { run (Some before_stream) (plain_events events.items) ≡ Some (state_of phase outer.items) } by { Prim.hlevel props },
+}
+
+impl<'a> Stream<'a> {
+    // No events. Takes no memory.
+    pub(crate) fn new(alloc: Global, start: Mark) -> Stream<'a> {
+        Stream {
+            events: Vec::new(alloc),
+            phase: Phase::Before,
+            opened: start,
+            outer: Vec::new(alloc),
+        }
+    }
+
+    // Which part of the stream comes next.
+    pub(crate) fn phase(&self) -> Phase {
+        self.phase
+    }
+
+    // Where the innermost collection began, or the directives of a document.
+    pub(crate) fn opened(&self) -> Mark {
+        self.opened
+    }
+
+    // Whether the stream has ended.
+    pub(crate) fn is_after(&self) -> bool
+        ensures { result ≡ is_done self.now.phase }
+    {
+        matches!(self.phase, Phase::After)
+    }
+
+    // The events of a whole stream.
+    #[tactic(auto, using(crate::proofs::Streams::whole_of))]
+    pub(crate) fn into_whole(self) -> Vec<(Event<'a>, Mark)>
+        requires { is_done self.phase ≡ true }
+        ensures { IsStream (plain_events result.items) }
+    {
+        self.events
+    }
+
+    // The events of a beginning of a stream.
+    #[tactic(auto, using(crate::proofs::Streams::cut_of))]
+    pub(crate) fn into_cut(self) -> Vec<(Event<'a>, Mark)>
+        requires { is_done self.phase ≡ false }
+        ensures { IsWellFormed true (plain_events result.items) }
+    {
+        self.events
+    }
+
+    // An event at which no collection begins or ends.
+    fn add(&mut self, event: Event<'a>, mark: Mark, phase: Phase) -> Result<(), Stop>
+        requires { next_state (state_of self.old.phase self.old.outer.items) (event_of event)
+            ≡ Some (state_of phase self.old.outer.items) }
+    {
+        self.events.reserve(1)?;
+        self.events.push_reserved((event, mark));
+        self.phase = phase;
+        Ok(())
+    }
+
+    // The start of the stream.
+    pub(crate) fn begin_stream(&mut self, mark: Mark) -> Result<(), Stop> {
+        match self.phase {
+            Phase::Before => self.add(Event::StreamStart, mark, Phase::First),
+            _ => Err(misplaced(mark)),
+        }
+    }
+
+    // The end of the stream.
+    pub(crate) fn end_stream(&mut self, mark: Mark) -> Result<(), Stop> {
+        match self.phase {
+            Phase::First | Phase::Next => self.add(Event::StreamEnd, mark, Phase::After),
+            _ => Err(misplaced(mark)),
+        }
+    }
+
+    // The directives of a document, or its `---`, begin.
+    pub(crate) fn begin_directives(&mut self, mark: Mark) {
+        if matches!(self.phase, Phase::First | Phase::Next) {
+            self.phase = Phase::Directives;
+            self.opened = mark;
+        }
+    }
+
+    // A document begins, with `---` or without.
+    pub(crate) fn begin_document(&mut self, mark: Mark, marked: bool) -> Result<(), Stop> {
+        let phase = if marked { Phase::Content } else { Phase::Root };
+        match self.phase {
+            Phase::First | Phase::Next | Phase::Directives => {
+                self.add(Event::DocumentStart, mark, phase)
+            }
+            _ => Err(misplaced(mark)),
+        }
+    }
+
+    // The end of a document.
+    pub(crate) fn end_document(&mut self, mark: Mark) -> Result<(), Stop> {
+        match self.phase {
+            Phase::Ended => self.add(Event::DocumentEnd, mark, Phase::Next),
+            _ => Err(misplaced(mark)),
+        }
+    }
+
+    // A scalar.
+    #[tactic(auto, using(crate::proofs::Streams::passes_scalar))]
+    pub(crate) fn scalar(&mut self, scalar: Scalar<'a>, mark: Mark) -> Result<(), Stop> {
+        match self.phase {
+            Phase::Root | Phase::Content => self.add(Event::Scalar(scalar), mark, Phase::Ended),
+            Phase::Within(frame) => self.add(
+                Event::Scalar(scalar),
+                mark,
+                Phase::Within(behind(frame)),
+            ),
+            _ => Err(misplaced(mark)),
+        }
+    }
+
+    // An alias.
+    #[tactic(auto, using(crate::proofs::Streams::passes_alias))]
+    pub(crate) fn alias(&mut self, anchor: Anchor, mark: Mark) -> Result<(), Stop> {
+        match self.phase {
+            Phase::Root | Phase::Content => self.add(Event::Alias(anchor), mark, Phase::Ended),
+            Phase::Within(frame) => self.add(
+                Event::Alias(anchor),
+                mark,
+                Phase::Within(behind(frame)),
+            ),
+            _ => Err(misplaced(mark)),
+        }
+    }
+
+    // An event at which the first collection of a document begins, which waits for `first`.
+    fn open_root(
+        &mut self,
+        event: Event<'a>,
+        mark: Mark,
+        first: Frame,
+        start: Mark,
+    ) -> Result<(), Stop>
+        requires { next_state (state_of self.old.phase self.old.outer.items) (event_of event)
+            ≡ Some (within (open_of first ∷ [])) }
+    {
+        self.events.reserve(1)?;
+        self.events.push_reserved((event, mark));
+        self.outer.clear();
+        self.phase = Phase::Within(first);
+        self.opened = start;
+        Ok(())
+    }
+
+    // An event at which a collection begins that waits for `first`, within one that then waits for `back`.
+    fn open_inner(
+        &mut self,
+        event: Event<'a>,
+        mark: Mark,
+        back: Frame,
+        first: Frame,
+        start: Mark,
+    ) -> Result<(), Stop>
+        requires { next_state (state_of self.old.phase self.old.outer.items) (event_of event)
+            ≡ Some (within (open_of first ∷ open_of back ∷ opens self.old.outer.items)) }
+    {
+        self.events.reserve(1)?;
+        self.outer.reserve(1)?;
+        self.events.push_reserved((event, mark));
+        self.outer.push_reserved((back, self.opened));
+        self.phase = Phase::Within(first);
+        self.opened = start;
+        Ok(())
+    }
+
+    // The start of a sequence.
+    #[tactic(auto, using(crate::proofs::Streams::begins_sequence))]
+    pub(crate) fn begin_sequence(
+        &mut self,
+        sequence: SequenceStart,
+        mark: Mark,
+        first: Frame,
+        start: Mark,
+    ) -> Result<(), Stop>
+        requires { open_of first ≡ Sequence }
+    {
+        let event = Event::SequenceStart(sequence);
+        match self.phase {
+            Phase::Root | Phase::Content => self.open_root(event, mark, first, start),
+            Phase::Within(frame) => self.open_inner(event, mark, behind(frame), first, start),
+            _ => Err(misplaced(mark)),
+        }
+    }
+
+    // The start of a mapping.
+    #[tactic(auto, using(crate::proofs::Streams::begins_mapping))]
+    pub(crate) fn begin_mapping(
+        &mut self,
+        mapping: MappingStart,
+        mark: Mark,
+        first: Frame,
+        start: Mark,
+    ) -> Result<(), Stop>
+        requires { open_of first ≡ Key }
+    {
+        let event = Event::MappingStart(mapping);
+        match self.phase {
+            Phase::Root | Phase::Content => self.open_root(event, mark, first, start),
+            Phase::Within(frame) => self.open_inner(event, mark, behind(frame), first, start),
+            _ => Err(misplaced(mark)),
+        }
+    }
+
+    // An event at which the innermost collection ends.
+    fn close(&mut self, event: Event<'a>, mark: Mark) -> Result<(), Stop>
+        requires { next_state (state_of self.old.phase self.old.outer.items) (event_of event)
+            ≡ Some (within (opens self.old.outer.items)) }
+    {
+        self.events.reserve(1)?;
+        self.events.push_reserved((event, mark));
+        match self.outer.pop() {
+            Some((frame, start)) => {
+                self.phase = Phase::Within(frame);
+                self.opened = start;
+            }
+            None => {
+                self.phase = Phase::Ended;
+            }
+        }
+        Ok(())
+    }
+
+    // The end of a sequence.
+    #[tactic(auto, using(crate::proofs::Streams::closes_sequence))]
+    pub(crate) fn end_sequence(&mut self, mark: Mark) -> Result<(), Stop> {
+        match self.phase {
+            Phase::Within(frame) if is_sequence(frame) => self.close(Event::SequenceEnd, mark),
+            _ => Err(misplaced(mark)),
+        }
+    }
+
+    // The end of a mapping.
+    #[tactic(auto, using(crate::proofs::Streams::closes_mapping))]
+    pub(crate) fn end_mapping(&mut self, mark: Mark) -> Result<(), Stop> {
+        match self.phase {
+            Phase::Within(frame) if is_key(frame) => self.close(Event::MappingEnd, mark),
+            _ => Err(misplaced(mark)),
+        }
+    }
+
+    // The innermost collection goes on to another frame, which waits for the same.
+    pub(crate) fn go(&mut self, next: Frame) {
+        match self.phase {
+            Phase::Within(frame) if is_same(frame, next) => {
+                self.phase = Phase::Within(next);
+            }
+            _ => {}
+        }
+    }
+}

@@ -1,0 +1,32 @@
+//! Faults that are found at a place.
+
+use crate::cursor::Cursor;
+use yaml_base::{FaultKind, Mark};
+use yaml_token::{Context, Fault, Problem, Stop};
+
+impl Cursor<'_> {
+    // A fault at this place, amid what began at `start`.
+    pub(crate) fn fault(&self, context: Context, start: Mark, problem: Problem) -> Stop {
+        Stop::Fault(Fault {
+            kind: FaultKind::Scanner,
+            problem,
+            offset: 0,
+            mark: self.mark(),
+            context: Some(context),
+            context_mark: start,
+        })
+    }
+
+    // A fault at this place, with no context.
+    pub(crate) fn bare_fault(&self, problem: Problem) -> Stop {
+        let mark = self.mark();
+        Stop::Fault(Fault {
+            kind: FaultKind::Scanner,
+            problem,
+            offset: 0,
+            mark,
+            context: None,
+            context_mark: mark,
+        })
+    }
+}

@@ -1,0 +1,169 @@
+//! The scanner's state: its place, its tokens, and which collections are open.
+
+mod flow;
+mod indicator;
+mod next;
+mod node;
+
+use crate::candidate::{Candidate, Candidates};
+use crate::cursor::Cursor;
+pub(crate) use next::More;
+use std::alloc::{AllocError, Global};
+use yaml_base::Mark;
+use yaml_token::{Context, Lead, Placed, Problem, Stop, Token};
+
+// A scanner amid a text.
+#[derive(Drop)]
+pub(crate) struct Scanner<'a> {
+    alloc: Global,
+    cursor: Cursor<'a>,
+    tokens: Vec<Placed>,
+    // The columns of the open block collections, each plus 1.
+    indents: Vec<usize>,
+    candidates: Candidates,
+    // Whether a key may begin here.
+    key_allowed: bool,
+}
+
+impl<'a> Scanner<'a> {
+    // A scanner at the start of a text.
+    pub(crate) fn new(alloc: Global, text: &'a [u8]) -> Result<Scanner<'a>, AllocError> {
+        let cursor = Cursor::new(text);
+        let candidates = Candidates::new(alloc, cursor.mark())?;
+        Ok(Scanner {
+            alloc,
+            cursor,
+            tokens: Vec::new(alloc),
+            indents: Vec::new(alloc),
+            candidates,
+            key_allowed: true,
+        })
+    }
+
+    // How many tokens can't change any more: those before the first that may be a key.
+    pub(crate) fn released(&mut self) -> usize {
+        match self.candidates.first_place() {
+            Some(place) => place,
+            None => self.tokens.len(),
+        }
+    }
+
+    // The tokens.
+    pub(crate) fn into_tokens(self) -> Vec<Placed> {
+        self.tokens
+    }
+
+    // Whether a bracket is open.
+    fn is_flow(&self) -> bool {
+        self.candidates.is_flow()
+    }
+
+    // The column of the innermost open block collection plus 1, or 0.
+    fn indent(&self) -> usize {
+        match self.indents.as_slice().last() {
+            Some(indent) => *indent,
+            None => 0,
+        }
+    }
+
+    // Adds a token.
+    fn put(&mut self, token: Token, start: Mark, end: Mark) -> Result<(), Stop> {
+        self.tokens.push(Placed {
+            lead: Lead::Nothing,
+            token,
+            start,
+            end,
+        })?;
+        Ok(())
+    }
+
+    // Adds a token that ends here.
+    fn put_here(&mut self, token: Token, start: Mark) -> Result<(), Stop> {
+        let end = self.cursor.mark();
+        self.put(token, start, end)
+    }
+
+    // Adds a token that has no text.
+    fn put_empty(&mut self, token: Token) -> Result<(), Stop> {
+        let mark = self.cursor.mark();
+        self.put(token, mark, mark)
+    }
+
+    // Steps over a character, and adds it as a token.
+    fn put_byte(&mut self, token: Token) -> Result<(), Stop> {
+        let start = self.cursor.mark();
+        self.cursor.skip();
+        self.put_here(token, start)
+    }
+
+    // The fault of a key that has no `:`.
+    fn no_colon(&self, candidate: Candidate) -> Stop {
+        let problem = Problem::CouldNotFindExpectedColon;
+        self.cursor
+            .fault(Context::ScanningASimpleKey, candidate.mark, problem)
+    }
+
+    // Gives up the candidates that can't be keys any more.
+    fn drop_stale(&mut self) -> Result<(), Stop> {
+        let here = self.cursor.mark();
+        match self.candidates.drop_stale(here) {
+            Some(candidate) => Err(self.no_colon(candidate)),
+            None => Ok(()),
+        }
+    }
+
+    // Gives up the candidate of the innermost bracket.
+    fn remove_candidate(&mut self) -> Result<(), Stop> {
+        let here = self.cursor.mark();
+        let candidate = self.candidates.last(here);
+        if candidate.possible {
+            if candidate.required {
+                return Err(self.no_colon(candidate));
+            }
+            self.candidates.replace(Candidate::none(here))?;
+        }
+        Ok(())
+    }
+
+    // Where a key may stand, the next token may be one.
+    fn save_candidate(&mut self) -> Result<(), Stop> {
+        if self.key_allowed {
+            self.remove_candidate()?;
+            let required = !self.is_flow()
+                && self.indent() == self.cursor.column().saturating_add(1);
+            let candidate = Candidate {
+                possible: true,
+                required,
+                place: self.tokens.len(),
+                mark: self.cursor.mark(),
+            };
+            self.candidates.replace(candidate)?;
+        }
+        Ok(())
+    }
+
+    // Ends the block collections whose column plus 1 is more than `indent`.
+    fn unroll(&mut self, indent: usize) -> Result<(), Stop> {
+        if self.is_flow() {
+            return Ok(());
+        }
+        for _ in 0..self.indents.len() {
+            if self.indent() <= indent {
+                break;
+            }
+            self.put_empty(Token::BlockEnd)?;
+            let _ = self.indents.pop();
+        }
+        Ok(())
+    }
+
+    // Begins a block collection at this column, if none is open there or further to the right, and tells whether one
+    // begins.
+    fn roll(&mut self, column: usize) -> Result<bool, Stop> {
+        let begins = !self.is_flow() && self.indent() <= column;
+        if begins {
+            self.indents.push(column.saturating_add(1))?;
+        }
+        Ok(begins)
+    }
+}

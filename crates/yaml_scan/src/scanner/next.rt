@@ -1,0 +1,134 @@
+//! Which token comes next.
+
+use crate::quoted::Quote;
+use crate::scanner::Scanner;
+use yaml_base::ScalarStyle;
+use yaml_token::{Context, Problem, Stop, Token};
+
+// Whether the text goes on behind a token.
+#[derive(Clone, Copy, PartialEq, Eq)]
+pub(crate) enum More {
+    Yes,
+    No,
+}
+
+impl Scanner<'_> {
+    // Steps over the spaces that begin a line or stand between tokens, and over the tabs where no key may begin.
+    fn skip_spaces(&mut self) {
+        let tabs = self.is_flow() || !self.key_allowed;
+        for _ in 0..self.cursor.left() {
+            let byte = self.cursor.byte(0);
+            if !(byte == b' ' || (tabs && byte == b'\t')) {
+                break;
+            }
+            self.cursor.skip();
+        }
+    }
+
+    // Steps over blanks, comments and line breaks.
+    fn to_next_token(&mut self) {
+        for _ in 0..self.cursor.left() {
+            if self.cursor.is_order_mark() {
+                self.cursor.skip();
+            }
+            self.skip_spaces();
+            self.cursor.skip_comment();
+            if !self.cursor.is_break(0) {
+                break;
+            }
+            self.cursor.skip_line();
+            if !self.is_flow() {
+                self.key_allowed = true;
+            }
+        }
+    }
+
+    // Whether a plain scalar may begin here.
+    fn begins_plain(&self) -> bool {
+        match self.cursor.byte(0) {
+            b'-' => !self.cursor.is_blank(1),
+            b'?' | b':' => !self.is_flow() && !self.cursor.is_blank_or_end(1),
+            b',' | b'[' | b']' | b'{' | b'}' | b'#' | b'&' | b'*' | b'!' => false,
+            b'|' | b'>' | b'\'' | b'"' | b'%' | b'@' | b'`' => false,
+            _ => !self.cursor.is_blank_or_end(0),
+        }
+    }
+
+    // Scans the next token, once stale candidates are given up, and tells whether the text goes on behind it.
+    pub(crate) fn next(&mut self) -> Result<More, Stop> {
+        self.to_next_token();
+        self.drop_stale()?;
+        let indent = self.cursor.column().saturating_add(1);
+        self.unroll(indent)?;
+        if self.cursor.is_end() {
+            self.stream_end()?;
+            self.drop_stale()?;
+            return Ok(More::No);
+        }
+        if self.cursor.column() == 0 && self.begin_line()? {
+            return Ok(More::Yes);
+        }
+        self.token()?;
+        Ok(More::Yes)
+    }
+
+    // Scans what may stand only at the beginning of a line, and tells whether something did.
+    fn begin_line(&mut self) -> Result<bool, Stop> {
+        if self.cursor.byte(0) == b'%' {
+            self.directive()?;
+        } else if self.cursor.is_triple(b'-') {
+            self.document_indicator(Token::DocumentStart)?;
+        } else if self.cursor.is_triple(b'.') {
+            self.document_indicator(Token::DocumentEnd)?;
+        } else {
+            return Ok(false);
+        }
+        Ok(true)
+    }
+
+    // Scans a token that may stand anywhere.
+    fn token(&mut self) -> Result<(), Stop> {
+        let flow = self.is_flow();
+        let alone = self.cursor.is_blank_or_end(1);
+        match self.cursor.byte(0) {
+            b'[' => self.flow_start(Token::FlowSequenceStart),
+            b'{' => self.flow_start(Token::FlowMappingStart),
+            b']' => self.flow_end(Token::FlowSequenceEnd),
+            b'}' => self.flow_end(Token::FlowMappingEnd),
+            b',' => self.flow_entry(),
+            b'-' if alone => self.block_entry(),
+            b'?' if flow || alone => self.key(),
+            b':' if flow || alone => self.value(),
+            _ => self.node(flow),
+        }
+    }
+
+    // Scans a token that belongs to a node.
+    fn node(&mut self, flow: bool) -> Result<(), Stop> {
+        match self.cursor.byte(0) {
+            b'*' => self.alias(),
+            b'&' => self.anchor(),
+            b'!' => self.tag(),
+            b'|' if !flow => self.block_scalar(ScalarStyle::Literal),
+            b'>' if !flow => self.block_scalar(ScalarStyle::Folded),
+            b'\'' => self.quoted_scalar(Quote::Single),
+            b'"' => self.quoted_scalar(Quote::Double),
+            _ if self.begins_plain() => self.plain_scalar(),
+            _ => {
+                let problem = Problem::FoundCharacterThatCannotStartAnyToken;
+                let mark = self.cursor.mark();
+                Err(
+                    self.cursor
+                        .fault(Context::ScanningForTheNextToken, mark, problem),
+                )
+            }
+        }
+    }
+
+    // Scans the next token, and gives up stale candidates before it is known which tokens can't change any more.
+    pub(crate) fn advance(&mut self, released: &mut usize) -> Result<More, Stop> {
+        self.drop_stale()?;
+        *released = self.released();
+        self.next()
+    }
+}
