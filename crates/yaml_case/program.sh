@@ -1,12 +1,15 @@
 #!/bin/sh
-# Runs the built program on arguments, inputs and outputs that no test within it can make, and compares its standard output,
-# its standard error, which stays empty, and its status. Ends with status 0 only if each run is as it should be.
+# Runs the built program on each run of runs.txt, and on inputs and outputs that no text says, and compares its standard
+# output, its standard error, which stays empty, and its status. Ends with status 0 only if each run is as it should be.
 #
 # usage: program.sh [PROGRAM]   With no PROGRAM it is proved and built first, over what earlier checks kept in out/.
 set -u
 root=$(cd "$(dirname "$0")" && pwd)
 . "$root/../../.ci/program.sh"
 start "$root" "${1:-}" -- map
+
+line_feed='
+'
 
 # Compares what a run wrote, and its status, with what is wanted.
 compare() {
@@ -29,66 +32,35 @@ compare() {
     fi
 }
 
-# Wants a status and an output of the program on a text and arguments.
-want() {
-    title=$1 wanted=$2 output=$3 text=$4
-    shift 4
-    printf '%s' "$text" > "$work/in"
-    "$program" "$@" < "$work/in" > "$work/out" 2> "$work/err"
-    compare "$title" $? "$wanted" "$output"
-}
-
-# Wants the arguments to be refused, and all of the input to be left.
-refuse() {
-    title=$1
-    shift
-    printf '%s' "$good" > "$work/in"
+# The runs of runs.txt. Where the arguments are refused, all of the input has to be left.
+LC_ALL=C awk -v FOLDER="$work" -f "$root/../../.ci/runs.awk" "$root/runs.txt" || exit 1
+number=1
+while [ -e "$work/$number.in" ]; do
+    arguments=$(cat "$work/$number.arguments")
+    eval "set -- $arguments"
     {
         "$program" "$@" > "$work/out" 2> "$work/err"
         status=$?
         cat > "$work/left"
-    } < "$work/in"
-    compare "$title" "$status" 2 "$refused"
-    if ! cmp -s "$work/left" "$work/in"; then
-        echo "program: $title: some of the input was read"
+    } < "$work/$number.in"
+    compare "run $number ($arguments)" "$status" "$(cat "$work/$number.status")" "$(cat "$work/$number.out")$line_feed"
+    if [ "$(cat "$work/out")" = "bad argument" ] && ! cmp -s "$work/left" "$work/$number.in"; then
+        echo "program: run $number ($arguments): some of the input was read"
         failed=1
     fi
-}
+    number=$((number + 1))
+done
 
-line_feed='
-'
-refused="bad argument$line_feed"
-good='0:0:0 +STR
+# A read that fails, and a write that fails.
+cat > "$work/in" << 'END'
+0:0:0 +STR
 0:0:0 +DOC
 0:0:0 +SEQ
 0:0:0 =VAL :7
 0:0:0 -SEQ
 0:0:0 -DOC
 0:0:0 -STR
-'
-
-refuse "no argument"
-refuse "two arguments" list list
-refuse "four arguments" list 1 1 1
-refuse "too many nestings" list 256 0
-refuse "too many follows" list 0 1001
-refuse "a number with a sign" list +1 1
-refuse "a number that is no text" list "$(printf '1\377')" 1
-refuse "an empty argument" ""
-refuse "an unknown name" List
-refuse "a name that is no text" "$(printf '\377')"
-refuse "a second name that is no text" list "$(printf 'a\200')"
-
-want "data" 0 "[7]$line_feed" "$good" list
-want "data within limits" 0 "[7]$line_feed" "$good" list 001 0
-want "a fault of limits" 1 "fault: recursion limit exceeded$line_feed" "$good" list 0 1000
-want "a last line without its line feed" 0 "[7]$line_feed" "${good%"$line_feed"}" list
-want "a fault" 1 "fault: invalid type: sequence, expected a map$line_feed" "$good" map
-want "no input" 1 "fault: event list is not a stream at event 0$line_feed" "" list
-want "a bad line" 2 "bad line 8$line_feed" "${good}0:0:0 +SEQX" list
-
-# A read that fails, and a write that fails.
-printf '%s' "$good" > "$work/in"
+END
 "$program" list < / > "$work/out" 2> "$work/err"
 compare "a folder as standard input" $? 2 ""
 "$program" list <&- > "$work/out" 2> "$work/err"

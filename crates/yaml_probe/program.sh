@@ -1,6 +1,7 @@
 #!/bin/sh
-# Runs the built program on inputs that are larger than a test in a checked build can hold, and on a document of each
-# shape that is cut off at each event, and compares what it prints and its status. Ends with status 0 only if each run is as it should be.
+# Runs the built program on inputs that are too large for a line of rows, on a document of each shape that is cut off at
+# each event, and on a refused table without a case, and compares what it prints and its status. Ends with status 0 only
+# if each run is as it should be.
 #
 # usage: program.sh [PROGRAM]   With no PROGRAM it is proved and built first, over what earlier checks kept in out/.
 set -u
@@ -8,12 +9,12 @@ root=$(cd "$(dirname "$0")" && pwd)
 . "$root/../../.ci/program.sh"
 start "$root" "${1:-}"
 
-# Wants these lines, and status 0, of the program on the input that was made.
+# Wants these lines, and this status, 0 if none is named, of the program on the input that was made.
 want() {
     count=$((count + 1))
     "$program" < "$work/in" > "$work/out"
     status=$?
-    if [ "$status" != 0 ] || ! cmp -s "$work/out" "$work/wanted"; then
+    if [ "$status" != "${2:-0}" ] || ! cmp -s "$work/out" "$work/wanted"; then
         echo "program: $1: status $status, and not what is wanted:"
         head -c 300 "$work/out"
         failed=1
@@ -55,6 +56,15 @@ awk 'BEGIN {
     print "twice\t1\t\"fault: duplicate entry with key \\\"k77777\\\"\""
 }' > "$work/wanted"
 want "a mapping of 100,000 keys"
+
+# Nodes that are deep or wide, and the limits.
+awk -v IN="$work/in" -v WANTED="$work/wanted" -f "$root/large.awk"
+want "nodes that are deep or wide"
+
+# A table that is refused, and no case: only the status tells it.
+printf 'option 0\n\n' > "$work/in"
+: > "$work/wanted"
+want "a refused table without a case" 1
 
 # A document of each shape, cut off behind each of its events: always by what the parser said.
 nodes='0 =VAL :true

@@ -1,9 +1,9 @@
-//! Schemas, scalars that are made one by one, and the source of a document's scalar.
+//! Schemas, and the source of a document's scalar.
 
 use crate::lines::events;
-use std::alloc::{AllocError, Global};
+use std::alloc::Global;
 use std::test::Fail;
-use yaml_base::{Event, Mark, Scalar, ScalarStyle};
+use yaml_base::{Event, Mark};
 use yaml_shape::{Schema, SchemaFault, Shape};
 
 // The same event, with this source if it is a scalar.
@@ -28,27 +28,6 @@ pub fn events_with_source<'de>(
         found.push((lent(event, source), mark))?;
     }
     Ok(found)
-}
-
-// The mark of an event that is made a great many times.
-fn start_mark() -> Mark {
-    Mark::new(0, 0, 0).unwrap()
-}
-
-/// Adds a plain scalar at the start of the source.
-pub fn push_plain(
-    alloc: Global,
-    text: &str,
-    events: &mut Vec<(Event<'static>, Mark)>,
-) -> Result<(), AllocError> {
-    let scalar = Scalar {
-        anchor: None,
-        tag: None,
-        value: Vec::from_slice(alloc, text.as_bytes())?,
-        style: ScalarStyle::Plain,
-        repr: None,
-    };
-    Ok(events.push((Event::Scalar(scalar), start_mark()))?)
 }
 
 /// The schema of these shapes.

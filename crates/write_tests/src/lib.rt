@@ -4,8 +4,6 @@
 #[cfg(test)]
 mod calls;
 #[cfg(test)]
-mod data;
-#[cfg(test)]
 mod large;
 #[cfg(test)]
 mod nodes;

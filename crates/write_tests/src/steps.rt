@@ -52,7 +52,7 @@ pub enum Step {
 }
 
 /// What a call answers, or that it may not be made now.
-pub type Answer = Option<yaml_base::Result<()>>;
+type Answer = Option<yaml_base::Result<()>>;
 
 // The calls that have no condition, and write by a shape.
 fn typed(out: &mut Serializer, step: &Step, value: &Typed<'_, '_>) -> Answer {
@@ -257,7 +257,7 @@ fn last_message(alloc: Global, fault: Error) -> Result<String, AllocError> {
 }
 
 /// The text of the fault in an answer, or no text.
-pub fn told(alloc: Global, answer: Answer) -> Result<String, Fail> {
+fn told(alloc: Global, answer: Answer) -> Result<String, Fail> {
     match answer {
         Some(Ok(())) => Ok(String::new(alloc)),
         Some(Err(fault)) => Ok(last_message(alloc, fault)?),

@@ -11,15 +11,15 @@ use Rattle.yaml_lines.specs.InputText.{MarkedEvents, IsInput, lines_of}
 use Rattle.yaml_probe.specs.Answers.{IsReading}
 use Rattle.yaml_probe.specs.Answers.IsReading.{refused, out_of_memory}
 use Rattle.yaml_probe.specs.declared.answer.Ending.TheVariants as ending
-use Rattle.yaml_read.specs.TreeReader.{default_limits}
+use Rattle.yaml_read.specs.TreeReader.{PlainLimits}
 use Rattle.yaml_shape.specs.PlainShape.{PlainShape}
 use Rattle.serde_yaml.specs.StreamReads.{InputGives}
 
 -- a fault is one that the events ask for, or want of memory
-pub fault_reading : (table : List PlainShape) (s : PlainShape) (lines : List ℕ) (events : MarkedEvents)
-    (fault : Option PlainFault) (cause : Cause)
+pub fault_reading : (limits : PlainLimits) (table : List PlainShape) (s : PlainShape) (lines : List ℕ)
+    (events : MarkedEvents) (fault : Option PlainFault) (cause : Cause)
     (text : List ℕ) → IsInput (lines_of lines) events fault
-    → (is_memory cause ≡ false → InputGives default_limits table s events fault (Err cause))
-    → text ≡ codes "fault: " ++ error_text cause → IsReading table s lines ending.Fault text
-fault_reading table s lines events fault Memory text says why is = out_of_memory refl is
-fault_reading table s lines events fault cause text says why is = refused events fault cause says (why refl) refl is
+    → (is_memory cause ≡ false → InputGives limits table s events fault (Err cause))
+    → text ≡ codes "fault: " ++ error_text cause → IsReading limits table s lines ending.Fault text
+fault_reading limits table s lines events fault Memory text says why is = out_of_memory refl is
+fault_reading limits table s lines events fault cause text says why is = refused events fault cause says (why refl) refl is

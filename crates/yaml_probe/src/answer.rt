@@ -2,6 +2,7 @@
 
 mod events;
 mod reading;
+mod turns;
 mod writing;
 
 use crate::case::{Case, Task};
@@ -9,6 +10,7 @@ use crate::table::Table;
 use crate::text::quote;
 use reading::read;
 use std::alloc::{AllocError, Global};
+use turns::read_in_turn;
 use writing::write;
 use yaml_shape::Schema;
 
@@ -51,10 +53,18 @@ fn refused(alloc: Global, text: &str) -> Result<Answer, AllocError> {
     })
 }
 
-// The answer to what is asked of lines.
-fn asked(alloc: Global, schema: &Schema, task: Task, lines: &[u8]) -> Result<Answer, AllocError> {
-    match task {
-        Task::Read(id) if schema.has(id) => read(alloc, schema, id, lines),
+// The answer to what a case asks of lines.
+fn asked(
+    alloc: Global,
+    schema: &Schema,
+    case: &Case<'_>,
+    lines: &[u8],
+) -> Result<Answer, AllocError> {
+    match case.task {
+        Task::Read(id) if schema.has(id) => read(alloc, schema, id, case.limits, lines),
+        Task::ReadInTurn(id) if schema.has(id) => {
+            read_in_turn(alloc, schema, id, case.limits, lines)
+        }
         Task::Write(id) if schema.has(id) => write(alloc, schema, id, lines),
         _ => refused(alloc, "bad shape"),
     }
@@ -76,7 +86,7 @@ fn answer_of(
     lines: &[u8],
 ) -> Result<Answer, AllocError> {
     match table {
-        Table::Schema(schema) => asked(alloc, schema, case.task, kept(case, lines)),
+        Table::Schema(schema) => asked(alloc, schema, case, kept(case, lines)),
         Table::BadLine(number) => Ok(Answer {
             ending: Ending::Refused,
             text: format!(in alloc; "schema: bad line {number}")?,

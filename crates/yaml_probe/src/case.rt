@@ -1,6 +1,7 @@
 //! The line that begins a case.
 
 use crate::text::{first_word, number};
+use serde_yaml::Limits;
 use std::str;
 use yaml_shape::ShapeId;
 
@@ -9,6 +10,8 @@ use yaml_shape::ShapeId;
 pub enum Task {
     /// Its lines are events, to be read as this shape.
     Read(ShapeId),
+    /// Its lines are events, of which each document is to be read in turn, as this shape.
+    ReadInTurn(ShapeId),
     /// Its lines are data of this shape, to be written, each as a document.
     Write(ShapeId),
 }
@@ -20,6 +23,8 @@ pub struct Case<'a> {
     pub id: &'a str,
     /// What is asked.
     pub task: Task,
+    /// How much a document may ask of a reading.
+    pub limits: Limits,
     /// Whether the line feed of its last line is to be left out.
     pub cut: bool,
 }
@@ -34,22 +39,58 @@ fn task_of(word: &str) -> Option<Task> {
     if let Some(id) = word.strip_prefix("shape:") {
         return Some(Task::Read(number(id)?));
     }
+    if let Some(id) = word.strip_prefix("documents:") {
+        return Some(Task::ReadInTurn(number(id)?));
+    }
     Some(Task::Write(number(word.strip_prefix("write:")?)?))
 }
 
+// The limits that two numbers give, with a comma between.
+fn limits_of(text: &str) -> Option<Limits> {
+    let (nesting, follows) = text.split_once(',')?;
+    Limits::new(nesting.parse::<u8>().ok()?, follows.parse::<u16>().ok()?)
+}
+
+// Adds what one more word says of a case, and gives whether it says anything.
+fn add(word: &str, limits: &mut Limits, cut: &mut bool) -> bool {
+    if word == "nolf" {
+        *cut = true;
+        return true;
+    }
+    let Some(text) = word.strip_prefix("limits:") else {
+        return false;
+    };
+    match limits_of(text) {
+        Some(given) => {
+            *limits = given;
+            true
+        }
+        None => false,
+    }
+}
+
 impl<'a> Case<'a> {
-    /// The case that a line begins: `@@`, the case's name, what is asked, and, if the last line feed is to be left out,
-    /// `nolf`.
+    /// The case that a line begins: `@@`, the case's name, what is asked, and, in any order, `nolf`, if the last line
+    /// feed is to be left out, and `limits:` with nestings and follows, if they are not the default ones.
     pub fn parse(line: &'a [u8]) -> Option<Case<'a>> {
         let Ok(line) = str::from_utf8(line) else {
             return None;
         };
         let (id, rest) = first_word(line.strip_prefix("@@ ")?);
         let (word, flags) = first_word(rest);
+        let task = task_of(word)?;
+        let mut limits = Limits::DEFAULT;
+        let mut cut = false;
+        for flag in flags.split(' ') {
+            if !flag.is_empty() && !add(flag, &mut limits, &mut cut) {
+                return None;
+            }
+        }
         Some(Case {
             id,
-            task: task_of(word)?,
-            cut: flags == "nolf",
+            task,
+            limits,
+            cut,
         })
     }
 }

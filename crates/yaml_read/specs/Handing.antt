@@ -93,11 +93,15 @@ abbrev pub reach : List PlainShape → PlainShape → ℕ
 reach table (option_shape content) = rank table content + 1
 reach table _ = 0
 
--- as many as a tag that is not taken yet may lead to
+-- How far a tag leads that is not taken yet: it is taken on the same node, where all optionals may follow once more. As
+-- a schema has at most 4096 shapes, that is less than 4100.
 abbrev pub untaken_reach : (taken : Bool) → ℕ
 untaken_reach true = 0
 untaken_reach false = 4100
 
--- the depth that reading under the shape may take, its tag taken or not, with so many nestings and follows left
+-- The depth that reading under the shape may take, its tag taken or not, with so many nestings and follows left: a
+-- number that falls from each node or shape to the next. The follows and nestings that are left count first, then
+-- whether the tag is still to be taken, then the optionals that may follow. The latter two come to 4100 + 4096 = 8196 at
+-- most; so a follow or a nesting counts 8200, and whatever is read within it has a lesser depth.
 abbrev pub depth : List PlainShape → PlainShape → (taken : Bool) → (nest left : ℕ) → ℕ
 depth table s taken nest left = 8200 * (left + nest) + untaken_reach taken + reach table s

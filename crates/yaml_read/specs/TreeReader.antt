@@ -218,7 +218,8 @@ mark_or_first (Some e) = e.1
 abbrev pub marks_of : List (PlainDocEvent × Position) → ℕ → Position
 marks_of events place = mark_or_first (slice_get events place)
 
--- a fuel that is enough for a document of n events
+-- A fuel that is enough for a document of n events: 8200 for each follow and each nesting, more than reading goes from
+-- shape to shape before it needs another, and as much for the first node.
 abbrev pub whole_fuel : PlainLimits → ℕ → ℕ
 whole_fuel limits n = 8200 * (limits.follows * n + limits.nesting + 1)
 

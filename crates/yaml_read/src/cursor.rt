@@ -1,4 +1,4 @@
-//! Where a reading stands in a document, seen from the outside.
+//! A place in a document that a caller holds, to read it whole or to go through its events.
 
 ghost use Rattle.std.specs.Prelude.{◌≡◌, ◌≢◌, ◌↔◌, ◌+◌, ◌<◌, ◌^◌, IsTrue, IfErr, OnOk, OnErr, OnSome, true, false};
 ghost use Rattle.std.specs.Prelude.{None};

@@ -44,7 +44,7 @@ pub(crate) fn copied(fault: &Error, alloc: Global) -> Error
 }
 
 // The fault that cut a document off, where its events came to an end; else the fault itself.
-fn told(refusal: Refusal, ending: &Error, alloc: Global) -> Error
+fn cut_off_fault(refusal: Refusal, ending: &Error, alloc: Global) -> Error
     ensures ended { refusal ≡ EndOfStream → is_memory result ≡ false → result ≡ ending.now }
     ensures kept { refusal ≢ EndOfStream → result ≡ refusal }
     ensures own { refusal ≢ MoreThanOneDocument → IsEnding (Some ending.now) → is_memory result ≡ false
@@ -105,7 +105,7 @@ impl<'de> Document<'de> {
                 cursor.refuse(walk);
                 match self.error() {
                     None => Err(refusal.into_error()),
-                    Some(ending) => Err(told(refusal, ending, alloc)),
+                    Some(ending) => Err(cut_off_fault(refusal, ending, alloc)),
                 }
             }
         }

@@ -3,6 +3,5 @@
 mod joins;
 mod large;
 mod makers;
-mod schemas;
 mod texts;
 mod typed;

@@ -1,6 +1,7 @@
-//! What no clause says: worked streams, from the events to the data.
+//! Streams, by what their calls answer beside data.
 
-mod documents;
-mod large;
-mod nesting;
+mod behind;
+mod locations;
+mod reading;
 mod texts;
+mod unclosed;

@@ -5,7 +5,6 @@ ghost use Rattle.yaml_base.specs.Answer.{Answers};
 ghost use Rattle.yaml_base.specs.ErrorText.{error_text};
 ghost use Rattle.yaml_lines.specs.DataText.{data_text};
 ghost use Rattle.yaml_lines.specs.InputText.{events_of};
-ghost use Rattle.yaml_read.specs.TreeReader.{default_limits};
 ghost use Rattle.yaml_shape.specs.DataView.{data_of};
 ghost use Rattle.yaml_shape.specs.PlainShape.{PlainShape, shape_at};
 ghost use Rattle.serde_yaml.specs.StreamReads.{InputGives};
@@ -18,24 +17,23 @@ use yaml_base::{Error, Result};
 use yaml_lines::{Input, InputFault, show};
 use yaml_shape::{Data, Schema, ShapeId};
 
-// Reads the one document of an input.
-fn content_of(alloc: Global, schema: &Schema, id: ShapeId, input: Input) -> Result<Data<'static>>
+// Reads the one document of an input within limits.
+fn content_of(
+    alloc: Global,
+    schema: &Schema,
+    id: ShapeId,
+    limits: Limits,
+    input: Input,
+) -> Result<Data<'static>>
     requires { id.0 < length schema.now }
     ensures { (s : PlainShape) → shape_at schema.now id.0 ≡ Some s → Answers data_of result
-        (InputGives default_limits schema.now s (events_of input.events.items) input.fault) }
+        (InputGives limits schema.now s (events_of input.events.items) input.fault) }
 {
-    data_from_events(
-        alloc,
-        input.events,
-        input.fault,
-        schema,
-        id,
-        Limits::DEFAULT,
-    )
+    data_from_events(alloc, input.events, input.fault, schema, id, limits)
 }
 
-// The text of data.
-fn data_line(alloc: Global, content: &Data<'_>) -> std::result::Result<String, AllocError>
+/// The text of data.
+pub fn data_line(alloc: Global, content: &Data<'_>) -> std::result::Result<String, AllocError>
     ensures { IfOk result (λ line. string_bytes line ≡ data_text (data_of content.now)) }
 {
     let mut line = String::new(alloc);
@@ -43,30 +41,31 @@ fn data_line(alloc: Global, content: &Data<'_>) -> std::result::Result<String, A
     Ok(line)
 }
 
-// The text that tells a fault.
-fn fault_line(alloc: Global, fault: Error) -> std::result::Result<String, AllocError>
+/// The text that tells a fault.
+pub fn fault_line(alloc: Global, fault: Error) -> std::result::Result<String, AllocError>
     ensures { IfOk result (λ line. string_bytes line ≡ codes "fault: " ++ error_text fault) }
 {
     format!(in alloc; "fault: {fault}")
 }
 
-// The text that names a bad line.
-fn bad_line(alloc: Global, number: usize) -> std::result::Result<String, AllocError>
+/// The text that names a bad line.
+pub fn bad_line(alloc: Global, number: usize) -> std::result::Result<String, AllocError>
     ensures { IfOk result (λ line. string_bytes line ≡ codes "bad line " ++ decimal number) }
 {
     format!(in alloc; "bad line {number}")
 }
 
-/// What lines of events are read as, under the shape with this number.
+/// What lines of events are read as, under the shape with this number and within limits.
 pub fn read(
     alloc: Global,
     schema: &Schema,
     id: ShapeId,
+    limits: Limits,
     lines: &[u8],
 ) -> std::result::Result<Answer, AllocError>
     requires { id.0 < length schema.now }
     ensures { (s : PlainShape) → shape_at schema.now id.0 ≡ Some s → IfOk result (λ answer.
-        IsReading schema.now s lines.now answer.ending (string_bytes answer.text)) }
+        IsReading limits schema.now s lines.now answer.ending (string_bytes answer.text)) }
 {
     let input = match Input::parse(alloc, lines) {
         Ok(input) => input,
@@ -78,7 +77,7 @@ pub fn read(
         }
         Err(InputFault::Memory) => return Err(AllocError),
     };
-    match content_of(alloc, schema, id, input) {
+    match content_of(alloc, schema, id, limits, input) {
         Ok(content) => Ok(Answer {
             ending: Ending::Done,
             text: data_line(alloc, &content)?,

@@ -101,7 +101,7 @@ impl<'s, 'de> Source<'s, 'de> {
         let start = walk.place;
         match self.read_unplaced(path, shape, nest, taken, walk) {
             Ok(data) => Ok(data),
-            Err(refusal) => Err(self.settled(path, shape, taken, start, refusal)),
+            Err(refusal) => Err(self.placed_fault(path, shape, taken, start, refusal)),
         }
     }
 

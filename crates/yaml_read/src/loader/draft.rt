@@ -76,7 +76,7 @@ impl<'de> Draft<'de> {
         })
     }
 
-    // A document begins.
+    // Whatever is put in from now on is of a document that begins here.
     pub(crate) fn begin(&mut self)
         ensures draft { (documents : List PlainDocument) → IsBetween documents self.old
             → IsDraft self.old.events.items self.old.ends.numbers [] self.new }

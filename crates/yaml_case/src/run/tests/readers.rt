@@ -1,4 +1,4 @@
-//! Readers that give one byte a call, that fail, and that are interrupted; and large inputs.
+//! Readers that give one byte a call, that fail, that are interrupted and that are at their end; and large inputs.
 
 use super::stream;
 use crate::run::run;
@@ -8,16 +8,35 @@ use std::io::{self, ErrorKind, Read};
 use std::process::Abort;
 use std::test::Fail;
 
-// A reader that gives one byte a call, and fails after so many calls. Each further error interrupts a call alone.
+// A reader that gives one byte a call, and fails after so many calls. Each further error interrupts a call alone. It
+// knows whether its end was told, and counts the calls behind it.
 #[derive(Drop)]
 struct SlowReader<'a> {
     rest: &'a [u8],
     calls: usize,
     interrupts: bool,
+    ended: bool,
+    late: u32,
+}
+
+impl<'a> SlowReader<'a> {
+    // A reader of these bytes, which fails after so many calls.
+    fn new(rest: &'a [u8], calls: usize, interrupts: bool) -> SlowReader<'a> {
+        SlowReader {
+            rest,
+            calls,
+            interrupts,
+            ended: false,
+            late: 0,
+        }
+    }
 }
 
 impl Read for SlowReader<'_> {
     fn read(&mut self, buffer: &mut [u8]) -> io::Result<usize> {
+        if self.ended {
+            self.late = self.late.saturating_add(1);
+        }
         if self.calls == 0 {
             return Err(io::Error::from(ErrorKind::ConnectionReset));
         }
@@ -25,6 +44,7 @@ impl Read for SlowReader<'_> {
         if self.interrupts && self.calls % 2 == 0 {
             return Err(io::Error::from(ErrorKind::Interrupted));
         }
+        self.ended = self.rest.is_empty();
         let count = buffer.len().min(1);
         self.rest.read(&mut buffer[..count])
     }
@@ -48,6 +68,7 @@ fn expect(
         output.as_bytes(),
         "{name} in {calls} calls"
     );
+    assert_eq!(rt; reader.late, 0, "{name}: called behind the end");
 }
 
 #[test]
@@ -62,11 +83,7 @@ fn a_reader_that_fails_ends_the_run(rt: HostRuntime) -> Result<(), Fail> {
         // One call for each byte, and one that finds the end.
         let reached = text.len() + 1;
         for calls in 0..=reached {
-            let reader = SlowReader {
-                rest: text.as_bytes(),
-                calls,
-                interrupts: false,
-            };
+            let reader = SlowReader::new(text.as_bytes(), calls, false);
             if calls < reached {
                 expect(&rt, "map", reader, "", Status::ReadFailed);
             } else {
@@ -80,12 +97,26 @@ fn a_reader_that_fails_ends_the_run(rt: HostRuntime) -> Result<(), Fail> {
 #[test]
 fn an_interrupted_read_is_tried_again(rt: HostRuntime) -> Result<(), Fail> {
     let text = stream(rt.alloc(), "0:0:0 =VAL :true\n")?;
-    let reader = SlowReader {
-        rest: text.as_bytes(),
-        calls: usize::MAX,
-        interrupts: true,
-    };
+    let reader = SlowReader::new(text.as_bytes(), usize::MAX, true);
     expect(&rt, "bool", reader, "true\n", Status::Read);
+    Ok(())
+}
+
+#[test]
+fn a_reader_is_not_called_behind_its_end(rt: HostRuntime) -> Result<(), Fail> {
+    let text = stream(rt.alloc(), "0:0:0 =VAL :true\n")?;
+    for (rest, output, status) in [
+        (text.as_str(), "true\n", Status::Read),
+        (
+            "",
+            "fault: event list is not a stream at event 0\n",
+            Status::Fault,
+        ),
+        ("0:0:0 +SEQX\n", "bad line 1\n", Status::Refused),
+    ] {
+        let reader = SlowReader::new(rest.as_bytes(), usize::MAX, false);
+        expect(&rt, "bool", reader, output, status);
+    }
     Ok(())
 }
 
@@ -110,11 +141,7 @@ fn so_many_calls_read_an_input(rt: HostRuntime) -> Result<(), Fail> {
     ] {
         let text = long_stream(rt.alloc(), calls)?;
         assert_eq!(rt; text.len(), calls);
-        let reader = SlowReader {
-            rest: text.as_bytes(),
-            calls: usize::MAX,
-            interrupts,
-        };
+        let reader = SlowReader::new(text.as_bytes(), usize::MAX, interrupts);
         expect(&rt, "bool", reader, output, status);
     }
     Ok(())

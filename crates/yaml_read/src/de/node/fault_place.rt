@@ -42,7 +42,7 @@ fn places(shape: &Shape, taken: bool, event: &DocEvent<'_>) -> bool
 
 impl<'s, 'de> Source<'s, 'de> {
     /// The fault of the node at a place, with its place, if it has none yet; or want of memory.
-    pub(crate) fn settled(
+    pub(crate) fn placed_fault(
         &self,
         path: &Path<'_>,
         shape: &Shape,

@@ -1,4 +1,4 @@
-//! What a reading reads.
+//! What a reading reads, which never changes: the schema, the events, and where collections end.
 
 ghost use Rattle.std.specs.Prelude.{◌≡◌, ℕ, ◌<◌, ◌≤◌, ◌-◌, length, Some, IfSome, OnSome, slice_get, All};
 ghost use Rattle.std.specs.Option.{option_map};

@@ -90,11 +90,11 @@ fn wrong_string(alloc: Global, text: &str, expected: &str) -> Result<Cause, Allo
 fn not_such(alloc: Global, text: &str, expected: &str) -> Refusal
     ensures { is_memory result ≡ false → result ≡ wrong_value (Str text.now) expected.now }
 {
-    told(alloc, wrong_string(alloc, text, expected))
+    refusal_of(alloc, wrong_string(alloc, text, expected))
 }
 
 /// The refusal by this fault, or want of memory.
-pub(crate) fn told(alloc: Global, cause: Result<Cause, AllocError>) -> Refusal
+pub(crate) fn refusal_of(alloc: Global, cause: Result<Cause, AllocError>) -> Refusal
     ensures { is_memory result ≡ false → MatchResult cause (λ c. result ≡ c) (λ _. ⊥) }
 {
     match cause {

@@ -16,7 +16,7 @@ ghost use Rattle.yaml_read.specs.inner.Expectations.{expected_of, wanted_of};
 
 use crate::de::read_refusal::Refusal;
 use crate::de::scalar::expected::{Expected, words};
-use crate::de::scalar::found_kind::{found_in, found_string, found_text, told, wrong_value};
+use crate::de::scalar::found_kind::{found_in, found_string, found_text, refusal_of, wrong_value};
 use crate::doc_event::DocScalar;
 use std::alloc::{AllocError, Global};
 use yaml_base::{Cause, Found, Words};
@@ -52,7 +52,7 @@ fn wrong_collection(
 pub(crate) fn found_other(alloc: Global, found: Found, expected: &Expected<'_>) -> Refusal
     ensures { is_memory result ≡ false → result ≡ wrong_type found (expected_of expected.now) }
 {
-    told(alloc, wrong_type(alloc, found, expected))
+    refusal_of(alloc, wrong_type(alloc, found, expected))
 }
 
 /// The fault of a scalar where something else is expected, or want of memory.
@@ -76,14 +76,14 @@ pub(crate) fn found_scalar_for(
 pub(crate) fn found_sequence_for(alloc: Global, expected: &Expected<'_>) -> Refusal
     ensures { is_memory result ≡ false → result ≡ wrong_type Seq (wanted_of expected.now) }
 {
-    told(alloc, wrong_collection(alloc, Found::Seq, expected))
+    refusal_of(alloc, wrong_collection(alloc, Found::Seq, expected))
 }
 
 /// The fault of a mapping where something else is expected, or want of memory.
 pub(crate) fn found_mapping_for(alloc: Global, expected: &Expected<'_>) -> Refusal
     ensures { is_memory result ≡ false → result ≡ wrong_type Map (wanted_of expected.now) }
 {
-    told(alloc, wrong_collection(alloc, Found::Map, expected))
+    refusal_of(alloc, wrong_collection(alloc, Found::Map, expected))
 }
 
 /// The fault of a scalar that its shape has no meaning for, or want of memory.
@@ -124,7 +124,7 @@ fn wrong_value_of(alloc: Global, found: Found, shape: &Shape) -> Result<Cause, A
 pub(crate) fn found_integer_outside(alloc: Global, found: Found, shape: &Shape) -> Refusal
     ensures { is_memory result ≡ false → result ≡ wrong_value found (expected_text (shape_of shape.now)) }
 {
-    told(alloc, wrong_value_of(alloc, found, shape))
+    refusal_of(alloc, wrong_value_of(alloc, found, shape))
 }
 
 // The fault of a text that its shape does not expect.
@@ -140,7 +140,7 @@ pub(crate) fn found_other_text(alloc: Global, text: &str, shape: &Shape) -> Refu
     ensures { is_memory result ≡ false
         → result ≡ wrong_value (Str text.now) (expected_text (shape_of shape.now)) }
 {
-    told(alloc, wrong_text_of(alloc, text, shape))
+    refusal_of(alloc, wrong_text_of(alloc, text, shape))
 }
 
 // The fault of a scalar that should stand for nothing.
@@ -154,7 +154,7 @@ fn null_fault(alloc: Global, scalar: &DocScalar<'_>) -> Result<Cause, AllocError
 pub(crate) fn found_no_null(alloc: Global, scalar: &DocScalar<'_>) -> Refusal
     ensures { is_memory result ≡ false → result ≡ null_fault (doc_scalar_of scalar.now) }
 {
-    told(alloc, null_fault(alloc, scalar))
+    refusal_of(alloc, null_fault(alloc, scalar))
 }
 
 // The fault of a collection without elements where a tuple or a tuple struct asks for some.
@@ -181,7 +181,7 @@ pub(crate) fn found_no_elements(alloc: Global, shape: &Shape) -> Refusal
     ensures { is_memory result ≡ false
         → result ≡ InvalidLength 0 (too_few_text (shape_of shape.now)) None }
 {
-    told(alloc, no_elements(alloc, shape))
+    refusal_of(alloc, no_elements(alloc, shape))
 }
 
 // The fault of a scalar without elements where a tuple variant asks for some.
@@ -215,5 +215,5 @@ pub(crate) fn found_no_variant_elements(
     ensures { is_memory result ≡ false
         → result ≡ InvalidLength 0 (tuple_variant_with_text name.now variant.now count) None }
 {
-    told(alloc, no_variant_elements(alloc, name, variant, count))
+    refusal_of(alloc, no_variant_elements(alloc, name, variant, count))
 }

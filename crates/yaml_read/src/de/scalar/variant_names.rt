@@ -16,7 +16,7 @@ ghost use Rattle.yaml_read.specs.inner.Walks.{variant_view};
 
 use crate::de::read_refusal::{Refusal, Result};
 use crate::de::scalar::expected::words;
-use crate::de::scalar::found_kind::told;
+use crate::de::scalar::found_kind::refusal_of;
 use crate::de::scalar::sort::text_of;
 use crate::de::taken_tag::TakenBy;
 use crate::doc_event::DocScalar;
@@ -78,7 +78,7 @@ pub(crate) fn unknown_variant(
     ensures { is_memory result ≡ false
         → result ≡ unknown_variant (variants_of variants.now) name.now }
 {
-    told(alloc, unknown(alloc, variants, name))
+    refusal_of(alloc, unknown(alloc, variants, name))
 }
 
 // The fault of a node of another type than is expected.
@@ -96,7 +96,7 @@ fn wrong_type(alloc: Global, found: Found, expected: &str) -> std::result::Resul
 fn without_content(alloc: Global, expected: &str) -> Refusal
     ensures { is_memory result ≡ false → result ≡ wrong_type UnitVariant expected.now }
 {
-    told(alloc, wrong_type(alloc, Found::UnitVariant, expected))
+    refusal_of(alloc, wrong_type(alloc, Found::UnitVariant, expected))
 }
 
 // The fault of an enum in a node whose tag is taken.
@@ -116,7 +116,7 @@ pub(crate) fn nested_enum(alloc: Global, around: &TakenBy<'_>) -> Refusal
     ensures { is_memory result ≡ false
         → result ≡ NestedEnum around.now.name.now around.now.variant.now None }
 {
-    told(alloc, nested(alloc, around))
+    refusal_of(alloc, nested(alloc, around))
 }
 
 // The variant in a place, named without a content.
@@ -158,6 +158,6 @@ pub(crate) fn read_variant_name<'de>(
 {
     match text_of(scalar) {
         Some(text) => named_variant(alloc, variants, text),
-        None => Err(told(alloc, wrong_type(alloc, Found::Bytes, "variant identifier"))),
+        None => Err(refusal_of(alloc, wrong_type(alloc, Found::Bytes, "variant identifier"))),
     }
 }

@@ -16,4 +16,4 @@ returns-in_ok-data_line-in-Ok-content_of c = λ s at.
 
 pub returns-in_ok-fault_line-in-Err : goal.returns-in_ok-fault_line-in-Err
 returns-in_ok-fault_line-in-Err c = λ s at.
-    fault_reading _ s _ _ _ c.in-Err.fault _ c.in-Ok.ensures (c.in-Err.ensures s at) c.in_ok-fault_line-in-Err.ensures
+    fault_reading _ _ s _ _ _ c.in-Err.fault _ c.in-Ok.ensures (c.in-Err.ensures s at) c.in_ok-fault_line-in-Err.ensures

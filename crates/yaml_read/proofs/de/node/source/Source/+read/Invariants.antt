@@ -1,4 +1,9 @@
 -- How the walk ends, and what its loops keep.
+-- What falls from call to call is ordered as depth is: follows and nestings, the tag, optionals; and last the functions
+-- that hand the same node on, each by a number of its own of at most 8. With 8 for each of at most 4096 optionals, 10 for
+-- each of the 4100 of an untaken tag, and 100000 for a follow or a nesting, none reaches what counts before it. A part of
+-- a collection begins at 41000 = 10 * 4100, its tag untaken, and so does the name of a field, at 41006. A loop over parts
+-- stands above 41000 + 8 * 4096 + 8, at 73780; what a variant holds, its tag taken, above 8 * 4096 + 5, at 32774.
 use Rattle.std.proofs.Common.{◌≡◌, ℕ, ◌+◌, ◌*◌, ◌-◌, ◌<◌, ◌≤◌, List, [], map, length}
 use Rattle.std.specs.Prelude.{drop}
 use Rattle.yaml_shape.specs.DataView.{data_of, entry_of, entries_of}

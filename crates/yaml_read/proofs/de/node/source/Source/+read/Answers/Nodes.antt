@@ -24,16 +24,16 @@ read_node-returns-in-Ok-clause-gives t c = λ fuel lt.
 
 pub read_node-returns-in-Err-clause-gives : goal.read_node-returns-in-Err-clause-gives
 read_node-returns-in-Err-clause-gives t c = λ fuel lt m.
-    let told = c.settled.ensures m in
+    let told = c.placed_fault.ensures m in
     node_unfolds (source_of c.args.self.now) (way_of c.args.path.now) (shape_of c.args.shape.now) c.args.nest
     (around_of c.args.taken) (spot_of c.args.walk.now) fuel (omega arith)
     ∙ ap (place_at (way_of c.args.path.now) (shape_of c.args.shape.now) (is_some (around_of c.args.taken))
     (seen c.args.self.now.events.now c.args.walk.now.place))
     (c.in-Err.ensures.gives (fuel - 1) (omega arith)
     (place_memory (way_of c.args.path.now) (shape_of c.args.shape.now) (is_some (around_of c.args.taken))
-    (seen c.args.self.now.events.now c.args.walk.now.place) c.in-Err.refusal c.settled.result told ∙ m))
+    (seen c.args.self.now.events.now c.args.walk.now.place) c.in-Err.refusal c.placed_fault.result told ∙ m))
     ∙ place_moved (way_of c.args.path.now) (shape_of c.args.shape.now) (is_some (around_of c.args.taken))
-    (seen c.args.self.now.events.now c.args.walk.now.place) c.in-Err.refusal c.settled.result told
+    (seen c.args.self.now.events.now c.args.walk.now.place) c.in-Err.refusal c.placed_fault.result told
 
 pub read_unplaced-returns-in-Option-clause-gives : goal.read_unplaced-returns-in-Option-clause-gives
 read_unplaced-returns-in-Option-clause-gives t c = λ fuel lt.

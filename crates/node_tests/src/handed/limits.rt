@@ -1,6 +1,0 @@
-//! Limits that are handed in.
-
-mod large;
-mod parts;
-mod reading;
-mod rows;

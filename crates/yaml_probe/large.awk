@@ -1,0 +1,212 @@
+# Writes cases whose nodes are deep or wide to the file IN, and what is wanted of them to the file WANTED.
+
+# A text so many times.
+function repeat(text, count,    out) {
+    out = ""
+    while (count-- > 0) out = out text
+    return out
+}
+
+# Begins a case. An event has its number as its index, and columns count from the document's node.
+function begin(id, task) {
+    print "@@ " id " " task "\n0:0:0 +STR\n1:0:0 +DOC" > IN
+    number = 2
+}
+
+function event(text) {
+    print number ":0:" (number - 2) " " text > IN
+    number++
+}
+
+function events(text, count) {
+    while (count-- > 0) event(text)
+}
+
+# Ends a case that is answered by data, or by a fault, which stand there as JSON has them.
+function end(id, status, text) {
+    print "0:0:0 -DOC\n0:0:0 -STR" > IN
+    print id "\t" status "\t\"" text "\"" > WANTED
+}
+
+function data(id, text) {
+    end(id, 0, text)
+}
+
+function fault(id, text) {
+    end(id, 1, "fault: " text)
+}
+
+# So many collections, one within another, each of which begins with these events, around one more.
+function nest(id, task, start, key, inner, stop, count,    i) {
+    begin(id, task)
+    for (i = 0; i < count; i++) {
+        event(start)
+        if (key != "") event(key)
+    }
+    if (inner != "") event(inner)
+    events(stop, count)
+}
+
+function nestings(    deep) {
+    deep = "recursion limit exceeded at line 1 column "
+    nest("lists-128", "shape:0", "+SEQ", "", "", "-SEQ", 128)
+    data("lists-128", repeat("[", 128) repeat("]", 128))
+    nest("lists-129", "shape:0", "+SEQ", "", "", "-SEQ", 129)
+    fault("lists-129", deep 129)
+    # an empty plain scalar is an empty list, and no nesting
+    nest("nothing-in-127", "shape:0", "+SEQ", "", "=VAL :", "-SEQ", 127)
+    data("nothing-in-127", repeat("[", 128) repeat("]", 128))
+    nest("nothing-in-128", "shape:0", "+SEQ", "", "=VAL :", "-SEQ", 128)
+    data("nothing-in-128", repeat("[", 129) repeat("]", 129))
+    nest("any-128", "shape:1", "+SEQ", "", "=VAL :x", "-SEQ", 128)
+    data("any-128", repeat("[", 128) "\\\"x\\\"" repeat("]", 128))
+    nest("any-none-128", "shape:1", "+SEQ", "", "", "-SEQ", 128)
+    data("any-none-128", repeat("[", 128) repeat("]", 128))
+    nest("any-129", "shape:1", "+SEQ", "", "=VAL :x", "-SEQ", 129)
+    fault("any-129", deep 129)
+    nest("any-none-129", "shape:1", "+SEQ", "", "", "-SEQ", 129)
+    fault("any-none-129", deep 129)
+    nest("any-tags-129", "shape:1", "+SEQ <!t>", "", "=VAL :x", "-SEQ", 129)
+    fault("any-tags-129", deep 129)
+    nest("any-maps-129", "shape:1", "+MAP", "=VAL :k", "=VAL :x", "-MAP", 129)
+    fault("any-maps-129", deep 257)
+    nest("newtypes-64", "shape:2", "+SEQ", "", "", "-SEQ", 64)
+    data("newtypes-64", repeat("new([", 64) repeat("])", 64))
+    nest("newtypes-65", "shape:2", "+SEQ", "", "", "-SEQ", 65)
+    fault("newtypes-65", deep 65)
+    nest("most-255", "shape:1 limits:255,100", "+SEQ", "", "", "-SEQ", 255)
+    data("most-255", repeat("[", 255) repeat("]", 255))
+    nest("most-256", "shape:1 limits:255,100", "+SEQ", "", "", "-SEQ", 256)
+    fault("most-256", deep 256)
+}
+
+# A list with 100 aliases, in a list with so many aliases of it: 100 follows, and 101 for each of these.
+function aliases(id, task, count) {
+    begin(id, task)
+    event("+SEQ")
+    event("+SEQ &a")
+    event("=VAL &z :0")
+    events("=ALI *z", 100)
+    event("-SEQ")
+    events("=ALI *a", count)
+    event("-SEQ")
+}
+
+function follows(    zeros) {
+    zeros = "[0" repeat(", 0", 100) "]"
+    # a document of n events may have 100n follows: 1,050,500 of them here, where n is 10,505
+    aliases("follows-100", "shape:7", 10400)
+    data("follows-100", "[" zeros repeat(", " zeros, 10400) "]")
+    aliases("follows-past-100", "shape:7", 10401)
+    fault("follows-past-100", "repetition limit exceeded")
+    aliases("follows-of-1000", "shape:7 limits:128,1000", 10401)
+    data("follows-of-1000", "[" zeros repeat(", " zeros, 10401) "]")
+    aliases("nothing-is-followed", "shape:4", 10401)
+    data("nothing-is-followed", "ignored")
+}
+
+# A list of lists, of which the first has nine texts, and each other nine times the one before it.
+function nines(id, task, lists,    i, name) {
+    begin(id, task)
+    event("+SEQ")
+    event("+SEQ &l1")
+    events("=VAL :x", 9)
+    event("-SEQ")
+    for (i = 2; i <= lists; i++) {
+        event("+SEQ &l" i)
+        events("=ALI *l" (i - 1), 9)
+        event("-SEQ")
+    }
+    event("-SEQ")
+}
+
+function bombs(    list, all, i) {
+    # four lists have 9 + 90 + 819 follows, of 4,600 that their 46 events may have; five have 7,380 more, of 5,700
+    list = "\\\"x\\\""
+    for (i = 1; i <= 4; i++) {
+        list = "[" list repeat(", " list, 8) "]"
+        all = all (i > 1 ? ", " : "") list
+    }
+    nines("nines-4", "shape:1", 4)
+    data("nines-4", "[" all "]")
+    nines("nines-5", "shape:1", 5)
+    fault("nines-5", "repetition limit exceeded")
+    # the last of 26 lists stands for 9 to the power of 26 texts, which no machine could make
+    nines("nines-26", "shape:1", 26)
+    fault("nines-26", "repetition limit exceeded")
+    nines("nines-26-ignored", "shape:4", 26)
+    data("nines-26-ignored", "ignored")
+}
+
+function wide(    i) {
+    begin("elements", "shape:6")
+    event("+SEQ")
+    events("=VAL :7", 999999)
+    event("=VAL :8")
+    event("-SEQ")
+    print "0:0:0 -DOC\n0:0:0 -STR" > IN
+    printf "elements\t0\t\"[" > WANTED
+    for (i = 0; i < 999999; i++) printf "7, " > WANTED
+    print "8]\"" > WANTED
+    begin("pairs", "shape:9")
+    event("+MAP")
+    for (i = 0; i < 100000; i++) {
+        event("=VAL :" i)
+        event("=VAL :" i)
+    }
+    event("-MAP")
+    print "0:0:0 -DOC\n0:0:0 -STR" > IN
+    printf "pairs\t0\t\"{" > WANTED
+    for (i = 0; i < 100000; i++) printf "%s\\\"%d\\\": %d", (i ? ", " : ""), i, i > WANTED
+    print "}\"" > WANTED
+    begin("late-element", "shape:6")
+    event("+SEQ")
+    events("=VAL :7", 69999)
+    event("=VAL :x")
+    event("-SEQ")
+    fault("late-element", ".[69999]: invalid type: string \\\"x\\\", expected i64 at line 1 column 70001")
+}
+
+# The fields of a struct from the last on, behind some of them, each of which is true.
+function fields(id, task, count, before,    name, names, i) {
+    begin(id, task)
+    event("+MAP")
+    names = split(before, name, " ")
+    for (i = 1; i <= names; i++) {
+        event("=VAL :" name[i])
+        event("=VAL :true")
+    }
+    for (i = count - 1; i >= 0; i--) {
+        event("=VAL :f" i)
+        event("=VAL :true")
+    }
+    event("-MAP")
+}
+
+function structs(    i, all) {
+    fields("fields", "shape:10", 150, "")
+    data("fields", "struct(true" repeat(", true", 149) ")")
+    fields("field-twice", "shape:10", 150, "f7")
+    fault("field-twice", "duplicate field `f7`")
+    fields("late-field-twice", "shape:10", 150, "f70")
+    fault("late-field-twice", "duplicate field `f70`")
+    fields("last-field-twice", "shape:10", 150, "f149")
+    fault("last-field-twice", "duplicate field `f149`")
+    fields("field-missing", "shape:10", 149, "")
+    fault("field-missing", "missing field `f149`")
+    for (i = 0; i < 150; i++) all = all (i ? ", " : "") "`f" i "`"
+    fields("field-unknown", "shape:10", 0, "f149 f150")
+    fault("field-unknown", "unknown field `f150`, expected one of " all " at line 1 column 4")
+}
+
+BEGIN {
+    print "seq 0\nany\nnewtype N 3\nseq 2\nignored\ni64\nseq 5\nseq 6\nstr\nmap 8 5" > IN
+    printf "strict_struct Wide" > IN
+    for (i = 0; i < 150; i++) printf " f%d:11", i > IN
+    print "\nbool\n" > IN
+    nestings()
+    follows()
+    bombs()
+    wide()
+    structs()
+}
