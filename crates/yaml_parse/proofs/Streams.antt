@@ -37,6 +37,11 @@ cut_of phase.After outer events ran done = absurd (cc)
 cut_of at outer events ran done =
     ((goes_on_run events).1 (state_of at outer, ran), λ whole. absurd (let over = (whole_run events).0 whole in cc))
 
+-- where there are no events yet
+pub none_yet : (events : List (Event × Position)) → events ≡ [] → IsWellFormed true (plain_events events)
+none_yet events none =
+    cut_of phase.Before [] (plain_events events) (ap (λ es. run (Some before_stream) (plain_events es)) none) refl
+
 -- one collection more around
 pub opens-push : (outer : List (Frame × Position)) (x : Frame × Position) → opens (outer ++ x ∷ []) ≡ open_of x.0 ∷ opens outer
 opens-push outer x =

@@ -1,6 +1,6 @@
 //! Tokens to events.
 
-ghost use Rattle.std.specs.Prelude.{◌≡◌, [], IfOk, is_some, true};
+ghost use Rattle.std.specs.Prelude.{◌≡◌, [], IfOk, Some, is_some, true};
 ghost use Rattle.yaml_base.specs.MarkedEvents.{plain_events};
 ghost use Rattle.yaml_base.specs.Stream.{IsWellFormed};
 
@@ -17,6 +17,8 @@ pub struct Parsed<'a> {
     pub events: Vec<(Event<'a>, Mark)>,
     /// What is wrong behind them; none where the stream has come to its end.
     pub fault: Option<ParserFault>,
+    /// The same fault in parts.
+    pub found: Option<Fault>,
 }
 
 // The mark of the first byte.
@@ -47,6 +49,7 @@ pub fn parse_tokens<'a>(
 ) -> Result<Parsed<'a>, AllocError>
     ensures taken { IfOk result (λ parsed.
         IsWellFormed (is_some parsed.fault) (plain_events parsed.events.items)) }
+    ensures found { IfOk result (λ parsed. is_some parsed.found ≡ is_some parsed.fault) }
 {
     let mut machine = Machine::new(alloc, text, start_mark());
     let found = match take_all(&mut machine, tokens) {
@@ -59,15 +62,18 @@ pub fn parse_tokens<'a>(
         return Ok(Parsed {
             events: stream.into_whole(),
             fault: None,
+            found: None,
         });
     }
-    let fault = match found {
-        Some(fault) => owned(alloc, fault)?,
-        None => owned(alloc, no_end(start_mark()))?,
+    let found = match found {
+        Some(found) => found,
+        None => no_end(start_mark()),
     };
+    let fault = owned(alloc, found)?;
     Ok(Parsed {
         events: stream.into_cut(),
         fault: Some(fault),
+        found: Some(found),
     })
 }
 
@@ -77,10 +83,13 @@ pub fn unread<'a>(alloc: Global, fault: Fault) -> Result<Parsed<'a>, AllocError>
         IsWellFormed (is_some parsed.fault) (plain_events parsed.events.items)) }
     ensures none { IfOk result (λ parsed. parsed.events.items ≡ []) }
     ensures faulted { IfOk result (λ parsed. is_some parsed.fault ≡ true) }
+    ensures found { IfOk result (λ parsed. parsed.found ≡ Some fault) }
 {
-    let fault = owned(alloc, fault)?;
+    let found = Some(fault);
+    let fault = Some(owned(alloc, fault)?);
     Ok(Parsed {
         events: Vec::new(alloc),
-        fault: Some(fault),
+        fault,
+        found,
     })
 }
