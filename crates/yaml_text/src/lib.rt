@@ -8,7 +8,7 @@ ghost use Rattle.yaml_base.specs.Stream.{IsWellFormed};
 use std::alloc::{AllocError, Global};
 pub use yaml_parse::Parsed;
 use yaml_parse::{parse_tokens, unread};
-use yaml_scan::scan;
+use yaml_scan::{Scanned, scan};
 
 /// The events of a text, each with its mark, and the parser's fault if it met one. The events borrow from the text: a
 /// scalar's slice is the part of the text that it was read from.
@@ -19,11 +19,13 @@ pub fn parse<'a>(alloc: Global, text: &'a [u8]) -> Result<Parsed<'a>, AllocError
     ensures taken { IfOk result (λ parsed.
         IsWellFormed (is_some parsed.fault) (plain_events parsed.events.items)) }
 {
-    let scanned = scan(alloc, text)?;
-    if !scanned.started {
-        if let Some(fault) = scanned.fault {
-            return unread(alloc, fault);
-        }
+    let Scanned {
+        tokens,
+        fault,
+        started,
+    } = scan(alloc, text)?;
+    match fault {
+        Some(fault) if !started => unread(alloc, fault),
+        fault => parse_tokens(alloc, text, tokens, fault),
     }
-    parse_tokens(alloc, text, scanned.tokens, scanned.fault)
 }
