@@ -67,7 +67,7 @@ pub(crate) fn no_end(mark: Mark) -> Fault {
 }
 
 // The fault with its texts in memory of their own.
-pub(crate) fn owned(alloc: Global, fault: Fault) -> Result<ParserFault, AllocError> {
+pub(crate) fn owned(alloc: Global, fault: &Fault) -> Result<ParserFault, AllocError> {
     let problem = String::from_str(alloc, fault.problem.text())?;
     let context = match fault.context {
         Some(context) => Some(String::from_str(alloc, context.text())?),

@@ -69,7 +69,7 @@ pub fn parse_tokens<'a>(
         Some(found) => found,
         None => no_end(start_mark()),
     };
-    let fault = owned(alloc, found)?;
+    let fault = owned(alloc, &found)?;
     Ok(Parsed {
         events: stream.into_cut(),
         fault: Some(fault),
@@ -86,7 +86,7 @@ pub fn unread<'a>(alloc: Global, fault: Fault) -> Result<Parsed<'a>, AllocError>
     ensures found { IfOk result (λ parsed. parsed.found ≡ Some fault) }
 {
     let found = Some(fault);
-    let fault = Some(owned(alloc, fault)?);
+    let fault = Some(owned(alloc, &fault)?);
     Ok(Parsed {
         events: Vec::new(alloc),
         fault,
