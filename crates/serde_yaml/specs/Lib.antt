@@ -4,5 +4,6 @@ pub mod Headline
 pub mod PlainStream
 pub mod StreamReads
 pub mod StreamView
+pub mod TextReads
 pub mod TypedReads
 pub mod TypedWrites
