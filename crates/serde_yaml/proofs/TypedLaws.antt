@@ -1,6 +1,6 @@
 -- What is read and written under the shape of a type.
 use Rattle.std.proofs.Common.{◌≡◌, ◌<◌, ℕ, List, [], ◌∷◌, length, Option, Some, None, Bool, true, false}
-use Rattle.std.proofs.Common.{Result, Ok, Err}
+use Rattle.std.proofs.Common.{Result, Ok, Err, arith}
 use Rattle.std.proofs.Common.{get_or, is_some, refl, sym, ap, subst, ◌∙◌}
 use Rattle.std.specs.Prelude.{IfOk, string_bytes}
 use Rattle.std.proofs.lemmas.Option.{slice_get-get_or}
@@ -39,6 +39,7 @@ use Rattle.serde_yaml.specs.TypedReads.{TypeGives, Makes, no_schema, build_cause
 use Rattle.serde_yaml.specs.TypedWrites as writes
 use Rattle.serde_yaml.specs.TypedWrites.{TypeWrites, written_stream}
 use Rattle.serde_yaml.specs.Headline.{ReadsAs, one_document, no_document, GivesMeaning}
+use Rattle.serde_yaml.specs.TypedHeadline.{GivesValue}
 use Rattle.serde_yaml.specs.PlainStream.{PlainStream}
 use Rattle.serde_yaml.specs.StreamReads.{StreamGives, InputGives, no_stream, a_stream, stream_of}
 
@@ -85,6 +86,15 @@ stream_input {limits} {table} {s} events fault formed is given g =
     a_stream (subst (IsWellFormed (is_some fault)) (same_events events) formed)
     (subst (λ stream. StreamGives limits table s stream given) is g)
 
+-- what the stream of an input gives is what the input means
+pub stream_means : InputsGiveMeanings → {limits : PlainLimits} {table : List PlainShape} {s : PlainShape}
+    (input : Input) (fault : Option PlainFault) {stream : PlainStream} → IsWellFormed (is_some fault) (events_in input)
+    → stream ≡ stream_of input fault → (given : Result PlainData Cause) → StreamGives limits table s stream given
+    → GivesMeaning limits table s input fault given
+stream_means law {limits} {table} {s} input fault formed is given g =
+    law limits table s input fault given
+    (a_stream formed (subst (λ stream. StreamGives limits table s stream given) is g))
+
 -- events that are no stream give the fault that they are refused by
 pub refused_input : {limits : PlainLimits} {table : List PlainShape} {s : PlainShape}
     (events : List (Event × Position)) (fault : Option PlainFault) (cause : Cause)
@@ -102,6 +112,9 @@ pub answered_has : MeaningsHaveShapes → InputsGiveMeanings → (limits : Plain
 answered_has law meaning limits table id input fault within (Ok found) gives =
     given_has law meaning limits table id input fault (Ok (data_of found)) (data_of found) within gives refl
 answered_has law meaning limits table id input fault within (Err cause) gives = tt
+
+same_shape : {s t : PlainShape} → ◌≡◌ {A = Option PlainShape} (Some s) (Some t) → s ≡ t
+same_shape h = cc
 
 -- the fault for a type that has no schema
 abbrev pub IsNoSchema : SchemaFault → Cause → Type 0
@@ -135,6 +148,33 @@ module _ {T : Type 0} (limits : PlainLimits) (start : Start) (built : PlainData 
       reads.of_shape (subst IsValidSchema p valid) at
       (subst (λ t. shape_at t start.1 ≡ Some s → InputGives limits t s input fault read) p
       (subst (λ i. shape_at table i ≡ Some s → InputGives limits table s input fault read) q (gives s)) at) makes
+
+  -- a value that is made of what was read is built of data
+  found_of : (read : Result PlainData Cause) (given : Result T Cause) (x : T) → given ≡ Ok x
+      → Makes built refused read given → (v : PlainData) × (read ≡ Ok v) × built v x
+  found_of (Ok d) (Ok y) x h makes = let same : y ≡ x = cc in (d, refl, subst (λ y. built d y) same makes)
+  found_of (Ok d) (Err cause) x h makes = let bad = h in absurd cc
+  found_of (Err cause) given x h makes = let bad = sym makes ∙ h in absurd cc
+
+  -- what an input gives as a value is what it means
+  pub value_given : InputsGiveMeanings → {given : Result T Cause}
+      → TypeGives limits start built refused input fault given → GivesValue limits start built refused input fault given
+  value_given law (reads.no_shape many) = record {
+    found = λ x h. let bad = h in absurd cc;
+    only = λ v few none r. absurd (omega (arith, many, few));
+  }
+  value_given law (reads.of_shape {s} {read} {given} valid at gives makes) =
+      let m = law limits start.0 s input fault read gives in
+      record {
+        found = λ x h.
+            let f = found_of read given x h makes in
+            let g = m.found f.0 f.1 in
+            (g.0, f.0, record { shape = s; at = at; reads = g.1 }, f.2);
+        only = λ v few none r.
+            let same : r.shape ≡ s = same_shape (sym r.at ∙ at) in
+            subst (λ read. Makes built refused read given)
+            (m.only v none (subst (λ s. ReadsAs limits start.0 s input v) same r.reads)) makes;
+      }
 
 module _ (start : Start) (d : PlainData) where
   pub no_type_written : (refusal : SchemaFault) (cause : Cause) → IsTooLarge (length start.0) refusal

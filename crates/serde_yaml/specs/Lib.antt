@@ -5,5 +5,6 @@ pub mod PlainStream
 pub mod StreamReads
 pub mod StreamView
 pub mod TextReads
+pub mod TypedHeadline
 pub mod TypedReads
 pub mod TypedWrites

@@ -6,20 +6,24 @@ mod input;
 mod kinds;
 mod typed;
 
-ghost use Rattle.std.specs.Prelude.{◌≡◌, ℕ, ◌<◌, length, Result, Some, IfOk, IfErr, false, is_some};
+ghost use Rattle.std.specs.Prelude.{◌≡◌, ℕ, ◌<◌, length, Option, Result, Some, IfOk, IfErr, false, is_some};
 ghost use Rattle.yaml_base.specs.Answer.{Answers, is_memory};
+ghost use Rattle.yaml_base.specs.PlainFault.{PlainFault};
 ghost use Rattle.yaml_base.specs.Stream.{IsWellFormed};
 ghost use Rattle.yaml_base.specs.declared.error.Cause.{Cause};
 ghost use Rattle.yaml_base.specs.declared.error.Cause.TheVariants.{NotAStream};
 ghost use Rattle.yaml_shape.specs.DataView.{data_of};
 ghost use Rattle.yaml_shape.specs.PlainData.{PlainData};
 ghost use Rattle.yaml_shape.specs.PlainShape.{PlainShape, shape_at};
-ghost use Rattle.yaml_read.specs.MarkedEvents.{plain_events, plain_marked};
+ghost use Rattle.yaml_read.specs.Documents.{Input};
+ghost use Rattle.yaml_read.specs.MarkedEvents.{events_in, plain_events, plain_marked};
 ghost use Rattle.yaml_read.specs.Reads.{DocumentGives};
 ghost use Rattle.yaml_read.specs.TreeReader.{default_limits};
 ghost use Rattle.yaml_read.specs.WrongPlace.{IsWrongAt};
+ghost use Rattle.serde_yaml.specs.Headline.{GivesMeaning};
 ghost use Rattle.serde_yaml.specs.StreamReads.{StreamGives, stream_of, unless_more};
 
+use crate::laws::reading_gives_the_meaning;
 pub use input::data_from_events;
 use std::alloc::Global;
 use std::marker::Model;
@@ -129,8 +133,14 @@ impl<'de> Deserializer<'de> {
     pub fn deserialize(self, alloc: Global, schema: &Schema, id: ShapeId) -> Result<Data<'de>>
         requires { id.0 < length schema.now }
 
-        ensures { (s : PlainShape) → shape_at schema.now id.0 ≡ Some s
+        ensures gives { (s : PlainShape) → shape_at schema.now id.0 ≡ Some s
             → Answers data_of result (StreamGives default_limits schema.now s self.entry) }
+
+        // Of what `from_events` gave: data is given exactly where the input reads as that data.
+        ensures meaning { (s : PlainShape) → shape_at schema.now id.0 ≡ Some s → (input : Input)
+            (fault : Option PlainFault) → self.entry ≡ stream_of input fault
+            → IsWellFormed (is_some fault) (events_in input)
+            → Answers data_of result (GivesMeaning default_limits schema.now s input fault) }
     {
         self.deserialize_limited(alloc, schema, id, Limits::DEFAULT)
     }
@@ -145,9 +155,16 @@ impl<'de> Deserializer<'de> {
     ) -> Result<Data<'de>>
         requires { id.0 < length schema.now }
 
-        ensures { (s : PlainShape) → shape_at schema.now id.0 ≡ Some s
+        ensures gives { (s : PlainShape) → shape_at schema.now id.0 ≡ Some s
             → Answers data_of result (StreamGives limits schema.now s self.entry) }
+
+        // Of what `from_events` gave: data is given exactly where the input reads as that data.
+        ensures meaning { (s : PlainShape) → shape_at schema.now id.0 ≡ Some s → (input : Input)
+            (fault : Option PlainFault) → self.entry ≡ stream_of input fault
+            → IsWellFormed (is_some fault) (events_in input)
+            → Answers data_of result (GivesMeaning limits schema.now s input fault) }
     {
+        reading_gives_the_meaning();
         let Deserializer { source, iterated } = self;
         if iterated {
             discard(source);

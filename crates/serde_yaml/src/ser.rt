@@ -1,10 +1,11 @@
 //! Writing a value of a type as a stream.
 
-ghost use Rattle.std.specs.Prelude.{map, None, OnOk};
+ghost use Rattle.std.specs.Prelude.{map, None, OnOk, IsTrue};
 ghost use Rattle.yaml_base.specs.Answer.{Answers, Gives};
 ghost use Rattle.yaml_base.specs.EmitEvents.{emit_of};
 ghost use Rattle.yaml_shape.specs.DataView.{data_of};
 ghost use Rattle.yaml_shape.specs.HasShape.{HasShape};
+ghost use Rattle.yaml_shape.specs.Held.{IsHeld, is_table};
 ghost use Rattle.yaml_shape.specs.Validity.{IsValidSchema};
 ghost use Rattle.yaml_write.specs.Outcomes.{made};
 ghost use Rattle.yaml_write.specs.Written.{written};
@@ -27,10 +28,13 @@ fn write_stream(
 ) -> Result<Vec<EmitEvent>>
     requires { HasShape schema.now id.0 (data_of content.now) }
     ensures valid { IsValidSchema schema.now }
+    ensures table { OnOk result (IsTrue (is_table schema.now)) }
+    ensures held { OnOk result (IsHeld (data_of content.now)) }
     ensures written { Gives (λ events. map emit_of events.items) result
         (made written_stream (written schema.now id.0 None (data_of content.now))) }
 {
     schema.is_valid();
+    schema.is_table();
     let mut serializer = Serializer::new(alloc)?;
     match Typed::new(schema, id, content) {
         Some(value) => serializer.serialize_typed(&value)?,
@@ -48,8 +52,11 @@ pub fn to_events<T: Serialize>(alloc: Global, value: &T) -> Result<Vec<EmitEvent
     ensures written { Answers (λ events. map emit_of events.items) result
         (TypeWrites T.start (T.written value.now)) }
 
-    // What was written keeps what the type's laws ask of a value.
+    // What was written keeps what the type's laws ask of a value, and what laws of reading it again ask of the type's
+    // table and of its data: that their names and texts are UTF-8.
     ensures kept { OnOk result (T.kept value.now) }
+    ensures table { OnOk result (IsTrue (is_table T.start.0)) }
+    ensures held { OnOk result (IsHeld (T.written value.now)) }
 {
     let (schema, id) = match T::schema(alloc) {
         Ok(start) => start,

@@ -1,5 +1,5 @@
 -- What a run prints, from what its parts say.
-use Rattle.std.specs.Prelude.{codes, Option, None, Some, IfSome, Err}
+use Rattle.std.specs.Prelude.{codes, Option, None, Some, IfSome, IfOk, IfErr, Result, Ok, Err}
 use Rattle.std.proofs.Common.{◌≡◌, ◌≢◌, ℕ, List, [], ◌∷◌, ◌++◌, false, length, map, subst, refl, sym, ap, ◌∙◌, get_or}
 use Rattle.std.proofs.Common.{arith}
 use Rattle.std.proofs.lemmas.List.{length-map}
@@ -15,6 +15,9 @@ use Rattle.yaml_case.specs.Answers.{IsReply, IsAnswer, IsAnswerTo}
 use Rattle.yaml_case.specs.Answers.IsReply.{bad_line, found, refused, out_of_memory}
 use Rattle.yaml_case.specs.Answers.IsAnswer.{bad_argument, reply}
 use Rattle.yaml_case.specs.Answers.IsAnswerTo.{bad_arguments, asked}
+use Rattle.yaml_case.specs.Printed.{line_of, status_of, Prints}
+use Rattle.yaml_case.specs.Printed.Prints.{whole, failed}
+use Rattle.yaml_case.specs.declared.answer.Answer.{Answer}
 use Rattle.yaml_case.specs.Arguments.{WriteLimits, AskForNothing}
 use Rattle.yaml_case.specs.Arguments.Ask.{shape_alone, shape_within}
 use Rattle.yaml_lines.specs.InputText.{MarkedEvents, IsInput, lines_of}
@@ -146,3 +149,54 @@ pub fault_reply : (shape : Named) (limits : PlainLimits) (input : List ℕ) (eve
     → IsReply shape limits input status.Fault (codes "fault: " ++ error_text cause)
 fault_reply shape limits input events fault Memory lines why = out_of_memory refl refl
 fault_reply shape limits input events fault cause lines why = refused events fault cause lines (why refl) refl refl
+
+-- nor is an answer to a name, or to arguments
+pub answer-read : (name : List ℕ) (limits : PlainLimits) (input : List ℕ) (ended : Status) (text : List ℕ)
+    → IsAnswer name limits input ended text → ended ≢ status.ReadFailed
+answer-read name limits input ended text (bad_argument none e t) = λ f. let same = sym e ∙ f in absurd cc
+answer-read name limits input ended text (reply shape named r) = reply-read shape limits input ended text r
+
+pub answer_to-read : (words : List (List ℕ)) (input : List ℕ) (ended : Status) (text : List ℕ)
+    → IsAnswerTo words input ended text → ended ≢ status.ReadFailed
+answer_to-read words input ended text (bad_arguments none e t) = λ f. let same = sym e ∙ f in absurd cc
+answer_to-read words input ended text (asked shape limits ask r) = reply-read shape limits input ended text r
+
+-- an answer has a text for an input that is the known one, if one is known
+abbrev pub Answered : Option (List ℕ) → (List ℕ → Status → List ℕ → Type 0) → Answer → Type 0
+Answered known Is answer = (text : List ℕ) × (input : List ℕ) × (line_of answer ≡ text ++ 10 ∷ [])
+    × IfSome known (λ bytes. input ≡ bytes) × Is input (status_of answer) text
+
+-- the same, said otherwise
+pub answered_as : {E : Type 0} (known : Option (List ℕ)) (P Q : List ℕ → Status → List ℕ → Type 0)
+    (r : Result Answer E)
+    → ((input : List ℕ) (ended : Status) (text : List ℕ) → P input ended text → Q input ended text)
+    → IfOk r (Answered known P) → IfOk r (Answered known Q)
+answered_as known P Q (Ok a) f h = (h.0, h.1, h.2, h.3, f _ _ _ h.4)
+answered_as known P Q (Err e) f h = h
+
+-- what a run prints that concludes a reply
+pub concluded : {E Same : Type 0} (known old new : Option (List ℕ)) (P : List ℕ → Status → List ℕ → Type 0)
+    (r : Result Answer E) (result : Status)
+    → IfOk r (Answered known P) → IfOk r (λ a. Prints old new (line_of a) (status_of a) result)
+    → IfErr r (λ e. (result ≡ status.ReadFailed) × Same) → result ≢ status.ReadFailed
+    → (text : List ℕ) × (input : List ℕ) × (ended : Status) × IfSome known (λ bytes. input ≡ bytes)
+    × P input ended text × Prints old new (text ++ 10 ∷ []) ended result
+concluded known old new P (Ok a) result h prints err read =
+    (h.0, h.1, status_of a, h.3, h.4, subst (λ l. Prints old new l (status_of a) result) h.2 prints)
+concluded known old new P (Err e) result h prints err read = absurd (read err.0)
+
+-- a line that was printed, in whole or in part, ends no run as a failed read
+printed-read : (old new : Option (List ℕ)) (line : List ℕ) (ended result : Status) → Prints old new line ended result
+    → ended ≢ status.ReadFailed → result ≢ status.ReadFailed
+printed-read old new line ended result (whole e w) read = λ f. read (sym e ∙ f)
+printed-read old new line ended result (failed front rest e l w) read = λ f. let same = sym e ∙ f in absurd cc
+
+-- where the run ends as a failed read, there is no reply
+pub concluded-unread : {E Same : Type 0} (known old new : Option (List ℕ)) (P : List ℕ → Status → List ℕ → Type 0)
+    (r : Result Answer E) (result : Status)
+    → ((input : List ℕ) (ended : Status) (text : List ℕ) → P input ended text → ended ≢ status.ReadFailed)
+    → IfOk r (Answered known P) → IfOk r (λ a. Prints old new (line_of a) (status_of a) result)
+    → IfErr r (λ e. (result ≡ status.ReadFailed) × Same) → result ≡ status.ReadFailed → Same
+concluded-unread known old new P (Ok a) result apart h prints err f =
+    absurd (printed-read old new _ _ result prints (apart _ _ _ h.4) f)
+concluded-unread known old new P (Err e) result apart h prints err f = err.1

@@ -2,4 +2,5 @@
 pub mod Answers
 pub mod Arguments
 pub mod ExitCode
+pub mod Printed
 pub mod Shapes

@@ -1,8 +1,11 @@
 //! The program: it reads events, a line each, as data of a named shape, and prints what was read.
 #![tactic(auto)]
 
+mod answer;
 mod limits;
+mod print;
 mod read;
+mod reply;
 mod run;
 mod shapes;
 mod status;

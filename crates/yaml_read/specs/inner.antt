@@ -1,4 +1,5 @@
--- What private contracts alone cite: the loader at work, reading by places, and the walk of the code.
+-- What private contracts cite: the loader at work, and the walk of the code; and reading by places, by which the promise
+-- on documents that were cut off is said too.
 pub mod AnchorOrder
 pub mod Answered
 pub mod Drafts

@@ -1,4 +1,5 @@
 -- Lemmas of this crate.
+pub mod AnyStyle
 pub mod ByPlace
 pub mod Contents
 pub mod DataFound
@@ -17,6 +18,7 @@ pub mod RenderedTrees
 pub mod SameOrders
 pub mod ScalarLeaves
 pub mod ShapesOfData
+pub mod SimpleFits
 pub mod StreamsReturn
 pub mod TagsWritten
 pub mod TypedReturn

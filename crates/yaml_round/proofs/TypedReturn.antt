@@ -1,5 +1,6 @@
 -- A value of a type that was written is read as an equal value.
-use Rattle.std.proofs.Common.{◌≡◌, ◌≤◌, ℕ, List, length, Some, None, Result, Ok, Err, refl, subst, arith}
+use Rattle.std.proofs.Common.{◌≡◌, ◌≤◌, ℕ, List, length, Some, None, Result, Ok, Err, Bool, true, refl, sym, ap}
+use Rattle.std.proofs.Common.{◌∙◌, subst, arith}
 use Rattle.yaml_base.specs.EmitEvents.{PlainEmit}
 use Rattle.yaml_base.specs.EmitTree.{EmitNode}
 use Rattle.yaml_base.specs.declared.error.Cause.{Cause}
@@ -61,3 +62,20 @@ returned_of built refused P d (Ok e) (Ok y) h good bad m =
 returned_of built refused P d (Ok e) (Err cause) h good bad m =
     let same : e ≡ d = cc in absurd (bad m.0 (subst (λ f. refused f m.0) same m.1))
 returned_of built refused P d (Err c) given h good bad m = absurd cc
+
+-- what fits is written
+pub not_refused : {start : Start} {d : PlainData} {o : Result (List PlainEmit) Cause} (cause : Cause) (e : EmitNode)
+    → length start.0 ≤ 4096 → written start.0 start.1 None d ≡ Ok e → TypeWrites start d o → o ≡ Err cause → ⊥
+not_refused cause e few is (writes.no_shape many) h = omega (arith, many, few)
+not_refused cause e few is (writes.of_shape valid) h =
+    let bad = sym (ap (made written_stream) is) ∙ h in absurd cc
+
+same_value : {T : Type 0} {x y : T} → ◌≡◌ {A = Result T Cause} (Ok x) (Ok y) → x ≡ y
+same_value h = cc
+
+-- a value that is read where an equal one has to be is equal
+pub equal_again : {T : Type 0} (eq : T → T → Bool) (x found : T) (same : Bool) → same ≡ eq x found
+    → (y : T) × (◌≡◌ {A = Result T Cause} (Ok found) (Ok y)) × (eq x y ≡ true)
+    → ◌≡◌ {A = Result Bool Cause} (Ok same) (Ok true)
+equal_again eq x found same is r =
+    let e : r.0 ≡ found = sym (same_value r.1) in ap Ok (is ∙ subst (λ y. eq x y ≡ true) e r.2)

@@ -2,4 +2,6 @@
 pub mod Fits
 pub mod Nestings
 pub mod ReadsBack
+pub mod Rendered
 pub mod SameOrder
+pub mod SimpleData

@@ -1,14 +1,19 @@
 //! Laws of writing and reading together, each the contract of a function that does nothing.
 
-ghost use Rattle.std.specs.Prelude.{◌≡◌, ℕ, List, Option, None, Some, Ok, Result, true, IsTrue};
+ghost use Rattle.std.specs.Prelude.{◌≡◌, ◌≢◌, ◌≤◌, ℕ, List, Option, None, Some, Ok, Result, true, IsTrue};
 ghost use Rattle.std.specs.Option.{is_some};
 ghost use Rattle.std.specs.Str.{is_utf8};
 ghost use Rattle.yaml_base.specs.AskedStyles.{asked_style};
 ghost use Rattle.yaml_base.specs.EmitEvents.{PlainEmit};
 ghost use Rattle.yaml_base.specs.PlainEvent.{PlainScalar};
 ghost use Rattle.yaml_base.specs.Renders.{Renders, RendersScalar};
+ghost use Rattle.yaml_base.specs.declared.emitter.AskedStyle.{AskedStyle};
+ghost use Rattle.yaml_base.specs.declared.emitter.AskedStyle.TheVariants as asked;
 ghost use Rattle.yaml_base.specs.declared.error.Cause.{Cause};
+ghost use Rattle.yaml_base.specs.declared.event.ScalarStyle.{ScalarStyle};
+ghost use Rattle.yaml_base.specs.declared.event.ScalarStyle.TheVariants as style;
 ghost use Rattle.yaml_shape.specs.EqualData.{EqualData};
+ghost use Rattle.yaml_shape.specs.HasShape.{HasShape};
 ghost use Rattle.yaml_shape.specs.PlainData.{PlainData, any_data};
 ghost use Rattle.yaml_shape.specs.PlainShape.{PlainShape, any_shape, str_shape, shape_at};
 ghost use Rattle.yaml_shape.specs.Validity.{IsValidSchema};
@@ -23,9 +28,12 @@ ghost use Rattle.serde_yaml.specs.StreamReads.{InputGives};
 ghost use Rattle.serde_yaml.specs.TypedReads.{TypeGives};
 ghost use Rattle.serde_yaml.specs.TypedWrites.{TypeWrites};
 ghost use Rattle.yaml_round.specs.Fits.{Fits};
+ghost use Rattle.yaml_round.specs.Nestings.{nestings};
 ghost use Rattle.yaml_shape.specs.Held.{IsHeld, is_table};
 ghost use Rattle.yaml_round.specs.ReadsBack.{ComesBack, ReadsBack};
+ghost use Rattle.yaml_round.specs.Rendered.{rendered};
 ghost use Rattle.yaml_round.specs.SameOrder.{same_data};
+ghost use Rattle.yaml_round.specs.SimpleData.{is_simple};
 
 use serde_yaml::laws::reading_gives_the_meaning;
 use yaml_types::RoundTrip;
@@ -78,4 +86,20 @@ pub fn a_written_value_reads_back<'de, T: RoundTrip<'de>>()
 /// Data that is equal with the pairs of its mappings in one order is equal.
 pub fn equal_in_one_order_is_equal()
     ensures { (a b : PlainData) → IsTrue (same_data a b) → EqualData a b }
+{}
+
+/// Data of a shape, in which no present optional, no variant, no value of any kind and no bytes stand, fits within its
+/// own nestings.
+pub fn simple_data_fits()
+    ensures { (nesting : ℕ) (table : List PlainShape) (id : ℕ) (d : PlainData) → HasShape table id d
+        → IsTrue (is_simple d) → nestings d ≤ nesting → Fits nesting table id d }
+{}
+
+/// Written events come back in each choice of permitted styles for their scalars, and with any slices of a source.
+pub fn written_events_come_back_in_any_style()
+    ensures { (choose : ℕ → AskedStyle → ScalarStyle) (source : ℕ → Option (List ℕ)) (events : List PlainEmit)
+        → ((place : ℕ) → choose place asked.Plain ≡ style.Plain)
+        → ((place : ℕ) → choose place asked.SingleQuoted ≢ style.Plain)
+        → ((place : ℕ) → choose place asked.Literal ≢ style.Plain)
+        → Renders events (rendered choose source 0 events) }
 {}

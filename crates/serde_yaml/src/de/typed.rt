@@ -3,9 +3,11 @@
 ghost use Rattle.yaml_base.specs.Answer.{Answers};
 ghost use Rattle.yaml_read.specs.MarkedEvents.{plain_marked};
 ghost use Rattle.yaml_read.specs.TreeReader.{default_limits};
+ghost use Rattle.serde_yaml.specs.TypedHeadline.{GivesValue};
 ghost use Rattle.serde_yaml.specs.TypedReads.{TypeGives};
 
 use super::input::data_from_events;
+use crate::laws::reading_gives_the_meaning;
 use crate::type_faults::{build_refusal, schema_refusal};
 use std::alloc::Global;
 use yaml_base::{Event, Mark, ParserFault, Result};
@@ -16,12 +18,17 @@ use yaml_types::Deserialize;
 /// `Deserializer::deserialize` answers under the type's shape. The value may keep texts that the events lend. Data that
 /// `build` refuses is refused by its message, and a type without a schema by the schema's fault, as faults without a
 /// place.
+///
+/// Memory aside, a value is given only where the parser had no fault and the events read as data of which it is built;
+/// and where they read as data, such a value is given, or a message by which the type refuses that data.
 pub fn from_events<'de, T: Deserialize<'de>>(
     alloc: Global,
     events: Vec<(Event<'de>, Mark)>,
     fault: Option<ParserFault>,
 ) -> Result<T>
-    ensures { Answers (λ value. value) result
+    ensures meaning { Answers (λ value. value) result
+        (GivesValue default_limits T.start T.built T.refused (plain_marked events.entry.items) fault) }
+    ensures given { Answers (λ value. value) result
         (TypeGives default_limits T.start T.built T.refused (plain_marked events.entry.items) fault) }
 {
     from_events_limited(alloc, events, fault, Limits::DEFAULT)
@@ -34,9 +41,12 @@ pub fn from_events_limited<'de, T: Deserialize<'de>>(
     fault: Option<ParserFault>,
     limits: Limits,
 ) -> Result<T>
-    ensures { Answers (λ value. value) result
+    ensures meaning { Answers (λ value. value) result
+        (GivesValue limits T.start T.built T.refused (plain_marked events.entry.items) fault) }
+    ensures given { Answers (λ value. value) result
         (TypeGives limits T.start T.built T.refused (plain_marked events.entry.items) fault) }
 {
+    reading_gives_the_meaning();
     let (schema, id) = match T::schema(alloc) {
         Ok(start) => start,
         Err(refused) => return Err(schema_refusal(alloc, refused)),

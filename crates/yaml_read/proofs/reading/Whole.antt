@@ -7,7 +7,7 @@ use Rattle.std.proofs.lemmas.Option.{slice_get_within}
 use Rattle.yaml_base.specs.Position.{Position}
 use Rattle.yaml_base.specs.Answer.{is_memory}
 use Rattle.yaml_base.specs.declared.error.Cause.{Cause}
-use Rattle.yaml_base.specs.declared.error.Cause.TheVariants.{MoreThanOneDocument}
+use Rattle.yaml_base.specs.declared.error.Cause.TheVariants.{MoreThanOneDocument, EndOfStream}
 use Rattle.yaml_shape.specs.PlainData.{PlainData}
 use Rattle.yaml_shape.specs.PlainShape.{PlainShape, option_shape, shape_at}
 use Rattle.yaml_shape.specs.Walks.{rank}
@@ -19,8 +19,9 @@ use Rattle.yaml_read.specs.Meaning.{Means}
 use Rattle.yaml_read.specs.Places.{root_way}
 use Rattle.yaml_read.specs.PlainDocEvent.{PlainDocEvent}
 use Rattle.yaml_read.specs.PlainDocument.{PlainDocument}
-use Rattle.yaml_read.specs.Reads.{IsTreeOf, Reads, IsRefusal, DocumentGives}
+use Rattle.yaml_read.specs.Reads.{IsTreeOf, Reads, IsRefusal, DocumentGives, front_answer, cut_fault}
 use Rattle.yaml_read.specs.Steps.{◌>>=◌}
+use Rattle.yaml_read.specs.StreamLaw.{IsEnding}
 use Rattle.yaml_read.specs.TreeReader.{PlainLimits, Spot, Answer, marks_of, whole_fuel, whole_tree, answer_of}
 use Rattle.yaml_read.specs.declared.doc_event.DocEvent.{DocEvent}
 use Rattle.yaml_read.specs.inner.Reader.{Source, Reading, Events, node_at}
@@ -100,6 +101,10 @@ answer_err : (r : Answer PlainData) (y : Cause) → (r >>= λ x. Ok x.0) ≡ Err
 answer_err (Ok x) y h = absurd cc
 answer_err (Err z) y h = ap Err (err_is _ _ h)
 
+-- what cuts documents off does not say that there are others
+pub ending_own : (f y : Cause) → IsEnding (Some f) → y ≡ f → y ≢ MoreThanOneDocument
+ending_own f y h same e = subst IsEnding (ap Some (sym same ∙ e)) h
+
 module _ (limits : PlainLimits) (table : List PlainShape) (s : PlainShape) (document : PlainDocument) where
   module _ (root : DocNode) (is : IsTreeOf document root) where
     shown : Shows (slice_get document.events) 0 (events_of root)
@@ -115,7 +120,7 @@ module _ (limits : PlainLimits) (table : List PlainShape) (s : PlainShape) (docu
         (record { place = 0; left = limits.follows * length document.events }) shown
 
     -- an answer is what the tree means
-    answer_read : (v : PlainData) → answer_of limits table s document root ≡ Ok v
+    pub answer_read : (v : PlainData) → answer_of limits table s document root ≡ Ok v
         → Reads limits table s root (length document.events) v
     answer_read v h =
         let r = answer_ok (whole_tree limits table document.events s root) v h in
@@ -153,20 +158,54 @@ module _ (limits : PlainLimits) (table : List PlainShape) (s : PlainShape) (docu
       → y ≢ MoreThanOneDocument
   own_refusal y h e = own_fault y (h (ap is_memory e)) (ap Err e)
 
+  -- what is told of a document that was cut off, where reading answers a fault
+  pub told_cut : (refusal y ending : Cause)
+      → (is_memory refusal ≡ false → whole_reading limits table document s ≡ Err refusal)
+      → (refusal ≡ EndOfStream → is_memory y ≡ false → y ≡ ending) → (refusal ≢ EndOfStream → y ≡ refusal)
+      → is_memory y ≡ false → y ≡ cut_fault ending (front_answer limits table s document)
+  told_cut refusal y ending seen ended kept fault = by refusal seen ended kept
+    where
+      read_as : (r : Result PlainData Cause) → front_answer limits table s document ≡ r
+          → cut_fault ending r ≡ cut_fault ending (front_answer limits table s document)
+      read_as r e = ap (cut_fault ending) (sym e)
+
+      by : (refusal : Cause) → (is_memory refusal ≡ false → whole_reading limits table document s ≡ Err refusal)
+          → (refusal ≡ EndOfStream → is_memory y ≡ false → y ≡ ending) → (refusal ≢ EndOfStream → y ≡ refusal)
+          → y ≡ cut_fault ending (front_answer limits table s document)
+      by EndOfStream seen ended kept =
+          ended refl fault
+          ∙ read_as (Err EndOfStream) (ap (λ (r : Reading PlainData). r >>= λ x. Ok x.0) (seen refl))
+      by other seen ended kept =
+          let same : y ≡ other = kept (λ e. absurd cc) in
+          same ∙ read_as (Err other)
+          (ap (λ (r : Reading PlainData). r >>= λ x. Ok x.0) (seen (ap is_memory (sym same) ∙ fault)))
+
+  -- and where it answers data
+  pub data_cut : (v : PlainData) (next : Spot) (ending : Cause) → whole_reading limits table document s ≡ Ok (v, next)
+      → ending ≡ cut_fault ending (front_answer limits table s document)
+  data_cut v next ending e = ap (cut_fault ending) (sym (ap (λ (r : Reading PlainData). r >>= λ x. Ok x.0) e))
+
   -- a document that was cut off is refused by what cut it off, or by a fault that reading answers
   pub cut_gives : (y ending : Cause) → document.ending ≡ Some ending → y ≢ MoreThanOneDocument
+      → y ≡ cut_fault ending (front_answer limits table s document)
       → DocumentGives limits table s document (Err y)
-  cut_gives y ending cut own = record {
+  cut_gives y ending cut own told = record {
     whole = λ v e. absurd cc;
-    found = λ root v is e. absurd cc;
+    found = λ root v is e. absurd (uncut root is);
     only = λ root v is r. absurd (uncut root is);
     refused = λ root v d k fault is m e. absurd (uncut root is);
     own = λ e. own (err_is y MoreThanOneDocument e);
     exact = λ root is. absurd (uncut root is);
+    cut = λ fault is.
+        let same : ending ≡ fault = some_is ending fault (sym cut ∙ is) in
+        ap Err (told ∙ ap (λ f. cut_fault f (front_answer limits table s document)) same);
   }
     where
       uncut : (root : DocNode) → IsTreeOf document root → ⊥
       uncut root is = let bad = sym cut ∙ is.whole in absurd cc
+
+      some_is : (e f : Cause) → Some e ≡ Some f → e ≡ f
+      some_is e f h = cc
 
   -- walks through optionals end
   module _ (small : (id : ℕ) → rank table id ≤ 4096) (falls : (id content : ℕ) → shape_at table id
@@ -181,7 +220,7 @@ module _ (limits : PlainLimits) (table : List PlainShape) (s : PlainShape) (docu
         (record { place = 0; left = limits.follows * length document.events }) refl (omega (arith, low))
 
     -- within the limits what the tree means is answered
-    read_answer : (root : DocNode) (v : PlainData) → Reads limits table s root (length document.events) v
+    pub read_answer : (root : DocNode) (v : PlainData) → Reads limits table s root (length document.events) v
         → answer_of limits table s document root ≡ Ok v
     read_answer root v r = elim (outcome root v r.nestings r.followed r.means) [
       | reads a b e ↦ ap (λ (q : Answer PlainData). q >>= λ x. Ok x.0) e
@@ -204,16 +243,16 @@ module _ (limits : PlainLimits) (table : List PlainShape) (s : PlainShape) (docu
         ok_or_err : {A : Type 0} (r : Result A Cause) (x : A) (y : Cause) → r ≡ Ok x → r ≡ Err y → ⊥
         ok_or_err r x y e f = let bad = sym e ∙ f in absurd cc
 
-    -- what answers as the tree does, and no data of a document that was cut off, is what the document gives
-    pub gives_of_exact : (given : Result PlainData Cause) → ((v : PlainData) → given ≡ Ok v → document.ending ≡ None)
-        → given ≢ Err MoreThanOneDocument
+    -- what answers as the tree does is what a document gives that nothing cut off
+    pub gives_of_exact : (given : Result PlainData Cause) → document.ending ≡ None → given ≢ Err MoreThanOneDocument
         → ((root : DocNode) → IsTreeOf document root → given ≡ answer_of limits table s document root)
         → DocumentGives limits table s document given
     gives_of_exact given whole own exact = record {
-      whole = whole;
+      whole = λ v e. whole;
       found = λ root v is e. answer_read root is v (sym (exact root is) ∙ e);
       only = λ root v is r. exact root is ∙ read_answer root v r;
       refused = λ root v d k fault is m e. answer_refusal root v d k fault m (sym (exact root is) ∙ e);
       own = own;
       exact = exact;
+      cut = λ fault is. let bad = sym whole ∙ is in absurd cc;
     }

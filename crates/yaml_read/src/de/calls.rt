@@ -16,8 +16,8 @@ use std::alloc::Global;
 use yaml_base::Result;
 use yaml_shape::{Data, Shape};
 
-// A whole document that is one scalar with a meaning takes no memory as a boolean, an integer or a unit, nor as a text
-// that the source shows; nor does any whole document that is stepped over.
+// A whole document that is one scalar with a meaning takes no memory as a boolean, an integer, a character or a unit,
+// nor as a text or a name that the source shows; nor does any whole document that is stepped over.
 impl<'de> Document<'de> {
     /// The data of the document as a value of any kind.
     pub fn deserialize_any(&self, alloc: Global) -> Result<Data<'de>>
@@ -132,7 +132,8 @@ impl<'de> Document<'de> {
 
     /// The data of the document as a character.
     pub fn deserialize_char(&self, alloc: Global) -> Result<Data<'de>>
-        ensures { Answers data_of result (DocumentGives default_limits [] char_shape self.now) }
+        ensures gives { Answers data_of result (DocumentGives default_limits [] char_shape self.now) }
+        ensures free { (w : PlainScalar) → IsFreeScalar char_shape self.now w → is_ok result ≡ true }
     {
         self.read_plain(alloc, &Shape::Char)
     }
@@ -147,7 +148,8 @@ impl<'de> Document<'de> {
 
     /// The data of the document as a text.
     pub fn deserialize_string(&self, alloc: Global) -> Result<Data<'de>>
-        ensures { Answers data_of result (DocumentGives default_limits [] str_shape self.now) }
+        ensures gives { Answers data_of result (DocumentGives default_limits [] str_shape self.now) }
+        ensures free { (w : PlainScalar) → IsFreeScalar str_shape self.now w → is_ok result ≡ true }
     {
         self.read_plain(alloc, &Shape::Str)
     }
@@ -176,7 +178,8 @@ impl<'de> Document<'de> {
 
     /// The data of the document as the name of a field or a variant.
     pub fn deserialize_identifier(&self, alloc: Global) -> Result<Data<'de>>
-        ensures { Answers data_of result (DocumentGives default_limits [] identifier_shape self.now) }
+        ensures gives { Answers data_of result (DocumentGives default_limits [] identifier_shape self.now) }
+        ensures free { (w : PlainScalar) → IsFreeScalar identifier_shape self.now w → is_ok result ≡ true }
     {
         self.read_plain(alloc, &Shape::Identifier)
     }

@@ -24,10 +24,7 @@ fn build_items<'de, T: Deserialize<'de> + Drop>(
 {
     let mut values = Vec::with_capacity(alloc, items.len())?;
     for item in items {
-        match T::build(alloc, item) {
-            Ok(value) => values.push(value)?,
-            Err(fault) => return Err(fault),
-        }
+        values.push(T::build(alloc, item)?)?;
     }
     Ok(values)
 }

@@ -33,10 +33,7 @@ fn build_both<'de, K: Deserialize<'de> + Drop, V: Deserialize<'de>>(
             return Err(fault);
         }
     };
-    match V::build(alloc, value) {
-        Ok(value) => Ok((key, value)),
-        Err(fault) => Err(fault),
-    }
+    Ok((key, V::build(alloc, value)?))
 }
 
 // The map of the entries, put in one after another.
@@ -52,12 +49,8 @@ fn build_entries<'de, K: Deserialize<'de> + Ord + Drop, V: Deserialize<'de> + Dr
 {
     let mut map = BTreeMap::new(alloc);
     for pair in entries {
-        match build_both(alloc, pair) {
-            Ok((key, value)) => {
-                let _ = map.insert(key, value)?;
-            }
-            Err(fault) => return Err(fault),
-        }
+        let (key, value) = build_both(alloc, pair)?;
+        let _ = map.insert(key, value)?;
     }
     Ok(map)
 }

@@ -28,10 +28,7 @@ impl<'de, T: Deserialize<'de>> Deserialize<'de> for Option<T> {
     fn build(alloc: Global, found: Data<'de>) -> Result<Option<T>, BuildFault> {
         match found {
             Data::None => Ok(None),
-            Data::Some(content) => match T::build(alloc, Box::into_inner(content)) {
-                Ok(value) => Ok(Some(value)),
-                Err(fault) => Err(fault),
-            },
+            Data::Some(content) => Ok(Some(T::build(alloc, Box::into_inner(content))?)),
             _ => unreachable!(),
         }
     }

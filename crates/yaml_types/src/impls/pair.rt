@@ -27,10 +27,7 @@ fn build_two<'de, A: Deserialize<'de> + Drop, B: Deserialize<'de>>(
     let Some(first) = items.next() else {
         unreachable!()
     };
-    let first = match A::build(alloc, first) {
-        Ok(first) => first,
-        Err(fault) => return Err(fault),
-    };
+    let first = A::build(alloc, first)?;
     let Some(second) = items.next() else {
         unreachable!()
     };

@@ -1,5 +1,7 @@
 -- A value is written as the only document of a stream, as its data is written under the type's shape.
-use Rattle.std.proofs.Common.{map, sym}
+use Rattle.std.specs.Prelude.{IsTrue, OnOk}
+use Rattle.std.proofs.Common.{map, sym, subst}
+use Rattle.yaml_shape.specs.Held.{is_table}
 use Rattle.yaml_base.specs.EmitEvents.{emit_of}
 use Rattle.serde_yaml.proofs.TypedLaws.{no_type_written, type_writes}
 use Rattle.serde_yaml.proofs.ser.to_events.Goals as goal
@@ -14,3 +16,11 @@ returns-in-Ok-to_data-clause-written g c =
     rw (sym c.in-Ok-to_data.ensures.ok)
     (type_writes g.T.Serialize.start _ (λ events. map emit_of events.items) _ _ c.write_stream.result
     c.in-Ok.ensures.ok.table c.in-Ok.ensures.ok.number c.write_stream.ensures.valid c.write_stream.ensures.written)
+
+pub returns-in-Ok-to_data-clause-table : goal.returns-in-Ok-to_data-clause-table
+returns-in-Ok-to_data-clause-table g c =
+    subst (λ table. OnOk c.write_stream.result (IsTrue (is_table table))) c.in-Ok.ensures.ok.table
+    c.write_stream.ensures.table
+
+pub returns-in-Ok-to_data-clause-held : goal.returns-in-Ok-to_data-clause-held
+returns-in-Ok-to_data-clause-held g c = rw (sym c.in-Ok-to_data.ensures.ok) c.write_stream.ensures.held

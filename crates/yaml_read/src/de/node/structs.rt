@@ -200,7 +200,7 @@ impl<'s, 'de> Source<'s, 'de> {
         requires forward { GoForward self.now.ends.now }
         ensures gives { (fuel : ℕ) → 8200 * (walk.old.left + nest) + 4100 < fuel
             → Gives (λ x. (
-              (field_view x, value_at (way_of path.now) (seen self.now.events.now walk.old.place)),
+              (field_view x, value_way (way_of path.now) (seen self.now.events.now walk.old.place)),
               spot_of walk.new,
             )) result
             (field_key_at (source_of self.now) (reader_of fuel self.now) (way_of path.now) strict

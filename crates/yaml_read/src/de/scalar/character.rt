@@ -1,6 +1,6 @@
 //! A scalar under the shape of a character.
 
-ghost use Rattle.std.specs.Prelude.{◌≡◌, Err};
+ghost use Rattle.std.specs.Prelude.{◌≡◌, Err, is_ok};
 ghost use Rattle.std.specs.Option.{option_map_or};
 ghost use Rattle.std.specs.Str.{chars};
 ghost use Rattle.yaml_base.specs.Answer.{Gives};
@@ -33,7 +33,8 @@ fn only_char(text: &str) -> Option<char>
 // A text of one character.
 fn one_character<'de>(alloc: Global, shape: &Shape, text: &str) -> Result<Data<'de>>
     requires char { shape_of shape.now ≡ char_shape }
-    ensures { Gives data_of result (one_character text.now) }
+    ensures gives { Gives data_of result (one_character text.now) }
+    ensures free { is_ok result ≡ is_ok (one_character text.now) }
 {
     match only_char(text) {
         Some(character) => Ok(Data::Char(character)),
@@ -49,7 +50,10 @@ pub(crate) fn read_char<'de>(
     scalar: &DocScalar<'de>,
 ) -> Result<Data<'de>>
     requires char { shape_of shape.now ≡ char_shape }
-    ensures { Gives data_of result
+    ensures gives { Gives data_of result
+        (option_map_or one_character (text_of (doc_scalar_of scalar.now))
+        (Err (scalar_fault char_shape taken (doc_scalar_of scalar.now)))) }
+    ensures free { is_ok result ≡ is_ok
         (option_map_or one_character (text_of (doc_scalar_of scalar.now))
         (Err (scalar_fault char_shape taken (doc_scalar_of scalar.now)))) }
 {

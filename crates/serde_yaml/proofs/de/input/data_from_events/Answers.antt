@@ -9,7 +9,7 @@ pub returns-in-Ok-clause-given : goal.returns-in-Ok-clause-given
 returns-in-Ok-clause-given c = λ s at.
     answers_weaker data_of _ _
     (stream_input c.args.events.items c.args.fault c.in-Ok.ensures.accepted c.in-Ok.ensures.documents)
-    c.deserialize_limited.result (c.deserialize_limited.ensures s at)
+    c.deserialize_limited.result (c.deserialize_limited.ensures.gives s at)
 
 pub returns-in-Ok-clause-meaning : goal.returns-in-Ok-clause-meaning
 returns-in-Ok-clause-meaning c = λ s at.

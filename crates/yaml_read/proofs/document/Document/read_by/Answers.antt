@@ -1,7 +1,8 @@
 -- What a document gives, and how its cursor is left, from what its reading gives.
-use Rattle.std.proofs.Common.{◌≡◌, ◌*◌, Ok, Err, sym, ap, subst, ◌∙◌, map, length, arith}
+use Rattle.std.proofs.Common.{◌≡◌, ◌*◌, Ok, Err, false, sym, ap, subst, ◌∙◌, map, length, arith}
 use Rattle.std.proofs.lemmas.List.{length-map}
 use Rattle.std.specs.Option.{option_copied}
+use Rattle.yaml_base.specs.Answer.{is_memory}
 use Rattle.yaml_base.specs.Position.{Position}
 use Rattle.yaml_shape.specs.DataView.{data_of}
 use Rattle.yaml_shape.specs.ShapeView.{shape_of}
@@ -12,7 +13,7 @@ use Rattle.yaml_read.specs.declared.doc_event.DocEvent.{DocEvent}
 use Rattle.yaml_read.proofs.WholeEnds.{seen_within, read_ends, leaves}
 use Rattle.yaml_read.proofs.reading.EndLaws.{ends_go_forward}
 use Rattle.yaml_read.proofs.reading.Whole.{answered, refused, own_fault, own_refusal, cut_gives}
-use Rattle.yaml_read.proofs.reading.Whole.{gives_of_exact}
+use Rattle.yaml_read.proofs.reading.Whole.{gives_of_exact, told_cut, data_cut, ending_own, whole_reading}
 use Rattle.yaml_read.proofs.document.Document.read_by.Goals as goal
 
 pub read_node-requires-clause-forward : goal.read_node-requires-clause-forward
@@ -23,7 +24,7 @@ pub returns-in-None-clause-read : goal.returns-in-None-clause-read
 returns-in-None-clause-read c = λ fresh.
     gives_of_exact c.args.limits c.args.schema.now (shape_of c.args.shape.now) c.args.self.now
     c.optionals_end.ensures.small c.optionals_end.ensures.falls c.requires.small
-    (Ok (data_of c.in-Ok.data)) (λ v e. sym c.error.ensures.shown ∙ ap option_copied c.in-None.is) (λ e. absurd cc)
+    (Ok (data_of c.in-Ok.data)) (sym c.error.ensures.shown ∙ ap option_copied c.in-None.is) (λ e. absurd cc)
     (answered c.args.limits c.args.schema.now (shape_of c.args.shape.now) c.args.self.now _ _
     (seen_within c.args.limits c.args.schema.now (shape_of c.args.shape.now) c.requires.small c.args.self.now
     c.events.result.now c.ends.result.now _
@@ -63,20 +64,37 @@ returns-in-None-error-clause-read c = λ fresh. rw c.into_error.ensures (λ faul
     c.events.ensures.shown c.ends.ensures (λ fuel lt. c.in-Err.ensures.gives fuel lt fault) in
     gives_of_exact c.args.limits c.args.schema.now (shape_of c.args.shape.now) c.args.self.now
     c.optionals_end.ensures.small c.optionals_end.ensures.falls c.requires.small
-    (Err c.in-Err.refusal) (λ v e. sym c.error-in-Err.ensures.shown ∙ ap option_copied c.in-None-error.is)
+    (Err c.in-Err.refusal) (sym c.error-in-Err.ensures.shown ∙ ap option_copied c.in-None-error.is)
     (own_fault c.args.limits c.args.schema.now (shape_of c.args.shape.now) c.args.self.now c.in-Err.refusal seen)
     (refused c.args.limits c.args.schema.now (shape_of c.args.shape.now) c.args.self.now c.in-Err.refusal seen))
+
+pub returns-in-Some-clause-read : goal.returns-in-Some-clause-read
+returns-in-Some-clause-read c = λ fresh fault.
+    let cut = sym c.error.ensures.shown ∙ ap option_copied c.in-Some.is in
+    let told = c.copied.ensures fault in
+    cut_gives c.args.limits c.args.schema.now (shape_of c.args.shape.now) c.args.self.now c.copied.result
+    c.in-Some.fault.now cut (ending_own _ _ (subst IsEnding cut c.error.ensures.kind) told)
+    (told ∙ data_cut c.args.limits c.args.schema.now (shape_of c.args.shape.now) c.args.self.now _ _ c.in-Some.fault.now
+    (seen_within c.args.limits c.args.schema.now (shape_of c.args.shape.now) c.requires.small c.args.self.now
+    c.events.result.now c.ends.result.now _
+    c.nesting.result (c.follows.result * length c.events.result.now) (sym c.nesting.ensures)
+    (ap (λ x. x * length c.events.result.now) (sym c.follows.ensures.value))
+    c.events.ensures.shown c.ends.ensures c.in-Ok.ensures.gives))
 
 pub returns-clause-read : goal.returns-clause-read
 returns-clause-read c = λ fresh fault.
     let cut = sym c.error-in-Err.ensures.shown ∙ ap option_copied c.in-Some-error.is in
-    cut_gives c.args.limits c.args.schema.now (shape_of c.args.shape.now) c.args.self.now c.cut_off_fault.result
-    c.in-Some-error.ending.now cut
-    (c.cut_off_fault.ensures.own
-    (own_refusal c.args.limits c.args.schema.now (shape_of c.args.shape.now) c.args.self.now c.in-Err.refusal
-    (λ known. seen_within c.args.limits c.args.schema.now (shape_of c.args.shape.now) c.requires.small c.args.self.now
+    let seen : is_memory c.in-Err.refusal ≡ false
+    → whole_reading c.args.limits c.args.schema.now c.args.self.now (shape_of c.args.shape.now) ≡ Err c.in-Err.refusal = λ known.
+    seen_within c.args.limits c.args.schema.now (shape_of c.args.shape.now) c.requires.small c.args.self.now
     c.events.result.now c.ends.result.now _
     c.nesting.result (c.follows.result * length c.events.result.now) (sym c.nesting.ensures)
     (ap (λ x. x * length c.events.result.now) (sym c.follows.ensures.value))
-    c.events.ensures.shown c.ends.ensures (λ fuel lt. c.in-Err.ensures.gives fuel lt known)))
+    c.events.ensures.shown c.ends.ensures (λ fuel lt. c.in-Err.ensures.gives fuel lt known) in
+    cut_gives c.args.limits c.args.schema.now (shape_of c.args.shape.now) c.args.self.now c.cut_off_fault.result
+    c.in-Some-error.ending.now cut
+    (c.cut_off_fault.ensures.own
+    (own_refusal c.args.limits c.args.schema.now (shape_of c.args.shape.now) c.args.self.now c.in-Err.refusal seen)
     (subst IsEnding cut c.error-in-Err.ensures.kind) fault)
+    (told_cut c.args.limits c.args.schema.now (shape_of c.args.shape.now) c.args.self.now c.in-Err.refusal c.cut_off_fault.result
+    c.in-Some-error.ending.now seen c.cut_off_fault.ensures.ended c.cut_off_fault.ensures.kept fault)

@@ -9,13 +9,13 @@ pub loop-item-preserved : goal.loop-item-preserved
 loop-item-preserved g c =
     subst (λ values. IsBuilding g.T.Deserialize.start g.T.Deserialize.built g.T.Deserialize.refused
     (items_view c.args.items.items) values (items_view c.next.new.self.rest.items))
-    (sym c.in_ok-push-in-Ok.ensures.items)
+    (sym c.in_ok-push.ensures.items)
     (building_more g.T.Deserialize.start g.T.Deserialize.built g.T.Deserialize.refused (items_view c.args.items.items)
-    c.loop-item.values.items (data_of c.in-Some.item) (items_view c.next.new.self.rest.items) c.in-Ok.value
+    c.loop-item.values.items (data_of c.in-Some.item) (items_view c.next.new.self.rest.items) c.in_ok-build.field-0
     (subst (λ rest. IsBuilding g.T.Deserialize.start g.T.Deserialize.built g.T.Deserialize.refused
     (items_view c.args.items.items) c.loop-item.values.items (items_view rest)) c.in-Some.ensures.steps.0
     c.loop-item.invariant)
-    c.in-Ok.ensures.ok)
+    c.in_ok-build.ensures.ok)
 
 pub returns-clause-ok : goal.returns-clause-ok
 returns-clause-ok g c =

@@ -25,8 +25,8 @@ build-requires-2 g c κs =
     c.in-Some-next.second c.in-Some-next.ensures.items first.1 in
     ((refl, tt), second.0)
 
-pub returns-in-Ok-build-clause-ok : goal.returns-in-Ok-build-clause-ok
-returns-in-Ok-build-clause-ok g c =
+pub returns-in-Ok-clause-ok : goal.returns-in-Ok-clause-ok
+returns-in-Ok-clause-ok g c =
     let one : c.args.items.items ≡ c.in-Some.first ∷ c.next.new.self.rest.items =
     sym c.into_iter-items.ensures.rest ∙ c.in-Some.ensures.items in
     let first = next_of g.A.Deserialize.start (g.B.Deserialize.start ∷ []) c.args.items.items
@@ -34,10 +34,10 @@ returns-in-Ok-build-clause-ok g c =
     let second = next_of g.B.Deserialize.start [] c.next.new.self.rest.items c.next-2.new.self.rest.items
     c.in-Some-next.second c.in-Some-next.ensures.items first.1 in
     subst (λ ds. BuiltTwo g.A.Deserialize.built g.B.Deserialize.built (items_view ds)
-    (c.in-Ok.first, c.in-Ok-build.second))
+    (c.in_ok-first.first, c.in-Ok.second))
     (two_items c.args.items.items c.next.new.self.rest.items c.next-2.new.self.rest.items c.in-Some.first
     c.in-Some-next.second one c.in-Some-next.ensures.items (none_left c.next-2.new.self.rest.items second.1))
-    (c.in-Ok.ensures.ok, c.in-Ok-build.ensures.ok)
+    (c.in_ok-first.ensures.ok, c.in-Ok.ensures.ok)
 
 pub returns-clause-refused : goal.returns-clause-refused
 returns-clause-refused g c =
@@ -49,10 +49,10 @@ returns-clause-refused g c =
     c.in-Some-next.second c.in-Some-next.ensures.items first.1 in
     IsRefusal-more (g.B.Deserialize.refused (data_of c.in-Some-next.second))
     (RefusedTwo g.A.Deserialize.built g.A.Deserialize.refused g.B.Deserialize.refused (items_view c.args.items.items))
-    c.in-Err-build.fault
+    c.in-Err.fault
     (λ message refused. subst (λ ds. RefusedTwo g.A.Deserialize.built g.A.Deserialize.refused g.B.Deserialize.refused
     (items_view ds) message)
     (two_items c.args.items.items c.next.new.self.rest.items c.next-2.new.self.rest.items c.in-Some.first
     c.in-Some-next.second one c.in-Some-next.ensures.items (none_left c.next-2.new.self.rest.items second.1))
-    (inr ((c.in-Ok.first, c.in-Ok.ensures.ok), refused)))
-    c.in-Err-build.ensures.refused
+    (inr ((c.in_ok-first.first, c.in_ok-first.ensures.ok), refused)))
+    c.in-Err.ensures.refused

@@ -6,7 +6,7 @@ use Rattle.yaml_shape.specs.DataView.{data_of}
 use Rattle.yaml_lines.specs.DataText.{data_text}
 use Rattle.yaml_case.specs.Answers.IsReply.{bad_line, found}
 use Rattle.yaml_case.proofs.RunLaws.{fault_reply}
-use Rattle.yaml_case.proofs.run.answer_to.Goals as goal
+use Rattle.yaml_case.proofs.answer.made_of.Goals as goal
 
 pub returns-in-Err-BadLine : goal.returns-in-Err-BadLine
 returns-in-Err-BadLine c =
