@@ -107,7 +107,11 @@ fn a_reader_is_not_called_behind_its_end(rt: HostRuntime) -> Result<(), Fail> {
     let text = stream(rt.alloc(), "0:0:0 =VAL :true\n")?;
     for (rest, output, status) in [
         (text.as_str(), "true\n", Status::Read),
-        ("", "fault: event list is not a stream at event 0\n", Status::Fault),
+        (
+            "",
+            "fault: event list is not a stream at event 0\n",
+            Status::Fault,
+        ),
         ("0:0:0 +SEQX\n", "bad line 1\n", Status::Refused),
     ] {
         let reader = SlowReader::new(rest.as_bytes(), usize::MAX, false);
