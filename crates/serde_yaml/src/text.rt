@@ -11,6 +11,7 @@ ghost use Rattle.yaml_read.specs.TreeReader.{default_limits};
 ghost use Rattle.serde_yaml.specs.Headline.{GivesMeaning};
 ghost use Rattle.serde_yaml.specs.StreamReads.{stream_of};
 ghost use Rattle.serde_yaml.specs.TextReads.{IsParsed};
+ghost use Rattle.serde_yaml.specs.TypedHeadline.{GivesValue};
 ghost use Rattle.serde_yaml.specs.TypedReads.{TypeGives};
 
 use crate::de::{Deserializer, data_from_events, from_events_limited};
@@ -40,7 +41,8 @@ fn parsed<'de>(alloc: Global, text: &'de [u8]) -> Result<Parsed<'de>>
 /// refused by the parser's fault, unless what stands before it is refused earlier.
 pub fn from_str<'de, T: Deserialize<'de>>(alloc: Global, text: &'de str) -> Result<T>
     ensures { Answers (λ value. value) result (λ given. IsParsed (λ events fault.
-        TypeGives default_limits T.start T.built T.refused events fault given)) }
+        GivesValue default_limits T.start T.built T.refused events fault given
+        × TypeGives default_limits T.start T.built T.refused events fault given)) }
 {
     from_slice(alloc, text.as_bytes())
 }
@@ -48,7 +50,8 @@ pub fn from_str<'de, T: Deserialize<'de>>(alloc: Global, text: &'de str) -> Resu
 /// The same of bytes, which are refused with the place of the first one that UTF-8 or YAML does not allow.
 pub fn from_slice<'de, T: Deserialize<'de>>(alloc: Global, text: &'de [u8]) -> Result<T>
     ensures { Answers (λ value. value) result (λ given. IsParsed (λ events fault.
-        TypeGives default_limits T.start T.built T.refused events fault given)) }
+        GivesValue default_limits T.start T.built T.refused events fault given
+        × TypeGives default_limits T.start T.built T.refused events fault given)) }
 {
     from_slice_limited(alloc, text, Limits::DEFAULT)
 }
@@ -60,7 +63,8 @@ pub fn from_slice_limited<'de, T: Deserialize<'de>>(
     limits: Limits,
 ) -> Result<T>
     ensures { Answers (λ value. value) result (λ given. IsParsed (λ events fault.
-        TypeGives limits T.start T.built T.refused events fault given)) }
+        GivesValue limits T.start T.built T.refused events fault given
+        × TypeGives limits T.start T.built T.refused events fault given)) }
 {
     let Parsed { events, fault, .. } = parsed(alloc, text)?;
     from_events_limited(alloc, events, fault, limits)

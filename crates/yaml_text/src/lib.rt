@@ -24,8 +24,11 @@ pub fn parse<'a>(alloc: Global, text: &'a [u8]) -> Result<Parsed<'a>, AllocError
         fault,
         started,
     } = scan(alloc, text)?;
+    if started {
+        return parse_tokens(alloc, text, tokens, fault);
+    }
     match fault {
-        Some(fault) if !started => unread(alloc, fault),
-        fault => parse_tokens(alloc, text, tokens, fault),
+        Some(fault) => unread(alloc, fault),
+        None => parse_tokens(alloc, text, tokens, None),
     }
 }
