@@ -1,11 +1,12 @@
 -- An event more, and what the events are at the end.
-use Rattle.std.proofs.Common.{◌≡◌, List, [], ◌∷◌, ◌++◌, Option, Some, None, refl, sym, ◌∙◌, ap, ◌↔◌, true, false, map}
-use Rattle.std.proofs.Common.{ℕ, length, reverse}
+use Rattle.std.proofs.Common.{◌≡◌, List, [], ◌∷◌, ◌++◌, Option, Some, refl, sym, ◌∙◌, ap, true, false, map}
+use Rattle.std.proofs.Common.{ℕ, length, reverse, subst}
+use Rattle.std.proofs.lemmas.List.Elements.{All-push}
 use Rattle.std.proofs.lemmas.List.{map-append, nil_from_length, reverse-append}
 use Rattle.yaml_base.specs.Position.{Position}
 use Rattle.yaml_base.specs.PlainEvent.{PlainEvent, PlainScalar, event_of, scalar, alias, sequence_start, sequence_end}
 use Rattle.yaml_base.specs.PlainEvent.{mapping_start, mapping_end}
-use Rattle.yaml_base.specs.Stream.{IsStream, IsBeginning, IsWellFormed}
+use Rattle.yaml_base.specs.Stream.{IsStream, IsWellFormed}
 use Rattle.yaml_base.specs.MarkedEvents.{plain_events}
 use Rattle.yaml_base.specs.declared.event.Event.{Event}
 use Rattle.yaml_base.specs.declared.open.Open.{Open}
@@ -15,6 +16,7 @@ use Rattle.yaml_parse.specs.declared.frame.Phase.{Phase}
 use Rattle.yaml_parse.specs.declared.frame.Phase.TheVariants as phase
 use Rattle.yaml_base.specs.StreamMachine.{State, before_stream, next_state, run, within}
 use Rattle.yaml_parse.specs.Frames.{state_of, is_done, open_of, open_behind, opens, ends_sequence, ends_mapping}
+use Rattle.yaml_parse.specs.Shown.{AreShown, IsShown}
 use Rattle.yaml_base.proofs.StreamMachineLaws.{run_append, whole_run, goes_on_run}
 
 -- the state after one event more
@@ -134,6 +136,13 @@ pub goes_to : (before after : List (Event × Position)) (x : Event × Position) 
     → next_state old (event_of x.0) ≡ Some new → run (Some before_stream) (plain_events after) ≡ Some new
 goes_to before after x old new is ran next =
     ap (λ es. run (Some before_stream) (plain_events es)) is ∙ goes before x old new ran next
+
+-- the list of events that has grown by one is shown in the text
+pub shown_to : (text : List ℕ) (before after : List (Event × Position)) (x : Event × Position)
+    → after ≡ before ++ x ∷ [] → AreShown text before → IsShown text (event_of x.0) x.1 → AreShown text after
+shown_to text before after x is all here =
+    subst (AreShown text) (sym is)
+    (All-push (λ (e : Event × Position). IsShown text (event_of e.0) e.1) before x all here)
 
 -- the list of collections that has grown by one
 pub opened_more : (outer more : List (Frame × Position)) (first : Frame) (x : Frame × Position)

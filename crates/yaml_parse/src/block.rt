@@ -1,5 +1,7 @@
 //! Collections by indentation.
 
+ghost use Rattle.std.specs.Prelude.{◌≡◌};
+
 use crate::fault::fault_in;
 use crate::frame::Frame;
 use crate::machine::{Machine, Span};
@@ -8,7 +10,9 @@ use yaml_token::{Context, Problem, Stop, Token};
 
 impl<'a> Machine<'a> {
     // `-`, or the end of the sequence.
-    pub(crate) fn block_entry(&mut self, token: &mut Token, at: &Span) -> Result<bool, Stop> {
+    pub(crate) fn block_entry(&mut self, token: &mut Token, at: &Span) -> Result<bool, Stop>
+        ensures { self.new.stream.text.now ≡ self.old.stream.text.now }
+    {
         match token {
             Token::BlockEntry => self.pass(Frame::BlockNode, at),
             Token::BlockEnd => {
@@ -25,7 +29,9 @@ impl<'a> Machine<'a> {
     }
 
     // A node behind `-`, which may be empty.
-    pub(crate) fn block_node(&mut self, token: &mut Token, at: &Span) -> Result<bool, Stop> {
+    pub(crate) fn block_node(&mut self, token: &mut Token, at: &Span) -> Result<bool, Stop>
+        ensures { self.new.stream.text.now ≡ self.old.stream.text.now }
+    {
         let ends = matches!(token, Token::BlockEntry | Token::BlockEnd);
         if ends && self.properties.is_none() {
             self.nothing(self.gap)
@@ -35,7 +41,9 @@ impl<'a> Machine<'a> {
     }
 
     // `-` at the column of the key, or else the sequence ends.
-    pub(crate) fn indentless_entry(&mut self, token: &mut Token, at: &Span) -> Result<bool, Stop> {
+    pub(crate) fn indentless_entry(&mut self, token: &mut Token, at: &Span) -> Result<bool, Stop>
+        ensures { self.new.stream.text.now ≡ self.old.stream.text.now }
+    {
         match token {
             Token::BlockEntry => self.pass(Frame::IndentlessNode, at),
             _ => {
@@ -46,7 +54,9 @@ impl<'a> Machine<'a> {
     }
 
     // A node behind `-` at the column of the key, which may be empty.
-    pub(crate) fn indentless_node(&mut self, token: &mut Token, at: &Span) -> Result<bool, Stop> {
+    pub(crate) fn indentless_node(&mut self, token: &mut Token, at: &Span) -> Result<bool, Stop>
+        ensures { self.new.stream.text.now ≡ self.old.stream.text.now }
+    {
         let ends = matches!(
             token,
             Token::BlockEntry | Token::Key | Token::Value | Token::BlockEnd
@@ -59,7 +69,9 @@ impl<'a> Machine<'a> {
     }
 
     // The place of a key, or the end of the mapping.
-    pub(crate) fn block_key(&mut self, token: &mut Token, at: &Span) -> Result<bool, Stop> {
+    pub(crate) fn block_key(&mut self, token: &mut Token, at: &Span) -> Result<bool, Stop>
+        ensures { self.new.stream.text.now ≡ self.old.stream.text.now }
+    {
         match token {
             Token::Key => self.pass(Frame::BlockKeyNode, at),
             Token::BlockEnd => {
@@ -76,7 +88,9 @@ impl<'a> Machine<'a> {
     }
 
     // A key behind `?`, or a value behind `:`, which may be empty.
-    pub(crate) fn block_part(&mut self, token: &mut Token, at: &Span) -> Result<bool, Stop> {
+    pub(crate) fn block_part(&mut self, token: &mut Token, at: &Span) -> Result<bool, Stop>
+        ensures { self.new.stream.text.now ≡ self.old.stream.text.now }
+    {
         let ends = matches!(token, Token::Key | Token::Value | Token::BlockEnd);
         if ends && self.properties.is_none() {
             self.nothing(self.gap)
@@ -86,7 +100,9 @@ impl<'a> Machine<'a> {
     }
 
     // `:`, or else the value is empty.
-    pub(crate) fn block_value(&mut self, token: &mut Token, at: &Span) -> Result<bool, Stop> {
+    pub(crate) fn block_value(&mut self, token: &mut Token, at: &Span) -> Result<bool, Stop>
+        ensures { self.new.stream.text.now ≡ self.old.stream.text.now }
+    {
         match token {
             Token::Value => self.pass(Frame::BlockValueNode, at),
             _ => self.nothing(at.start),

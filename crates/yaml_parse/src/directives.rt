@@ -1,5 +1,7 @@
 //! The directives of a document.
 
+ghost use Rattle.std.specs.Prelude.{◌≡◌};
+
 use crate::fault::fault;
 use crate::machine::{Machine, Span};
 use crate::properties::Handle;
@@ -19,7 +21,9 @@ fn is_known(handles: &[Handle], handle: &[u8]) -> bool {
 
 impl<'a> Machine<'a> {
     // A directive, or the `---` behind all of them.
-    pub(crate) fn directive(&mut self, token: &mut Token, at: &Span) -> Result<bool, Stop> {
+    pub(crate) fn directive(&mut self, token: &mut Token, at: &Span) -> Result<bool, Stop>
+        ensures { self.new.stream.text.now ≡ self.old.stream.text.now }
+    {
         match token {
             Token::VersionDirective { major, minor } => self.version(*major, *minor, at.start),
             Token::TagDirective { handle, prefix } => {
@@ -37,7 +41,9 @@ impl<'a> Machine<'a> {
     }
 
     // `%YAML`, once, with 1.1 or 1.2.
-    fn version(&mut self, major: u32, minor: u32, mark: Mark) -> Result<bool, Stop> {
+    fn version(&mut self, major: u32, minor: u32, mark: Mark) -> Result<bool, Stop>
+        ensures { self.new.stream.text.now ≡ self.old.stream.text.now }
+    {
         if self.has_version {
             return Err(fault(Problem::FoundDuplicateVersionDirective, mark));
         }
@@ -49,7 +55,9 @@ impl<'a> Machine<'a> {
     }
 
     // `%TAG`, once for each handle.
-    fn tag_handle(&mut self, handle: Handle, mark: Mark) -> Result<bool, Stop> {
+    fn tag_handle(&mut self, handle: Handle, mark: Mark) -> Result<bool, Stop>
+        ensures { self.new.stream.text.now ≡ self.old.stream.text.now }
+    {
         if is_known(self.handles.as_slice(), handle.handle.as_slice()) {
             return Err(fault(Problem::FoundDuplicateHandleDirective, mark));
         }

@@ -1,5 +1,7 @@
 //! Where documents begin and end.
 
+ghost use Rattle.std.specs.Prelude.{◌≡◌};
+
 use crate::machine::{Machine, Span};
 use crate::node::Nodes;
 use yaml_token::{Stop, Token};
@@ -23,7 +25,9 @@ impl<'a> Machine<'a> {
         first: bool,
         token: &mut Token,
         at: &Span,
-    ) -> Result<bool, Stop> {
+    ) -> Result<bool, Stop>
+        ensures { self.new.stream.text.now ≡ self.old.stream.text.now }
+    {
         match token {
             Token::DocumentEnd if !first => Ok(true),
             Token::StreamEnd => {
@@ -46,12 +50,16 @@ impl<'a> Machine<'a> {
     }
 
     // The node of a document without `---`.
-    pub(crate) fn root(&mut self, token: &mut Token, at: &Span) -> Result<bool, Stop> {
+    pub(crate) fn root(&mut self, token: &mut Token, at: &Span) -> Result<bool, Stop>
+        ensures { self.new.stream.text.now ≡ self.old.stream.text.now }
+    {
         self.node(Nodes::Block, token, at)
     }
 
     // The node of a document behind `---`, which may be empty.
-    pub(crate) fn content(&mut self, token: &mut Token, at: &Span) -> Result<bool, Stop> {
+    pub(crate) fn content(&mut self, token: &mut Token, at: &Span) -> Result<bool, Stop>
+        ensures { self.new.stream.text.now ≡ self.old.stream.text.now }
+    {
         if self.properties.is_none() && ends_content(token) {
             self.nothing(at.start)
         } else {
@@ -60,7 +68,9 @@ impl<'a> Machine<'a> {
     }
 
     // The end of a document, with `...` or without.
-    pub(crate) fn document_end(&mut self, token: &mut Token, at: &Span) -> Result<bool, Stop> {
+    pub(crate) fn document_end(&mut self, token: &mut Token, at: &Span) -> Result<bool, Stop>
+        ensures { self.new.stream.text.now ≡ self.old.stream.text.now }
+    {
         self.stream.end_document(at.start)?;
         self.has_version = false;
         self.handles.clear();

@@ -1,5 +1,7 @@
 //! Collections within brackets.
 
+ghost use Rattle.std.specs.Prelude.{◌≡◌};
+
 use crate::fault::fault_in;
 use crate::frame::Frame;
 use crate::machine::{Machine, Span};
@@ -9,7 +11,9 @@ use yaml_token::{Context, Problem, Stop, Token};
 
 impl<'a> Machine<'a> {
     // A node, a pair, or the end of the sequence.
-    pub(crate) fn flow_node(&mut self, token: &mut Token, at: &Span) -> Result<bool, Stop> {
+    pub(crate) fn flow_node(&mut self, token: &mut Token, at: &Span) -> Result<bool, Stop>
+        ensures { self.new.stream.text.now ≡ self.old.stream.text.now }
+    {
         let waits = self.properties.is_some();
         match token {
             Token::FlowSequenceEnd if !waits => {
@@ -30,7 +34,9 @@ impl<'a> Machine<'a> {
     }
 
     // `,`, or the end of the sequence.
-    pub(crate) fn flow_entry(&mut self, token: &mut Token, at: &Span) -> Result<bool, Stop> {
+    pub(crate) fn flow_entry(&mut self, token: &mut Token, at: &Span) -> Result<bool, Stop>
+        ensures { self.new.stream.text.now ≡ self.old.stream.text.now }
+    {
         match token {
             Token::FlowSequenceEnd => {
                 self.stream.end_sequence(at.start)?;
@@ -47,7 +53,9 @@ impl<'a> Machine<'a> {
     }
 
     // The key of a pair. Behind an empty one the token is swallowed, as libyaml does: `[? ]` does not end there.
-    pub(crate) fn pair_key(&mut self, token: &mut Token, at: &Span) -> Result<bool, Stop> {
+    pub(crate) fn pair_key(&mut self, token: &mut Token, at: &Span) -> Result<bool, Stop>
+        ensures { self.new.stream.text.now ≡ self.old.stream.text.now }
+    {
         let ends = matches!(
             token,
             Token::Value | Token::FlowEntry | Token::FlowSequenceEnd
@@ -61,7 +69,9 @@ impl<'a> Machine<'a> {
     }
 
     // `:`, or else the value of the pair is empty.
-    pub(crate) fn pair_value(&mut self, token: &mut Token, at: &Span) -> Result<bool, Stop> {
+    pub(crate) fn pair_value(&mut self, token: &mut Token, at: &Span) -> Result<bool, Stop>
+        ensures { self.new.stream.text.now ≡ self.old.stream.text.now }
+    {
         match token {
             Token::Value => self.pass(Frame::PairValueNode, at),
             _ => self.nothing(at.start),
@@ -69,7 +79,9 @@ impl<'a> Machine<'a> {
     }
 
     // The value of a pair behind `:`, which may be empty.
-    pub(crate) fn pair_value_node(&mut self, token: &mut Token, at: &Span) -> Result<bool, Stop> {
+    pub(crate) fn pair_value_node(&mut self, token: &mut Token, at: &Span) -> Result<bool, Stop>
+        ensures { self.new.stream.text.now ≡ self.old.stream.text.now }
+    {
         let ends = matches!(token, Token::FlowEntry | Token::FlowSequenceEnd);
         if ends && self.properties.is_none() {
             self.nothing(at.start)
@@ -79,13 +91,17 @@ impl<'a> Machine<'a> {
     }
 
     // The end of a pair.
-    pub(crate) fn pair_end(&mut self, at: &Span) -> Result<bool, Stop> {
+    pub(crate) fn pair_end(&mut self, at: &Span) -> Result<bool, Stop>
+        ensures { self.new.stream.text.now ≡ self.old.stream.text.now }
+    {
         self.stream.end_mapping(at.start)?;
         Ok(false)
     }
 
     // A key, or the end of the mapping.
-    pub(crate) fn map_key(&mut self, token: &mut Token, at: &Span) -> Result<bool, Stop> {
+    pub(crate) fn map_key(&mut self, token: &mut Token, at: &Span) -> Result<bool, Stop>
+        ensures { self.new.stream.text.now ≡ self.old.stream.text.now }
+    {
         let waits = self.properties.is_some();
         match token {
             Token::FlowMappingEnd if !waits => {
@@ -98,7 +114,9 @@ impl<'a> Machine<'a> {
     }
 
     // A key behind `?` or before `:`, which may be empty.
-    pub(crate) fn map_key_node(&mut self, token: &mut Token, at: &Span) -> Result<bool, Stop> {
+    pub(crate) fn map_key_node(&mut self, token: &mut Token, at: &Span) -> Result<bool, Stop>
+        ensures { self.new.stream.text.now ≡ self.old.stream.text.now }
+    {
         let ends = matches!(
             token,
             Token::Value | Token::FlowEntry | Token::FlowMappingEnd
@@ -111,7 +129,9 @@ impl<'a> Machine<'a> {
     }
 
     // `:`, or else the value is empty.
-    pub(crate) fn map_value(&mut self, token: &mut Token, at: &Span) -> Result<bool, Stop> {
+    pub(crate) fn map_value(&mut self, token: &mut Token, at: &Span) -> Result<bool, Stop>
+        ensures { self.new.stream.text.now ≡ self.old.stream.text.now }
+    {
         match token {
             Token::Value => self.pass(Frame::MapValueNode, at),
             _ => self.nothing(at.start),
@@ -119,7 +139,9 @@ impl<'a> Machine<'a> {
     }
 
     // A value behind `:`, which may be empty.
-    pub(crate) fn map_value_node(&mut self, token: &mut Token, at: &Span) -> Result<bool, Stop> {
+    pub(crate) fn map_value_node(&mut self, token: &mut Token, at: &Span) -> Result<bool, Stop>
+        ensures { self.new.stream.text.now ≡ self.old.stream.text.now }
+    {
         let ends = matches!(token, Token::FlowEntry | Token::FlowMappingEnd);
         if ends && self.properties.is_none() {
             self.nothing(at.start)
@@ -129,7 +151,9 @@ impl<'a> Machine<'a> {
     }
 
     // `,`, or the end of the mapping.
-    pub(crate) fn map_entry(&mut self, token: &mut Token, at: &Span) -> Result<bool, Stop> {
+    pub(crate) fn map_entry(&mut self, token: &mut Token, at: &Span) -> Result<bool, Stop>
+        ensures { self.new.stream.text.now ≡ self.old.stream.text.now }
+    {
         match token {
             Token::FlowMappingEnd => {
                 self.stream.end_mapping(at.start)?;

@@ -1,5 +1,7 @@
 //! The machine that takes tokens one by one and gives events.
 
+ghost use Rattle.std.specs.Prelude.{◌≡◌};
+
 use crate::fault::endless;
 use crate::frame::{Frame, Phase};
 use crate::properties::{Handle, Properties};
@@ -12,7 +14,6 @@ use yaml_token::{Lead, Placed, Stop, Token};
 #[derive(Drop)]
 pub(crate) struct Machine<'a> {
     pub(crate) alloc: Global,
-    pub(crate) text: &'a [u8],
     pub(crate) stream: Stream<'a>,
     // What stands before the node that is to come.
     pub(crate) properties: Option<Properties>,
@@ -36,11 +37,12 @@ const STEPS: usize = 8;
 
 impl<'a> Machine<'a> {
     // A parser that has taken no token. Takes no memory.
-    pub(crate) fn new(alloc: Global, text: &'a [u8], start: Mark) -> Machine<'a> {
+    pub(crate) fn new(alloc: Global, text: &'a [u8], start: Mark) -> Machine<'a>
+        ensures { result.stream.text.now ≡ text.now }
+    {
         Machine {
             alloc,
-            text,
-            stream: Stream::new(alloc, start),
+            stream: Stream::new(alloc, text, start),
             properties: None,
             gap: start,
             has_version: false,
@@ -49,7 +51,9 @@ impl<'a> Machine<'a> {
     }
 
     // Goes over a token and what stands before it.
-    pub(crate) fn take(&mut self, placed: Placed) -> Result<(), Stop> {
+    pub(crate) fn take(&mut self, placed: Placed) -> Result<(), Stop>
+        ensures { self.new.stream.text.now ≡ self.old.stream.text.now }
+    {
         let mut token = placed.token;
         let before = Span {
             start: placed.start,
@@ -71,8 +75,10 @@ impl<'a> Machine<'a> {
     }
 
     // Goes over a token.
-    fn feed(&mut self, token: &mut Token, at: &Span) -> Result<(), Stop> {
-        for _ in 0..STEPS {
+    fn feed(&mut self, token: &mut Token, at: &Span) -> Result<(), Stop>
+        ensures { self.new.stream.text.now ≡ self.old.stream.text.now }
+    {
+        'steps: for _ in 0..STEPS {
             if self.step(token, at)? {
                 return Ok(());
             }
@@ -81,7 +87,9 @@ impl<'a> Machine<'a> {
     }
 
     // One step at a token: whether it was used up.
-    fn step(&mut self, token: &mut Token, at: &Span) -> Result<bool, Stop> {
+    fn step(&mut self, token: &mut Token, at: &Span) -> Result<bool, Stop>
+        ensures { self.new.stream.text.now ≡ self.old.stream.text.now }
+    {
         match self.stream.phase() {
             Phase::First => self.document_start(true, token, at),
             Phase::Next => self.document_start(false, token, at),
@@ -95,7 +103,9 @@ impl<'a> Machine<'a> {
     }
 
     // One step at a token in a collection.
-    fn inside(&mut self, frame: Frame, token: &mut Token, at: &Span) -> Result<bool, Stop> {
+    fn inside(&mut self, frame: Frame, token: &mut Token, at: &Span) -> Result<bool, Stop>
+        ensures { self.new.stream.text.now ≡ self.old.stream.text.now }
+    {
         match frame {
             Frame::BlockEntry => self.block_entry(token, at),
             Frame::BlockNode => self.block_node(token, at),
@@ -120,7 +130,9 @@ impl<'a> Machine<'a> {
     }
 
     // Goes on in the innermost collection by an indicator.
-    pub(crate) fn pass(&mut self, frame: Frame, at: &Span) -> Result<bool, Stop> {
+    pub(crate) fn pass(&mut self, frame: Frame, at: &Span) -> Result<bool, Stop>
+        ensures { self.new.stream.text.now ≡ self.old.stream.text.now }
+    {
         self.gap = at.end;
         self.stream.go(frame);
         Ok(true)

@@ -34,12 +34,9 @@ struct Named {
 
 impl<'a> Machine<'a> {
     // A node, or a part of what stands before one.
-    pub(crate) fn node(
-        &mut self,
-        nodes: Nodes,
-        token: &mut Token,
-        at: &Span,
-    ) -> Result<bool, Stop> {
+    pub(crate) fn node(&mut self, nodes: Nodes, token: &mut Token, at: &Span) -> Result<bool, Stop>
+        ensures { self.new.stream.text.now ≡ self.old.stream.text.now }
+    {
         match self.properties.take() {
             Some(properties) => self.behind(properties, nodes, token, at),
             None => self.first(nodes, token, at),
@@ -47,7 +44,9 @@ impl<'a> Machine<'a> {
     }
 
     // A node with nothing before it, or the first part of what stands before one.
-    fn first(&mut self, nodes: Nodes, token: &mut Token, at: &Span) -> Result<bool, Stop> {
+    fn first(&mut self, nodes: Nodes, token: &mut Token, at: &Span) -> Result<bool, Stop>
+        ensures { self.new.stream.text.now ≡ self.old.stream.text.now }
+    {
         match token {
             Token::Alias(name) => {
                 let name = mem::replace(name, Vec::new(self.alloc));
@@ -65,7 +64,9 @@ impl<'a> Machine<'a> {
         nodes: Nodes,
         token: &mut Token,
         at: &Span,
-    ) -> Result<bool, Stop> {
+    ) -> Result<bool, Stop>
+        ensures { self.new.stream.text.now ≡ self.old.stream.text.now }
+    {
         match token {
             Token::Anchor(name) if properties.anchor.is_none() => {
                 properties.anchor = Some(mem::replace(name, Vec::new(self.alloc)));
@@ -132,7 +133,9 @@ impl<'a> Machine<'a> {
         nodes: Nodes,
         token: &mut Token,
         at: &Span,
-    ) -> Result<bool, Stop> {
+    ) -> Result<bool, Stop>
+        ensures { self.new.stream.text.now ≡ self.old.stream.text.now }
+    {
         match token {
             Token::BlockEntry if matches!(nodes, Nodes::Indentless) => {
                 self.sequence(named, Frame::IndentlessEntry, at.start)?;
@@ -164,7 +167,9 @@ impl<'a> Machine<'a> {
     }
 
     // An empty scalar behind an anchor or a tag; with neither a node has to stand here.
-    fn no_node(&mut self, named: Named, nodes: Nodes, mark: Mark) -> Result<bool, Stop> {
+    fn no_node(&mut self, named: Named, nodes: Nodes, mark: Mark) -> Result<bool, Stop>
+        ensures { self.new.stream.text.now ≡ self.old.stream.text.now }
+    {
         if named.anchor.is_none() && named.tag.is_none() {
             let context = match nodes {
                 Nodes::Flow => Context::ParsingAFlowNode,
@@ -189,25 +194,30 @@ impl<'a> Machine<'a> {
         value: Vec<u8>,
         style: ScalarStyle,
         end: Mark,
-    ) -> Result<(), Stop> {
+    ) -> Result<(), Stop>
+        ensures { self.new.stream.text.now ≡ self.old.stream.text.now }
+    {
         let Named {
             anchor,
             tag,
             start,
             ..
         } = named;
+        let repr = self.stream.source(start, end);
         let scalar = Scalar {
             anchor,
             tag,
             value,
             style,
-            repr: self.text.get(start.index() as usize..end.index() as usize),
+            repr,
         };
         self.stream.scalar(scalar, start)
     }
 
     // An empty scalar before this token, with nothing of its own.
-    pub(crate) fn nothing(&mut self, mark: Mark) -> Result<bool, Stop> {
+    pub(crate) fn nothing(&mut self, mark: Mark) -> Result<bool, Stop>
+        ensures { self.new.stream.text.now ≡ self.old.stream.text.now }
+    {
         let named = Named {
             anchor: None,
             tag: None,
@@ -221,6 +231,7 @@ impl<'a> Machine<'a> {
     // The start of a sequence that waits for `first`.
     fn sequence(&mut self, named: Named, first: Frame, opened: Mark) -> Result<(), Stop>
         requires { open_of first ≡ Sequence }
+        ensures { self.new.stream.text.now ≡ self.old.stream.text.now }
     {
         let Named {
             anchor,
@@ -235,6 +246,7 @@ impl<'a> Machine<'a> {
     // The start of a mapping that waits for `first`.
     fn mapping(&mut self, named: Named, first: Frame, opened: Mark) -> Result<(), Stop>
         requires { open_of first ≡ Key }
+        ensures { self.new.stream.text.now ≡ self.old.stream.text.now }
     {
         let Named {
             anchor,

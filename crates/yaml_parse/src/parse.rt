@@ -3,6 +3,7 @@
 ghost use Rattle.std.specs.Prelude.{◌≡◌, [], IfOk, Some, is_some, true};
 ghost use Rattle.yaml_base.specs.MarkedEvents.{plain_events};
 ghost use Rattle.yaml_base.specs.Stream.{IsWellFormed};
+ghost use Rattle.yaml_parse.specs.Shown.{AreShown};
 
 use crate::fault::{no_end, owned};
 use crate::machine::Machine;
@@ -30,9 +31,11 @@ fn start_mark() -> Mark {
 }
 
 // Goes over all tokens, up to the first fault.
-fn take_all(machine: &mut Machine<'_>, tokens: Vec<Placed>) -> Result<(), Stop> {
+fn take_all(machine: &mut Machine<'_>, tokens: Vec<Placed>) -> Result<(), Stop>
+    ensures { machine.new.stream.text.now ≡ machine.old.stream.text.now }
+{
     machine.stream.begin_stream(start_mark())?;
-    for placed in tokens {
+    'tokens: for placed in tokens {
         machine.take(placed)?;
     }
     Ok(())
@@ -49,6 +52,7 @@ pub fn parse_tokens<'a>(
 ) -> Result<Parsed<'a>, AllocError>
     ensures taken { IfOk result (λ parsed.
         IsWellFormed (is_some parsed.fault) (plain_events parsed.events.items)) }
+    ensures sources { IfOk result (λ parsed. AreShown text.now parsed.events.items) }
     ensures found { IfOk result (λ parsed. is_some parsed.found ≡ is_some parsed.fault) }
 {
     let mut machine = Machine::new(alloc, text, start_mark());

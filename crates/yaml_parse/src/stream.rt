@@ -1,6 +1,7 @@
 //! The events of a stream, and which may come next.
 
-ghost use Rattle.std.specs.Prelude.{◌≡◌, ◌∷◌, [], Some, true, false};
+ghost use Rattle.std.specs.Prelude.{◌≡◌, ◌∷◌, [], IfSome, Some, true, false};
+ghost use Rattle.std.specs.Option.{option_map};
 ghost use Rattle.std.proofs.Props.{props};
 ghost use Rattle.yaml_base.specs.MarkedEvents.{plain_events};
 ghost use Rattle.yaml_base.specs.PlainEvent.{event_of};
@@ -8,6 +9,7 @@ ghost use Rattle.yaml_base.specs.Stream.{IsStream, IsWellFormed};
 ghost use Rattle.yaml_base.specs.StreamMachine.{before_stream, next_state, run, within};
 ghost use Rattle.yaml_base.specs.declared.open.Open.TheVariants.{Key, Sequence};
 ghost use Rattle.yaml_parse.specs.Frames.{is_done, open_of, opens, state_of};
+ghost use Rattle.yaml_parse.specs.Shown.{AreShown, IsShown, StandsAt};
 
 use crate::fault::misplaced;
 use crate::frame::{Frame, Phase, behind, is_key, is_same, is_sequence};
@@ -18,6 +20,7 @@ use yaml_token::Stop;
 // Events that are a beginning of a stream, always.
 #[derive(Drop)]
 pub(crate) struct Stream<'a> {
+    text: &'a [u8],
     events: Vec<(Event<'a>, Mark)>,
     phase: Phase,
     // Where the innermost collection began, or the directives of a document.
@@ -25,12 +28,16 @@ pub(crate) struct Stream<'a> {
     // What the collections around the innermost wait for, and where they began, the outermost first.
     outer: Vec<(Frame, Mark)>,
     ghost ran: { run (Some before_stream) (plain_events events.items) ≡ Some (state_of phase outer.items) } by { Prim.hlevel props },
+    ghost shown: { AreShown text.now events.items } by { Prim.hlevel props },
 }
 
 impl<'a> Stream<'a> {
-    // No events. Takes no memory.
-    pub(crate) fn new(alloc: Global, start: Mark) -> Stream<'a> {
+    // No events of this text. Takes no memory.
+    pub(crate) fn new(alloc: Global, text: &'a [u8], start: Mark) -> Stream<'a>
+        ensures { result.text.now ≡ text.now }
+    {
         Stream {
+            text,
             events: Vec::new(alloc),
             phase: Phase::Before,
             opened: start,
@@ -48,6 +55,16 @@ impl<'a> Stream<'a> {
         self.opened
     }
 
+    // The bytes of the text between two marks, if both lie in it, in this order.
+    pub(crate) fn source(&self, start: Mark, end: Mark) -> Option<&'a [u8]>
+        ensures { IfSome (option_map (λ r. r.now) result) (StandsAt self.now.text.now start.index) }
+    {
+        match self.text.get(start.index() as usize..end.index() as usize) {
+            Some(bytes) => Some(bytes),
+            None => None,
+        }
+    }
+
     // Whether the stream has ended.
     pub(crate) fn is_after(&self) -> bool
         ensures { result ≡ is_done self.now.phase }
@@ -59,7 +76,8 @@ impl<'a> Stream<'a> {
     #[tactic(auto, using(crate::proofs::Streams::whole_of))]
     pub(crate) fn into_whole(self) -> Vec<(Event<'a>, Mark)>
         requires { is_done self.phase ≡ true }
-        ensures { IsStream (plain_events result.items) }
+        ensures whole { IsStream (plain_events result.items) }
+        ensures shown { AreShown self.entry.text.now result.items }
     {
         self.events
     }
@@ -68,15 +86,18 @@ impl<'a> Stream<'a> {
     #[tactic(auto, using(crate::proofs::Streams::cut_of))]
     pub(crate) fn into_cut(self) -> Vec<(Event<'a>, Mark)>
         requires { is_done self.phase ≡ false }
-        ensures { IsWellFormed true (plain_events result.items) }
+        ensures cut { IsWellFormed true (plain_events result.items) }
+        ensures shown { AreShown self.entry.text.now result.items }
     {
         self.events
     }
 
     // An event at which no collection begins or ends.
     fn add(&mut self, event: Event<'a>, mark: Mark, phase: Phase) -> Result<(), Stop>
-        requires { next_state (state_of self.old.phase self.old.outer.items) (event_of event)
+        requires moves { next_state (state_of self.old.phase self.old.outer.items) (event_of event)
             ≡ Some (state_of phase self.old.outer.items) }
+        requires shown { IsShown self.old.text.now (event_of event) mark }
+        ensures { self.new.text.now ≡ self.old.text.now }
     {
         self.events.reserve(1)?;
         self.events.push_reserved((event, mark));
@@ -85,7 +106,9 @@ impl<'a> Stream<'a> {
     }
 
     // The start of the stream.
-    pub(crate) fn begin_stream(&mut self, mark: Mark) -> Result<(), Stop> {
+    pub(crate) fn begin_stream(&mut self, mark: Mark) -> Result<(), Stop>
+        ensures { self.new.text.now ≡ self.old.text.now }
+    {
         match self.phase {
             Phase::Before => self.add(Event::StreamStart, mark, Phase::First),
             _ => Err(misplaced(mark)),
@@ -93,7 +116,9 @@ impl<'a> Stream<'a> {
     }
 
     // The end of the stream.
-    pub(crate) fn end_stream(&mut self, mark: Mark) -> Result<(), Stop> {
+    pub(crate) fn end_stream(&mut self, mark: Mark) -> Result<(), Stop>
+        ensures { self.new.text.now ≡ self.old.text.now }
+    {
         match self.phase {
             Phase::First | Phase::Next => self.add(Event::StreamEnd, mark, Phase::After),
             _ => Err(misplaced(mark)),
@@ -101,7 +126,9 @@ impl<'a> Stream<'a> {
     }
 
     // The directives of a document, or its `---`, begin.
-    pub(crate) fn begin_directives(&mut self, mark: Mark) {
+    pub(crate) fn begin_directives(&mut self, mark: Mark)
+        ensures { self.new.text.now ≡ self.old.text.now }
+    {
         if matches!(self.phase, Phase::First | Phase::Next) {
             self.phase = Phase::Directives;
             self.opened = mark;
@@ -109,7 +136,9 @@ impl<'a> Stream<'a> {
     }
 
     // A document begins, with `---` or without.
-    pub(crate) fn begin_document(&mut self, mark: Mark, marked: bool) -> Result<(), Stop> {
+    pub(crate) fn begin_document(&mut self, mark: Mark, marked: bool) -> Result<(), Stop>
+        ensures { self.new.text.now ≡ self.old.text.now }
+    {
         let phase = if marked { Phase::Content } else { Phase::Root };
         match self.phase {
             Phase::First | Phase::Next | Phase::Directives => {
@@ -120,7 +149,9 @@ impl<'a> Stream<'a> {
     }
 
     // The end of a document.
-    pub(crate) fn end_document(&mut self, mark: Mark) -> Result<(), Stop> {
+    pub(crate) fn end_document(&mut self, mark: Mark) -> Result<(), Stop>
+        ensures { self.new.text.now ≡ self.old.text.now }
+    {
         match self.phase {
             Phase::Ended => self.add(Event::DocumentEnd, mark, Phase::Next),
             _ => Err(misplaced(mark)),
@@ -129,7 +160,10 @@ impl<'a> Stream<'a> {
 
     // A scalar.
     #[tactic(auto, using(crate::proofs::Streams::passes_scalar))]
-    pub(crate) fn scalar(&mut self, scalar: Scalar<'a>, mark: Mark) -> Result<(), Stop> {
+    pub(crate) fn scalar(&mut self, scalar: Scalar<'a>, mark: Mark) -> Result<(), Stop>
+        requires { IfSome (option_map (λ r. r.now) scalar.repr) (StandsAt self.old.text.now mark.index) }
+        ensures { self.new.text.now ≡ self.old.text.now }
+    {
         match self.phase {
             Phase::Root | Phase::Content => self.add(Event::Scalar(scalar), mark, Phase::Ended),
             Phase::Within(frame) => self.add(
@@ -143,7 +177,9 @@ impl<'a> Stream<'a> {
 
     // An alias.
     #[tactic(auto, using(crate::proofs::Streams::passes_alias))]
-    pub(crate) fn alias(&mut self, anchor: Anchor, mark: Mark) -> Result<(), Stop> {
+    pub(crate) fn alias(&mut self, anchor: Anchor, mark: Mark) -> Result<(), Stop>
+        ensures { self.new.text.now ≡ self.old.text.now }
+    {
         match self.phase {
             Phase::Root | Phase::Content => self.add(Event::Alias(anchor), mark, Phase::Ended),
             Phase::Within(frame) => self.add(
@@ -163,8 +199,10 @@ impl<'a> Stream<'a> {
         first: Frame,
         start: Mark,
     ) -> Result<(), Stop>
-        requires { next_state (state_of self.old.phase self.old.outer.items) (event_of event)
+        requires moves { next_state (state_of self.old.phase self.old.outer.items) (event_of event)
             ≡ Some (within (open_of first ∷ [])) }
+        requires shown { IsShown self.old.text.now (event_of event) mark }
+        ensures { self.new.text.now ≡ self.old.text.now }
     {
         self.events.reserve(1)?;
         self.events.push_reserved((event, mark));
@@ -183,8 +221,10 @@ impl<'a> Stream<'a> {
         first: Frame,
         start: Mark,
     ) -> Result<(), Stop>
-        requires { next_state (state_of self.old.phase self.old.outer.items) (event_of event)
+        requires moves { next_state (state_of self.old.phase self.old.outer.items) (event_of event)
             ≡ Some (within (open_of first ∷ open_of back ∷ opens self.old.outer.items)) }
+        requires shown { IsShown self.old.text.now (event_of event) mark }
+        ensures { self.new.text.now ≡ self.old.text.now }
     {
         self.events.reserve(1)?;
         self.outer.reserve(1)?;
@@ -205,6 +245,7 @@ impl<'a> Stream<'a> {
         start: Mark,
     ) -> Result<(), Stop>
         requires { open_of first ≡ Sequence }
+        ensures { self.new.text.now ≡ self.old.text.now }
     {
         let event = Event::SequenceStart(sequence);
         match self.phase {
@@ -224,6 +265,7 @@ impl<'a> Stream<'a> {
         start: Mark,
     ) -> Result<(), Stop>
         requires { open_of first ≡ Key }
+        ensures { self.new.text.now ≡ self.old.text.now }
     {
         let event = Event::MappingStart(mapping);
         match self.phase {
@@ -235,8 +277,10 @@ impl<'a> Stream<'a> {
 
     // An event at which the innermost collection ends.
     fn close(&mut self, event: Event<'a>, mark: Mark) -> Result<(), Stop>
-        requires { next_state (state_of self.old.phase self.old.outer.items) (event_of event)
+        requires moves { next_state (state_of self.old.phase self.old.outer.items) (event_of event)
             ≡ Some (within (opens self.old.outer.items)) }
+        requires shown { IsShown self.old.text.now (event_of event) mark }
+        ensures { self.new.text.now ≡ self.old.text.now }
     {
         self.events.reserve(1)?;
         self.events.push_reserved((event, mark));
@@ -254,7 +298,9 @@ impl<'a> Stream<'a> {
 
     // The end of a sequence.
     #[tactic(auto, using(crate::proofs::Streams::closes_sequence))]
-    pub(crate) fn end_sequence(&mut self, mark: Mark) -> Result<(), Stop> {
+    pub(crate) fn end_sequence(&mut self, mark: Mark) -> Result<(), Stop>
+        ensures { self.new.text.now ≡ self.old.text.now }
+    {
         match self.phase {
             Phase::Within(frame) if is_sequence(frame) => self.close(Event::SequenceEnd, mark),
             _ => Err(misplaced(mark)),
@@ -263,7 +309,9 @@ impl<'a> Stream<'a> {
 
     // The end of a mapping.
     #[tactic(auto, using(crate::proofs::Streams::closes_mapping))]
-    pub(crate) fn end_mapping(&mut self, mark: Mark) -> Result<(), Stop> {
+    pub(crate) fn end_mapping(&mut self, mark: Mark) -> Result<(), Stop>
+        ensures { self.new.text.now ≡ self.old.text.now }
+    {
         match self.phase {
             Phase::Within(frame) if is_key(frame) => self.close(Event::MappingEnd, mark),
             _ => Err(misplaced(mark)),
@@ -271,7 +319,9 @@ impl<'a> Stream<'a> {
     }
 
     // The innermost collection goes on to another frame, which waits for the same.
-    pub(crate) fn go(&mut self, next: Frame) {
+    pub(crate) fn go(&mut self, next: Frame)
+        ensures { self.new.text.now ≡ self.old.text.now }
+    {
         match self.phase {
             Phase::Within(frame) if is_same(frame, next) => {
                 self.phase = Phase::Within(next);

@@ -91,7 +91,7 @@ pub(crate) fn add_start(
 
 // The end of the innermost collection, if there is one, and of the document where no other is open.
 fn write_end(out: &mut EventBuffer, opened: &[Open]) -> Result<()>
-    ensures { Adds (λ events. events) (Ok (ending_in (reverse opened.now)))
+    ensures { Adds (λ events. events) (Ok (closing_events (reverse opened.now)))
         out.old out.new result }
 {
     let Some(innermost) = opened.last() else {
@@ -106,7 +106,7 @@ fn write_end(out: &mut EventBuffer, opened: &[Open]) -> Result<()>
 
 /// Adds the end of the innermost collection, if there is one, and of the document where no other is open.
 pub(crate) fn add_end(out: &mut EventBuffer, opened: &[Open]) -> Result<()>
-    ensures { AddsOrStays (λ events. events) (Ok (ending_in (reverse opened.now)))
+    ensures { AddsOrStays (λ events. events) (Ok (closing_events (reverse opened.now)))
         out.old out.new result }
 {
     let held = out.len();

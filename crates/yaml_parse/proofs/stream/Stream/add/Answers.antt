@@ -3,7 +3,7 @@ use Rattle.std.proofs.Common.{◌∷◌, ◌++◌, [], ◌∙◌, ap}
 use Rattle.yaml_base.specs.Position.{Position}
 use Rattle.yaml_base.specs.declared.event.Event.{Event}
 use Rattle.yaml_parse.specs.Frames.{state_of}
-use Rattle.yaml_parse.proofs.Streams.{goes_to}
+use Rattle.yaml_parse.proofs.Streams.{shown_to, goes_to}
 use Rattle.yaml_parse.proofs.stream.Stream.add.Goals as goal
 
 pub invariant_of-self-2 : goal.invariant_of-self-2
@@ -13,5 +13,8 @@ invariant_of-self-2 c =
     record {
       ran = goes_to old.events.items c.push_reserved.new.self.items x (state_of old.phase old.outer.items)
           (state_of c.args.phase old.outer.items)
-          (c.push_reserved.ensures.items ∙ ap (λ es. es ++ x ∷ []) c.reserve.ensures.items) old.ran c.requires;
+          (c.push_reserved.ensures.items ∙ ap (λ es. es ++ x ∷ []) c.reserve.ensures.items) old.ran c.requires.moves;
+      shown = shown_to old.text.now old.events.items c.push_reserved.new.self.items x
+          (c.push_reserved.ensures.items ∙ ap (λ es. es ++ x ∷ []) c.reserve.ensures.items) old.shown
+          c.requires.shown;
     }

@@ -5,7 +5,7 @@ use Rattle.yaml_base.specs.declared.event.Event.{Event}
 use Rattle.yaml_base.specs.StreamMachine.{within}
 use Rattle.yaml_parse.specs.declared.frame.Frame.{Frame}
 use Rattle.yaml_parse.specs.Frames.{opens, state_of}
-use Rattle.yaml_parse.proofs.Streams.{goes_to, left_none, left_open}
+use Rattle.yaml_parse.proofs.Streams.{shown_to, goes_to, left_none, left_open}
 use Rattle.yaml_parse.proofs.stream.Stream.close.Goals as goal
 
 pub invariant_of-self-in-Some : goal.invariant_of-self-in-Some
@@ -16,8 +16,11 @@ invariant_of-self-in-Some c =
     record {
       ran = goes_to old.events.items c.push_reserved.new.self.items x (state_of old.phase old.outer.items)
           (within (opens old.outer.items))
-          (c.push_reserved.ensures.items ∙ ap (λ es. es ++ x ∷ []) c.reserve.ensures.items) old.ran c.requires
+          (c.push_reserved.ensures.items ∙ ap (λ es. es ++ x ∷ []) c.reserve.ensures.items) old.ran c.requires.moves
           ∙ ap Some (left_open old.outer.items c.pop.new.self.items around c.in-Some.ensures.items);
+      shown = shown_to old.text.now old.events.items c.push_reserved.new.self.items x
+          (c.push_reserved.ensures.items ∙ ap (λ es. es ++ x ∷ []) c.reserve.ensures.items) old.shown
+          c.requires.shown;
     }
 
 pub invariant_of-self-in-None : goal.invariant_of-self-in-None
@@ -27,6 +30,9 @@ invariant_of-self-in-None c =
     record {
       ran = goes_to old.events.items c.push_reserved.new.self.items x (state_of old.phase old.outer.items)
           (within (opens old.outer.items))
-          (c.push_reserved.ensures.items ∙ ap (λ es. es ++ x ∷ []) c.reserve.ensures.items) old.ran c.requires
+          (c.push_reserved.ensures.items ∙ ap (λ es. es ++ x ∷ []) c.reserve.ensures.items) old.ran c.requires.moves
           ∙ ap Some (left_none old.outer.items (omega (arith, old.outer.ok, c.in-None.ensures.cases.0)));
+      shown = shown_to old.text.now old.events.items c.push_reserved.new.self.items x
+          (c.push_reserved.ensures.items ∙ ap (λ es. es ++ x ∷ []) c.reserve.ensures.items) old.shown
+          c.requires.shown;
     }

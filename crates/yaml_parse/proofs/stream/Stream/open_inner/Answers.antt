@@ -5,7 +5,7 @@ use Rattle.yaml_base.specs.declared.event.Event.{Event}
 use Rattle.yaml_base.specs.StreamMachine.{within}
 use Rattle.yaml_parse.specs.declared.frame.Frame.{Frame}
 use Rattle.yaml_parse.specs.Frames.{open_of, opens, state_of}
-use Rattle.yaml_parse.proofs.Streams.{goes_to, opened_more}
+use Rattle.yaml_parse.proofs.Streams.{shown_to, goes_to, opened_more}
 use Rattle.yaml_parse.proofs.stream.Stream.open_inner.Goals as goal
 
 pub invariant_of-self-2 : goal.invariant_of-self-2
@@ -16,7 +16,10 @@ invariant_of-self-2 c =
     record {
       ran = goes_to old.events.items c.push_reserved.new.self.items x (state_of old.phase old.outer.items)
           (within (open_of c.args.first ∷ open_of c.args.back ∷ opens old.outer.items))
-          (c.push_reserved.ensures.items ∙ ap (λ es. es ++ x ∷ []) c.reserve.ensures.items) old.ran c.requires
+          (c.push_reserved.ensures.items ∙ ap (λ es. es ++ x ∷ []) c.reserve.ensures.items) old.ran c.requires.moves
           ∙ ap Some (opened_more old.outer.items c.push_reserved-2.new.self.items c.args.first around
           (c.push_reserved-2.ensures.items ∙ ap (λ xs. xs ++ around ∷ []) c.reserve-2.ensures.items));
+      shown = shown_to old.text.now old.events.items c.push_reserved.new.self.items x
+          (c.push_reserved.ensures.items ∙ ap (λ es. es ++ x ∷ []) c.reserve.ensures.items) old.shown
+          c.requires.shown;
     }

@@ -4,7 +4,7 @@ use Rattle.yaml_base.specs.Position.{Position}
 use Rattle.yaml_base.specs.declared.event.Event.{Event}
 use Rattle.yaml_base.specs.StreamMachine.{within}
 use Rattle.yaml_parse.specs.Frames.{open_of, opens, state_of}
-use Rattle.yaml_parse.proofs.Streams.{goes_to}
+use Rattle.yaml_parse.proofs.Streams.{shown_to, goes_to}
 use Rattle.yaml_parse.proofs.stream.Stream.open_root.Goals as goal
 
 pub invariant_of-self-2 : goal.invariant_of-self-2
@@ -14,6 +14,9 @@ invariant_of-self-2 c =
     record {
       ran = goes_to old.events.items c.push_reserved.new.self.items x (state_of old.phase old.outer.items)
           (within (open_of c.args.first ∷ []))
-          (c.push_reserved.ensures.items ∙ ap (λ es. es ++ x ∷ []) c.reserve.ensures.items) old.ran c.requires
+          (c.push_reserved.ensures.items ∙ ap (λ es. es ++ x ∷ []) c.reserve.ensures.items) old.ran c.requires.moves
           ∙ ap (λ xs. Some (within (open_of c.args.first ∷ opens xs))) (sym c.clear.ensures.items);
+      shown = shown_to old.text.now old.events.items c.push_reserved.new.self.items x
+          (c.push_reserved.ensures.items ∙ ap (λ es. es ++ x ∷ []) c.reserve.ensures.items) old.shown
+          c.requires.shown;
     }

@@ -68,8 +68,8 @@ returns-in-None-error-clause-read c = λ fresh. rw c.into_error.ensures (λ faul
     (own_fault c.args.limits c.args.schema.now (shape_of c.args.shape.now) c.args.self.now c.in-Err.refusal seen)
     (refused c.args.limits c.args.schema.now (shape_of c.args.shape.now) c.args.self.now c.in-Err.refusal seen))
 
-pub returns-in-Some-clause-read : goal.returns-in-Some-clause-read
-returns-in-Some-clause-read c = λ fresh fault.
+pub returns-in-Ok-clause-read : goal.returns-in-Ok-clause-read
+returns-in-Ok-clause-read c = λ fresh fault.
     let cut = sym c.error.ensures.shown ∙ ap option_copied c.in-Some.is in
     let told = c.copied.ensures fault in
     cut_gives c.args.limits c.args.schema.now (shape_of c.args.shape.now) c.args.self.now c.copied.result
