@@ -4,6 +4,7 @@
 ghost use Rattle.std.specs.Prelude.{IfOk, is_some};
 ghost use Rattle.yaml_base.specs.MarkedEvents.{plain_events};
 ghost use Rattle.yaml_base.specs.Stream.{IsWellFormed};
+ghost use Rattle.yaml_parse.specs.Shown.{AreShown};
 
 use std::alloc::{AllocError, Global};
 pub use yaml_parse::Parsed;
@@ -18,6 +19,7 @@ use yaml_scan::{Scanned, scan};
 pub fn parse<'a>(alloc: Global, text: &'a [u8]) -> Result<Parsed<'a>, AllocError>
     ensures taken { IfOk result (λ parsed.
         IsWellFormed (is_some parsed.fault) (plain_events parsed.events.items)) }
+    ensures sources { IfOk result (λ parsed. AreShown text.now parsed.events.items) }
 {
     let Scanned {
         tokens,
