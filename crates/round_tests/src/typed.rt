@@ -12,6 +12,8 @@ use test_rows::lines::{BAD, events, fault};
 use test_rows::rows::stream_lines;
 use test_rows::sources::events_with_source;
 use yaml_base::emitter::EmitEvent;
+use yaml_round::again;
+use yaml_round::renderer::Quoted;
 
 // How many styles a scalar may come in, at most.
 const TURNS: usize = 5;
@@ -215,5 +217,19 @@ fn limits_are_handed_in(rt: HostRuntime) -> Result<(), Fail> {
     );
     let read: Vec<i64> = from_events_limited(alloc, events(alloc, lines)?, None, Limits::DEFAULT)?;
     assert!(rt; read.is_empty());
+    Ok(())
+}
+
+#[test]
+fn what_fits_comes_back_in_quotes(rt: HostRuntime) -> Result<(), Fail> {
+    let alloc = rt.alloc();
+    let optionals = vec![in alloc; Some(1i64), None]?;
+    assert!(rt; again::comes_back(alloc, &optionals, &mut Quoted, Limits::DEFAULT)?);
+    let mut texts = BTreeMap::new(alloc);
+    texts.insert(
+        String::from_str(alloc, "no")?,
+        String::from_str(alloc, "012")?,
+    )?;
+    assert!(rt; again::comes_back(alloc, &texts, &mut Quoted, Limits::DEFAULT)?);
     Ok(())
 }

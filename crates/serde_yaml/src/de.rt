@@ -165,6 +165,21 @@ impl<'de> Deserializer<'de> {
             → Answers data_of result (GivesMeaning limits schema.now s input fault) }
     {
         reading_gives_the_meaning();
+        self.read_within(alloc, schema, id, limits)
+    }
+
+    // The data of the stream, within limits.
+    fn read_within(
+        self,
+        alloc: Global,
+        schema: &Schema,
+        id: ShapeId,
+        limits: Limits,
+    ) -> Result<Data<'de>>
+        requires { id.0 < length schema.now }
+        ensures { (s : PlainShape) → shape_at schema.now id.0 ≡ Some s
+            → Answers data_of result (StreamGives limits schema.now s self.entry) }
+    {
         let Deserializer { source, iterated } = self;
         if iterated {
             discard(source);

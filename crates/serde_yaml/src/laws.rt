@@ -1,6 +1,6 @@
 //! What definitions come to, each the contract of a function that does nothing.
 
-ghost use Rattle.std.specs.Prelude.{◌≡◌, ◌≤◌, ◌+◌, ◌*◌, List, Option, Result, Bool, true, length, IsTrue};
+ghost use Rattle.std.specs.Prelude.{◌≡◌, ◌≤◌, ◌+◌, ◌*◌, List, Option, Result, Bool, length, IsTrue};
 ghost use Rattle.yaml_base.specs.Borrowable.{is_borrowable};
 ghost use Rattle.yaml_base.specs.PlainEvent.{PlainScalar};
 ghost use Rattle.yaml_base.specs.PlainFault.{PlainFault};

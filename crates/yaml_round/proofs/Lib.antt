@@ -13,6 +13,7 @@ pub mod ListsReturn
 pub mod LocalNames
 pub mod Outcomes
 pub mod PartsReturn
+pub mod RenderLaws
 pub mod RenderedScalars
 pub mod RenderedTrees
 pub mod SameOrders

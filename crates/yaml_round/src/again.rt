@@ -1,29 +1,16 @@
 //! A value that is written, comes back from a parser, and is read.
 
-ghost use Rattle.std.specs.Prelude.{◌≡◌, ◌≤◌, map, length, true, Ok, IfOk, IfErr, IsTrue};
-ghost use Rattle.yaml_base.specs.Answer.{Answers, is_memory};
-ghost use Rattle.yaml_base.specs.EmitEvents.{emit_of};
-ghost use Rattle.yaml_base.specs.MarkedEvents.{events_in, plain_marked};
-ghost use Rattle.yaml_base.specs.Renders.{Renders};
+ghost use Rattle.std.specs.Prelude.{◌≡◌, ◌≤◌, length, true, Ok};
+ghost use Rattle.yaml_base.specs.Answer.{Answers};
 ghost use Rattle.yaml_round.specs.Fits.{Fits};
 
 use crate::laws::a_written_value_reads_back;
+use crate::renderer::Renderer;
 use serde_yaml::{from_events_limited, to_events};
 use std::alloc::Global;
-use yaml_base::emitter::EmitEvent;
-use yaml_base::{Event, Mark, Result};
+use yaml_base::Result;
 use yaml_read::Limits;
 use yaml_types::RoundTrip;
-
-/// What stands between a writer and a reader: an emitter, and a parser of the text that it makes.
-pub trait Renderer<'de> {
-    /// What the parser says of the written events: the same structure, tags and texts, each scalar in a style that is
-    /// permitted, with any marks and any slices of the source. Refused only where memory runs out.
-    fn render(&mut self, alloc: Global, events: &[EmitEvent]) -> Result<Vec<(Event<'de>, Mark)>>
-        ensures rendered { IfOk result (λ found.
-            Renders (map emit_of events.now) (events_in (plain_marked found.items))) }
-        ensures refused { IfErr result (λ fault. IsTrue (is_memory fault)) };
-}
 
 /// Whether what is read within the limits is equal to the value that was written. Memory aside it is, for each value
 /// that fits, of a type whose table has at most 4,096 shapes, whatever stands between.

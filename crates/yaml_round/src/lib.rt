@@ -4,3 +4,4 @@
 pub mod again;
 pub mod held;
 pub mod laws;
+pub mod renderer;
