@@ -1,5 +1,5 @@
 -- What is answered of the events that a parser makes of a text is answered of the text.
-use Rattle.std.proofs.Common.{◌≡◌, List, Option, Result, Ok, Err, Bool, true, false, refl, subst, sym, is_some, IfErr, ⊥, absurd}
+use Rattle.std.proofs.Common.{◌≡◌, List, Option, Result, Ok, Err, Bool, true, false, refl, subst, sym, is_some, IfErr}
 use Rattle.yaml_base.specs.Answer.{Answers, is_memory}
 use Rattle.yaml_base.specs.MarkedEvents.{events_in, plain_events, plain_marked}
 use Rattle.yaml_base.specs.PlainFault.{PlainFault}

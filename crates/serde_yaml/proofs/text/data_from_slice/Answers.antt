@@ -8,5 +8,5 @@ use Rattle.serde_yaml.proofs.text.data_from_slice.Goals as goal
 pub returns-clause-meaning : goal.returns-clause-meaning
 returns-clause-meaning c = λ s at.
     answered data_of c.data_from_events.result (GivesMeaning c.args.limits c.args.schema.now s)
-    (plain_marked c.in_ok-events.events.items) c.in_ok-events.fault c.in_ok-events.ensures.taken
+    (plain_marked c.in_ok-events.field-0.events.items) c.in_ok-events.field-0.fault c.in_ok-events.ensures.taken
     (c.data_from_events.ensures.meaning s at)
