@@ -2,4 +2,5 @@
 pub mod FirstDocument
 pub mod KindLaws
 pub mod HeadlineLaws
+pub mod TextLaws
 pub mod TypedLaws

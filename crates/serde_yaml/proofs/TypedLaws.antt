@@ -72,7 +72,7 @@ given_has law meaning limits table id input fault given v within gives h =
     read_has law limits table id s input v at means.1
 
 -- the events of marked events are those events
-same_events : (events : List (Event × Position)) → plain_events events ≡ events_in (plain_marked events)
+pub same_events : (events : List (Event × Position)) → plain_events events ≡ events_in (plain_marked events)
 same_events [] = refl
 same_events (e ∷ events) = ap (λ es. event_of e.0 ∷ es) (same_events events)
 

@@ -4,6 +4,7 @@ pub mod Headline
 pub mod PlainStream
 pub mod StreamReads
 pub mod StreamView
+pub mod TextReads
 pub mod TypedHeadline
 pub mod TypedReads
 pub mod TypedWrites

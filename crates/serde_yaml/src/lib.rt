@@ -4,11 +4,13 @@
 mod de;
 pub mod laws;
 mod ser;
+mod text;
 mod type_faults;
 pub mod value;
 
 pub use de::{Deserializer, data_from_events, from_events, from_events_limited};
 pub use ser::to_events;
+pub use text::{data_from_slice, data_from_str, from_slice, from_slice_limited, from_str};
 pub use yaml_base::{
     Anchor, Cause, EntryKey, Error, Event, FaultKind, Found, Location, MappingStart, Mark,
     ParserFault, Path, Place, Result, Scalar, ScalarStyle, SequenceStart, Tag, WordList, Words,

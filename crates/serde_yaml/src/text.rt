@@ -1,0 +1,127 @@
+//! Reading YAML text.
+
+ghost use Rattle.std.specs.Prelude.{◌≡◌, ◌<◌, length, Some, IfOk, IfErr, is_some, true};
+ghost use Rattle.yaml_base.specs.Answer.{Answers, is_memory};
+ghost use Rattle.yaml_base.specs.MarkedEvents.{events_in, plain_marked};
+ghost use Rattle.yaml_base.specs.Stream.{IsWellFormed};
+ghost use Rattle.yaml_shape.specs.DataView.{data_of};
+ghost use Rattle.yaml_shape.specs.HasShape.{HasShape};
+ghost use Rattle.yaml_shape.specs.PlainShape.{PlainShape, shape_at};
+ghost use Rattle.yaml_read.specs.TreeReader.{default_limits};
+ghost use Rattle.serde_yaml.specs.Headline.{GivesMeaning};
+ghost use Rattle.serde_yaml.specs.StreamReads.{stream_of};
+ghost use Rattle.serde_yaml.specs.TextReads.{IsParsed};
+ghost use Rattle.serde_yaml.specs.TypedHeadline.{GivesValue};
+ghost use Rattle.serde_yaml.specs.TypedReads.{TypeGives};
+
+use crate::de::{Deserializer, data_from_events, from_events_limited};
+use std::alloc::Global;
+use yaml_base::{Cause, Error, Result};
+use yaml_read::Limits;
+use yaml_shape::{Data, Schema, ShapeId};
+use yaml_text::{Parsed, parse};
+use yaml_types::Deserialize;
+
+// The events of a text, and the parser's fault. The only error is want of memory.
+fn parsed<'de>(alloc: Global, text: &'de [u8]) -> Result<Parsed<'de>>
+    ensures taken { IfOk result (λ parsed.
+        IsWellFormed (is_some parsed.fault) (events_in (plain_marked parsed.events.items))) }
+    ensures memory { IfErr result (λ cause. is_memory cause ≡ true) }
+{
+    match parse(alloc, text) {
+        Ok(parsed) => Ok(parsed),
+        Err(_) => Err(Error::new(Cause::Memory)),
+    }
+}
+
+/// The one document of a YAML text as a value of the type, within 128 nestings and 100 follows for each event. The
+/// value may borrow from the text.
+///
+/// It is the text's events, as libyaml's parser makes them, and then `from_events`. A text that can't be parsed is
+/// refused by the parser's fault, unless what stands before it is refused earlier.
+pub fn from_str<'de, T: Deserialize<'de>>(alloc: Global, text: &'de str) -> Result<T>
+    ensures { Answers (λ value. value) result (λ given. IsParsed (λ events fault.
+        GivesValue default_limits T.start T.built T.refused events fault given
+        × TypeGives default_limits T.start T.built T.refused events fault given)) }
+{
+    from_slice(alloc, text.as_bytes())
+}
+
+/// The same of bytes, which are refused with the place of the first one that UTF-8 or YAML does not allow.
+pub fn from_slice<'de, T: Deserialize<'de>>(alloc: Global, text: &'de [u8]) -> Result<T>
+    ensures { Answers (λ value. value) result (λ given. IsParsed (λ events fault.
+        GivesValue default_limits T.start T.built T.refused events fault given
+        × TypeGives default_limits T.start T.built T.refused events fault given)) }
+{
+    from_slice_limited(alloc, text, Limits::DEFAULT)
+}
+
+/// The same within other limits.
+pub fn from_slice_limited<'de, T: Deserialize<'de>>(
+    alloc: Global,
+    text: &'de [u8],
+    limits: Limits,
+) -> Result<T>
+    ensures { Answers (λ value. value) result (λ given. IsParsed (λ events fault.
+        GivesValue limits T.start T.built T.refused events fault given
+        × TypeGives limits T.start T.built T.refused events fault given)) }
+{
+    let Parsed { events, fault, .. } = parsed(alloc, text)?;
+    from_events_limited(alloc, events, fault, limits)
+}
+
+/// The data of the one document of a YAML text under the shape with this number, within limits. Texts are borrowed from
+/// the text where it shows them. `Schema::has` is the test of what is asked.
+///
+/// It is the text's events, as libyaml's parser makes them, and then `data_from_events`, with the faults of both.
+pub fn data_from_str<'de>(
+    alloc: Global,
+    text: &'de str,
+    schema: &Schema,
+    id: ShapeId,
+    limits: Limits,
+) -> Result<Data<'de>>
+    requires { id.0 < length schema.now }
+    ensures meaning { (s : PlainShape) → shape_at schema.now id.0 ≡ Some s → Answers data_of result (λ given.
+        IsParsed (λ events fault. GivesMeaning limits schema.now s events fault given)) }
+    ensures typed { IfOk result (λ found. HasShape schema.now id.0 (data_of found)) }
+{
+    data_from_slice(alloc, text.as_bytes(), schema, id, limits)
+}
+
+/// The same of bytes.
+pub fn data_from_slice<'de>(
+    alloc: Global,
+    text: &'de [u8],
+    schema: &Schema,
+    id: ShapeId,
+    limits: Limits,
+) -> Result<Data<'de>>
+    requires { id.0 < length schema.now }
+    ensures meaning { (s : PlainShape) → shape_at schema.now id.0 ≡ Some s → Answers data_of result (λ given.
+        IsParsed (λ events fault. GivesMeaning limits schema.now s events fault given)) }
+    ensures typed { IfOk result (λ found. HasShape schema.now id.0 (data_of found)) }
+{
+    let Parsed { events, fault, .. } = parsed(alloc, text)?;
+    data_from_events(alloc, events, fault, schema, id, limits)
+}
+
+impl<'de> Deserializer<'de> {
+    /// Takes a YAML text, whose documents may borrow from it. What can't be parsed is the fault of the document that it
+    /// stands in, and comes when that document is read. The only error is want of memory.
+    pub fn from_str(alloc: Global, text: &'de str) -> Result<Deserializer<'de>>
+        ensures documents { IfOk result (λ stream. IsParsed (λ events fault. stream ≡ stream_of events fault)) }
+        ensures memory { IfErr result (λ cause. is_memory cause ≡ true) }
+    {
+        Deserializer::from_slice(alloc, text.as_bytes())
+    }
+
+    /// The same of bytes.
+    pub fn from_slice(alloc: Global, text: &'de [u8]) -> Result<Deserializer<'de>>
+        ensures documents { IfOk result (λ stream. IsParsed (λ events fault. stream ≡ stream_of events fault)) }
+        ensures memory { IfErr result (λ cause. is_memory cause ≡ true) }
+    {
+        let Parsed { events, fault, .. } = parsed(alloc, text)?;
+        Deserializer::from_events(alloc, events, fault)
+    }
+}

@@ -1,0 +1,36 @@
+//! YAML text to the events of the layer above, as libyaml's parser makes them.
+#![tactic(auto)]
+
+ghost use Rattle.std.specs.Prelude.{IfOk, is_some};
+ghost use Rattle.yaml_base.specs.MarkedEvents.{plain_events};
+ghost use Rattle.yaml_base.specs.Stream.{IsWellFormed};
+ghost use Rattle.yaml_parse.specs.Shown.{AreShown};
+
+use std::alloc::{AllocError, Global};
+pub use yaml_parse::Parsed;
+use yaml_parse::{parse_tokens, unread};
+use yaml_scan::{Scanned, scan};
+
+/// The events of a text, each with its mark, and the parser's fault if it met one. The events borrow from the text: a
+/// scalar's slice is the part of the text that it was read from.
+///
+/// The text is read to its end or to its first fault. A text whose bytes are not all allowed, by the rules of UTF-8 or
+/// of YAML's characters, has no events, and the fault tells where. The only error is want of memory.
+pub fn parse<'a>(alloc: Global, text: &'a [u8]) -> Result<Parsed<'a>, AllocError>
+    ensures taken { IfOk result (λ parsed.
+        IsWellFormed (is_some parsed.fault) (plain_events parsed.events.items)) }
+    ensures sources { IfOk result (λ parsed. AreShown text.now parsed.events.items) }
+{
+    let Scanned {
+        tokens,
+        fault,
+        started,
+    } = scan(alloc, text)?;
+    if started {
+        return parse_tokens(alloc, text, tokens, fault);
+    }
+    match fault {
+        Some(fault) => unread(alloc, fault),
+        None => parse_tokens(alloc, text, tokens, None),
+    }
+}
