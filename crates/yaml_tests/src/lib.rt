@@ -15,3 +15,5 @@ mod readme;
 mod shape;
 #[cfg(test)]
 mod stream;
+#[cfg(test)]
+mod text;
