@@ -175,15 +175,15 @@ answered_as known P Q (Ok a) f h = (h.0, h.1, h.2, h.3, f _ _ _ h.4)
 answered_as known P Q (Err e) f h = h
 
 -- what a run prints that concludes a reply
-pub concluded : {E Same : Type 0} (known old new : Option (List ℕ)) (P : List ℕ → Status → List ℕ → Type 0)
+pub concluded : {E : Type 0} (Same : Type 0) (known old new : Option (List ℕ)) (P : List ℕ → Status → List ℕ → Type 0)
     (r : Result Answer E) (result : Status)
     → IfOk r (Answered known P) → IfOk r (λ a. Prints old new (line_of a) (status_of a) result)
     → IfErr r (λ e. (result ≡ status.ReadFailed) × Same) → result ≢ status.ReadFailed
     → (text : List ℕ) × (input : List ℕ) × (ended : Status) × IfSome known (λ bytes. input ≡ bytes)
     × P input ended text × Prints old new (text ++ 10 ∷ []) ended result
-concluded known old new P (Ok a) result h prints err read =
+concluded Same known old new P (Ok a) result h prints err read =
     (h.0, h.1, status_of a, h.3, h.4, subst (λ l. Prints old new l (status_of a) result) h.2 prints)
-concluded known old new P (Err e) result h prints err read = absurd (read err.0)
+concluded Same known old new P (Err e) result h prints err read = absurd (read err.0)
 
 -- a line that was printed, in whole or in part, ends no run as a failed read
 printed-read : (old new : Option (List ℕ)) (line : List ℕ) (ended result : Status) → Prints old new line ended result

@@ -4,5 +4,5 @@ use Rattle.std.proofs.Common.{◌≡◌, ◌++◌, List, ℕ}
 use Rattle.yaml_case.proofs.print.write_bytes.Given as goal
 
 abbrev pub invariant-loop : goal.invariant-loop
-invariant-loop g l = (front : List ℕ) × (l.bytes.now ≡ front ++ l.rest.now)
+invariant-loop g l = (front : List ℕ) × (l.bytes ≡ front ++ l.rest)
     × Appends (g.W.Write.contents l.initial.writer) (g.W.Write.contents l.writer) front
