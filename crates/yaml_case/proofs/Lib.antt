@@ -1,5 +1,4 @@
 -- Lemmas of this crate.
-pub mod PrintLaws
 pub mod Readings
 pub mod RunLaws
 pub mod ShapeLaws

@@ -16,7 +16,6 @@ use Rattle.yaml_case.specs.Answers.IsReply.{bad_line, found, refused, out_of_mem
 use Rattle.yaml_case.specs.Answers.IsAnswer.{bad_argument, reply}
 use Rattle.yaml_case.specs.Answers.IsAnswerTo.{bad_arguments, asked}
 use Rattle.yaml_case.specs.Printed.{line_of, status_of, Prints}
-use Rattle.yaml_case.specs.Printed.Prints.{whole, failed}
 use Rattle.yaml_case.specs.declared.answer.Answer.{Answer}
 use Rattle.yaml_case.specs.Arguments.{WriteLimits, AskForNothing}
 use Rattle.yaml_case.specs.Arguments.Ask.{shape_alone, shape_within}
@@ -185,11 +184,11 @@ concluded Same known old new P (Ok a) result h prints err read =
     (h.0, h.1, status_of a, h.3, h.4, subst (λ l. Prints old new l (status_of a) result) h.2 prints)
 concluded Same known old new P (Err e) result h prints err read = absurd (read err.0)
 
--- a line that was printed, in whole or in part, ends no run as a failed read
+-- a line that was printed ends no run as a failed read
 printed-read : (old new : Option (List ℕ)) (line : List ℕ) (ended result : Status) → Prints old new line ended result
     → ended ≢ status.ReadFailed → result ≢ status.ReadFailed
-printed-read old new line ended result (whole e w) read = λ f. read (sym e ∙ f)
-printed-read old new line ended result (failed front rest e l w) read = λ f. let same = sym e ∙ f in absurd cc
+printed-read old new line ended result p apart = λ f.
+    apart (sym (p (λ w. let same = sym f ∙ w in absurd cc)).0 ∙ f)
 
 -- where the run ends as a failed read, there is no reply
 pub concluded-unread : {E Same : Type 0} (known old new : Option (List ℕ)) (P : List ℕ → Status → List ℕ → Type 0)
