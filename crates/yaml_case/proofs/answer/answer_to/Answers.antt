@@ -1,7 +1,7 @@
 -- Where memory runs out, that is told.
 use Rattle.std.specs.Prelude.{codes, IfOk, Result, Ok, Err}
 use Rattle.std.proofs.Common.{◌≡◌, ℕ, List, [], ◌∷◌, ◌++◌, refl}
-use Rattle.core.specs.Result.{result_unwrap_or}
+use Rattle.std.specs.Result.{result_unwrap_or}
 use Rattle.yaml_case.specs.Answers.{IsReply}
 use Rattle.yaml_case.specs.Answers.IsReply.{out_of_memory}
 use Rattle.yaml_case.specs.Printed.{line_of, status_of}
