@@ -16,7 +16,6 @@ use Rattle.yaml_case.specs.Answers.IsReply.{bad_line, found, refused, out_of_mem
 use Rattle.yaml_case.specs.Answers.IsAnswer.{bad_argument, reply}
 use Rattle.yaml_case.specs.Answers.IsAnswerTo.{bad_arguments, asked}
 use Rattle.yaml_case.specs.Printed.{line_of, status_of, Prints}
-use Rattle.yaml_case.specs.Printed.Prints.{whole, failed}
 use Rattle.yaml_case.specs.declared.answer.Answer.{Answer}
 use Rattle.yaml_case.specs.Arguments.{WriteLimits, AskForNothing}
 use Rattle.yaml_case.specs.Arguments.Ask.{shape_alone, shape_within}
@@ -175,21 +174,21 @@ answered_as known P Q (Ok a) f h = (h.0, h.1, h.2, h.3, f _ _ _ h.4)
 answered_as known P Q (Err e) f h = h
 
 -- what a run prints that concludes a reply
-pub concluded : {E Same : Type 0} (known old new : Option (List ℕ)) (P : List ℕ → Status → List ℕ → Type 0)
+pub concluded : {E : Type 0} (Same : Type 0) (known old new : Option (List ℕ)) (P : List ℕ → Status → List ℕ → Type 0)
     (r : Result Answer E) (result : Status)
     → IfOk r (Answered known P) → IfOk r (λ a. Prints old new (line_of a) (status_of a) result)
     → IfErr r (λ e. (result ≡ status.ReadFailed) × Same) → result ≢ status.ReadFailed
     → (text : List ℕ) × (input : List ℕ) × (ended : Status) × IfSome known (λ bytes. input ≡ bytes)
     × P input ended text × Prints old new (text ++ 10 ∷ []) ended result
-concluded known old new P (Ok a) result h prints err read =
+concluded Same known old new P (Ok a) result h prints err read =
     (h.0, h.1, status_of a, h.3, h.4, subst (λ l. Prints old new l (status_of a) result) h.2 prints)
-concluded known old new P (Err e) result h prints err read = absurd (read err.0)
+concluded Same known old new P (Err e) result h prints err read = absurd (read err.0)
 
--- a line that was printed, in whole or in part, ends no run as a failed read
+-- a line that was printed ends no run as a failed read
 printed-read : (old new : Option (List ℕ)) (line : List ℕ) (ended result : Status) → Prints old new line ended result
     → ended ≢ status.ReadFailed → result ≢ status.ReadFailed
-printed-read old new line ended result (whole e w) read = λ f. read (sym e ∙ f)
-printed-read old new line ended result (failed front rest e l w) read = λ f. let same = sym e ∙ f in absurd cc
+printed-read old new line ended result p apart = λ f.
+    apart (sym (p (λ w. let same = sym f ∙ w in absurd cc)).0 ∙ f)
 
 -- where the run ends as a failed read, there is no reply
 pub concluded-unread : {E Same : Type 0} (known old new : Option (List ℕ)) (P : List ℕ → Status → List ℕ → Type 0)

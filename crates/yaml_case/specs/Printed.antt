@@ -1,5 +1,5 @@
 -- What an answer prints, and how a run that prints it ends.
-use Rattle.std.specs.Prelude.{ℕ, ◌≡◌, List, ◌++◌, codes, Option, string_bytes}
+use Rattle.std.specs.Prelude.{ℕ, ◌≡◌, ◌≢◌, List, codes, Option, string_bytes}
 use Rattle.std.specs.Io.KnownBytes.{Appends}
 use Rattle.yaml_case.specs.declared.answer.Answer.{Answer}
 use Rattle.yaml_case.specs.declared.answer.Answer.TheVariants.{Made, OutOfMemory, BadArgument}
@@ -18,9 +18,7 @@ status_of (Made ended line) = ended
 status_of OutOfMemory = status.Fault
 status_of BadArgument = status.Refused
 
--- A run that prints a line writes all of it and ends with the status of the line; or the writer fails, and a beginning
--- of the line is all that was written. What the writer holds is told where it is known.
-pub data Prints (old new : Option (List ℕ)) (line : List ℕ) (ended result : Status) : Type 0 where
-  whole : result ≡ ended → Appends old new line → Prints old new line ended result
-  failed : (front rest : List ℕ) → result ≡ status.WriteFailed → line ≡ front ++ rest → Appends old new front
-      → Prints old new line ended result
+-- a run that prints a line writes it and ends with its status, unless the writer fails; what the writer holds is told
+-- where it is known
+abbrev pub Prints : (old new : Option (List ℕ)) → (line : List ℕ) → (ended result : Status) → Type 0
+Prints old new line ended result = result ≢ status.WriteFailed → (result ≡ ended) × Appends old new line

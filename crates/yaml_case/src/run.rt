@@ -25,8 +25,7 @@ use std::io::{self, ErrorKind, Read, Write};
 ///
 /// The argument is looked at first, and all of the input is read before any line is looked at.
 pub fn run<R: Read, W: Write>(alloc: Global, name: &str, reader: &mut R, writer: &mut W) -> Status
-    // Unless the reader failed, the answer to the input is printed: all that is written, even by a writer that fails,
-    // is its line or a beginning of it.
+    // Unless the reader failed, the answer to the input is printed.
     ensures prints { result ≢ Status.ReadFailed
         → (text : List ℕ) × (input : List ℕ) × (ended : PlainStatus)
         × IfSome (R.remaining reader.old) (λ bytes. input ≡ bytes)

@@ -5,7 +5,7 @@ use Rattle.yaml_case.proofs.run.run_limited.Goals as goal
 
 pub returns-clause-prints : goal.returns-clause-prints
 returns-clause-prints g c =
-    concluded (g.R.Read.remaining c.args.reader.now) (g.W.Write.contents c.args.writer.now)
+    concluded _ (g.R.Read.remaining c.args.reader.now) (g.W.Write.contents c.args.writer.now)
     (g.W.Write.contents c.conclude.new.writer) (IsAnswer c.args.name.now c.args.limits) c.reply.result c.conclude.result
     c.reply.ensures.answers c.conclude.ensures.printed c.conclude.ensures.unread
 

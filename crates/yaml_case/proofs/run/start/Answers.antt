@@ -6,7 +6,7 @@ use Rattle.yaml_case.proofs.run.start.Goals as goal
 
 pub returns-clause-prints : goal.returns-clause-prints
 returns-clause-prints g c =
-    concluded (g.R.Read.remaining c.args.reader.now) (g.W.Write.contents c.args.writer.now)
+    concluded _ (g.R.Read.remaining c.args.reader.now) (g.W.Write.contents c.args.writer.now)
     (g.W.Write.contents c.conclude.new.writer) (IsAnswerTo (map string_bytes c.args.arguments.now)) c.reply_to.result
     c.conclude.result c.reply_to.ensures.answers c.conclude.ensures.printed c.conclude.ensures.unread
 
