@@ -6,3 +6,5 @@ pub mod Hashes
 pub mod Chains
 pub mod Indexed
 pub mod Callers
+pub mod Escapes
+pub mod Shown

@@ -7,11 +7,17 @@ pub mod Hash
 pub mod TakeOut
 pub mod EqualLaws
 pub mod Mapping
+pub mod Access
+pub mod FaultText
+pub mod Quoted
+pub mod Listed
+pub mod TreeText
 pub mod Code
 pub mod Valid
 pub mod TagView
 pub mod View
 pub mod Entries
+pub mod EntryText
 pub mod Index
 pub mod Lookup
 pub mod Falls

@@ -8,11 +8,12 @@ ghost use Rattle.std.specs.Prelude.{slice_index_or, slice_set};
 ghost use Rattle.yaml_tree.specs.Entries.{with_earlier, with_last};
 ghost use Rattle.yaml_tree.specs.Hash.{hash_of};
 ghost use Rattle.yaml_tree.specs.Index.{IsChained, IsIndexed, IsIndexedTo, chain_count};
+ghost use Rattle.yaml_tree.specs.Tree.{string};
 ghost use Rattle.yaml_tree.specs.View.{entry_pairs, tree_of};
 
 use crate::mapping::Entry;
 use crate::value::Value;
-use crate::value::hash::hash_value;
+use crate::value::hash::{hash_text, hash_value};
 
 // So few entries are gone over one by one.
 const FEW: usize = 16;
@@ -37,6 +38,15 @@ pub(crate) fn chain_of(key: &Value, chains: usize) -> usize
     ensures within { result < chains }
 {
     (hash_value(key) % chains as u64) as usize
+}
+
+// The chain of the key of a text, among so many.
+pub(crate) fn chain_of_text(text: &str, chains: usize) -> usize
+    requires { 0 < chains }
+    ensures value { result ≡ hash_of (string text.now) % chains }
+    ensures within { result < chains }
+{
+    (hash_text(text.as_bytes()) % chains as u64) as usize
 }
 
 // Puts the last entry into the index of those before it.

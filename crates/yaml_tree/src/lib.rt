@@ -3,15 +3,19 @@
 
 mod fault;
 mod index;
+mod look_up;
 mod mapping;
 mod number;
+mod quoted;
 mod sequence;
 mod tag;
 mod value;
 
 pub use fault::TreeFault;
-pub use mapping::{Iter, Mapping};
+pub use look_up::{Index, MappingIndex};
+pub use mapping::{IntoIter, Iter, Mapping};
 pub use number::Number;
+pub use quoted::{Quoted, QuotedBytes, hex_digit};
 pub use sequence::Sequence;
 pub use tag::Tag;
 pub use value::{TaggedValue, Value};

@@ -1,4 +1,6 @@
 //! Mappings of values to values.
+mod into_iter;
+
 ghost use Rattle.std.specs.Prelude.{◌≡◌, ◌<◌, ◌++◌, ◌∷◌, [], None, length, true};
 ghost use Rattle.std.specs.Prelude.{option_map, slice_index_or, slice_set};
 ghost use Rattle.std.specs.Prelude.{IfErr, IfOk, OnErr, OnOk};
@@ -9,8 +11,11 @@ ghost use Rattle.yaml_tree.specs.View.{entry_pairs, tree_of};
 
 use crate::fault::TreeFault;
 use crate::index::index_last;
+use crate::look_up::MappingIndex;
 use crate::value::Value;
 use crate::value::equal::find;
+use crate::value::text::find_text;
+pub use into_iter::IntoIter;
 use std::alloc::Global;
 use std::marker::Model;
 use std::mem;
@@ -68,7 +73,7 @@ impl Mapping {
     ghost use Rattle.std.specs.Prelude.{◌≡◌, ◌↔◌, None, option_map};
     ghost use Rattle.std.specs.Prelude.{IfErr, IfOk, IsTrue, OnErr, OnOk};
     ghost use Rattle.yaml_tree.specs.Mapping.{value_at, with_pair};
-    ghost use Rattle.yaml_tree.specs.Tree.{no_pairs, pair_count, pair_list};
+    ghost use Rattle.yaml_tree.specs.Tree.{no_pairs, pair_count, pair_list, string};
     ghost use Rattle.yaml_tree.specs.Valid.{pairs_of};
     ghost use Rattle.yaml_tree.specs.View.{tree_of};
 
@@ -95,8 +100,30 @@ impl Mapping {
         self.len() == 0
     }
 
-    /// The value at a key.
-    pub fn get(&self, key: &Value) -> Option<&Value>
+    /// The value at a key, which is a `&Value`, or a `&str` or `&String` for the string of that text. Takes no memory.
+    pub fn get<I: MappingIndex>(&self, index: I) -> Option<&Value>
+    where
+        I: Drop,
+        ensures { option_map (λ v. tree_of v.now) result
+            ≡ value_at (I.MappingIndex.key index) (pairs_of self.now) }
+    {
+        index.index_into(self)
+    }
+
+    // The value at the key of a text.
+    pub(crate) fn value_of_text(&self, text: &str) -> Option<&Value>
+        ensures { option_map (λ v. tree_of v.now) result
+            ≡ value_at (string text.now) (pairs_of self.now) }
+    {
+        let entries = self.entries.as_slice();
+        match find_text(text, entries) {
+            Some(i) => Some(&entries[i].value),
+            None => None,
+        }
+    }
+
+    // The value at a key.
+    pub(crate) fn value_of(&self, key: &Value) -> Option<&Value>
         ensures { option_map (λ v. tree_of v.now) result
             ≡ value_at (tree_of key.now) (pairs_of self.now) }
     {

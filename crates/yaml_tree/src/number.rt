@@ -97,6 +97,18 @@ impl Eq for Number {
     ghost laws = { on_equiv number_of int_eq_equiv };
 }
 
+impl fmt::Debug for Number {
+    ghost use Rattle.std.specs.Prelude.{Some};
+    ghost use Rattle.std.specs.Fmt.{signed_decimal};
+    ghost use Rattle.yaml_tree.specs.Number.{number_of};
+
+    ghost debug_output = { λ x. Some (signed_decimal (number_of x)) };
+
+    fn fmt<W: fmt::Write>(&self, f: &mut fmt::Formatter<W>) -> fmt::Result {
+        write!(f, "{self}")
+    }
+}
+
 impl fmt::Display for Number {
     ghost use Rattle.std.specs.Prelude.{Some};
     ghost use Rattle.std.specs.Fmt.{signed_decimal};

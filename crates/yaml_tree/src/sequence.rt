@@ -4,7 +4,7 @@ ghost use Rattle.std.specs.Prelude.{◌≡◌, ◌++◌, ◌∷◌, [], IfErr, O
 use crate::fault::TreeFault;
 use crate::value::Value;
 use std::marker::Model;
-use std::slice;
+use std::{slice, vec};
 
 /// Values in order.
 #[cycle(value)]
@@ -119,5 +119,43 @@ fn add(items: &mut Vec<Value>, value: Value) -> Result<(), TreeFault>
     match items.push(value) {
         Ok(()) => Ok(()),
         Err(_) => Err(TreeFault::Memory),
+    }
+}
+
+impl IntoIterator for Sequence {
+    type Item = Value;
+
+    type IntoIter = vec::IntoIter<Value>;
+
+    ghost use Rattle.std.specs.Prelude.{◌≡◌};
+    ghost use Rattle.std.specs.Vec.Iter.{into_iter_items};
+    ghost use Rattle.yaml_tree.specs.Valid.{items_of};
+    ghost use Rattle.yaml_tree.specs.View.{trees_of};
+
+    ghost into_iter_gives = { λ sequence items.
+        trees_of (into_iter_items items) ≡ items_of sequence };
+
+    /// The values in order, handed out. Takes no memory.
+    fn into_iter(self) -> vec::IntoIter<Value> {
+        self.items.into_iter()
+    }
+}
+
+impl<'a> IntoIterator for &'a Sequence {
+    type Item = &'a Value;
+
+    type IntoIter = slice::Iter<'a, Value>;
+
+    ghost use Rattle.std.specs.Prelude.{◌≡◌};
+    ghost use Rattle.std.specs.Slice.Iter.{iter_rest};
+    ghost use Rattle.yaml_tree.specs.Valid.{items_of};
+    ghost use Rattle.yaml_tree.specs.View.{trees_of};
+
+    ghost into_iter_gives = { λ sequence items.
+        trees_of (iter_rest items) ≡ items_of sequence.now };
+
+    /// The values in order, as `iter` gives them.
+    fn into_iter(self) -> slice::Iter<'a, Value> {
+        self.iter()
     }
 }

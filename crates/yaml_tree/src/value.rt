@@ -1,7 +1,10 @@
 //! Values of a document.
+mod access;
 mod copy;
 pub(crate) mod equal;
 pub(crate) mod hash;
+mod print;
+pub(crate) mod text;
 
 use crate::mapping::Mapping;
 use crate::number::Number;

@@ -36,7 +36,8 @@ fn hash_tagged(tagged: &TaggedValue) -> u64
     hasher.finish()
 }
 
-fn hash_text(text: &[u8]) -> u64
+/// The hash of the key of a text.
+pub(crate) fn hash_text(text: &[u8]) -> u64
     ensures { result ≡ text_hash text.now }
 {
     let mut hasher = FoldHasher::default();

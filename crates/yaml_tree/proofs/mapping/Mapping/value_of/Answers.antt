@@ -4,7 +4,7 @@ use Rattle.yaml_tree.specs.Mapping.{value_at}
 use Rattle.yaml_tree.specs.View.{tree_of, entry_pairs}
 use Rattle.yaml_tree.proofs.Lookups.{holds_at_found}
 use Rattle.yaml_tree.proofs.Views.{pairs_of-view}
-use Rattle.yaml_tree.proofs.mapping.Mapping.get.Goals as goal
+use Rattle.yaml_tree.proofs.mapping.Mapping.value_of.Goals as goal
 
 pub returns-in-Some : goal.returns-in-Some
 returns-in-Some c =
