@@ -1,7 +1,6 @@
 -- Lemmas of this crate.
 pub mod BorrowableLaws
 pub mod DigitLaws
-pub mod Escapes
 pub mod FloatLaws
 pub mod IntegerLaws
 pub mod KindLaws

@@ -10,15 +10,15 @@ mutual
     alias_node : (anchor : List ℕ) → Node
     scalar_node : PlainScalar → Node
     sequence_node : (anchor : Option (List ℕ)) → (tag : Option (List ℕ)) → Nodes → Node
-    mapping_node : (anchor : Option (List ℕ)) → (tag : Option (List ℕ)) → Pairs → Node
+    mapping_node : (anchor : Option (List ℕ)) → (tag : Option (List ℕ)) → NodePairs → Node
 
   pub data Nodes : Type 0 where
     no_nodes : Nodes
     node : Node → Nodes → Nodes
 
-  pub data Pairs : Type 0 where
-    no_pairs : Pairs
-    pair : Node → Node → Pairs → Pairs
+  pub data NodePairs : Type 0 where
+    no_pairs : NodePairs
+    pair : Node → Node → NodePairs → NodePairs
 
 -- the events of a node, and then the rest
 abbrev mutual
@@ -34,7 +34,7 @@ abbrev mutual
   nodes_events no_nodes rest = rest
   nodes_events (node n nodes) rest = node_events n (nodes_events nodes rest)
 
-  pub pairs_events : Pairs → List PlainEvent → List PlainEvent
+  pub pairs_events : NodePairs → List PlainEvent → List PlainEvent
   pairs_events no_pairs rest = rest
   pairs_events (pair key value pairs) rest = node_events key (node_events value (pairs_events pairs rest))
 
@@ -60,7 +60,7 @@ abbrev mutual
   anchors_of_nodes no_nodes number = []
   anchors_of_nodes (node n nodes) number = anchors_of n number ++ anchors_of_nodes nodes (number + size_of n)
 
-  pub anchors_of_pairs : Pairs → ℕ → List (List ℕ × ℕ)
+  pub anchors_of_pairs : NodePairs → ℕ → List (List ℕ × ℕ)
   anchors_of_pairs no_pairs number = []
   anchors_of_pairs (pair key value pairs) number =
       anchors_of key number

@@ -3,11 +3,10 @@
 ghost use Rattle.std.specs.Prelude.{◌≡◌, IfOk, Some};
 ghost use Rattle.yaml_base.specs.CauseText.{key_text};
 
-use crate::quoted::Quoted;
 use crate::words::Words;
 use std::alloc::{AllocError, Global};
 use std::fmt;
-use yaml_tree::Number;
+use yaml_tree::{Number, Quoted};
 
 /// The key that stands twice in a mapping.
 #[derive(Drop)]

@@ -4,9 +4,9 @@ ghost use Rattle.std.specs.Prelude.{Some};
 ghost use Rattle.yaml_base.specs.PlainEvent.{scalar_of};
 ghost use Rattle.yaml_base.specs.ScalarText.{name_text, scalar_text, style_text};
 
-use crate::quoted::QuotedBytes;
 use crate::tag::{Anchor, Tag};
 use std::fmt;
+use yaml_tree::QuotedBytes;
 
 /// How a scalar stands in the source.
 #[derive(Clone, Copy, PartialEq, Eq)]

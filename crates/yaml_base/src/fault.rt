@@ -90,11 +90,49 @@ impl ParserFault {
         }
     }
 
+    /// Which part of the parser failed.
+    pub fn kind(&self) -> FaultKind
+        ensures { result ≡ self.now.kind }
+    {
+        self.kind
+    }
+
+    /// What is wrong.
+    pub fn problem(&self) -> &str
+        ensures { result.now ≡ self.now.problem }
+    {
+        self.problem.as_str()
+    }
+
+    /// The byte where the problem is, counted from 0, where it has no mark.
+    pub fn offset(&self) -> u64
+        ensures { result ≡ self.now.offset }
+    {
+        self.offset
+    }
+
     /// Where the problem is.
     pub fn mark(&self) -> Mark
         ensures { result ≡ self.now.mark }
     {
         self.mark
+    }
+
+    /// What was being read there, if that is known.
+    pub fn context(&self) -> Option<&str>
+        ensures { option_map (λ text. text.now) result ≡ self.now.context }
+    {
+        match &self.context {
+            Some(context) => Some(context.as_str()),
+            None => None,
+        }
+    }
+
+    /// Where the context began.
+    pub fn context_mark(&self) -> Mark
+        ensures { result ≡ self.now.context_mark }
+    {
+        self.context_mark
     }
 
     // The same fault. The only error is want of memory.

@@ -3,10 +3,10 @@
 ghost use Rattle.std.specs.Prelude.{◌≡◌, IfOk, Some};
 ghost use Rattle.yaml_base.specs.FoundText.{found_text};
 
-use crate::quoted::Quoted;
 use crate::words::Words;
 use std::alloc::{AllocError, Global};
 use std::fmt;
+use yaml_tree::Quoted;
 
 /// What was found in place of what was expected.
 #[derive(Drop)]

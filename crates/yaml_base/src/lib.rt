@@ -14,7 +14,6 @@ mod location;
 mod mark;
 mod open;
 mod path;
-mod quoted;
 mod resolver;
 mod style;
 mod tag;
@@ -32,7 +31,6 @@ pub use location::Location;
 pub use mark::Mark;
 pub use open::Open;
 pub use path::Path;
-pub use quoted::{Quoted, QuotedBytes};
 pub use resolver::{
     Kind, digits_but_not_number, each_text_has_one_kind, floats_have_their_grammar,
     integers_have_their_grammar, is_float_text, parse_bool, parse_negative_int, parse_null,
@@ -41,3 +39,4 @@ pub use resolver::{
 pub use style::infer_style;
 pub use tag::{Anchor, Tag};
 pub use words::{WordList, Words};
+pub use yaml_tree::{Quoted, QuotedBytes, hex_digit};

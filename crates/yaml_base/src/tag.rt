@@ -8,10 +8,10 @@ ghost use Rattle.std.specs.Ordering.{as_partial_cmp, nat_cmp};
 ghost use Rattle.std.proofs.Common.{nat_eq, rules};
 ghost use Rattle.yaml_base.specs.Quoted.{quoted};
 
-use crate::quoted::write_quoted;
 use std::cmp::Ordering;
 use std::fmt;
 use std::marker::Model;
+use yaml_tree::QuotedBytes;
 
 /// The tag of a node, as the bytes that the parser resolved it to.
 ///
@@ -111,7 +111,8 @@ impl fmt::Debug for Tag {
     ghost debug_output = { λ tag. Some (quoted tag) };
 
     fn fmt<W: fmt::Write>(&self, f: &mut fmt::Formatter<W>) -> fmt::Result {
-        write_quoted(self.bytes.as_slice(), f)
+        let bytes = QuotedBytes(self.bytes.as_slice());
+        write!(f, "{bytes}")
     }
 }
 
@@ -190,6 +191,7 @@ impl fmt::Debug for Anchor {
     ghost debug_output = { λ anchor. Some (quoted anchor) };
 
     fn fmt<W: fmt::Write>(&self, f: &mut fmt::Formatter<W>) -> fmt::Result {
-        write_quoted(self.bytes.as_slice(), f)
+        let bytes = QuotedBytes(self.bytes.as_slice());
+        write!(f, "{bytes}")
     }
 }

@@ -5,8 +5,8 @@ ghost use Rattle.yaml_base.specs.ErrorText.{error_debug_text, error_text, mark_d
 
 use crate::error::{Cause, Error};
 use crate::mark::Mark;
-use crate::quoted::Quoted;
-use std::fmt;
+use std::{error, fmt};
+use yaml_tree::Quoted;
 
 // The message, with the path in front.
 #[derive(Drop)]
@@ -92,3 +92,5 @@ impl fmt::Debug for Error {
         write!(f, "Error({message}{mark})")
     }
 }
+
+impl error::Error for Error {}

@@ -7,8 +7,9 @@ ghost use Rattle.yaml_base.specs.ParserFaultText.{kind_debug_part, problem_debug
 
 use crate::fault::{FaultKind, ParserFault};
 use crate::mark::Mark;
-use crate::quoted::Quoted;
+use std::error::Error;
 use std::fmt;
+use yaml_tree::Quoted;
 
 // Where a problem is: its mark, or else its offset.
 #[derive(Drop)]
@@ -138,3 +139,5 @@ impl fmt::Debug for ParserFault {
         write!(f, "Error {{ {kind}problem: {problem}{place}{context} }}")
     }
 }
+
+impl Error for ParserFault {}
