@@ -1,7 +1,9 @@
 -- An event more, and what the events are at the end.
 use Rattle.std.proofs.Common.{◌≡◌, List, [], ◌∷◌, ◌++◌, Option, Some, refl, sym, ◌∙◌, ap, true, false, map}
 use Rattle.std.proofs.Common.{ℕ, length, reverse, subst}
-use Rattle.std.proofs.lemmas.List.Elements.{All-push}
+use Rattle.std.proofs.Common.{◌-◌, ◌<◌, ◌≤◌, All, arith}
+use Rattle.std.proofs.lemmas.List.Elements.{All-get_or, All-push, All-weaker}
+use Rattle.std.proofs.lemmas.List.Sorted.{IsNonDecreasingBy-push}
 use Rattle.std.proofs.lemmas.List.{map-append, nil_from_length, reverse-append}
 use Rattle.yaml_base.specs.Position.{Position}
 use Rattle.yaml_base.specs.PlainEvent.{PlainEvent, PlainScalar, event_of, scalar, alias, sequence_start, sequence_end}
@@ -16,6 +18,8 @@ use Rattle.yaml_parse.specs.declared.frame.Phase.{Phase}
 use Rattle.yaml_parse.specs.declared.frame.Phase.TheVariants as phase
 use Rattle.yaml_base.specs.StreamMachine.{State, before_stream, next_state, run, within}
 use Rattle.yaml_parse.specs.Frames.{state_of, is_done, open_of, open_behind, opens, ends_sequence, ends_mapping}
+use Rattle.yaml_parse.specs.Marks.{MarksAscend}
+use Rattle.yaml_parse.specs.PlainText.{SaySources, SaysSource}
 use Rattle.yaml_parse.specs.Shown.{AreShown, IsShown}
 use Rattle.yaml_base.proofs.StreamMachineLaws.{run_append, whole_run, goes_on_run}
 
@@ -143,6 +147,35 @@ pub shown_to : (text : List ℕ) (before after : List (Event × Position)) (x : 
 shown_to text before after x is all here =
     subst (AreShown text) (sym is)
     (All-push (λ (e : Event × Position). IsShown text (event_of e.0) e.1) before x all here)
+
+-- so does each plain scalar of the list of events that has grown by one say its source
+pub said_to : (before after : List (Event × Position)) (x : Event × Position)
+    → after ≡ before ++ x ∷ [] → SaySources before → SaysSource (event_of x.0) → SaySources after
+said_to before after x is all here =
+    subst SaySources (sym is) (All-push (λ (e : Event × Position). SaysSource (event_of e.0)) before x all here)
+
+-- so do the marks ascend, up to that of the new event
+pub marks_to : (text : List ℕ) (before after : List (Event × Position)) (x : Event × Position) (reached : ℕ)
+    → after ≡ before ++ x ∷ [] → MarksAscend text before → All (λ e. e.1.index ≤ reached) before
+    → reached ≤ x.1.index → x.1.index ≤ length text → MarksAscend text after
+marks_to text before after x reached is all last on low_enough =
+    subst (MarksAscend text) (sym is) (
+      All-push (λ (e : Event × Position). e.1.index ≤ length text) before x all.0 low_enough,
+      IsNonDecreasingBy-push (λ (e : Event × Position). e.1.index) before x all.1
+          (λ d some.
+          let inside : length before - 1 < length before = omega arith in
+          let low = All-get_or (λ (e : Event × Position). e.1.index ≤ reached) before (length before - 1) d inside last in
+          omega arith),
+    )
+
+pub reached_to : (before after : List (Event × Position)) (x : Event × Position) (reached now : ℕ)
+    → after ≡ before ++ x ∷ [] → All (λ e. e.1.index ≤ reached) before → reached ≤ x.1.index → now ≡ x.1.index
+    → All (λ e. e.1.index ≤ now) after
+reached_to before after x reached now is last on here =
+    subst (All (λ (e : Event × Position). e.1.index ≤ now)) (sym is)
+    (All-push (λ (e : Event × Position). e.1.index ≤ now) before x
+    (All-weaker (λ (e : Event × Position). e.1.index ≤ reached) (λ (e : Event × Position). e.1.index ≤ now) (λ e h. omega arith) before last)
+    (omega arith))
 
 -- the list of collections that has grown by one
 pub opened_more : (outer more : List (Frame × Position)) (first : Frame) (x : Frame × Position)

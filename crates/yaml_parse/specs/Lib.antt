@@ -1,3 +1,6 @@
 -- What contracts of this crate, and of those above it, cite.
+pub mod Faults
 pub mod Frames
+pub mod Marks
+pub mod PlainText
 pub mod Shown

@@ -1,61 +1,59 @@
 //! The faults of the parser.
 
+ghost use Rattle.std.specs.Prelude.{◌≡◌, ◌≢◌, IfOk};
+ghost use Rattle.yaml_base.specs.declared.fault.FaultKind.TheVariants as kind;
+ghost use Rattle.yaml_parse.specs.Faults.{IsToldBy};
+
 use std::alloc::{AllocError, Global};
 use yaml_base::{FaultKind, Mark, ParserFault};
-use yaml_token::{Context, Fault, Problem, Stop};
+use yaml_token::{Context, Fault, Finding, Problem, Stop};
+
+// A fault at a mark.
+pub(crate) fn fault(problem: Problem, mark: Mark) -> Stop {
+    Stop::Fault(Finding {
+        problem,
+        mark,
+        context: None,
+        context_mark: mark,
+    })
+}
 
 // A fault at a mark, found while doing what the context says, which began at `start`.
-fn stop(
-    kind: FaultKind,
-    problem: Problem,
-    mark: Mark,
-    context: Option<Context>,
-    start: Mark,
-) -> Stop {
-    Stop::Fault(Fault {
-        kind,
+pub(crate) fn fault_in(context: Context, start: Mark, problem: Problem, mark: Mark) -> Stop {
+    Stop::Fault(Finding {
         problem,
-        offset: 0,
         mark,
-        context,
+        context: Some(context),
         context_mark: start,
     })
 }
 
-// A fault of the parser.
-pub(crate) fn fault(problem: Problem, mark: Mark) -> Stop {
-    stop(FaultKind::Parser, problem, mark, None, mark)
-}
-
-// A fault of the parser, found amid something that began at `start`.
-pub(crate) fn fault_in(context: Context, start: Mark, problem: Problem, mark: Mark) -> Stop {
-    stop(FaultKind::Parser, problem, mark, Some(context), start)
-}
-
 // The fault of an event that may not stand here.
 pub(crate) fn misplaced(mark: Mark) -> Stop {
-    stop(
-        FaultKind::Other,
-        Problem::TheEventMayNotStandHere,
-        mark,
-        None,
-        mark,
-    )
+    fault(Problem::TheEventMayNotStandHere, mark)
 }
 
 // The fault of a token at which the parser did not come to an end.
 pub(crate) fn endless(mark: Mark) -> Stop {
-    stop(
-        FaultKind::Other,
-        Problem::ATokenTookTooManySteps,
-        mark,
-        None,
-        mark,
-    )
+    fault(Problem::ATokenTookTooManySteps, mark)
+}
+
+// The kind of a fault that the parser found: one that no text has is of kind `Other`.
+pub(crate) fn kind_of(problem: Problem) -> FaultKind
+    ensures { result ≢ kind.Reader }
+{
+    match problem {
+        Problem::TheEventMayNotStandHere
+        | Problem::ATokenTookTooManySteps
+        | Problem::TheTokensHaveNoEnd => FaultKind::Other,
+        _ => FaultKind::Parser,
+    }
 }
 
 // The fault of a list of tokens that does not end.
-pub(crate) fn no_end(mark: Mark) -> Fault {
+pub(crate) fn no_end(mark: Mark) -> Fault
+    ensures { result.kind ≡ kind.Other }
+{
     Fault {
         kind: FaultKind::Other,
         problem: Problem::TheTokensHaveNoEnd,
@@ -67,7 +65,9 @@ pub(crate) fn no_end(mark: Mark) -> Fault {
 }
 
 // The fault with its texts in memory of their own.
-pub(crate) fn owned(alloc: Global, fault: &Fault) -> Result<ParserFault, AllocError> {
+pub(crate) fn owned(alloc: Global, fault: &Fault) -> Result<ParserFault, AllocError>
+    ensures { IfOk result (IsToldBy fault.now) }
+{
     let problem = String::from_str(alloc, fault.problem.text())?;
     let context = match fault.context {
         Some(context) => Some(String::from_str(alloc, context.text())?),

@@ -1,12 +1,15 @@
 //! Nodes, and what stands before them.
 
-ghost use Rattle.std.specs.Prelude.{◌≡◌};
+ghost use Rattle.std.specs.Prelude.{◌≡◌, ◌≢◌, IfSome, None, drop, length, min, true};
+ghost use Rattle.std.specs.Option.{option_map};
+ghost use Rattle.yaml_base.specs.declared.event.ScalarStyle.TheVariants as written;
 ghost use Rattle.yaml_base.specs.declared.open.Open.TheVariants.{Key, Sequence};
 ghost use Rattle.yaml_parse.specs.Frames.{open_of};
 
 use crate::fault::fault_in;
 use crate::frame::Frame;
 use crate::machine::{Machine, Span};
+use crate::plain::plain_text;
 use crate::properties::{Properties, WrittenTag, resolve};
 use std::mem;
 use yaml_base::{Anchor, MappingStart, Mark, Scalar, ScalarStyle, SequenceStart, Tag};
@@ -30,6 +33,41 @@ struct Named {
     tag: Option<Tag>,
     start: Mark,
     end: Mark,
+}
+
+impl Named {
+    // Whether neither an anchor nor a tag stands before the node.
+    fn is_alone(&self) -> bool
+        ensures { (self.now.anchor ≡ None → self.now.tag ≡ None → result ≡ true) }
+    {
+        self.anchor.is_none() && self.tag.is_none()
+    }
+
+    // Where the node begins: where its anchor or its tag does, or else its text, which begins here.
+    fn start_before(&self, text: Mark) -> Mark {
+        if self.is_alone() { text } else { self.start }
+    }
+
+    // How many bytes of the node stand before its text, which begins here.
+    fn len_before(&self, text: Mark) -> usize
+        ensures { self.now.anchor ≡ None → self.now.tag ≡ None → result ≡ 0 }
+    {
+        if self.is_alone() {
+            0
+        } else {
+            text.index().saturating_sub(self.start.index()) as usize
+        }
+    }
+}
+
+// The bytes of a source from this index on; none where there is no source, or it is shorter.
+fn text_in(source: Option<&[u8]>, front: usize) -> &[u8]
+    ensures { IfSome (option_map (λ r. r.now) source.entry) (λ s. result.now ≡ drop (min front (length s)) s) }
+{
+    match source {
+        Some(source) => &source[front.min(source.len())..],
+        None => &[],
+    }
 }
 
 impl<'a> Machine<'a> {
@@ -141,9 +179,13 @@ impl<'a> Machine<'a> {
                 self.sequence(named, Frame::IndentlessEntry, at.start)?;
                 Ok(false)
             }
+            Token::Plain => {
+                self.plain(named, at)?;
+                Ok(true)
+            }
             Token::Scalar { value, style } => {
                 let value = mem::replace(value, Vec::new(self.alloc));
-                self.scalar(named, value, *style, at.end)?;
+                self.styled(named, value, style.scalar_style(), at.end)?;
                 Ok(true)
             }
             Token::FlowSequenceStart => {
@@ -182,19 +224,43 @@ impl<'a> Machine<'a> {
                 mark,
             ));
         }
-        let end = named.end;
-        self.scalar(named, Vec::new(self.alloc), ScalarStyle::Plain, end)?;
+        let end = Span {
+            start: named.end,
+            end: named.end,
+        };
+        self.plain(named, &end)?;
         Ok(false)
     }
 
-    // A scalar whose text ends here.
-    fn scalar(
+    // A plain scalar, whose text stands here.
+    #[tactic(auto, using(crate::proofs::PlainTexts::says))]
+    fn plain(&mut self, named: Named, text: &Span) -> Result<(), Stop>
+        ensures { self.new.stream.text.now ≡ self.old.stream.text.now }
+    {
+        let start = named.start_before(text.start);
+        let front = named.len_before(text.start);
+        let repr = self.stream.source(start, text.end);
+        let value = plain_text(self.alloc, text_in(repr, front))?;
+        let Named { anchor, tag, .. } = named;
+        let scalar = Scalar {
+            anchor,
+            tag,
+            value,
+            style: ScalarStyle::Plain,
+            repr,
+        };
+        self.stream.scalar(scalar, start)
+    }
+
+    // A scalar between quotes or a block, whose text ends here.
+    fn styled(
         &mut self,
         named: Named,
         value: Vec<u8>,
         style: ScalarStyle,
         end: Mark,
     ) -> Result<(), Stop>
+        requires { style ≢ written.Plain }
         ensures { self.new.stream.text.now ≡ self.old.stream.text.now }
     {
         let Named {
@@ -224,7 +290,11 @@ impl<'a> Machine<'a> {
             start: mark,
             end: mark,
         };
-        self.scalar(named, Vec::new(self.alloc), ScalarStyle::Plain, mark)?;
+        let here = Span {
+            start: mark,
+            end: mark,
+        };
+        self.plain(named, &here)?;
         Ok(false)
     }
 

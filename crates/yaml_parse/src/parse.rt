@@ -1,11 +1,16 @@
 //! Tokens to events.
 
-ghost use Rattle.std.specs.Prelude.{◌≡◌, [], IfOk, Some, is_some, true};
+ghost use Rattle.std.specs.Prelude.{◌≡◌, ◌≢◌, [], IfOk, IfSome, Some, is_some, true};
+ghost use Rattle.std.specs.Option.{ForSome};
 ghost use Rattle.yaml_base.specs.MarkedEvents.{plain_events};
 ghost use Rattle.yaml_base.specs.Stream.{IsWellFormed};
+ghost use Rattle.yaml_base.specs.declared.fault.FaultKind.TheVariants as kind;
+ghost use Rattle.yaml_parse.specs.Faults.{IsNotReaders, IsToldBy};
+ghost use Rattle.yaml_parse.specs.Marks.{MarksAscend};
+ghost use Rattle.yaml_parse.specs.PlainText.{SaySources};
 ghost use Rattle.yaml_parse.specs.Shown.{AreShown};
 
-use crate::fault::{no_end, owned};
+use crate::fault::{kind_of, no_end, owned};
 use crate::machine::Machine;
 use std::alloc::{AllocError, Global};
 use yaml_base::{Event, Mark, ParserFault};
@@ -53,13 +58,17 @@ pub fn parse_tokens<'a>(
     ensures taken { IfOk result (λ parsed.
         IsWellFormed (is_some parsed.fault) (plain_events parsed.events.items)) }
     ensures sources { IfOk result (λ parsed. AreShown text.now parsed.events.items) }
+    ensures plain { IfOk result (λ parsed. SaySources parsed.events.items) }
+    ensures marks { IfOk result (λ parsed. MarksAscend text.now parsed.events.items) }
     ensures found { IfOk result (λ parsed. is_some parsed.found ≡ is_some parsed.fault) }
+    ensures not_readers { ForSome fault (λ f. f.kind ≢ kind.Reader) →
+        IfOk result (λ parsed. IsNotReaders parsed.fault) }
 {
     let mut machine = Machine::new(alloc, text, start_mark());
     let found = match take_all(&mut machine, tokens) {
         Ok(()) => fault,
         Err(Stop::Memory) => return Err(AllocError),
-        Err(Stop::Fault(own)) => Some(own),
+        Err(Stop::Fault(own)) => Some(own.found_by(kind_of(own.problem))),
     };
     let stream = machine.stream;
     if stream.is_after() {
@@ -87,6 +96,7 @@ pub fn unread<'a>(alloc: Global, fault: Fault) -> Result<Parsed<'a>, AllocError>
         IsWellFormed (is_some parsed.fault) (plain_events parsed.events.items)) }
     ensures none { IfOk result (λ parsed. parsed.events.items ≡ []) }
     ensures faulted { IfOk result (λ parsed. is_some parsed.fault ≡ true) }
+    ensures told { IfOk result (λ parsed. IfSome parsed.fault (IsToldBy fault)) }
     ensures found { IfOk result (λ parsed. parsed.found ≡ Some fault) }
 {
     let found = Some(fault);

@@ -1,14 +1,16 @@
 //! The events of a stream, and which may come next.
 
-ghost use Rattle.std.specs.Prelude.{◌≡◌, ◌∷◌, [], IfSome, Some, true, false};
+ghost use Rattle.std.specs.Prelude.{◌≡◌, ◌≤◌, ◌∷◌, [], All, IfSome, OnOk, Some, false, length, true};
 ghost use Rattle.std.specs.Option.{option_map};
 ghost use Rattle.std.proofs.Props.{props};
 ghost use Rattle.yaml_base.specs.MarkedEvents.{plain_events};
-ghost use Rattle.yaml_base.specs.PlainEvent.{event_of};
+ghost use Rattle.yaml_base.specs.PlainEvent.{event_of, scalar_of};
 ghost use Rattle.yaml_base.specs.Stream.{IsStream, IsWellFormed};
 ghost use Rattle.yaml_base.specs.StreamMachine.{before_stream, next_state, run, within};
 ghost use Rattle.yaml_base.specs.declared.open.Open.TheVariants.{Key, Sequence};
 ghost use Rattle.yaml_parse.specs.Frames.{is_done, open_of, opens, state_of};
+ghost use Rattle.yaml_parse.specs.Marks.{MarksAscend};
+ghost use Rattle.yaml_parse.specs.PlainText.{SaySources, SaysItsSource, SaysSource};
 ghost use Rattle.yaml_parse.specs.Shown.{AreShown, IsShown, StandsAt};
 
 use crate::fault::misplaced;
@@ -27,8 +29,13 @@ pub(crate) struct Stream<'a> {
     opened: Mark,
     // What the collections around the innermost wait for, and where they began, the outermost first.
     outer: Vec<(Frame, Mark)>,
+    // The index of the last event's mark.
+    reached: u64,
     ghost ran: { run (Some before_stream) (plain_events events.items) ≡ Some (state_of phase outer.items) } by { Prim.hlevel props },
     ghost shown: { AreShown text.now events.items } by { Prim.hlevel props },
+    ghost plain: { SaySources events.items } by { Prim.hlevel props },
+    ghost marks: { MarksAscend text.now events.items },
+    ghost last: { All (λ e. e.1.index ≤ reached) events.items },
 }
 
 impl<'a> Stream<'a> {
@@ -42,6 +49,7 @@ impl<'a> Stream<'a> {
             phase: Phase::Before,
             opened: start,
             outer: Vec::new(alloc),
+            reached: 0,
         }
     }
 
@@ -78,6 +86,8 @@ impl<'a> Stream<'a> {
         requires { is_done self.phase ≡ true }
         ensures whole { IsStream (plain_events result.items) }
         ensures shown { AreShown self.entry.text.now result.items }
+        ensures plain { SaySources result.items }
+        ensures marks { MarksAscend self.entry.text.now result.items }
     {
         self.events
     }
@@ -88,8 +98,21 @@ impl<'a> Stream<'a> {
         requires { is_done self.phase ≡ false }
         ensures cut { IsWellFormed true (plain_events result.items) }
         ensures shown { AreShown self.entry.text.now result.items }
+        ensures plain { SaySources result.items }
+        ensures marks { MarksAscend self.entry.text.now result.items }
     {
         self.events
+    }
+
+    // Whether an event may begin here: within the text, and not before the last one.
+    fn check(&self, mark: Mark) -> Result<(), Stop>
+        ensures { OnOk result ((self.now.reached ≤ mark.index) × (mark.index ≤ length self.now.text.now)) }
+    {
+        if self.reached <= mark.index() && mark.index() <= self.text.len() as u64 {
+            Ok(())
+        } else {
+            Err(misplaced(mark))
+        }
     }
 
     // An event at which no collection begins or ends.
@@ -97,10 +120,13 @@ impl<'a> Stream<'a> {
         requires moves { next_state (state_of self.old.phase self.old.outer.items) (event_of event)
             ≡ Some (state_of phase self.old.outer.items) }
         requires shown { IsShown self.old.text.now (event_of event) mark }
+        requires plain { SaysSource (event_of event) }
         ensures { self.new.text.now ≡ self.old.text.now }
     {
+        self.check(mark)?;
         self.events.reserve(1)?;
         self.events.push_reserved((event, mark));
+        self.reached = mark.index();
         self.phase = phase;
         Ok(())
     }
@@ -161,7 +187,8 @@ impl<'a> Stream<'a> {
     // A scalar.
     #[tactic(auto, using(crate::proofs::Streams::passes_scalar))]
     pub(crate) fn scalar(&mut self, scalar: Scalar<'a>, mark: Mark) -> Result<(), Stop>
-        requires { IfSome (option_map (λ r. r.now) scalar.repr) (StandsAt self.old.text.now mark.index) }
+        requires shown { IfSome (option_map (λ r. r.now) scalar.repr) (StandsAt self.old.text.now mark.index) }
+        requires plain { SaysItsSource (scalar_of scalar) }
         ensures { self.new.text.now ≡ self.old.text.now }
     {
         match self.phase {
@@ -202,10 +229,13 @@ impl<'a> Stream<'a> {
         requires moves { next_state (state_of self.old.phase self.old.outer.items) (event_of event)
             ≡ Some (within (open_of first ∷ [])) }
         requires shown { IsShown self.old.text.now (event_of event) mark }
+        requires plain { SaysSource (event_of event) }
         ensures { self.new.text.now ≡ self.old.text.now }
     {
+        self.check(mark)?;
         self.events.reserve(1)?;
         self.events.push_reserved((event, mark));
+        self.reached = mark.index();
         self.outer.clear();
         self.phase = Phase::Within(first);
         self.opened = start;
@@ -224,11 +254,14 @@ impl<'a> Stream<'a> {
         requires moves { next_state (state_of self.old.phase self.old.outer.items) (event_of event)
             ≡ Some (within (open_of first ∷ open_of back ∷ opens self.old.outer.items)) }
         requires shown { IsShown self.old.text.now (event_of event) mark }
+        requires plain { SaysSource (event_of event) }
         ensures { self.new.text.now ≡ self.old.text.now }
     {
+        self.check(mark)?;
         self.events.reserve(1)?;
         self.outer.reserve(1)?;
         self.events.push_reserved((event, mark));
+        self.reached = mark.index();
         self.outer.push_reserved((back, self.opened));
         self.phase = Phase::Within(first);
         self.opened = start;
@@ -280,10 +313,13 @@ impl<'a> Stream<'a> {
         requires moves { next_state (state_of self.old.phase self.old.outer.items) (event_of event)
             ≡ Some (within (opens self.old.outer.items)) }
         requires shown { IsShown self.old.text.now (event_of event) mark }
+        requires plain { SaysSource (event_of event) }
         ensures { self.new.text.now ≡ self.old.text.now }
     {
+        self.check(mark)?;
         self.events.reserve(1)?;
         self.events.push_reserved((event, mark));
+        self.reached = mark.index();
         match self.outer.pop() {
             Some((frame, start)) => {
                 self.phase = Phase::Within(frame);

@@ -1,0 +1,2 @@
+pub mod AllowedText
+pub mod Scanning

@@ -23,11 +23,6 @@ impl Fold {
         }
     }
 
-    // Whether a line has ended.
-    pub(crate) fn is_broken(&self) -> bool {
-        self.broken
-    }
-
     // Takes in a blank or a line break, whichever stands here. Blanks that begin a line count for nothing.
     pub(crate) fn take(&mut self, cursor: &mut Cursor<'_>) -> Result<(), AllocError> {
         if cursor.is_blank(0) {

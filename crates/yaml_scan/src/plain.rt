@@ -1,16 +1,13 @@
-//! Plain scalars.
+//! Where plain scalars end.
 
 use crate::byte::{Run, is_flow_indicator};
 use crate::cursor::Cursor;
-use crate::fold::Fold;
-use std::alloc::Global;
 use yaml_base::Mark;
 use yaml_token::{Context, Problem, Stop};
 
-// A plain scalar: its text, its end, and whether a line break follows it.
-#[derive(Drop)]
+// The end of a plain scalar, and whether a line break follows it.
+#[derive(Clone, Copy)]
 pub(crate) struct Plain {
-    pub(crate) text: Vec<u8>,
     pub(crate) end: Mark,
     pub(crate) broken: bool,
 }
@@ -30,79 +27,73 @@ fn is_over(cursor: &Cursor<'_>, flow: bool, start: Mark) -> Result<bool, Stop> {
     Ok(cursor.is_blank_or_end(0) || (flow && is_flow_indicator(byte)))
 }
 
-// Copies what is of the scalar up to the next blank, and tells whether there was anything.
-fn read_part(
-    cursor: &mut Cursor<'_>,
-    flow: bool,
-    start: Mark,
-    fold: &mut Fold,
-    text: &mut Vec<u8>,
-) -> Result<bool, Stop> {
+// Steps over what is of the scalar up to the next blank, and tells whether there was anything.
+fn skip_part(cursor: &mut Cursor<'_>, flow: bool, start: Mark) -> Result<bool, Stop> {
     let run = if flow { Run::Flow } else { Run::Plain };
     let mut any = false;
     for _ in 0..cursor.left() {
         if is_over(cursor, flow, start)? {
             break;
         }
-        if !any {
-            fold.join(text)?;
-            any = true;
-        }
-        cursor.read(text)?;
-        cursor.read_run(run, text)?;
+        cursor.skip();
+        cursor.skip_run(run);
+        any = true;
     }
     Ok(any)
 }
 
-// Takes in blanks and line breaks. No tab may stand left of the column `indent` in a later line.
-fn take_blanks(
+// Steps over blanks and line breaks, and tells whether a line ended there; `broken` where one had ended before. No tab
+// may stand left of the column `indent` in a later line.
+fn skip_gap(
     cursor: &mut Cursor<'_>,
     indent: usize,
     start: Mark,
-    fold: &mut Fold,
-) -> Result<(), Stop> {
+    mut broken: bool,
+) -> Result<bool, Stop> {
     for _ in 0..cursor.left() {
-        if !(cursor.is_blank(0) || cursor.is_break(0)) {
+        if cursor.is_break(0) {
+            cursor.skip_line();
+            broken = true;
+        } else if !cursor.is_blank(0) {
             break;
-        }
-        if fold.is_broken() && cursor.column() < indent && cursor.byte(0) == b'\t' {
+        } else if broken && cursor.column() < indent && cursor.byte(0) == b'\t' {
             let problem = Problem::FoundATabCharacterThatViolatesIndentation;
             return Err(cursor.fault(CONTEXT, start, problem));
+        } else {
+            cursor.skip();
         }
-        fold.take(cursor)?;
     }
-    Ok(())
+    Ok(broken)
 }
 
-// Reads a plain scalar, whose lines stand at the column `indent` at least.
+// Steps over a plain scalar, whose lines stand at the column `indent` at least, and the gap behind it.
 pub(crate) fn scan_plain(
-    alloc: Global,
     cursor: &mut Cursor<'_>,
     flow: bool,
     indent: usize,
 ) -> Result<Plain, Stop> {
     let start = cursor.mark();
-    let mut end = start;
-    let mut text = Vec::new(alloc);
-    let mut fold = Fold::new(alloc, false);
+    let mut plain = Plain {
+        end: start,
+        broken: false,
+    };
     for _ in 0..cursor.left() {
         if cursor.is_document_indicator() || cursor.byte(0) == b'#' {
             break;
         }
-        if read_part(cursor, flow, start, &mut fold, &mut text)? {
-            end = cursor.mark();
+        if skip_part(cursor, flow, start)? {
+            plain = Plain {
+                end: cursor.mark(),
+                broken: false,
+            };
         }
         if !(cursor.is_blank(0) || cursor.is_break(0)) {
             break;
         }
-        take_blanks(cursor, indent, start, &mut fold)?;
+        plain.broken = skip_gap(cursor, indent, start, plain.broken)?;
         if !flow && cursor.column() < indent {
             break;
         }
     }
-    Ok(Plain {
-        text,
-        end,
-        broken: fold.is_broken(),
-    })
+    Ok(plain)
 }

@@ -1,13 +1,45 @@
 //! Which bytes may be a text at all.
 
+ghost use Rattle.std.specs.Prelude.{◌≡◌, ◌<◌, ◌≤◌, IfSome, MatchOption, length};
+ghost use Rattle.yaml_scan.specs.AllowedText.{IsAllowed, IsAllowedUpTo, IsOfReader, is_allowed};
+
+use std::str;
 use yaml_base::{FaultKind, Mark};
 use yaml_token::{Fault, Problem};
 
-// What stands at the head of bytes: a character that has so many bytes, or what is wrong, so many bytes ahead.
-#[derive(Clone, Copy)]
-enum Head {
-    Character(usize),
-    Wrong(Problem, usize),
+// Whether the character of this code may stand in a text.
+fn is_allowed(code: u32) -> bool
+    ensures { result ≡ is_allowed code }
+{
+    code == 0x09
+        || code == 0x0A
+        || code == 0x0D
+        || (code >= 0x20 && code <= 0x7E)
+        || code == 0x85
+        || (code >= 0xA0 && code <= 0xD7FF)
+        || (code >= 0xE000 && code <= 0xFFFD)
+        || (code >= 0x10000 && code <= 0x10FFFF)
+}
+
+// The index of the first character that may not stand in a text, if there is one.
+fn first_forbidden(text: &str) -> Option<usize>
+    ensures { MatchOption result (IsAllowed text.now) (IsAllowedUpTo text.now) }
+{
+    text.find(|character: char| !is_allowed(character as u32))
+}
+
+// How many bytes come before the first character that is none or may not stand in a text, if there is one.
+fn allowed_len(text: &[u8]) -> Option<usize>
+    ensures { MatchOption result (IsAllowed text.now) (IsAllowedUpTo text.now) }
+{
+    let valid = match str::from_utf8(text) {
+        Ok(text) => return first_forbidden(text),
+        Err(error) => error.valid_up_to(),
+    };
+    match str::from_utf8(&text[..valid]) {
+        Ok(front) => Some(first_forbidden(front).unwrap_or(valid)),
+        Err(_) => unreachable!(),
+    }
 }
 
 // A character's code, made of the bits of its first byte and of each further one.
@@ -18,7 +50,9 @@ struct Code {
 }
 
 // How many bytes a character has, and which bits of its code its first byte has; no byte else begins one.
-fn first_bits(first: u8) -> Option<Code> {
+fn first_bits(first: u8) -> Option<Code>
+    ensures { IfSome result (λ code. code.width ≤ 4) }
+{
     let (width, mask): (usize, u8) = match first {
         0..=0x7F => (1, 0x7F),
         0xC0..=0xDF => (2, 0x1F),
@@ -37,73 +71,58 @@ fn is_too_small(width: usize, code: u32) -> bool {
     (width == 2 && code < 0x80) || (width == 3 && code < 0x800) || (width == 4 && code < 0x10000)
 }
 
-// Whether a character may stand in a text.
-fn is_allowed(code: u32) -> bool {
-    matches!(code, 0x09 | 0x0A | 0x0D | 0x85)
-        || (code >= 0x20 && code <= 0x7E)
-        || (code >= 0xA0 && code <= 0xFFFD)
-        || (code >= 0x10000 && code <= 0x10FFFF)
-}
-
-// What is wrong with a character of so many bytes, if anything is.
-fn problem_of(width: usize, code: u32) -> Option<Problem> {
+// What is wrong with a code of so many bytes that may not stand in a text.
+fn problem_of(width: usize, code: u32) -> Problem {
     if is_too_small(width, code) {
-        Some(Problem::InvalidLengthOfAUtf8Sequence)
+        Problem::InvalidLengthOfAUtf8Sequence
     } else if (code >= 0xD800 && code <= 0xDFFF) || code > 0x10FFFF {
-        Some(Problem::InvalidUnicodeCharacter)
-    } else if !is_allowed(code) {
-        Some(Problem::ControlCharactersAreNotAllowed)
+        Problem::InvalidUnicodeCharacter
     } else {
-        None
+        Problem::ControlCharactersAreNotAllowed
     }
 }
 
-// Reads the first character.
-fn read_head(bytes: &[u8]) -> Head {
-    let [first, ..] = bytes else {
-        return Head::Wrong(Problem::IncompleteUtf8OctetSequence, 0);
-    };
-    let Some(Code { width, mut bits }) = first_bits(*first) else {
-        return Head::Wrong(Problem::InvalidLeadingUtf8Octet, 0);
+// What is wrong with the first character of these bytes, which is none or may not stand in a text, and how many bytes
+// ahead.
+fn diagnose(bytes: &[u8]) -> (Problem, usize)
+    requires { 0 < length bytes.now }
+    ensures { (result.1 < 4) × (result.1 < length bytes.now) }
+{
+    let Some(Code { width, mut bits }) = first_bits(bytes[0]) else {
+        return (Problem::InvalidLeadingUtf8Octet, 0);
     };
     if width > bytes.len() {
-        return Head::Wrong(Problem::IncompleteUtf8OctetSequence, 0);
+        return (Problem::IncompleteUtf8OctetSequence, 0);
     }
     for index in 1..width {
         let next = bytes[index];
         if next & 0xC0 != 0x80 {
-            return Head::Wrong(Problem::InvalidTrailingUtf8Octet, index);
+            return (Problem::InvalidTrailingUtf8Octet, index);
         }
         bits = ((bits & 0x3FFFF) << 6) | (next & 0x3F) as u32;
     }
-    match problem_of(width, bits) {
-        Some(problem) => Head::Wrong(problem, 0),
-        None => Head::Character(width),
+    (problem_of(width, bits), 0)
+}
+
+// The mark of the first byte.
+fn start_mark() -> Mark {
+    match Mark::new(0, 0, 0) {
+        Some(mark) => mark,
+        None => unreachable!(),
     }
 }
 
-// The first byte that may not stand in a text, by the rules of UTF-8 and of characters.
-pub(crate) fn first_fault(text: &[u8]) -> Option<Fault> {
-    let mut at = 0;
-    for _ in 0..text.len() {
-        if at >= text.len() {
-            break;
-        }
-        match read_head(&text[at..]) {
-            Head::Character(width) => at = at.saturating_add(width),
-            Head::Wrong(problem, ahead) => return fault(problem, at.saturating_add(ahead)),
-        }
-    }
-    None
-}
-
-// A fault of the byte at this index.
-fn fault(problem: Problem, index: usize) -> Option<Fault> {
-    let mark = Mark::new(0, 0, 0)?;
+// The fault of the first character that is none or may not stand in a text, if there is one.
+pub(crate) fn first_fault(text: &[u8]) -> Option<Fault>
+    ensures { MatchOption result (IsAllowed text.now) (λ f. IsOfReader text.now f.kind f.offset) }
+{
+    let at = allowed_len(text)?;
+    let (problem, ahead) = diagnose(&text[at..]);
+    let mark = start_mark();
     Some(Fault {
         kind: FaultKind::Reader,
         problem,
-        offset: index as u64,
+        offset: (at + ahead) as u64,
         mark,
         context: None,
         context_mark: mark,

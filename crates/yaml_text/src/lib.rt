@@ -1,10 +1,14 @@
 //! YAML text to the events of the layer above, as libyaml's parser makes them.
 #![tactic(auto)]
 
-ghost use Rattle.std.specs.Prelude.{IfOk, is_some};
+ghost use Rattle.std.specs.Prelude.{◌≡◌, [], IfOk, IsSomeAnd, is_some};
 ghost use Rattle.yaml_base.specs.MarkedEvents.{plain_events};
 ghost use Rattle.yaml_base.specs.Stream.{IsWellFormed};
+ghost use Rattle.yaml_parse.specs.Faults.{IsNotReaders};
+ghost use Rattle.yaml_parse.specs.Marks.{MarksAscend};
+ghost use Rattle.yaml_parse.specs.PlainText.{SaySources};
 ghost use Rattle.yaml_parse.specs.Shown.{AreShown};
+ghost use Rattle.yaml_scan.specs.AllowedText.{IsAllowed, IsOfReader};
 
 use std::alloc::{AllocError, Global};
 pub use yaml_parse::Parsed;
@@ -20,17 +24,14 @@ pub fn parse<'a>(alloc: Global, text: &'a [u8]) -> Result<Parsed<'a>, AllocError
     ensures taken { IfOk result (λ parsed.
         IsWellFormed (is_some parsed.fault) (plain_events parsed.events.items)) }
     ensures sources { IfOk result (λ parsed. AreShown text.now parsed.events.items) }
+    ensures plain { IfOk result (λ parsed. SaySources parsed.events.items) }
+    ensures marks { IfOk result (λ parsed. MarksAscend text.now parsed.events.items) }
+    ensures allowed { IfOk result (λ parsed. IsAllowed text.now → IsNotReaders parsed.fault) }
+    ensures refused { IfOk result (λ parsed. (IsAllowed text.now → ⊥) →
+        (parsed.events.items ≡ []) × IsSomeAnd parsed.fault (λ f. IsOfReader text.now f.kind f.offset)) }
 {
-    let Scanned {
-        tokens,
-        fault,
-        started,
-    } = scan(alloc, text)?;
-    if started {
-        return parse_tokens(alloc, text, tokens, fault);
-    }
-    match fault {
-        Some(fault) => unread(alloc, fault),
-        None => parse_tokens(alloc, text, tokens, None),
+    match scan(alloc, text)? {
+        Scanned::Tokens(tokens, fault) => parse_tokens(alloc, text, tokens, fault),
+        Scanned::Unread(fault) => unread(alloc, fault),
     }
 }

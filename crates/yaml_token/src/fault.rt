@@ -1,5 +1,7 @@
 //! Why a text was not read to its end.
 
+ghost use Rattle.std.specs.Prelude.{◌≡◌};
+
 use crate::context::Context;
 use crate::problem::Problem;
 use std::alloc::{AllocError, AllocFailed};
@@ -22,13 +24,50 @@ pub struct Fault {
     pub context_mark: Mark,
 }
 
+/// What the scanner or the parser finds wrong: a problem at a mark, and what was being read there, with the mark where
+/// that began.
+#[derive(Clone, Copy)]
+pub struct Finding {
+    /// What is wrong.
+    pub problem: Problem,
+    /// Where it is wrong.
+    pub mark: Mark,
+    /// What was being read.
+    pub context: Option<Context>,
+    /// Where that began; where there is no context it tells nothing.
+    pub context_mark: Mark,
+}
+
+impl Finding {
+    /// The fault, found by this part.
+    pub fn found_by(self, kind: FaultKind) -> Fault
+        ensures { result ≡ (record {
+          kind = kind;
+          problem = self.problem;
+          offset = 0;
+          mark = self.mark;
+          context = self.context;
+          context_mark = self.context_mark;
+        }) }
+    {
+        Fault {
+            kind,
+            problem: self.problem,
+            offset: 0,
+            mark: self.mark,
+            context: self.context,
+            context_mark: self.context_mark,
+        }
+    }
+}
+
 /// Why reading stopped.
 #[derive(Drop)]
 pub enum Stop {
     /// Memory ran out.
     Memory,
     /// The text is wrong.
-    Fault(Fault),
+    Fault(Finding),
 }
 
 impl From<AllocError> for Stop {

@@ -7,6 +7,6 @@ mod problem;
 mod token;
 
 pub use context::Context;
-pub use fault::{Fault, Stop};
+pub use fault::{Fault, Finding, Stop};
 pub use problem::Problem;
-pub use token::{Lead, Placed, Token};
+pub use token::{Lead, MarkedStyle, Placed, Token};

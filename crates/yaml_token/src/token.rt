@@ -1,6 +1,36 @@
 //! The tokens of a text.
 
+ghost use Rattle.std.specs.Prelude.{◌≢◌};
+ghost use Rattle.yaml_base.specs.declared.event.ScalarStyle.TheVariants as style;
+
 use yaml_base::{Mark, ScalarStyle};
+
+/// How a scalar is written that is not plain.
+#[derive(Clone, Copy, PartialEq, Eq)]
+pub enum MarkedStyle {
+    /// Between single quotes.
+    SingleQuoted,
+    /// Between double quotes.
+    DoubleQuoted,
+    /// A block that keeps its line breaks.
+    Literal,
+    /// A block whose lines are folded.
+    Folded,
+}
+
+impl MarkedStyle {
+    /// The same style, among all.
+    pub fn scalar_style(self) -> ScalarStyle
+        ensures { result ≢ style.Plain }
+    {
+        match self {
+            MarkedStyle::SingleQuoted => ScalarStyle::SingleQuoted,
+            MarkedStyle::DoubleQuoted => ScalarStyle::DoubleQuoted,
+            MarkedStyle::Literal => ScalarStyle::Literal,
+            MarkedStyle::Folded => ScalarStyle::Folded,
+        }
+    }
+}
 
 /// A token of a text. Names, handles and scalars are bytes of UTF-8.
 #[derive(Drop)]
@@ -58,12 +88,14 @@ pub enum Token {
         /// The rest.
         suffix: Vec<u8>,
     },
-    /// A scalar.
+    /// A scalar with neither quotes nor an indicator. It says what stands between its marks, with its lines folded.
+    Plain,
+    /// A scalar between quotes, or a block of lines.
     Scalar {
         /// What it says, with its escapes and line breaks read.
         value: Vec<u8>,
         /// How it is written.
-        style: ScalarStyle,
+        style: MarkedStyle,
     },
 }
 

@@ -1,16 +1,14 @@
 //! Faults that are found at a place.
 
 use crate::cursor::Cursor;
-use yaml_base::{FaultKind, Mark};
-use yaml_token::{Context, Fault, Problem, Stop};
+use yaml_base::Mark;
+use yaml_token::{Context, Finding, Problem, Stop};
 
 impl Cursor<'_> {
     // A fault at this place, amid what began at `start`.
     pub(crate) fn fault(&self, context: Context, start: Mark, problem: Problem) -> Stop {
-        Stop::Fault(Fault {
-            kind: FaultKind::Scanner,
+        Stop::Fault(Finding {
             problem,
-            offset: 0,
             mark: self.mark(),
             context: Some(context),
             context_mark: start,
@@ -20,10 +18,8 @@ impl Cursor<'_> {
     // A fault at this place, with no context.
     pub(crate) fn bare_fault(&self, problem: Problem) -> Stop {
         let mark = self.mark();
-        Stop::Fault(Fault {
-            kind: FaultKind::Scanner,
+        Stop::Fault(Finding {
             problem,
-            offset: 0,
             mark,
             context: None,
             context_mark: mark,

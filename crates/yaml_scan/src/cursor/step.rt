@@ -107,6 +107,12 @@ impl Cursor<'_> {
         self.copy(width, out)
     }
 
+    // Steps over bytes up to the first that ends such a run.
+    pub(crate) fn skip_run(&mut self, run: Run) {
+        let width = run.len_in(&self.text[self.at..]);
+        self.pass_many(width);
+    }
+
     // Copies bytes up to the first that ends such a run.
     pub(crate) fn read_run(&mut self, run: Run, out: &mut Vec<u8>) -> Result<(), AllocError> {
         let width = run.len_in(&self.text[self.at..]);

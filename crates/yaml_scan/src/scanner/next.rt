@@ -2,8 +2,7 @@
 
 use crate::quoted::Quote;
 use crate::scanner::Scanner;
-use yaml_base::ScalarStyle;
-use yaml_token::{Context, Problem, Stop, Token};
+use yaml_token::{Context, MarkedStyle, Problem, Stop, Token};
 
 // Whether the text goes on behind a token.
 #[derive(Clone, Copy, PartialEq, Eq)]
@@ -109,8 +108,8 @@ impl Scanner<'_> {
             b'*' => self.alias(),
             b'&' => self.anchor(),
             b'!' => self.tag(),
-            b'|' if !flow => self.block_scalar(ScalarStyle::Literal),
-            b'>' if !flow => self.block_scalar(ScalarStyle::Folded),
+            b'|' if !flow => self.block_scalar(MarkedStyle::Literal),
+            b'>' if !flow => self.block_scalar(MarkedStyle::Folded),
             b'\'' => self.quoted_scalar(Quote::Single),
             b'"' => self.quoted_scalar(Quote::Double),
             _ if self.begins_plain() => self.plain_scalar(),

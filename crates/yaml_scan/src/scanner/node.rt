@@ -6,8 +6,7 @@ use crate::plain::scan_plain;
 use crate::quoted::{Quote, scan_quoted};
 use crate::scanner::Scanner;
 use crate::tag::scan_tag;
-use yaml_base::ScalarStyle;
-use yaml_token::{Context, Stop, Token};
+use yaml_token::{Context, MarkedStyle, Stop, Token};
 
 impl Scanner<'_> {
     // `&` with a name.
@@ -39,12 +38,12 @@ impl Scanner<'_> {
     }
 
     // `|` or `>`
-    pub(super) fn block_scalar(&mut self, style: ScalarStyle) -> Result<(), Stop> {
+    pub(super) fn block_scalar(&mut self, style: MarkedStyle) -> Result<(), Stop> {
         self.remove_candidate()?;
         self.key_allowed = true;
         let start = self.cursor.mark();
         let least = self.indent();
-        let literal = style == ScalarStyle::Literal;
+        let literal = style == MarkedStyle::Literal;
         let block = scan_block(self.alloc, &mut self.cursor, literal, least)?;
         let token = Token::Scalar {
             value: block.text,
@@ -60,8 +59,8 @@ impl Scanner<'_> {
         let start = self.cursor.mark();
         let value = scan_quoted(self.alloc, &mut self.cursor, quote)?;
         let style = match quote {
-            Quote::Single => ScalarStyle::SingleQuoted,
-            Quote::Double => ScalarStyle::DoubleQuoted,
+            Quote::Single => MarkedStyle::SingleQuoted,
+            Quote::Double => MarkedStyle::DoubleQuoted,
         };
         self.put_here(Token::Scalar { value, style }, start)
     }
@@ -72,14 +71,10 @@ impl Scanner<'_> {
         self.key_allowed = false;
         let start = self.cursor.mark();
         let (flow, indent) = (self.is_flow(), self.indent());
-        let plain = scan_plain(self.alloc, &mut self.cursor, flow, indent)?;
+        let plain = scan_plain(&mut self.cursor, flow, indent)?;
         if plain.broken {
             self.key_allowed = true;
         }
-        let token = Token::Scalar {
-            value: plain.text,
-            style: ScalarStyle::Plain,
-        };
-        self.put(token, start, plain.end)
+        self.put(Token::Plain, start, plain.end)
     }
 }

@@ -5,7 +5,7 @@ use Rattle.yaml_base.specs.declared.event.Event.{Event}
 use Rattle.yaml_base.specs.StreamMachine.{within}
 use Rattle.yaml_parse.specs.declared.frame.Frame.{Frame}
 use Rattle.yaml_parse.specs.Frames.{open_of, opens, state_of}
-use Rattle.yaml_parse.proofs.Streams.{shown_to, goes_to, opened_more}
+use Rattle.yaml_parse.proofs.Streams.{marks_to, reached_to, said_to, shown_to, goes_to, opened_more}
 use Rattle.yaml_parse.proofs.stream.Stream.open_inner.Goals as goal
 
 pub invariant_of-self-2 : goal.invariant_of-self-2
@@ -22,4 +22,13 @@ invariant_of-self-2 c =
       shown = shown_to old.text.now old.events.items c.push_reserved.new.self.items x
           (c.push_reserved.ensures.items ∙ ap (λ es. es ++ x ∷ []) c.reserve.ensures.items) old.shown
           c.requires.shown;
+      plain = said_to old.events.items c.push_reserved.new.self.items x
+          (c.push_reserved.ensures.items ∙ ap (λ es. es ++ x ∷ []) c.reserve.ensures.items) old.plain
+          c.requires.plain;
+      marks = marks_to old.text.now old.events.items c.push_reserved.new.self.items x old.reached
+          (c.push_reserved.ensures.items ∙ ap (λ es. es ++ x ∷ []) c.reserve.ensures.items) old.marks old.last
+          c.in_ok-check.ensures.0 c.in_ok-check.ensures.1;
+      last = reached_to old.events.items c.push_reserved.new.self.items x old.reached c.index-self.result
+          (c.push_reserved.ensures.items ∙ ap (λ es. es ++ x ∷ []) c.reserve.ensures.items) old.last
+          c.in_ok-check.ensures.0 c.index-self.ensures;
     }

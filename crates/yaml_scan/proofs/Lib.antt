@@ -1,0 +1,2 @@
+-- Lemmas on which bytes may be a text.
+pub mod Characters
