@@ -15,4 +15,5 @@ pub mod JoinCode
 pub mod PartLaws
 pub mod JoinData
 pub mod Stands
+pub mod RowShapes
 pub mod EqualDataLaws

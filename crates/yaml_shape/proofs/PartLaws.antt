@@ -1,12 +1,16 @@
 -- Tables joined in a row, part by part.
-use Rattle.std.proofs.Common.{◌≡◌, ◌<◌, ◌≤◌, ◌+◌, ℕ, List, [], ◌∷◌, ◌++◌, map, length, refl, sym, ◌∙◌, ap, subst, All}
-use Rattle.std.proofs.Common.{arith, append_assoc, append-nil, length-append}
+use Rattle.std.proofs.Common.{◌≡◌, ◌<◌, ◌≤◌, ◌+◌, ℕ, suc, List, [], ◌∷◌, ◌++◌, map, length, refl, sym, ◌∙◌, ap, subst, All}
+use Rattle.std.proofs.Common.{arith, append_assoc, append-nil, length-append, string_bytes}
+use Rattle.std.specs.Prelude.{String}
+use Rattle.std.specs.List.{zip}
+use Rattle.std.specs.declared.alloc.Global.{Global}
 use Rattle.std.proofs.lemmas.List.{length-map, map-append}
 use Rattle.std.proofs.lemmas.List.Elements.{All-nil, All-cons, All-head, All-tail, All-push, All-map}
 use Rattle.yaml_shape.specs.PlainShape.{PlainShape}
-use Rattle.yaml_shape.specs.ShapeView.{ids_of}
+use Rattle.yaml_shape.specs.ShapeView.{ids_of, field_of, fields_of}
 use Rattle.yaml_shape.specs.Validity.{AllNameWithin}
-use Rattle.yaml_shape.specs.Join.{raised, joined, joined_all, starts_behind, parts_of, StartsWithin, IsTooLarge}
+use Rattle.yaml_shape.specs.Join.{raised, joined, joined_all, starts_behind, parts_of, StartsWithin, IsRow}
+use Rattle.yaml_shape.specs.Join.{IsTooLarge}
 use Rattle.yaml_shape.specs.declared.shape.ShapeId.{ShapeId}
 use Rattle.yaml_shape.specs.declared.fault.SchemaFault.{SchemaFault}
 use Rattle.yaml_shape.specs.declared.fault.SchemaFault.TheVariants.{S1, S2, S3, S4, S5}
@@ -15,10 +19,12 @@ use Rattle.yaml_shape.specs.declared.fault.SchemaFault.TheVariants.{S1, S2, S3, 
 abbrev pub Parts : Type 0
 Parts = List (List PlainShape × ShapeId)
 
--- some of the parts are joined, with their starts, and others are left
-pub record AreJoined (parts : Parts) (table : List PlainShape) (starts : List ShapeId) (rest : Parts) : Type 0 where
-  pub tables : joined_all table (parts_of rest) ≡ joined_all [] (parts_of parts)
-  pub places : ids_of starts ++ starts_behind (length table) (parts_of rest) ≡ starts_behind 0 (parts_of parts)
+-- some of the parts are joined behind a first table, with their starts, and others are left
+pub record AreJoined (first : List PlainShape) (parts : Parts) (table : List PlainShape) (starts : List ShapeId)
+    (rest : Parts) : Type 0 where
+  pub tables : joined_all table (parts_of rest) ≡ joined_all first (parts_of parts)
+  pub places : ids_of starts ++ starts_behind (length table) (parts_of rest)
+      ≡ starts_behind (length first) (parts_of parts)
   pub within : All StartsWithin (parts_of rest)
 
 pub length-joined : (first second : List PlainShape) → length (joined first second) ≡ length first + length second
@@ -26,11 +32,11 @@ length-joined first second = length-append first (map (raised (length first)) se
     ∙ ap (λ n. length first + n) (length-map second (raised (length first)))
 
 -- one more is joined
-pub one_joined : (parts : Parts) (table next : List PlainShape) (starts more : List ShapeId)
+pub one_joined : (first : List PlainShape) (parts : Parts) (table next : List PlainShape) (starts more : List ShapeId)
     (schema : List PlainShape) (start place : ShapeId) (rest : Parts)
     → next ≡ joined table schema → more ≡ starts ++ place ∷ [] → place.0 ≡ length table + start.0
-    → AreJoined parts table starts ((schema, start) ∷ rest) → AreJoined parts next more rest
-one_joined parts table next starts more schema start place rest made pushed here are = record {
+    → AreJoined first parts table starts ((schema, start) ∷ rest) → AreJoined first parts next more rest
+one_joined first parts table next starts more schema start place rest made pushed here are = record {
   tables = ap (λ t. joined_all t (parts_of rest)) made ∙ are.tables;
   places = ap (λ s. ids_of s ++ starts_behind (length next) (parts_of rest)) pushed
       ∙ (ap (λ s. s ++ starts_behind (length next) (parts_of rest)) (map-append (λ id. id.0) starts (place ∷ []))
@@ -59,7 +65,7 @@ starts_inside first (part ∷ parts) within =
     (subst (λ n. All (λ id. id < length (joined_all (joined first part.0) parts)) (starts_behind n parts)) size
     (starts_inside (joined first part.0) parts (All-tail StartsWithin part parts within)))
 
-larger : (fault : SchemaFault) (size more : ℕ) → size ≤ more → IsTooLarge size fault → IsTooLarge more fault
+pub larger : (fault : SchemaFault) (size more : ℕ) → size ≤ more → IsTooLarge size fault → IsTooLarge more fault
 larger (S1 n) size more le h = h
 larger (S2 n) size more le h = h
 larger (S3 n) size more le h = h
@@ -67,26 +73,29 @@ larger S4 size more le h = omega arith
 larger S5 size more le h = tt
 
 -- where one join is too large, the whole is
-pub too_large : (fault : SchemaFault) (parts : Parts) (table : List PlainShape) (starts : List ShapeId)
-    (schema : List PlainShape) (start : ShapeId) (rest : Parts)
-    → AreJoined parts table starts ((schema, start) ∷ rest) → IsTooLarge (length table + length schema) fault
-    → IsTooLarge (length (joined_all [] (parts_of parts)) + 1) fault
-too_large fault parts table starts schema start rest are h =
-    let whole : length (joined_all (joined table schema) (parts_of rest)) ≡ length (joined_all [] (parts_of parts)) =
+pub too_large : (fault : SchemaFault) (first : List PlainShape) (parts : Parts) (table : List PlainShape)
+    (starts : List ShapeId) (schema : List PlainShape) (start : ShapeId) (rest : Parts)
+    → AreJoined first parts table starts ((schema, start) ∷ rest) → IsTooLarge (length table + length schema) fault
+    → IsTooLarge (length (joined_all first (parts_of parts))) fault
+too_large fault first parts table starts schema start rest are h =
+    let whole : length (joined_all (joined table schema) (parts_of rest)) ≡ length (joined_all first (parts_of parts)) =
     ap length are.tables in
-    larger fault (length table + length schema) (length (joined_all [] (parts_of parts)) + 1)
+    larger fault (length table + length schema) (length (joined_all first (parts_of parts)))
     (omega (arith, longer (joined table schema) (parts_of rest), length-joined table schema)) h
 
 -- at the end none is left
-pub all_joined : (parts : Parts) (table : List PlainShape) (starts : List ShapeId) → AreJoined parts table starts []
-    → (table ≡ joined_all [] (parts_of parts)) × (ids_of starts ≡ starts_behind 0 (parts_of parts))
-all_joined parts table starts are = (are.tables, sym (append-nil (ids_of starts)) ∙ are.places)
+pub all_joined : (first : List PlainShape) (parts : Parts) (table : List PlainShape) (starts : List ShapeId)
+    → AreJoined first parts table starts [] → IsRow first (parts_of parts) table starts
+all_joined first parts table starts are = record {
+  table_is = are.tables;
+  starts_are = sym (append-nil (ids_of starts)) ∙ are.places;
+}
 
 -- the start of the next table is in it
-pub next_within : (parts : Parts) (table : List PlainShape) (starts : List ShapeId) (schema : List PlainShape)
-    (start : ShapeId) (rest : Parts)
-    → AreJoined parts table starts ((schema, start) ∷ rest) → start.0 < length schema
-next_within parts table starts schema start rest are =
+pub next_within : (first : List PlainShape) (parts : Parts) (table : List PlainShape) (starts : List ShapeId)
+    (schema : List PlainShape) (start : ShapeId) (rest : Parts)
+    → AreJoined first parts table starts ((schema, start) ∷ rest) → start.0 < length schema
+next_within first parts table starts schema start rest are =
     All-head StartsWithin (schema, start.0) (parts_of rest) are.within
 
 -- a list of no length is empty
@@ -118,3 +127,37 @@ all_seen parts done are =
     All-map (λ p. AllNameWithin (length p.0) p.0) (λ p. (p.0, p.1.0)) parts
     (subst (λ (l : Parts). All (λ p. AllNameWithin (length p.0) p.0) l) (sym (append-nil done)
     ∙ are.row) are.closed)
+
+-- there are as many starts as parts
+pub length-starts : (size : ℕ) (parts : List (List PlainShape × ℕ)) → length (starts_behind size parts) ≡ length parts
+length-starts size [] = refl
+length-starts size (part ∷ parts) = ap suc (length-starts (size + length part.0) parts)
+
+-- some of the names have their numbers, and as many names as numbers are left
+pub record AreNamed (names : List (String Global)) (ids : List ShapeId) (fields : List (String Global × ShapeId))
+    (rest : List (String Global)) (left : List ShapeId) : Type 0 where
+  pub row : fields_of fields ++ zip (map string_bytes rest) (ids_of left) ≡ zip (map string_bytes names) (ids_of ids)
+  pub same : length rest ≡ length left
+
+-- one more has
+pub one_named : (names : List (String Global)) (ids : List ShapeId) (fields more : List (String Global × ShapeId))
+    (name : String Global) (id : ShapeId) (before rest : List (String Global)) (all left : List ShapeId)
+    → before ≡ name ∷ rest → all ≡ id ∷ left → more ≡ fields ++ (name, id) ∷ []
+    → AreNamed names ids fields before all → AreNamed names ids more rest left
+one_named names ids fields more name id before rest all left next first pushed are =
+    let here : AreNamed names ids fields (name ∷ rest) (id ∷ left) =
+    subst (λ l. AreNamed names ids fields (name ∷ rest) l) first
+    (subst (λ l. AreNamed names ids fields l all) next are) in
+    record {
+      row = ap (λ l. fields_of l ++ zip (map string_bytes rest) (ids_of left)) pushed
+          ∙ (ap (λ l. l ++ zip (map string_bytes rest) (ids_of left)) (map-append field_of fields ((name, id) ∷ []))
+          ∙ (append_assoc (fields_of fields) (field_of (name, id) ∷ []) (zip (map string_bytes rest) (ids_of left))
+          ∙ here.row));
+      same = omega (arith, here.same);
+    }
+
+-- all have
+pub all_named : (names : List (String Global)) (ids : List ShapeId) (fields : List (String Global × ShapeId))
+    (left : List ShapeId) → AreNamed names ids fields [] left
+    → fields_of fields ≡ zip (map string_bytes names) (ids_of ids)
+all_named names ids fields left are = sym (append-nil (fields_of fields)) ∙ are.row

@@ -1,5 +1,6 @@
 -- Tables of shapes joined into one.
 use Rattle.std.specs.Prelude.{ℕ, ◌≡◌, ◌+◌, ◌<◌, List, [], ◌∷◌, ◌++◌, map, length}
+use Rattle.std.specs.List.{zip}
 use Rattle.yaml_shape.specs.PlainShape.{PlainShape, any_shape, bool_shape, char_shape, integer_shape, str_shape}
 use Rattle.yaml_shape.specs.PlainShape.{identifier_shape, bytes_shape, option_shape, unit_shape, unit_struct_shape}
 use Rattle.yaml_shape.specs.PlainShape.{newtype_shape, seq_shape, tuple_shape, tuple_struct_shape, map_shape}
@@ -7,6 +8,8 @@ use Rattle.yaml_shape.specs.PlainShape.{struct_shape}
 use Rattle.yaml_shape.specs.PlainShape.{enum_shape, ignored_shape}
 use Rattle.yaml_shape.specs.PlainShape.{tuple_variant_shape, struct_variant_shape}
 use Rattle.yaml_shape.specs.PlainShape.{PlainVariant, unit_variant, newtype_variant, tuple_variant, struct_variant}
+use Rattle.yaml_shape.specs.ShapeView.{ids_of}
+use Rattle.yaml_shape.specs.Validity.{HasDistinctNames}
 use Rattle.yaml_shape.specs.declared.shape.ShapeId.{ShapeId}
 use Rattle.yaml_shape.specs.declared.fault.SchemaFault.{SchemaFault}
 use Rattle.yaml_shape.specs.declared.fault.SchemaFault.TheVariants.{S1, S2, S3, S4, S5}
@@ -81,6 +84,16 @@ pub record IsWith (shapes : List PlainShape) (shape : PlainShape) (answer : List
   pub table : answer.0 ≡ shapes ++ shape ∷ []
   pub start : answer.1.0 ≡ length shapes
 
+-- the answer is this table with these in a row behind it, and where each starts there
+pub record IsRow (first : List PlainShape) (parts : List (List PlainShape × ℕ)) (table : List PlainShape)
+    (starts : List ShapeId) : Type 0 where
+  pub table_is : table ≡ joined_all first parts
+  pub starts_are : ids_of starts ≡ starts_behind (length first) parts
+
+-- names, each with the number where the part in its place starts behind so many shapes
+abbrev pub named_behind : ℕ → List (List ℕ) → List (List PlainShape × ℕ) → List (List ℕ × ℕ)
+named_behind size names parts = zip names (starts_behind size parts)
+
 -- a join of so many shapes is refused: for being more than 4,096 shapes, or for want of memory
 abbrev pub IsTooLarge : ℕ → SchemaFault → Type 0
 IsTooLarge size (S1 number) = ⊥
@@ -88,3 +101,12 @@ IsTooLarge size (S2 number) = ⊥
 IsTooLarge size (S3 number) = ⊥
 IsTooLarge size S4 = 4096 < size
 IsTooLarge size S5 = Unit {0}
+
+-- A shape is not added behind so many: there is no room for it, or, where there is, it has a name twice and is told by
+-- its number; or memory runs out.
+abbrev pub IsNotAdded : ℕ → PlainShape → SchemaFault → Type 0
+IsNotAdded size shape (S1 number) = ⊥
+IsNotAdded size shape (S2 number) = ⊥
+IsNotAdded size shape (S3 number) = (size < 4096) × (number ≡ size) × (HasDistinctNames shape → ⊥)
+IsNotAdded size shape S4 = 4096 < size + 1
+IsNotAdded size shape S5 = Unit {0}

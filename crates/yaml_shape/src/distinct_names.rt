@@ -85,8 +85,8 @@ fn are_distinct_variants(
     are_distinct_inside(alloc, variants)
 }
 
-// Whether the shape has no name twice. The only error is want of memory.
-fn has_distinct_names(alloc: Global, shape: &Shape) -> Result<bool, AllocError>
+/// Whether the shape has no name twice. The only error is want of memory.
+pub(crate) fn has_distinct_names(alloc: Global, shape: &Shape) -> Result<bool, AllocError>
     ensures { IfOk result (λ d. IsTrue d ↔ HasDistinctNames (shape_of shape.now)) }
 {
     match shape {

@@ -4,6 +4,7 @@ ghost use Rattle.std.specs.Prelude.{◌≡◌, Some};
 ghost use Rattle.yaml_shape.specs.SchemaFaultText.{schema_fault_text};
 
 use std::alloc::{AllocError, AllocFailed};
+use std::error::Error;
 use std::fmt;
 
 /// Why a table of shapes is no schema. A number is that of the least shape concerned.
@@ -34,6 +35,8 @@ impl fmt::Display for SchemaFault {
         }
     }
 }
+
+impl Error for SchemaFault {}
 
 impl From<AllocError> for SchemaFault {
     ghost use Rattle.yaml_shape.specs.declared.fault.SchemaFault.TheVariants.{S5};

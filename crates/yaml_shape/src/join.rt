@@ -1,20 +1,21 @@
 //! Tables of shapes joined into one, with one more shape that is made of theirs.
 
-ghost use Rattle.std.specs.Prelude.{◌≡◌, ◌+◌, ◌<◌, length, [], All, IfOk, IfErr};
-ghost use Rattle.yaml_shape.specs.PlainShape.{seq_shape, option_shape, map_shape, tuple_shape};
+ghost use Rattle.std.specs.Prelude.{◌≡◌, ◌+◌, ◌<◌, length, string_bytes, IfOk, IfErr};
+ghost use Rattle.yaml_shape.specs.PlainShape.{newtype_shape, seq_shape, option_shape, map_shape};
 ghost use Rattle.yaml_shape.specs.ShapeView.{shape_of};
 ghost use Rattle.yaml_shape.specs.Validity.{NamesWithin, HasDistinctNames};
-ghost use Rattle.yaml_shape.specs.Kept.{KeepsShapes, KeepsAllShapes};
-ghost use Rattle.yaml_shape.specs.Join.{joined, joined_all, starts_behind, parts_of, StartsWithin, IsWith, IsTooLarge};
+ghost use Rattle.yaml_shape.specs.Kept.{KeepsShapes};
+ghost use Rattle.yaml_shape.specs.Join.{joined, IsWith, IsTooLarge, IsNotAdded};
 
+use crate::distinct_names::has_distinct_names;
 use crate::fault::SchemaFault;
 use crate::moved_shapes::raise_all;
 use crate::schema::{SHAPES, Schema};
 use crate::shape::{Shape, ShapeId};
 use std::alloc::Global;
 
-// The second table behind the first, with the numbers in it raised past the first.
-fn join(first: Schema, second: Schema) -> Result<Schema, SchemaFault>
+/// The second table behind the first, with the numbers in it raised past the first.
+pub(crate) fn join(first: Schema, second: Schema) -> Result<Schema, SchemaFault>
     ensures ok { IfOk result (λ schema. schema ≡ joined first second) }
     ensures refused { IfErr result (IsTooLarge (length first + length second)) }
 {
@@ -28,8 +29,8 @@ fn join(first: Schema, second: Schema) -> Result<Schema, SchemaFault>
     Ok(Schema { shapes })
 }
 
-// The table with one more shape behind it, and the number of that shape.
-fn add(schema: Schema, shape: Shape) -> Result<(Schema, ShapeId), SchemaFault>
+/// The table with one more shape behind it, and the number of that shape.
+pub(crate) fn add(schema: Schema, shape: Shape) -> Result<(Schema, ShapeId), SchemaFault>
     requires within { NamesWithin (length schema) (shape_of shape) }
     requires distinct { HasDistinctNames (shape_of shape) }
     ensures ok { IfOk result (IsWith schema (shape_of shape)) }
@@ -43,6 +44,55 @@ fn add(schema: Schema, shape: Shape) -> Result<(Schema, ShapeId), SchemaFault>
     }
     shapes.push(shape)?;
     Ok((Schema { shapes }, ShapeId(start as u32)))
+}
+
+/// The table with one more shape behind it, which may have a name twice, and the number of that shape. Refused by `S4`
+/// where there is no room for it, else by `S3` with its number where it has a name twice, and by `S5`.
+pub(crate) fn add_named(
+    alloc: Global,
+    schema: Schema,
+    shape: Shape,
+) -> Result<(Schema, ShapeId), SchemaFault>
+    requires { NamesWithin (length schema) (shape_of shape) }
+    ensures ok { IfOk result (IsWith schema (shape_of shape)) }
+    ensures distinct { IfOk result (λ _. HasDistinctNames (shape_of shape)) }
+    ensures kept { IfOk result (λ r. KeepsShapes 0 schema r.0) }
+    ensures refused { IfErr result (IsNotAdded (length schema) (shape_of shape)) }
+{
+    let number = schema.shapes.len();
+    if number >= SHAPES {
+        return Err(SchemaFault::S4);
+    }
+    if !has_distinct_names(alloc, &shape)? {
+        return Err(SchemaFault::S3(number as u32));
+    }
+    match add(schema, shape) {
+        Ok(added) => Ok(added),
+        Err(fault) => Err(fault),
+    }
+}
+
+/// The schema with a struct of this name behind it around one content, which is of the shape with this number, and the
+/// number of the struct. `Schema::has` is the test of what is asked. Refused by `S4` where there is no room for it, and
+/// by `S5`.
+pub fn newtype_of(
+    _alloc: Global,
+    name: String,
+    schema: Schema,
+    content: ShapeId,
+) -> Result<(Schema, ShapeId), SchemaFault>
+    requires { content.0 < length schema }
+    ensures ok { IfOk result (IsWith schema (newtype_shape (string_bytes name) content.0)) }
+    ensures kept { IfOk result (λ r. KeepsShapes 0 schema r.0) }
+    ensures refused { IfErr result (IsTooLarge (length schema + 1)) }
+{
+    add(
+        schema,
+        Shape::Newtype {
+            name,
+            inner: content,
+        },
+    )
 }
 
 /// The schema with a sequence behind it whose elements are of the shape with this number, and the number of the
@@ -96,33 +146,4 @@ pub fn map_of(
     let behind = keys.shapes.len() as u32;
     let both = join(keys, values)?;
     add(both, Shape::Map(key, ShapeId(behind + value.0)))
-}
-
-/// All schemas in a row, the numbers in each moved, with a tuple behind them whose elements are of the shapes with
-/// these numbers; and the number of the tuple. Without any it is the empty tuple. `Schema::has` is the test of what is
-/// asked of each. Refused by `S4` where there are too many, and by `S5`.
-pub fn tuple_of(
-    alloc: Global,
-    parts: Vec<(Schema, ShapeId)>,
-) -> Result<(Schema, ShapeId), SchemaFault>
-    requires { All StartsWithin (parts_of parts.items) }
-    ensures ok { IfOk result (IsWith (joined_all [] (parts_of parts.items))
-        (tuple_shape (starts_behind 0 (parts_of parts.items)))) }
-    ensures kept { IfOk result (λ r. KeepsAllShapes 0 (parts_of parts.items) r.0) }
-    ensures refused { IfErr result (IsTooLarge (length (joined_all [] (parts_of parts.items)) + 1)) }
-{
-    let mut starts = Vec::with_capacity(alloc, parts.len())?;
-    let mut all = Schema {
-        shapes: Vec::new(alloc),
-    };
-    for (schema, start) in parts {
-        schema.is_valid();
-        let behind = all.shapes.len() as u32;
-        starts.push(ShapeId(behind + start.0))?;
-        match join(all, schema) {
-            Ok(both) => all = both,
-            Err(fault) => return Err(fault),
-        }
-    }
-    add(all, Shape::Tuple(starts))
 }

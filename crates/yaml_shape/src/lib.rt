@@ -10,6 +10,7 @@ mod held;
 mod ids_within;
 mod join;
 mod moved_shapes;
+mod rows;
 mod schema;
 mod shape;
 mod text;
@@ -21,7 +22,8 @@ pub use expected::{
     sequence_of, struct_variant, tuple_struct_with, tuple_variant, tuple_variant_with,
 };
 pub use fault::SchemaFault;
-pub use join::{map_of, option_of, seq_of, tuple_of};
+pub use join::{map_of, newtype_of, option_of, seq_of};
+pub use rows::{strict_struct_of, struct_of, tuple_of, tuple_struct_of};
 pub use schema::Schema;
 pub use shape::{Shape, ShapeId, VariantShape};
 pub use text::Text;

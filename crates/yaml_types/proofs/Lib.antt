@@ -1,8 +1,10 @@
 -- Lemmas of this crate.
 pub mod BuildLaws
 pub mod FoundLaws
+pub mod ItemsThen
 pub mod InsertLaws
 pub mod LeafLaws
 pub mod RowLaws
+pub mod StructFound
 pub mod TupleLaws
 pub mod WriteLaws

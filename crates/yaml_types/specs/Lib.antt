@@ -5,11 +5,15 @@ pub mod MapLaws
 pub mod PartShapes
 pub mod PlainLaws
 pub mod BuildRefusal
+pub mod FaultText
 pub mod RefusalParts
 pub mod ReturnLaws
+pub mod RowReturns
+pub mod Rows
 pub mod ShapeLaws
 pub mod Start
 pub mod StartLaws
+pub mod StructLaws
 pub mod TripleLaws
 pub mod WrittenLaws
 pub mod WrittenParts

@@ -53,7 +53,8 @@ seq_has s c ds =
     at_last s.0 (seq_shape s.1) (on_seq (λ element. all_have (seq_start s).0 element ds))
     ∙ elements_have s c ds
 
-parts_have : (by : ℕ) (parts : List Start) (whole : List PlainShape) → All StartsWithin parts → KeepsAllShapes by parts whole
+-- elements, each of its own shape
+pub parts_have : (by : ℕ) (parts : List Start) (whole : List PlainShape) → All StartsWithin parts → KeepsAllShapes by parts whole
     → (ds : PlainItems) → each_has whole (starts_behind by parts) ds ≡ items_match parts ds
 parts_have by [] whole w k no_items = refl
 parts_have by [] whole w k (item d ds) = refl

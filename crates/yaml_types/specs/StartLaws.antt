@@ -84,7 +84,8 @@ closed_map k v a b =
     (All-cons (λ n. n < length (joined k.0 v.0)) k.1 ((length k.0 + v.1) ∷ []) (omega arith)
     (one_name (length k.0 + v.1) (length (joined k.0 v.0)) (omega arith)))
 
-closed_all : (first : List PlainShape) (parts : List Start) → AllNameWithin (length first) first → All IsClosed parts
+-- tables in a row
+pub closed_all : (first : List PlainShape) (parts : List Start) → AllNameWithin (length first) first → All IsClosed parts
     → AllNameWithin (length (joined_all first parts)) (joined_all first parts)
 closed_all first [] a c = a
 closed_all first (p ∷ ps) a c =

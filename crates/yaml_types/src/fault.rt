@@ -1,6 +1,8 @@
 //! Why data makes no value.
 
 use std::alloc::{AllocError, AllocFailed};
+use std::error::Error;
+use std::fmt;
 
 /// Why data makes no value.
 #[derive(Debug, Drop)]
@@ -32,3 +34,19 @@ impl<T: Drop> From<AllocFailed<T>> for BuildFault {
         BuildFault::Memory
     }
 }
+
+impl fmt::Display for BuildFault {
+    ghost use Rattle.std.specs.Prelude.{Some};
+    ghost use Rattle.yaml_types.specs.FaultText.{build_fault_text};
+
+    ghost output = { λ fault. Some (build_fault_text fault) };
+
+    fn fmt<W: fmt::Write>(&self, f: &mut fmt::Formatter<W>) -> fmt::Result {
+        match self {
+            BuildFault::Memory => f.write_str("out of memory"),
+            BuildFault::Message(text) => f.write_str(text.as_str()),
+        }
+    }
+}
+
+impl Error for BuildFault {}

@@ -1,0 +1,15 @@
+//! Types of one's own, read from data and written as data: the callers that `yaml_types/CALLING.md` quotes.
+#![tactic(auto)]
+
+mod address;
+mod greeting;
+mod server;
+mod workers;
+
+pub use address::Address;
+pub use greeting::Greeting;
+pub use server::Server;
+pub use workers::Workers;
+
+#[cfg(test)]
+mod tests;

@@ -1,0 +1,82 @@
+//! The types, read from data and written as data.
+
+use crate::{Address, Greeting, Server, Workers};
+use std::alloc::Global;
+use std::test::Fail;
+use yaml_shape::{Data, Text, Typed};
+use yaml_types::{BuildFault, Deserialize, Serialize};
+
+// The data of an address.
+fn address<'de>(alloc: Global) -> Result<Data<'de>, Fail> {
+    let host = Data::Str(Text::Borrowed("localhost"));
+    Ok(Data::Struct(vec![in alloc; host, Data::Unsigned(80)]?))
+}
+
+// A value of data, which is of the shape of its type.
+fn read<'de, T: Deserialize<'de>>(
+    alloc: Global,
+    found: Data<'de>,
+) -> Result<Result<T, BuildFault>, Fail> {
+    let (schema, id) = T::schema(alloc)?;
+    if Typed::new(&schema, id, &found).is_none() {
+        return Err("not of the shape")?;
+    }
+    Ok(T::build(alloc, found))
+}
+
+#[test]
+fn a_struct_is_read_from_its_fields(rt: HostRuntime) -> Result<(), Fail> {
+    let alloc = rt.alloc();
+    let address: Address = read(alloc, address(alloc)?)??;
+    assert_eq!(rt; address.host.as_str(), "localhost");
+    assert_eq!(rt; address.port, 80);
+    Ok(())
+}
+
+#[test]
+fn an_absent_field_has_its_default(rt: HostRuntime) -> Result<(), Fail> {
+    let alloc = rt.alloc();
+    let tags = Data::Seq(vec![in alloc; Data::Str(Text::Borrowed("a"))]?);
+    let fields = vec![in alloc; address(alloc)?, Data::None, tags]?;
+    let server: Server = read(alloc, Data::Struct(fields))??;
+    assert_eq!(rt; server.listen.port, 80);
+    assert_eq!(rt; server.workers, 4);
+    assert_eq!(rt; server.tags.len(), 1);
+
+    let written = server.to_data(alloc)?;
+    let (schema, id) = <Server as Serialize>::schema(alloc)?;
+    assert!(rt; Typed::new(&schema, id, &written).is_some());
+    let again: Server = read(alloc, written)??;
+    assert!(rt; again == server);
+    Ok(())
+}
+
+#[test]
+fn a_check_tells_its_message(rt: HostRuntime) -> Result<(), Fail> {
+    let alloc = rt.alloc();
+    let workers: Workers = read(alloc, Data::Unsigned(2))??;
+    assert_eq!(rt; workers.0, 2);
+    let refused: Result<Workers, BuildFault> = read(alloc, Data::Unsigned(0))?;
+    let told = match refused {
+        Err(BuildFault::Message(message)) => message,
+        _ => String::new(alloc),
+    };
+    assert_eq!(rt; told.as_str(), "expected a worker");
+    Ok(())
+}
+
+// What a greeting is read as.
+fn greeting<'de>(
+    alloc: Global,
+    found: Data<'de>,
+) -> Result<Result<Greeting<'de>, BuildFault>, Fail> {
+    read::<'de, Greeting<'de>>(alloc, found)
+}
+
+#[test]
+fn a_text_is_borrowed(rt: HostRuntime) -> Result<(), Fail> {
+    let alloc = rt.alloc();
+    let greeting = greeting(alloc, Data::Str(Text::Borrowed("Anna")))??;
+    assert_eq!(rt; greeting.whom, "Anna");
+    Ok(())
+}

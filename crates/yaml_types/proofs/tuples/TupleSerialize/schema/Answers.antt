@@ -1,0 +1,7 @@
+-- Where one type of the row is too large, the tuple is.
+use Rattle.yaml_types.proofs.StructFound.{tuple_too_large}
+use Rattle.yaml_types.proofs.tuples.TupleSerialize.schema.Goals as goal
+
+pub returns-in-Err-clause-refused : goal.returns-in-Err-clause-refused
+returns-in-Err-clause-refused g c =
+    tuple_too_large c.in-Err.fault g.R.WriteRow.starts c.in-Err.ensures.refused
