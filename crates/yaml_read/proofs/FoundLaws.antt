@@ -9,10 +9,9 @@ use Rattle.yaml_base.specs.declared.found.Found.{Found}
 use Rattle.yaml_base.specs.declared.found.Found.TheVariants as found
 use Rattle.yaml_read.specs.ScalarAny.{any_found, any_in}
 use Rattle.yaml_read.specs.ScalarFound.{wrong_type, found_integer, fault_in}
+use Rattle.yaml_read.specs.ScalarSorts.{PlainSort, without_text, tagged_bool, tagged_int, tagged_float, tagged_null}
+use Rattle.yaml_read.specs.ScalarSorts.{by_its_text, as_string}
 use Rattle.yaml_read.specs.Steps.{◌>>=◌}
-use Rattle.yaml_read.specs.declared.de.scalar.sort.ScalarSort.{ScalarSort}
-use Rattle.yaml_read.specs.declared.de.scalar.sort.ScalarSort.TheVariants.{NoText, TaggedBool, TaggedInt, TaggedFloat}
-use Rattle.yaml_read.specs.declared.de.scalar.sort.ScalarSort.TheVariants.{TaggedNull, Resolved, String}
 use Rattle.yaml_read.specs.inner.Expectations.{found_in, fault_by}
 
 fault_some : {A : Type 0} (f : A → Found) (o : Option A) (e : Cause) (expected : List ℕ)
@@ -26,15 +25,15 @@ fault_if true f e expected = refl
 fault_if false f e expected = refl
 
 -- the fault of a scalar in a row
-pub fault_found : (sort : ScalarSort) (text expected : List ℕ)
+pub fault_found : (sort : PlainSort) (text expected : List ℕ)
     → fault_in sort text expected ≡ fault_by expected (found_in sort text)
-fault_found NoText text expected = refl
-fault_found TaggedBool text expected = fault_some (λ b. found.Bool b) (boolean_of text) _ expected
-fault_found TaggedInt text expected = fault_some (λ f. f) (found_integer text) _ expected
-fault_found TaggedFloat text expected = fault_if (is_float text) _ _ expected
-fault_found TaggedNull text expected = fault_if (is_null_word text) _ _ expected
-fault_found Resolved text expected = refl
-fault_found String text expected = refl
+fault_found without_text text expected = refl
+fault_found tagged_bool text expected = fault_some (λ b. found.Bool b) (boolean_of text) _ expected
+fault_found tagged_int text expected = fault_some (λ f. f) (found_integer text) _ expected
+fault_found tagged_float text expected = fault_if (is_float text) _ _ expected
+fault_found tagged_null text expected = fault_if (is_null_word text) _ _ expected
+fault_found by_its_text text expected = refl
+fault_found as_string text expected = refl
 
 any_some : {A : Type 0} (f : A → Found) (o : Option A) (e : Cause)
     → option_map_or (λ x. any_found (f x)) o (Err e) ≡ (option_map_or (λ x. Ok (f x)) o (Err e) >>= any_found)
@@ -47,11 +46,11 @@ any_if true f e = refl
 any_if false f e = refl
 
 -- the value that a scalar in a row is
-pub any_found_in : (sort : ScalarSort) (text : List ℕ) → any_in sort text ≡ (found_in sort text >>= any_found)
-any_found_in NoText text = refl
-any_found_in TaggedBool text = any_some (λ b. found.Bool b) (boolean_of text) _
-any_found_in TaggedInt text = any_some (λ f. f) (found_integer text) _
-any_found_in TaggedFloat text = any_if (is_float text) _ _
-any_found_in TaggedNull text = any_if (is_null_word text) _ _
-any_found_in Resolved text = refl
-any_found_in String text = refl
+pub any_found_in : (sort : PlainSort) (text : List ℕ) → any_in sort text ≡ (found_in sort text >>= any_found)
+any_found_in without_text text = refl
+any_found_in tagged_bool text = any_some (λ b. found.Bool b) (boolean_of text) _
+any_found_in tagged_int text = any_some (λ f. f) (found_integer text) _
+any_found_in tagged_float text = any_if (is_float text) _ _
+any_found_in tagged_null text = any_if (is_null_word text) _ _
+any_found_in by_its_text text = refl
+any_found_in as_string text = refl

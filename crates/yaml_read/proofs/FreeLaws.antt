@@ -1,6 +1,6 @@
 -- Documents that are read without a walk, and shapes that name no others.
 use Rattle.std.proofs.Common.{rules, ◌≡◌, ℕ, zero, suc, ◌*◌, ◌<◌, ◌≤◌, List, [], ◌∷◌, map, length, Option, Some, None}
-use Rattle.std.proofs.Common.{Result, Ok, true, false, refl, sym, ap, ◌∙◌, arith}
+use Rattle.std.proofs.Common.{Result, Ok, Err, Bool, true, false, not, ◌||◌, if◌then◌else◌, refl, sym, ap, ◌∙◌, arith}
 use Rattle.std.specs.Prelude.{slice_get, IfSome}
 use Rattle.std.specs.Option.{is_some, option_copied}
 use denote.Ref.{Bor}
@@ -8,22 +8,24 @@ use Rattle.yaml_base.specs.PlainEvent.{PlainScalar}
 use Rattle.yaml_base.specs.Position.{Position}
 use Rattle.yaml_base.specs.declared.error.Cause.{Cause}
 use Rattle.yaml_shape.specs.DataView.{data_of}
-use Rattle.yaml_shape.specs.PlainData.{PlainData, ignored_data}
+use Rattle.yaml_shape.specs.PlainData.{PlainData, none_data, ignored_data}
 use Rattle.yaml_shape.specs.declared.data.Data.{the_lemmas}
 use Rattle.yaml_shape.specs.declared.data.Data.TheVariants.{Ignored}
 use Rattle.yaml_shape.specs.PlainShape.{PlainShape, option_shape, ignored_shape}
 use Rattle.yaml_shape.specs.Validity.{named}
 use Rattle.yaml_read.specs.DocTree.{DocNode, word}
-use Rattle.yaml_read.specs.Handing.{reach}
+use Rattle.yaml_read.specs.Handing.{Handing, as_is, as_some, handed, early, reach}
+use Rattle.yaml_read.specs.NodeTags.{TakenBy}
 use Rattle.yaml_read.specs.Places.{Way, root_way, place}
 use Rattle.yaml_read.specs.PlainDocEvent.{PlainDocEvent, a_scalar}
 use Rattle.yaml_read.specs.PlainDocument.{PlainDocument}
+use Rattle.yaml_read.specs.Presence.{is_absent, is_false_null, null_fault}
 use Rattle.yaml_read.specs.Reads.{IsTreeOf}
 use Rattle.yaml_read.specs.ScalarShapes.{scalar_answer}
 use Rattle.yaml_read.specs.Steps.{ending}
-use Rattle.yaml_read.specs.TreeReader.{Spot, marks_of, whole_fuel, read_tree}
+use Rattle.yaml_read.specs.TreeReader.{Spot, after, marks_of, whole_fuel, read_tree}
 use Rattle.yaml_read.specs.inner.Answered.{IsAnswered}
-use Rattle.yaml_read.specs.inner.Reader.{is_leaf}
+use Rattle.yaml_read.specs.inner.Reader.{Source, is_leaf, node_at}
 use Rattle.yaml_read.proofs.reading.LeafExits.{leaf_scalar}
 use Rattle.yaml_read.proofs.reading.Whole.{whole_source, answered}
 
@@ -88,3 +90,37 @@ if_some (Some x) f h = f x h
 
 pub ignored_is : data_of Ignored ≡ ignored_data
 ignored_is = search (rules, the_lemmas)
+
+-- a scalar that is not handed on gives its data
+scalar_read : (source : Source) (way : Way) (s : PlainShape) (nest : ℕ) (taken : Option TakenBy) (at : Spot) (fuel : ℕ)
+    (w : PlainScalar) (m : Position) (v : PlainData) → 0 < fuel → source.events at.place ≡ Some (a_scalar w, m)
+    → early s ≡ None → handed s (is_some taken) (a_scalar w) ≡ as_is → scalar_answer s (is_some taken) w ≡ Ok v
+    → node_at source fuel way s nest taken at ≡ Ok (v, after at)
+unfolding node_at
+scalar_read source way s nest taken at zero w m v lt is late to answer = absurd (omega arith)
+scalar_read source way s nest taken at (suc fuel) w m v lt is late to answer = rw (is, late, to, answer) refl
+
+-- an optional is not handed on to its content, where the scalar stands for nothing
+absent_as_is : (a b : Bool) (x y : Handing) → a ≡ true → (if not (a || b) then x else y) ≡ y
+absent_as_is true b x y h = refl
+absent_as_is false b x y h = absurd cc
+
+absent_gives : (a : Bool) (v : PlainData) (y : Cause) → a ≡ true → (if a then Ok v else Err y) ≡ Ok v
+absent_gives true v y h = refl
+absent_gives false v y h = absurd cc
+
+-- a document whose first event is such a scalar, and that has a tree, gives an absent optional
+pub absent_answered : (s : PlainShape) (c : ℕ) (document : PlainDocument) (w : PlainScalar) (mark : Position)
+    (v : PlainData) → s ≡ option_shape c → v ≡ none_data → document.ending ≡ None
+    → slice_get document.events 0 ≡ Some (a_scalar w, mark) → is_absent false w ≡ true → IsAnswered s document v
+absent_answered s c document w mark v same none whole first absent = record {
+  whole = whole;
+  answer = λ limits table root tree. rw (same, none)
+      (answered limits table (option_shape c) document none_data _
+      (scalar_read (whole_source table document) root_way (option_shape c) limits.nesting None
+      (record { place = 0; left = limits.follows * length document.events })
+      (whole_fuel limits (length document.events)) w mark none_data (omega arith) first refl
+      (absent_as_is (is_absent false w) (is_false_null false w) (as_some c) as_is absent)
+      (absent_gives (is_absent false w) none_data (null_fault w) absent))
+      root tree);
+}

@@ -3,7 +3,7 @@ use Rattle.std.proofs.Common.{◌≡◌, ℕ, suc, ◌+◌, List, [], ◌∷◌,
 use Rattle.std.proofs.Common.{true, false, cond, ◌==◌, Option, Some, None, length-append}
 use Rattle.std.proofs.lemmas.Bool.{eq-eqb}
 use Rattle.yaml_base.specs.Tree.{Node, alias_node, scalar_node, sequence_node, mapping_node, Nodes, no_nodes, node}
-use Rattle.yaml_base.specs.Tree.{Pairs, no_pairs, pair, size_of, anchor_at, anchors_of, anchors_of_nodes}
+use Rattle.yaml_base.specs.Tree.{NodePairs, no_pairs, pair, size_of, anchor_at, anchors_of, anchors_of_nodes}
 use Rattle.yaml_base.specs.Tree.{anchors_of_pairs}
 use Rattle.yaml_read.specs.DocTree.{DocNode, reference, word, list, mapping, DocNodes, DocPairs, events_of}
 use Rattle.yaml_read.specs.DocTree.{events_of_nodes, events_of_pairs, numbered, numbered_nodes, numbered_pairs}
@@ -64,7 +64,7 @@ Fits n i t = (length (events_of t) ≡ size_of n) × Numbers (numbered t i) (anc
 abbrev AllFit : Nodes → ℕ → DocNodes → Type 0
 AllFit ns i ts = (length (events_of_nodes ts) ≡ nodes_size ns) × Numbers (numbered_nodes ts i) (anchors_of_nodes ns i)
 
-abbrev PairsFit : Pairs → ℕ → DocPairs → Type 0
+abbrev PairsFit : NodePairs → ℕ → DocPairs → Type 0
 PairsFit ps i ts = (length (events_of_pairs ts) ≡ pairs_size ps) × Numbers (numbered_pairs ts i) (anchors_of_pairs ps i)
 
 next_number : (i : ℕ) → i + 1 ≡ suc i
@@ -79,7 +79,7 @@ fits_sequence a g ns i ts h = (
       (subst (λ p. Numbers (numbered_nodes ts p) (anchors_of_nodes ns (i + 1))) (next_number i) h.1)),
 )
 
-fits_mapping : (a g : Option (List ℕ)) (ps : Pairs) (i : ℕ) (ts : DocPairs) → PairsFit ps (i + 1) ts
+fits_mapping : (a g : Option (List ℕ)) (ps : NodePairs) (i : ℕ) (ts : DocPairs) → PairsFit ps (i + 1) ts
     → Fits (mapping_node a g ps) i (mapping g ts)
 fits_mapping a g ps i ts h = (
   omega (arith, h.0, size_mapping a g ps, length-append (events_of_pairs ts) (mapping_ends ∷ [])),
@@ -100,8 +100,9 @@ fits_node n ns i t ts h k = (
       (subst (λ s. Numbers (numbered_nodes ts (i + s)) (anchors_of_nodes ns (i + size_of n))) (sym h.0) k.1)),
 )
 
-fits_pair : (k v : Node) (ps : Pairs) (i : ℕ) (t u : DocNode) (ts : DocPairs) → Fits k i t → Fits v (i + size_of k) u
-    → PairsFit ps (i + size_of k + size_of v) ts → PairsFit (pair k v ps) i (tree.pair t u ts)
+fits_pair : (k v : Node) (ps : NodePairs) (i : ℕ) (t u : DocNode) (ts : DocPairs)
+    → Fits k i t → Fits v (i + size_of k) u → PairsFit ps (i + size_of k + size_of v) ts
+    → PairsFit (pair k v ps) i (tree.pair t u ts)
 fits_pair k v ps i t u ts a b c =
     let x = i + length (events_of t) in
     let y = i + length (events_of t) + length (events_of u) in
@@ -144,7 +145,7 @@ mutual
       on_nodes (Fits n i) (AllFit ns (i + size_of n)) (AllFit (node n ns) i) (resolved_from find n i)
       (resolved_nodes find ns (i + size_of n)) (fits_node n ns i) (fits find n i) (all_fit find ns (i + size_of n))
 
-  pairs_fit : (find : Find) (ps : Pairs) (i : ℕ) → OnTree (PairsFit ps i) (resolved_pairs find ps i)
+  pairs_fit : (find : Find) (ps : NodePairs) (i : ℕ) → OnTree (PairsFit ps i) (resolved_pairs find ps i)
   pairs_fit find no_pairs i = (refl, tt)
   pairs_fit find (pair k v ps) i =
       on_pairs (Fits k i) (Fits v (i + size_of k)) (PairsFit ps (i + size_of k + size_of v)) (PairsFit (pair k v ps) i)

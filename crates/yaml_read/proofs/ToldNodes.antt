@@ -3,7 +3,7 @@ use Rattle.std.proofs.Common.{◌≡◌, ℕ, ◌+◌, List, [], ◌∷◌, ◌+
 use Rattle.std.proofs.Common.{None, append_assoc, option_map}
 use Rattle.yaml_base.specs.PlainEvent.{PlainEvent, alias, sequence_start, sequence_end, mapping_start, mapping_end}
 use Rattle.yaml_base.specs.Tree.{Node, alias_node, scalar_node, sequence_node, mapping_node, Nodes, no_nodes, node}
-use Rattle.yaml_base.specs.Tree.{Pairs, no_pairs, pair, node_events, nodes_events, pairs_events, size_of, anchor_at}
+use Rattle.yaml_base.specs.Tree.{NodePairs, no_pairs, pair, node_events, nodes_events, pairs_events, size_of, anchor_at}
 use Rattle.yaml_base.specs.Tree.{anchors_of, anchors_of_nodes, anchors_of_pairs}
 use Rattle.yaml_read.specs.DocTree.{DocNode, reference, list, mapping, DocNodes, DocPairs, events_of, events_of_nodes}
 use Rattle.yaml_read.specs.DocTree.{events_of_pairs}
@@ -44,7 +44,7 @@ mutual
       ∙ ap (λ j. anchors_of_nodes ns (i + size_of n) ++ plain_anchors j rest) end)
       ∙ sym (append_assoc (anchors_of n i) (anchors_of_nodes ns (i + size_of n)) _)
 
-  anchors_pairs : (ps : Pairs) (i : ℕ) (rest : List PlainEvent)
+  anchors_pairs : (ps : NodePairs) (i : ℕ) (rest : List PlainEvent)
       → plain_anchors i (pairs_events ps rest) ≡ anchors_of_pairs ps i ++ plain_anchors (i + pairs_size ps) rest
   anchors_pairs no_pairs i rest = let e : i ≡ i + 0 = omega arith in ap (λ j. plain_anchors j rest) e
   anchors_pairs (pair k v ps) i rest =
@@ -140,7 +140,7 @@ mutual
       (i + size_of n + nodes_size ns) (nodes_events (node n ns) rest) (nodes_events ns rest) rest
       (told_node find n i (nodes_events ns rest)) (told_all find ns (i + size_of n) rest))
 
-  told_each : (find : Find) (ps : Pairs) (i : ℕ) (rest : List PlainEvent)
+  told_each : (find : Find) (ps : NodePairs) (i : ℕ) (rest : List PlainEvent)
       → Told events_of_pairs find (resolved_pairs find ps i) i (i + pairs_size ps) (pairs_events ps rest) rest
   told_each find no_pairs i rest =
       let e : i ≡ i + 0 = omega arith in

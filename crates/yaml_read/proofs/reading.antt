@@ -4,6 +4,9 @@ pub mod ContentExits
 pub mod EndLaws
 pub mod Exits
 pub mod FieldExits
+pub mod Fronts
+pub mod Growing
+pub mod GrowingReadings
 pub mod Handings
 pub mod LeafExits
 pub mod Loops
@@ -11,6 +14,7 @@ pub mod MeaningShapes
 pub mod Meanings
 pub mod OutcomeSteps
 pub mod Outcomes
+pub mod OwnAnswers
 pub mod OwnFaults
 pub mod OwnReadings
 pub mod PartExits
@@ -22,10 +26,16 @@ pub mod Sound
 pub mod SoundFields
 pub mod SoundLists
 pub mod SoundParts
+pub mod Started
 pub mod Steps
+pub mod TreeEnds
+pub mod TreeFaults
 pub mod TreeLaws
 pub mod TreeLists
 pub mod TreeMappings
 pub mod TreeWalks
 pub mod ValueExits
 pub mod Whole
+pub mod WholeFaults
+pub mod WholeReadings
+pub mod Within

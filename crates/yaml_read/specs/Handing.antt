@@ -93,15 +93,31 @@ abbrev pub reach : List PlainShape → PlainShape → ℕ
 reach table (option_shape content) = rank table content + 1
 reach table _ = 0
 
--- How far a tag leads that is not taken yet: it is taken on the same node, where all optionals may follow once more. As
--- a schema has at most 4096 shapes, that is less than 4100.
+-- The depth of a reading is a number that falls from each node or shape to the next. The follows and nestings that are
+-- left count first, then whether the tag is still to be taken, then the optionals that may follow. So each of these
+-- counts more than all behind it can come to.
+
+-- the most optionals that may follow one another: as many as a schema has shapes, and each counts one
+abbrev pub most_optionals : ℕ
+most_optionals = 4096
+
+-- a tag that is still to be taken: it is taken on the same node, where all optionals may follow once more
+abbrev pub tag_depth : ℕ
+tag_depth = 4100
+
+-- a follow, or a nesting: whatever is read within it has a lesser depth
+abbrev pub nesting_depth : ℕ
+nesting_depth = 8200
+
+-- how far a tag leads that is not taken yet
 abbrev pub untaken_reach : (taken : Bool) → ℕ
 untaken_reach true = 0
-untaken_reach false = 4100
+untaken_reach false = tag_depth
 
--- The depth that reading under the shape may take, its tag taken or not, with so many nestings and follows left: a
--- number that falls from each node or shape to the next. The follows and nestings that are left count first, then
--- whether the tag is still to be taken, then the optionals that may follow. The latter two come to 4100 + 4096 = 8196 at
--- most; so a follow or a nesting counts 8200, and whatever is read within it has a lesser depth.
+-- the depth that reading under the shape may take, its tag taken or not, with so many nestings and follows left
 abbrev pub depth : List PlainShape → PlainShape → (taken : Bool) → (nest left : ℕ) → ℕ
-depth table s taken nest left = 8200 * (left + nest) + untaken_reach taken + reach table s
+depth table s taken nest left = nesting_depth * (left + nest) + untaken_reach taken + reach table s
+
+-- the most that reading a part of a collection may take, whatever its shape, with so many left within the collection
+abbrev pub parts_depth : (nest left : ℕ) → ℕ
+parts_depth nest left = nesting_depth * (left + nest) + (tag_depth + most_optionals)

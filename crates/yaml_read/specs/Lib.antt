@@ -20,6 +20,7 @@ pub mod PlainCursor
 pub mod PlainDocEvent
 pub mod PlainDocument
 pub mod Presence
+pub mod ReadingFaults
 pub mod Reads
 pub mod Resolved
 pub mod Rows

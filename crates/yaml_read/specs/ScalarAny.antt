@@ -14,10 +14,8 @@ use Rattle.yaml_shape.specs.PlainShape.{any_shape}
 use Rattle.yaml_tree.specs.Integer.{is_number}
 use Rattle.yaml_tree.specs.Tree.{Tree, null, boolean, number, string}
 use Rattle.yaml_read.specs.ScalarFound.{wrong_type, wrong_value, found_kind, found_integer}
-use Rattle.yaml_read.specs.ScalarSorts.{sort_of}
-use Rattle.yaml_read.specs.declared.de.scalar.sort.ScalarSort.{ScalarSort}
-use Rattle.yaml_read.specs.declared.de.scalar.sort.ScalarSort.TheVariants.{NoText, TaggedBool, TaggedInt, TaggedFloat}
-use Rattle.yaml_read.specs.declared.de.scalar.sort.ScalarSort.TheVariants.{TaggedNull, Resolved, String}
+use Rattle.yaml_read.specs.ScalarSorts.{PlainSort, without_text, tagged_bool, tagged_int, tagged_float, tagged_null}
+use Rattle.yaml_read.specs.ScalarSorts.{by_its_text, as_string, sort_of}
 
 -- an integer is a number where it has 64 bits, with a sign only below 0
 abbrev pub any_integer : Found → ℤ → Result Tree Cause
@@ -34,19 +32,19 @@ any_found (found.Str text) = Ok (string text)
 any_found something = Err (wrong_type something (expected_text any_shape))
 
 -- what a scalar in a row is, with this text
-abbrev pub any_in : ScalarSort → (text : List ℕ) → Result Tree Cause
-any_in NoText text = any_found found.Bytes
-any_in TaggedBool text =
+abbrev pub any_in : PlainSort → (text : List ℕ) → Result Tree Cause
+any_in without_text text = any_found found.Bytes
+any_in tagged_bool text =
     option_map_or (λ b. any_found (found.Bool b)) (boolean_of text)
     (Err (wrong_value (found.Str text) (codes "a boolean")))
-any_in TaggedInt text =
+any_in tagged_int text =
     option_map_or any_found (found_integer text) (Err (wrong_value (found.Str text) (codes "an integer")))
-any_in TaggedFloat text =
+any_in tagged_float text =
     if is_float text then any_found (found.Float text) else Err (wrong_value (found.Str text) (codes "a float"))
-any_in TaggedNull text =
+any_in tagged_null text =
     if is_null_word text then any_found found.Unit else Err (wrong_value (found.Str text) (codes "null"))
-any_in Resolved text = any_found (found_kind text (kind_of text))
-any_in String text = any_found (found.Str text)
+any_in by_its_text text = any_found (found_kind text (kind_of text))
+any_in as_string text = any_found (found.Str text)
 
 -- what a scalar is
 abbrev pub any_scalar : (taken : Bool) → PlainScalar → Result Tree Cause

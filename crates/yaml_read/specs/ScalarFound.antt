@@ -15,10 +15,8 @@ use Rattle.yaml_base.specs.declared.resolver.kind.Kind.{Kind}
 use Rattle.yaml_base.specs.declared.resolver.kind.Kind.TheVariants as kind
 use Rattle.yaml_shape.specs.Expected.{expected_text}
 use Rattle.yaml_shape.specs.PlainShape.{PlainShape, enum_shape}
-use Rattle.yaml_read.specs.ScalarSorts.{sort_of}
-use Rattle.yaml_read.specs.declared.de.scalar.sort.ScalarSort.{ScalarSort}
-use Rattle.yaml_read.specs.declared.de.scalar.sort.ScalarSort.TheVariants.{NoText, TaggedBool, TaggedInt, TaggedFloat}
-use Rattle.yaml_read.specs.declared.de.scalar.sort.ScalarSort.TheVariants.{TaggedNull, Resolved, String}
+use Rattle.yaml_read.specs.ScalarSorts.{PlainSort, without_text, tagged_bool, tagged_int, tagged_float, tagged_null}
+use Rattle.yaml_read.specs.ScalarSorts.{by_its_text, as_string, sort_of}
 
 -- a node of another type than was expected; where it stands is not known yet
 abbrev pub wrong_type : Found → (expected : List ℕ) → Cause
@@ -47,18 +45,18 @@ abbrev pub string_found : (text : List ℕ) → Found
 string_found text = if is_utf8 text then found.Str text else found.Bytes
 
 -- the fault of a scalar in a row, with this text, where something else is expected
-abbrev pub fault_in : ScalarSort → (text expected : List ℕ) → Cause
-fault_in NoText text expected = wrong_type found.Bytes expected
-fault_in TaggedBool text expected = option_map_or (λ b. wrong_type (found.Bool b) expected) (boolean_of text)
+abbrev pub fault_in : PlainSort → (text expected : List ℕ) → Cause
+fault_in without_text text expected = wrong_type found.Bytes expected
+fault_in tagged_bool text expected = option_map_or (λ b. wrong_type (found.Bool b) expected) (boolean_of text)
     (wrong_value (found.Str text) (codes "a boolean"))
-fault_in TaggedInt text expected = option_map_or (λ integer. wrong_type integer expected) (found_integer text)
+fault_in tagged_int text expected = option_map_or (λ integer. wrong_type integer expected) (found_integer text)
     (wrong_value (found.Str text) (codes "an integer"))
-fault_in TaggedFloat text expected =
+fault_in tagged_float text expected =
     if is_float text then wrong_type (found.Float text) expected else wrong_value (found.Str text) (codes "a float")
-fault_in TaggedNull text expected =
+fault_in tagged_null text expected =
     if is_null_word text then wrong_type found.Unit expected else wrong_value (found.Str text) (codes "null")
-fault_in Resolved text expected = wrong_type (found_kind text (kind_of text)) expected
-fault_in String text expected = wrong_type (found.Str text) expected
+fault_in by_its_text text expected = wrong_type (found_kind text (kind_of text)) expected
+fault_in as_string text expected = wrong_type (found.Str text) expected
 
 -- the fault of a scalar that its shape has no meaning for
 abbrev pub scalar_fault : PlainShape → (taken : Bool) → PlainScalar → Cause

@@ -156,13 +156,14 @@ void_answer (map_shape key value) = Ok (map_data no_entries)
 void_answer (tuple_variant_shape name variant ids) = no_elements ids (tuple_variant_shape name variant ids)
 void_answer _ = Err void_fault
 
--- the data of the scalar under the shape takes no memory: a boolean, an integer, a character, a unit, a text or a name
--- that the source shows
+-- the data of the scalar under the shape takes no memory: a boolean, an integer, a character, a unit, an optional that
+-- is absent, a text or a name that the source shows
 abbrev pub takes_no_memory : PlainShape → PlainScalar → Bool
 takes_no_memory bool_shape s = true
 takes_no_memory (integer_shape i) s = true
 takes_no_memory char_shape s = true
 takes_no_memory unit_shape s = true
+takes_no_memory (option_shape content) s = is_absent false s
 takes_no_memory str_shape s = is_borrowable s.text s.source s.style
 takes_no_memory identifier_shape s = is_borrowable s.text s.source s.style
 takes_no_memory _ s = false

@@ -7,9 +7,20 @@ use Rattle.yaml_base.specs.PlainEvent.{PlainScalar}
 use Rattle.yaml_base.specs.declared.event.ScalarStyle.{ScalarStyle}
 use Rattle.yaml_base.specs.declared.event.ScalarStyle.TheVariants.{Plain, Literal}
 use Rattle.yaml_read.specs.CoreTags.{bool_tag, int_tag, float_tag, null_tag}
-use Rattle.yaml_read.specs.declared.de.scalar.sort.ScalarSort.{ScalarSort}
-use Rattle.yaml_read.specs.declared.de.scalar.sort.ScalarSort.TheVariants.{NoText, TaggedBool, TaggedInt, TaggedFloat}
-use Rattle.yaml_read.specs.declared.de.scalar.sort.ScalarSort.TheVariants.{TaggedNull, Resolved, String}
+
+-- the rows, in their order
+pub data PlainSort : Type 0 where
+  -- the bytes are not UTF-8
+  without_text : PlainSort
+  -- the tag is that of booleans, of integers, of floats or of null, and not taken
+  tagged_bool : PlainSort
+  tagged_int : PlainSort
+  tagged_float : PlainSort
+  tagged_null : PlainSort
+  -- the scalar is plain, and has no tag that says what it is: its text does
+  by_its_text : PlainSort
+  -- all else is a string
+  as_string : PlainSort
 
 -- the scalar stands without quotes
 abbrev pub is_plain : ScalarStyle → Bool
@@ -41,11 +52,11 @@ abbrev pub is_resolved : (taken : Bool) → PlainScalar → Bool
 is_resolved taken s = is_plain s.style && (taken || (is_none s.tag || is_local s.tag))
 
 -- the row of a scalar; the flag says whether its tag is taken
-abbrev pub sort_of : (taken : Bool) → PlainScalar → ScalarSort
+abbrev pub sort_of : (taken : Bool) → PlainScalar → PlainSort
 sort_of taken s =
-    if not (is_utf8 s.text) then NoText
-    else (if has_untaken bool_tag taken s then TaggedBool
-    else (if has_untaken int_tag taken s then TaggedInt
-    else (if has_untaken float_tag taken s then TaggedFloat
-    else (if has_untaken null_tag taken s then TaggedNull
-    else (if is_resolved taken s then Resolved else String)))))
+    if not (is_utf8 s.text) then without_text
+    else (if has_untaken bool_tag taken s then tagged_bool
+    else (if has_untaken int_tag taken s then tagged_int
+    else (if has_untaken float_tag taken s then tagged_float
+    else (if has_untaken null_tag taken s then tagged_null
+    else (if is_resolved taken s then by_its_text else as_string)))))

@@ -21,7 +21,7 @@ use Rattle.yaml_read.specs.DocTree.{no_nodes, node, no_pairs, pair, events_of, f
 use Rattle.yaml_read.specs.Fields.{Fields, Slots, no_slots, name_in, field_named, field_step, struct_of}
 use Rattle.yaml_read.specs.Handing.{Handing, as_is, as_some, as_newtype, as_ignored, as_bare, as_variant, as_tagged}
 use Rattle.yaml_read.specs.Handing.{as_refused}
-use Rattle.yaml_read.specs.Handing.{handed, early, refusal}
+use Rattle.yaml_read.specs.Handing.{handed, early, refusal, nesting_depth}
 use Rattle.yaml_read.specs.NodeTags.{TakenBy, around_value}
 use Rattle.yaml_read.specs.Places.{Way, element_under, value_under, places, place, root_way, text_place}
 use Rattle.yaml_read.specs.PlainDocEvent.{PlainDocEvent}
@@ -218,10 +218,10 @@ mark_or_first (Some e) = e.1
 abbrev pub marks_of : List (PlainDocEvent × Position) → ℕ → Position
 marks_of events place = mark_or_first (slice_get events place)
 
--- A fuel that is enough for a document of n events: 8200 for each follow and each nesting, more than reading goes from
--- shape to shape before it needs another, and as much for the first node.
+-- A fuel that is enough for a document of n events: the depth of each follow and each nesting, which is more than
+-- reading goes from shape to shape before it needs another, and as much for the first node.
 abbrev pub whole_fuel : PlainLimits → ℕ → ℕ
-whole_fuel limits n = 8200 * (limits.follows * n + limits.nesting + 1)
+whole_fuel limits n = nesting_depth * (limits.follows * n + limits.nesting + 1)
 
 -- the reading of the tree from its root, within the limits for a document with these events
 abbrev pub whole_tree : PlainLimits → List PlainShape → List (PlainDocEvent × Position) → PlainShape → DocNode
@@ -229,6 +229,13 @@ abbrev pub whole_tree : PlainLimits → List PlainShape → List (PlainDocEvent 
 whole_tree limits table events s root =
     read_tree table (whole_fuel limits (length events)) root (marks_of events) root_way s limits.nesting None root
     (record { place = 0; left = limits.follows * length events })
+
+-- what a document with this tree gives within so many nestings and so many follows in all
+abbrev pub answer_within : (nesting follows : ℕ) → List PlainShape → PlainShape → PlainDocument → DocNode
+    → Result PlainData Cause
+answer_within nesting follows table s document root =
+    read_tree table (8200 * (follows + nesting + 1)) root (marks_of document.events) root_way s nesting None root
+    (record { place = 0; left = follows }) >>= λ x. Ok x.0
 
 -- what a whole document with this tree gives: its data, or the first fault
 abbrev pub answer_of : PlainLimits → List PlainShape → PlainShape → PlainDocument → DocNode → Result PlainData Cause

@@ -15,7 +15,8 @@ use Rattle.yaml_read.specs.AnyData.{tree_in, trees_in, pairs_in}
 use Rattle.yaml_shape.specs.Walks.{rank}
 use Rattle.yaml_read.specs.DocTree.{DocNode, DocNodes, DocPairs, first_event}
 use Rattle.yaml_read.specs.Fields.{Fields, Slots}
-use Rattle.yaml_read.specs.Handing.{Handing, handed, early, reach, untaken_reach, depth}
+use Rattle.yaml_read.specs.Handing.{Handing, handed, early, reach, untaken_reach, depth, parts_depth, tag_depth}
+use Rattle.yaml_read.specs.Handing.{nesting_depth}
 use Rattle.yaml_read.specs.NodeTags.{TakenBy, around_value}
 use Rattle.yaml_read.specs.Meaning.{Means, means_node, MeansAs, means_some, means_newtype, means_ignored, means_target}
 use Rattle.yaml_read.specs.Meaning.{means_void, means_scalar, means_list, means_mapping, means_bare, means_struct}
@@ -89,14 +90,14 @@ module _ (table : List PlainShape) (root : DocNode) (marks : ℕ → Position) (
         here v nest at.left _ (ap (ending at.left) e)
     as_outcome (means_variant {place} {around = outer} {content} {s} {t} {n} {taken} {v} {d} {k} there m) way fuel nest
         around at is from lt =
-        let untaken : untaken_reach taken ≡ 4100 = ap untaken_reach from.3 in
+        let untaken : untaken_reach taken ≡ tag_depth = ap untaken_reach from.3 in
         looked_up (content_shape table outer.name outer.variant content) t _
         (variant_data place v) nest at.left d k there
         (wrapped (variant_data place) _ v nest at.left d k
         (tree_outcome m way fuel nest (Some outer) at refl
         (omega (arith, low_content table small falls outer.name outer.variant content t there, untaken, lt))))
     as_outcome (means_tagged {name} {s} {n} {taken} {v} {d} {k} m) way fuel nest around at is from lt =
-        let untaken : untaken_reach taken ≡ 4100 = ap untaken_reach from.1 in
+        let untaken : untaken_reach taken ≡ tag_depth = ap untaken_reach from.1 in
         wrapped (λ v. any_data (tagged name (tree_in v))) _ v nest at.left d k
         (tree_outcome m way fuel nest (Some around_value) at refl (omega (arith, untaken, lt)))
     as_outcome (means_target {s} {j} {n} {taken} {v} {d} {k} e m) way fuel nest around at is from lt =
@@ -114,7 +115,7 @@ module _ (table : List PlainShape) (root : DocNode) (marks : ℕ → Position) (
 
     list_outcome : {s : PlainShape} {ns : DocNodes} {v : PlainData} {d k : ℕ} → MeansList table root s ns v d k
         → (way : Way) (fuel nest : ℕ) (at : Spot) (mark : Position)
-        → 8200 * (at.left + nest) < suc fuel
+        → nesting_depth * (at.left + nest) < suc fuel
         → Outcome (sequence_of table (reader fuel) way s nest mark ns (after at)) v nest at.left (suc d) k
     list_outcome (means_seq {e} {s} {ns} {vs} {d} {k} there m) way fuel nest at mark lt =
         entered _ (seq_data vs) mark nest at.left d k (λ n is.
@@ -144,7 +145,7 @@ module _ (table : List PlainShape) (root : DocNode) (marks : ℕ → Position) (
 
     mapping_outcome : {s : PlainShape} {ps : DocPairs} {v : PlainData} {d k : ℕ} → MeansPairs table root s ps v d k
         → (way : Way) (fuel nest : ℕ) (at : Spot) (mark : Position)
-        → 8200 * (at.left + nest) < suc fuel
+        → nesting_depth * (at.left + nest) < suc fuel
         → Outcome (mapping_of table (reader fuel) marks way s nest mark ps (after at)) v nest
         at.left (suc d) k
     mapping_outcome (means_map {a} {b} {s} {t} {ps} {vs} {d} {k} there there' m) way fuel nest at mark lt =
@@ -178,7 +179,7 @@ module _ (table : List PlainShape) (root : DocNode) (marks : ℕ → Position) (
 
     each_outcome : {s : PlainShape} {ns : DocNodes} {vs : PlainItems} {d k : ℕ} → MeanEach table root s ns vs d k
         → (way : Way) (fuel nest : ℕ) (before : List PlainData) (at : Spot)
-        → reach table s ≤ 4096 → 8200 * (at.left + nest) + 8196 < fuel
+        → reach table s ≤ 4096 → parts_depth nest at.left < fuel
         → Outcome (each_node (item_of (reader fuel) way s nest) before ns at) (before ++ list_of vs) nest at.left d k
     each_outcome means_none way fuel nest before at few lt =
         here (before ++ []) nest at.left _ (ap (λ vs. Ok (vs, at.left)) (sym (append-nil before)))
@@ -189,7 +190,7 @@ module _ (table : List PlainShape) (root : DocNode) (marks : ℕ → Position) (
 
     elements_outcome : {ids : List ℕ} {ns : DocNodes} {vs : PlainItems} {d k : ℕ} → MeanRow table root ids ns vs d k
         → (way : Way) (fuel nest : ℕ) (before : List PlainData) (at : Spot)
-        → 8200 * (at.left + nest) + 8196 < fuel
+        → parts_depth nest at.left < fuel
         → Outcome (each_node (row_part table (reader fuel) way nest)
         (record { left = ids; read = before; extra = 0 }) ns at)
         (record { left = []; read = before ++ list_of vs; extra = 0 }) nest at.left d k
@@ -206,7 +207,7 @@ module _ (table : List PlainShape) (root : DocNode) (marks : ℕ → Position) (
     pairs_outcome : {s t : PlainShape} {ps : DocPairs} {vs : PlainEntries} {d k : ℕ}
         → MeanPairs table root s t ps vs d k → (way : Way) (fuel nest : ℕ) (before : List (PlainData × PlainData))
         (at : Spot)
-        → reach table s ≤ 4096 → reach table t ≤ 4096 → 8200 * (at.left + nest) + 8196 < fuel
+        → reach table s ≤ 4096 → reach table t ≤ 4096 → parts_depth nest at.left < fuel
         → Outcome (each_pair (key_of (reader fuel) way s nest) (value_of (reader fuel) t nest) before ps at)
         (before ++ entry_list_of vs) nest at.left d k
     pairs_outcome means_no_pairs way fuel nest before at few few' lt =
@@ -223,7 +224,7 @@ module _ (table : List PlainShape) (root : DocNode) (marks : ℕ → Position) (
     any_pairs_outcome : {ps : DocPairs} {vs : PlainEntries} {d k : ℕ}
         → MeanPairs table root any_shape any_shape ps vs d k
         → (way : Way) (fuel nest : ℕ) (before : List (PlainData × PlainData)) (at : Spot)
-        → keys_distinct (pairs_of (before ++ entry_list_of vs)) ≡ true → 8200 * (at.left + nest) + 8196 < fuel
+        → keys_distinct (pairs_of (before ++ entry_list_of vs)) ≡ true → parts_depth nest at.left < fuel
         → Outcome (each_pair (any_key_of (reader fuel) way nest) (value_of (reader fuel) any_shape nest) before ps at)
         (before ++ entry_list_of vs) nest at.left d k
     any_pairs_outcome means_no_pairs way fuel nest before at apart lt =
@@ -241,7 +242,7 @@ module _ (table : List PlainShape) (root : DocNode) (marks : ℕ → Position) (
     -- from what was read before, what is read after is the answer
     fields_outcome : {strict : Bool} {fields : Fields} {slots done : Slots} {ps : DocPairs} {d k : ℕ}
         → MeanFields table root strict fields slots ps done d k → (way : Way) (fuel nest : ℕ) (at : Spot)
-        → 8200 * (at.left + nest) + 8196 < fuel
+        → parts_depth nest at.left < fuel
         → Outcome (each_pair (field_key (reader fuel) marks way strict fields nest)
         (field_value table (reader fuel) nest) slots ps at) done nest at.left d k
     fields_outcome (means_no_fields {slots}) way fuel nest at lt = here slots nest at.left _ refl

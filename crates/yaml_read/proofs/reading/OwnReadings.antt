@@ -1,4 +1,4 @@
--- A reading by places answers no fault but its document's own.
+-- A reading by places answers no fault but those of reading, and want of memory.
 use Rattle.std.proofs.Common.{ℕ, zero, suc, List, [], Option, Some, None, Ok, Bool, true, false}
 use Rattle.std.proofs.Common.{length}
 use Rattle.std.specs.Prelude.{if◌then◌else◌, nat_lt}
@@ -28,9 +28,9 @@ use Rattle.yaml_read.specs.inner.Reader.{sequence_at, mapping_at, event_at, hand
 use Rattle.yaml_read.specs.inner.Reader.{is_sequence_end, is_mapping_end}
 use Rattle.yaml_read.proofs.reading.OwnFaults.{Own, own_value, own_fault, own_if, own_bind, own_ending, own_wrap}
 use Rattle.yaml_read.proofs.reading.OwnFaults.{own_finish, own_enter, own_follow}
-use Rattle.yaml_read.proofs.reading.OwnFaults.{own_with_shape, own_unless, own_place, own_scalar, own_void, own_struct}
-use Rattle.yaml_read.proofs.reading.OwnFaults.{own_named, own_field_step, own_one_more, own_row, own_new_key}
-use Rattle.yaml_read.proofs.reading.OwnFaults.{own_refusal}
+use Rattle.yaml_read.proofs.reading.OwnFaults.{own_with_shape, own_unless, own_place}
+use Rattle.yaml_read.proofs.reading.OwnAnswers.{own_scalar, own_void, own_struct, own_named, own_field_step}
+use Rattle.yaml_read.proofs.reading.OwnAnswers.{own_one_more, own_row, own_new_key, own_refusal}
 
 module _ {S : Type 0} (is_end : PlainDocEvent → Bool) (step : S → Spot → Reading S) (own : (s : S) (at : Spot)
     → Own (step s at)) where
@@ -166,7 +166,7 @@ module _ (source : Source) (read : Way → Reader)
       own_with_shape _ _ (λ t. own_wrap _ _ (own way t nest (Some around) at))
   own_handed (as_tagged name) way s nest taken at e mark =
       own_wrap _ _ (own way shape.any_shape nest (Some around_value) at)
-  own_handed as_refused way s nest taken at e mark = own_fault _ (own_refusal s taken e)
+  own_handed as_refused way s nest taken at e mark = own_fault _ (own_refusal true s taken e)
 
   own_step : (way : Way) (s : PlainShape) (nest : ℕ) (taken : Option TakenBy) (at : Spot)
       (e : Option (PlainDocEvent × Position))

@@ -1,105 +1,57 @@
 -- What a document gives, from what its reading gives.
-use Rattle.std.proofs.Common.{◌≡◌, ℕ, suc, ◌+◌, ◌*◌, ◌<◌, ◌≤◌, List, [], ◌∷◌, map, length, Some, None, Result, Ok, Err}
-use Rattle.std.proofs.Common.{false, refl, sym, ap, subst, ◌∙◌, arith}
-use Rattle.std.specs.Prelude.{◌≢◌, slice_get}
-use Rattle.std.proofs.lemmas.List.{length-map}
+use Rattle.std.proofs.Common.{◌≡◌, ℕ, ◌+◌, ◌*◌, ◌<◌, ◌≤◌, List, length, Some, None, Result, Ok, Err}
+use Rattle.std.proofs.Common.{true, false, refl, sym, ap, subst, ◌∙◌, arith, inl, inr}
+use Rattle.std.specs.Prelude.{◌≢◌, ◌⊎◌, slice_get}
 use Rattle.std.proofs.lemmas.Option.{slice_get_within}
-use Rattle.yaml_base.specs.Position.{Position}
 use Rattle.yaml_base.specs.Answer.{is_memory}
 use Rattle.yaml_base.specs.declared.error.Cause.{Cause}
-use Rattle.yaml_base.specs.declared.error.Cause.TheVariants.{MoreThanOneDocument, EndOfStream}
+use Rattle.yaml_base.specs.declared.error.Cause.TheVariants.{Memory, MoreThanOneDocument, EndOfStream}
 use Rattle.yaml_shape.specs.PlainData.{PlainData}
 use Rattle.yaml_shape.specs.PlainShape.{PlainShape, option_shape, shape_at}
 use Rattle.yaml_shape.specs.Walks.{rank}
-use Rattle.yaml_read.specs.DocEventView.{doc_event_of, marked_events_of}
 use Rattle.yaml_read.specs.DocTree.{DocNode, events_of}
-use Rattle.yaml_read.specs.Ends.{ends_of}
-use Rattle.yaml_read.specs.Handing.{depth, reach}
+use Rattle.yaml_read.specs.Handing.{reach}
 use Rattle.yaml_read.specs.Meaning.{Means}
 use Rattle.yaml_read.specs.Places.{root_way}
-use Rattle.yaml_read.specs.PlainDocEvent.{PlainDocEvent}
 use Rattle.yaml_read.specs.PlainDocument.{PlainDocument}
+use Rattle.yaml_read.specs.ReadingFaults.{IsNodeFault, IsReadingFault}
 use Rattle.yaml_read.specs.Reads.{IsTreeOf, Reads, IsRefusal, DocumentGives, front_answer, cut_fault}
 use Rattle.yaml_read.specs.Steps.{◌>>=◌}
 use Rattle.yaml_read.specs.StreamLaw.{IsEnding}
 use Rattle.yaml_read.specs.TreeReader.{PlainLimits, Spot, Answer, marks_of, whole_fuel, whole_tree, answer_of}
-use Rattle.yaml_read.specs.declared.doc_event.DocEvent.{DocEvent}
-use Rattle.yaml_read.specs.inner.Reader.{Source, Reading, Events, node_at}
+use Rattle.yaml_read.specs.TreeReader.{answer_within}
+use Rattle.yaml_read.specs.inner.Reader.{Reading}
 use Rattle.yaml_read.proofs.reading.Outcomes.{Outcome, reads, deep, many}
 use Rattle.yaml_read.proofs.reading.Complete.{tree_outcome}
 use Rattle.yaml_read.proofs.reading.EndLaws.{node_ends}
-use Rattle.yaml_read.proofs.reading.OwnFaults.{own_apart}
+use Rattle.yaml_read.proofs.reading.OwnFaults.{Own, own_value, own_fault, IsOwn, own_bind, own_kind}
 use Rattle.yaml_read.proofs.reading.OwnReadings.{own_node}
 use Rattle.yaml_read.proofs.reading.Shown.{Shows}
 use Rattle.yaml_read.proofs.reading.Sound.{tree_sound}
 use Rattle.yaml_read.proofs.reading.TreeLaws.{reader_tied}
 use Rattle.yaml_read.proofs.reading.TreeWalks.{landed}
+use Rattle.yaml_read.proofs.reading.Fronts.{first_fault}
+use Rattle.yaml_read.proofs.reading.WholeReadings.{shows_list, same_ok, err_is, landed_ok, landed_err, answer_ok}
+use Rattle.yaml_read.proofs.reading.WholeReadings.{answer_err, reading_err}
+pub use Rattle.yaml_read.proofs.reading.WholeReadings.{whole_source, whole_reading, seen_whole}
 
-shift : (f : Events) (p : ℕ) (es : List PlainDocEvent) → Shows (λ q. f (suc q)) p es → Shows f (suc p) es
-shift f p [] s = tt
-shift f p (e ∷ es) s = (s.0, shift f (suc p) es s.1)
+-- what is told of a document that was cut off is what cut it off, or a fault of a node
+split : (cut y z : Cause) → IsOwn true z → y ≡ cut_fault cut (Err z) → is_memory y ≡ false → (y ≡ cut) ⊎ IsNodeFault y
+split cut y EndOfStream h e known = inl e
+split cut y Memory h e known = let bad = sym known ∙ ap is_memory e in absurd cc
+split cut y other h e known = inr (subst IsNodeFault (sym e) h)
 
-shows_list : (es : List (PlainDocEvent × Position)) → Shows (slice_get es) 0 (map (λ e. e.0) es)
-shows_list [] = tt
-shows_list (e ∷ es) = ((e.1, refl), shift (slice_get (e ∷ es)) 0 _ (shows_list es))
+told_by : (r : Result PlainData Cause) (cut y : Cause) → Own r → y ≡ cut_fault cut r → is_memory y ≡ false
+    → (y ≡ cut) ⊎ IsNodeFault y
+told_by _ cut y (own_value x) e known = inl e
+told_by _ cut y (own_fault z h) e known = split cut y z h e known
 
--- what is read of a document
-abbrev pub whole_source : List PlainShape → PlainDocument → Source
-whole_source table document = record {
-  table = table;
-  events = slice_get document.events;
-  ends = slice_get (ends_of (map (λ e. e.0) document.events));
-  size = length document.events;
-}
-
--- the reading of a document from its start, by places
-abbrev pub whole_reading : PlainLimits → List PlainShape → PlainDocument → PlainShape → Reading PlainData
-whole_reading limits table document s =
-    node_at (whole_source table document) (whole_fuel limits (length document.events)) root_way s limits.nesting None
-    (record { place = 0; left = limits.follows * length document.events })
-
--- what the walk over a document's events gives is that reading
-pub seen_whole : (limits : PlainLimits) (table : List PlainShape) (s : PlainShape) → reach table s ≤ 4096
-    → (document : PlainDocument)
-    (es : List (DocEvent × Position)) (ends : List ℕ) (r : Reading PlainData) → marked_events_of es ≡ document.events
-    → ends ≡ ends_of (map (λ e. e.0) document.events)
-    → ((fuel : ℕ) → depth table s false limits.nesting (limits.follows * length es) < fuel
-    → node_at (record {
-      table = table;
-      events = slice_get (marked_events_of es);
-      ends = slice_get ends;
-      size = length es;
-    }) fuel root_way s limits.nesting None
-    (record { place = 0; left = limits.follows * length es }) ≡ r)
-    → whole_reading limits table document s ≡ r
-seen_whole limits table s small document es ends r seen numbers gives =
-    let size : length es ≡ length document.events = sym (length-map es (λ e. (doc_event_of e.0, e.1)))
-    ∙ ap length seen in
-    let same = gives (whole_fuel limits (length es)) (omega (arith, small)) in
-    rw (seen, size, numbers) at same
-
-same_ok : {A : Type 0} (x y : A) → ◌≡◌ {A = Result A Cause} (Ok x) (Ok y) → x ≡ y
-same_ok x y h = cc
-
-err_is : {A : Type 0} (e f : Cause) → ◌≡◌ {A = Result A Cause} (Err e) (Err f) → e ≡ f
-err_is e f h = cc
-
-landed_ok : (p : ℕ) (r : Answer PlainData) (v : PlainData) (next : Spot) → landed p r ≡ Ok (v, next)
-    → (r >>= λ x. Ok x.0) ≡ Ok v
-landed_ok p (Ok x) v next h = ap (λ (y : PlainData × Spot). Ok y.0) (same_ok _ _ h)
-landed_ok p (Err y) v next h = absurd cc
-
-landed_err : (p : ℕ) (r : Answer PlainData) (y : Cause) → landed p r ≡ Err y → (r >>= λ x. Ok x.0) ≡ Err y
-landed_err p (Ok x) y h = absurd cc
-landed_err p (Err z) y h = ap Err (err_is _ _ h)
-
-answer_ok : (r : Answer PlainData) (v : PlainData) → (r >>= λ x. Ok x.0) ≡ Ok v → (left : ℕ) × (r ≡ Ok (v, left))
-answer_ok (Ok x) v h = (x.1, ap (λ w. Ok (w, x.1)) (same_ok _ _ h))
-answer_ok (Err y) v h = absurd cc
-
-answer_err : (r : Answer PlainData) (y : Cause) → (r >>= λ x. Ok x.0) ≡ Err y → r ≡ Err y
-answer_err (Ok x) y h = absurd cc
-answer_err (Err z) y h = ap Err (err_is _ _ h)
+-- what is told is what reading answers, where it is not what cut the document off, and then no end of the events
+front_is : (r : Result PlainData Cause) (cut y : Cause) → y ≡ cut_fault cut r → y ≢ cut
+    → (r ≡ Err y) × (y ≢ EndOfStream)
+front_is (Ok v) cut y e other = absurd (other e)
+front_is (Err EndOfStream) cut y e other = absurd (other e)
+front_is (Err z) cut y e other = (ap Err (sym e), λ end. let bad : z ≡ EndOfStream = sym e ∙ end in absurd cc)
 
 -- what cuts documents off does not say that there are others
 pub ending_own : (f y : Cause) → IsEnding (Some f) → y ≡ f → y ≢ MoreThanOneDocument
@@ -145,18 +97,21 @@ module _ (limits : PlainLimits) (table : List PlainShape) (s : PlainShape) (docu
       → Err y ≡ answer_of limits table s document root
   refused y h root is = sym (landed_err _ (whole_tree limits table document.events s root) y (sym (tied root is) ∙ h))
 
-  -- no fault that reading by places answers says that there are other documents
-  pub own_fault : (y : Cause) → whole_reading limits table document s ≡ Err y → ◌≢◌ {A = Result PlainData Cause} (Err y)
-      (Err MoreThanOneDocument)
-  own_fault y h e = own_apart (whole_reading limits table document s)
-      (own_node (whole_source table document) (whole_fuel limits (length document.events)) root_way s limits.nesting
-      None (record { place = 0; left = limits.follows * length document.events }))
-      (h ∙ ap Err (err_is y MoreThanOneDocument e))
+  whole_own : Own (whole_reading limits table document s)
+  whole_own = own_node (whole_source table document) (whole_fuel limits (length document.events)) root_way s
+      limits.nesting None (record { place = 0; left = limits.follows * length document.events })
 
-  -- nor does running out of memory
+  -- each fault that reading by places answers is one of reading, or want of memory
+  pub refusal_kind : (y : Cause) → whole_reading limits table document s ≡ Err y → is_memory y ≡ false
+      → (fault : Cause) → ◌≡◌ {A = Result PlainData Cause} (Err y) (Err fault) → IsReadingFault fault
+  refusal_kind y h known fault e =
+      subst IsReadingFault (err_is y fault e) (own_kind (whole_reading limits table document s) y whole_own h known)
+
+  -- none says that there are other documents
   pub own_refusal : (y : Cause) → (is_memory y ≡ false → whole_reading limits table document s ≡ Err y)
       → y ≢ MoreThanOneDocument
-  own_refusal y h e = own_fault y (h (ap is_memory e)) (ap Err e)
+  own_refusal y h e =
+      let known = ap is_memory e in refusal_kind y (h known) known MoreThanOneDocument (ap Err e)
 
   -- what is told of a document that was cut off, where reading answers a fault
   pub told_cut : (refusal y ending : Cause)
@@ -187,14 +142,33 @@ module _ (limits : PlainLimits) (table : List PlainShape) (s : PlainShape) (docu
 
   -- a document that was cut off is refused by what cut it off, or by a fault that reading answers
   pub cut_gives : (y ending : Cause) → document.ending ≡ Some ending → y ≢ MoreThanOneDocument
-      → y ≡ cut_fault ending (front_answer limits table s document)
+      → y ≡ cut_fault ending (front_answer limits table s document) → is_memory y ≡ false
       → DocumentGives limits table s document (Err y)
-  cut_gives y ending cut own told = record {
+  cut_gives y ending cut own told known = record {
     whole = λ v e. absurd cc;
     found = λ root v is e. absurd (uncut root is);
     only = λ root v is r. absurd (uncut root is);
     refused = λ root v d k fault is m e. absurd (uncut root is);
     own = λ e. own (err_is y MoreThanOneDocument e);
+    kind = λ fault whole e. let bad = sym cut ∙ whole in absurd cc;
+    told = λ fault is.
+        let same : ending ≡ fault = some_is ending fault (sym cut ∙ is) in
+        let front = own_bind (whole_reading limits table document s) (λ x. Ok x.0) whole_own (λ x. own_value x.0) in (
+          y,
+          refl,
+          subst (λ f. (y ≡ f) ⊎ IsNodeFault y) same
+              (told_by (front_answer limits table s document) ending y front told known),
+        );
+    front = λ fault found whole root is e other on tree.
+        let same : ending ≡ fault = some_is ending fault (sym cut ∙ is) in
+        let mine : y ≡ found = err_is y found e in
+        let first = front_is (front_answer limits table s document) ending y told
+        (λ h. other (sym mine ∙ (h ∙ same))) in
+        let read = reading_err (whole_reading limits table document s) y first.0 in
+        subst (λ f. answer_within limits.nesting (limits.follows * length document.events) table s whole root ≡ Err f)
+        mine
+        (first_fault limits table s document whole root tree on y read first.1
+        (λ h. let bad = sym known ∙ ap is_memory h in absurd cc));
     exact = λ root is. absurd (uncut root is);
     cut = λ fault is.
         let same : ending ≡ fault = some_is ending fault (sym cut ∙ is) in
@@ -244,15 +218,19 @@ module _ (limits : PlainLimits) (table : List PlainShape) (s : PlainShape) (docu
         ok_or_err r x y e f = let bad = sym e ∙ f in absurd cc
 
     -- what answers as the tree does is what a document gives that nothing cut off
-    pub gives_of_exact : (given : Result PlainData Cause) → document.ending ≡ None → given ≢ Err MoreThanOneDocument
+    pub gives_of_exact : (given : Result PlainData Cause) → document.ending ≡ None
+        → ((fault : Cause) → given ≡ Err fault → IsReadingFault fault)
         → ((root : DocNode) → IsTreeOf document root → given ≡ answer_of limits table s document root)
         → DocumentGives limits table s document given
-    gives_of_exact given whole own exact = record {
+    gives_of_exact given whole kind exact = record {
       whole = λ v e. whole;
       found = λ root v is e. answer_read root is v (sym (exact root is) ∙ e);
       only = λ root v is r. exact root is ∙ read_answer root v r;
       refused = λ root v d k fault is m e. answer_refusal root v d k fault m (sym (exact root is) ∙ e);
-      own = own;
+      own = kind MoreThanOneDocument;
+      kind = λ fault is e. kind fault e;
+      told = λ ending is. let bad = sym whole ∙ is in absurd cc;
+      front = λ ending fault other root is e apart on tree. let bad = sym whole ∙ is in absurd cc;
       exact = exact;
       cut = λ fault is. let bad = sym whole ∙ is in absurd cc;
     }

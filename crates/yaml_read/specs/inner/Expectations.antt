@@ -12,6 +12,8 @@ use Rattle.yaml_shape.specs.ShapeView.{shape_of}
 use Rattle.yaml_read.specs.ScalarFound.{wrong_type, wrong_value, found_kind, found_integer, wanted_text}
 use Rattle.yaml_read.specs.declared.de.scalar.expected.Expected.{Expected}
 use Rattle.yaml_read.specs.declared.de.scalar.expected.Expected.TheVariants as expect
+use Rattle.yaml_read.specs.ScalarSorts.{PlainSort, without_text, tagged_bool, tagged_int, tagged_float, tagged_null}
+use Rattle.yaml_read.specs.ScalarSorts.{by_its_text, as_string}
 use Rattle.yaml_read.specs.declared.de.scalar.sort.ScalarSort.{ScalarSort}
 use Rattle.yaml_read.specs.declared.de.scalar.sort.ScalarSort.TheVariants.{NoText, TaggedBool, TaggedInt, TaggedFloat}
 use Rattle.yaml_read.specs.declared.de.scalar.sort.ScalarSort.TheVariants.{TaggedNull, Resolved, String}
@@ -28,19 +30,29 @@ wanted_of (expect.Shape s) = wanted_text (shape_of s.now)
 wanted_of (expect.TupleVariant name variant) = tuple_variant_text name.now variant.now
 wanted_of (expect.StructVariant name variant) = struct_variant_text name.now variant.now
 
+-- the row that the code names
+abbrev pub plain_sort : ScalarSort → PlainSort
+plain_sort NoText = without_text
+plain_sort TaggedBool = tagged_bool
+plain_sort TaggedInt = tagged_int
+plain_sort TaggedFloat = tagged_float
+plain_sort TaggedNull = tagged_null
+plain_sort Resolved = by_its_text
+plain_sort String = as_string
+
 -- what a scalar in a row is found to be, with this text; a tag that its text does not bear out is a fault
-abbrev pub found_in : ScalarSort → (text : List ℕ) → Result Found Cause
-found_in NoText text = Ok found.Bytes
-found_in TaggedBool text =
+abbrev pub found_in : PlainSort → (text : List ℕ) → Result Found Cause
+found_in without_text text = Ok found.Bytes
+found_in tagged_bool text =
     option_map_or (λ b. Ok (found.Bool b)) (boolean_of text) (Err (wrong_value (found.Str text) (codes "a boolean")))
-found_in TaggedInt text =
+found_in tagged_int text =
     option_map_or (λ f. Ok f) (found_integer text) (Err (wrong_value (found.Str text) (codes "an integer")))
-found_in TaggedFloat text =
+found_in tagged_float text =
     if is_float text then Ok (found.Float text) else Err (wrong_value (found.Str text) (codes "a float"))
-found_in TaggedNull text =
+found_in tagged_null text =
     if is_null_word text then Ok found.Unit else Err (wrong_value (found.Str text) (codes "null"))
-found_in Resolved text = Ok (found_kind text (kind_of text))
-found_in String text = Ok (found.Str text)
+found_in by_its_text text = Ok (found_kind text (kind_of text))
+found_in as_string text = Ok (found.Str text)
 
 -- the fault of what was found where something else is expected
 abbrev pub fault_by : (expected : List ℕ) → Result Found Cause → Cause

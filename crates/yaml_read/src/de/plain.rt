@@ -1,17 +1,19 @@
-//! Documents under shapes that name no others.
+//! Documents that are read without a walk, and those under shapes that name no others.
 
-ghost use Rattle.std.specs.Prelude.{◌≡◌, [], IfSome, Some, None, Ok, true, false, is_ok, slice_get};
+ghost use Rattle.std.specs.Prelude.{◌≡◌, ◌<◌, [], IfSome, Some, None, Ok, true, false, is_ok, length, slice_get};
 ghost use Rattle.std.specs.Option.{option_map, is_some};
 ghost use Rattle.yaml_base.specs.Answer.{Answers};
 ghost use Rattle.yaml_base.specs.PlainEvent.{PlainScalar};
 ghost use Rattle.yaml_base.specs.Position.{Position};
 ghost use Rattle.yaml_shape.specs.DataView.{data_of};
-ghost use Rattle.yaml_shape.specs.PlainShape.{ignored_shape};
+ghost use Rattle.yaml_shape.specs.PlainData.{none_data};
+ghost use Rattle.yaml_shape.specs.PlainShape.{PlainShape, ignored_shape, shape_at};
 ghost use Rattle.yaml_shape.specs.ShapeView.{shape_of};
 ghost use Rattle.yaml_shape.specs.Validity.{named};
 ghost use Rattle.yaml_read.specs.DocEventView.{doc_event_of};
 ghost use Rattle.yaml_read.specs.FreeReads.{IsFreeScalar};
 ghost use Rattle.yaml_read.specs.PlainDocEvent.{a_scalar};
+ghost use Rattle.yaml_read.specs.Presence.{is_absent};
 ghost use Rattle.yaml_read.specs.Reads.{DocumentGives};
 ghost use Rattle.yaml_read.specs.ScalarShapes.{scalar_answer, takes_no_memory};
 ghost use Rattle.yaml_read.specs.TreeReader.{default_limits};
@@ -20,13 +22,14 @@ ghost use Rattle.yaml_read.specs.inner.Reader.{is_leaf};
 
 use crate::cursor::Cursor;
 use crate::de::node::is_leaf;
+use crate::de::scalar::presence::is_absent;
 use crate::de::scalar::read_scalar;
 use crate::doc_event::DocEvent;
 use crate::document::Document;
 use crate::limits::Limits;
 use std::alloc::Global;
 use yaml_base::{Mark, Result};
-use yaml_shape::{Data, Schema, Shape};
+use yaml_shape::{Data, Schema, Shape, ShapeId};
 
 impl<'de> Document<'de> {
     // The first event, with its mark.
@@ -57,7 +60,29 @@ impl<'de> Document<'de> {
         }
     }
 
-    // The data that a whole document gives before any walk, if it does: a scalar, or a node that is stepped over.
+    // An optional that is absent, where a scalar that stands for nothing comes first.
+    fn read_absent(&self) -> Option<Data<'de>>
+        ensures answers { IfSome result (λ found. (w : PlainScalar) × (mark : Position)
+            × (slice_get self.now.events 0 ≡ Some (a_scalar w, mark)) × (is_absent false w ≡ true)
+            × (data_of found ≡ none_data)) }
+        ensures free { (w : PlainScalar) (mark : Position) → slice_get self.now.events 0 ≡ Some (a_scalar w, mark)
+            → is_absent false w ≡ true → is_some result ≡ true }
+    {
+        let Some((event, _)) = self.first_event() else {
+            return None;
+        };
+        let DocEvent::Scalar(scalar) = event else {
+            return None;
+        };
+        if is_absent(scalar, false) {
+            Some(Data::None)
+        } else {
+            None
+        }
+    }
+
+    // The data that a whole document gives before any walk, if it does: a scalar, an optional that is absent, or a node
+    // that is stepped over.
     fn read_free(&self, alloc: Global, shape: &Shape) -> Option<Data<'de>>
         ensures answers { IfSome result (λ found. IsAnswered (shape_of shape.now) self.now (data_of found)) }
         ensures scalar { (w : PlainScalar) → IsFreeScalar (shape_of shape.now) self.now w → is_some result ≡ true }
@@ -69,10 +94,33 @@ impl<'de> Document<'de> {
         if matches!(shape, Shape::IgnoredAny) {
             return Some(Data::Ignored);
         }
+        if matches!(shape, Shape::Option(_)) {
+            return self.read_absent();
+        }
         if !is_leaf(shape) {
             return None;
         }
         self.read_first_scalar(alloc, shape)
+    }
+
+    // The data of the document under the shape with this number, before any walk where that can be.
+    pub(super) fn read_shape(
+        &self,
+        alloc: Global,
+        schema: &Schema,
+        id: ShapeId,
+    ) -> Result<Data<'de>>
+        requires { id.0 < length schema.now }
+        ensures gives { (s : PlainShape) → shape_at schema.now id.0 ≡ Some s
+            → Answers data_of result (DocumentGives default_limits schema.now s self.now) }
+        ensures free { (s : PlainShape) (w : PlainScalar) → shape_at schema.now id.0 ≡ Some s
+            → IsFreeScalar s self.now w → is_ok result ≡ true }
+    {
+        schema.optionals_end();
+        match self.read_free(alloc, schema.get(id)) {
+            Some(data) => Ok(data),
+            None => self.deserialize(alloc, schema, id),
+        }
     }
 
     // The data of the document under a shape that names no other.

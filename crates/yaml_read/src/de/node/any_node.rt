@@ -1,6 +1,6 @@
 //! Any value: a scalar, a list, or a mapping, under its tag where it has one.
 
-ghost use Rattle.std.specs.Prelude.{◌≡◌, ℕ, suc, ◌+◌, ◌*◌, ◌<◌, ◌≤◌, [], length, IfOk, OnOk, false};
+ghost use Rattle.std.specs.Prelude.{◌≡◌, ℕ, suc, ◌+◌, ◌<◌, ◌≤◌, [], length, IfOk, OnOk, false};
 ghost use Rattle.std.specs.Option.{is_some};
 ghost use Rattle.yaml_base.specs.Answer.{Gives};
 ghost use Rattle.yaml_shape.specs.DataView.{data_of, entries_of};
@@ -9,7 +9,7 @@ ghost use Rattle.yaml_shape.specs.ShapeView.{shape_of};
 ghost use Rattle.yaml_tree.specs.Valid.{pairs_of};
 ghost use Rattle.yaml_read.specs.AnyData.{pairs_in};
 ghost use Rattle.yaml_read.specs.Ends.{GoForward};
-ghost use Rattle.yaml_read.specs.Handing.{depth};
+ghost use Rattle.yaml_read.specs.Handing.{depth, parts_depth};
 ghost use Rattle.yaml_read.specs.Places.{way_of};
 ghost use Rattle.yaml_read.specs.Steps.{wrap};
 ghost use Rattle.yaml_read.specs.inner.Reader.{shape_step, any_entry_at, mapping_parts};
@@ -100,7 +100,7 @@ impl<'s, 'de> Source<'s, 'de> {
         requires shape { shape_of any.now ≡ any_shape }
         requires within { walk.old.place ≤ length self.now.events.now }
         requires forward { GoForward self.now.ends.now }
-        ensures gives { (fuel turns : ℕ) → 8200 * (walk.old.left + nest) + 8196 < fuel
+        ensures gives { (fuel turns : ℕ) → parts_depth nest walk.old.left < fuel
             → length self.now.events.now < turns + walk.old.place
             → Gives (λ x. (pairs_of x, spot_of walk.new)) result
             (wrap (λ vs. pairs_in (entries_of vs)) (mapping_parts (source_of self.now)

@@ -9,7 +9,7 @@ ghost use Rattle.yaml_shape.specs.ShapeView.{shape_of, content_of, fields_of, id
 ghost use Rattle.yaml_shape.specs.Validity.{NamesWithin, named_in, numbers_of};
 ghost use Rattle.yaml_read.specs.DocEventView.{doc_event_of};
 ghost use Rattle.yaml_read.specs.Ends.{GoForward};
-ghost use Rattle.yaml_read.specs.Handing.{depth, is_filled_scalar};
+ghost use Rattle.yaml_read.specs.Handing.{depth, is_filled_scalar, most_optionals, nesting_depth};
 ghost use Rattle.yaml_read.specs.NodeTags.{untaken_name};
 ghost use Rattle.yaml_read.specs.Places.{way_of};
 ghost use Rattle.yaml_read.specs.Steps.{with_shape};
@@ -109,7 +109,7 @@ impl<'s, 'de> Source<'s, 'de> {
         requires within { walk.old.place < length self.now.events.now }
         requires named { All (λ id. id < length self.now.schema.now) (named_in (content_of content.now)) }
         requires forward { GoForward self.now.ends.now }
-        ensures gives { (fuel : ℕ) → 8200 * (walk.old.left + nest) + 4096 < fuel
+        ensures gives { (fuel : ℕ) → nesting_depth * (walk.old.left + nest) + most_optionals < fuel
             → Gives (λ x. (data_of x, spot_of walk.new)) result
             (with_shape
             (content_shape self.now.schema.now around.now.name.now around.now.variant.now (content_of content.now))
@@ -165,7 +165,7 @@ impl<'s, 'de> Source<'s, 'de> {
         requires tagged { untaken_name false (doc_event_of event.now) ≡ Some around.now.variant.now }
         requires named { All (λ id. id < length self.now.schema.now) (ids_of items.now) }
         requires forward { GoForward self.now.ends.now }
-        ensures gives { (fuel : ℕ) → 8200 * (walk.old.left + nest) < suc fuel
+        ensures gives { (fuel : ℕ) → nesting_depth * (walk.old.left + nest) < suc fuel
             → Gives (λ x. (data_of x, spot_of walk.new)) result
             (node_step (source_of self.now) (reader_of fuel self.now) (way_of path.now)
             (tuple_variant_shape around.now.name.now around.now.variant.now (ids_of items.now)) nest
@@ -211,7 +211,7 @@ impl<'s, 'de> Source<'s, 'de> {
         requires tagged { untaken_name false (doc_event_of event.now) ≡ Some around.now.variant.now }
         requires named { All (λ id. id < length self.now.schema.now) (numbers_of (fields_of fields.now)) }
         requires forward { GoForward self.now.ends.now }
-        ensures gives { (fuel : ℕ) → 8200 * (walk.old.left + nest) < suc fuel
+        ensures gives { (fuel : ℕ) → nesting_depth * (walk.old.left + nest) < suc fuel
             → Gives (λ x. (data_of x, spot_of walk.new)) result
             (node_step (source_of self.now) (reader_of fuel self.now) (way_of path.now)
             (struct_variant_shape strict around.now.name.now around.now.variant.now (fields_of fields.now)) nest

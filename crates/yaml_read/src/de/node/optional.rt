@@ -9,7 +9,7 @@ ghost use Rattle.yaml_shape.specs.ShapeView.{shape_of};
 ghost use Rattle.yaml_shape.specs.Validity.{NamesWithin};
 ghost use Rattle.yaml_read.specs.DocEventView.{doc_event_of};
 ghost use Rattle.yaml_read.specs.Ends.{GoForward};
-ghost use Rattle.yaml_read.specs.Handing.{depth, is_content, untaken_reach};
+ghost use Rattle.yaml_read.specs.Handing.{depth, is_content, untaken_reach, nesting_depth};
 ghost use Rattle.yaml_read.specs.Places.{way_of};
 ghost use Rattle.yaml_read.specs.inner.Reader.{shape_step};
 ghost use Rattle.yaml_read.specs.inner.Walks.{around_of, source_of, spot_of, reader_of, seen, MovesOn, Costs};
@@ -83,7 +83,7 @@ impl<'s, 'de> Source<'s, 'de> {
     ) -> Result<Data<'de>>
         requires named { inner.0 < length self.now.schema.now }
         requires forward { GoForward self.now.ends.now }
-        ensures gives { (fuel : ℕ) (name : List ℕ) → 8200 * (walk.old.left + nest) + untaken_reach
+        ensures gives { (fuel : ℕ) (name : List ℕ) → nesting_depth * (walk.old.left + nest) + untaken_reach
             (is_some (around_of taken.entry)) < suc fuel
             → Gives (λ x. (data_of x, spot_of walk.new)) result
             (shape_step (source_of self.now) (reader_of fuel self.now) (way_of path.now)

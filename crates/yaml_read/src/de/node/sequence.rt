@@ -1,6 +1,6 @@
 //! A sequence whose elements have one shape.
 
-ghost use Rattle.std.specs.Prelude.{◌≡◌, ℕ, suc, ◌+◌, ◌*◌, ◌<◌, ◌≤◌, [], length, map, OnOk, Some, false};
+ghost use Rattle.std.specs.Prelude.{◌≡◌, ℕ, suc, ◌+◌, ◌<◌, ◌≤◌, [], length, map, OnOk, Some, false};
 ghost use Rattle.std.specs.Option.{is_some};
 ghost use Rattle.yaml_base.specs.Answer.{Gives};
 ghost use Rattle.yaml_shape.specs.DataView.{data_of};
@@ -9,7 +9,7 @@ ghost use Rattle.yaml_shape.specs.ShapeView.{shape_of};
 ghost use Rattle.yaml_shape.specs.Validity.{NamesWithin};
 ghost use Rattle.yaml_read.specs.DocEventView.{doc_event_of};
 ghost use Rattle.yaml_read.specs.Ends.{GoForward};
-ghost use Rattle.yaml_read.specs.Handing.{depth, reach};
+ghost use Rattle.yaml_read.specs.Handing.{depth, reach, parts_depth};
 ghost use Rattle.yaml_read.specs.Places.{way_of};
 ghost use Rattle.yaml_read.specs.inner.Reader.{shape_step, item_at, sequence_parts, is_leaf};
 ghost use Rattle.yaml_read.specs.inner.Walks.{around_of, source_of, spot_of, reader_of, seen, MovesOn, Costs};
@@ -82,7 +82,7 @@ impl<'s, 'de> Source<'s, 'de> {
         requires named { NamesWithin (length self.now.schema.now) (shape_of element.now) }
         requires reach { reach self.now.schema.now (shape_of element.now) ≤ 4096 }
         requires forward { GoForward self.now.ends.now }
-        ensures gives { (fuel turns : ℕ) → 8200 * (walk.old.left + nest) + 8196 < fuel
+        ensures gives { (fuel turns : ℕ) → parts_depth nest walk.old.left < fuel
             → length self.now.events.now < turns + walk.old.place
             → Gives (λ x. (map data_of x.items, spot_of walk.new)) result
             (sequence_parts (source_of self.now) (item_at (reader_of fuel self.now) (way_of path.now)

@@ -55,9 +55,7 @@ impl<'s, 'de> Source<'s, 'de> {
         ensures moves { OnOk result (MovesOn (length self.now.events.now) walk.old walk.new) }
         ensures cost { Costs (length self.now.events.now) walk.old walk.new }
     {
-        match self.pass_over(walk) {
-            Ok(()) => Ok(Data::Ignored),
-            Err(refusal) => Err(refusal),
-        }
+        self.pass_over(walk)?;
+        Ok(Data::Ignored)
     }
 }

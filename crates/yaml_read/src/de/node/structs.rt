@@ -10,7 +10,7 @@ ghost use Rattle.yaml_shape.specs.Validity.{NamesWithin, numbers_of};
 ghost use Rattle.yaml_read.specs.DocEventView.{doc_event_of};
 ghost use Rattle.yaml_read.specs.Ends.{GoForward};
 ghost use Rattle.yaml_read.specs.Fields.{name_in, no_slots, struct_of, field_data};
-ghost use Rattle.yaml_read.specs.Handing.{depth, is_bare};
+ghost use Rattle.yaml_read.specs.Handing.{depth, is_bare, nesting_depth, parts_depth, tag_depth};
 ghost use Rattle.yaml_read.specs.Places.{way_of};
 ghost use Rattle.yaml_read.specs.TreeReader.{mark_or_first};
 ghost use Rattle.yaml_read.specs.inner.Reader.{shape_step, field_at, field_key_at, mapping_parts, value_way, text_at};
@@ -112,7 +112,7 @@ impl<'s, 'de> Source<'s, 'de> {
         requires within { walk.old.place ≤ length self.now.events.now }
         requires named { All (λ id. id < length self.now.schema.now) (numbers_of (fields_of fields.now)) }
         requires forward { GoForward self.now.ends.now }
-        ensures gives { (fuel turns : ℕ) → 8200 * (walk.old.left + nest) + 8196 < fuel
+        ensures gives { (fuel turns : ℕ) → parts_depth nest walk.old.left < fuel
             → length self.now.events.now < turns + walk.old.place
             → Gives (λ x. (slots_of x.items, spot_of walk.new)) result
             (mapping_parts (source_of self.now)
@@ -156,7 +156,7 @@ impl<'s, 'de> Source<'s, 'de> {
         requires wide { length slots.old.items ≡ length fields.now }
         requires named { All (λ id. id < length self.now.schema.now) (numbers_of (fields_of fields.now)) }
         requires forward { GoForward self.now.ends.now }
-        ensures gives { (fuel : ℕ) → 8200 * (walk.old.left + nest) + 8196 < fuel
+        ensures gives { (fuel : ℕ) → parts_depth nest walk.old.left < fuel
             → Gives (λ _. (slots_of slots.new.items, spot_of walk.new)) result
             (field_at (source_of self.now) (reader_of fuel self.now) (way_of path.now) strict
             (fields_of fields.now) nest
@@ -198,7 +198,7 @@ impl<'s, 'de> Source<'s, 'de> {
         requires here { seen self.now.events.now walk.old.place ≡ Some (doc_event_of event.now, mark) }
         requires within { walk.old.place < length self.now.events.now }
         requires forward { GoForward self.now.ends.now }
-        ensures gives { (fuel : ℕ) → 8200 * (walk.old.left + nest) + 4100 < fuel
+        ensures gives { (fuel : ℕ) → nesting_depth * (walk.old.left + nest) + tag_depth < fuel
             → Gives (λ x. (
               (field_view x, value_way (way_of path.now) (seen self.now.events.now walk.old.place)),
               spot_of walk.new,

@@ -1,13 +1,13 @@
 //! A tuple, or a tuple struct: as many elements as there are shapes.
 
-ghost use Rattle.std.specs.Prelude.{◌≡◌, ℕ, suc, ◌+◌, ◌*◌, ◌<◌, ◌≤◌, length, All, OnOk, IfOk};
+ghost use Rattle.std.specs.Prelude.{◌≡◌, ℕ, suc, ◌+◌, ◌<◌, ◌≤◌, length, All, OnOk, IfOk};
 ghost use Rattle.std.specs.Option.{is_some, option_copied};
 ghost use Rattle.yaml_base.specs.Answer.{Gives};
 ghost use Rattle.yaml_shape.specs.DataView.{data_of};
 ghost use Rattle.yaml_shape.specs.ShapeView.{shape_of, ids_of};
 ghost use Rattle.yaml_shape.specs.Validity.{NamesWithin};
 ghost use Rattle.yaml_read.specs.Ends.{GoForward};
-ghost use Rattle.yaml_read.specs.Handing.{depth};
+ghost use Rattle.yaml_read.specs.Handing.{depth, parts_depth};
 ghost use Rattle.yaml_read.specs.Places.{way_of};
 ghost use Rattle.yaml_read.specs.Rows.{row_of};
 ghost use Rattle.yaml_read.specs.inner.Reader.{shape_step, row_at, sequence_parts, row_shape};
@@ -76,7 +76,7 @@ impl<'s, 'de> Source<'s, 'de> {
         requires within { walk.old.place ≤ length self.now.events.now }
         requires named { All (λ id. id < length self.now.schema.now) (ids_of items.now) }
         requires forward { GoForward self.now.ends.now }
-        ensures gives { (fuel turns : ℕ) → 8200 * (walk.old.left + nest) + 8196 < fuel
+        ensures gives { (fuel turns : ℕ) → parts_depth nest walk.old.left < fuel
             → length self.now.events.now < turns + walk.old.place
             → Gives (λ x. (row_view (ids_of items.now) x, spot_of walk.new)) result
             (sequence_parts (source_of self.now) (row_at (source_of self.now) (reader_of fuel self.now)

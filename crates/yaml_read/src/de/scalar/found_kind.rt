@@ -7,7 +7,7 @@ ghost use Rattle.yaml_base.specs.declared.found.Found.TheVariants.{Float, Str};
 ghost use Rattle.yaml_read.specs.DocEventView.{doc_scalar_of};
 ghost use Rattle.yaml_read.specs.ScalarFound.{wrong_value, found_kind, found_integer, string_found};
 ghost use Rattle.yaml_read.specs.ScalarSorts.{sort_of};
-ghost use Rattle.yaml_read.specs.inner.Expectations.{found_in};
+ghost use Rattle.yaml_read.specs.inner.Expectations.{found_in, plain_sort};
 
 use crate::de::read_refusal::{Refusal, refuse};
 use crate::de::scalar::expected::words;
@@ -105,7 +105,7 @@ pub(crate) fn refusal_of(alloc: Global, cause: Result<Cause, AllocError>) -> Ref
 
 // What a text in a row is found to be.
 fn found_as(alloc: Global, sort: ScalarSort, text: &str) -> Result<Found, Refusal>
-    ensures { Gives (λ (f : Found). f) result (found_in sort text.now) }
+    ensures { Gives (λ (f : Found). f) result (found_in (plain_sort sort) text.now) }
 {
     match sort {
         ScalarSort::NoText => Ok(Found::Bytes),

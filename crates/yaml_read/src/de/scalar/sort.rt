@@ -7,6 +7,7 @@ ghost use Rattle.yaml_read.specs.DocEventView.{doc_scalar_of};
 ghost use Rattle.yaml_read.specs.ScalarShapes.{is_plain_or_tagged_literal, text_of, utf8_text};
 ghost use Rattle.yaml_read.specs.ScalarSorts.{is_plain, is_literal, is_tag, is_local, has_untaken, is_resolved};
 ghost use Rattle.yaml_read.specs.ScalarSorts.{sort_of};
+ghost use Rattle.yaml_read.specs.inner.Expectations.{plain_sort};
 
 use crate::doc_event::DocScalar;
 use yaml_base::{ScalarStyle, Tag};
@@ -145,7 +146,7 @@ fn has_null_tag(taken: bool, scalar: &DocScalar<'_>) -> bool
 
 /// The row of a scalar. The flag says whether its tag is taken.
 pub(crate) fn sort_of(taken: bool, scalar: &DocScalar<'_>) -> ScalarSort
-    ensures { result ≡ sort_of taken (doc_scalar_of scalar.now) }
+    ensures { plain_sort result ≡ sort_of taken (doc_scalar_of scalar.now) }
 {
     if text_of(scalar).is_none() {
         ScalarSort::NoText

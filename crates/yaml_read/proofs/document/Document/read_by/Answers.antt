@@ -12,7 +12,7 @@ use Rattle.yaml_read.specs.StreamLaw.{IsEnding}
 use Rattle.yaml_read.specs.declared.doc_event.DocEvent.{DocEvent}
 use Rattle.yaml_read.proofs.WholeEnds.{seen_within, read_ends, leaves}
 use Rattle.yaml_read.proofs.reading.EndLaws.{ends_go_forward}
-use Rattle.yaml_read.proofs.reading.Whole.{answered, refused, own_fault, own_refusal, cut_gives}
+use Rattle.yaml_read.proofs.reading.Whole.{answered, refused, refusal_kind, own_refusal, cut_gives}
 use Rattle.yaml_read.proofs.reading.Whole.{gives_of_exact, told_cut, data_cut, ending_own, whole_reading}
 use Rattle.yaml_read.proofs.document.Document.read_by.Goals as goal
 
@@ -24,7 +24,7 @@ pub returns-in-None-clause-read : goal.returns-in-None-clause-read
 returns-in-None-clause-read c = λ fresh.
     gives_of_exact c.args.limits c.args.schema.now (shape_of c.args.shape.now) c.args.self.now
     c.optionals_end.ensures.small c.optionals_end.ensures.falls c.requires.small
-    (Ok (data_of c.in-Ok.data)) (sym c.error.ensures.shown ∙ ap option_copied c.in-None.is) (λ e. absurd cc)
+    (Ok (data_of c.in-Ok.data)) (sym c.error.ensures.shown ∙ ap option_copied c.in-None.is) (λ y e. absurd cc)
     (answered c.args.limits c.args.schema.now (shape_of c.args.shape.now) c.args.self.now _ _
     (seen_within c.args.limits c.args.schema.now (shape_of c.args.shape.now) c.requires.small c.args.self.now
     c.events.result.now c.ends.result.now _
@@ -65,7 +65,8 @@ returns-in-None-error-clause-read c = λ fresh. rw c.into_error.ensures (λ faul
     gives_of_exact c.args.limits c.args.schema.now (shape_of c.args.shape.now) c.args.self.now
     c.optionals_end.ensures.small c.optionals_end.ensures.falls c.requires.small
     (Err c.in-Err.refusal) (sym c.error-in-Err.ensures.shown ∙ ap option_copied c.in-None-error.is)
-    (own_fault c.args.limits c.args.schema.now (shape_of c.args.shape.now) c.args.self.now c.in-Err.refusal seen)
+    (refusal_kind c.args.limits c.args.schema.now (shape_of c.args.shape.now) c.args.self.now c.in-Err.refusal seen
+    fault)
     (refused c.args.limits c.args.schema.now (shape_of c.args.shape.now) c.args.self.now c.in-Err.refusal seen))
 
 pub returns-in-Ok-clause-read : goal.returns-in-Ok-clause-read
@@ -79,7 +80,7 @@ returns-in-Ok-clause-read c = λ fresh fault.
     c.events.result.now c.ends.result.now _
     c.nesting.result (c.follows.result * length c.events.result.now) (sym c.nesting.ensures)
     (ap (λ x. x * length c.events.result.now) (sym c.follows.ensures.value))
-    c.events.ensures.shown c.ends.ensures c.in-Ok.ensures.gives))
+    c.events.ensures.shown c.ends.ensures c.in-Ok.ensures.gives)) fault
 
 pub returns-clause-read : goal.returns-clause-read
 returns-clause-read c = λ fresh fault.
@@ -98,3 +99,4 @@ returns-clause-read c = λ fresh fault.
     (subst IsEnding cut c.error-in-Err.ensures.kind) fault)
     (told_cut c.args.limits c.args.schema.now (shape_of c.args.shape.now) c.args.self.now c.in-Err.refusal c.cut_off_fault.result
     c.in-Some-error.ending.now seen c.cut_off_fault.ensures.ended c.cut_off_fault.ensures.kept fault)
+    fault

@@ -16,5 +16,5 @@ returns-in-Some-clause-gives c =
     (gives_of_exact default_limits _ (shape_of c.args.shape.now) c.args.self.now c.optionals_end.ensures.small
     c.optionals_end.ensures.falls
     (reaches_none _ (shape_of c.args.shape.now) c.requires) (Ok (data_of c.in-Some.data)) answers.whole
-    (λ e. absurd cc)
+    (λ fault e. absurd cc)
     (λ root is. answers.answer default_limits _ root is))

@@ -1,19 +1,15 @@
 -- How the walk ends, and what its loops keep.
--- What falls from call to call is ordered as depth is: follows and nestings, the tag, optionals; and last the functions
--- that hand the same node on, each by a number of its own of at most 8. With 8 for each of at most 4096 optionals, 10 for
--- each of the 4100 of an untaken tag, and 100000 for a follow or a nesting, none reaches what counts before it. A part of
--- a collection begins at 41000 = 10 * 4100, its tag untaken, and so does the name of a field, at 41006. A loop over parts
--- stands above 41000 + 8 * 4096 + 8, at 73780; what a variant holds, its tag taken, above 8 * 4096 + 5, at 32774.
-use Rattle.std.proofs.Common.{◌≡◌, ℕ, ◌+◌, ◌*◌, ◌-◌, ◌<◌, ◌≤◌, List, [], map, length}
+use Rattle.std.proofs.Common.{◌≡◌, ℕ, ◌+◌, ◌*◌, ◌-◌, ◌<◌, ◌≤◌, Bool, false, List, [], map, length}
 use Rattle.std.specs.Prelude.{drop}
 use Rattle.yaml_shape.specs.DataView.{data_of, entry_of, entries_of}
 use Rattle.yaml_shape.specs.PlainData.{PlainData}
+use Rattle.yaml_shape.specs.PlainShape.{PlainShape}
 use Rattle.yaml_shape.specs.ShapeView.{shape_of, ids_of, fields_of}
 use Rattle.yaml_tree.specs.Valid.{pairs_of}
 use Rattle.yaml_read.specs.AnyData.{pairs_in}
 use Rattle.yaml_read.specs.Fields.{no_slots}
 use Rattle.std.specs.Option.{is_some}
-use Rattle.yaml_read.specs.Handing.{reach, untaken_reach}
+use Rattle.yaml_read.specs.Handing.{reach, untaken_reach, most_optionals, tag_depth, parts_depth}
 use Rattle.yaml_read.specs.Places.{way_of}
 use Rattle.yaml_read.specs.Rows.{row_of}
 use Rattle.yaml_read.specs.inner.Reader.{sequence_parts, mapping_parts, item_at, entry_at, any_entry_at, row_at}
@@ -21,74 +17,99 @@ use Rattle.yaml_read.specs.inner.Reader.{field_at}
 use Rattle.yaml_read.specs.inner.Walks.{around_of, source_of, spot_of, reader_of, potential, slots_of}
 use Rattle.yaml_read.proofs.de.node.source.Source.+read.Given as goal
 
+-- What falls from call to call is ordered as depth is: follows and nestings, the tag, optionals; and last the functions
+-- that hand the same node on, each by a number of its own: of at most 8 under a shape, and of more above all shapes
+-- that a part may have. What counts before another is more than all that the other can come to.
+
+-- an optional
+abbrev optional_turns : ℕ
+optional_turns = 8
+
+-- each step of the depth of a tag
+abbrev tag_turns : ℕ
+tag_turns = 10
+
+-- a follow, or a nesting
+abbrev nesting_turns : ℕ
+nesting_turns = 100000
+
+-- of so many follows and nestings, a tag of this depth, so many optionals, and the function of this number
+abbrev turns : (levels tag optionals own : ℕ) → ℕ
+turns levels tag optionals own = nesting_turns * levels + (tag_turns * tag + optional_turns * optionals + own)
+
+-- of a node under a shape, its tag taken or not
+abbrev of_node : List PlainShape → PlainShape → (taken : Bool) → (nest left own : ℕ) → ℕ
+of_node table s taken nest left own = turns (left + nest) (untaken_reach taken) (reach table s) own
+
+-- of all parts of a collection, whatever their shapes
+abbrev of_parts : (nest left own : ℕ) → ℕ
+of_parts nest left own = turns (left + nest) tag_depth most_optionals own
+
 abbrev pub decreases-read_node : goal.decreases-read_node
-decreases-read_node l = 100000 * (l.walk.now.left + l.nest) +
-    (10 * untaken_reach (is_some (around_of l.taken)) + 8 * reach l.self.now.schema.now (shape_of l.shape.now) + 5)
+decreases-read_node l = of_node l.self.now.schema.now (shape_of l.shape.now) (is_some (around_of l.taken)) l.nest
+    l.walk.now.left 5
 
 abbrev pub decreases-read_unplaced : goal.decreases-read_unplaced
-decreases-read_unplaced l = 100000 * (l.walk.now.left + l.nest) +
-    (10 * untaken_reach (is_some (around_of l.taken)) + 8 * reach l.self.now.schema.now (shape_of l.shape.now) + 4)
+decreases-read_unplaced l = of_node l.self.now.schema.now (shape_of l.shape.now) (is_some (around_of l.taken)) l.nest
+    l.walk.now.left 4
 
 abbrev pub decreases-read_leaf : goal.decreases-read_leaf
-decreases-read_leaf l = 100000 * (l.walk.now.left + l.nest) +
-    (10 * untaken_reach (is_some (around_of l.taken)) + 8 * reach l.self.now.schema.now (shape_of l.shape.now) + 3)
+decreases-read_leaf l = of_node l.self.now.schema.now (shape_of l.shape.now) (is_some (around_of l.taken)) l.nest
+    l.walk.now.left 3
 
 abbrev pub decreases-read_option : goal.decreases-read_option
-decreases-read_option l = 100000 * (l.walk.now.left + l.nest) +
-    (10 * untaken_reach (is_some (around_of l.taken)) + 8 * reach l.self.now.schema.now (shape_of l.shape.now) + 3)
+decreases-read_option l = of_node l.self.now.schema.now (shape_of l.shape.now) (is_some (around_of l.taken)) l.nest
+    l.walk.now.left 3
 
 abbrev pub decreases-read_newtype : goal.decreases-read_newtype
-decreases-read_newtype l = 100000 * (l.walk.now.left + l.nest) + (10 * untaken_reach (is_some (around_of l.taken)) + 3)
+decreases-read_newtype l = turns (l.walk.now.left + l.nest) (untaken_reach (is_some (around_of l.taken))) 0 3
 
 abbrev pub decreases-read_seq : goal.decreases-read_seq
-decreases-read_seq l = 100000 * (l.walk.now.left + l.nest) +
-    (10 * untaken_reach (is_some (around_of l.taken)) + 8 * reach l.self.now.schema.now (shape_of l.shape.now) + 3)
+decreases-read_seq l = of_node l.self.now.schema.now (shape_of l.shape.now) (is_some (around_of l.taken)) l.nest
+    l.walk.now.left 3
 
 abbrev pub decreases-read_tuple : goal.decreases-read_tuple
-decreases-read_tuple l = 100000 * (l.walk.now.left + l.nest) +
-    (10 * untaken_reach (is_some (around_of l.taken)) + 8 * reach l.self.now.schema.now (shape_of l.shape.now) + 3)
+decreases-read_tuple l = of_node l.self.now.schema.now (shape_of l.shape.now) (is_some (around_of l.taken)) l.nest
+    l.walk.now.left 3
 
 abbrev pub decreases-read_map : goal.decreases-read_map
-decreases-read_map l = 100000 * (l.walk.now.left + l.nest) +
-    (10 * untaken_reach (is_some (around_of l.taken)) + 8 * reach l.self.now.schema.now (shape_of l.shape.now) + 3)
+decreases-read_map l = of_node l.self.now.schema.now (shape_of l.shape.now) (is_some (around_of l.taken)) l.nest
+    l.walk.now.left 3
 
 abbrev pub decreases-read_struct : goal.decreases-read_struct
-decreases-read_struct l = 100000 * (l.walk.now.left + l.nest) +
-    (10 * untaken_reach (is_some (around_of l.taken)) + 8 * reach l.self.now.schema.now (shape_of l.shape.now) + 3)
+decreases-read_struct l = of_node l.self.now.schema.now (shape_of l.shape.now) (is_some (around_of l.taken)) l.nest
+    l.walk.now.left 3
 
 abbrev pub decreases-read_fields : goal.decreases-read_fields
-decreases-read_fields l = 100000 * (l.walk.now.left + l.nest) + 73780
+decreases-read_fields l = of_parts l.nest l.walk.now.left 12
 
 abbrev pub decreases-read_field : goal.decreases-read_field
-decreases-read_field l = 100000 * (l.walk.now.left + l.nest) + 73779
+decreases-read_field l = of_parts l.nest l.walk.now.left 11
 
 abbrev pub decreases-read_name : goal.decreases-read_name
-decreases-read_name l = 100000 * (l.walk.now.left + l.nest) + 41006
+decreases-read_name l = turns (l.walk.now.left + l.nest) tag_depth 0 6
 
 abbrev pub decreases-read_simple : goal.decreases-read_simple
-decreases-read_simple l = 100000 * (l.walk.now.left + l.nest) +
-    (10 * untaken_reach (is_some (around_of l.taken)) + 8 * reach l.self.now.schema.now (shape_of l.shape.now) + 2)
+decreases-read_simple l = of_node l.self.now.schema.now (shape_of l.shape.now) (is_some (around_of l.taken)) l.nest
+    l.walk.now.left 2
 
 abbrev pub decreases-read_part : goal.decreases-read_part
-decreases-read_part l = 100000 * (l.walk.now.left + l.nest) +
-    (41000 + 8 * reach l.self.now.schema.now (shape_of l.shape.now) + 7)
+decreases-read_part l = of_node l.self.now.schema.now (shape_of l.shape.now) false l.nest l.walk.now.left 7
 
 abbrev pub decreases-read_further : goal.decreases-read_further
-decreases-read_further l = 100000 * (l.walk.now.left + l.nest) +
-    (41000 + 8 * reach l.self.now.schema.now (shape_of l.shape.now) + 6)
+decreases-read_further l = of_node l.self.now.schema.now (shape_of l.shape.now) false l.nest l.walk.now.left 6
 
 abbrev pub decreases-read_value : goal.decreases-read_value
-decreases-read_value l = 100000 * (l.walk.now.left + l.nest) +
-    (41000 + 8 * reach l.self.now.schema.now (shape_of l.shape.now) + 8)
+decreases-read_value l = of_node l.self.now.schema.now (shape_of l.shape.now) false l.nest l.walk.now.left 8
 
 abbrev pub decreases-read_items : goal.decreases-read_items
-decreases-read_items l = 100000 * (l.walk.now.left + l.nest) + 73780
+decreases-read_items l = of_parts l.nest l.walk.now.left 12
 
 abbrev pub decreases-read_elements : goal.decreases-read_elements
-decreases-read_elements l = 100000 * (l.walk.now.left + l.nest) + 73780
+decreases-read_elements l = of_parts l.nest l.walk.now.left 12
 
 abbrev pub decreases-read_entries : goal.decreases-read_entries
-decreases-read_entries l = 100000 * (l.walk.now.left + l.nest) + 73780
+decreases-read_entries l = of_parts l.nest l.walk.now.left 12
 
 abbrev pub invariant-read_items-loop-event : goal.invariant-read_items-loop-event
 invariant-read_items-loop-event l = record {
@@ -98,7 +119,7 @@ invariant-read_items-loop-event l = record {
   counted : l.fn.walk.steps.count + l.walk.place ≤ l.walk.steps.count + l.fn.walk.place;
   cost : l.walk.steps.count + potential (length l.self.events.now) l.walk ≤ l.fn.walk.steps.count + potential
       (length l.self.events.now) l.fn.walk;
-  rest : (fuel n : ℕ) → 8200 * (l.fn.walk.left + l.nest) + 8196 < fuel →
+  rest : (fuel n : ℕ) → parts_depth l.nest l.fn.walk.left < fuel →
       sequence_parts (source_of l.self) (item_at (reader_of fuel l.self) (way_of l.path) (shape_of l.element) l.nest)
       (n + length l.items.items) [] (spot_of l.fn.walk)
       ≡ sequence_parts (source_of l.self) (item_at (reader_of fuel l.self) (way_of l.path) (shape_of l.element) l.nest)
@@ -116,7 +137,7 @@ invariant-read_entries-loop-event l = record {
   counted : l.fn.walk.steps.count + l.walk.place ≤ l.walk.steps.count + l.fn.walk.place;
   cost : l.walk.steps.count + potential (length l.self.events.now) l.walk ≤ l.fn.walk.steps.count + potential
       (length l.self.events.now) l.fn.walk;
-  rest : (fuel n : ℕ) → 8200 * (l.fn.walk.left + l.nest) + 8196 < fuel →
+  rest : (fuel n : ℕ) → parts_depth l.nest l.fn.walk.left < fuel →
       mapping_parts (source_of l.self) (entry_at (source_of l.self) (reader_of fuel l.self) (way_of l.path)
       (shape_of l.key) (shape_of l.value) l.nest) (n + length l.entries.items) [] (spot_of l.fn.walk)
       ≡ mapping_parts (source_of l.self) (entry_at (source_of l.self) (reader_of fuel l.self) (way_of l.path)
@@ -134,7 +155,7 @@ invariant-read_elements-loop-event l = record {
   counted : l.fn.walk.steps.count + l.walk.place ≤ l.walk.steps.count + l.fn.walk.place;
   cost : l.walk.steps.count + potential (length l.self.events.now) l.walk ≤ l.fn.walk.steps.count + potential
       (length l.self.events.now) l.fn.walk;
-  rest : (fuel n : ℕ) → 8200 * (l.fn.walk.left + l.nest) + 8196 < fuel →
+  rest : (fuel n : ℕ) → parts_depth l.nest l.fn.walk.left < fuel →
       sequence_parts (source_of l.self) (row_at (source_of l.self) (reader_of fuel l.self) (way_of l.path) l.nest)
       (n + (length l.read.items + l.extra)) (row_of (ids_of l.items)) (spot_of l.fn.walk)
       ≡ sequence_parts (source_of l.self) (row_at (source_of l.self) (reader_of fuel l.self) (way_of l.path) l.nest) n
@@ -154,7 +175,7 @@ invariant-read_fields-loop-event l = (turns : ℕ) × record {
   counted : l.fn.walk.steps.count + l.walk.place ≤ l.walk.steps.count + l.fn.walk.place;
   cost : l.walk.steps.count + potential (length l.self.events.now) l.walk ≤ l.fn.walk.steps.count + potential
       (length l.self.events.now) l.fn.walk;
-  rest : (fuel n : ℕ) → 8200 * (l.fn.walk.left + l.nest) + 8196 < fuel →
+  rest : (fuel n : ℕ) → parts_depth l.nest l.fn.walk.left < fuel →
       mapping_parts (source_of l.self) (field_at (source_of l.self) (reader_of fuel l.self) (way_of l.path) l.strict
       (fields_of l.fields) l.nest) (n + turns) (no_slots (fields_of l.fields)) (spot_of l.fn.walk)
       ≡ mapping_parts (source_of l.self) (field_at (source_of l.self) (reader_of fuel l.self) (way_of l.path) l.strict
@@ -165,24 +186,24 @@ abbrev pub decreases-read_fields-loop-event : goal.decreases-read_fields-loop-ev
 decreases-read_fields-loop-event l = length l.self.events.now - l.walk.place
 
 abbrev pub decreases-read_enum : goal.decreases-read_enum
-decreases-read_enum l = 100000 * (l.walk.now.left + l.nest) +
-    (10 * untaken_reach (is_some (around_of l.taken)) + 8 * reach l.self.now.schema.now (shape_of l.shape.now) + 3)
+decreases-read_enum l = of_node l.self.now.schema.now (shape_of l.shape.now) (is_some (around_of l.taken)) l.nest
+    l.walk.now.left 3
 
 abbrev pub decreases-read_content : goal.decreases-read_content
-decreases-read_content l = 100000 * (l.walk.now.left + l.nest) + 32774
+decreases-read_content l = turns (l.walk.now.left + l.nest) 0 most_optionals 6
 
 abbrev pub decreases-read_variant_row : goal.decreases-read_variant_row
-decreases-read_variant_row l = 100000 * (l.walk.now.left + l.nest) + 1
+decreases-read_variant_row l = turns (l.walk.now.left + l.nest) 0 0 1
 
 abbrev pub decreases-read_variant_fields : goal.decreases-read_variant_fields
-decreases-read_variant_fields l = 100000 * (l.walk.now.left + l.nest) + 1
+decreases-read_variant_fields l = turns (l.walk.now.left + l.nest) 0 0 1
 
 abbrev pub decreases-read_any : goal.decreases-read_any
-decreases-read_any l = 100000 * (l.walk.now.left + l.nest) +
-    (10 * untaken_reach (is_some (around_of l.taken)) + 8 * reach l.self.now.schema.now (shape_of l.shape.now) + 3)
+decreases-read_any l = of_node l.self.now.schema.now (shape_of l.shape.now) (is_some (around_of l.taken)) l.nest
+    l.walk.now.left 3
 
 abbrev pub decreases-read_pairs : goal.decreases-read_pairs
-decreases-read_pairs l = 100000 * (l.walk.now.left + l.nest) + 73780
+decreases-read_pairs l = of_parts l.nest l.walk.now.left 12
 
 abbrev pub invariant-read_pairs-loop-event : goal.invariant-read_pairs-loop-event
 invariant-read_pairs-loop-event l = (vs : List (PlainData × PlainData)) × record {
@@ -193,7 +214,7 @@ invariant-read_pairs-loop-event l = (vs : List (PlainData × PlainData)) × reco
   counted : l.fn.walk.steps.count + l.walk.place ≤ l.walk.steps.count + l.fn.walk.place;
   cost : l.walk.steps.count + potential (length l.self.events.now) l.walk ≤ l.fn.walk.steps.count + potential
       (length l.self.events.now) l.fn.walk;
-  rest : (fuel n : ℕ) → 8200 * (l.fn.walk.left + l.nest) + 8196 < fuel →
+  rest : (fuel n : ℕ) → parts_depth l.nest l.fn.walk.left < fuel →
       mapping_parts (source_of l.self) (any_entry_at (source_of l.self) (reader_of fuel l.self) (way_of l.path) l.nest)
       (n + length vs) [] (spot_of l.fn.walk)
       ≡ mapping_parts (source_of l.self) (any_entry_at (source_of l.self) (reader_of fuel l.self)

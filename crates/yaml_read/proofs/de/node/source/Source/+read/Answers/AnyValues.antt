@@ -11,7 +11,7 @@ use Rattle.yaml_tree.specs.Valid.{pairs_of}
 use Rattle.yaml_tree.specs.declared.value.Value.TheVariants as value
 use Rattle.yaml_read.specs.AnyData.{tree_in, trees_in, pairs_in}
 use Rattle.yaml_read.specs.DocEventView.{doc_event_of}
-use Rattle.yaml_read.specs.Handing.{reach, untaken_reach}
+use Rattle.yaml_read.specs.Handing.{reach, untaken_reach, tag_depth}
 use Rattle.yaml_read.specs.NodeTags.{untaken_name}
 use Rattle.yaml_read.specs.Places.{way_of}
 use Rattle.yaml_read.specs.TreeReader.{after}
@@ -31,7 +31,7 @@ read_any-returns-in-Ok-clause-gives t c = λ fuel lt.
     let free : is_some (around_of c.args.taken) ≡ false =
     only_untaken (is_some (around_of c.args.taken)) (doc_event_of c.in-Some.field-0.now.0)
     c.in-Some-untaken_name.name.now own in
-    let left : untaken_reach (is_some (around_of c.args.taken)) ≡ 4100 = ap untaken_reach free in
+    let left : untaken_reach (is_some (around_of c.args.taken)) ≡ tag_depth = ap untaken_reach free in
     let flat : reach c.args.self.now.schema.now (shape_of c.args.shape.now) ≡ 0 =
     ap (reach c.args.self.now.schema.now) c.requires.shape in
     rw (any_tagged_step (source_of c.args.self.now) (reader_of fuel c.args.self.now) (way_of c.args.path.now)
@@ -53,7 +53,7 @@ read_any-returns-in-Err-clause-gives t c = λ fuel lt fault.
     let free : is_some (around_of c.args.taken) ≡ false =
     only_untaken (is_some (around_of c.args.taken)) (doc_event_of c.in-Some.field-0.now.0)
     c.in-Some-untaken_name.name.now own in
-    let left : untaken_reach (is_some (around_of c.args.taken)) ≡ 4100 = ap untaken_reach free in
+    let left : untaken_reach (is_some (around_of c.args.taken)) ≡ tag_depth = ap untaken_reach free in
     let flat : reach c.args.self.now.schema.now (shape_of c.args.shape.now) ≡ 0 =
     ap (reach c.args.self.now.schema.now) c.requires.shape in
     any_tagged_step (source_of c.args.self.now) (reader_of fuel c.args.self.now) (way_of c.args.path.now)

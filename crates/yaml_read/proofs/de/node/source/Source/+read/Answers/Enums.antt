@@ -8,7 +8,7 @@ use Rattle.yaml_shape.specs.PlainShape.{tuple_variant_shape, struct_variant_shap
 use Rattle.yaml_shape.specs.ShapeView.{shape_of, content_of, ids_of, fields_of, variants_of}
 use Rattle.yaml_shape.specs.declared.data.Data.{Variant, the_lemmas}
 use Rattle.yaml_read.specs.DocEventView.{doc_event_of}
-use Rattle.yaml_read.specs.Handing.{reach, untaken_reach}
+use Rattle.yaml_read.specs.Handing.{reach, untaken_reach, tag_depth}
 use Rattle.yaml_read.specs.NodeTags.{untaken_name}
 use Rattle.yaml_read.specs.Places.{way_of, place}
 use Rattle.yaml_read.specs.Variants.{variant_named}
@@ -42,7 +42,7 @@ read_enum-read_content-requires t c =
     let found : variant_named (variants_of c.args.variants.now) c.in-Some-untaken_name.tag.now
     ≡ Some (c.in-Some-variant_named.place, content_of c.in-Some-variant_named.content.now) =
     sym c.variant_named.ensures ∙ ap variant_view c.in-Some-variant_named.is in
-    let left : untaken_reach (is_some (around_of c.args.taken)) ≡ 4100 =
+    let left : untaken_reach (is_some (around_of c.args.taken)) ≡ tag_depth =
     ap (λ o. untaken_reach (is_some (around_of o))) c.in_default-taken.is in
     let flat : reach c.args.self.now.schema.now (shape_of c.args.shape.now) ≡ 0 =
     ap (reach c.args.self.now.schema.now) c.requires.1.1.0 in (
@@ -71,7 +71,7 @@ read_enum-returns-in_ok-new-in-Ok-clause-gives t c = λ fuel lt.
     let found : variant_named (variants_of c.args.variants.now) c.in-Some-untaken_name.tag.now
     ≡ Some (c.in-Some-variant_named.place, content_of c.in-Some-variant_named.content.now) =
     sym c.variant_named.ensures ∙ ap variant_view c.in-Some-variant_named.is in
-    let left : untaken_reach (is_some (around_of c.args.taken)) ≡ 4100 =
+    let left : untaken_reach (is_some (around_of c.args.taken)) ≡ tag_depth =
     ap (λ o. untaken_reach (is_some (around_of o))) c.in_default-taken.is in
     let flat : reach c.args.self.now.schema.now (shape_of c.args.shape.now) ≡ 0 =
     ap (reach c.args.self.now.schema.now) c.requires.1.1.0 in
@@ -95,7 +95,7 @@ read_enum-returns-in-Err-clause-gives t c = λ fuel lt fault.
     let found : variant_named (variants_of c.args.variants.now) c.in-Some-untaken_name.tag.now
     ≡ Some (c.in-Some-variant_named.place, content_of c.in-Some-variant_named.content.now) =
     sym c.variant_named.ensures ∙ ap variant_view c.in-Some-variant_named.is in
-    let left : untaken_reach (is_some (around_of c.args.taken)) ≡ 4100 =
+    let left : untaken_reach (is_some (around_of c.args.taken)) ≡ tag_depth =
     ap (λ o. untaken_reach (is_some (around_of o))) c.in_default-taken.is in
     let flat : reach c.args.self.now.schema.now (shape_of c.args.shape.now) ≡ 0 =
     ap (reach c.args.self.now.schema.now) c.requires.1.1.0 in

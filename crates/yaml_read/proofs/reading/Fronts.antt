@@ -1,0 +1,116 @@
+-- The fault of the first events of a document is the first fault of each document that begins with them.
+use Rattle.std.proofs.Common.{◌≡◌, ℕ, zero, suc, ◌+◌, ◌*◌, ◌<◌, List, [], ◌∷◌, ◌++◌, map, length, Some, None}
+use Rattle.std.proofs.Common.{Result, Ok, Err, Bool, true, false, refl, sym, ap, subst, ◌∙◌, arith, ◌&&◌, ◌==◌}
+use Rattle.std.proofs.Common.{if◌then◌else◌, length-append}
+use Rattle.std.specs.Prelude.{◌≢◌, slice_get}
+use Rattle.std.proofs.lemmas.List.{length-map}
+use Rattle.std.proofs.lemmas.Option.{slice_get_within}
+use Rattle.yaml_base.specs.Position.{Position}
+use Rattle.yaml_base.specs.declared.error.Cause.{Cause}
+use Rattle.yaml_base.specs.declared.error.Cause.TheVariants.{Memory, EndOfStream}
+use Rattle.yaml_shape.specs.PlainData.{PlainData}
+use Rattle.yaml_shape.specs.PlainShape.{PlainShape}
+use Rattle.yaml_read.specs.DocTree.{DocNode, events_of}
+use Rattle.yaml_read.specs.Ends.{ends_of, ends_from, end_place, inner_after, is_opening, is_closing}
+use Rattle.yaml_read.specs.Places.{root_way}
+use Rattle.yaml_read.specs.PlainDocEvent.{PlainDocEvent}
+use Rattle.yaml_read.specs.PlainDocument.{PlainDocument}
+use Rattle.yaml_read.specs.Reads.{IsTreeOf, GoesOn}
+use Rattle.yaml_read.specs.TreeReader.{PlainLimits, marks_of, whole_fuel, read_tree, answer_within}
+use Rattle.yaml_read.specs.inner.Reader.{Reading, node_at}
+use Rattle.yaml_read.proofs.reading.EndLaws.{node_ends}
+use Rattle.yaml_read.proofs.reading.Growing.{Grows, alike, ended, wanted}
+use Rattle.yaml_read.proofs.reading.GrowingReadings.{grows_node}
+use Rattle.yaml_read.proofs.reading.Shown.{Shows}
+use Rattle.yaml_read.proofs.reading.TreeLaws.{reader_tied}
+use Rattle.yaml_read.proofs.reading.WholeReadings.{whole_source, whole_reading, landed_err, shows_list}
+
+-- an element of a list stands in each list that begins with it
+stands_on : {A : Type 0} (xs ys : List A) (p : ℕ) (x : A) → slice_get xs p ≡ Some x → slice_get (xs ++ ys) p ≡ Some x
+stands_on [] ys p x h = absurd cc
+stands_on (y ∷ xs) ys zero x h = h
+stands_on (y ∷ xs) ys (suc p) x h = stands_on xs ys p x h
+
+-- a collection that ends among the first events ends there
+end_on : (es more : List PlainDocEvent) (inner place : ℕ) → end_place inner place es < place + length es
+    → end_place inner place (es ++ more) ≡ end_place inner place es
+end_on [] more inner place lt = absurd (omega arith)
+end_on (e ∷ es) more inner place lt =
+    chosen (is_closing e && (inner == 0)) lt (λ below. end_on es more (inner_after e inner) (place + 1) below)
+  where
+    chosen : (b : Bool)
+        → (if b then place else end_place (inner_after e inner) (place + 1) es) < place + length (e ∷ es)
+        → (end_place (inner_after e inner) (place + 1) es < place + 1 + length es
+        → end_place (inner_after e inner) (place + 1) (es ++ more) ≡ end_place (inner_after e inner) (place + 1) es)
+        → (if b then place else end_place (inner_after e inner) (place + 1) (es ++ more))
+        ≡ (if b then place else end_place (inner_after e inner) (place + 1) es)
+    chosen true lt later = refl
+    chosen false lt later = later (omega (arith, lt))
+
+ends_on : (es more : List PlainDocEvent) (q p end : ℕ) → slice_get (ends_from q es) p ≡ Some end → end < q + length es
+    → slice_get (ends_from q (es ++ more)) p ≡ Some end
+ends_on [] more q p end h lt = absurd cc
+ends_on (e ∷ es) more q zero end h lt = chosen (is_opening e) h
+  where
+    chosen : (b : Bool) → Some (if b then end_place 0 (q + 1) es else q) ≡ Some end
+        → Some (if b then end_place 0 (q + 1) (es ++ more) else q) ≡ Some end
+    chosen true h =
+        let is : end_place 0 (q + 1) es ≡ end = cc in
+        ap Some (end_on es more 0 (q + 1) (omega (arith, is, lt)) ∙ is)
+    chosen false h = h
+ends_on (e ∷ es) more q (suc p) end h lt = ends_on es more (q + 1) p end h (omega arith)
+
+map_on : {A B : Type 0} (f : A → B) (xs ys : List A) → map f (xs ++ ys) ≡ map f xs ++ map f ys
+map_on f [] ys = refl
+map_on f (x ∷ xs) ys = ap (λ zs. f x ∷ zs) (map_on f xs ys)
+
+same_err : {A : Type 0} (x y : Cause) → ◌≡◌ {A = Result A Cause} (Err x) (Err y) → x ≡ y
+same_err x y h = cc
+
+stays : {A : Type 0} (r q : Result A Cause) (y : Cause) → Grows r q → r ≡ Err y → y ≢ EndOfStream → y ≢ Memory
+    → q ≡ Err y
+stays _ q y (alike r) h end memory = h
+stays _ q y (ended r) h end memory = absurd (end (sym (same_err EndOfStream y h)))
+stays _ q y (wanted r) h end memory = absurd (memory (sym (same_err Memory y h)))
+
+module _ (limits : PlainLimits) (table : List PlainShape) (s : PlainShape) (document whole : PlainDocument)
+    (root : DocNode) (is : IsTreeOf whole root) (on : GoesOn document whole) where
+  seen : Shows (slice_get whole.events) 0 (events_of root)
+  seen = subst (Shows (slice_get whole.events) 0) is.events (shows_list whole.events)
+
+  -- the same reading over the events of the whole document
+  abbrev full_reading : Reading PlainData
+  full_reading = node_at (whole_source table whole) (whole_fuel limits (length document.events)) root_way s
+      limits.nesting None (record { place = 0; left = limits.follows * length document.events })
+
+  grown : Grows (whole_reading limits table document s) full_reading
+  grown =
+      grows_node table (slice_get document.events) (slice_get whole.events)
+      (slice_get (ends_of (map (λ e. e.0) document.events))) (slice_get (ends_of (map (λ e. e.0) whole.events)))
+      (length document.events) (length whole.events)
+      (λ p e h. subst (λ es. slice_get es p ≡ Some e) (sym on.events) (stands_on document.events on.rest p e h))
+      (λ p end h lt.
+      subst (λ es. slice_get (ends_of es) p ≡ Some end)
+      (sym (ap (λ (es : List (PlainDocEvent × Position)). map (λ e. e.0) es) on.events
+      ∙ map_on (λ (e : PlainDocEvent × Position). e.0) document.events on.rest))
+      (ends_on (map (λ e. e.0) document.events) (map (λ e. e.0) on.rest) 0 p end h
+      (omega (arith, lt, length-map document.events (λ (e : PlainDocEvent × Position). e.0)))))
+      (omega (arith, ap length on.events, length-append document.events on.rest))
+      (whole_fuel limits (length document.events)) root_way s limits.nesting None
+      (record { place = 0; left = limits.follows * length document.events })
+
+  -- it answers what reading the tree answers
+  tied_on : (y : Cause) → full_reading ≡ Err y
+      → answer_within limits.nesting (limits.follows * length document.events) table s whole root ≡ Err y
+  tied_on y h =
+      landed_err (0 + length (events_of root))
+      (read_tree table (whole_fuel limits (length document.events)) root (marks_of whole.events) root_way s
+      limits.nesting None root (record { place = 0; left = limits.follows * length document.events })) y
+      (sym (reader_tied (whole_source table whole) (λ p e. slice_get_within whole.events p e) (node_ends whole.events)
+      (marks_of whole.events) (λ p. refl) root seen is.known (whole_fuel limits (length document.events)) root_way s
+      limits.nesting None root (record { place = 0; left = limits.follows * length document.events }) seen) ∙ h)
+
+  pub first_fault : (y : Cause) → whole_reading limits table document s ≡ Err y → y ≢ EndOfStream → y ≢ Memory
+      → answer_within limits.nesting (limits.follows * length document.events) table s whole root ≡ Err y
+  first_fault y h end memory =
+      tied_on y (stays (whole_reading limits table document s) full_reading y grown h end memory)

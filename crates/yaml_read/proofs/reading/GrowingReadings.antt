@@ -1,0 +1,273 @@
+-- A reading by places of the first events of a document, and one of all of them.
+use Rattle.std.proofs.Common.{◌≡◌, ℕ, zero, suc, ◌<◌, ◌≤◌, List, [], Option, Some, None, Ok, Err, Bool, true, false, ◌+◌}
+use Rattle.std.proofs.Common.{refl, sym, ◌∙◌, length, arith}
+use Rattle.std.specs.Prelude.{if◌then◌else◌, nat_lt}
+use Rattle.std.specs.Option.{is_some}
+use Rattle.std.proofs.lemmas.Bool.{lt-ltb, ltb-true}
+use Rattle.yaml_base.specs.Position.{Position}
+use Rattle.yaml_base.specs.declared.error.Cause.TheVariants.{BytesUnsupported, EndOfStream}
+use Rattle.yaml_shape.specs.DataView.{items_of, entries_of}
+use Rattle.yaml_shape.specs.PlainData.{PlainData, any_data, seq_data, map_data, some_data, newtype_data, variant_data}
+use Rattle.yaml_shape.specs.PlainData.{ignored_data}
+use Rattle.yaml_shape.specs.PlainShape.{PlainShape, shape_at, content_shape}
+use Rattle.yaml_shape.specs.PlainShape as shape
+use Rattle.yaml_tree.specs.Tree.{sequence, tagged}
+use Rattle.yaml_tree.specs.Tree as tree
+use Rattle.yaml_read.specs.AnyData.{tree_in, trees_in, pairs_in}
+use Rattle.yaml_read.specs.Ends.{is_closing}
+use Rattle.yaml_read.specs.Fields.{Fields, Slots, no_slots, struct_of}
+use Rattle.yaml_read.specs.Handing.{Handing, as_is, as_some, as_newtype, as_ignored, as_bare, as_variant, as_tagged}
+use Rattle.yaml_read.specs.Handing.{as_refused, handed, early}
+use Rattle.yaml_read.specs.NodeTags.{TakenBy, around_value}
+use Rattle.yaml_read.specs.Places.{Way, element_under, places, place}
+use Rattle.yaml_read.specs.PlainDocEvent.{PlainDocEvent, alias_to, a_scalar, a_void}
+use Rattle.yaml_read.specs.PlainDocEvent.{sequence_begins, sequence_ends, mapping_begins, mapping_ends}
+use Rattle.yaml_read.specs.Rows.{Row, row_of, row_data}
+use Rattle.yaml_read.specs.Steps.{◌>>=◌, unless}
+use Rattle.yaml_read.specs.TreeReader.{Spot, after, mark_or_first}
+use Rattle.yaml_read.specs.inner.Reader.{Reading, Reader, Events, Source, turn, each_at, place_at, item_at}
+use Rattle.yaml_read.specs.inner.Reader.{entry_at, any_entry_at, skip_to, skip_event, skip_at, row_at}
+use Rattle.yaml_read.specs.inner.Reader.{field_key_at, field_at, rows_at, fields_at, value_way, text_at}
+use Rattle.yaml_read.specs.inner.Reader.{sequence_at, mapping_at, event_at, handed_at, shape_step, node_step, node_at}
+use Rattle.yaml_read.specs.inner.Reader.{is_sequence_end, is_mapping_end}
+use Rattle.yaml_read.proofs.reading.Growing.{Grows, alike, ended, wanted, grows_bind, grows_wrap, grows_finish}
+use Rattle.yaml_read.proofs.reading.Growing.{grows_enter, grows_follow, grows_with, grows_unless, grows_if, grows_place}
+use Rattle.yaml_read.proofs.reading.Growing.{grows_one_more, grows_field}
+use Rattle.yaml_read.proofs.reading.Started.{Stands, started, named}
+
+-- the first events, and all of them
+module _ (table : List PlainShape) (events all : Events) (ends all_ends : ℕ → Option ℕ) (size whole : ℕ)
+    (more : (p : ℕ) (e : PlainDocEvent × Position) → events p ≡ Some e → all p ≡ Some e)
+    (further : (p end : ℕ) → ends p ≡ Some end → end < size → all_ends p ≡ Some end) (larger : size ≤ whole) where
+  abbrev front : Source
+  front = record { table = table; events = events; ends = ends; size = size }
+
+  abbrev full : Source
+  full = record { table = table; events = all; ends = all_ends; size = whole }
+
+  -- ---- loops
+  module _ {S : Type 0} (is_end : PlainDocEvent → Bool) (step other : S → Spot → Reading S)
+      (grows : (s : S) (at : Spot) → Grows (step s at) (other s at)) where
+    grows_each : (n m : ℕ) (s : S) (at : Spot) → n ≤ m
+        → Grows (each_at is_end step events n s at) (each_at is_end other all m s at)
+    unfolding each_at
+    grows_each zero m s at lt = wanted _
+    grows_each (suc n) zero s at lt = absurd (omega arith)
+    grows_each (suc n) (suc m) s at lt =
+        by_turn (events at.place) refl (λ t to. grows_each n m t to (omega (arith, lt)))
+      where
+        going : (b : Bool)
+            → ((t : S) (to : Spot) → Grows (each_at is_end step events n t to) (each_at is_end other all m t to))
+            → Grows (if b then Ok (s, after at) else (step s at >>= λ x. each_at is_end step events n x.0 x.1))
+            (if b then Ok (s, after at) else (other s at >>= λ x. each_at is_end other all m x.0 x.1))
+        going true later = alike _
+        going false later = grows_bind (step s at) (other s at) _ _ (grows s at) (λ x e. later x.0 x.1)
+
+        by_turn : (o : Option (PlainDocEvent × Position)) → events at.place ≡ o
+            → ((t : S) (to : Spot) → Grows (each_at is_end step events n t to) (each_at is_end other all m t to))
+            → Grows (turn is_end step (each_at is_end step events n) s at o)
+            (turn is_end other (each_at is_end other all m) s at (all at.place))
+        by_turn None is later = ended _
+        by_turn (Some e) is later = rw (more at.place e is) (going (is_end e.0) later)
+
+  -- ---- steps over nodes
+  grows_skip_to : (p left : ℕ) (o : Option ℕ) → ends p ≡ o
+      → Grows (skip_to front o left) (skip_to full (all_ends p) left)
+  grows_skip_to p left None is = ended _
+  grows_skip_to p left (Some end) is = by_size (nat_lt end size) refl
+    where
+      by_size : (b : Bool) → nat_lt end size ≡ b
+          → Grows (if b then Ok (ignored_data, record { place = end + 1; left = left }) else Err EndOfStream)
+          (skip_to full (all_ends p) left)
+      by_size false past = ended _
+      by_size true within =
+          let below = ltb-true end size within in
+          rw (further p end is below, lt-ltb end whole (omega (arith, below, larger))) (alike _)
+
+  grows_skip : (at : Spot) → Grows (skip_at front at) (skip_at full at)
+  grows_skip at = by_event (events at.place) refl
+    where
+      by_event : (o : Option (PlainDocEvent × Position)) → events at.place ≡ o
+          → Grows (skip_event front at o) (skip_event full at (all at.place))
+      by_event None is = ended _
+      by_event (Some e) is = rw (more at.place e is) (grows_if (is_closing e.0) _ _ _ _ (alike (Err EndOfStream))
+          (grows_skip_to at.place at.left (ends at.place) refl))
+
+  -- ---- nodes, by readers of which one grows to the other
+  module _ (read other : Way → Reader)
+      (grows : (way : Way) (s : PlainShape) (nest : ℕ) (taken : Option TakenBy) (at : Spot)
+      → Grows (read way s nest taken at) (other way s nest taken at))
+      (began : (way : Way) (s : PlainShape) (nest : ℕ) (taken : Option TakenBy) (at : Spot) (x : PlainData × Spot)
+      → read way s nest taken at ≡ Ok x → Stands (events at.place))
+      (called : (way : Way) (nest : ℕ) (at : Spot) (x : PlainData × Spot)
+      → read way shape.identifier_shape nest None at ≡ Ok x
+      → Stands (events (text_at at.place (events at.place)))) where
+    grows_item : (way : Way) (s : PlainShape) (nest : ℕ) (vs : List PlainData) (at : Spot)
+        → Grows (item_at read way s nest vs at) (item_at other way s nest vs at)
+    grows_item way s nest vs at = grows_wrap _ _ _ (grows (element_under way (length vs)) s nest None at)
+
+    -- the way to a value behind a key that was read
+    same_way : (way : Way) (at : Spot) → Stands (events at.place)
+        → value_way way (events at.place) ≡ value_way way (all at.place)
+    same_way way at e = rw (e.1, more at.place e.0 e.1) refl
+
+    grows_entry : (way : Way) (s t : PlainShape) (nest : ℕ) (vs : List (PlainData × PlainData)) (at : Spot)
+        → Grows (entry_at front read way s t nest vs at) (entry_at full other way s t nest vs at)
+    grows_entry way s t nest vs at =
+        grows_bind _ _ _ _
+        (grows_bind (read way s nest None at) (other way s nest None at) _ _ (grows way s nest None at)
+        (λ x e. rw (same_way way at (began way s nest None at x e)) (alike _)))
+        (λ k e. grows_wrap _ _ _ (grows k.0.0 t nest None k.1))
+
+    grows_any_entry : (way : Way) (nest : ℕ) (vs : List (PlainData × PlainData)) (at : Spot)
+        → Grows (any_entry_at front read way nest vs at) (any_entry_at full other way nest vs at)
+    grows_any_entry way nest vs at =
+        grows_bind _ _ _ _
+        (grows_bind (read way shape.any_shape nest None at) (other way shape.any_shape nest None at) _ _
+        (grows way shape.any_shape nest None at)
+        (λ x e. rw (same_way way at (began way shape.any_shape nest None at x e)) (alike _)))
+        (λ k e. grows_wrap _ _ _ (grows k.0.0 shape.any_shape nest None k.1))
+
+    grows_row_part : (way : Way) (nest : ℕ) (row : Row) (at : Spot)
+        → Grows (row_at front read way nest row at) (row_at full other way nest row at)
+    grows_row_part way nest row at =
+        grows_one_more _ _ _ _ row
+        (λ id. grows_with (shape_at table id) _ _ (λ s. grows (element_under way (length row.read)) s nest None at))
+        (grows_skip at)
+
+    -- the mark of a name that was read
+    same_mark : (at : Spot) → Stands (events at.place) → Stands (events (text_at at.place (events at.place)))
+        → mark_or_first (events (text_at at.place (events at.place)))
+        ≡ mark_or_first (all (text_at at.place (all at.place)))
+    same_mark at e t =
+        let here : all at.place ≡ events at.place = more at.place e.0 e.1 ∙ sym e.1 in
+        rw (here, t.1, more (text_at at.place (events at.place)) t.0 t.1) refl
+
+    grows_field_key : (way : Way) (strict : Bool) (fields : Fields) (nest : ℕ) (slots : Slots) (at : Spot)
+        → Grows (field_key_at front read way strict fields nest slots at)
+        (field_key_at full other way strict fields nest slots at)
+    grows_field_key way strict fields nest slots at =
+        grows_bind (read way shape.identifier_shape nest None at) (other way shape.identifier_shape nest None at) _ _
+        (grows way shape.identifier_shape nest None at)
+        (λ x e.
+        let here = began way shape.identifier_shape nest None at x e in
+        rw (same_way way at here, same_mark at here (called way nest at x e)) (alike _))
+
+    grows_field_part : (way : Way) (strict : Bool) (fields : Fields) (nest : ℕ) (slots : Slots) (at : Spot)
+        → Grows (field_at front read way strict fields nest slots at)
+        (field_at full other way strict fields nest slots at)
+    grows_field_part way strict fields nest slots at =
+        grows_bind _ _ _ _ (grows_field_key way strict fields nest slots at)
+        (λ k e. grows_field slots k.0.0 _ _ _ _
+        (λ id. grows_with (shape_at table id) _ _ (λ s. grows k.0.1 s nest None k.1)) (grows_skip k.1))
+
+    grows_rows : (way : Way) (few ids : List ℕ) (nest : ℕ) (mark : Position) (at : Spot)
+        → Grows (rows_at front read way few ids nest mark at) (rows_at full other way few ids nest mark at)
+    grows_rows way few ids nest mark at =
+        grows_enter nest mark _ _ (λ n. grows_finish (row_data few (length ids)) _ _
+        (grows_each is_sequence_end (row_at front read way n) (row_at full other way n) (grows_row_part way n)
+        size whole (row_of ids) at larger))
+
+    grows_fields : (way : Way) (strict : Bool) (fields : Fields) (nest : ℕ) (mark : Position) (at : Spot)
+        → Grows (fields_at front read way strict fields nest mark at)
+        (fields_at full other way strict fields nest mark at)
+    grows_fields way strict fields nest mark at =
+        grows_enter nest mark _ _ (λ n. grows_finish (struct_of table fields) _ _
+        (grows_each is_mapping_end (field_at front read way strict fields n) (field_at full other way strict fields n)
+        (grows_field_part way strict fields n) size whole (no_slots fields) at larger))
+
+    grows_sequence : (way : Way) (s : PlainShape) (nest : ℕ) (mark : Position) (at : Spot)
+        → Grows (sequence_at front read way s nest mark at) (sequence_at full other way s nest mark at)
+    grows_sequence way (shape.seq_shape e) nest mark at =
+        grows_enter nest mark _ _ (λ n. grows_with (shape_at table e) _ _ (λ s.
+        grows_wrap (λ vs. seq_data (items_of vs)) _ _
+        (grows_each is_sequence_end (item_at read way s n) (item_at other way s n) (grows_item way s n) size whole []
+        at larger)))
+    grows_sequence way (shape.tuple_shape ids) nest mark at = grows_rows way _ ids nest mark at
+    grows_sequence way (shape.tuple_struct_shape name ids) nest mark at = grows_rows way _ ids nest mark at
+    grows_sequence way (shape.tuple_variant_shape name variant ids) nest mark at = grows_rows way _ ids nest mark at
+    grows_sequence way shape.any_shape nest mark at =
+        grows_enter nest mark _ _ (λ n. grows_wrap (λ vs. any_data (sequence (trees_in (items_of vs)))) _ _
+        (grows_each is_sequence_end (item_at read way shape.any_shape n) (item_at other way shape.any_shape n)
+        (grows_item way shape.any_shape n) size whole [] at larger))
+    grows_sequence way s nest mark at = alike _
+
+    grows_mapping : (way : Way) (s : PlainShape) (nest : ℕ) (mark : Position) (at : Spot)
+        → Grows (mapping_at front read way s nest mark at) (mapping_at full other way s nest mark at)
+    grows_mapping way (shape.map_shape a b) nest mark at =
+        grows_enter nest mark _ _ (λ n. grows_with (shape_at table a) _ _ (λ s. grows_with (shape_at table b) _ _ (λ t.
+        grows_wrap (λ vs. map_data (entries_of vs)) _ _
+        (grows_each is_mapping_end (entry_at front read way s t n) (entry_at full other way s t n)
+        (grows_entry way s t n) size whole [] at larger))))
+    grows_mapping way (shape.struct_shape strict name fields) nest mark at =
+        grows_fields way strict fields nest mark at
+    grows_mapping way (shape.struct_variant_shape strict name variant fields) nest mark at =
+        grows_fields way strict fields nest mark at
+    grows_mapping way shape.any_shape nest mark at =
+        grows_enter nest mark _ _ (λ n. grows_wrap (λ vs. any_data (tree.mapping (pairs_in (entries_of vs)))) _ _
+        (grows_each is_mapping_end (any_entry_at front read way n) (any_entry_at full other way n)
+        (grows_any_entry way n) size whole [] at larger))
+    grows_mapping way s nest mark at = alike _
+
+    grows_event : (way : Way) (s : PlainShape) (nest : ℕ) (taken : Option TakenBy) (at : Spot) (e : PlainDocEvent)
+        (mark : Position) → Grows (event_at front read way s nest taken at e mark)
+        (event_at full other way s nest taken at e mark)
+    grows_event way s nest taken at (alias_to j) mark =
+        grows_follow at.left _ _ (λ n. grows_bind _ _ _ _ (grows way s nest None (record { place = j; left = n }))
+        (λ x e. alike _))
+    grows_event way s nest taken at (a_scalar w) mark = alike _
+    grows_event way s nest taken at (sequence_begins tag) mark = grows_sequence way s nest mark (after at)
+    grows_event way s nest taken at sequence_ends mark = alike _
+    grows_event way s nest taken at (mapping_begins tag) mark = grows_mapping way s nest mark (after at)
+    grows_event way s nest taken at mapping_ends mark = alike _
+    grows_event way s nest taken at a_void mark = alike _
+
+    grows_handed : (h : Handing) (way : Way) (s : PlainShape) (nest : ℕ) (taken : Option TakenBy) (at : Spot)
+        (e : PlainDocEvent) (mark : Position) → Grows (handed_at front h read way s nest taken at e mark)
+        (handed_at full h other way s nest taken at e mark)
+    grows_handed as_is way s nest taken at e mark = grows_event way s nest taken at e mark
+    grows_handed (as_some c) way s nest taken at e mark =
+        grows_with (shape_at table c) _ _ (λ t. grows_wrap some_data _ _ (grows way t nest taken at))
+    grows_handed (as_newtype c) way s nest taken at e mark =
+        grows_enter nest mark _ _ (λ m. grows_with (shape_at table c) _ _
+        (λ t. grows_wrap newtype_data _ _ (grows way t m taken at)))
+    grows_handed as_ignored way s nest taken at e mark = grows_skip at
+    grows_handed (as_bare fields) way s nest taken at e mark = alike _
+    grows_handed (as_variant place around content) way s nest taken at e mark =
+        grows_with (content_shape table around.name around.variant content) _ _
+        (λ t. grows_wrap (variant_data place) _ _ (grows way t nest (Some around) at))
+    grows_handed (as_tagged name) way s nest taken at e mark =
+        grows_wrap (λ v. any_data (tagged name (tree_in v))) _ _ (grows way shape.any_shape nest (Some around_value) at)
+    grows_handed as_refused way s nest taken at e mark = alike _
+
+    grows_step : (way : Way) (s : PlainShape) (nest : ℕ) (taken : Option TakenBy) (at : Spot)
+        → Grows (place_at way s (is_some taken) (events at.place) (node_step front read way s nest taken at))
+        (place_at way s (is_some taken) (all at.place) (node_step full other way s nest taken at))
+    grows_step way s nest taken at = by_event (events at.place) refl
+      where
+        by_bytes : (o : Option (PlainDocEvent × Position)) → Grows {A = PlainData × Spot} (Err BytesUnsupported)
+            (place_at way shape.bytes_shape (is_some taken) o (Err BytesUnsupported))
+        by_bytes None = alike _
+        by_bytes (Some e) = alike _
+
+        by_shape : (s : PlainShape) → Grows (unless (early s) (Err EndOfStream))
+            (place_at way s (is_some taken) (all at.place) (node_step full other way s nest taken at))
+        by_shape shape.bytes_shape = by_bytes (all at.place)
+        by_shape _ = ended _
+
+        by_event : (o : Option (PlainDocEvent × Position)) → events at.place ≡ o
+            → Grows (place_at way s (is_some taken) o (unless (early s) (shape_step front read way s nest taken at o)))
+            (place_at way s (is_some taken) (all at.place) (node_step full other way s nest taken at))
+        by_event None is = by_shape s
+        by_event (Some e) is = rw (more at.place e is)
+            (grows_place (places s (is_some taken) e.0) e.1 way _ _ (grows_unless (early s) _ _
+            (grows_handed (handed s (is_some taken) e.0) way s nest taken at e.0 e.1)))
+
+  -- a node
+  pub grows_node : (fuel : ℕ) (way : Way) (s : PlainShape) (nest : ℕ) (taken : Option TakenBy) (at : Spot)
+      → Grows (node_at front fuel way s nest taken at) (node_at full fuel way s nest taken at)
+  unfolding node_at
+  grows_node zero way s nest taken at = alike _
+  grows_node (suc fuel) way s nest taken at =
+      grows_step (node_at front fuel) (node_at full fuel) (grows_node fuel) (started front fuel) (named front fuel) way s
+      nest taken at

@@ -1,0 +1,91 @@
+-- The reading of a document by its places from its start, and what its answer says.
+use Rattle.std.proofs.Common.{◌≡◌, ℕ, suc, ◌*◌, ◌<◌, ◌≤◌, List, [], ◌∷◌, map, length, None, Result, Ok, Err}
+use Rattle.std.proofs.Common.{false, refl, sym, ap, ◌∙◌, arith}
+use Rattle.std.specs.Prelude.{slice_get}
+use Rattle.std.proofs.lemmas.List.{length-map}
+use Rattle.yaml_base.specs.Position.{Position}
+use Rattle.yaml_base.specs.declared.error.Cause.{Cause}
+use Rattle.yaml_shape.specs.PlainData.{PlainData}
+use Rattle.yaml_shape.specs.PlainShape.{PlainShape}
+use Rattle.yaml_read.specs.DocEventView.{doc_event_of, marked_events_of}
+use Rattle.yaml_read.specs.Ends.{ends_of}
+use Rattle.yaml_read.specs.Handing.{depth, reach}
+use Rattle.yaml_read.specs.Places.{root_way}
+use Rattle.yaml_read.specs.PlainDocEvent.{PlainDocEvent}
+use Rattle.yaml_read.specs.PlainDocument.{PlainDocument}
+use Rattle.yaml_read.specs.Steps.{◌>>=◌}
+use Rattle.yaml_read.specs.TreeReader.{PlainLimits, Spot, Answer, whole_fuel}
+use Rattle.yaml_read.specs.declared.doc_event.DocEvent.{DocEvent}
+use Rattle.yaml_read.specs.inner.Reader.{Source, Reading, Events, node_at}
+use Rattle.yaml_read.proofs.reading.Shown.{Shows}
+use Rattle.yaml_read.proofs.reading.TreeWalks.{landed}
+
+shift : (f : Events) (p : ℕ) (es : List PlainDocEvent) → Shows (λ q. f (suc q)) p es → Shows f (suc p) es
+shift f p [] s = tt
+shift f p (e ∷ es) s = (s.0, shift f (suc p) es s.1)
+
+pub shows_list : (es : List (PlainDocEvent × Position)) → Shows (slice_get es) 0 (map (λ e. e.0) es)
+shows_list [] = tt
+shows_list (e ∷ es) = ((e.1, refl), shift (slice_get (e ∷ es)) 0 _ (shows_list es))
+
+-- what is read of a document
+abbrev pub whole_source : List PlainShape → PlainDocument → Source
+whole_source table document = record {
+  table = table;
+  events = slice_get document.events;
+  ends = slice_get (ends_of (map (λ e. e.0) document.events));
+  size = length document.events;
+}
+
+-- the reading of a document from its start, by places
+abbrev pub whole_reading : PlainLimits → List PlainShape → PlainDocument → PlainShape → Reading PlainData
+whole_reading limits table document s =
+    node_at (whole_source table document) (whole_fuel limits (length document.events)) root_way s limits.nesting None
+    (record { place = 0; left = limits.follows * length document.events })
+
+-- what the walk over a document's events gives is that reading
+pub seen_whole : (limits : PlainLimits) (table : List PlainShape) (s : PlainShape) → reach table s ≤ 4096
+    → (document : PlainDocument)
+    (es : List (DocEvent × Position)) (ends : List ℕ) (r : Reading PlainData) → marked_events_of es ≡ document.events
+    → ends ≡ ends_of (map (λ e. e.0) document.events)
+    → ((fuel : ℕ) → depth table s false limits.nesting (limits.follows * length es) < fuel
+    → node_at (record {
+      table = table;
+      events = slice_get (marked_events_of es);
+      ends = slice_get ends;
+      size = length es;
+    }) fuel root_way s limits.nesting None
+    (record { place = 0; left = limits.follows * length es }) ≡ r)
+    → whole_reading limits table document s ≡ r
+seen_whole limits table s small document es ends r seen numbers gives =
+    let size : length es ≡ length document.events = sym (length-map es (λ e. (doc_event_of e.0, e.1)))
+    ∙ ap length seen in
+    let same = gives (whole_fuel limits (length es)) (omega (arith, small)) in
+    rw (seen, size, numbers) at same
+
+pub same_ok : {A : Type 0} (x y : A) → ◌≡◌ {A = Result A Cause} (Ok x) (Ok y) → x ≡ y
+same_ok x y h = cc
+
+pub err_is : {A : Type 0} (e f : Cause) → ◌≡◌ {A = Result A Cause} (Err e) (Err f) → e ≡ f
+err_is e f h = cc
+
+pub landed_ok : (p : ℕ) (r : Answer PlainData) (v : PlainData) (next : Spot) → landed p r ≡ Ok (v, next)
+    → (r >>= λ x. Ok x.0) ≡ Ok v
+landed_ok p (Ok x) v next h = ap (λ (y : PlainData × Spot). Ok y.0) (same_ok _ _ h)
+landed_ok p (Err y) v next h = absurd cc
+
+pub landed_err : (p : ℕ) (r : Answer PlainData) (y : Cause) → landed p r ≡ Err y → (r >>= λ x. Ok x.0) ≡ Err y
+landed_err p (Ok x) y h = absurd cc
+landed_err p (Err z) y h = ap Err (err_is _ _ h)
+
+pub answer_ok : (r : Answer PlainData) (v : PlainData) → (r >>= λ x. Ok x.0) ≡ Ok v → (left : ℕ) × (r ≡ Ok (v, left))
+answer_ok (Ok x) v h = (x.1, ap (λ w. Ok (w, x.1)) (same_ok _ _ h))
+answer_ok (Err y) v h = absurd cc
+
+pub answer_err : (r : Answer PlainData) (y : Cause) → (r >>= λ x. Ok x.0) ≡ Err y → r ≡ Err y
+answer_err (Ok x) y h = absurd cc
+answer_err (Err z) y h = ap Err (err_is _ _ h)
+
+pub reading_err : (r : Reading PlainData) (y : Cause) → (r >>= λ x. Ok x.0) ≡ Err y → r ≡ Err y
+reading_err (Ok x) y h = absurd cc
+reading_err (Err z) y h = ap Err (err_is _ _ h)

@@ -1,0 +1,73 @@
+-- Shapes that a table has, the contents of its variants, and fields that are found by their names.
+use Rattle.std.proofs.Common.{◌≡◌, ℕ, zero, suc, ◌<◌, ◌≤◌, List, [], ◌∷◌, length, Option, Some, None}
+use Rattle.std.proofs.Common.{Result, Ok, Err, Bool, true, false, refl, ap, subst, arith, All, get_or}
+use Rattle.std.proofs.Common.{bytes_eq, if◌then◌else◌}
+use Rattle.std.specs.Option.{option_map}
+use Rattle.std.proofs.lemmas.List.Elements.{All-head, All-tail, All-nil, All-get_or}
+use Rattle.std.proofs.lemmas.Option.{slice_get-get_or}
+use Rattle.yaml_base.specs.declared.error.Cause.{Cause}
+use Rattle.yaml_shape.specs.PlainShape.{PlainShape, PlainVariant, shape_at, content_shape}
+use Rattle.yaml_shape.specs.PlainShape as shape
+use Rattle.yaml_shape.specs.Validity.{AllNameWithin, NamesWithin, named_in, numbers_of}
+use Rattle.yaml_shape.specs.Walks.{rank}
+use Rattle.yaml_read.specs.Fields.{Fields, find}
+use Rattle.yaml_read.specs.Handing.{reach}
+use Rattle.yaml_read.specs.Places.{Way}
+use Rattle.yaml_read.specs.Steps.{◌>>=◌}
+use Rattle.yaml_read.proofs.reading.Reaches.{low}
+
+-- what all numbers of a struct's fields meet, that of a field that is found meets
+pub find_all : (P : ℕ → Type 0) (fields : Fields) (name : List ℕ) (f : ℕ × ℕ) → find fields name ≡ Some f
+    → All P (numbers_of fields) → P f.1
+find_all P [] name f is a = absurd cc
+find_all P (g ∷ gs) name f is a =
+    chosen (bytes_eq g.0 name) (find gs name) is
+    (λ u e. find_all P gs name u e (All-tail P g.1 (numbers_of gs) a))
+  where
+    same_some : {A : Type 0} {x y : A} → Some x ≡ Some y → x ≡ y
+    same_some h = cc
+
+    chosen : (b : Bool) (o : Option (ℕ × ℕ))
+        → (if b then Some (zero, g.1) else option_map (λ x. (suc x.0, x.1)) o) ≡ Some f
+        → ((u : ℕ × ℕ) → o ≡ Some u → P u.1) → P f.1
+    chosen true o e later = subst (λ (u : ℕ × ℕ). P u.1) (same_some e) (All-head P g.1 (numbers_of gs) a)
+    chosen false None e later = absurd cc
+    chosen false (Some u) e later = subst (λ (u : ℕ × ℕ). P u.1) (same_some e) (later u refl)
+
+-- what was looked up is what was answered, before its way was added
+pub looked : (r : Result (Option (ℕ × ℕ)) Cause) (w : Way) (x : Option (ℕ × ℕ) × Way) → (r >>= λ f. Ok (f, w)) ≡ Ok x
+    → r ≡ Ok x.0
+looked (Ok o) w x h = ap (λ (y : Option (ℕ × ℕ) × Way). Ok y.0) (same_ok h)
+  where
+    same_ok : {A : Type 0} {x y : A} → ◌≡◌ {A = Result A Cause} (Ok x) (Ok y) → x ≡ y
+    same_ok h = cc
+looked (Err y) w x h = absurd cc
+
+module _ (table : List PlainShape) (small : (id : ℕ) → rank table id ≤ 4096) (falls : (id content : ℕ)
+    → shape_at table id ≡ Some (shape.option_shape content) → rank table content < rank table id)
+    (closed : AllNameWithin (length table) table) where
+  -- the number is that of a shape
+  abbrev IsIn : ℕ → Type 0
+  IsIn id = id < length table
+
+  -- a shape whose number is in the table is there, and its own numbers are in the table
+  pub there : (c : ℕ) → IsIn c → (s : PlainShape) × (shape_at table c ≡ Some s) × NamesWithin (length table) s
+      × (reach table s ≤ 4096)
+  there c lt =
+      let is = slice_get-get_or table c shape.any_shape lt in (
+        get_or table c shape.any_shape,
+        is,
+        All-get_or (NamesWithin (length table)) table c shape.any_shape lt closed,
+        low table small falls c (get_or table c shape.any_shape) is,
+      )
+
+  -- so is the content of a variant
+  pub content_there : (name variant : List ℕ) (content : PlainVariant) → All IsIn (named_in content)
+      → (s : PlainShape) × (content_shape table name variant content ≡ Some s) × NamesWithin (length table) s
+      × (reach table s ≤ 4096)
+  content_there name variant shape.unit_variant a = (shape.unit_shape, refl, All-nil IsIn, omega arith)
+  content_there name variant (shape.newtype_variant inner) a = there inner (All-head IsIn inner [] a)
+  content_there name variant (shape.tuple_variant items) a =
+      (shape.tuple_variant_shape name variant items, refl, a, omega arith)
+  content_there name variant (shape.struct_variant strict fields) a =
+      (shape.struct_variant_shape strict name variant fields, refl, a, omega arith)
