@@ -2,6 +2,7 @@
 pub mod Asked
 pub mod Headline
 pub mod PlainStream
+pub mod Printed
 pub mod StreamReads
 pub mod StreamView
 pub mod TextReads

@@ -115,13 +115,11 @@ impl<'de> Deserializer<'de> {
         ensures wrong { IfErr result (λ cause. is_memory cause ≡ false → (place : ℕ) × (cause ≡ NotAStream place)
             × IsWrongAt (is_some fault) (plain_events events.entry.items) place) }
     {
-        match Loader::new(alloc, events, fault) {
-            Ok(documents) => Ok(Deserializer {
-                source: Source::Stream(documents),
-                iterated: false,
-            }),
-            Err(fault) => Err(fault),
-        }
+        let documents = Loader::new(alloc, events, fault)?;
+        Ok(Deserializer {
+            source: Source::Stream(documents),
+            iterated: false,
+        })
     }
 
     /// The data of the stream's one document under the shape with this number, within 128 nestings and 100 follows for

@@ -1,17 +1,18 @@
 //! What definitions come to, each the contract of a function that does nothing.
 
-ghost use Rattle.std.specs.Prelude.{◌≡◌, ◌≤◌, ◌+◌, ◌*◌, List, Option, Result, Bool, length, IsTrue};
+ghost use Rattle.std.specs.Prelude.{◌≡◌, ◌≤◌, ◌+◌, ◌*◌, ℕ, List, Option, Result, Bool, false, length, IsTrue};
 ghost use Rattle.yaml_base.specs.Borrowable.{is_borrowable};
 ghost use Rattle.yaml_base.specs.PlainEvent.{PlainScalar};
 ghost use Rattle.yaml_base.specs.PlainFault.{PlainFault};
 ghost use Rattle.yaml_base.specs.declared.error.Cause.{Cause};
 ghost use Rattle.yaml_shape.specs.PlainData.{PlainData};
 ghost use Rattle.yaml_shape.specs.PlainShape.{PlainShape, IntegerType, bool_shape, integer_shape};
-ghost use Rattle.yaml_shape.specs.PlainShape.{str_shape, unit_shape};
+ghost use Rattle.yaml_shape.specs.PlainShape.{option_shape, str_shape, unit_shape};
 ghost use Rattle.yaml_read.specs.CursorReads.{LeavesCursor};
 ghost use Rattle.yaml_read.specs.Documents.{Input};
 ghost use Rattle.yaml_read.specs.PlainCursor.{PlainCursor, fresh_cursor};
 ghost use Rattle.yaml_read.specs.PlainDocument.{PlainDocument};
+ghost use Rattle.yaml_read.specs.Presence.{is_absent};
 ghost use Rattle.yaml_read.specs.ScalarShapes.{takes_no_memory};
 ghost use Rattle.yaml_read.specs.TreeReader.{PlainLimits, default_limits};
 ghost use Rattle.serde_yaml.specs.Headline.{GivesMeaning};
@@ -41,12 +42,14 @@ pub fn a_reading_goes_over_so_many_events()
         → LeavesCursor default_limits document fresh_cursor new answered → new.steps ≤ 20020 }
 {}
 
-/// Reading a scalar needs no memory under these shapes: those of booleans, of integers, of nothing, and, where the text
-/// can be lent from the source, that of texts.
+/// Reading a scalar needs no memory under these shapes: those of booleans, of integers, of nothing, of optionals that
+/// are absent, and, where the text can be lent from the source, that of texts.
 pub fn these_scalars_need_no_memory()
     ensures booleans { (w : PlainScalar) → IsTrue (takes_no_memory bool_shape w) }
     ensures integers { (i : IntegerType) (w : PlainScalar) → IsTrue (takes_no_memory (integer_shape i) w) }
     ensures nothing { (w : PlainScalar) → IsTrue (takes_no_memory unit_shape w) }
+    ensures absent { (content : ℕ) (w : PlainScalar) → IsTrue (is_absent false w)
+        → IsTrue (takes_no_memory (option_shape content) w) }
     ensures texts { (w : PlainScalar) → IsTrue (is_borrowable w.text w.source w.style)
         → IsTrue (takes_no_memory str_shape w) }
 {}

@@ -3,12 +3,15 @@
 
 mod de;
 pub mod laws;
+pub mod mapping;
+mod printed;
 mod ser;
 mod text;
 mod type_faults;
 pub mod value;
 
 pub use de::{Deserializer, data_from_events, from_events, from_events_limited};
+pub use printed::{WriteFault, data_to_string, to_string, to_writer};
 pub use ser::to_events;
 pub use text::{data_from_slice, data_from_str, from_slice, from_slice_limited, from_str};
 pub use yaml_base::{
@@ -19,5 +22,8 @@ pub use yaml_base::{
 pub use yaml_read::Limits;
 pub use yaml_shape::{Data, Entry, Schema, SchemaFault, Shape, ShapeId, Text, Typed, VariantShape};
 pub use yaml_tree::{Mapping, Number, Sequence, TaggedValue, TreeFault, Value};
-pub use yaml_types::{BuildFault, Deserialize, RoundTrip, Serialize};
+pub use yaml_types::{
+    BuildFault, Composed, Deserialize, Fields, FromParts, RoundTrip, RoundTripParts, Serialize,
+    Struct, ToParts, Tuple, struct_names,
+};
 pub use yaml_write::{OpenKind, Serializer};

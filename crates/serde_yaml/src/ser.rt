@@ -20,7 +20,7 @@ use yaml_types::Serialize;
 use yaml_write::Serializer;
 
 // The events of a whole stream whose one document is the data, by its shape.
-fn write_stream(
+pub(crate) fn write_stream(
     alloc: Global,
     schema: &Schema,
     id: ShapeId,
@@ -62,8 +62,6 @@ pub fn to_events<T: Serialize>(alloc: Global, value: &T) -> Result<Vec<EmitEvent
         Ok(start) => start,
         Err(refused) => return Err(schema_refusal(alloc, refused)),
     };
-    match value.to_data(alloc) {
-        Ok(content) => write_stream(alloc, &schema, id, &content),
-        Err(refused) => Err(refused),
-    }
+    let content = value.to_data(alloc)?;
+    write_stream(alloc, &schema, id, &content)
 }

@@ -1,3 +1,3 @@
 //! Values of any kind, and what they are made of.
 
-pub use yaml_tree::{Mapping, Number, Sequence, Tag, TaggedValue, TreeFault, Value};
+pub use yaml_tree::{Index, Mapping, Number, Sequence, Tag, TaggedValue, TreeFault, Value};

@@ -8,7 +8,7 @@ use Rattle.yaml_base.specs.EmitTree.{emit_mapping_node, no_emit_nodes, emit_node
 use Rattle.yaml_base.specs.EmitTree.{emit_node_events, emit_nodes_events, emit_pairs_events}
 use Rattle.yaml_base.specs.PlainEvent.{PlainScalar, PlainEvent}
 use Rattle.yaml_base.specs.Renders.{Renders, RendersEvent, RendersScalar}
-use Rattle.yaml_base.specs.Tree.{Node, scalar_node, sequence_node, mapping_node, Nodes, Pairs, node_events}
+use Rattle.yaml_base.specs.Tree.{Node, scalar_node, sequence_node, mapping_node, Nodes, NodePairs, node_events}
 use Rattle.yaml_base.specs.Tree.{nodes_events, pairs_events, size_of}
 use Rattle.yaml_base.specs.Tree as tree
 use Rattle.yaml_read.specs.DocTree.{DocNode, DocNodes, DocPairs, word, list, mapping, no_nodes, node, no_pairs, pair}
@@ -53,7 +53,7 @@ pub record AllCome (es : EmitNodes) (rest : List PlainEmit) (events : List Plain
   pub rendered : AreRendered es trees
 
 pub record PairsCome (es : EmitPairs) (rest : List PlainEmit) (events : List PlainEvent) : Type 0 where
-  pub roots : Pairs
+  pub roots : NodePairs
   pub trees : DocPairs
   pub later : List PlainEvent
   pub split : events ≡ pairs_events roots later

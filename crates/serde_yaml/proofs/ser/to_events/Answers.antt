@@ -11,16 +11,16 @@ returns-in-Err-clause-written g c =
     no_type_written g.T.Serialize.start _ c.in-Err.refused c.schema_refusal.result c.in-Err.ensures.refused
     c.schema_refusal.ensures
 
-pub returns-in-Ok-to_data-clause-written : goal.returns-in-Ok-to_data-clause-written
-returns-in-Ok-to_data-clause-written g c =
-    rw (sym c.in-Ok-to_data.ensures.ok)
+pub returns-clause-written : goal.returns-clause-written
+returns-clause-written g c =
+    rw (sym c.in_ok-content.ensures.ok)
     (type_writes g.T.Serialize.start _ (λ events. map emit_of events.items) _ _ c.write_stream.result
     c.in-Ok.ensures.ok.table c.in-Ok.ensures.ok.number c.write_stream.ensures.valid c.write_stream.ensures.written)
 
-pub returns-in-Ok-to_data-clause-table : goal.returns-in-Ok-to_data-clause-table
-returns-in-Ok-to_data-clause-table g c =
+pub returns-clause-table : goal.returns-clause-table
+returns-clause-table g c =
     subst (λ table. OnOk c.write_stream.result (IsTrue (is_table table))) c.in-Ok.ensures.ok.table
     c.write_stream.ensures.table
 
-pub returns-in-Ok-to_data-clause-held : goal.returns-in-Ok-to_data-clause-held
-returns-in-Ok-to_data-clause-held g c = rw (sym c.in-Ok-to_data.ensures.ok) c.write_stream.ensures.held
+pub returns-clause-held : goal.returns-clause-held
+returns-clause-held g c = rw (sym c.in_ok-content.ensures.ok) c.write_stream.ensures.held

@@ -1,0 +1,26 @@
+-- What was written has its events, and a refusal is the writer's or the emitter's.
+use Rattle.std.proofs.Common.{ap, map}
+use Rattle.yaml_base.specs.EmitEvents.{emit_of}
+use Rattle.serde_yaml.specs.Printed.{written_as, not_written, not_printed}
+use Rattle.serde_yaml.proofs.printed.data_to_string.Goals as goal
+
+pub returns-in-Err-clause-refused : goal.returns-in-Err-clause-refused
+returns-in-Err-clause-refused c = λ known.
+    not_written _ (cc (
+      c.schema.ensures,
+      ap (λ i. i.0) c.id.ensures,
+      c.content.ensures.content,
+      c.in-Err.ensures.written known,
+    ))
+
+pub returns-in-Ok-printed-clause-written : goal.returns-in-Ok-printed-clause-written
+returns-in-Ok-printed-clause-written c =
+    written_as (map emit_of c.in-Ok.events.items) (cc (
+      c.schema.ensures,
+      ap (λ i. i.0) c.id.ensures,
+      c.content.ensures.content,
+      c.in-Ok.ensures.written,
+    ))
+
+pub returns-clause-refused : goal.returns-clause-refused
+returns-clause-refused c = λ known. not_printed _ (c.in-Err-printed.ensures.refused known)

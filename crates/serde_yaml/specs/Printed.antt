@@ -1,0 +1,27 @@
+-- When a value has a text, and how it is refused.
+use Rattle.std.specs.Prelude.{◌≡◌, ℕ, List, None, Result, Ok, Err}
+use Rattle.yaml_base.specs.EmitEvents.{PlainEmit}
+use Rattle.yaml_base.specs.declared.error.Cause.{Cause}
+use Rattle.yaml_base.specs.declared.error.Cause.TheVariants.{NotAStream}
+use Rattle.yaml_shape.specs.PlainData.{PlainData}
+use Rattle.yaml_shape.specs.PlainShape.{PlainShape}
+use Rattle.yaml_write.specs.Outcomes.{made}
+use Rattle.yaml_write.specs.Written.{written}
+use Rattle.serde_yaml.specs.TypedWrites.{written_stream}
+
+-- it was written as some events
+pub data HasEvents (Writes : Result (List PlainEmit) Cause → Type 0) : Type 0 where
+  written_as : (events : List PlainEmit) → Writes (Ok events) → HasEvents Writes
+
+-- an event stands where none may
+pub data IsOutOfPlace : Cause → Type 0 where
+  out_of_place : (place : ℕ) → IsOutOfPlace (NotAStream place)
+
+-- it was not written, or its events are no stream
+pub data IsRefused (Writes : Result (List PlainEmit) Cause → Type 0) : Cause → Type 0 where
+  not_written : (cause : Cause) → Writes (Err cause) → IsRefused Writes cause
+  not_printed : (cause : Cause) → IsOutOfPlace cause → IsRefused Writes cause
+
+-- what data of a shape is written as
+abbrev pub IsDataWritten : List PlainShape → (id : ℕ) → PlainData → Result (List PlainEmit) Cause → Type 0
+IsDataWritten table id d outcome = made written_stream (written table id None d) ≡ outcome

@@ -1,0 +1,106 @@
+//! Writing YAML text.
+
+ghost use Rattle.std.specs.Prelude.{◌≡◌, false, IfErr, OnOk};
+ghost use Rattle.yaml_base.specs.Answer.{is_memory};
+ghost use Rattle.yaml_shape.specs.DataView.{data_of};
+ghost use Rattle.yaml_shape.specs.TypedView.{content_in, id_in, schema_in};
+ghost use Rattle.serde_yaml.specs.Printed.{HasEvents, IsDataWritten, IsOutOfPlace, IsRefused};
+ghost use Rattle.serde_yaml.specs.TypedWrites.{TypeWrites};
+
+use crate::ser::{to_events, write_stream};
+use std::alloc::Global;
+use std::fmt;
+use std::io::{self, Write};
+use yaml_base::emitter::EmitEvent;
+use yaml_base::{Error, Result};
+use yaml_emit::emit;
+use yaml_shape::Typed;
+use yaml_types::Serialize;
+
+/// Why a value was not written to a writer.
+#[derive(Debug, Drop)]
+pub enum WriteFault {
+    /// The value has no text. Nothing was written.
+    Value(Error),
+    /// The writer failed. Part of the text may be written.
+    Writer(io::Error),
+}
+
+impl fmt::Display for WriteFault {
+    fn fmt<W: fmt::Write>(&self, f: &mut fmt::Formatter<W>) -> fmt::Result {
+        match self {
+            WriteFault::Value(fault) => write!(f, "{fault}"),
+            WriteFault::Writer(fault) => write!(f, "{fault}"),
+        }
+    }
+}
+
+impl std::error::Error for WriteFault {}
+
+// The text of events.
+fn printed(alloc: Global, events: &[EmitEvent]) -> Result<String>
+    ensures refused { IfErr result (λ cause. is_memory cause ≡ false → IsOutOfPlace cause) }
+{
+    match emit(alloc, events) {
+        Ok(text) => Ok(text),
+        Err(fault) => Err(fault),
+    }
+}
+
+/// The value as YAML text, a document that ends with a line feed: what `emit` prints for the events of `to_events`.
+/// What `to_events` refuses is refused so.
+pub fn to_string<T: Serialize>(alloc: Global, value: &T) -> Result<String>
+    ensures written { OnOk result (HasEvents (TypeWrites T.start (T.written value.now))) }
+    ensures kept { OnOk result (T.kept value.now) }
+    ensures refused { IfErr result (λ cause. is_memory cause ≡ false
+        → IsRefused (TypeWrites T.start (T.written value.now)) cause) }
+{
+    let events = match to_events(alloc, value) {
+        Ok(events) => events,
+        Err(refused) => return Err(refused),
+    };
+    match printed(alloc, events.as_slice()) {
+        Ok(text) => Ok(text),
+        Err(fault) => Err(fault),
+    }
+}
+
+/// The same text to a writer, whole and at once, which is then flushed. What has no text leaves the writer as it was.
+pub fn to_writer<W: Write, T: Serialize>(
+    alloc: Global,
+    writer: &mut W,
+    value: &T,
+) -> std::result::Result<(), WriteFault>
+    ensures written { OnOk result (HasEvents (TypeWrites T.start (T.written value.now))) }
+    ensures kept { OnOk result (T.kept value.now) }
+{
+    let text = match to_string(alloc, value) {
+        Ok(text) => text,
+        Err(fault) => return Err(WriteFault::Value(fault)),
+    };
+    if let Err(fault) = writer.write_all(text.as_bytes()) {
+        return Err(WriteFault::Writer(fault));
+    }
+    match writer.flush() {
+        Ok(()) => Ok(()),
+        Err(fault) => Err(WriteFault::Writer(fault)),
+    }
+}
+
+/// Data of a shape as YAML text, a document that ends with a line feed. Bytes, and a tag upon a tag, are refused.
+pub fn data_to_string(alloc: Global, value: &Typed<'_, '_>) -> Result<String>
+    ensures written { OnOk result (HasEvents (IsDataWritten (schema_in value.now) (id_in value.now).0
+        (data_of (content_in value.now)))) }
+    ensures refused { IfErr result (λ cause. is_memory cause ≡ false
+        → IsRefused (IsDataWritten (schema_in value.now) (id_in value.now).0
+        (data_of (content_in value.now))) cause) }
+{
+    let events = match write_stream(alloc, value.schema(), value.id(), value.content()) {
+        Ok(events) => events,
+        Err(refused) => return Err(refused),
+    };
+    match printed(alloc, events.as_slice()) {
+        Ok(text) => Ok(text),
+        Err(fault) => Err(fault),
+    }
+}

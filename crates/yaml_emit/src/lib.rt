@@ -1,0 +1,16 @@
+//! Events for an emitter to YAML text, as libyaml's emitter prints them.
+#![tactic(auto)]
+
+mod character;
+mod fit;
+mod layout;
+mod leaf;
+mod open;
+mod quoted;
+mod stream;
+mod style;
+mod tag;
+
+pub use leaf::push_scalar;
+pub use stream::emit;
+pub use tag::push_tag;
