@@ -1,4 +1,4 @@
-# Writes cases whose nodes are deep or wide to the file IN, and what is wanted of them to the file WANTED.
+# Writes cases whose nodes or texts are deep, wide or long to the file IN, and their answers to the file WANTED.
 
 # A text so many times.
 function repeat(text, count,    out) {
@@ -199,6 +199,37 @@ function structs(    i, all) {
     fault("field-unknown", "unknown field `f150`, expected one of " all " at line 1 column 4")
 }
 
+# A text that is read as any value, and its answer: data, or a fault where the status is 1.
+function text(id, spelled, status, told) {
+    print "@@ " id " text:1\n" spelled > IN
+    print id "\t" status "\t\"" (status ? "fault: " : "") told "\"" > WANTED
+}
+
+function texts(    key, deep) {
+    # a key may be 1,024 bytes long
+    key = repeat("k", 1024)
+    text("key-1024", key ": 1", 0, "{\\\"" key "\\\": 1}")
+    text("key-1025", "k" key ": 1", 1, "mapping values are not allowed in this context at line 1 column 1026")
+    text("quoted-1024", "\"" substr(key, 3) "\": 1", 0, "{\\\"" substr(key, 3) "\\\": 1}")
+    text("quoted-1025", "\"" substr(key, 2) "\": 1", 1,
+        "mapping values are not allowed in this context at line 1 column 1026")
+    text("second-key-1024", "a: 1\\n" key ": 1", 0, "{\\\"a\\\": 1, \\\"" key "\\\": 1}")
+    text("second-key-1025", "a: 1\\nk" key ": 1", 1,
+        "could not find expected ':' at line 2 column 1026, while scanning a simple key at line 2 column 1")
+    text("long-key-in-braces", "{k" key ": 1}", 1,
+        "did not find expected ',' or '}' at line 1 column 1027, while parsing a flow mapping")
+    text("long-key-behind-a-mark", "? k" key "\\n: 1", 0, "{\\\"k" key "\\\": 1}")
+    # and nodes 128 deep
+    deep = "recursion limit exceeded at line 1 column "
+    text("brackets-128", repeat("[", 128) repeat("]", 128), 0, repeat("[", 128) repeat("]", 128))
+    text("brackets-129", repeat("[", 129) repeat("]", 129), 1, deep 129)
+    text("entries-128", repeat("- ", 128) "x", 0, repeat("[", 128) "\\\"x\\\"" repeat("]", 128))
+    text("entries-129", repeat("- ", 129) "x", 1, deep 257)
+    text("brackets-100000", repeat("[", 100000) repeat("]", 100000), 1, deep 129)
+    text("entries-100000", repeat("- ", 100000) "x", 1, deep 257)
+    text("a-long-text", repeat("k", 1000000), 0, "\\\"" repeat("k", 1000000) "\\\"")
+}
+
 BEGIN {
     print "seq 0\nany\nnewtype N 3\nseq 2\nignored\ni64\nseq 5\nseq 6\nstr\nmap 8 5" > IN
     printf "strict_struct Wide" > IN
@@ -209,4 +240,5 @@ BEGIN {
     bombs()
     wide()
     structs()
+    texts()
 }

@@ -11,10 +11,10 @@ use Rattle.yaml_base.specs.declared.error.Cause.TheVariants.{Memory}
 use Rattle.yaml_case.specs.declared.status.Status.{Status}
 use Rattle.yaml_case.specs.declared.status.Status.TheVariants as status
 use Rattle.yaml_case.specs.declared.shapes.Named.{Named}
-use Rattle.yaml_case.specs.Answers.{IsReply, IsAnswer, IsAnswerTo}
-use Rattle.yaml_case.specs.Answers.IsReply.{bad_line, found, refused, out_of_memory}
-use Rattle.yaml_case.specs.Answers.IsAnswer.{bad_argument, reply}
-use Rattle.yaml_case.specs.Answers.IsAnswerTo.{bad_arguments, asked}
+use Rattle.yaml_case.specs.Replies.{IsReply, IsAnswer, IsAnswerTo}
+use Rattle.yaml_case.specs.Replies.IsReply.{bad_line, found, refused, out_of_memory}
+use Rattle.yaml_case.specs.Replies.IsAnswer.{bad_argument, reply}
+use Rattle.yaml_case.specs.Replies.IsAnswerTo.{bad_arguments, asked}
 use Rattle.yaml_case.specs.Printed.{line_of, status_of, Prints}
 use Rattle.yaml_case.specs.declared.answer.Answer.{Answer}
 use Rattle.yaml_case.specs.Arguments.{WriteLimits, AskForNothing}

@@ -1,5 +1,5 @@
 -- What contracts of this crate cite.
-pub mod Answers
+pub mod Replies
 pub mod Arguments
 pub mod ExitCode
 pub mod Printed

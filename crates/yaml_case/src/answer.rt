@@ -4,7 +4,7 @@ ghost use Rattle.std.specs.Prelude.{◌≡◌, ◌∷◌, [], ◌++◌, List, �
 ghost use Rattle.yaml_base.specs.ErrorText.{error_text};
 ghost use Rattle.yaml_shape.specs.DataView.{data_of};
 ghost use Rattle.yaml_lines.specs.DataText.{data_text};
-ghost use Rattle.yaml_case.specs.Answers.{IsReply};
+ghost use Rattle.yaml_case.specs.Replies.{IsReply};
 ghost use Rattle.yaml_case.specs.Printed.{line_of, status_of};
 
 use crate::read::read;

@@ -2,7 +2,7 @@
 
 ghost use Rattle.yaml_base.specs.Answer.{Answers};
 ghost use Rattle.yaml_shape.specs.DataView.{data_of};
-ghost use Rattle.yaml_lines.specs.InputText.{events_of};
+ghost use Rattle.yaml_lines.specs.InputText.{marked_events_of};
 ghost use Rattle.serde_yaml.specs.StreamReads.{InputGives};
 ghost use Rattle.yaml_case.specs.Shapes.{table_of, first_shape};
 
@@ -22,7 +22,7 @@ pub fn read<'de>(
     fault: Option<ParserFault>,
 ) -> Result<Data<'de>>
     ensures { Answers data_of result
-        (InputGives limits (table_of named) (first_shape named) (events_of events.entry.items) fault) }
+        (InputGives limits (table_of named) (first_shape named) (marked_events_of events.entry.items) fault) }
 {
     let Ok(schema) = named.schema(alloc) else {
         return Err(Error::new(Cause::Memory));

@@ -1,7 +1,7 @@
 //! The reply to arguments and an input. Nothing is written here.
 
 ghost use Rattle.std.specs.Prelude.{◌≡◌, ◌∷◌, [], ◌++◌, List, ℕ, map, string_bytes, IfOk, IfSome};
-ghost use Rattle.yaml_case.specs.Answers.{IsAnswer, IsAnswerTo};
+ghost use Rattle.yaml_case.specs.Replies.{IsAnswer, IsAnswerTo};
 ghost use Rattle.yaml_case.specs.Arguments.{AskForNothing};
 ghost use Rattle.yaml_case.specs.Printed.{line_of, status_of};
 ghost use Rattle.yaml_case.specs.Shapes.{IsNoName};

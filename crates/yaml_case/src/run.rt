@@ -2,7 +2,7 @@
 
 ghost use Rattle.std.specs.Prelude.{◌≡◌, ◌≢◌, ◌∷◌, [], ◌++◌, List, ℕ, map, string_bytes, IfSome};
 ghost use Rattle.std.specs.IoError.{error_kind};
-ghost use Rattle.yaml_case.specs.Answers.{IsAnswer, IsAnswerTo};
+ghost use Rattle.yaml_case.specs.Replies.{IsAnswer, IsAnswerTo};
 ghost use Rattle.yaml_read.specs.TreeReader.{default_limits};
 ghost use Rattle.yaml_case.specs.Arguments.{AskForNothing};
 ghost use Rattle.yaml_case.specs.Printed.{Prints, line_of};

@@ -10,7 +10,7 @@ use Rattle.yaml_base.specs.declared.event.Event.{Event}
 use Rattle.yaml_base.specs.declared.mark.Mark.{Mark}
 use Rattle.yaml_base.specs.PlainFault.{PlainFault}
 use Rattle.yaml_lines.specs.Escape.{Lacks}
-use Rattle.yaml_lines.specs.InputText.{lines_of, MarkedEvents, IsInput, IsFirstBadLine, events_of}
+use Rattle.yaml_lines.specs.InputText.{lines_of, MarkedEvents, IsInput, IsFirstBadLine, marked_events_of}
 use Rattle.yaml_lines.specs.LineText.{Said, says_event, says_fault, IsLine}
 use Rattle.yaml_lines.proofs.CutLaws.{lacks-head, lacks-tail}
 use Rattle.yaml_lines.proofs.LineLaws.{fault_or_event}
@@ -173,7 +173,7 @@ bad_after_fault lines rest more number events (Some f) line is h r = record {
 }
 
 -- the plain events with one more
-pub events_of-push : (xs : List (Event × Mark)) (e : Event × Mark)
-    → events_of (xs ++ e ∷ []) ≡ events_of xs ++ (event_of e.0, e.1) ∷ []
-events_of-push [] e = refl
-events_of-push (x ∷ xs) e = ap (λ es. (event_of x.0, x.1) ∷ es) (events_of-push xs e)
+pub marked_events_of-push : (xs : List (Event × Mark)) (e : Event × Mark)
+    → marked_events_of (xs ++ e ∷ []) ≡ marked_events_of xs ++ (event_of e.0, e.1) ∷ []
+marked_events_of-push [] e = refl
+marked_events_of-push (x ∷ xs) e = ap (λ es. (event_of x.0, x.1) ∷ es) (marked_events_of-push xs e)

@@ -10,5 +10,4 @@ pub mod OneInput
 pub mod OneReading
 pub mod PlaceLaws
 pub mod ShowLaws
-pub mod ValueLaws
 pub mod WordLaws

@@ -40,8 +40,8 @@ pub record IsFirstBadLine (lines : List (List ℕ)) (number : ℕ) : Type 0 wher
   pub refused : (es : MarkedEvents) → (f : Option PlainFault) → ¬ (IsInput (good ++ bad ∷ []) es f)
 
 -- the plain events of events with their marks
-abbrev pub events_of : List (Event × Mark) → MarkedEvents
-events_of = map (λ e. (event_of e.0, e.1))
+abbrev pub marked_events_of : List (Event × Mark) → MarkedEvents
+marked_events_of = map (λ e. (event_of e.0, e.1))
 
 -- why the lines are no input: the first that is bad, or memory ran out
 abbrev pub IsInputFault : List (List ℕ) → InputFault → Type 0

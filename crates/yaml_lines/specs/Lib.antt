@@ -3,6 +3,7 @@ pub mod DataText
 pub mod DataTextView
 pub mod Escape
 pub mod EventText
+pub mod FaultText
 pub mod SpelledFault
 pub mod InputText
 pub mod LineText
@@ -10,3 +11,4 @@ pub mod Listed
 pub mod Parses
 pub mod Place
 pub mod TreeText
+pub mod WrittenLines

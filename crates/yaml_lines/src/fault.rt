@@ -4,6 +4,8 @@ ghost use Rattle.yaml_lines.specs.declared.fault.LineFault.TheVariants.{Memory a
 ghost use Rattle.yaml_lines.specs.declared.fault.InputFault.TheVariants.{Memory as input_memory};
 
 use std::alloc::{AllocError, AllocFailed};
+use std::error::Error;
+use std::fmt;
 
 /// Why a line, or a part of one, was not read.
 #[derive(Clone, Copy, PartialEq, Eq, Debug, Drop)]
@@ -34,6 +36,22 @@ impl<T: Drop> From<AllocFailed<T>> for LineFault {
     }
 }
 
+impl fmt::Display for LineFault {
+    ghost use Rattle.std.specs.Prelude.{Some};
+    ghost use Rattle.yaml_lines.specs.FaultText.{line_fault_text};
+
+    ghost output = { λ fault. Some (line_fault_text fault) };
+
+    fn fmt<W: fmt::Write>(&self, f: &mut fmt::Formatter<W>) -> fmt::Result {
+        match self {
+            LineFault::Bad => f.write_str("bad line"),
+            LineFault::Memory => f.write_str("out of memory"),
+        }
+    }
+}
+
+impl Error for LineFault {}
+
 /// Why an input was not read.
 #[derive(Clone, Copy, PartialEq, Eq, Debug, Drop)]
 pub enum InputFault {
@@ -52,3 +70,19 @@ impl<T: Drop> From<AllocFailed<T>> for InputFault {
         InputFault::Memory
     }
 }
+
+impl fmt::Display for InputFault {
+    ghost use Rattle.std.specs.Prelude.{Some};
+    ghost use Rattle.yaml_lines.specs.FaultText.{input_fault_text};
+
+    ghost output = { λ fault. Some (input_fault_text fault) };
+
+    fn fmt<W: fmt::Write>(&self, f: &mut fmt::Formatter<W>) -> fmt::Result {
+        match self {
+            InputFault::BadLine(number) => write!(f, "bad line {number}"),
+            InputFault::Memory => f.write_str("out of memory"),
+        }
+    }
+}
+
+impl Error for InputFault {}

@@ -1,7 +1,7 @@
 //! The whole input: a line for each event, and at most one for the parser's fault, the last line.
 
 ghost use Rattle.std.specs.Prelude.{◌≡◌, ◌<◌, ◌∷◌, length, MatchResult};
-ghost use Rattle.yaml_lines.specs.InputText.{events_of, lines_of, IsInput, IsInputFault};
+ghost use Rattle.yaml_lines.specs.InputText.{marked_events_of, lines_of, IsInput, IsInputFault};
 
 use crate::fault::{InputFault, LineFault};
 use crate::line::Line;
@@ -35,7 +35,7 @@ impl Input {
     /// line, counted from 1, or by `Memory`.
     pub fn parse(alloc: Global, text: &[u8]) -> Result<Input, InputFault>
         ensures { MatchResult result
-            (λ input. IsInput (lines_of text.now) (events_of input.events.items) input.fault)
+            (λ input. IsInput (lines_of text.now) (marked_events_of input.events.items) input.fault)
             (IsInputFault (lines_of text.now)) }
     {
         let mut events = Vec::new(alloc);

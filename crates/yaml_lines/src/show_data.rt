@@ -7,11 +7,9 @@ ghost use Rattle.yaml_lines.specs.DataTextView.{entry_text, item_text};
 ghost use Rattle.yaml_lines.specs.Listed.{listed};
 
 mod part;
-mod value;
 
 use part::{separate, show_bytes, show_char, show_text};
 use std::alloc::AllocError;
-use value::show_value;
 use yaml_shape::{Data, Entry};
 
 /// Appends the text of data. The only error is that memory runs out.
@@ -21,7 +19,7 @@ pub fn show(out: &mut String, content: &Data<'_>) -> Result<(), AllocError>
         (string_bytes out.new ≡ string_bytes out.old ++ data_text (data_of content.now)) }
 {
     match content {
-        Data::Any(value) => show_value(out, value),
+        Data::Any(value) => write!(out, "{value}"),
         Data::Bool(value) => write!(out, "{value}"),
         Data::Char(value) => show_char(out, *value),
         Data::Signed(value) => write!(out, "{value}"),

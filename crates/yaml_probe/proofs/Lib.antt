@@ -1,3 +1,4 @@
 -- Lemmas of this crate.
 pub mod Readings
 pub mod Writings
+pub mod TextReadings

@@ -8,8 +8,8 @@ use Rattle.yaml_base.specs.PlainFault.{PlainFault}
 use Rattle.yaml_base.specs.declared.error.Cause.{Cause}
 use Rattle.yaml_base.specs.declared.error.Cause.TheVariants.{Memory}
 use Rattle.yaml_lines.specs.InputText.{MarkedEvents, IsInput, lines_of}
-use Rattle.yaml_probe.specs.Answers.{IsReading}
-use Rattle.yaml_probe.specs.Answers.IsReading.{refused, out_of_memory}
+use Rattle.yaml_probe.specs.CaseReadings.{IsReading}
+use Rattle.yaml_probe.specs.CaseReadings.IsReading.{refused, out_of_memory}
 use Rattle.yaml_probe.specs.declared.answer.Ending.TheVariants as ending
 use Rattle.yaml_read.specs.TreeReader.{PlainLimits}
 use Rattle.yaml_shape.specs.PlainShape.{PlainShape}

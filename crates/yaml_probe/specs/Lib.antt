@@ -1,2 +1,4 @@
 -- What contracts of this crate cite.
-pub mod Answers
+pub mod CaseReadings
+pub mod Printed
+pub mod TextAnswers

@@ -2,6 +2,7 @@
 
 mod events;
 mod reading;
+mod text;
 mod turns;
 mod writing;
 
@@ -10,6 +11,7 @@ use crate::table::Table;
 use crate::text::quote;
 use reading::read;
 use std::alloc::{AllocError, Global};
+use text::{read_text, read_text_in_turn};
 use turns::read_in_turn;
 use writing::write;
 use yaml_shape::Schema;
@@ -64,6 +66,10 @@ fn asked(
         Task::Read(id) if schema.has(id) => read(alloc, schema, id, case.limits, lines),
         Task::ReadInTurn(id) if schema.has(id) => {
             read_in_turn(alloc, schema, id, case.limits, lines)
+        }
+        Task::ReadText(id) if schema.has(id) => read_text(alloc, schema, id, case.limits, lines),
+        Task::ReadTextInTurn(id) if schema.has(id) => {
+            read_text_in_turn(alloc, schema, id, case.limits, lines)
         }
         Task::Write(id) if schema.has(id) => write(alloc, schema, id, lines),
         _ => refused(alloc, "bad shape"),

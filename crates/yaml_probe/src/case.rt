@@ -12,6 +12,10 @@ pub enum Task {
     Read(ShapeId),
     /// Its lines are events, of which each document is to be read in turn, as this shape.
     ReadInTurn(ShapeId),
+    /// Its one line spells a YAML text, to be read as this shape.
+    ReadText(ShapeId),
+    /// The same, of whose documents each is to be read in turn, as this shape.
+    ReadTextInTurn(ShapeId),
     /// Its lines are data of this shape, to be written, each as a document.
     Write(ShapeId),
 }
@@ -41,6 +45,12 @@ fn task_of(word: &str) -> Option<Task> {
     }
     if let Some(id) = word.strip_prefix("documents:") {
         return Some(Task::ReadInTurn(number(id)?));
+    }
+    if let Some(id) = word.strip_prefix("text:") {
+        return Some(Task::ReadText(number(id)?));
+    }
+    if let Some(id) = word.strip_prefix("texts:") {
+        return Some(Task::ReadTextInTurn(number(id)?));
     }
     Some(Task::Write(number(word.strip_prefix("write:")?)?))
 }

@@ -6,7 +6,10 @@ mod answer;
 mod batch;
 mod case;
 mod data_text;
+mod print;
+mod reply;
 mod run;
+mod status;
 mod table;
 mod text;
 

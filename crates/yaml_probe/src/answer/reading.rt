@@ -4,11 +4,11 @@ ghost use Rattle.std.specs.Prelude.{◌≡◌, ◌<◌, ◌++◌, length, codes,
 ghost use Rattle.yaml_base.specs.Answer.{Answers};
 ghost use Rattle.yaml_base.specs.ErrorText.{error_text};
 ghost use Rattle.yaml_lines.specs.DataText.{data_text};
-ghost use Rattle.yaml_lines.specs.InputText.{events_of};
+ghost use Rattle.yaml_lines.specs.InputText.{marked_events_of};
 ghost use Rattle.yaml_shape.specs.DataView.{data_of};
 ghost use Rattle.yaml_shape.specs.PlainShape.{PlainShape, shape_at};
 ghost use Rattle.serde_yaml.specs.StreamReads.{InputGives};
-ghost use Rattle.yaml_probe.specs.Answers.{IsReading};
+ghost use Rattle.yaml_probe.specs.CaseReadings.{IsReading};
 
 use super::{Answer, Ending};
 use serde_yaml::{Limits, data_from_events};
@@ -27,7 +27,7 @@ fn content_of(
 ) -> Result<Data<'static>>
     requires { id.0 < length schema.now }
     ensures { (s : PlainShape) → shape_at schema.now id.0 ≡ Some s → Answers data_of result
-        (InputGives limits schema.now s (events_of input.events.items) input.fault) }
+        (InputGives limits schema.now s (marked_events_of input.events.items) input.fault) }
 {
     data_from_events(alloc, input.events, input.fault, schema, id, limits)
 }

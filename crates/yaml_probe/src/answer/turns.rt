@@ -29,8 +29,8 @@ fn push_line(
     Ok(is_data)
 }
 
-// What each document of a stream is read as, a line each, where there are no more than `most`.
-fn lines_of(
+/// What each document of a stream is read as, a line each, where there are no more than `most`.
+pub fn lines_of(
     alloc: Global,
     stream: Deserializer<'_>,
     schema: &Schema,

@@ -2,8 +2,8 @@
 use Rattle.std.specs.Prelude.{codes, IfOk, Result, Ok, Err}
 use Rattle.std.proofs.Common.{◌≡◌, ℕ, List, [], ◌∷◌, ◌++◌, refl}
 use Rattle.std.specs.Result.{result_unwrap_or}
-use Rattle.yaml_case.specs.Answers.{IsReply}
-use Rattle.yaml_case.specs.Answers.IsReply.{out_of_memory}
+use Rattle.yaml_case.specs.Replies.{IsReply}
+use Rattle.yaml_case.specs.Replies.IsReply.{out_of_memory}
 use Rattle.yaml_case.specs.Printed.{line_of, status_of}
 use Rattle.yaml_case.specs.declared.answer.Answer.{Answer}
 use Rattle.yaml_case.specs.declared.answer.Answer.TheVariants.{OutOfMemory}

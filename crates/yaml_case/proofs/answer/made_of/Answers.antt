@@ -4,7 +4,7 @@ use Rattle.std.proofs.Common.{◌++◌, refl}
 use Rattle.yaml_base.specs.ErrorText.{error_text}
 use Rattle.yaml_shape.specs.DataView.{data_of}
 use Rattle.yaml_lines.specs.DataText.{data_text}
-use Rattle.yaml_case.specs.Answers.IsReply.{bad_line, found}
+use Rattle.yaml_case.specs.Replies.IsReply.{bad_line, found}
 use Rattle.yaml_case.proofs.RunLaws.{fault_reply}
 use Rattle.yaml_case.proofs.answer.made_of.Goals as goal
 

@@ -1,7 +1,7 @@
 -- What is answered to the name and the input.
 use Rattle.std.specs.Prelude.{codes}
 use Rattle.std.proofs.Common.{refl, subst}
-use Rattle.yaml_case.specs.Answers.{IsReply}
+use Rattle.yaml_case.specs.Replies.{IsReply}
 use Rattle.yaml_case.specs.Printed.{status_of}
 use Rattle.yaml_case.proofs.RunLaws.{some_input, refuses, wants_memory, replies}
 use Rattle.yaml_case.proofs.reply.reply.Goals as goal

@@ -2,7 +2,7 @@
 use Rattle.std.specs.Prelude.{codes}
 use Rattle.std.proofs.Common.{◌≡◌, ℕ, List, [], ◌∷◌, map, length, string_bytes, refl, sym, ap, ◌∙◌, String, get_or}
 use Rattle.std.specs.Global.{Global}
-use Rattle.yaml_case.specs.Answers.{IsAnswer, IsAnswerTo}
+use Rattle.yaml_case.specs.Replies.{IsAnswer, IsAnswerTo}
 use Rattle.yaml_case.specs.Arguments.{WriteLimits}
 use Rattle.yaml_case.proofs.RunLaws.{some_input, refuses_all, one_argument, three_arguments, another_count}
 use Rattle.yaml_case.proofs.RunLaws.{none_alone, answers_alone, none_within, answers_within, no_limits, answered_as}

@@ -1,5 +1,5 @@
 -- What a run prints is what the reply says, and nothing is written where there is none.
-use Rattle.yaml_case.specs.Answers.{IsAnswer}
+use Rattle.yaml_case.specs.Replies.{IsAnswer}
 use Rattle.yaml_case.proofs.RunLaws.{concluded, concluded-unread, answer-read}
 use Rattle.yaml_case.proofs.run.run_limited.Goals as goal
 

@@ -1,6 +1,6 @@
 -- What a run prints is what the reply says, and nothing is written where there is none.
 use Rattle.std.proofs.Common.{map, string_bytes}
-use Rattle.yaml_case.specs.Answers.{IsAnswerTo}
+use Rattle.yaml_case.specs.Replies.{IsAnswerTo}
 use Rattle.yaml_case.proofs.RunLaws.{concluded, concluded-unread, answer_to-read}
 use Rattle.yaml_case.proofs.run.start.Goals as goal
 

@@ -1,7 +1,7 @@
 -- Each turn reads one line.
 use Rattle.std.proofs.Common.{arith, sym, ap, ◌∙◌}
-use Rattle.yaml_lines.specs.InputText.{events_of}
-use Rattle.yaml_lines.proofs.InputLaws.{read_event, read_fault, bad_line, bad_after_fault, events_of-push}
+use Rattle.yaml_lines.specs.InputText.{marked_events_of}
+use Rattle.yaml_lines.proofs.InputLaws.{read_event, read_fault, bad_line, bad_after_fault, marked_events_of-push}
 use Rattle.yaml_lines.proofs.input.Input.parse.Goals as goal
 
 pub returns-then-is_some : goal.returns-then-is_some
@@ -18,8 +18,8 @@ pub loop-rest-preserved-in_ok-push-in-Ok-Event : goal.loop-rest-preserved-in_ok-
 loop-rest-preserved-in_ok-push-in-Ok-Event c =
     let taken = rw c.in-Ok-Event.field-0-is at c.in-Ok-Event.ensures in
     record {
-      read = rw (ap events_of c.in_ok-push-in-Ok-Event.ensures.items
-          ∙ events_of-push c.loop-rest.events.items (c.in-Ok-Event.event, c.in-Ok-Event.mark))
+      read = rw (ap marked_events_of c.in_ok-push-in-Ok-Event.ensures.items
+          ∙ marked_events_of-push c.loop-rest.events.items (c.in-Ok-Event.event, c.in-Ok-Event.mark))
           (read_event _ _ _ _ _ _ _ _ (sym c.is_some.ensures
           ∙ c.if-is_some.false) c.loop-rest.invariant.read c.first_line.ensures.lines taken);
       few = omega (arith, c.first_line.ensures.shorter);

@@ -1,6 +1,6 @@
 -- Each case of the answer has its text.
 use Rattle.std.proofs.Common.{refl}
-use Rattle.yaml_probe.specs.Answers.IsReading.{bad_line, found}
+use Rattle.yaml_probe.specs.CaseReadings.IsReading.{bad_line, found}
 use Rattle.yaml_probe.proofs.Readings.{fault_reading}
 use Rattle.yaml_probe.proofs.answer.reading.read.Goals as goal
 

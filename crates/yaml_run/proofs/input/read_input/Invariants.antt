@@ -1,7 +1,7 @@
 -- What was read so far is what the reader gave.
 use Rattle.std.specs.Io.KnownBytes.{Consumes}
 use Rattle.std.proofs.Common.{◌≡◌, length}
-use Rattle.yaml_probe.proofs.run.read_input.Given as goal
+use Rattle.yaml_run.proofs.input.read_input.Given as goal
 
 abbrev pub invariant-loop : goal.invariant-loop
 invariant-loop g l =

@@ -1,0 +1,143 @@
+#!/bin/sh
+# Runs the built program from the outside: on standard input and on files, with right and wrong words, on inputs that
+# can't be read and outputs that can't be written. Compares its standard output and its status, and where it is told
+# what is wrong, a part of its standard error. Ends with status 0 only if each run is as it should be.
+#
+# usage: program.sh [PROGRAM]   With no PROGRAM it is proved and built first, over what earlier checks kept in out/.
+set -u
+root=$(cd "$(dirname "$0")" && pwd)
+. "$root/../../.ci/program.sh"
+start "$root" "${1:-}" -- show
+
+# Compares the status of a run, and what it wrote, with what is wanted; its standard error has to hold a part.
+compare() {
+    title=$1 status=$2 wanted=$3 part=${5:-}
+    count=$((count + 1))
+    printf '%s' "$4" > "$work/wanted"
+    if [ "$status" != "$wanted" ]; then
+        echo "program: $title: status $status, not $wanted"
+        failed=1
+    fi
+    if ! cmp -s "$work/out" "$work/wanted"; then
+        echo "program: $title: wrong output:"
+        head -c 300 "$work/out"
+        failed=1
+    fi
+    if [ -z "$part" ] && [ -s "$work/err" ] || ! grep -qF -- "$part" "$work/err" && [ -n "$part" ]; then
+        echo "program: $title: wrong standard error:"
+        head -c 300 "$work/err"
+        failed=1
+    fi
+}
+
+# Runs the program with these words behind the title, status, output and part of the standard error that are wanted.
+run() {
+    title=$1 wanted=$2 output=$3 part=$4
+    shift 4
+    "$program" "$@" < "$work/in" > "$work/out" 2> "$work/err"
+    compare "$title" $? "$wanted" "$output" "$part"
+}
+
+cat > "$work/in" << 'END'
+web: &p 8080
+proxy: [*p, 0x1F91]
+END
+lf='
+'
+run "data" 0 '{"web": 8080, "proxy": [8080, 8081]}'"$lf" "" show
+run "a fault" 1 "fault: invalid type: map, expected a boolean$lf" "" show --shape bool
+run "few nestings" 1 "fault: recursion limit exceeded at line 2 column 8$lf" "" show --nesting 1
+run "no follows" 1 "fault: repetition limit exceeded$lf" "" show --nesting 2 --follows 0
+run "another file" 0 '{"web": 8080, "proxy": [8080, 8081]}'"$lf" "" show "$work/in"
+run "ignored" 0 "ignored$lf" "" show --shape ignored
+
+printf 'web: 1\n---\n[a\n' > "$work/in"
+run "two documents" 1 "fault: deserializing from YAML containing more than one document is not supported$lf" "" show
+run "each document" 1 '{"web": 1}'"$lf""fault: did not find expected ',' or ']' at line 4 column 1, while parsing a flow \
+sequence at line 3 column 1$lf" "" show --documents
+run "events" 1 '0:0:0 +STR
+0:0:0 +DOC
+0:0:0 +MAP
+0:0:0 =VAL :web
+5:0:5 =VAL :1
+7:1:0 -MAP
+7:1:0 -DOC
+7:1:0 +DOC
+11:2:0 +SEQ
+12:2:1 =VAL :a
+'"14:3:0 !ERR PARSER 0 did not find expected ',' or ']'$lf" "" events
+run "all of events" 1 '0:0:0 +STR
+0:0:0 +DOC
+0:0:0 +MAP
+0..3:0:0 =VAL :web
+5..6:0:5 =VAL :1
+7:1:0 -MAP
+7:1:0 -DOC
+7:1:0 +DOC
+11:2:0 +SEQ
+12..13:2:1 =VAL :a
+'"14:3:0 !ERR PARSER 0 did not find expected ',' or ']'$lf""11:2:0 !CONTEXT while parsing a flow sequence$lf" "" \
+    events --full
+
+# Files: one, several, and one that is not there.
+echo 'a: 1' > "$work/first"
+echo '[' > "$work/second"
+run "files" 1 "@@ $work/first$lf{\"a\": 1}$lf@@ $work/second${lf}fault: did not find expected node content at line 2 \
+column 1, while parsing a flow node$lf" "" show "$work/first" "$work/second"
+run "a missing file" 2 "" "yaml_tool: $work/none: it can't be read" show "$work/none"
+run "a missing file and one that is there" 2 "@@ $work/none$lf@@ $work/first$lf{\"a\": 1}$lf" "it can't be read" \
+    show "$work/none" "$work/first"
+run "a folder" 2 "" "it can't be read" show "$work"
+
+# Words.
+run "no command" 2 "" "requires a subcommand"
+run "a wrong command" 2 "" "unrecognized subcommand 'shov'" shov
+run "a wrong option" 2 "" "unexpected argument '--documents' found" events --documents
+run "a wrong shape" 2 "" "invalid value 'bol' for '--shape <NAME>'" show --shape bol
+run "too many nestings" 2 "" "300 is not in 0..=255" show --nesting 300
+run "too many follows" 2 "" "1001 is not in 0..=1000" show --follows 1001
+run "an option twice" 2 "" "cannot be used multiple times" show --shape any --shape any
+run "the version" 0 "yaml_tool 0.9.34$lf" "" --version
+"$program" --help > "$work/out" 2> "$work/err"
+compare "help" $? 0 "$(cat "$work/out")$lf"
+
+# A read that fails, and a write that fails.
+"$program" show < / > "$work/out" 2> "$work/err"
+compare "a folder as standard input" $? 2 ""
+"$program" show <&- > "$work/out" 2> "$work/err"
+compare "closed standard input" $? 2 ""
+: > "$work/out"
+"$program" show < "$work/first" >&- 2> "$work/err"
+compare "closed standard output" $? 2 ""
+if [ -w /dev/full ]; then
+    "$program" show < "$work/first" > /dev/full 2> "$work/err"
+    compare "full standard output" $? 2 ""
+fi
+
+# What the events say, read by yaml_case where it is built, is what is shown.
+reader=$root/../yaml_case/out/yaml_case
+if [ -x "$reader" ]; then
+    for name in "$root/stdin" "$work/first" "$work/in"; do
+        "$program" show < "$name" > "$work/shown"
+        "$program" events < "$name" | "$reader" any > "$work/out" 2> "$work/err"
+        compare "events of $name, read again" 0 0 "$(sed 's/, while parsing.*//' "$work/shown")$lf"
+    done
+fi
+
+# Texts that are long or deep.
+awk 'BEGIN { for (i = 0; i < 1000000; i++) printf "["; }' > "$work/in"
+run "a million brackets" 1 "fault: recursion limit exceeded at line 1 column 129$lf" "" show
+awk 'BEGIN { for (i = 0; i < 1000000; i++) printf "- "; }' > "$work/in"
+run "a million entries on a line" 1 "fault: recursion limit exceeded at line 1 column 257$lf" "" show
+awk 'BEGIN { for (i = 0; i < 1000000; i++) printf "k"; print ": 1" }' > "$work/in"
+run "a key of a million bytes" 1 "fault: mapping values are not allowed in this context at line 1 column 1000001$lf" \
+    "" show
+
+# Memory that runs out.
+if command -v prlimit > /dev/null; then
+    yes -- '- 7' | head -n 1000000 > "$work/in"
+    prlimit --as=30000000 "$program" show < "$work/in" > "$work/out" 2> "$work/err"
+    compare "a text that is too large" $? 1 "fault: out of memory$lf"
+fi
+
+finish
