@@ -87,7 +87,7 @@ function answer(task, text) {
     if (sub(/^!table /, "schema: ", text)) wanted(1, text)
     else if (sub(/^\? /, "", text)) wanted(2, text)
     else if (task == "write") { failing = ""; text = written(text); wanted(failing != "", text) }
-    else if (task == "documents") { text = in_turn(text); wanted(failing, text) }
+    else if (task == "documents" || task == "texts") { text = in_turn(text); wanted(failing, text) }
     else if (sub(/^! /, "fault: ", text)) wanted(1, text)
     else wanted(0, text)
 }
@@ -111,10 +111,12 @@ function row(    cut, head, lines, want, word, words, i, task, flags, whole) {
         else complain("no such word: " word[i])
     }
     if (sub(/^write: /, "", lines)) task = "write"
+    else if (lines ~ /^".*"$/) task = task == "documents" ? "texts" : "text"
     if (numbered(word[1]) !~ /^[0-9][0-9,]*$/) complain("no such shape: " word[1])
     if (!cases++) print ""
     print "@@ " topic ":" FNR " " task ":" numbered(word[1]) flags
     if (task == "write") print_data(lines)
+    else if (task ~ /^text/) print substr(lines, 2, length(lines) - 2)
     else if (whole) print_events(lines == "-" ? "" : lines)
     else print_events(lines == "-" ? "+STR; -STR" : "+STR; +DOC; " lines "; -DOC; -STR")
     answer(task, want)

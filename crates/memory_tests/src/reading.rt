@@ -5,7 +5,7 @@ use super::calls::{
     tells,
 };
 use super::shapes::{KINDS, LETTER, LETTERS, schema};
-use serde_yaml::from_events;
+use serde_yaml::{from_events, from_str};
 use std::alloc::Global;
 use std::test::Fail;
 use test_memory::{Outcome, Scene, Shortage, refusals};
@@ -330,5 +330,37 @@ impl Scene for Building {
 #[test]
 fn building_a_value(rt: HostRuntime) -> Result<(), Fail> {
     assert!(rt; refusals(rt.alloc(), &Building)? > 0);
+    Ok(())
+}
+
+// A text that is read as a list of texts.
+struct Parsing;
+
+// What a text reads as.
+fn texts_in(alloc: Global, text: &str) -> Answer<Vec<String>> {
+    from_str(alloc, text)
+}
+
+impl Scene for Parsing {
+    fn play(&self, alloc: Global, memory: &mut Shortage, pieces: usize) -> Result<Outcome, Fail> {
+        memory.leave(alloc, pieces)?;
+        let answer = texts_in(alloc, "[one, 'two']");
+        memory.restore();
+        match answer {
+            Ok(texts) => {
+                if are(texts.as_slice(), "one", "two") {
+                    Ok(Outcome::Answered)
+                } else {
+                    Ok(Outcome::Wrong("other texts"))
+                }
+            }
+            Err(fault) => Ok(refused(fault)),
+        }
+    }
+}
+
+#[test]
+fn a_text_that_is_read(rt: HostRuntime) -> Result<(), Fail> {
+    assert!(rt; refusals(rt.alloc(), &Parsing)? > 0);
     Ok(())
 }

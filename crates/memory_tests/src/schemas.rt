@@ -104,10 +104,8 @@ fn join(alloc: Global, keys: Schema, values: Schema) -> Result<Schema, SchemaFau
     requires keys { TEXT.0 < length keys }
     requires values { NUMBER.0 < length values }
 {
-    match map_of(alloc, keys, TEXT, values, NUMBER) {
-        Ok((schema, _)) => Ok(schema),
-        Err(fault) => Err(fault),
-    }
+    let (schema, _) = map_of(alloc, keys, TEXT, values, NUMBER)?;
+    Ok(schema)
 }
 
 impl Scene for Joining {

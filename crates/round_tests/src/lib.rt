@@ -8,6 +8,10 @@ mod color;
 #[cfg(test)]
 mod laws;
 #[cfg(test)]
+mod own_types;
+#[cfg(test)]
+mod printed;
+#[cfg(test)]
 mod renderer;
 #[cfg(test)]
 mod shapes;

@@ -49,8 +49,8 @@ pub fn told(alloc: Global, events: &[EmitEvent]) -> Result<String, Fail> {
     Ok(out)
 }
 
-// Whether a value that was written is read as an equal value, in each turn of styles.
-fn comes_back<'de, T: RoundTrip<'de> + Drop>(alloc: Global, value: T) -> Result<bool, Fail> {
+/// Whether a value that was written is read as an equal value, in each turn of styles.
+pub fn comes_back<'de, T: RoundTrip<'de> + Drop>(alloc: Global, value: T) -> Result<bool, Fail> {
     let written = to_events(alloc, &value)?;
     for turn in 0..TURNS {
         let found: T = from_events(alloc, rendered(alloc, &written, turn)?, None)?;

@@ -8,9 +8,12 @@ const BLOCKS: usize = 100_000;
 // The size of the first block that is asked for, which is more than there is.
 const LARGEST: usize = 1 << 40;
 
-// What is kept for making what a call needs: a block that the allocator takes from its heap, and asks of the system
-// no more.
+// The size of a block that the allocator takes from its heap, and does not ask of the system by itself.
 const RESERVE: usize = 100_000;
+
+// How many such blocks are kept for making what a call needs. Small blocks that a run gives back stay where they were, in
+// lists of the allocator, and the next run's memory has to lie behind them.
+const RESERVES: usize = 8;
 
 // A block that is too large for the lists of small blocks that the allocator keeps when they are freed.
 const PAD: usize = 4096;
@@ -36,6 +39,18 @@ fn drain(alloc: Global, blocks: &mut Vec<Vec<u8>>, largest: usize) {
     }
 }
 
+// Blocks of the heap, each behind the one before.
+fn reserve(alloc: Global) -> Result<Vec<Vec<u8>>, AllocError> {
+    let mut blocks = Vec::with_capacity(alloc, RESERVES)?;
+    for _ in 0..RESERVES {
+        let block = Vec::with_capacity(alloc, RESERVE)?;
+        if blocks.push(block).is_err() {
+            return Err(AllocError);
+        }
+    }
+    Ok(blocks)
+}
+
 /// Memory of this process that is used up, but for a reserve in which a test makes what it needs. Dropping it gives all
 /// memory back.
 ///
@@ -54,7 +69,7 @@ impl Shortage {
     pub fn new(alloc: Global) -> Result<Shortage, AllocError> {
         let mut large = Vec::with_capacity(alloc, BLOCKS)?;
         let small = Vec::with_capacity(alloc, BLOCKS)?;
-        let reserve: Vec<u8> = Vec::with_capacity(alloc, RESERVE)?;
+        let reserve = reserve(alloc)?;
         // keeps the reserve from growing into what lies behind it
         let fence = Vec::with_capacity(alloc, PAD)?;
         drain(alloc, &mut large, LARGEST);

@@ -1,10 +1,12 @@
 //! Types without parts.
 
 use super::turned::{comes_back, read, refusal, turned, written};
-use std::alloc::Global;
+use std::alloc::{AllocError, Global};
+use std::error::Error;
 use std::test::Fail;
 use yaml_shape::{Data, Text};
 use yaml_tree::Value;
+use yaml_types::BuildFault;
 
 // An integer with a sign read as one of so many bits, of the machine's width where they are 0, and written again.
 fn signed(alloc: Global, bits: u32, n: i128) -> Result<String, Fail> {
@@ -170,5 +172,18 @@ fn values_come_back(rt: HostRuntime) -> Result<(), Fail> {
     let text = String::from_str(alloc, "text")?;
     assert!(rt; comes_back(alloc, &text)?, "a text");
     assert_eq!(rt; written(alloc, &text)?.as_str(), "&text");
+    Ok(())
+}
+
+// Whether a fault says this, as any error is asked.
+fn says(alloc: Global, fault: impl Error, text: &str) -> Result<bool, AllocError> {
+    Ok(fault.to_string(alloc)?.as_str() == text)
+}
+
+#[test]
+fn faults(rt: HostRuntime) -> Result<(), Fail> {
+    let message = BuildFault::Message(String::from_str(rt.alloc(), "no day")?);
+    assert!(rt; says(rt.alloc(), message, "no day")?);
+    assert!(rt; says(rt.alloc(), BuildFault::Memory, "out of memory")?);
     Ok(())
 }

@@ -10,22 +10,8 @@ fn ports(alloc: Global, text: &str) -> Result<BTreeMap<String, u16>> {
 }
 
 #[test]
-fn a_text_is_read_as_a_map(rt: HostRuntime) -> std::result::Result<(), Fail> {
+fn an_alias_is_read(rt: HostRuntime) -> std::result::Result<(), Fail> {
     let ports = ports(rt.alloc(), "web: &port 8080\nproxy: *port\n")?;
     assert_eq!(rt; ports.get("proxy"), Some(&8080));
-    Ok(())
-}
-
-#[test]
-fn a_fault_names_its_place(rt: HostRuntime) -> std::result::Result<(), Fail> {
-    let alloc = rt.alloc();
-    let told = match ports(alloc, "web: 8080\nproxy: '8081'\n") {
-        Ok(_) => String::new(alloc),
-        Err(fault) => format!(in alloc; "{fault}")?,
-    };
-    assert_eq!(rt;
-        told.as_str(),
-        "proxy: invalid type: string \"8081\", expected u16 at line 2 column 8"
-    );
     Ok(())
 }

@@ -1,5 +1,7 @@
 //! YAML text that is read as a value of any kind, and text that is refused.
 
+mod calls;
+
 use std::alloc::{AllocError, Global};
 use std::test::Fail;
 use test_rows::reading::reading_of;

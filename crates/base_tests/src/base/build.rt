@@ -2,6 +2,7 @@
 
 use super::causes::{CauseLiteral, Spot, cause};
 use std::alloc::{AllocError, Global};
+use std::error;
 use std::process::Abort;
 use std::test::Fail;
 use yaml_base::{Error, FaultKind, Mark, ParserFault, WordList, Words};
@@ -50,8 +51,8 @@ pub(crate) fn error(alloc: Global, literal: CauseLiteral) -> Result<Error, Alloc
     Ok(Error::new(cause(alloc, literal)?))
 }
 
-// What a fault prints.
-fn printed(alloc: Global, fault: &Error) -> Result<String, AllocError> {
+// What an error prints.
+fn printed(alloc: Global, fault: &impl error::Error) -> Result<String, AllocError> {
     fault.to_string(alloc)
 }
 

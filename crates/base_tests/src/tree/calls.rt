@@ -1,7 +1,8 @@
 //! Each call once, and what it answers at its edges.
 use super::plain::Plain::{self, List, Null, Pairs, Tagged, Text, Unsigned};
-use super::plain::{is, is_copied, value};
+use super::plain::{is, is_as_wanted, is_copied, value};
 use std::alloc::{AllocError, Global};
+use std::error::Error;
 use std::process::Abort;
 use std::test::Fail;
 use yaml_tree::{Mapping, Number, Sequence, Tag, TreeFault, Value};
@@ -49,6 +50,24 @@ fn numbers(rt: HostRuntime) -> Result<(), Fail> {
     Ok(())
 }
 
+// Whether a fault says this, as any error is asked.
+fn says(alloc: Global, fault: impl Error, text: &str) -> Result<bool, AllocError> {
+    Ok(fault.to_string(alloc)?.as_str() == text)
+}
+
+#[test]
+fn faults(rt: HostRuntime) -> Result<(), Fail> {
+    assert!(rt; says(rt.alloc(), TreeFault::Memory, "out of memory")?);
+    assert!(rt;
+        says(
+            rt.alloc(),
+            TreeFault::EmptyTag,
+            "empty YAML tag is not allowed"
+        )?
+    );
+    Ok(())
+}
+
 // Whether a tag is equal to that of a text.
 fn is_equal(alloc: Global, tag: &Tag, text: &str) -> Result<bool, TreeFault> {
     Ok(*tag == Tag::new(alloc, text)?)
@@ -69,19 +88,6 @@ fn tags(rt: HostRuntime) -> Result<(), Fail> {
         assert_eq!(rt; is_equal(rt.alloc(), &tag, right)?, equal);
     }
     Ok(())
-}
-
-// Whether there is a value where one is wanted, and it is that.
-fn is_as_wanted(
-    alloc: Global,
-    found: Option<&Value>,
-    wanted: &Option<Plain>,
-) -> Result<bool, Fail> {
-    match (found, wanted) {
-        (Some(found), Some(wanted)) => is(alloc, found, wanted),
-        (None, None) => Ok(true),
-        _ => Ok(false),
-    }
 }
 
 // Whether the value at a key is this.

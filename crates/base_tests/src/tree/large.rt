@@ -216,3 +216,29 @@ fn large_mappings(rt: HostRuntime) -> Result<(), Fail> {
     }
     Ok(())
 }
+
+// Whether each of so many keys is found by its text, and neither the next nor the beginning of each is.
+fn finds_texts(alloc: Global, mapping: &Mapping, count: u64) -> Result<bool, Fail> {
+    for n in 0..count {
+        let text = format!(in alloc; "key {n}")?;
+        if mapping.get(text.as_str()) != Some(&number(n)) {
+            return Ok(false);
+        }
+    }
+    let next = format!(in alloc; "key {count}")?;
+    Ok(mapping.get(&next).is_none() && mapping.get("key ").is_none())
+}
+
+// Whether the keys of a mapping of so many are found by their texts.
+fn is_found_by_text(alloc: Global, count: u64) -> Result<bool, Fail> {
+    let there = mapping(alloc, Keys::Texts, count, false)?;
+    finds_texts(alloc, &there, count)
+}
+
+#[test]
+fn texts_in_mappings(rt: HostRuntime) -> Result<(), Fail> {
+    for count in [0, 15, 16, 17, 33, 1000] {
+        assert!(rt; is_found_by_text(rt.alloc(), count)?, "{count}");
+    }
+    Ok(())
+}

@@ -60,6 +60,19 @@ pub fn is(alloc: Global, found: &Value, plain: &Plain) -> Result<bool, Fail> {
     Ok(*found == value(alloc, plain)?)
 }
 
+/// Whether there is a value where one is wanted, and it is that.
+pub fn is_as_wanted(
+    alloc: Global,
+    found: Option<&Value>,
+    wanted: &Option<Plain>,
+) -> Result<bool, Fail> {
+    match (found, wanted) {
+        (Some(found), Some(wanted)) => is(alloc, found, wanted),
+        (None, None) => Ok(true),
+        _ => Ok(false),
+    }
+}
+
 /// Whether a value's copy is equal to it.
 pub fn is_copied(alloc: Global, value: &Value) -> Result<bool, Fail> {
     Ok(value.copy(alloc)? == *value)
