@@ -1,3 +1,4 @@
 -- Lemmas of this crate.
-pub mod PlainTexts
+pub mod PlaceLaws
+mod PlainTexts
 pub mod Streams

@@ -1,7 +1,7 @@
 -- An event more, and what the events are at the end.
 use Rattle.std.proofs.Common.{◌≡◌, List, [], ◌∷◌, ◌++◌, Option, Some, refl, sym, ◌∙◌, ap, true, false, map}
 use Rattle.std.proofs.Common.{ℕ, length, reverse, subst}
-use Rattle.std.proofs.Common.{◌-◌, ◌<◌, ◌≤◌, All, arith}
+use Rattle.std.proofs.Common.{◌-◌, ◌<◌, ◌≤◌, All, IfSome, arith}
 use Rattle.std.proofs.lemmas.List.Elements.{All-get_or, All-push, All-weaker}
 use Rattle.std.proofs.lemmas.List.Sorted.{IsNonDecreasingBy-push}
 use Rattle.std.proofs.lemmas.List.{map-append, nil_from_length, reverse-append}
@@ -19,8 +19,9 @@ use Rattle.yaml_parse.specs.declared.frame.Phase.TheVariants as phase
 use Rattle.yaml_base.specs.StreamMachine.{State, before_stream, next_state, run, within}
 use Rattle.yaml_parse.specs.Frames.{state_of, is_done, open_of, open_behind, opens, ends_sequence, ends_mapping}
 use Rattle.yaml_parse.specs.Marks.{MarksAscend}
+use Rattle.yaml_parse.specs.Places.{AreInPlace, IsInPlace}
 use Rattle.yaml_parse.specs.PlainText.{SaySources, SaysSource}
-use Rattle.yaml_parse.specs.Shown.{AreShown, IsShown}
+use Rattle.yaml_parse.specs.Shown.{AreShown, IsShown, StandsAt, source_of}
 use Rattle.yaml_base.proofs.StreamMachineLaws.{run_append, whole_run, goes_on_run}
 
 -- the state after one event more
@@ -134,6 +135,14 @@ pub closes_mapping : (here : Frame) (opened : List Open) → ends_mapping (open_
     → next_state (within (open_of here ∷ opened)) mapping_end ≡ Some (within opened)
 closes_mapping here opened is = ends_a_mapping (open_of here) opened is
 
+-- an event moves the machine on from a state that is the same
+pub moves_still : (was now : Phase) (before outer : List (Frame × Position)) (event : PlainEvent)
+    → (to : List (Frame × Position) → State) → now ≡ was → outer ≡ before
+    → next_state (state_of was before) event ≡ Some (to before) → next_state (state_of now outer) event ≡ Some (to outer)
+moves_still was now before outer event to same_phase same_outer moves =
+    subst (λ os. next_state (state_of now os) event ≡ Some (to os)) (sym same_outer)
+    (subst (λ p. next_state (state_of p before) event ≡ Some (to before)) (sym same_phase) moves)
+
 -- the list of events that has grown by one
 pub goes_to : (before after : List (Event × Position)) (x : Event × Position) (old new : State)
     → after ≡ before ++ x ∷ [] → run (Some before_stream) (plain_events before) ≡ Some old
@@ -147,6 +156,12 @@ pub shown_to : (text : List ℕ) (before after : List (Event × Position)) (x : 
 shown_to text before after x is all here =
     subst (AreShown text) (sym is)
     (All-push (λ (e : Event × Position). IsShown text (event_of e.0) e.1) before x all here)
+
+-- a scalar is shown by each mark at its index
+pub shown_there : (text : List ℕ) (event : PlainEvent) (said begins : Position) → begins.index ≡ said.index
+    → IsShown text event said → IsShown text event begins
+shown_there text event said begins is shown =
+    subst (λ i. IfSome (source_of event) (StandsAt text i)) (sym is) shown
 
 -- so does each plain scalar of the list of events that has grown by one say its source
 pub said_to : (before after : List (Event × Position)) (x : Event × Position)
@@ -176,6 +191,12 @@ reached_to before after x reached now is last on here =
     (All-push (λ (e : Event × Position). e.1.index ≤ now) before x
     (All-weaker (λ (e : Event × Position). e.1.index ≤ reached) (λ (e : Event × Position). e.1.index ≤ now) (λ e h. omega arith) before last)
     (omega arith))
+
+-- so are the marks in place, with that of the new event
+pub placed_to : (text : List ℕ) (before after : List (Event × Position)) (x : Event × Position)
+    → after ≡ before ++ x ∷ [] → AreInPlace text before → IsInPlace text x.1 → AreInPlace text after
+placed_to text before after x is all here =
+    subst (AreInPlace text) (sym is) (All-push (λ (e : Event × Position). IsInPlace text e.1) before x all here)
 
 -- the list of collections that has grown by one
 pub opened_more : (outer more : List (Frame × Position)) (first : Frame) (x : Frame × Position)

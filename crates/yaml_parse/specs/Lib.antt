@@ -2,5 +2,6 @@
 pub mod Faults
 pub mod Frames
 pub mod Marks
+pub mod Places
 pub mod PlainText
 pub mod Shown

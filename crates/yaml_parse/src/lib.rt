@@ -10,6 +10,7 @@ mod frame;
 mod machine;
 mod node;
 mod parse;
+mod place;
 mod plain;
 mod properties;
 mod stream;

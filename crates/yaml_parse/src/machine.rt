@@ -1,6 +1,7 @@
 //! The machine that takes tokens one by one and gives events.
 
 ghost use Rattle.std.specs.Prelude.{◌≡◌};
+ghost use Rattle.yaml_parse.specs.Places.{place_of};
 
 use crate::fault::endless;
 use crate::frame::{Frame, Phase};
@@ -36,8 +37,9 @@ pub(crate) struct Span {
 const STEPS: usize = 8;
 
 impl<'a> Machine<'a> {
-    // A parser that has taken no token. Takes no memory.
+    // A parser that has taken no token of a text that begins at this mark. Takes no memory.
     pub(crate) fn new(alloc: Global, text: &'a [u8], start: Mark) -> Machine<'a>
+        requires { (start.line, start.column) ≡ place_of text.now start.index }
         ensures { result.stream.text.now ≡ text.now }
     {
         Machine {

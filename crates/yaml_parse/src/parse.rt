@@ -7,6 +7,7 @@ ghost use Rattle.yaml_base.specs.Stream.{IsWellFormed};
 ghost use Rattle.yaml_base.specs.declared.fault.FaultKind.TheVariants as kind;
 ghost use Rattle.yaml_parse.specs.Faults.{IsNotReaders, IsToldBy};
 ghost use Rattle.yaml_parse.specs.Marks.{MarksAscend};
+ghost use Rattle.yaml_parse.specs.Places.{AreInPlace};
 ghost use Rattle.yaml_parse.specs.PlainText.{SaySources};
 ghost use Rattle.yaml_parse.specs.Shown.{AreShown};
 
@@ -28,7 +29,9 @@ pub struct Parsed<'a> {
 }
 
 // The mark of the first byte.
-fn start_mark() -> Mark {
+fn start_mark() -> Mark
+    ensures { result ≡ record { index = 0; line = 0; column = 0 } }
+{
     match Mark::new(0, 0, 0) {
         Some(mark) => mark,
         None => unreachable!(),
@@ -60,6 +63,7 @@ pub fn parse_tokens<'a>(
     ensures sources { IfOk result (λ parsed. AreShown text.now parsed.events.items) }
     ensures plain { IfOk result (λ parsed. SaySources parsed.events.items) }
     ensures marks { IfOk result (λ parsed. MarksAscend text.now parsed.events.items) }
+    ensures places { IfOk result (λ parsed. AreInPlace text.now parsed.events.items) }
     ensures found { IfOk result (λ parsed. is_some parsed.found ≡ is_some parsed.fault) }
     ensures not_readers { ForSome fault (λ f. f.kind ≢ kind.Reader) →
         IfOk result (λ parsed. IsNotReaders parsed.fault) }

@@ -1,6 +1,6 @@
 //! The events of a stream, and which may come next.
 
-ghost use Rattle.std.specs.Prelude.{◌≡◌, ◌≤◌, ◌∷◌, [], All, IfSome, OnOk, Some, false, length, true};
+ghost use Rattle.std.specs.Prelude.{◌≡◌, ◌≤◌, ◌∷◌, [], All, IfOk, IfSome, OnOk, Some, false, length, true};
 ghost use Rattle.std.specs.Option.{option_map};
 ghost use Rattle.std.proofs.Props.{props};
 ghost use Rattle.yaml_base.specs.MarkedEvents.{plain_events};
@@ -10,11 +10,13 @@ ghost use Rattle.yaml_base.specs.StreamMachine.{before_stream, next_state, run, 
 ghost use Rattle.yaml_base.specs.declared.open.Open.TheVariants.{Key, Sequence};
 ghost use Rattle.yaml_parse.specs.Frames.{is_done, open_of, opens, state_of};
 ghost use Rattle.yaml_parse.specs.Marks.{MarksAscend};
+ghost use Rattle.yaml_parse.specs.Places.{AreInPlace, IsInPlace, place_of};
 ghost use Rattle.yaml_parse.specs.PlainText.{SaySources, SaysItsSource, SaysSource};
 ghost use Rattle.yaml_parse.specs.Shown.{AreShown, IsShown, StandsAt};
 
 use crate::fault::misplaced;
 use crate::frame::{Frame, Phase, behind, is_key, is_same, is_sequence};
+use crate::place::{mark_at, mark_of_event};
 use std::alloc::Global;
 use yaml_base::{Anchor, Event, MappingStart, Mark, Scalar, SequenceStart};
 use yaml_token::Stop;
@@ -29,18 +31,21 @@ pub(crate) struct Stream<'a> {
     opened: Mark,
     // What the collections around the innermost wait for, and where they began, the outermost first.
     outer: Vec<(Frame, Mark)>,
-    // The index of the last event's mark.
-    reached: u64,
+    // The place in the text where the last event begins.
+    reached: Mark,
     ghost ran: { run (Some before_stream) (plain_events events.items) ≡ Some (state_of phase outer.items) } by { Prim.hlevel props },
     ghost shown: { AreShown text.now events.items } by { Prim.hlevel props },
     ghost plain: { SaySources events.items } by { Prim.hlevel props },
     ghost marks: { MarksAscend text.now events.items },
-    ghost last: { All (λ e. e.1.index ≤ reached) events.items },
+    ghost last: { All (λ e. e.1.index ≤ reached.index) events.items },
+    ghost places: { AreInPlace text.now events.items } by { Prim.hlevel props },
+    ghost here: { (reached.line, reached.column) ≡ place_of text.now reached.index },
 }
 
 impl<'a> Stream<'a> {
-    // No events of this text. Takes no memory.
+    // No events of this text, which begins at this mark. Takes no memory.
     pub(crate) fn new(alloc: Global, text: &'a [u8], start: Mark) -> Stream<'a>
+        requires { (start.line, start.column) ≡ place_of text.now start.index }
         ensures { result.text.now ≡ text.now }
     {
         Stream {
@@ -49,7 +54,7 @@ impl<'a> Stream<'a> {
             phase: Phase::Before,
             opened: start,
             outer: Vec::new(alloc),
-            reached: 0,
+            reached: start,
         }
     }
 
@@ -88,6 +93,7 @@ impl<'a> Stream<'a> {
         ensures shown { AreShown self.entry.text.now result.items }
         ensures plain { SaySources result.items }
         ensures marks { MarksAscend self.entry.text.now result.items }
+        ensures places { AreInPlace self.entry.text.now result.items }
     {
         self.events
     }
@@ -100,19 +106,29 @@ impl<'a> Stream<'a> {
         ensures shown { AreShown self.entry.text.now result.items }
         ensures plain { SaySources result.items }
         ensures marks { MarksAscend self.entry.text.now result.items }
+        ensures places { AreInPlace self.entry.text.now result.items }
     {
         self.events
     }
 
-    // Whether an event may begin here: within the text, and not before the last one.
-    fn check(&self, mark: Mark) -> Result<(), Stop>
-        ensures { OnOk result ((self.now.reached ≤ mark.index) × (mark.index ≤ length self.now.text.now)) }
+    // The mark at which an event begins that is said to begin here, with the line and the column that the text has there,
+    // if it may: within the text, and not before the last one.
+    fn reach(&mut self, said: Mark) -> Result<Mark, Stop>
+        ensures text { self.new.text.now ≡ self.old.text.now }
+        ensures events { self.new.events.items ≡ self.old.events.items }
+        ensures phase { self.new.phase ≡ self.old.phase }
+        ensures opened { self.new.opened ≡ self.old.opened }
+        ensures outer { self.new.outer.items ≡ self.old.outer.items }
+        ensures within { OnOk result (said.index ≤ length self.new.text.now) }
+        ensures here { OnOk result (self.new.reached.index ≡ said.index) }
+        ensures index { IfOk result (λ mark. mark.index ≡ said.index) }
+        ensures place { IfOk result (λ mark. IsInPlace self.new.text.now mark) }
     {
-        if self.reached <= mark.index() && mark.index() <= self.text.len() as u64 {
-            Ok(())
-        } else {
-            Err(misplaced(mark))
+        if said.index() < self.reached.index() || said.index() > self.text.len() as u64 {
+            return Err(misplaced(said));
         }
+        self.reached = mark_at(self.text, self.reached, said.index());
+        Ok(mark_of_event(self.text, self.reached, said))
     }
 
     // An event at which no collection begins or ends.
@@ -123,10 +139,9 @@ impl<'a> Stream<'a> {
         requires plain { SaysSource (event_of event) }
         ensures { self.new.text.now ≡ self.old.text.now }
     {
-        self.check(mark)?;
+        let begins = self.reach(mark)?;
         self.events.reserve(1)?;
-        self.events.push_reserved((event, mark));
-        self.reached = mark.index();
+        self.events.push_reserved((event, begins));
         self.phase = phase;
         Ok(())
     }
@@ -232,10 +247,9 @@ impl<'a> Stream<'a> {
         requires plain { SaysSource (event_of event) }
         ensures { self.new.text.now ≡ self.old.text.now }
     {
-        self.check(mark)?;
+        let begins = self.reach(mark)?;
         self.events.reserve(1)?;
-        self.events.push_reserved((event, mark));
-        self.reached = mark.index();
+        self.events.push_reserved((event, begins));
         self.outer.clear();
         self.phase = Phase::Within(first);
         self.opened = start;
@@ -257,11 +271,10 @@ impl<'a> Stream<'a> {
         requires plain { SaysSource (event_of event) }
         ensures { self.new.text.now ≡ self.old.text.now }
     {
-        self.check(mark)?;
+        let begins = self.reach(mark)?;
         self.events.reserve(1)?;
         self.outer.reserve(1)?;
-        self.events.push_reserved((event, mark));
-        self.reached = mark.index();
+        self.events.push_reserved((event, begins));
         self.outer.push_reserved((back, self.opened));
         self.phase = Phase::Within(first);
         self.opened = start;
@@ -316,10 +329,9 @@ impl<'a> Stream<'a> {
         requires plain { SaysSource (event_of event) }
         ensures { self.new.text.now ≡ self.old.text.now }
     {
-        self.check(mark)?;
+        let begins = self.reach(mark)?;
         self.events.reserve(1)?;
-        self.events.push_reserved((event, mark));
-        self.reached = mark.index();
+        self.events.push_reserved((event, begins));
         match self.outer.pop() {
             Some((frame, start)) => {
                 self.phase = Phase::Within(frame);

@@ -6,6 +6,7 @@ ghost use Rattle.yaml_base.specs.MarkedEvents.{plain_events};
 ghost use Rattle.yaml_base.specs.Stream.{IsWellFormed};
 ghost use Rattle.yaml_parse.specs.Faults.{IsNotReaders};
 ghost use Rattle.yaml_parse.specs.Marks.{MarksAscend};
+ghost use Rattle.yaml_parse.specs.Places.{AreInPlace};
 ghost use Rattle.yaml_parse.specs.PlainText.{SaySources};
 ghost use Rattle.yaml_parse.specs.Shown.{AreShown};
 ghost use Rattle.yaml_scan.specs.AllowedText.{IsAllowed, IsOfReader};
@@ -26,6 +27,7 @@ pub fn parse<'a>(alloc: Global, text: &'a [u8]) -> Result<Parsed<'a>, AllocError
     ensures sources { IfOk result (λ parsed. AreShown text.now parsed.events.items) }
     ensures plain { IfOk result (λ parsed. SaySources parsed.events.items) }
     ensures marks { IfOk result (λ parsed. MarksAscend text.now parsed.events.items) }
+    ensures places { IfOk result (λ parsed. AreInPlace text.now parsed.events.items) }
     ensures allowed { IfOk result (λ parsed. IsAllowed text.now → IsNotReaders parsed.fault) }
     ensures refused { IfOk result (λ parsed. (IsAllowed text.now → ⊥) →
         (parsed.events.items ≡ []) × IsSomeAnd parsed.fault (λ f. IsOfReader text.now f.kind f.offset)) }

@@ -1,29 +1,42 @@
 -- The events lead to the next phase.
-use Rattle.std.proofs.Common.{◌∷◌, ◌++◌, [], ◌∙◌, ap}
+use Rattle.std.proofs.Common.{◌≡◌, ◌∷◌, ◌++◌, [], ◌∙◌, ap, sym, subst, arith}
+use Rattle.yaml_base.specs.PlainEvent.{event_of}
 use Rattle.yaml_base.specs.Position.{Position}
+use Rattle.yaml_base.specs.StreamMachine.{within}
 use Rattle.yaml_base.specs.declared.event.Event.{Event}
-use Rattle.yaml_parse.specs.Frames.{state_of}
-use Rattle.yaml_parse.proofs.Streams.{marks_to, reached_to, said_to, shown_to, goes_to}
+use Rattle.yaml_parse.specs.declared.frame.Frame.{Frame}
+use Rattle.yaml_parse.specs.Frames.{open_of, opens, state_of}
+use Rattle.yaml_parse.specs.Shown.{IsShown}
+use Rattle.yaml_parse.proofs.Streams.{goes_to, marks_to, moves_still, placed_to, reached_to, said_to, shown_there, shown_to}
 use Rattle.yaml_parse.proofs.stream.Stream.add.Goals as goal
 
 pub invariant_of-self-2 : goal.invariant_of-self-2
 invariant_of-self-2 c =
     let old = c.args.self.now in
-    let x : Event × Position = (c.args.event, c.args.mark) in
+    let now = c.reach.new.self in
+    let said = c.args.mark in
+    let begins = c.in_ok-begins.begins in
+    let x : Event × Position = (c.args.event, begins) in
+    let grown : c.push_reserved.new.self.items ≡ now.events.items ++ x ∷ [] =
+    c.push_reserved.ensures.items ∙ ap (λ es. es ++ x ∷ []) c.reserve.ensures.items in
+    let shown =
+    shown_there now.text.now (event_of c.args.event) said begins c.in_ok-begins.ensures.index
+    (subst (λ t. IsShown t (event_of c.args.event) said) (sym c.in_ok-begins.ensures.text) c.requires.shown) in
+    let moves =
+    moves_still old.phase now.phase old.outer.items now.outer.items (event_of c.args.event) (λ os. state_of c.args.phase os)
+    c.in_ok-begins.ensures.phase c.in_ok-begins.ensures.outer c.requires.moves in
+    let index = c.in_ok-begins.ensures.index in
+    let here = c.in_ok-begins.ensures.here in
     record {
-      ran = goes_to old.events.items c.push_reserved.new.self.items x (state_of old.phase old.outer.items)
-          (state_of c.args.phase old.outer.items)
-          (c.push_reserved.ensures.items ∙ ap (λ es. es ++ x ∷ []) c.reserve.ensures.items) old.ran c.requires.moves;
-      shown = shown_to old.text.now old.events.items c.push_reserved.new.self.items x
-          (c.push_reserved.ensures.items ∙ ap (λ es. es ++ x ∷ []) c.reserve.ensures.items) old.shown
-          c.requires.shown;
-      plain = said_to old.events.items c.push_reserved.new.self.items x
-          (c.push_reserved.ensures.items ∙ ap (λ es. es ++ x ∷ []) c.reserve.ensures.items) old.plain
-          c.requires.plain;
-      marks = marks_to old.text.now old.events.items c.push_reserved.new.self.items x old.reached
-          (c.push_reserved.ensures.items ∙ ap (λ es. es ++ x ∷ []) c.reserve.ensures.items) old.marks old.last
-          c.in_ok-check.ensures.0 c.in_ok-check.ensures.1;
-      last = reached_to old.events.items c.push_reserved.new.self.items x old.reached c.index-self.result
-          (c.push_reserved.ensures.items ∙ ap (λ es. es ++ x ∷ []) c.reserve.ensures.items) old.last
-          c.in_ok-check.ensures.0 c.index-self.ensures;
+      ran = goes_to now.events.items c.push_reserved.new.self.items x (state_of now.phase now.outer.items) _ grown
+          now.ran moves;
+      shown = shown_to now.text.now now.events.items c.push_reserved.new.self.items x grown now.shown shown;
+      plain = said_to now.events.items c.push_reserved.new.self.items x grown now.plain c.requires.plain;
+      marks = marks_to now.text.now now.events.items c.push_reserved.new.self.items x now.reached.index grown now.marks
+          now.last (omega (arith, index, here)) (omega (arith, index, c.in_ok-begins.ensures.within));
+      last = reached_to now.events.items c.push_reserved.new.self.items x now.reached.index now.reached.index grown
+          now.last (omega (arith, index, here)) (omega (arith, index, here));
+      places = placed_to now.text.now now.events.items c.push_reserved.new.self.items x grown now.places
+          c.in_ok-begins.ensures.place;
+      here = now.here;
     }
