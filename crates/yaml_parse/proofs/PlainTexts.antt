@@ -1,5 +1,5 @@
 -- What the rest of a source says.
-use Rattle.std.proofs.Common.{◌≡◌, ℕ, ◌+◌, ◌-◌, ◌<◌, ◌≤◌, List, Option, None, Some, IfSome, length, drop, min, refl, sym, ap, subst, ◌∙◌, arith, false}
+use Rattle.std.proofs.Common.{◌≡◌, ℕ, ◌+◌, ◌-◌, ◌<◌, ◌≤◌, List, Option, None, length, drop, min, sym, ap, subst, ◌∙◌, arith}
 use Rattle.std.proofs.lemmas.List.{drop-drop, length-drop}
 use Rattle.yaml_parse.specs.PlainText.{IsOneLine, begins_with_break}
 
@@ -16,12 +16,11 @@ last_bytes n bytes h =
     ap (λ k. drop k bytes) count
 
 -- a text that is its own bytes says them
-pub says : (source : Option (List ℕ)) (own text : List ℕ) (front : ℕ) (anchor tag : Option (List ℕ)) (Q : Type 0)
-    → IfSome source (λ s. own ≡ drop (min front (length s)) s) → (IsOneLine own → text ≡ own)
-    → (anchor ≡ None → tag ≡ None → front ≡ 0)
-    → IfSome source (λ s. Q → IsOneLine s → (text ≡ drop (length s - length text) s) × (anchor ≡ None → tag ≡ None → text ≡ s))
-says None own text front anchor tag Q is same bare = tt
-says (Some s) own text front anchor tag Q is same bare = λ q line.
+pub says : (source own text : List ℕ) (front : ℕ) (anchor tag : Option (List ℕ)) (Q : Type 0)
+    → own ≡ drop (min front (length source)) source → (IsOneLine own → text ≡ own)
+    → (anchor ≡ None → tag ≡ None → front ≡ 0) → Q → IsOneLine source
+    → (text ≡ drop (length source - length text) source) × (anchor ≡ None → tag ≡ None → text ≡ source)
+says s own text front anchor tag Q is same bare = λ q line.
     let n : ℕ = min front (length s) in
     let own_line : IsOneLine own = subst IsOneLine (sym is) (rest_has_none n s line) in
     let all : text ≡ drop n s = same own_line ∙ is in (

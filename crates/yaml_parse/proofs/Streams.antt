@@ -1,7 +1,7 @@
 -- An event more, and what the events are at the end.
 use Rattle.std.proofs.Common.{◌≡◌, List, [], ◌∷◌, ◌++◌, Option, Some, refl, sym, ◌∙◌, ap, true, false, map}
 use Rattle.std.proofs.Common.{ℕ, length, reverse, subst}
-use Rattle.std.proofs.Common.{◌-◌, ◌<◌, ◌≤◌, All, IfSome, arith}
+use Rattle.std.proofs.Common.{◌-◌, ◌<◌, ◌≤◌, All, IfSome, IsSomeAnd, arith}
 use Rattle.std.proofs.lemmas.List.Elements.{All-get_or, All-push, All-weaker}
 use Rattle.std.proofs.lemmas.List.Sorted.{IsNonDecreasingBy-push}
 use Rattle.std.proofs.lemmas.List.{map-append, nil_from_length, reverse-append}
@@ -20,8 +20,8 @@ use Rattle.yaml_base.specs.StreamMachine.{State, before_stream, next_state, run,
 use Rattle.yaml_parse.specs.Frames.{state_of, is_done, open_of, open_behind, opens, ends_sequence, ends_mapping}
 use Rattle.yaml_parse.specs.Marks.{MarksAscend}
 use Rattle.yaml_parse.specs.Places.{AreInPlace, IsInPlace}
-use Rattle.yaml_parse.specs.PlainText.{SaySources, SaysSource}
-use Rattle.yaml_parse.specs.Shown.{AreShown, IsShown, StandsAt, source_of}
+use Rattle.yaml_parse.specs.PlainText.{SaySources, SaysSource, scalar_in}
+use Rattle.yaml_parse.specs.Shown.{AreShown, IsShown, StandsAt}
 use Rattle.yaml_base.proofs.StreamMachineLaws.{run_append, whole_run, goes_on_run}
 
 -- the state after one event more
@@ -161,7 +161,7 @@ shown_to text before after x is all here =
 pub shown_there : (text : List ℕ) (event : PlainEvent) (said begins : Position) → begins.index ≡ said.index
     → IsShown text event said → IsShown text event begins
 shown_there text event said begins is shown =
-    subst (λ i. IfSome (source_of event) (StandsAt text i)) (sym is) shown
+    subst (λ i. IfSome (scalar_in event) (λ s. IsSomeAnd s.source (StandsAt text i))) (sym is) shown
 
 -- so does each plain scalar of the list of events that has grown by one say its source
 pub said_to : (before after : List (Event × Position)) (x : Event × Position)

@@ -1,22 +1,18 @@
 -- Where the sources of scalars lie in a text.
-use Rattle.std.specs.Prelude.{◌≡◌, ◌+◌, ◌≤◌, ℕ, All, IfSome, List, None, Option, length, slice_range}
+use Rattle.std.specs.Prelude.{◌≡◌, ◌+◌, ◌≤◌, ℕ, All, IfSome, IsSomeAnd, List, length, slice_range}
 use Rattle.yaml_base.specs.Position.{Position}
-use Rattle.yaml_base.specs.PlainEvent.{PlainEvent, event_of, scalar}
+use Rattle.yaml_base.specs.PlainEvent.{PlainEvent, event_of}
 use Rattle.yaml_base.specs.declared.event.Event.{Event}
-
--- the source of a scalar, where that is known
-abbrev pub source_of : PlainEvent → Option (List ℕ)
-source_of (scalar s) = s.source
-source_of _ = None
+use Rattle.yaml_parse.specs.PlainText.{scalar_in}
 
 -- the bytes stand in the text from this index on
 abbrev pub StandsAt : List ℕ → ℕ → List ℕ → Type 0
 StandsAt text index bytes =
     (index + length bytes ≤ length text) × (bytes ≡ slice_range text index (index + length bytes))
 
--- a scalar's source, where that is known, stands in the text where the event begins
+-- the source of a scalar is known, and stands in the text where the event begins
 abbrev pub IsShown : List ℕ → PlainEvent → Position → Type 0
-IsShown text event mark = IfSome (source_of event) (StandsAt text mark.index)
+IsShown text event mark = IfSome (scalar_in event) (λ s. IsSomeAnd s.source (StandsAt text mark.index))
 
 -- so does that of each of the events
 abbrev pub AreShown : List ℕ → List (Event × Position) → Type 0

@@ -1,7 +1,6 @@
 //! Nodes, and what stands before them.
 
-ghost use Rattle.std.specs.Prelude.{◌≡◌, ◌≢◌, IfSome, None, drop, length, min, true};
-ghost use Rattle.std.specs.Option.{option_map};
+ghost use Rattle.std.specs.Prelude.{◌≡◌, ◌≢◌, None, drop, length, min, true};
 ghost use Rattle.yaml_base.specs.declared.event.ScalarStyle.TheVariants as written;
 ghost use Rattle.yaml_base.specs.declared.open.Open.TheVariants.{Key, Sequence};
 ghost use Rattle.yaml_parse.specs.Frames.{open_of};
@@ -60,14 +59,11 @@ impl Named {
     }
 }
 
-// The bytes of a source from this index on; none where there is no source, or it is shorter.
-fn text_in(source: Option<&[u8]>, front: usize) -> &[u8]
-    ensures { IfSome (option_map (λ r. r.now) source.entry) (λ s. result.now ≡ drop (min front (length s)) s) }
+// The bytes of a source from this index on; none where it is shorter.
+fn text_in(source: &[u8], front: usize) -> &[u8]
+    ensures { result.now ≡ drop (min front (length source.now)) source.now }
 {
-    match source {
-        Some(source) => &source[front.min(source.len())..],
-        None => &[],
-    }
+    &source[front.min(source.len())..]
 }
 
 impl<'a> Machine<'a> {
@@ -239,15 +235,15 @@ impl<'a> Machine<'a> {
     {
         let start = named.start_before(text.start);
         let front = named.len_before(text.start);
-        let repr = self.stream.source(start, text.end);
-        let value = plain_text(self.alloc, text_in(repr, front))?;
+        let source = self.stream.source(start, text.end)?;
+        let value = plain_text(self.alloc, text_in(source, front))?;
         let Named { anchor, tag, .. } = named;
         let scalar = Scalar {
             anchor,
             tag,
             value,
             style: ScalarStyle::Plain,
-            repr,
+            repr: Some(source),
         };
         self.stream.scalar(scalar, start)
     }
@@ -269,13 +265,13 @@ impl<'a> Machine<'a> {
             start,
             ..
         } = named;
-        let repr = self.stream.source(start, end);
+        let source = self.stream.source(start, end)?;
         let scalar = Scalar {
             anchor,
             tag,
             value,
             style,
-            repr,
+            repr: Some(source),
         };
         self.stream.scalar(scalar, start)
     }

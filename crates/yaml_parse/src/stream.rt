@@ -1,6 +1,6 @@
 //! The events of a stream, and which may come next.
 
-ghost use Rattle.std.specs.Prelude.{◌≡◌, ◌≤◌, ◌∷◌, [], All, IfOk, IfSome, OnOk, Some, false, length, true};
+ghost use Rattle.std.specs.Prelude.{◌≡◌, ◌≤◌, ◌∷◌, [], All, IfOk, IsSomeAnd, OnOk, Some, false, length, true};
 ghost use Rattle.std.specs.Option.{option_map};
 ghost use Rattle.std.proofs.Props.{props};
 ghost use Rattle.yaml_base.specs.MarkedEvents.{plain_events};
@@ -68,14 +68,17 @@ impl<'a> Stream<'a> {
         self.opened
     }
 
-    // The bytes of the text between two marks, if both lie in it, in this order.
-    pub(crate) fn source(&self, start: Mark, end: Mark) -> Option<&'a [u8]>
-        ensures { IfSome (option_map (λ r. r.now) result) (StandsAt self.now.text.now start.index) }
+    // The bytes of the text from a mark on up to another one, if the first lies in the text.
+    pub(crate) fn source(&self, start: Mark, end: Mark) -> Result<&'a [u8], Stop>
+        ensures { IfOk result (λ bytes. StandsAt self.now.text.now start.index bytes.now) }
     {
-        match self.text.get(start.index() as usize..end.index() as usize) {
-            Some(bytes) => Some(bytes),
-            None => None,
+        let text = self.text;
+        if start.index() > text.len() as u64 {
+            return Err(misplaced(start));
         }
+        let from = start.index() as usize;
+        let to = (end.index() as usize).min(text.len()).max(from);
+        Ok(&text[from..to])
     }
 
     // Whether the stream has ended.
@@ -202,7 +205,7 @@ impl<'a> Stream<'a> {
     // A scalar.
     #[tactic(auto, using(crate::proofs::Streams::passes_scalar))]
     pub(crate) fn scalar(&mut self, scalar: Scalar<'a>, mark: Mark) -> Result<(), Stop>
-        requires shown { IfSome (option_map (λ r. r.now) scalar.repr) (StandsAt self.old.text.now mark.index) }
+        requires shown { IsSomeAnd (option_map (λ r. r.now) scalar.repr) (StandsAt self.old.text.now mark.index) }
         requires plain { SaysItsSource (scalar_of scalar) }
         ensures { self.new.text.now ≡ self.old.text.now }
     {

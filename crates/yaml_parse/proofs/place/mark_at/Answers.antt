@@ -11,15 +11,15 @@ loop-at-preserved c =
     let line = c.loop-at.line in
     let column = c.loop-at.column in
     elim c.if-ends_line.branch [
-        then-ends_line w ↦
-            goes_to_line text at line column _ _ c.loop-at.invariant (sym c.ends_line.ensures ∙ w.if-ends_line.true) w.line-is
-            w.column-is
-        | else-ends_line+then-begins_character w ↦
-            goes_to_column text at line column _ _ c.loop-at.invariant (sym c.ends_line.ensures ∙ w.if-ends_line.false)
-            (sym w.begins_character.ensures ∙ w.if-begins_character.true) w.line-is w.column-is
-        | else-ends_line+else-begins_character w ↦
-            stays_there text at line column _ _ c.loop-at.invariant (sym c.ends_line.ensures ∙ w.if-ends_line.false)
-            (sym w.begins_character.ensures ∙ w.if-begins_character.false) w.line-is w.column-is
+      | then-ends_line w ↦
+          goes_to_line text at line column _ _ c.loop-at.invariant (sym c.ends_line.ensures ∙ w.if-ends_line.true) w.line-is
+          w.column-is
+      | else-ends_line+then-begins_character w ↦
+          goes_to_column text at line column _ _ c.loop-at.invariant (sym c.ends_line.ensures ∙ w.if-ends_line.false)
+          (sym w.begins_character.ensures ∙ w.if-begins_character.true) w.line-is w.column-is
+      | else-ends_line+else-begins_character w ↦
+          stays_there text at line column _ _ c.loop-at.invariant (sym c.ends_line.ensures ∙ w.if-ends_line.false)
+          (sym w.begins_character.ensures ∙ w.if-begins_character.false) w.line-is w.column-is
     ]
 
 pub overflow_add-line : goal.overflow_add-line

@@ -2,10 +2,8 @@
 use Rattle.std.proofs.Common.{◌≡◌, ◌∷◌, ◌++◌, [], ◌∙◌, ap, sym, subst, arith}
 use Rattle.yaml_base.specs.PlainEvent.{event_of}
 use Rattle.yaml_base.specs.Position.{Position}
-use Rattle.yaml_base.specs.StreamMachine.{within}
 use Rattle.yaml_base.specs.declared.event.Event.{Event}
-use Rattle.yaml_parse.specs.declared.frame.Frame.{Frame}
-use Rattle.yaml_parse.specs.Frames.{open_of, opens, state_of}
+use Rattle.yaml_parse.specs.Frames.{state_of}
 use Rattle.yaml_parse.specs.Shown.{IsShown}
 use Rattle.yaml_parse.proofs.Streams.{goes_to, marks_to, moves_still, placed_to, reached_to, said_to, shown_there, shown_to}
 use Rattle.yaml_parse.proofs.stream.Stream.add.Goals as goal
