@@ -2,5 +2,6 @@
 pub mod FirstDocument
 pub mod KindLaws
 pub mod HeadlineLaws
+pub mod TextFaults
 pub mod TextLaws
 pub mod TypedLaws

@@ -10,7 +10,7 @@ ghost use Rattle.yaml_shape.specs.PlainShape.{PlainShape, shape_at};
 ghost use Rattle.yaml_read.specs.TreeReader.{default_limits};
 ghost use Rattle.serde_yaml.specs.Headline.{GivesMeaning};
 ghost use Rattle.serde_yaml.specs.StreamReads.{stream_of};
-ghost use Rattle.serde_yaml.specs.TextReads.{IsParsed};
+ghost use Rattle.serde_yaml.specs.TextReads.{IsOfAStream, IsParsed};
 ghost use Rattle.serde_yaml.specs.TypedHeadline.{GivesValue};
 ghost use Rattle.serde_yaml.specs.TypedReads.{TypeGives};
 
@@ -40,18 +40,20 @@ fn parsed<'de>(alloc: Global, text: &'de [u8]) -> Result<Parsed<'de>>
 /// It is the text's events, as libyaml's parser makes them, and then `from_events`. A text that can't be parsed is
 /// refused by the parser's fault, unless what stands before it is refused earlier.
 pub fn from_str<'de, T: Deserialize<'de>>(alloc: Global, text: &'de str) -> Result<T>
-    ensures { Answers (λ value. value) result (λ given. IsParsed (λ events fault.
+    ensures given { Answers (λ value. value) result (λ given. IsParsed (λ events fault.
         GivesValue default_limits T.start T.built T.refused events fault given
         × TypeGives default_limits T.start T.built T.refused events fault given)) }
+    ensures stream { IsOfAStream result }
 {
     from_slice(alloc, text.as_bytes())
 }
 
 /// The same of bytes, which are refused with the place of the first one that UTF-8 or YAML does not allow.
 pub fn from_slice<'de, T: Deserialize<'de>>(alloc: Global, text: &'de [u8]) -> Result<T>
-    ensures { Answers (λ value. value) result (λ given. IsParsed (λ events fault.
+    ensures given { Answers (λ value. value) result (λ given. IsParsed (λ events fault.
         GivesValue default_limits T.start T.built T.refused events fault given
         × TypeGives default_limits T.start T.built T.refused events fault given)) }
+    ensures stream { IsOfAStream result }
 {
     from_slice_limited(alloc, text, Limits::DEFAULT)
 }
@@ -62,9 +64,10 @@ pub fn from_slice_limited<'de, T: Deserialize<'de>>(
     text: &'de [u8],
     limits: Limits,
 ) -> Result<T>
-    ensures { Answers (λ value. value) result (λ given. IsParsed (λ events fault.
+    ensures given { Answers (λ value. value) result (λ given. IsParsed (λ events fault.
         GivesValue limits T.start T.built T.refused events fault given
         × TypeGives limits T.start T.built T.refused events fault given)) }
+    ensures stream { IsOfAStream result }
 {
     let Parsed { events, fault, .. } = parsed(alloc, text)?;
     from_events_limited(alloc, events, fault, limits)
@@ -85,6 +88,7 @@ pub fn data_from_str<'de>(
     ensures meaning { (s : PlainShape) → shape_at schema.now id.0 ≡ Some s → Answers data_of result (λ given.
         IsParsed (λ events fault. GivesMeaning limits schema.now s events fault given)) }
     ensures typed { IfOk result (λ found. HasShape schema.now id.0 (data_of found)) }
+    ensures stream { IsOfAStream result }
 {
     data_from_slice(alloc, text.as_bytes(), schema, id, limits)
 }
@@ -101,6 +105,7 @@ pub fn data_from_slice<'de>(
     ensures meaning { (s : PlainShape) → shape_at schema.now id.0 ≡ Some s → Answers data_of result (λ given.
         IsParsed (λ events fault. GivesMeaning limits schema.now s events fault given)) }
     ensures typed { IfOk result (λ found. HasShape schema.now id.0 (data_of found)) }
+    ensures stream { IsOfAStream result }
 {
     let Parsed { events, fault, .. } = parsed(alloc, text)?;
     data_from_events(alloc, events, fault, schema, id, limits)
