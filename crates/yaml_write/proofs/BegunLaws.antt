@@ -1,7 +1,7 @@
 -- What each call leaves is a beginning of a stream.
 use Rattle.std.proofs.Common.{◌≡◌, ℕ, suc, ◌+◌, ◌++◌, ◌∷◌, [], List, length, length-append, Bool, true, false, not}
 use Rattle.std.proofs.Common.{◌&&◌, Option, Result, Ok, Err, refl, sym, ap, ◌∙◌, arith, append_assoc, subst}
-use Rattle.std.specs.Prelude.{if◌then◌else◌, option_to_list, reverse, Some, None}
+use Rattle.std.specs.Prelude.{if◌then◌else◌, option_to_list, map, Some, None}
 use Rattle.std.proofs.lemmas.List.{append-nil, reverse-append}
 use Rattle.yaml_base.specs.EmitEvents.{emit_stream_start, emit_document_start}
 use Rattle.yaml_base.specs.EmitEvents.{emit_document_end, emit_sequence_start, emit_sequence_end, emit_mapping_start}
@@ -12,12 +12,13 @@ use Rattle.yaml_base.specs.EmitTree.{emit_nodes_events, emit_pairs_events, emit_
 use Rattle.yaml_base.specs.declared.error.Cause.{Cause}
 use Rattle.yaml_write.specs.Begun.{Begun, row_events, beginning_events, document_beginning, is_odd, open_of, open_all}
 use Rattle.yaml_write.specs.Begun.{writing_of, IsBegun}
+use Rattle.yaml_write.specs.CollectionView.{open_collection, open_collections}
+use Rattle.yaml_write.specs.Collections.{CollectionKind}
 use Rattle.yaml_write.specs.Outcomes.{Outcome, made}
 use Rattle.yaml_write.specs.Opened.{CanEnd}
 use Rattle.yaml_write.specs.Writing.{Writing, is_mapping, start_of, end_of, turned, with_node, with_both, with_opened}
 use Rattle.yaml_write.specs.Writing.{with_closed, outer_of}
 use Rattle.yaml_write.specs.declared.open.Open.{Open}
-use Rattle.yaml_write.specs.declared.open.OpenKind.{OpenKind}
 
 -- one document more
 documents-more : (roots : List EmitNode) (root : EmitNode) → emit_documents_events (roots ++ root ∷ [])
@@ -93,23 +94,24 @@ pub placed : (w : Writing) (node : EmitNode) → IsBegun w → IsBegun (with_nod
 placed w node h = subst (λ (v : Writing). IsBegun (with_node v node)) (sym h.2) (placed-as h.0 h.1 node)
 
 -- the collection at its beginning
-pub at_start : OpenKind → Option (List ℕ) → Begun
+pub at_start : CollectionKind → Option (List ℕ) → Begun
 at_start kind tag = record { kind = kind; tag = tag; nodes = [] }
 
 never : (mapping : Bool) → false ≡ (mapping && false)
 never true = refl
 never false = refl
 
-start-open : (kind : OpenKind) (tag : Option (List ℕ)) → record { kind = kind; awaits_value = false }
+start-open : (kind : CollectionKind) (tag : Option (List ℕ)) → record { kind = kind; awaits_value = false }
     ≡ open_of 0 (at_start kind tag)
 unfolding at_start
 start-open kind tag = ap (λ a. record { kind = kind; awaits_value = a }) (never (is_mapping kind))
 
-start-events : (kind : OpenKind) (tag : Option (List ℕ)) → beginning_events (at_start kind tag) ≡ start_of kind tag ∷ []
+start-events : (kind : CollectionKind) (tag : Option (List ℕ)) → beginning_events (at_start kind tag)
+    ≡ start_of kind tag ∷ []
 unfolding at_start
 start-events kind tag = refl
 
-opened-as : (documents : List EmitNode) (collections : List Begun) (kind : OpenKind) (tag : Option (List ℕ))
+opened-as : (documents : List EmitNode) (collections : List Begun) (kind : CollectionKind) (tag : Option (List ℕ))
     → IsBegun (with_opened (writing_of documents collections) kind tag)
 opened-as documents [] kind tag =
     let all = emit_documents_events documents in
@@ -133,7 +135,8 @@ opened-as documents (b ∷ outer) kind tag =
     )
 
 -- a collection is opened
-pub opened : (w : Writing) (kind : OpenKind) (tag : Option (List ℕ)) → IsBegun w → IsBegun (with_opened w kind tag)
+pub opened : (w : Writing) (kind : CollectionKind) (tag : Option (List ℕ)) → IsBegun w
+    → IsBegun (with_opened w kind tag)
 opened w kind tag h = subst (λ (v : Writing). IsBegun (with_opened v kind tag)) (sym h.2) (opened-as h.0 h.1 kind tag)
 
 -- nodes as the elements of a sequence
@@ -245,13 +248,16 @@ node-made w new (Ok node) h e = subst IsBegun (let is : with_node w node ≡ new
 pub at_first : IsBegun (record { events = emit_stream_start ∷ []; opened = [] })
 at_first = ([], [], refl)
 
-none_there : (os : List Open) → length (os ++ []) ≡ 0 → outer_of (reverse (os ++ [])) ≡ reverse os
+none_there : (os : List Open) → length (os ++ []) ≡ 0 → outer_of (open_collections (os ++ [])) ≡ open_collections os
 none_there [] h = refl
 none_there (o ∷ os) h = absurd (omega arith)
 
 -- the innermost collection is gone, if there was one
 pub last_gone : (old new : List Open) (taken : Option Open) → old ≡ new ++ option_to_list taken
     → (taken ≡ None → length old ≡ 0)
-    → outer_of (reverse old) ≡ reverse new
-last_gone old new (Some o) e h = ap (λ os. outer_of (reverse os)) e ∙ ap outer_of (reverse-append new (o ∷ []))
-last_gone old new None e h = ap (λ os. outer_of (reverse os)) e ∙ none_there new (ap length (sym e) ∙ h refl)
+    → outer_of (open_collections old) ≡ open_collections new
+last_gone old new (Some o) e h =
+    ap (λ os. outer_of (open_collections os)) e
+    ∙ ap (λ os. outer_of (map open_collection os)) (reverse-append new (o ∷ []))
+last_gone old new None e h =
+    ap (λ os. outer_of (open_collections os)) e ∙ none_there new (ap length (sym e) ∙ h refl)

@@ -2,13 +2,12 @@
 use Rattle.std.specs.Prelude.{◌≡◌, ℕ, zero, suc, ◌+◌, List, [], ◌∷◌, ◌++◌, length, Bool, false, not, ◌&&◌, Option}
 use Rattle.yaml_base.specs.EmitEvents.{PlainEmit, emit_stream_start, emit_document_start}
 use Rattle.yaml_base.specs.EmitTree.{EmitNode, emit_node_events, emit_documents_events}
+use Rattle.yaml_write.specs.Collections.{CollectionKind, OpenCollection}
 use Rattle.yaml_write.specs.Writing.{Writing, is_mapping, start_of}
-use Rattle.yaml_write.specs.declared.open.Open.{Open}
-use Rattle.yaml_write.specs.declared.open.OpenKind.{OpenKind}
 
 -- a collection that is open: its kind, its tag, and the nodes that are whole in it
 pub record Begun : Type 0 where
-  pub kind : OpenKind
+  pub kind : CollectionKind
   pub tag : Option (List ℕ)
   pub nodes : List EmitNode
 
@@ -37,12 +36,12 @@ is_odd zero = false
 is_odd (suc n) = not (is_odd n)
 
 -- the collection, as a serializer has it open; so many nodes more have begun in it
-abbrev pub open_of : (more : ℕ) → Begun → Open
+abbrev pub open_of : (more : ℕ) → Begun → OpenCollection
 open_of more b = record { kind = b.kind; awaits_value = is_mapping b.kind && is_odd (length b.nodes + more) }
 
 -- The same of collections inside one another, the innermost first. In each but the innermost one has begun that isn't
 -- whole.
-abbrev pub open_all : (more : ℕ) → List Begun → List Open
+abbrev pub open_all : (more : ℕ) → List Begun → List OpenCollection
 open_all more [] = []
 open_all more (b ∷ outer) = open_of more b ∷ open_all 1 outer
 

@@ -4,6 +4,8 @@ pub mod Written
 pub mod WrittenParts
 pub mod WrittenValue
 pub mod Outcomes
+pub mod Collections
+pub mod CollectionView
 pub mod Writing
 pub mod Opened
 pub mod Adds

@@ -1,9 +1,10 @@
 //! Events that are added together: all events of a call, or none.
 
-ghost use Rattle.std.specs.Prelude.{◌≡◌, ◌∷◌, ◌++◌, [], Ok, reverse};
+ghost use Rattle.std.specs.Prelude.{◌≡◌, ◌∷◌, ◌++◌, [], Ok};
 ghost use Rattle.yaml_base.specs.EmitEvents.{tag_bytes};
 ghost use Rattle.yaml_base.specs.EmitTree.{emit_node_events};
 ghost use Rattle.yaml_write.specs.Adds.{Adds, AddsOrStays};
+ghost use Rattle.yaml_write.specs.CollectionView.{collection_kind, open_collections};
 ghost use Rattle.yaml_write.specs.Content.{content_written};
 ghost use Rattle.yaml_write.specs.Outcomes.{joined};
 ghost use Rattle.yaml_write.specs.Writing.{document_start_in, closing_events, part_events, start_of};
@@ -18,8 +19,8 @@ use yaml_base::emitter::EmitEvent;
 
 // A node, as a document of its own where nothing is open.
 fn write_part(out: &mut EventBuffer, opened: &[Open], content: Content<'_, '_>) -> Result<()>
-    ensures { Adds (part_events (reverse opened.now)) (content_written content.entry)
-        out.old out.new result }
+    ensures { Adds (part_events (open_collections opened.now))
+        (content_written content.entry) out.old out.new result }
 {
     if !opened.is_empty() {
         return write_content(out, content);
@@ -35,8 +36,8 @@ pub(crate) fn add_part(
     opened: &[Open],
     content: Content<'_, '_>,
 ) -> Result<()>
-    ensures { AddsOrStays (part_events (reverse opened.now)) (content_written content.entry)
-        out.old out.new result }
+    ensures { AddsOrStays (part_events (open_collections opened.now))
+        (content_written content.entry) out.old out.new result }
 {
     let held = out.len();
     let written = write_part(out, opened, content);
@@ -65,8 +66,8 @@ fn write_start(
     kind: OpenKind,
     tag: Option<String>,
 ) -> Result<()>
-    ensures { Adds (λ event. document_start_in (reverse opened.now) ++ event ∷ [])
-        (Ok (start_of kind (tag_bytes tag))) out.old out.new result }
+    ensures { Adds (λ event. document_start_in (open_collections opened.now) ++ event ∷ [])
+        (Ok (start_of (collection_kind kind) (tag_bytes tag))) out.old out.new result }
 {
     if opened.is_empty() {
         out.push(EmitEvent::DocumentStart)?;
@@ -81,8 +82,8 @@ pub(crate) fn add_start(
     kind: OpenKind,
     tag: Option<String>,
 ) -> Result<()>
-    ensures { AddsOrStays (λ event. document_start_in (reverse opened.now) ++ event ∷ [])
-        (Ok (start_of kind (tag_bytes tag))) out.old out.new result }
+    ensures { AddsOrStays (λ event. document_start_in (open_collections opened.now) ++ event ∷ [])
+        (Ok (start_of (collection_kind kind) (tag_bytes tag))) out.old out.new result }
 {
     let held = out.len();
     let written = write_start(out, opened, kind, tag);
@@ -91,7 +92,7 @@ pub(crate) fn add_start(
 
 // The end of the innermost collection, if there is one, and of the document where no other is open.
 fn write_end(out: &mut EventBuffer, opened: &[Open]) -> Result<()>
-    ensures { Adds (λ events. events) (Ok (closing_events (reverse opened.now)))
+    ensures { Adds (λ events. events) (Ok (closing_events (open_collections opened.now)))
         out.old out.new result }
 {
     let Some(innermost) = opened.last() else {
@@ -106,7 +107,7 @@ fn write_end(out: &mut EventBuffer, opened: &[Open]) -> Result<()>
 
 /// Adds the end of the innermost collection, if there is one, and of the document where no other is open.
 pub(crate) fn add_end(out: &mut EventBuffer, opened: &[Open]) -> Result<()>
-    ensures { AddsOrStays (λ events. events) (Ok (closing_events (reverse opened.now)))
+    ensures { AddsOrStays (λ events. events) (Ok (closing_events (open_collections opened.now)))
         out.old out.new result }
 {
     let held = out.len();

@@ -1,6 +1,7 @@
 //! The collections that a serializer has open.
 
 ghost use Rattle.std.specs.Prelude.{◌≡◌};
+ghost use Rattle.yaml_write.specs.CollectionView.{collection_kind};
 ghost use Rattle.yaml_write.specs.Writing.{is_mapping};
 
 /// What kind of collection was opened.
@@ -31,7 +32,7 @@ pub(crate) struct Open {
 
 // Whether the collection has keys and values.
 pub(crate) fn is_mapping(kind: OpenKind) -> bool
-    ensures { result ≡ is_mapping kind }
+    ensures { result ≡ is_mapping (collection_kind kind) }
 {
     matches!(
         kind,

@@ -5,6 +5,7 @@ ghost use Rattle.yaml_base.specs.EmitEvents.{emit_of, emit_stream_start, emit_st
 ghost use Rattle.yaml_base.specs.EmitTree.{IsEmitStream};
 ghost use Rattle.yaml_base.specs.declared.error.Cause.TheVariants.{Memory};
 ghost use Rattle.yaml_write.specs.Begun.{AreDocuments, IsBegun};
+ghost use Rattle.yaml_write.specs.CollectionView.{told};
 ghost use Rattle.yaml_write.specs.Opened.{innermost};
 
 mod change;
@@ -32,17 +33,17 @@ pub struct Serializer {
 }
 
 impl Model for Serializer {
-    ghost use Rattle.std.specs.Prelude.{reverse};
+    ghost use Rattle.yaml_write.specs.CollectionView.{open_collections};
     ghost use Rattle.yaml_write.specs.Writing.{Writing};
 
     ghost Value = { Writing };
 
-    ghost view = { λ s. record { events = s.written; opened = reverse s.opened.items } };
+    ghost view = { λ s. record { events = s.written; opened = open_collections s.opened.items } };
 
     ghost use Rattle.yaml_write.specs.Begun.{IsBegun};
 
     ghost invariant = { λ s.
-        IsBegun (record { events = s.written; opened = reverse s.opened.items }) };
+        IsBegun (record { events = s.written; opened = open_collections s.opened.items }) };
 }
 
 impl Serializer {
@@ -74,7 +75,7 @@ impl Serializer {
     /// The kind of the innermost open collection, and whether it awaits the value of a key. It is the test of what
     /// calls ask of the collections that are open.
     pub fn open_kind(&self) -> Option<(OpenKind, bool)>
-        ensures { result ≡ innermost self.now.opened }
+        ensures { told result ≡ innermost self.now.opened }
     {
         match self.opened.last() {
             Some(innermost) => Some((innermost.kind, innermost.awaits_value)),

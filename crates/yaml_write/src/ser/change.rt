@@ -1,8 +1,10 @@
 //! The one way in which a serializer changes.
 
-ghost use Rattle.std.specs.Prelude.{◌≡◌, ◌≢◌, [], Some, reverse, vec_len, vec_capacity};
+ghost use Rattle.std.specs.Prelude.{◌≡◌, ◌≢◌, [], Some, vec_len, vec_capacity};
 ghost use Rattle.yaml_base.specs.EmitEvents.{tag_bytes};
 ghost use Rattle.yaml_write.specs.Adds.{Leaves, WritesOrStays};
+ghost use Rattle.yaml_write.specs.CollectionView.{collection_kind, open_collection};
+ghost use Rattle.yaml_write.specs.CollectionView.{open_collections};
 ghost use Rattle.yaml_write.specs.Content.{content_written};
 ghost use Rattle.yaml_write.specs.LocalTags.{local_tag};
 ghost use Rattle.yaml_write.specs.Opened.{CanEnd};
@@ -19,7 +21,7 @@ use crate::open::{Open, OpenKind, is_mapping};
 
 // The collection once a node in it has begun.
 fn turned(collection: Open) -> Open
-    ensures { result ≡ turned collection }
+    ensures { open_collection result ≡ turned (open_collection collection) }
 {
     Open {
         kind: collection.kind,
@@ -29,7 +31,8 @@ fn turned(collection: Open) -> Open
 
 // Notes that a node in the innermost collection has begun.
 fn begin_part(opened: &mut Vec<Open>)
-    ensures begun { reverse opened.new.items ≡ with_begun (reverse opened.old.items) }
+    ensures begun { open_collections opened.new.items
+        ≡ with_begun (open_collections opened.old.items) }
     ensures len { vec_len opened.new ≡ vec_len opened.old }
     ensures capacity { vec_capacity opened.new ≡ vec_capacity opened.old }
 {
@@ -68,7 +71,8 @@ impl Serializer {
 
     // Opens a collection.
     pub(super) fn open(&mut self, kind: OpenKind, tag: Option<String>) -> yaml_base::Result<()>
-        ensures { Leaves (with_opened self.old kind (tag_bytes tag)) self.old self.new result }
+        ensures { Leaves (with_opened self.old (collection_kind kind) (tag_bytes tag))
+            self.old self.new result }
     {
         self.opened.reserve(1)?;
         add_start(&mut self.written, &self.opened, kind, tag)?;
@@ -82,7 +86,8 @@ impl Serializer {
 
     // Opens the collection of a variant, under its name as a tag.
     pub(super) fn open_variant(&mut self, kind: OpenKind, variant: &str) -> yaml_base::Result<()>
-        ensures { Leaves (with_opened self.old kind (Some (local_tag variant.now)))
+        ensures { Leaves
+            (with_opened self.old (collection_kind kind) (Some (local_tag variant.now)))
             self.old self.new result }
     {
         let tag = local_tag(self.alloc, variant)?;
