@@ -1,6 +1,10 @@
 -- What contracts of this crate cite.
 pub mod Characters
+pub mod LayoutMachine
+pub mod Leaves
+pub mod Places
 pub mod PrintedTexts
 pub mod Scalars
+pub mod StreamTexts
 pub mod Styles
 pub mod Tags

@@ -1,5 +1,5 @@
 -- What a tag is printed as.
-use Rattle.std.specs.Prelude.{ℕ, Bool, ◌==◌, ◌&&◌, ◌||◌, if◌then◌else◌, List, [], ◌∷◌, ◌++◌, codes, drop, length}
+use Rattle.std.specs.Prelude.{ℕ, ◌+◌, Bool, ◌==◌, ◌&&◌, ◌||◌, if◌then◌else◌, List, [], ◌∷◌, ◌++◌, codes, drop, length}
 use Rattle.std.specs.Prelude.{nat_eq, nat_lt}
 use Rattle.std.specs.List.{flat_map, starts_with}
 use Rattle.yaml_emit.specs.Characters.{is_from}
@@ -47,3 +47,13 @@ closing _ = []
 abbrev pub tag_text : List ℕ → List ℕ
 tag_text tag =
     opening (handle_of tag) ++ (flat_map tag_byte (suffix_of (handle_of tag) tag) ++ closing (handle_of tag))
+
+-- how many bytes stand for the prefix of a tag that is a handle's
+abbrev pub handle_len : Handle → ℕ
+handle_len Local = 1
+handle_len Core = 2
+handle_len Verbatim = 0
+
+-- how many bytes a tag has, where what stands for its prefix counts as that
+abbrev pub tag_len : List ℕ → ℕ
+tag_len tag = handle_len (handle_of tag) + length (suffix_of (handle_of tag) tag)

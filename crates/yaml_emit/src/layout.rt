@@ -1,146 +1,184 @@
 //! Nodes laid out in lines.
 
-use crate::leaf::{Content, Leaf};
-use crate::open::{Awaits, Lead, Open, Place};
-use crate::quoted::push_blanks;
-use crate::tag::push_tag;
+ghost use Rattle.std.specs.Prelude.{◌≡◌, OnOk, string_bytes};
+ghost use Rattle.std.specs.Option.{option_map};
+ghost use Rattle.yaml_emit.specs.LayoutMachine.{Begins, Steps, begun, closed_in, closes, document_begun};
+ghost use Rattle.yaml_emit.specs.LayoutMachine.{document_ended, finished, laid, pushed, stream_begun, stream_ended, unbegun};
+ghost use Rattle.yaml_emit.specs.LayoutMachine.{with_node, with_open};
+ghost use Rattle.yaml_emit.specs.Leaves.{leaf_node};
+
+use crate::leaf::{Leaf, push_tag_in_line};
+use crate::open::{Awaits, Open, Place};
+use crate::stop::Stop;
 use std::alloc::{AllocError, Global};
 
-// Which part of a stream comes next.
-#[derive(Clone, Copy, PartialEq, Eq)]
-pub(crate) enum Phase {
+// What comes next in a stream.
+#[derive(Clone, Copy)]
+pub(crate) enum Next {
     // The start of the stream.
     Stream,
     // A document, or the end of the stream.
     Document,
     // The root of a document.
     Root,
-    // More of the root, or the end of the document.
-    Node,
+    // A part of the innermost open collection, or its end.
+    Part(Open),
+    // The end of the document.
+    End,
     // Nothing.
     Nothing,
 }
 
-// The text so far, and the collections that are open, the innermost last.
+// The text so far, and the collections around the innermost open one, the outermost first.
 #[derive(Drop)]
 pub(crate) struct Layout {
-    pub(crate) out: String,
-    pub(crate) phase: Phase,
-    opened: Vec<Open>,
+    out: String,
+    // Whether no document stands before the next one.
+    is_first: bool,
+    next: Next,
+    outer: Vec<Open>,
+}
+
+// Whether the end of a sequence or of a mapping ends a collection that waits for this.
+fn closes(end: Awaits, awaits: Awaits) -> bool
+    ensures { result ≡ closes end awaits }
+{
+    match end {
+        Awaits::Item => matches!(awaits, Awaits::Item),
+        Awaits::Key => matches!(awaits, Awaits::Key),
+        Awaits::Value | Awaits::FarValue => false,
+    }
 }
 
 impl Layout {
     // Nothing yet. Takes no memory.
-    pub(crate) fn new(alloc: Global) -> Layout {
+    pub(crate) fn new(alloc: Global) -> Layout
+        ensures { laid result ≡ unbegun }
+    {
         Layout {
             out: String::new(alloc),
-            phase: Phase::Stream,
-            opened: Vec::new(alloc),
+            is_first: true,
+            next: Next::Stream,
+            outer: Vec::new(alloc),
         }
     }
 
-    // Whether a node may come next.
-    pub(crate) fn awaits_node(&self) -> bool {
-        self.phase == Phase::Root || !self.opened.is_empty()
+    // The text, if the stream has ended.
+    pub(crate) fn into_text(self) -> Option<String>
+        ensures { option_map string_bytes result ≡ finished (laid self).out (laid self).state }
+    {
+        match self.next {
+            Next::Nothing => Some(self.out),
+            _ => None,
+        }
     }
 
-    // Whether the root is whole.
-    pub(crate) fn is_whole(&self) -> bool {
-        self.phase == Phase::Node && self.opened.is_empty()
+    // Begins the stream.
+    pub(crate) fn begin_stream(&mut self) -> Result<(), Stop>
+        ensures { Steps (stream_begun (laid self.old) (laid self.old).state) (laid self.new) result }
+    {
+        match self.next {
+            Next::Stream => {
+                self.next = Next::Document;
+                Ok(())
+            }
+            _ => Err(Stop::OutOfPlace),
+        }
+    }
+
+    // Ends the stream.
+    pub(crate) fn end_stream(&mut self) -> Result<(), Stop>
+        ensures { Steps (stream_ended (laid self.old) (laid self.old).state) (laid self.new) result }
+    {
+        match self.next {
+            Next::Document => {
+                self.next = Next::Nothing;
+                Ok(())
+            }
+            _ => Err(Stop::OutOfPlace),
+        }
     }
 
     // Begins a document: behind another one by `---`.
-    pub(crate) fn begin_document(&mut self) -> Result<(), AllocError> {
-        if !self.out.is_empty() {
-            self.out.push_str("---")?;
-        }
-        self.phase = Phase::Root;
-        Ok(())
-    }
-
-    // Adds what stands before a part of a collection in its line.
-    fn push_lead(&mut self, open: Open) -> Result<(), AllocError> {
-        match open.lead {
-            Lead::Fresh => push_blanks(&mut self.out, open.column),
-            Lead::Indicator => self.out.push(' '),
-            Lead::Text => {
-                self.out.push('\n')?;
-                push_blanks(&mut self.out, open.column)
+    pub(crate) fn begin_document(&mut self) -> Result<(), Stop>
+        ensures { Steps (document_begun (laid self.old) (laid self.old).state) (laid self.new) result }
+    {
+        match self.next {
+            Next::Document => {
+                if !self.is_first {
+                    self.out.push_str("---")?;
+                }
+                self.next = Next::Root;
+                Ok(())
             }
+            _ => Err(Stop::OutOfPlace),
         }
     }
 
-    // Adds the indicator of a part, but for a key in a line and its value.
-    fn push_indicator(&mut self, awaits: Awaits, simple: bool) -> Result<(), AllocError> {
-        match awaits {
-            Awaits::Item => self.out.push('-'),
-            Awaits::Key if simple => Ok(()),
-            Awaits::Key => self.out.push('?'),
-            Awaits::Value => Ok(()),
-            Awaits::FarValue => self.out.push(':'),
+    // Ends a document.
+    pub(crate) fn end_document(&mut self) -> Result<(), Stop>
+        ensures { Steps (document_ended (laid self.old) (laid self.old).state) (laid self.new) result }
+    {
+        match self.next {
+            Next::End => {
+                self.is_first = false;
+                self.next = Next::Document;
+                Ok(())
+            }
+            _ => Err(Stop::OutOfPlace),
         }
     }
 
     // Goes to where the next node stands. As a key it may be one in a line.
-    fn begin_node(&mut self, simple: bool) -> Result<Place, AllocError> {
-        let Some(open) = self.opened.as_slice().last().copied() else {
-            self.phase = Phase::Node;
-            let first = self.out.is_empty();
-            return Ok(Place::root(if first { Lead::Fresh } else { Lead::Text }));
-        };
-        if open.awaits != Awaits::Value {
-            self.push_lead(open)?;
+    fn begin_node(&mut self, simple: bool) -> Result<Place, Stop>
+        ensures { Begins (begun (laid self.old) simple) (laid self.new) result }
+    {
+        match self.next {
+            Next::Root => {
+                self.next = Next::End;
+                Ok(Place::root(self.is_first))
+            }
+            Next::Part(open) => {
+                open.push_before_part(&mut self.out, simple)?;
+                let place = open.part_place(simple)?;
+                self.next = Next::Part(open.turned(simple));
+                Ok(place)
+            }
+            _ => Err(Stop::OutOfPlace),
         }
-        self.push_indicator(open.awaits, simple)?;
-        let _ = self.opened.pop();
-        self.opened.push(Open {
-            awaits: open.next_awaits(simple),
-            column: open.column,
-            lead: Lead::Fresh,
-        })?;
-        Ok(open.next_place(simple))
     }
 
-    // Adds a tag, if there is one, and gives what stands before the rest of its node.
-    fn push_tag(&mut self, lead: Lead, tag: &str) -> Result<Lead, AllocError> {
-        if tag.is_empty() {
-            return Ok(lead);
-        }
-        if lead != Lead::Fresh {
-            self.out.push(' ')?;
-        }
-        push_tag(&mut self.out, tag)?;
-        Ok(Lead::Text)
-    }
-
-    // Adds a node without parts, up to the end of its line, or with the `:` behind a key.
-    pub(crate) fn push_leaf(&mut self, leaf: Leaf<'_>) -> Result<(), AllocError> {
+    // Adds a node without parts.
+    pub(crate) fn push_leaf(&mut self, leaf: Leaf<'_>) -> Result<(), Stop>
+        ensures { Steps (with_node (laid self.old) (leaf_node leaf.entry)) (laid self.new) result }
+    {
         let place = self.begin_node(leaf.is_simple())?;
-        let lead = self.push_tag(place.lead, leaf.tag)?;
-        let Leaf { content, .. } = leaf;
-        if lead != Lead::Fresh && !content.is_nothing(place.key) {
-            self.out.push(' ')?;
+        leaf.push(&mut self.out, place)?;
+        Ok(())
+    }
+
+    // Opens a collection inside the innermost open one.
+    fn push_open(&mut self, opened: Open) -> Result<(), AllocError>
+        ensures out { string_bytes self.new.out ≡ string_bytes self.old.out }
+        ensures first { self.new.is_first ≡ self.old.is_first }
+        ensures state { OnOk result ((laid self.new).state ≡ pushed opened (laid self.old).state) }
+    {
+        match self.next {
+            Next::Part(outer) => self.outer.push(outer)?,
+            _ => self.outer.clear(),
         }
-        content.push(&mut self.out, place.key, place.indent())?;
-        if place.key {
-            self.out.push(':')
-        } else if content.ends_line(place.key) {
-            Ok(())
-        } else {
-            self.out.push('\n')
-        }
+        self.next = Next::Part(opened);
+        Ok(())
     }
 
     // Begins a collection that has parts.
-    pub(crate) fn open(&mut self, tag: &str, awaits: Awaits) -> Result<(), AllocError> {
+    pub(crate) fn open(&mut self, tag: &str, awaits: Awaits) -> Result<(), Stop>
+        ensures { Steps (with_open (laid self.old) tag.now awaits) (laid self.new) result }
+    {
         let place = self.begin_node(false)?;
-        let lead = self.push_tag(place.lead, tag)?;
-        let column = if awaits == Awaits::Item && lead != Lead::Indicator {
-            place.level
-        } else {
-            place.column
-        };
-        self.opened.push(Open {
+        let lead = push_tag_in_line(&mut self.out, place.lead, tag)?;
+        let column = place.parts_column(awaits, lead);
+        self.push_open(Open {
             awaits,
             column,
             lead,
@@ -148,13 +186,18 @@ impl Layout {
         Ok(())
     }
 
-    // Ends the innermost open collection, if it waits for this, and gives whether it does.
-    pub(crate) fn close(&mut self, awaits: Awaits) -> bool {
-        match self.opened.as_slice().last() {
-            Some(open) if open.awaits == awaits => {}
-            _ => return false,
+    // Ends the innermost open collection, if it waits for this.
+    pub(crate) fn close(&mut self, end: Awaits) -> Result<(), Stop>
+        ensures { Steps (closed_in end (laid self.old) (laid self.old).state) (laid self.new) result }
+    {
+        match self.next {
+            Next::Part(open) if closes(end, open.awaits) => {}
+            _ => return Err(Stop::OutOfPlace),
         }
-        let _ = self.opened.pop();
-        true
+        self.next = match self.outer.pop() {
+            Some(open) => Next::Part(open),
+            None => Next::End,
+        };
+        Ok(())
     }
 }

@@ -7,6 +7,7 @@ mod layout;
 mod leaf;
 mod open;
 mod quoted;
+mod stop;
 mod stream;
 mod style;
 mod tag;

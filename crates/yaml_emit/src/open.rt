@@ -1,5 +1,12 @@
 //! Open collections, and where their parts stand.
 
+ghost use Rattle.std.specs.Prelude.{◌≡◌, ◌+◌, ◌++◌, IfOk, OnOk, string_bytes};
+ghost use Rattle.yaml_emit.specs.LayoutMachine.{before_part, next_awaits, part_place, parts_column, root_lead, turned};
+ghost use Rattle.yaml_emit.specs.Places.{blank, margin, root_place};
+
+use crate::quoted::push_blanks;
+use std::alloc::AllocError;
+
 // What stands before a node in its line.
 #[derive(Clone, Copy, PartialEq, Eq)]
 pub(crate) enum Lead {
@@ -46,53 +53,137 @@ pub(crate) struct Place {
     pub(crate) level: usize,
 }
 
+// What stands before the root of the first document, or of a later one.
+fn root_lead(is_first: bool) -> Lead
+    ensures { result ≡ root_lead is_first }
+{
+    if is_first { Lead::Fresh } else { Lead::Text }
+}
+
+// Two columns further in. A column that can't be counted has no room in memory.
+fn deeper(column: usize) -> Result<usize, AllocError>
+    ensures { IfOk result (λ inner. inner ≡ column + 2) }
+{
+    match column.checked_add(2) {
+        Some(inner) => Ok(inner),
+        None => Err(AllocError),
+    }
+}
+
+// Where a part stands that begins in this column.
+fn part_place(awaits: Awaits, column: usize, inner: usize, simple: bool) -> Place
+    requires { inner ≡ column + 2 }
+    ensures { result ≡ part_place awaits column simple }
+{
+    let (lead, key, level) = match awaits {
+        Awaits::Item => (Lead::Indicator, false, inner),
+        Awaits::Key if simple => (Lead::Fresh, true, column),
+        Awaits::Value => (Lead::Text, false, column),
+        Awaits::Key | Awaits::FarValue => (Lead::Indicator, false, column),
+    };
+    Place {
+        lead,
+        key,
+        column: inner,
+        level,
+    }
+}
+
+// What a collection waits for behind a part.
+fn next_awaits(awaits: Awaits, simple: bool) -> Awaits
+    ensures { result ≡ next_awaits awaits simple }
+{
+    match awaits {
+        Awaits::Item => Awaits::Item,
+        Awaits::Key if simple => Awaits::Value,
+        Awaits::Key => Awaits::FarValue,
+        Awaits::Value | Awaits::FarValue => Awaits::Key,
+    }
+}
+
+// Adds a blank, unless the line begins here.
+pub(crate) fn push_blank(out: &mut String, lead: Lead) -> Result<(), AllocError>
+    ensures { OnOk result (string_bytes out.new ≡ string_bytes out.old ++ blank lead) }
+{
+    if lead == Lead::Fresh {
+        return Ok(());
+    }
+    out.push(' ')
+}
+
+// Adds what stands before a part of a collection in its line.
+fn push_margin(out: &mut String, lead: Lead, column: usize) -> Result<(), AllocError>
+    ensures { OnOk result (string_bytes out.new ≡ string_bytes out.old ++ margin lead column) }
+{
+    match lead {
+        Lead::Fresh => push_blanks(out, column),
+        Lead::Indicator => out.push(' '),
+        Lead::Text => {
+            out.push('\n')?;
+            push_blanks(out, column)
+        }
+    }
+}
+
 impl Place {
     // The root of a document.
-    pub(crate) fn root(lead: Lead) -> Place {
+    pub(crate) fn root(is_first: bool) -> Place
+        ensures { result ≡ root_place (root_lead is_first) }
+    {
         Place {
-            lead,
+            lead: root_lead(is_first),
             key: false,
             column: 0,
             level: 0,
         }
     }
 
-    // How far its further lines stand in, if it is a scalar.
-    pub(crate) fn indent(&self) -> usize {
-        self.column.max(2)
+    // The column of the parts of a collection that stands here, behind its tag.
+    pub(crate) fn parts_column(&self, awaits: Awaits, lead: Lead) -> usize
+        ensures { result ≡ parts_column awaits self.now lead }
+    {
+        if awaits == Awaits::Item && lead != Lead::Indicator {
+            self.level
+        } else {
+            self.column
+        }
     }
 }
 
 impl Open {
-    // Where the next part stands. A key may be one in a line.
-    pub(crate) fn next_place(&self, simple: bool) -> Place {
-        let column = self.column.saturating_add(2);
-        let key = self.awaits == Awaits::Key && simple;
-        let lead = match self.awaits {
-            Awaits::Key if simple => Lead::Fresh,
-            Awaits::Value => Lead::Text,
-            Awaits::Item | Awaits::Key | Awaits::FarValue => Lead::Indicator,
-        };
-        let level = if self.awaits == Awaits::Item {
-            column
-        } else {
-            self.column
-        };
-        Place {
-            lead,
-            key,
-            column,
-            level,
+    // Adds the margin and the indicator of the next part. A key may be one in a line.
+    pub(crate) fn push_before_part(&self, out: &mut String, simple: bool) -> Result<(), AllocError>
+        ensures { OnOk result (string_bytes out.new
+            ≡ string_bytes out.old ++ before_part self.now.awaits self.now.lead self.now.column simple) }
+    {
+        if self.awaits == Awaits::Value {
+            return Ok(());
+        }
+        push_margin(out, self.lead, self.column)?;
+        match self.awaits {
+            Awaits::Item => out.push('-'),
+            Awaits::Key if simple => Ok(()),
+            Awaits::Key => out.push('?'),
+            Awaits::Value | Awaits::FarValue => out.push(':'),
         }
     }
 
-    // What the collection waits for behind its next part.
-    pub(crate) fn next_awaits(&self, simple: bool) -> Awaits {
-        match self.awaits {
-            Awaits::Item => Awaits::Item,
-            Awaits::Key if simple => Awaits::Value,
-            Awaits::Key => Awaits::FarValue,
-            Awaits::Value | Awaits::FarValue => Awaits::Key,
+    // Where the next part stands. A key may be one in a line.
+    pub(crate) fn part_place(&self, simple: bool) -> Result<Place, AllocError>
+        ensures { IfOk result (λ place. place ≡ part_place self.now.awaits self.now.column simple) }
+    {
+        let inner = deeper(self.column)?;
+        Ok(part_place(self.awaits, self.column, inner, simple))
+    }
+
+    // The collection once its next part has begun.
+    pub(crate) fn turned(&self, simple: bool) -> Open
+        ensures { result ≡ turned self.now simple }
+    {
+        Open {
+            awaits: next_awaits(self.awaits, simple),
+            column: self.column,
+            lead: Lead::Fresh,
         }
     }
 }

@@ -1,144 +1,109 @@
 //! The text of a stream of events.
 
-ghost use Rattle.std.specs.Prelude.{◌≡◌, ◌≤◌, ℕ, false, IfErr, IfOk, length};
+ghost use Rattle.std.specs.Prelude.{◌≡◌, ◌∷◌, ◌≤◌, ℕ, List, Some, false, IfErr, IfOk, IfSome, length, map};
+ghost use Rattle.std.specs.Prelude.{string_bytes};
+ghost use Rattle.std.specs.Option.{option_map};
 ghost use Rattle.yaml_base.specs.Answer.{is_memory};
+ghost use Rattle.yaml_base.specs.EmitEvents.{PlainEmit, emit_of};
 ghost use Rattle.yaml_base.specs.declared.error.Cause.TheVariants.{NotAStream};
+ghost use Rattle.yaml_base.specs.EmitTree.{IsEmitStream};
+ghost use Rattle.yaml_emit.specs.LayoutMachine.{Steps, Takes, hollow, hollow_at, is_mapping_end, is_sequence_end};
+ghost use Rattle.yaml_emit.specs.LayoutMachine.{laid, run, step};
+ghost use Rattle.yaml_emit.specs.Leaves.{leaf_node};
+ghost use Rattle.yaml_emit.specs.StreamTexts.{IsStreamText};
+ghost use Rattle.yaml_emit.specs.declared.stop.Stop.TheVariants.{OutOfPlace};
 
-use crate::layout::{Layout, Phase};
-use crate::leaf::{Content, Leaf, tag_text};
+use crate::layout::Layout;
+use crate::leaf::{Content, Leaf, lent_tag, tag_text};
 use crate::open::Awaits;
-use std::alloc::{AllocError, Global};
+use crate::stop::Stop;
+use std::alloc::Global;
 use yaml_base::emitter::EmitEvent;
 use yaml_base::{Cause, Error, Result};
 
-// Why an event was not printed.
-#[derive(Clone, Copy, PartialEq, Eq, Drop)]
-enum Stop {
-    // It may not stand there.
-    OutOfPlace,
-    // Memory ran out.
-    Memory,
-}
-
-impl From<AllocError> for Stop {
-    fn from(_: AllocError) -> Stop {
-        Stop::Memory
-    }
-}
-
-// Goes on to a phase, if the layout stands in another one.
-fn change(layout: &mut Layout, from: Phase, to: Phase) -> std::result::Result<(), Stop> {
-    if layout.phase != from {
-        return Err(Stop::OutOfPlace);
-    }
-    layout.phase = to;
-    Ok(())
-}
-
-// Wants a node to come next.
-fn want_node(layout: &Layout) -> std::result::Result<(), Stop> {
-    if layout.awaits_node() {
-        Ok(())
-    } else {
-        Err(Stop::OutOfPlace)
-    }
-}
-
-// Begins a sequence, and ends it if it is empty. Gives the events that are left.
-fn begin_sequence<'a>(
-    layout: &mut Layout,
-    tag: &str,
-    rest: &'a [EmitEvent],
-) -> std::result::Result<&'a [EmitEvent], Stop>
-    ensures { IfOk result (λ left. length left.now ≤ length rest.now) }
+// Whether the event is the end of a sequence.
+fn is_sequence_end(event: &EmitEvent) -> bool
+    ensures { result ≡ is_sequence_end (emit_of event.now) }
 {
-    want_node(layout)?;
-    if let Some((EmitEvent::SequenceEnd, rest)) = rest.split_first() {
-        let content = Content::NoItems;
-        layout.push_leaf(Leaf { tag, content })?;
-        return Ok(rest);
-    }
-    layout.open(tag, Awaits::Item)?;
-    Ok(rest)
+    matches!(event, EmitEvent::SequenceEnd)
 }
 
-// Begins a mapping, and ends it if it is empty. Gives the events that are left.
-fn begin_mapping<'a>(
-    layout: &mut Layout,
-    tag: &str,
-    rest: &'a [EmitEvent],
-) -> std::result::Result<&'a [EmitEvent], Stop>
-    ensures { IfOk result (λ left. length left.now ≤ length rest.now) }
+// Whether the event is the end of a mapping.
+fn is_mapping_end(event: &EmitEvent) -> bool
+    ensures { result ≡ is_mapping_end (emit_of event.now) }
 {
-    want_node(layout)?;
-    if let Some((EmitEvent::MappingEnd, rest)) = rest.split_first() {
-        let content = Content::NoPairs;
-        layout.push_leaf(Leaf { tag, content })?;
-        return Ok(rest);
-    }
-    layout.open(tag, Awaits::Key)?;
-    Ok(rest)
+    matches!(event, EmitEvent::MappingEnd)
 }
 
-// Ends a collection that waits for this.
-fn end(layout: &mut Layout, awaits: Awaits) -> std::result::Result<(), Stop> {
-    if layout.close(awaits) {
-        Ok(())
-    } else {
-        Err(Stop::OutOfPlace)
+// The empty collection that begins with an event, where the next one is such an end.
+fn hollow_at(event: &EmitEvent, sequence_ends: bool, mapping_ends: bool) -> Option<Leaf<'_>>
+    ensures { (behind : List PlainEmit) → hollow_at (emit_of event.now) behind sequence_ends mapping_ends
+        ≡ option_map (λ leaf. (leaf_node leaf, behind)) result }
+{
+    let (tag, content) = match event {
+        EmitEvent::SequenceStart(start) if sequence_ends => (&start.tag, Content::NoItems),
+        EmitEvent::MappingStart(start) if mapping_ends => (&start.tag, Content::NoPairs),
+        _ => return None,
+    };
+    let tag = lent_tag(tag);
+    Some(Leaf { tag, content })
+}
+
+// An empty collection at the head of the events, and what follows it.
+fn hollow<'a>(event: &'a EmitEvent, rest: &'a [EmitEvent]) -> Option<(Leaf<'a>, &'a [EmitEvent])>
+    ensures node { hollow (emit_of event.now) (map emit_of rest.now)
+        ≡ option_map (λ found. (leaf_node found.0, map emit_of found.1.now)) result }
+    ensures length { IfSome result (λ found. length found.1.now ≤ length rest.now) }
+{
+    let (next, behind) = rest.split_first()?;
+    let leaf = hollow_at(event, is_sequence_end(next), is_mapping_end(next))?;
+    Some((leaf, behind))
+}
+
+// Adds what an event is printed as that is no start of an empty collection.
+fn take_one(layout: &mut Layout, event: &EmitEvent) -> std::result::Result<(), Stop>
+    ensures { Steps (step (laid layout.old) (emit_of event.now)) (laid layout.new) result }
+{
+    match event {
+        EmitEvent::StreamStart => layout.begin_stream(),
+        EmitEvent::StreamEnd => layout.end_stream(),
+        EmitEvent::DocumentStart => layout.begin_document(),
+        EmitEvent::DocumentEnd => layout.end_document(),
+        EmitEvent::Scalar(scalar) => layout.push_leaf(Leaf::scalar(scalar)),
+        EmitEvent::SequenceStart(start) => layout.open(
+            tag_text(lent_tag(&start.tag)),
+            Awaits::Item,
+        ),
+        EmitEvent::SequenceEnd => layout.close(Awaits::Item),
+        EmitEvent::MappingStart(start) => layout.open(tag_text(lent_tag(&start.tag)), Awaits::Key),
+        EmitEvent::MappingEnd => layout.close(Awaits::Key),
     }
 }
 
-// Begins a document.
-fn begin_document(layout: &mut Layout) -> std::result::Result<(), Stop> {
-    if layout.phase != Phase::Document {
-        return Err(Stop::OutOfPlace);
-    }
-    layout.begin_document()?;
-    Ok(())
-}
-
-// Ends a document.
-fn end_document(layout: &mut Layout) -> std::result::Result<(), Stop> {
-    if !layout.is_whole() {
-        return Err(Stop::OutOfPlace);
-    }
-    layout.phase = Phase::Document;
-    Ok(())
-}
-
-// Adds what an event is printed as, and gives the events that are left.
+// Adds what an event is printed as, with the end of an empty collection, and gives the events that are left.
 fn take<'a>(
     layout: &mut Layout,
     event: &'a EmitEvent,
     rest: &'a [EmitEvent],
 ) -> std::result::Result<&'a [EmitEvent], Stop>
-    ensures { IfOk result (λ left. length left.now ≤ length rest.now) }
+    ensures length { IfOk result (λ left. length left.now ≤ length rest.now) }
+    ensures run { Takes (λ left. map emit_of left.now)
+        (run (Some (laid layout.old)) (emit_of event.now ∷ map emit_of rest.now))
+        (laid layout.new) result }
 {
-    match event {
-        EmitEvent::StreamStart => change(layout, Phase::Stream, Phase::Document)?,
-        EmitEvent::StreamEnd => change(layout, Phase::Document, Phase::Nothing)?,
-        EmitEvent::DocumentStart => begin_document(layout)?,
-        EmitEvent::DocumentEnd => end_document(layout)?,
-        EmitEvent::Scalar(scalar) => {
-            want_node(layout)?;
-            layout.push_leaf(Leaf::scalar(scalar))?;
-        }
-        EmitEvent::SequenceStart(start) => {
-            return begin_sequence(layout, tag_text(&start.tag), rest);
-        }
-        EmitEvent::SequenceEnd => end(layout, Awaits::Item)?,
-        EmitEvent::MappingStart(start) => {
-            return begin_mapping(layout, tag_text(&start.tag), rest);
-        }
-        EmitEvent::MappingEnd => end(layout, Awaits::Key)?,
+    if let Some((leaf, left)) = hollow(event, rest) {
+        layout.push_leaf(leaf)?;
+        return Ok(left);
     }
+    take_one(layout, event)?;
     Ok(rest)
 }
 
 // The fault of the first of the events that are left, of so many.
 fn fault(stop: Stop, count: usize, left: usize) -> Error
-    ensures { is_memory result ≡ false → (place : ℕ) × (result ≡ NotAStream place) × (place ≤ count) }
+    ensures place { is_memory result ≡ false
+        → (place : ℕ) × (result ≡ NotAStream place) × (place ≤ count) }
+    ensures out_of_place { is_memory result ≡ false → stop ≡ OutOfPlace }
 {
     match stop {
         Stop::OutOfPlace => Error::new(Cause::NotAStream(count.saturating_sub(left))),
@@ -153,8 +118,11 @@ fn fault(stop: Stop, count: usize, left: usize) -> Error
 /// Events that are no whole stream are refused, with the place of the first that is wrong. Where memory runs out, what
 /// was printed so far is given up.
 pub fn emit(alloc: Global, events: &[EmitEvent]) -> Result<String>
+    ensures printed { IfOk result (λ text. IsStreamText (map emit_of events.now) (string_bytes text)) }
     ensures refused { IfErr result (λ cause. is_memory cause ≡ false
         → (place : ℕ) × (cause ≡ NotAStream place) × (place ≤ length events.now)) }
+    ensures no_stream { IfErr result (λ cause. is_memory cause ≡ false
+        → IsEmitStream (map emit_of events.now) → ⊥) }
 {
     let mut layout = Layout::new(alloc);
     let mut left = events;
@@ -164,8 +132,8 @@ pub fn emit(alloc: Global, events: &[EmitEvent]) -> Result<String>
             Err(stop) => return Err(fault(stop, events.len(), left.len())),
         }
     }
-    if layout.phase != Phase::Nothing {
-        return Err(fault(Stop::OutOfPlace, events.len(), 0));
+    match layout.into_text() {
+        Some(text) => Ok(text),
+        None => Err(fault(Stop::OutOfPlace, events.len(), 0)),
     }
-    Ok(layout.out)
 }

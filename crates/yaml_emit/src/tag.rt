@@ -2,7 +2,8 @@
 
 ghost use Rattle.std.specs.Prelude.{◌≡◌, ◌++◌, OnOk, drop, string_bytes};
 ghost use Rattle.std.specs.List.{flat_map};
-ghost use Rattle.yaml_emit.specs.Tags.{closing, handle_of, is_tag_byte, opening, suffix_of, tag_byte, tag_text};
+ghost use Rattle.yaml_emit.specs.Tags.{closing, handle_len, handle_of, is_tag_byte, opening, suffix_of, tag_byte};
+ghost use Rattle.yaml_emit.specs.Tags.{tag_len, tag_text};
 
 use crate::quoted::push_hex;
 use std::alloc::AllocError;
@@ -137,13 +138,21 @@ pub fn push_tag(out: &mut String, tag: &str) -> Result<(), AllocError>
     push_closing(out, handle)
 }
 
-// How many bytes a tag has, where what stands for its prefix counts as that.
-pub(crate) fn tag_len(tag: &str) -> usize {
-    let handle = handle_of(tag.as_bytes());
-    let begins = match handle {
+// How many bytes stand for the prefix of a tag.
+fn handle_len(handle: Handle) -> usize
+    ensures { result ≡ handle_len handle }
+{
+    match handle {
         Handle::Local => 1,
         Handle::Core => 2,
-        Handle::Verbatim => 0usize,
-    };
-    begins.saturating_add(suffix_of(handle, tag.as_bytes()).len())
+        Handle::Verbatim => 0,
+    }
+}
+
+// How many bytes a tag has, where what stands for its prefix counts as that.
+pub(crate) fn tag_len(tag: &str) -> usize
+    ensures { result ≡ tag_len tag.now }
+{
+    let handle = handle_of(tag.as_bytes());
+    handle_len(handle) + suffix_of(handle, tag.as_bytes()).len()
 }
