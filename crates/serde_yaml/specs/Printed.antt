@@ -3,6 +3,7 @@ use Rattle.std.specs.Prelude.{◌≡◌, ℕ, List, None, Result, Ok, Err}
 use Rattle.yaml_base.specs.EmitEvents.{PlainEmit}
 use Rattle.yaml_base.specs.declared.error.Cause.{Cause}
 use Rattle.yaml_base.specs.declared.error.Cause.TheVariants.{NotAStream}
+use Rattle.yaml_emit.specs.StreamTexts.{IsStreamText}
 use Rattle.yaml_shape.specs.PlainData.{PlainData}
 use Rattle.yaml_shape.specs.PlainShape.{PlainShape}
 use Rattle.yaml_write.specs.Outcomes.{made}
@@ -12,6 +13,10 @@ use Rattle.serde_yaml.specs.TypedWrites.{written_stream}
 -- it was written as some events
 pub data HasEvents (Writes : Result (List PlainEmit) Cause → Type 0) : Type 0 where
   written_as : (events : List PlainEmit) → Writes (Ok events) → HasEvents Writes
+
+-- it was written as some events, and this is their text
+pub data HasText (Writes : Result (List PlainEmit) Cause → Type 0) (text : List ℕ) : Type 0 where
+  printed_as : (events : List PlainEmit) → Writes (Ok events) → IsStreamText events text → HasText Writes text
 
 -- an event stands where none may
 pub data IsOutOfPlace : Cause → Type 0 where
