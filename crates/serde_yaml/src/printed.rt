@@ -6,7 +6,7 @@ ghost use Rattle.yaml_shape.specs.DataView.{data_of};
 ghost use Rattle.yaml_shape.specs.TypedView.{content_in, id_in, schema_in};
 ghost use Rattle.yaml_base.specs.EmitEvents.{emit_of};
 ghost use Rattle.yaml_emit.specs.StreamTexts.{IsStreamText};
-ghost use Rattle.serde_yaml.specs.Printed.{HasEvents, HasText, IsDataWritten, IsOutOfPlace, IsRefused};
+ghost use Rattle.serde_yaml.specs.Printed.{AddsText, HasEvents, HasText, IsDataWritten, IsOutOfPlace, IsRefused};
 ghost use Rattle.serde_yaml.specs.TypedWrites.{TypeWrites};
 
 use crate::ser::{to_events, write_stream};
@@ -77,6 +77,8 @@ pub fn to_writer<W: Write, T: Serialize>(
     value: &T,
 ) -> std::result::Result<(), WriteFault>
     ensures written { OnOk result (HasEvents (TypeWrites T.start (T.written value.now))) }
+    ensures text { OnOk result (AddsText (TypeWrites T.start (T.written value.now))
+        (W.contents writer.old) (W.contents writer.new)) }
     ensures kept { OnOk result (T.kept value.now) }
 {
     let text = match to_string(alloc, value) {
