@@ -1,10 +1,12 @@
 //! Writing YAML text.
 
-ghost use Rattle.std.specs.Prelude.{◌≡◌, false, IfErr, OnOk};
+ghost use Rattle.std.specs.Prelude.{◌≡◌, false, map, string_bytes, IfErr, IfOk, OnOk};
 ghost use Rattle.yaml_base.specs.Answer.{is_memory};
 ghost use Rattle.yaml_shape.specs.DataView.{data_of};
 ghost use Rattle.yaml_shape.specs.TypedView.{content_in, id_in, schema_in};
-ghost use Rattle.serde_yaml.specs.Printed.{HasEvents, IsDataWritten, IsOutOfPlace, IsRefused};
+ghost use Rattle.yaml_base.specs.EmitEvents.{emit_of};
+ghost use Rattle.yaml_emit.specs.StreamTexts.{IsStreamText};
+ghost use Rattle.serde_yaml.specs.Printed.{AddsText, HasEvents, HasText, IsDataWritten, IsOutOfPlace, IsRefused};
 ghost use Rattle.serde_yaml.specs.TypedWrites.{TypeWrites};
 
 use crate::ser::{to_events, write_stream};
@@ -39,6 +41,7 @@ impl std::error::Error for WriteFault {}
 
 // The text of events.
 fn printed(alloc: Global, events: &[EmitEvent]) -> Result<String>
+    ensures text { IfOk result (λ text. IsStreamText (map emit_of events.now) (string_bytes text)) }
     ensures refused { IfErr result (λ cause. is_memory cause ≡ false → IsOutOfPlace cause) }
 {
     match emit(alloc, events) {
@@ -51,6 +54,8 @@ fn printed(alloc: Global, events: &[EmitEvent]) -> Result<String>
 /// What `to_events` refuses is refused so.
 pub fn to_string<T: Serialize>(alloc: Global, value: &T) -> Result<String>
     ensures written { OnOk result (HasEvents (TypeWrites T.start (T.written value.now))) }
+    ensures text { IfOk result (λ text. HasText (TypeWrites T.start (T.written value.now))
+        (string_bytes text)) }
     ensures kept { OnOk result (T.kept value.now) }
     ensures refused { IfErr result (λ cause. is_memory cause ≡ false
         → IsRefused (TypeWrites T.start (T.written value.now)) cause) }
@@ -72,6 +77,8 @@ pub fn to_writer<W: Write, T: Serialize>(
     value: &T,
 ) -> std::result::Result<(), WriteFault>
     ensures written { OnOk result (HasEvents (TypeWrites T.start (T.written value.now))) }
+    ensures text { OnOk result (AddsText (TypeWrites T.start (T.written value.now))
+        (W.contents writer.old) (W.contents writer.new)) }
     ensures kept { OnOk result (T.kept value.now) }
 {
     let text = match to_string(alloc, value) {
@@ -91,6 +98,8 @@ pub fn to_writer<W: Write, T: Serialize>(
 pub fn data_to_string(alloc: Global, value: &Typed<'_, '_>) -> Result<String>
     ensures written { OnOk result (HasEvents (IsDataWritten (schema_in value.now) (id_in value.now).0
         (data_of (content_in value.now)))) }
+    ensures text { IfOk result (λ text. HasText (IsDataWritten (schema_in value.now) (id_in value.now).0
+        (data_of (content_in value.now))) (string_bytes text)) }
     ensures refused { IfErr result (λ cause. is_memory cause ≡ false
         → IsRefused (IsDataWritten (schema_in value.now) (id_in value.now).0
         (data_of (content_in value.now))) cause) }

@@ -1,7 +1,8 @@
 -- What was written has its events, and a refusal is the writer's or the emitter's.
-use Rattle.std.proofs.Common.{ap, map}
+use Rattle.std.proofs.Common.{ap, map, string_bytes, subst}
 use Rattle.yaml_base.specs.EmitEvents.{emit_of}
-use Rattle.serde_yaml.specs.Printed.{written_as, not_written, not_printed}
+use Rattle.yaml_emit.specs.StreamTexts.{IsStreamText}
+use Rattle.serde_yaml.specs.Printed.{written_as, printed_as, not_written, not_printed}
 use Rattle.serde_yaml.proofs.printed.data_to_string.Goals as goal
 
 pub returns-in-Err-clause-refused : goal.returns-in-Err-clause-refused
@@ -21,6 +22,17 @@ returns-in-Ok-printed-clause-written c =
       c.content.ensures.content,
       c.in-Ok.ensures.written,
     ))
+
+pub returns-in-Ok-printed-clause-text : goal.returns-in-Ok-printed-clause-text
+returns-in-Ok-printed-clause-text c =
+    printed_as (map emit_of c.in-Ok.events.items) (cc (
+      c.schema.ensures,
+      ap (λ i. i.0) c.id.ensures,
+      c.content.ensures.content,
+      c.in-Ok.ensures.written,
+    ))
+    (subst (λ es. IsStreamText (map emit_of es) (string_bytes c.in-Ok-printed.text)) c.as_slice.ensures.value
+    c.in-Ok-printed.ensures.text)
 
 pub returns-clause-refused : goal.returns-clause-refused
 returns-clause-refused c = λ known. not_printed _ (c.in-Err-printed.ensures.refused known)

@@ -7,8 +7,6 @@ use Rattle.serde_yaml.proofs.printed.printed.Goals as goal
 is_out : (cause other : Cause) → cause ≡ other → IsOutOfPlace other → IsOutOfPlace cause
 is_out cause other e h = subst (λ (x : Cause). IsOutOfPlace x) (sym e) h
 
-pub returns-in-Err : goal.returns-in-Err
-returns-in-Err c = record {
-  refused = λ known.
-      let h = c.in-Err.ensures.refused known in is_out _ _ h.1 (out_of_place h.0);
-}
+pub returns-in-Err-clause-refused : goal.returns-in-Err-clause-refused
+returns-in-Err-clause-refused c = λ known.
+    let h = c.in-Err.ensures.refused known in is_out _ _ h.1 (out_of_place h.0)

@@ -1,5 +1,8 @@
 -- What was written has its events, and a refusal is the writer's or the emitter's.
-use Rattle.serde_yaml.specs.Printed.{written_as, not_written, not_printed}
+use Rattle.std.proofs.Common.{map, string_bytes, subst}
+use Rattle.yaml_base.specs.EmitEvents.{emit_of}
+use Rattle.yaml_emit.specs.StreamTexts.{IsStreamText}
+use Rattle.serde_yaml.specs.Printed.{written_as, printed_as, not_written, not_printed}
 use Rattle.serde_yaml.proofs.printed.to_string.Goals as goal
 
 pub returns-in-Err-clause-refused : goal.returns-in-Err-clause-refused
@@ -7,6 +10,12 @@ returns-in-Err-clause-refused g c = λ known. not_written _ (c.in-Err.ensures.wr
 
 pub returns-in-Ok-printed-clause-written : goal.returns-in-Ok-printed-clause-written
 returns-in-Ok-printed-clause-written g c = written_as _ c.in-Ok.ensures.written
+
+pub returns-in-Ok-printed-clause-text : goal.returns-in-Ok-printed-clause-text
+returns-in-Ok-printed-clause-text g c =
+    printed_as (map emit_of c.in-Ok.events.items) c.in-Ok.ensures.written
+    (subst (λ es. IsStreamText (map emit_of es) (string_bytes c.in-Ok-printed.text)) c.as_slice.ensures.value
+    c.in-Ok-printed.ensures.text)
 
 pub returns-clause-refused : goal.returns-clause-refused
 returns-clause-refused g c = λ known. not_printed _ (c.in-Err-printed.ensures.refused known)
