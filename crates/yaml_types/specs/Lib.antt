@@ -1,6 +1,7 @@
 -- What contracts of this crate cite, and the laws of the types.
 pub mod Built
 pub mod BuiltParts
+pub mod Integers
 pub mod MapLaws
 pub mod PartShapes
 pub mod PlainLaws
