@@ -11,10 +11,13 @@ pub mod RefusalParts
 pub mod ReturnLaws
 pub mod RowReturns
 pub mod Rows
+pub mod SetLaws
+pub mod Sets
 pub mod ShapeLaws
 pub mod Start
 pub mod StartLaws
 pub mod StructLaws
+pub mod Texts
 pub mod TripleLaws
 pub mod WrittenLaws
 pub mod WrittenParts
