@@ -1,6 +1,7 @@
 -- Lemmas of this crate.
 pub mod BuildLaws
 pub mod FoundLaws
+pub mod GatherLaws
 pub mod ItemsThen
 pub mod InsertLaws
 pub mod LeafLaws

@@ -1,6 +1,7 @@
 -- What contracts of this crate cite, and the laws of the types.
 pub mod Built
 pub mod BuiltParts
+pub mod Integers
 pub mod MapLaws
 pub mod PartShapes
 pub mod PlainLaws
@@ -10,10 +11,13 @@ pub mod RefusalParts
 pub mod ReturnLaws
 pub mod RowReturns
 pub mod Rows
+pub mod SetLaws
+pub mod Sets
 pub mod ShapeLaws
 pub mod Start
 pub mod StartLaws
 pub mod StructLaws
+pub mod Texts
 pub mod TripleLaws
 pub mod WrittenLaws
 pub mod WrittenParts

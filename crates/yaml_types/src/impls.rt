@@ -1,13 +1,17 @@
 //! The types that are read and written as themselves.
 mod boolean;
 mod boxed;
+mod boxed_text;
 mod character;
 mod integers;
+mod lent_text;
 mod list;
 mod map;
 mod optional;
 mod pair;
+mod set;
 mod text;
 mod triple;
+mod tuples;
 mod unit;
 mod value;

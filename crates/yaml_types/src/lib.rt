@@ -4,8 +4,10 @@
 mod composed;
 mod fault;
 mod impls;
+mod items;
 mod leaf;
 mod row;
+mod strict;
 mod structs;
 mod traits;
 mod tuples;
@@ -13,6 +15,7 @@ mod tuples;
 pub use composed::{Composed, FromParts, RoundTripParts, ToParts};
 pub use fault::BuildFault;
 pub use row::{ReadRow, RoundTripRow, Row, WriteRow};
+pub use strict::StrictStruct;
 pub use structs::{Fields, Struct, struct_names};
 pub use traits::{Deserialize, RoundTrip, Serialize};
 pub use tuples::Tuple;

@@ -1,5 +1,13 @@
 //! Integers with a sign, of 64 and 128 bits and of the machine's width, 64 bits.
 
+ghost use Rattle.std.specs.Prelude.{refl};
+ghost use Rattle.yaml_shape.specs.PlainShape.{i64, i128, isize};
+ghost use Rattle.yaml_shape.specs.PlainData.{signed_data};
+ghost use Rattle.yaml_types.specs.Built.{BuiltSigned};
+ghost use Rattle.yaml_types.specs.BuildRefusal.{NeverRefused};
+ghost use Rattle.yaml_types.specs.Integers.{integer_start, closed_integer, IsSignedOf};
+ghost use Rattle.yaml_types.specs.PlainLaws.{signed_returned};
+
 use crate::fault::BuildFault;
 use crate::leaf::leaf_schema;
 use crate::traits::{Deserialize, RoundTrip, Serialize};
@@ -8,19 +16,13 @@ use yaml_base::Error;
 use yaml_shape::{Data, Schema, SchemaFault, Shape, ShapeId};
 
 impl<'de> Deserialize<'de> for i64 {
-    ghost use Rattle.yaml_shape.specs.PlainShape.{integer_shape, i64};
-    ghost use Rattle.yaml_types.specs.Start.{leaf_start};
-    ghost use Rattle.yaml_types.specs.Built.{BuiltSigned};
-    ghost use Rattle.yaml_types.specs.BuildRefusal.{NeverRefused};
-    ghost use Rattle.yaml_types.specs.StartLaws.{closed_leaf};
-
-    ghost start = { leaf_start (integer_shape i64) };
+    ghost start = { integer_start i64 };
 
     ghost built = { BuiltSigned };
 
     ghost refused = { NeverRefused };
 
-    ghost closed = { closed_leaf (integer_shape i64) tt };
+    ghost closed = { closed_integer i64 };
 
     fn schema(alloc: Global) -> Result<(Schema, ShapeId), SchemaFault> {
         leaf_schema(alloc, Shape::I64)
@@ -35,20 +37,13 @@ impl<'de> Deserialize<'de> for i64 {
 }
 
 impl Serialize for i64 {
-    ghost use Rattle.std.specs.Prelude.{IsTrue};
-    ghost use Rattle.yaml_shape.specs.PlainShape.{integer_shape, i64};
-    ghost use Rattle.yaml_shape.specs.PlainData.{signed_data};
-    ghost use Rattle.yaml_shape.specs.IntegerTypes.{is_of_type};
-    ghost use Rattle.yaml_types.specs.Start.{leaf_start};
-    ghost use Rattle.yaml_types.specs.StartLaws.{closed_leaf};
+    ghost start = { integer_start i64 };
 
-    ghost start = { leaf_start (integer_shape i64) };
-
-    ghost kept = { λ z. IsTrue (is_of_type i64 z) };
+    ghost kept = { IsSignedOf i64 };
 
     ghost written = { signed_data };
 
-    ghost closed = { closed_leaf (integer_shape i64) tt };
+    ghost closed = { closed_integer i64 };
 
     ghost of_shape = { λ _ within. within };
 
@@ -62,9 +57,6 @@ impl Serialize for i64 {
 }
 
 impl<'de> RoundTrip<'de> for i64 {
-    ghost use Rattle.std.specs.Prelude.{refl};
-    ghost use Rattle.yaml_types.specs.PlainLaws.{signed_returned};
-
     ghost one_schema = { refl };
 
     ghost returned = { λ x y d _ equal built. signed_returned x y d equal built };
@@ -73,19 +65,13 @@ impl<'de> RoundTrip<'de> for i64 {
 }
 
 impl<'de> Deserialize<'de> for i128 {
-    ghost use Rattle.yaml_shape.specs.PlainShape.{integer_shape, i128};
-    ghost use Rattle.yaml_types.specs.Start.{leaf_start};
-    ghost use Rattle.yaml_types.specs.Built.{BuiltSigned};
-    ghost use Rattle.yaml_types.specs.BuildRefusal.{NeverRefused};
-    ghost use Rattle.yaml_types.specs.StartLaws.{closed_leaf};
-
-    ghost start = { leaf_start (integer_shape i128) };
+    ghost start = { integer_start i128 };
 
     ghost built = { BuiltSigned };
 
     ghost refused = { NeverRefused };
 
-    ghost closed = { closed_leaf (integer_shape i128) tt };
+    ghost closed = { closed_integer i128 };
 
     fn schema(alloc: Global) -> Result<(Schema, ShapeId), SchemaFault> {
         leaf_schema(alloc, Shape::I128)
@@ -100,20 +86,13 @@ impl<'de> Deserialize<'de> for i128 {
 }
 
 impl Serialize for i128 {
-    ghost use Rattle.std.specs.Prelude.{IsTrue};
-    ghost use Rattle.yaml_shape.specs.PlainShape.{integer_shape, i128};
-    ghost use Rattle.yaml_shape.specs.PlainData.{signed_data};
-    ghost use Rattle.yaml_shape.specs.IntegerTypes.{is_of_type};
-    ghost use Rattle.yaml_types.specs.Start.{leaf_start};
-    ghost use Rattle.yaml_types.specs.StartLaws.{closed_leaf};
+    ghost start = { integer_start i128 };
 
-    ghost start = { leaf_start (integer_shape i128) };
-
-    ghost kept = { λ z. IsTrue (is_of_type i128 z) };
+    ghost kept = { IsSignedOf i128 };
 
     ghost written = { signed_data };
 
-    ghost closed = { closed_leaf (integer_shape i128) tt };
+    ghost closed = { closed_integer i128 };
 
     ghost of_shape = { λ _ within. within };
 
@@ -127,9 +106,6 @@ impl Serialize for i128 {
 }
 
 impl<'de> RoundTrip<'de> for i128 {
-    ghost use Rattle.std.specs.Prelude.{refl};
-    ghost use Rattle.yaml_types.specs.PlainLaws.{signed_returned};
-
     ghost one_schema = { refl };
 
     ghost returned = { λ x y d _ equal built. signed_returned x y d equal built };
@@ -138,19 +114,13 @@ impl<'de> RoundTrip<'de> for i128 {
 }
 
 impl<'de> Deserialize<'de> for isize {
-    ghost use Rattle.yaml_shape.specs.PlainShape.{integer_shape, isize};
-    ghost use Rattle.yaml_types.specs.Start.{leaf_start};
-    ghost use Rattle.yaml_types.specs.Built.{BuiltSigned};
-    ghost use Rattle.yaml_types.specs.BuildRefusal.{NeverRefused};
-    ghost use Rattle.yaml_types.specs.StartLaws.{closed_leaf};
-
-    ghost start = { leaf_start (integer_shape isize) };
+    ghost start = { integer_start isize };
 
     ghost built = { BuiltSigned };
 
     ghost refused = { NeverRefused };
 
-    ghost closed = { closed_leaf (integer_shape isize) tt };
+    ghost closed = { closed_integer isize };
 
     fn schema(alloc: Global) -> Result<(Schema, ShapeId), SchemaFault> {
         leaf_schema(alloc, Shape::Isize)
@@ -165,20 +135,13 @@ impl<'de> Deserialize<'de> for isize {
 }
 
 impl Serialize for isize {
-    ghost use Rattle.std.specs.Prelude.{IsTrue};
-    ghost use Rattle.yaml_shape.specs.PlainShape.{integer_shape, isize};
-    ghost use Rattle.yaml_shape.specs.PlainData.{signed_data};
-    ghost use Rattle.yaml_shape.specs.IntegerTypes.{is_of_type};
-    ghost use Rattle.yaml_types.specs.Start.{leaf_start};
-    ghost use Rattle.yaml_types.specs.StartLaws.{closed_leaf};
+    ghost start = { integer_start isize };
 
-    ghost start = { leaf_start (integer_shape isize) };
-
-    ghost kept = { λ z. IsTrue (is_of_type isize z) };
+    ghost kept = { IsSignedOf isize };
 
     ghost written = { signed_data };
 
-    ghost closed = { closed_leaf (integer_shape isize) tt };
+    ghost closed = { closed_integer isize };
 
     ghost of_shape = { λ _ within. within };
 
@@ -192,9 +155,6 @@ impl Serialize for isize {
 }
 
 impl<'de> RoundTrip<'de> for isize {
-    ghost use Rattle.std.specs.Prelude.{refl};
-    ghost use Rattle.yaml_types.specs.PlainLaws.{signed_returned};
-
     ghost one_schema = { refl };
 
     ghost returned = { λ x y d _ equal built. signed_returned x y d equal built };

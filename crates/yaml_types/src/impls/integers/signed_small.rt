@@ -1,5 +1,13 @@
 //! Integers with a sign, of 8, 16 and 32 bits.
 
+ghost use Rattle.std.specs.Prelude.{refl};
+ghost use Rattle.yaml_shape.specs.PlainShape.{i8, i16, i32};
+ghost use Rattle.yaml_shape.specs.PlainData.{signed_data};
+ghost use Rattle.yaml_types.specs.Built.{BuiltSigned};
+ghost use Rattle.yaml_types.specs.BuildRefusal.{NeverRefused};
+ghost use Rattle.yaml_types.specs.Integers.{integer_start, closed_integer, IsSignedOf};
+ghost use Rattle.yaml_types.specs.PlainLaws.{signed_returned};
+
 use crate::fault::BuildFault;
 use crate::leaf::leaf_schema;
 use crate::traits::{Deserialize, RoundTrip, Serialize};
@@ -8,19 +16,13 @@ use yaml_base::Error;
 use yaml_shape::{Data, Schema, SchemaFault, Shape, ShapeId};
 
 impl<'de> Deserialize<'de> for i8 {
-    ghost use Rattle.yaml_shape.specs.PlainShape.{integer_shape, i8};
-    ghost use Rattle.yaml_types.specs.Start.{leaf_start};
-    ghost use Rattle.yaml_types.specs.Built.{BuiltSigned};
-    ghost use Rattle.yaml_types.specs.BuildRefusal.{NeverRefused};
-    ghost use Rattle.yaml_types.specs.StartLaws.{closed_leaf};
-
-    ghost start = { leaf_start (integer_shape i8) };
+    ghost start = { integer_start i8 };
 
     ghost built = { BuiltSigned };
 
     ghost refused = { NeverRefused };
 
-    ghost closed = { closed_leaf (integer_shape i8) tt };
+    ghost closed = { closed_integer i8 };
 
     fn schema(alloc: Global) -> Result<(Schema, ShapeId), SchemaFault> {
         leaf_schema(alloc, Shape::I8)
@@ -35,20 +37,13 @@ impl<'de> Deserialize<'de> for i8 {
 }
 
 impl Serialize for i8 {
-    ghost use Rattle.std.specs.Prelude.{IsTrue};
-    ghost use Rattle.yaml_shape.specs.PlainShape.{integer_shape, i8};
-    ghost use Rattle.yaml_shape.specs.PlainData.{signed_data};
-    ghost use Rattle.yaml_shape.specs.IntegerTypes.{is_of_type};
-    ghost use Rattle.yaml_types.specs.Start.{leaf_start};
-    ghost use Rattle.yaml_types.specs.StartLaws.{closed_leaf};
+    ghost start = { integer_start i8 };
 
-    ghost start = { leaf_start (integer_shape i8) };
-
-    ghost kept = { λ z. IsTrue (is_of_type i8 z) };
+    ghost kept = { IsSignedOf i8 };
 
     ghost written = { signed_data };
 
-    ghost closed = { closed_leaf (integer_shape i8) tt };
+    ghost closed = { closed_integer i8 };
 
     ghost of_shape = { λ _ within. within };
 
@@ -62,9 +57,6 @@ impl Serialize for i8 {
 }
 
 impl<'de> RoundTrip<'de> for i8 {
-    ghost use Rattle.std.specs.Prelude.{refl};
-    ghost use Rattle.yaml_types.specs.PlainLaws.{signed_returned};
-
     ghost one_schema = { refl };
 
     ghost returned = { λ x y d _ equal built. signed_returned x y d equal built };
@@ -73,19 +65,13 @@ impl<'de> RoundTrip<'de> for i8 {
 }
 
 impl<'de> Deserialize<'de> for i16 {
-    ghost use Rattle.yaml_shape.specs.PlainShape.{integer_shape, i16};
-    ghost use Rattle.yaml_types.specs.Start.{leaf_start};
-    ghost use Rattle.yaml_types.specs.Built.{BuiltSigned};
-    ghost use Rattle.yaml_types.specs.BuildRefusal.{NeverRefused};
-    ghost use Rattle.yaml_types.specs.StartLaws.{closed_leaf};
-
-    ghost start = { leaf_start (integer_shape i16) };
+    ghost start = { integer_start i16 };
 
     ghost built = { BuiltSigned };
 
     ghost refused = { NeverRefused };
 
-    ghost closed = { closed_leaf (integer_shape i16) tt };
+    ghost closed = { closed_integer i16 };
 
     fn schema(alloc: Global) -> Result<(Schema, ShapeId), SchemaFault> {
         leaf_schema(alloc, Shape::I16)
@@ -100,20 +86,13 @@ impl<'de> Deserialize<'de> for i16 {
 }
 
 impl Serialize for i16 {
-    ghost use Rattle.std.specs.Prelude.{IsTrue};
-    ghost use Rattle.yaml_shape.specs.PlainShape.{integer_shape, i16};
-    ghost use Rattle.yaml_shape.specs.PlainData.{signed_data};
-    ghost use Rattle.yaml_shape.specs.IntegerTypes.{is_of_type};
-    ghost use Rattle.yaml_types.specs.Start.{leaf_start};
-    ghost use Rattle.yaml_types.specs.StartLaws.{closed_leaf};
+    ghost start = { integer_start i16 };
 
-    ghost start = { leaf_start (integer_shape i16) };
-
-    ghost kept = { λ z. IsTrue (is_of_type i16 z) };
+    ghost kept = { IsSignedOf i16 };
 
     ghost written = { signed_data };
 
-    ghost closed = { closed_leaf (integer_shape i16) tt };
+    ghost closed = { closed_integer i16 };
 
     ghost of_shape = { λ _ within. within };
 
@@ -127,9 +106,6 @@ impl Serialize for i16 {
 }
 
 impl<'de> RoundTrip<'de> for i16 {
-    ghost use Rattle.std.specs.Prelude.{refl};
-    ghost use Rattle.yaml_types.specs.PlainLaws.{signed_returned};
-
     ghost one_schema = { refl };
 
     ghost returned = { λ x y d _ equal built. signed_returned x y d equal built };
@@ -138,19 +114,13 @@ impl<'de> RoundTrip<'de> for i16 {
 }
 
 impl<'de> Deserialize<'de> for i32 {
-    ghost use Rattle.yaml_shape.specs.PlainShape.{integer_shape, i32};
-    ghost use Rattle.yaml_types.specs.Start.{leaf_start};
-    ghost use Rattle.yaml_types.specs.Built.{BuiltSigned};
-    ghost use Rattle.yaml_types.specs.BuildRefusal.{NeverRefused};
-    ghost use Rattle.yaml_types.specs.StartLaws.{closed_leaf};
-
-    ghost start = { leaf_start (integer_shape i32) };
+    ghost start = { integer_start i32 };
 
     ghost built = { BuiltSigned };
 
     ghost refused = { NeverRefused };
 
-    ghost closed = { closed_leaf (integer_shape i32) tt };
+    ghost closed = { closed_integer i32 };
 
     fn schema(alloc: Global) -> Result<(Schema, ShapeId), SchemaFault> {
         leaf_schema(alloc, Shape::I32)
@@ -165,20 +135,13 @@ impl<'de> Deserialize<'de> for i32 {
 }
 
 impl Serialize for i32 {
-    ghost use Rattle.std.specs.Prelude.{IsTrue};
-    ghost use Rattle.yaml_shape.specs.PlainShape.{integer_shape, i32};
-    ghost use Rattle.yaml_shape.specs.PlainData.{signed_data};
-    ghost use Rattle.yaml_shape.specs.IntegerTypes.{is_of_type};
-    ghost use Rattle.yaml_types.specs.Start.{leaf_start};
-    ghost use Rattle.yaml_types.specs.StartLaws.{closed_leaf};
+    ghost start = { integer_start i32 };
 
-    ghost start = { leaf_start (integer_shape i32) };
-
-    ghost kept = { λ z. IsTrue (is_of_type i32 z) };
+    ghost kept = { IsSignedOf i32 };
 
     ghost written = { signed_data };
 
-    ghost closed = { closed_leaf (integer_shape i32) tt };
+    ghost closed = { closed_integer i32 };
 
     ghost of_shape = { λ _ within. within };
 
@@ -192,9 +155,6 @@ impl Serialize for i32 {
 }
 
 impl<'de> RoundTrip<'de> for i32 {
-    ghost use Rattle.std.specs.Prelude.{refl};
-    ghost use Rattle.yaml_types.specs.PlainLaws.{signed_returned};
-
     ghost one_schema = { refl };
 
     ghost returned = { λ x y d _ equal built. signed_returned x y d equal built };

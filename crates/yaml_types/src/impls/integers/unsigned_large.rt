@@ -1,5 +1,13 @@
 //! Integers without a sign, of 64 and 128 bits and of the machine's width, 64 bits.
 
+ghost use Rattle.std.specs.Prelude.{refl};
+ghost use Rattle.yaml_shape.specs.PlainShape.{u64, u128, usize};
+ghost use Rattle.yaml_shape.specs.PlainData.{unsigned_data};
+ghost use Rattle.yaml_types.specs.Built.{BuiltUnsigned};
+ghost use Rattle.yaml_types.specs.BuildRefusal.{NeverRefused};
+ghost use Rattle.yaml_types.specs.Integers.{integer_start, closed_integer, IsUnsignedOf};
+ghost use Rattle.yaml_types.specs.PlainLaws.{unsigned_returned};
+
 use crate::fault::BuildFault;
 use crate::leaf::leaf_schema;
 use crate::traits::{Deserialize, RoundTrip, Serialize};
@@ -8,19 +16,13 @@ use yaml_base::Error;
 use yaml_shape::{Data, Schema, SchemaFault, Shape, ShapeId};
 
 impl<'de> Deserialize<'de> for u64 {
-    ghost use Rattle.yaml_shape.specs.PlainShape.{integer_shape, u64};
-    ghost use Rattle.yaml_types.specs.Start.{leaf_start};
-    ghost use Rattle.yaml_types.specs.Built.{BuiltUnsigned};
-    ghost use Rattle.yaml_types.specs.BuildRefusal.{NeverRefused};
-    ghost use Rattle.yaml_types.specs.StartLaws.{closed_leaf};
-
-    ghost start = { leaf_start (integer_shape u64) };
+    ghost start = { integer_start u64 };
 
     ghost built = { BuiltUnsigned };
 
     ghost refused = { NeverRefused };
 
-    ghost closed = { closed_leaf (integer_shape u64) tt };
+    ghost closed = { closed_integer u64 };
 
     fn schema(alloc: Global) -> Result<(Schema, ShapeId), SchemaFault> {
         leaf_schema(alloc, Shape::U64)
@@ -35,20 +37,13 @@ impl<'de> Deserialize<'de> for u64 {
 }
 
 impl Serialize for u64 {
-    ghost use Rattle.std.specs.Prelude.{pos, IsTrue};
-    ghost use Rattle.yaml_shape.specs.PlainShape.{integer_shape, u64};
-    ghost use Rattle.yaml_shape.specs.PlainData.{unsigned_data};
-    ghost use Rattle.yaml_shape.specs.IntegerTypes.{is_of_type};
-    ghost use Rattle.yaml_types.specs.Start.{leaf_start};
-    ghost use Rattle.yaml_types.specs.StartLaws.{closed_leaf};
+    ghost start = { integer_start u64 };
 
-    ghost start = { leaf_start (integer_shape u64) };
-
-    ghost kept = { λ n. IsTrue (is_of_type u64 (pos n)) };
+    ghost kept = { IsUnsignedOf u64 };
 
     ghost written = { unsigned_data };
 
-    ghost closed = { closed_leaf (integer_shape u64) tt };
+    ghost closed = { closed_integer u64 };
 
     ghost of_shape = { λ _ within. within };
 
@@ -62,9 +57,6 @@ impl Serialize for u64 {
 }
 
 impl<'de> RoundTrip<'de> for u64 {
-    ghost use Rattle.std.specs.Prelude.{refl};
-    ghost use Rattle.yaml_types.specs.PlainLaws.{unsigned_returned};
-
     ghost one_schema = { refl };
 
     ghost returned = { λ x y d _ equal built. unsigned_returned x y d equal built };
@@ -73,19 +65,13 @@ impl<'de> RoundTrip<'de> for u64 {
 }
 
 impl<'de> Deserialize<'de> for u128 {
-    ghost use Rattle.yaml_shape.specs.PlainShape.{integer_shape, u128};
-    ghost use Rattle.yaml_types.specs.Start.{leaf_start};
-    ghost use Rattle.yaml_types.specs.Built.{BuiltUnsigned};
-    ghost use Rattle.yaml_types.specs.BuildRefusal.{NeverRefused};
-    ghost use Rattle.yaml_types.specs.StartLaws.{closed_leaf};
-
-    ghost start = { leaf_start (integer_shape u128) };
+    ghost start = { integer_start u128 };
 
     ghost built = { BuiltUnsigned };
 
     ghost refused = { NeverRefused };
 
-    ghost closed = { closed_leaf (integer_shape u128) tt };
+    ghost closed = { closed_integer u128 };
 
     fn schema(alloc: Global) -> Result<(Schema, ShapeId), SchemaFault> {
         leaf_schema(alloc, Shape::U128)
@@ -100,20 +86,13 @@ impl<'de> Deserialize<'de> for u128 {
 }
 
 impl Serialize for u128 {
-    ghost use Rattle.std.specs.Prelude.{pos, IsTrue};
-    ghost use Rattle.yaml_shape.specs.PlainShape.{integer_shape, u128};
-    ghost use Rattle.yaml_shape.specs.PlainData.{unsigned_data};
-    ghost use Rattle.yaml_shape.specs.IntegerTypes.{is_of_type};
-    ghost use Rattle.yaml_types.specs.Start.{leaf_start};
-    ghost use Rattle.yaml_types.specs.StartLaws.{closed_leaf};
+    ghost start = { integer_start u128 };
 
-    ghost start = { leaf_start (integer_shape u128) };
-
-    ghost kept = { λ n. IsTrue (is_of_type u128 (pos n)) };
+    ghost kept = { IsUnsignedOf u128 };
 
     ghost written = { unsigned_data };
 
-    ghost closed = { closed_leaf (integer_shape u128) tt };
+    ghost closed = { closed_integer u128 };
 
     ghost of_shape = { λ _ within. within };
 
@@ -127,9 +106,6 @@ impl Serialize for u128 {
 }
 
 impl<'de> RoundTrip<'de> for u128 {
-    ghost use Rattle.std.specs.Prelude.{refl};
-    ghost use Rattle.yaml_types.specs.PlainLaws.{unsigned_returned};
-
     ghost one_schema = { refl };
 
     ghost returned = { λ x y d _ equal built. unsigned_returned x y d equal built };
@@ -138,19 +114,13 @@ impl<'de> RoundTrip<'de> for u128 {
 }
 
 impl<'de> Deserialize<'de> for usize {
-    ghost use Rattle.yaml_shape.specs.PlainShape.{integer_shape, usize};
-    ghost use Rattle.yaml_types.specs.Start.{leaf_start};
-    ghost use Rattle.yaml_types.specs.Built.{BuiltUnsigned};
-    ghost use Rattle.yaml_types.specs.BuildRefusal.{NeverRefused};
-    ghost use Rattle.yaml_types.specs.StartLaws.{closed_leaf};
-
-    ghost start = { leaf_start (integer_shape usize) };
+    ghost start = { integer_start usize };
 
     ghost built = { BuiltUnsigned };
 
     ghost refused = { NeverRefused };
 
-    ghost closed = { closed_leaf (integer_shape usize) tt };
+    ghost closed = { closed_integer usize };
 
     fn schema(alloc: Global) -> Result<(Schema, ShapeId), SchemaFault> {
         leaf_schema(alloc, Shape::Usize)
@@ -165,20 +135,13 @@ impl<'de> Deserialize<'de> for usize {
 }
 
 impl Serialize for usize {
-    ghost use Rattle.std.specs.Prelude.{pos, IsTrue};
-    ghost use Rattle.yaml_shape.specs.PlainShape.{integer_shape, usize};
-    ghost use Rattle.yaml_shape.specs.PlainData.{unsigned_data};
-    ghost use Rattle.yaml_shape.specs.IntegerTypes.{is_of_type};
-    ghost use Rattle.yaml_types.specs.Start.{leaf_start};
-    ghost use Rattle.yaml_types.specs.StartLaws.{closed_leaf};
+    ghost start = { integer_start usize };
 
-    ghost start = { leaf_start (integer_shape usize) };
-
-    ghost kept = { λ n. IsTrue (is_of_type usize (pos n)) };
+    ghost kept = { IsUnsignedOf usize };
 
     ghost written = { unsigned_data };
 
-    ghost closed = { closed_leaf (integer_shape usize) tt };
+    ghost closed = { closed_integer usize };
 
     ghost of_shape = { λ _ within. within };
 
@@ -192,9 +155,6 @@ impl Serialize for usize {
 }
 
 impl<'de> RoundTrip<'de> for usize {
-    ghost use Rattle.std.specs.Prelude.{refl};
-    ghost use Rattle.yaml_types.specs.PlainLaws.{unsigned_returned};
-
     ghost one_schema = { refl };
 
     ghost returned = { λ x y d _ equal built. unsigned_returned x y d equal built };

@@ -1,5 +1,13 @@
 //! Integers without a sign, of 8, 16 and 32 bits.
 
+ghost use Rattle.std.specs.Prelude.{refl};
+ghost use Rattle.yaml_shape.specs.PlainShape.{u8, u16, u32};
+ghost use Rattle.yaml_shape.specs.PlainData.{unsigned_data};
+ghost use Rattle.yaml_types.specs.Built.{BuiltUnsigned};
+ghost use Rattle.yaml_types.specs.BuildRefusal.{NeverRefused};
+ghost use Rattle.yaml_types.specs.Integers.{integer_start, closed_integer, IsUnsignedOf};
+ghost use Rattle.yaml_types.specs.PlainLaws.{unsigned_returned};
+
 use crate::fault::BuildFault;
 use crate::leaf::leaf_schema;
 use crate::traits::{Deserialize, RoundTrip, Serialize};
@@ -8,19 +16,13 @@ use yaml_base::Error;
 use yaml_shape::{Data, Schema, SchemaFault, Shape, ShapeId};
 
 impl<'de> Deserialize<'de> for u8 {
-    ghost use Rattle.yaml_shape.specs.PlainShape.{integer_shape, u8};
-    ghost use Rattle.yaml_types.specs.Start.{leaf_start};
-    ghost use Rattle.yaml_types.specs.Built.{BuiltUnsigned};
-    ghost use Rattle.yaml_types.specs.BuildRefusal.{NeverRefused};
-    ghost use Rattle.yaml_types.specs.StartLaws.{closed_leaf};
-
-    ghost start = { leaf_start (integer_shape u8) };
+    ghost start = { integer_start u8 };
 
     ghost built = { BuiltUnsigned };
 
     ghost refused = { NeverRefused };
 
-    ghost closed = { closed_leaf (integer_shape u8) tt };
+    ghost closed = { closed_integer u8 };
 
     fn schema(alloc: Global) -> Result<(Schema, ShapeId), SchemaFault> {
         leaf_schema(alloc, Shape::U8)
@@ -35,20 +37,13 @@ impl<'de> Deserialize<'de> for u8 {
 }
 
 impl Serialize for u8 {
-    ghost use Rattle.std.specs.Prelude.{pos, IsTrue};
-    ghost use Rattle.yaml_shape.specs.PlainShape.{integer_shape, u8};
-    ghost use Rattle.yaml_shape.specs.PlainData.{unsigned_data};
-    ghost use Rattle.yaml_shape.specs.IntegerTypes.{is_of_type};
-    ghost use Rattle.yaml_types.specs.Start.{leaf_start};
-    ghost use Rattle.yaml_types.specs.StartLaws.{closed_leaf};
+    ghost start = { integer_start u8 };
 
-    ghost start = { leaf_start (integer_shape u8) };
-
-    ghost kept = { λ n. IsTrue (is_of_type u8 (pos n)) };
+    ghost kept = { IsUnsignedOf u8 };
 
     ghost written = { unsigned_data };
 
-    ghost closed = { closed_leaf (integer_shape u8) tt };
+    ghost closed = { closed_integer u8 };
 
     ghost of_shape = { λ _ within. within };
 
@@ -62,9 +57,6 @@ impl Serialize for u8 {
 }
 
 impl<'de> RoundTrip<'de> for u8 {
-    ghost use Rattle.std.specs.Prelude.{refl};
-    ghost use Rattle.yaml_types.specs.PlainLaws.{unsigned_returned};
-
     ghost one_schema = { refl };
 
     ghost returned = { λ x y d _ equal built. unsigned_returned x y d equal built };
@@ -73,19 +65,13 @@ impl<'de> RoundTrip<'de> for u8 {
 }
 
 impl<'de> Deserialize<'de> for u16 {
-    ghost use Rattle.yaml_shape.specs.PlainShape.{integer_shape, u16};
-    ghost use Rattle.yaml_types.specs.Start.{leaf_start};
-    ghost use Rattle.yaml_types.specs.Built.{BuiltUnsigned};
-    ghost use Rattle.yaml_types.specs.BuildRefusal.{NeverRefused};
-    ghost use Rattle.yaml_types.specs.StartLaws.{closed_leaf};
-
-    ghost start = { leaf_start (integer_shape u16) };
+    ghost start = { integer_start u16 };
 
     ghost built = { BuiltUnsigned };
 
     ghost refused = { NeverRefused };
 
-    ghost closed = { closed_leaf (integer_shape u16) tt };
+    ghost closed = { closed_integer u16 };
 
     fn schema(alloc: Global) -> Result<(Schema, ShapeId), SchemaFault> {
         leaf_schema(alloc, Shape::U16)
@@ -100,20 +86,13 @@ impl<'de> Deserialize<'de> for u16 {
 }
 
 impl Serialize for u16 {
-    ghost use Rattle.std.specs.Prelude.{pos, IsTrue};
-    ghost use Rattle.yaml_shape.specs.PlainShape.{integer_shape, u16};
-    ghost use Rattle.yaml_shape.specs.PlainData.{unsigned_data};
-    ghost use Rattle.yaml_shape.specs.IntegerTypes.{is_of_type};
-    ghost use Rattle.yaml_types.specs.Start.{leaf_start};
-    ghost use Rattle.yaml_types.specs.StartLaws.{closed_leaf};
+    ghost start = { integer_start u16 };
 
-    ghost start = { leaf_start (integer_shape u16) };
-
-    ghost kept = { λ n. IsTrue (is_of_type u16 (pos n)) };
+    ghost kept = { IsUnsignedOf u16 };
 
     ghost written = { unsigned_data };
 
-    ghost closed = { closed_leaf (integer_shape u16) tt };
+    ghost closed = { closed_integer u16 };
 
     ghost of_shape = { λ _ within. within };
 
@@ -127,9 +106,6 @@ impl Serialize for u16 {
 }
 
 impl<'de> RoundTrip<'de> for u16 {
-    ghost use Rattle.std.specs.Prelude.{refl};
-    ghost use Rattle.yaml_types.specs.PlainLaws.{unsigned_returned};
-
     ghost one_schema = { refl };
 
     ghost returned = { λ x y d _ equal built. unsigned_returned x y d equal built };
@@ -138,19 +114,13 @@ impl<'de> RoundTrip<'de> for u16 {
 }
 
 impl<'de> Deserialize<'de> for u32 {
-    ghost use Rattle.yaml_shape.specs.PlainShape.{integer_shape, u32};
-    ghost use Rattle.yaml_types.specs.Start.{leaf_start};
-    ghost use Rattle.yaml_types.specs.Built.{BuiltUnsigned};
-    ghost use Rattle.yaml_types.specs.BuildRefusal.{NeverRefused};
-    ghost use Rattle.yaml_types.specs.StartLaws.{closed_leaf};
-
-    ghost start = { leaf_start (integer_shape u32) };
+    ghost start = { integer_start u32 };
 
     ghost built = { BuiltUnsigned };
 
     ghost refused = { NeverRefused };
 
-    ghost closed = { closed_leaf (integer_shape u32) tt };
+    ghost closed = { closed_integer u32 };
 
     fn schema(alloc: Global) -> Result<(Schema, ShapeId), SchemaFault> {
         leaf_schema(alloc, Shape::U32)
@@ -165,20 +135,13 @@ impl<'de> Deserialize<'de> for u32 {
 }
 
 impl Serialize for u32 {
-    ghost use Rattle.std.specs.Prelude.{pos, IsTrue};
-    ghost use Rattle.yaml_shape.specs.PlainShape.{integer_shape, u32};
-    ghost use Rattle.yaml_shape.specs.PlainData.{unsigned_data};
-    ghost use Rattle.yaml_shape.specs.IntegerTypes.{is_of_type};
-    ghost use Rattle.yaml_types.specs.Start.{leaf_start};
-    ghost use Rattle.yaml_types.specs.StartLaws.{closed_leaf};
+    ghost start = { integer_start u32 };
 
-    ghost start = { leaf_start (integer_shape u32) };
-
-    ghost kept = { λ n. IsTrue (is_of_type u32 (pos n)) };
+    ghost kept = { IsUnsignedOf u32 };
 
     ghost written = { unsigned_data };
 
-    ghost closed = { closed_leaf (integer_shape u32) tt };
+    ghost closed = { closed_integer u32 };
 
     ghost of_shape = { λ _ within. within };
 
@@ -192,9 +155,6 @@ impl Serialize for u32 {
 }
 
 impl<'de> RoundTrip<'de> for u32 {
-    ghost use Rattle.std.specs.Prelude.{refl};
-    ghost use Rattle.yaml_types.specs.PlainLaws.{unsigned_returned};
-
     ghost one_schema = { refl };
 
     ghost returned = { λ x y d _ equal built. unsigned_returned x y d equal built };

@@ -1,0 +1,98 @@
+//! Sets in the order of their elements.
+
+ghost use Rattle.std.specs.Prelude.{IsTrue, IfOk, IfErr};
+ghost use Rattle.yaml_shape.specs.DataView.{items_view};
+ghost use Rattle.yaml_shape.specs.HasShape.{all_have};
+ghost use Rattle.yaml_types.specs.Start.{seq_start};
+ghost use Rattle.yaml_types.specs.StartLaws.{closed_seq};
+ghost use Rattle.yaml_types.specs.Sets.{BuiltMembers, BuiltSet, SetKeeps};
+ghost use Rattle.yaml_types.specs.BuildRefusal.{IsBuildRefusal};
+ghost use Rattle.yaml_types.specs.RefusalParts.{RefusedItems, RefusedSeq};
+
+use crate::fault::BuildFault;
+use crate::traits::{Deserialize, RoundTrip, Serialize};
+use std::alloc::Global;
+use std::collections::BTreeSet;
+use yaml_base::Error;
+use yaml_shape::{Data, Schema, SchemaFault, ShapeId, seq_of};
+
+// The set of the items, put in one after another.
+fn build_members<'de, T: Deserialize<'de> + Ord + Drop>(
+    alloc: Global,
+    items: Vec<Data<'de>>,
+) -> Result<BTreeSet<T>, BuildFault>
+    requires { IsTrue (all_have T.start.0 T.start.1 (items_view items.items)) }
+    ensures ok { IfOk result (λ set. BuiltMembers T.cmp T.built (items_view items.entry.items) set.keys) }
+    ensures refused { IfErr result (IsBuildRefusal (RefusedItems T.built T.refused (items_view items.entry.items))) }
+{
+    let mut set = BTreeSet::new(alloc);
+    for item in items {
+        let member = T::build(alloc, item)?;
+        let _ = set.insert(member)?;
+    }
+    Ok(set)
+}
+
+/// A sequence. Of equal elements the first stays.
+impl<'de, T: Deserialize<'de> + Ord + Drop> Deserialize<'de> for BTreeSet<T> {
+    ghost start = { seq_start T.start };
+
+    ghost built = { λ d s. BuiltSet T.cmp T.built d s.keys };
+
+    ghost refused = { RefusedSeq T.built T.refused };
+
+    ghost closed = { closed_seq T.start T.closed };
+
+    fn schema(alloc: Global) -> Result<(Schema, ShapeId), SchemaFault> {
+        let (schema, element) = T::schema(alloc)?;
+        seq_of(alloc, schema, element)
+    }
+
+    fn build(alloc: Global, found: Data<'de>) -> Result<BTreeSet<T>, BuildFault> {
+        match found {
+            Data::Seq(items) => build_members(alloc, items),
+            _ => unreachable!(),
+        }
+    }
+}
+
+/// A sequence of the elements in their order.
+impl<T: Serialize + Ord> Serialize for BTreeSet<T> {
+    ghost use Rattle.yaml_types.specs.WrittenParts.{seq_written};
+    ghost use Rattle.yaml_types.specs.WrittenLaws.{seq_of_shape};
+
+    ghost start = { seq_start T.start };
+
+    ghost kept = { SetKeeps T.cmp T.kept };
+
+    ghost written = { λ s. seq_written T.written s.keys };
+
+    ghost closed = { closed_seq T.start T.closed };
+
+    ghost of_shape = { λ s k. seq_of_shape T.start T.kept T.written T.closed T.of_shape s.keys k.0 };
+
+    fn schema(alloc: Global) -> Result<(Schema, ShapeId), SchemaFault> {
+        let (schema, element) = T::schema(alloc)?;
+        seq_of(alloc, schema, element)
+    }
+
+    fn to_data<'a>(&'a self, alloc: Global) -> Result<Data<'a>, Error> {
+        let mut items = Vec::with_capacity(alloc, self.len())?;
+        for member in self.iter() {
+            items.push(member.to_data(alloc)?)?;
+        }
+        Ok(Data::Seq(items))
+    }
+}
+
+impl<'de, T: RoundTrip<'de> + Ord + Drop> RoundTrip<'de> for BTreeSet<T> {
+    ghost use Rattle.std.proofs.Common.{ap};
+    ghost use Rattle.yaml_types.specs.ReturnLaws.{seq_accepted};
+    ghost use Rattle.yaml_types.specs.SetLaws.{set_returned};
+
+    ghost one_schema = { ap seq_start T.one_schema };
+
+    ghost returned = { set_returned T.cmp T.total T.eq T.matches_eq T.kept T.written T.built T.returned };
+
+    ghost accepted = { λ s. seq_accepted T.written T.refused T.built T.accepted s.keys };
+}

@@ -1,0 +1,6 @@
+//! Tuples of four to eight elements, which are made of them in a row.
+mod eight;
+mod five;
+mod four;
+mod seven;
+mod six;

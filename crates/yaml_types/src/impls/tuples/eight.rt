@@ -1,0 +1,56 @@
+//! Tuples of eight elements.
+
+ghost use Rattle.std.specs.Prelude.{◌≡◌};
+
+use crate::composed::{Composed, FromParts, ToParts};
+use crate::fault::BuildFault;
+use crate::items::with_data;
+use crate::traits::Serialize;
+use crate::tuples::Tuple;
+use std::alloc::Global;
+use yaml_base::Error;
+use yaml_shape::Data;
+
+impl<A, B, C, D, E, F, G, H> Composed for (A, B, C, D, E, F, G, H) {
+    type Parts = Tuple<(A, (B, (C, (D, (E, (F, (G, (H, ()))))))))>;
+
+    ghost parts = { λ x. record { elements = (x.0, (x.1, (x.2, (x.3, (x.4, (x.5, (x.6, (x.7, tt)))))))) } };
+}
+
+impl<'de, A, B, C, D, E, F, G, H> FromParts<'de> for (A, B, C, D, E, F, G, H) {
+    ghost made = { λ parts x. parts.elements ≡ (x.0, (x.1, (x.2, (x.3, (x.4, (x.5, (x.6, (x.7, tt)))))))) };
+
+    fn from_parts(
+        _alloc: Global,
+        parts: Tuple<(A, (B, (C, (D, (E, (F, (G, (H, ()))))))))>,
+    ) -> Result<(A, B, C, D, E, F, G, H), BuildFault> {
+        let Tuple {
+            elements: (a, (b, (c, (d, (e, (f, (g, (h, ())))))))),
+        } = parts;
+        Ok((a, b, c, d, e, f, g, h))
+    }
+}
+
+impl<
+    A: Serialize,
+    B: Serialize,
+    C: Serialize,
+    D: Serialize,
+    E: Serialize,
+    F: Serialize,
+    G: Serialize,
+    H: Serialize,
+> ToParts for (A, B, C, D, E, F, G, H) {
+    fn parts_to_data<'a>(&'a self, alloc: Global) -> Result<Data<'a>, Error> {
+        let items = Vec::with_capacity(alloc, 8)?;
+        let items = with_data(alloc, items, &self.0)?;
+        let items = with_data(alloc, items, &self.1)?;
+        let items = with_data(alloc, items, &self.2)?;
+        let items = with_data(alloc, items, &self.3)?;
+        let items = with_data(alloc, items, &self.4)?;
+        let items = with_data(alloc, items, &self.5)?;
+        let items = with_data(alloc, items, &self.6)?;
+        let items = with_data(alloc, items, &self.7)?;
+        Ok(Data::Tuple(items))
+    }
+}

@@ -1,0 +1,61 @@
+//! Tuples of six elements.
+
+ghost use Rattle.std.specs.Prelude.{◌≡◌};
+ghost use Rattle.std.proofs.Common.{rules};
+
+use crate::composed::{Composed, FromParts, RoundTripParts, ToParts};
+use crate::fault::BuildFault;
+use crate::items::with_data;
+use crate::traits::{RoundTrip, Serialize};
+use crate::tuples::Tuple;
+use std::alloc::Global;
+use yaml_base::Error;
+use yaml_shape::Data;
+
+impl<A, B, C, D, E, F> Composed for (A, B, C, D, E, F) {
+    type Parts = Tuple<(A, (B, (C, (D, (E, (F, ()))))))>;
+
+    ghost parts = { λ x. record { elements = (x.0, (x.1, (x.2, (x.3, (x.4, (x.5, tt)))))) } };
+}
+
+impl<'de, A, B, C, D, E, F> FromParts<'de> for (A, B, C, D, E, F) {
+    ghost made = { λ parts x. parts.elements ≡ (x.0, (x.1, (x.2, (x.3, (x.4, (x.5, tt)))))) };
+
+    fn from_parts(
+        _alloc: Global,
+        parts: Tuple<(A, (B, (C, (D, (E, (F, ()))))))>,
+    ) -> Result<(A, B, C, D, E, F), BuildFault> {
+        let Tuple {
+            elements: (a, (b, (c, (d, (e, (f, ())))))),
+        } = parts;
+        Ok((a, b, c, d, e, f))
+    }
+}
+
+impl<A: Serialize, B: Serialize, C: Serialize, D: Serialize, E: Serialize, F: Serialize> ToParts
+    for (A, B, C, D, E, F) {
+    fn parts_to_data<'a>(&'a self, alloc: Global) -> Result<Data<'a>, Error> {
+        let items = Vec::with_capacity(alloc, 6)?;
+        let items = with_data(alloc, items, &self.0)?;
+        let items = with_data(alloc, items, &self.1)?;
+        let items = with_data(alloc, items, &self.2)?;
+        let items = with_data(alloc, items, &self.3)?;
+        let items = with_data(alloc, items, &self.4)?;
+        let items = with_data(alloc, items, &self.5)?;
+        Ok(Data::Tuple(items))
+    }
+}
+
+impl<
+    'de,
+    A: RoundTrip<'de> + Drop,
+    B: RoundTrip<'de> + Drop,
+    C: RoundTrip<'de> + Drop,
+    D: RoundTrip<'de> + Drop,
+    E: RoundTrip<'de> + Drop,
+    F: RoundTrip<'de> + Drop,
+> RoundTripParts<'de> for (A, B, C, D, E, F) {
+    ghost same = { Prim.search rules };
+
+    ghost never = { λ _ _ refused. refused };
+}
