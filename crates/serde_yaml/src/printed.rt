@@ -1,10 +1,11 @@
 //! Writing YAML text.
 
-ghost use Rattle.std.specs.Prelude.{◌≡◌, false, map, string_bytes, IfErr, IfOk, OnOk};
+ghost use Rattle.std.specs.Prelude.{◌≡◌, false, map, string_bytes, Err, IfErr, IfOk, OnOk};
 ghost use Rattle.yaml_base.specs.Answer.{is_memory};
 ghost use Rattle.yaml_shape.specs.DataView.{data_of};
 ghost use Rattle.yaml_shape.specs.TypedView.{content_in, id_in, schema_in};
 ghost use Rattle.yaml_base.specs.EmitEvents.{emit_of};
+ghost use Rattle.yaml_base.specs.EmitTree.{IsEmitStream};
 ghost use Rattle.yaml_emit.specs.StreamTexts.{IsStreamText};
 ghost use Rattle.serde_yaml.specs.Printed.{AddsText, HasEvents, HasText, IsDataWritten, IsOutOfPlace, IsRefused};
 ghost use Rattle.serde_yaml.specs.TypedWrites.{TypeWrites};
@@ -43,6 +44,8 @@ impl std::error::Error for WriteFault {}
 fn printed(alloc: Global, events: &[EmitEvent]) -> Result<String>
     ensures text { IfOk result (λ text. IsStreamText (map emit_of events.now) (string_bytes text)) }
     ensures refused { IfErr result (λ cause. is_memory cause ≡ false → IsOutOfPlace cause) }
+    ensures no_stream { IfErr result (λ cause. is_memory cause ≡ false
+        → IsEmitStream (map emit_of events.now) → ⊥) }
 {
     match emit(alloc, events) {
         Ok(text) => Ok(text),
@@ -59,6 +62,8 @@ pub fn to_string<T: Serialize>(alloc: Global, value: &T) -> Result<String>
     ensures kept { OnOk result (T.kept value.now) }
     ensures refused { IfErr result (λ cause. is_memory cause ≡ false
         → IsRefused (TypeWrites T.start (T.written value.now)) cause) }
+    ensures unwritten { IfErr result (λ cause. is_memory cause ≡ false
+        → TypeWrites T.start (T.written value.now) (Err cause)) }
 {
     let events = match to_events(alloc, value) {
         Ok(events) => events,
@@ -103,6 +108,9 @@ pub fn data_to_string(alloc: Global, value: &Typed<'_, '_>) -> Result<String>
     ensures refused { IfErr result (λ cause. is_memory cause ≡ false
         → IsRefused (IsDataWritten (schema_in value.now) (id_in value.now).0
         (data_of (content_in value.now))) cause) }
+    ensures unwritten { IfErr result (λ cause. is_memory cause ≡ false
+        → IsDataWritten (schema_in value.now) (id_in value.now).0 (data_of (content_in value.now))
+        (Err cause)) }
 {
     let events = match write_stream(alloc, value.schema(), value.id(), value.content()) {
         Ok(events) => events,

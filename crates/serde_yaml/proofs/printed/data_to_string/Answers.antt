@@ -1,8 +1,10 @@
 -- What was written has its events, and a refusal is the writer's or the emitter's.
-use Rattle.std.proofs.Common.{ap, map, string_bytes, subst}
+use Rattle.std.proofs.Common.{ap, map, string_bytes, subst, sym}
 use Rattle.yaml_base.specs.EmitEvents.{emit_of}
 use Rattle.yaml_emit.specs.StreamTexts.{IsStreamText}
 use Rattle.serde_yaml.specs.Printed.{written_as, printed_as, not_written, not_printed}
+use Rattle.yaml_base.specs.EmitTree.{IsEmitStream}
+use Rattle.serde_yaml.proofs.PrintedLaws.{data_stream}
 use Rattle.serde_yaml.proofs.printed.data_to_string.Goals as goal
 
 pub returns-in-Err-clause-refused : goal.returns-in-Err-clause-refused
@@ -36,3 +38,18 @@ returns-in-Ok-printed-clause-text c =
 
 pub returns-clause-refused : goal.returns-clause-refused
 returns-clause-refused c = λ known. not_printed _ (c.in-Err-printed.ensures.refused known)
+
+pub returns-in-Err-clause-unwritten : goal.returns-in-Err-clause-unwritten
+returns-in-Err-clause-unwritten c = λ known.
+    cc (
+      c.schema.ensures,
+      ap (λ i. i.0) c.id.ensures,
+      c.content.ensures.content,
+      c.in-Err.ensures.written known,
+    )
+
+pub returns-clause-unwritten : goal.returns-clause-unwritten
+returns-clause-unwritten c = λ known.
+    absurd (c.in-Err-printed.ensures.no_stream known
+    (subst (λ es. IsEmitStream (map emit_of es)) (sym c.as_slice.ensures.value)
+    (data_stream _ (map emit_of c.in-Ok.events.items) c.in-Ok.ensures.written)))
