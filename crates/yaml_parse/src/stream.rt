@@ -22,6 +22,8 @@ use yaml_token::Stop;
 // Events that are a beginning of a stream, always.
 #[derive(Drop)]
 pub(crate) struct Stream<'a> {
+    // Where faults find memory.
+    alloc: Global,
     text: &'a [u8],
     events: Vec<(Event<'a>, Mark)>,
     phase: Phase,
@@ -44,6 +46,7 @@ impl<'a> Stream<'a> {
         ensures { result.text.now ≡ text.now }
     {
         Stream {
+            alloc,
             text,
             events: Vec::new(alloc),
             phase: Phase::Before,
@@ -111,7 +114,7 @@ impl<'a> Stream<'a> {
         if self.reached <= mark.index() && mark.index() <= self.text.len() as u64 {
             Ok(())
         } else {
-            Err(misplaced(mark))
+            Err(misplaced(self.alloc, mark))
         }
     }
 
@@ -137,7 +140,7 @@ impl<'a> Stream<'a> {
     {
         match self.phase {
             Phase::Before => self.add(Event::StreamStart, mark, Phase::First),
-            _ => Err(misplaced(mark)),
+            _ => Err(misplaced(self.alloc, mark)),
         }
     }
 
@@ -147,7 +150,7 @@ impl<'a> Stream<'a> {
     {
         match self.phase {
             Phase::First | Phase::Next => self.add(Event::StreamEnd, mark, Phase::After),
-            _ => Err(misplaced(mark)),
+            _ => Err(misplaced(self.alloc, mark)),
         }
     }
 
@@ -170,7 +173,7 @@ impl<'a> Stream<'a> {
             Phase::First | Phase::Next | Phase::Directives => {
                 self.add(Event::DocumentStart, mark, phase)
             }
-            _ => Err(misplaced(mark)),
+            _ => Err(misplaced(self.alloc, mark)),
         }
     }
 
@@ -180,7 +183,7 @@ impl<'a> Stream<'a> {
     {
         match self.phase {
             Phase::Ended => self.add(Event::DocumentEnd, mark, Phase::Next),
-            _ => Err(misplaced(mark)),
+            _ => Err(misplaced(self.alloc, mark)),
         }
     }
 
@@ -198,7 +201,7 @@ impl<'a> Stream<'a> {
                 mark,
                 Phase::Within(behind(frame)),
             ),
-            _ => Err(misplaced(mark)),
+            _ => Err(misplaced(self.alloc, mark)),
         }
     }
 
@@ -214,7 +217,7 @@ impl<'a> Stream<'a> {
                 mark,
                 Phase::Within(behind(frame)),
             ),
-            _ => Err(misplaced(mark)),
+            _ => Err(misplaced(self.alloc, mark)),
         }
     }
 
@@ -284,7 +287,7 @@ impl<'a> Stream<'a> {
         match self.phase {
             Phase::Root | Phase::Content => self.open_root(event, mark, first, start),
             Phase::Within(frame) => self.open_inner(event, mark, behind(frame), first, start),
-            _ => Err(misplaced(mark)),
+            _ => Err(misplaced(self.alloc, mark)),
         }
     }
 
@@ -304,7 +307,7 @@ impl<'a> Stream<'a> {
         match self.phase {
             Phase::Root | Phase::Content => self.open_root(event, mark, first, start),
             Phase::Within(frame) => self.open_inner(event, mark, behind(frame), first, start),
-            _ => Err(misplaced(mark)),
+            _ => Err(misplaced(self.alloc, mark)),
         }
     }
 
@@ -339,7 +342,7 @@ impl<'a> Stream<'a> {
     {
         match self.phase {
             Phase::Within(frame) if is_sequence(frame) => self.close(Event::SequenceEnd, mark),
-            _ => Err(misplaced(mark)),
+            _ => Err(misplaced(self.alloc, mark)),
         }
     }
 
@@ -350,7 +353,7 @@ impl<'a> Stream<'a> {
     {
         match self.phase {
             Phase::Within(frame) if is_key(frame) => self.close(Event::MappingEnd, mark),
-            _ => Err(misplaced(mark)),
+            _ => Err(misplaced(self.alloc, mark)),
         }
     }
 
