@@ -20,6 +20,7 @@ impl<'a> Machine<'a> {
                 Ok(true)
             }
             _ => Err(fault_in(
+                self.alloc,
                 Context::ParsingABlockCollection,
                 self.stream.opened(),
                 Problem::DidNotFindExpectedDashIndicator,
@@ -79,6 +80,7 @@ impl<'a> Machine<'a> {
                 Ok(true)
             }
             _ => Err(fault_in(
+                self.alloc,
                 Context::ParsingABlockMapping,
                 self.stream.opened(),
                 Problem::DidNotFindExpectedKey,

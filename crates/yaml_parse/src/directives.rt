@@ -36,7 +36,11 @@ impl<'a> Machine<'a> {
                 self.stream.begin_document(opened, true)?;
                 Ok(true)
             }
-            _ => Err(fault(Problem::DidNotFindExpectedDocumentStart, at.start)),
+            _ => Err(fault(
+                self.alloc,
+                Problem::DidNotFindExpectedDocumentStart,
+                at.start,
+            )),
         }
     }
 
@@ -45,10 +49,10 @@ impl<'a> Machine<'a> {
         ensures { self.new.stream.text.now ≡ self.old.stream.text.now }
     {
         if self.has_version {
-            return Err(fault(Problem::FoundDuplicateVersionDirective, mark));
+            return Err(fault(self.alloc, Problem::FoundDuplicateVersionDirective, mark));
         }
         if major != 1 || (minor != 1 && minor != 2) {
-            return Err(fault(Problem::FoundIncompatibleYamlDocument, mark));
+            return Err(fault(self.alloc, Problem::FoundIncompatibleYamlDocument, mark));
         }
         self.has_version = true;
         Ok(true)
@@ -59,7 +63,7 @@ impl<'a> Machine<'a> {
         ensures { self.new.stream.text.now ≡ self.old.stream.text.now }
     {
         if is_known(self.handles.as_slice(), handle.handle.as_slice()) {
-            return Err(fault(Problem::FoundDuplicateHandleDirective, mark));
+            return Err(fault(self.alloc, Problem::FoundDuplicateHandleDirective, mark));
         }
         self.handles.push(handle)?;
         Ok(true)

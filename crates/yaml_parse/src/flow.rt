@@ -44,6 +44,7 @@ impl<'a> Machine<'a> {
             }
             Token::FlowEntry => self.pass(Frame::FlowNode, at),
             _ => Err(fault_in(
+                self.alloc,
                 Context::ParsingAFlowSequence,
                 self.stream.opened(),
                 Problem::DidNotFindExpectedCommaOrBracket,
@@ -161,6 +162,7 @@ impl<'a> Machine<'a> {
             }
             Token::FlowEntry => self.pass(Frame::MapKey, at),
             _ => Err(fault_in(
+                self.alloc,
                 Context::ParsingAFlowMapping,
                 self.stream.opened(),
                 Problem::DidNotFindExpectedCommaOrBrace,

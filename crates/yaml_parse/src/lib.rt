@@ -15,4 +15,4 @@ mod plain;
 mod properties;
 mod stream;
 
-pub use parse::{Parsed, parse_tokens, unread};
+pub use parse::{Parsed, Parser, unread};

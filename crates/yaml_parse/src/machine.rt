@@ -56,24 +56,27 @@ impl<'a> Machine<'a> {
     pub(crate) fn take(&mut self, placed: Placed) -> Result<(), Stop>
         ensures { self.new.stream.text.now ≡ self.old.stream.text.now }
     {
-        let mut token = placed.token;
-        let before = Span {
-            start: placed.start,
-            end: placed.start,
-        };
-        let at = Span {
-            start: placed.start,
-            end: placed.end,
-        };
-        match placed.lead {
-            Lead::Nothing => {}
-            Lead::Key => self.feed(&mut Token::Key, &before)?,
-            Lead::MappingKey => {
-                self.feed(&mut Token::BlockMappingStart, &before)?;
-                self.feed(&mut Token::Key, &before)?;
-            }
+        let Placed {
+            lead,
+            mut token,
+            start,
+            end,
+        } = placed;
+        if lead != Lead::Nothing {
+            self.begin_key(lead == Lead::MappingKey, start)?;
         }
-        self.feed(&mut token, &at)
+        self.feed(&mut token, &Span { start, end })
+    }
+
+    // Goes over the place of a key, and the start of a mapping before it, if one begins there.
+    fn begin_key(&mut self, mapping: bool, start: Mark) -> Result<(), Stop>
+        ensures { self.new.stream.text.now ≡ self.old.stream.text.now }
+    {
+        let before = Span { start, end: start };
+        if mapping {
+            self.feed(&mut Token::BlockMappingStart, &before)?;
+        }
+        self.feed(&mut Token::Key, &before)
     }
 
     // Goes over a token.
@@ -85,7 +88,7 @@ impl<'a> Machine<'a> {
                 return Ok(());
             }
         }
-        Err(endless(at.start))
+        Err(endless(self.alloc, at.start))
     }
 
     // One step at a token: whether it was used up.

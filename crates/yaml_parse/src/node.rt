@@ -35,6 +35,16 @@ struct Named {
 }
 
 impl Named {
+    // Neither, before a node that begins here.
+    fn alone(mark: Mark) -> Named {
+        Named {
+            anchor: None,
+            tag: None,
+            start: mark,
+            end: mark,
+        }
+    }
+
     // Whether neither an anchor nor a tag stands before the node.
     fn is_alone(&self) -> bool
         ensures { (self.now.anchor ≡ None → self.now.tag ≡ None → result ≡ true) }
@@ -71,6 +81,9 @@ impl<'a> Machine<'a> {
     pub(crate) fn node(&mut self, nodes: Nodes, token: &mut Token, at: &Span) -> Result<bool, Stop>
         ensures { self.new.stream.text.now ≡ self.old.stream.text.now }
     {
+        if self.properties.is_none() {
+            return self.first(nodes, token, at);
+        }
         match self.properties.take() {
             Some(properties) => self.behind(properties, nodes, token, at),
             None => self.first(nodes, token, at),
@@ -87,7 +100,10 @@ impl<'a> Machine<'a> {
                 self.stream.alias(Anchor::new(name), at.start)?;
                 Ok(true)
             }
-            _ => self.behind(Properties::none(at.start), nodes, token, at),
+            Token::Anchor(_) | Token::Tag { .. } => {
+                self.behind(Properties::none(at.start), nodes, token, at)
+            }
+            _ => self.named_node(Named::alone(at.start), nodes, token, at),
         }
     }
 
@@ -152,6 +168,7 @@ impl<'a> Machine<'a> {
         match resolve(self.alloc, self.handles.as_slice(), written)? {
             Some(tag) => Ok(Some(tag)),
             None => Err(fault_in(
+                self.alloc,
                 Context::ParsingANode,
                 start,
                 Problem::FoundUndefinedTagHandle,
@@ -214,6 +231,7 @@ impl<'a> Machine<'a> {
                 Nodes::Block | Nodes::Indentless => Context::ParsingABlockNode,
             };
             return Err(fault_in(
+                self.alloc,
                 context,
                 named.start,
                 Problem::DidNotFindExpectedNodeContent,
@@ -280,17 +298,11 @@ impl<'a> Machine<'a> {
     pub(crate) fn nothing(&mut self, mark: Mark) -> Result<bool, Stop>
         ensures { self.new.stream.text.now ≡ self.old.stream.text.now }
     {
-        let named = Named {
-            anchor: None,
-            tag: None,
-            start: mark,
-            end: mark,
-        };
         let here = Span {
             start: mark,
             end: mark,
         };
-        self.plain(named, &here)?;
+        self.plain(Named::alone(mark), &here)?;
         Ok(false)
     }
 

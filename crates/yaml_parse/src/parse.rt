@@ -2,6 +2,7 @@
 
 ghost use Rattle.std.specs.Prelude.{◌≡◌, ◌≢◌, [], IfOk, IfSome, Some, is_some, true};
 ghost use Rattle.std.specs.Option.{ForSome};
+ghost use Rattle.std.proofs.Props.{props};
 ghost use Rattle.yaml_base.specs.MarkedEvents.{plain_events};
 ghost use Rattle.yaml_base.specs.Stream.{IsWellFormed};
 ghost use Rattle.yaml_base.specs.declared.fault.FaultKind.TheVariants as kind;
@@ -38,60 +39,93 @@ fn start_mark() -> Mark
     }
 }
 
-// Goes over all tokens, up to the first fault.
-fn take_all(machine: &mut Machine<'_>, tokens: Vec<Placed>) -> Result<(), Stop>
-    ensures { machine.new.stream.text.now ≡ machine.old.stream.text.now }
+// The fault at which the parser stops, where memory did not run out.
+fn own_fault(stop: Stop) -> Result<Fault, AllocError>
+    ensures { IfOk result (λ own. own.kind ≢ kind.Reader) }
 {
-    machine.stream.begin_stream(start_mark())?;
-    'tokens: for placed in tokens {
-        machine.take(placed)?;
+    match stop {
+        Stop::Memory => Err(AllocError),
+        Stop::Fault(own) => Ok(own.found_by(kind_of(own.problem))),
     }
-    Ok(())
 }
 
-/// The events of the tokens of a text, with this fault behind them if there is one, up to the parser's own first fault.
-/// The events borrow from the text. A list of tokens that neither ends nor has a fault gives a fault of kind `Other`.
-/// The only error is want of memory.
-pub fn parse_tokens<'a>(
-    alloc: Global,
-    text: &'a [u8],
-    tokens: Vec<Placed>,
-    fault: Option<Fault>,
-) -> Result<Parsed<'a>, AllocError>
-    ensures taken { IfOk result (λ parsed.
-        IsWellFormed (is_some parsed.fault) (plain_events parsed.events.items)) }
-    ensures sources { IfOk result (λ parsed. AreShown text.now parsed.events.items) }
-    ensures plain { IfOk result (λ parsed. SaySources parsed.events.items) }
-    ensures marks { IfOk result (λ parsed. MarksAscend text.now parsed.events.items) }
-    ensures places { IfOk result (λ parsed. AreInPlace text.now parsed.events.items) }
-    ensures found { IfOk result (λ parsed. is_some parsed.found ≡ is_some parsed.fault) }
-    ensures not_readers { ForSome fault (λ f. f.kind ≢ kind.Reader) →
-        IfOk result (λ parsed. IsNotReaders parsed.fault) }
-{
-    let mut machine = Machine::new(alloc, text, start_mark());
-    let found = match take_all(&mut machine, tokens) {
-        Ok(()) => fault,
-        Err(Stop::Memory) => return Err(AllocError),
-        Err(Stop::Fault(own)) => Some(own.found_by(kind_of(own.problem))),
-    };
-    let stream = machine.stream;
-    if stream.is_after() {
-        return Ok(Parsed {
-            events: stream.into_whole(),
-            fault: None,
-            found: None,
-        });
+/// A parser of a text, amid its tokens.
+#[derive(Drop)]
+pub struct Parser<'a> {
+    /// The text that the tokens stand in.
+    pub text: &'a [u8],
+    machine: Machine<'a>,
+    // The fault that the parser found itself.
+    own: Option<Fault>,
+    ghost same: { machine.stream.text.now ≡ text.now } by { Prim.hlevel props },
+    ghost found: { ForSome own (λ f. f.kind ≢ kind.Reader) } by { Prim.hlevel props },
+}
+
+impl<'a> Parser<'a> {
+    /// A parser of a text that has taken no token. The only error is want of memory.
+    pub fn new(alloc: Global, text: &'a [u8]) -> Result<Parser<'a>, AllocError>
+        ensures { IfOk result (λ parser. parser.text.now ≡ text.now) }
+    {
+        let mut machine = Machine::new(alloc, text, start_mark());
+        let own = match machine.stream.begin_stream(start_mark()) {
+            Ok(()) => None,
+            Err(stop) => Some(own_fault(stop)?),
+        };
+        Ok(Parser { text, machine, own })
     }
-    let found = match found {
-        Some(found) => found,
-        None => no_end(start_mark()),
-    };
-    let fault = owned(alloc, &found)?;
-    Ok(Parsed {
-        events: stream.into_cut(),
-        fault: Some(fault),
-        found: Some(found),
-    })
+
+    /// Takes the next token of the text, and tells whether more may come: none behind the parser's own fault. The only
+    /// error is want of memory.
+    pub fn take(&mut self, placed: Placed) -> Result<bool, AllocError>
+        ensures { self.new.text.now ≡ self.old.text.now }
+    {
+        if self.own.is_some() {
+            return Ok(false);
+        }
+        match self.machine.take(placed) {
+            Ok(()) => Ok(true),
+            Err(stop) => {
+                self.own = Some(own_fault(stop)?);
+                Ok(false)
+            }
+        }
+    }
+
+    /// The events of the tokens that were taken, which borrow from the text, up to the parser's own first fault or else
+    /// with this fault behind them, if there is one. Tokens that neither end nor have a fault give a fault of kind
+    /// `Other`. The only error is want of memory.
+    pub fn finish(self, alloc: Global, fault: Option<Fault>) -> Result<Parsed<'a>, AllocError>
+        ensures taken { IfOk result (λ parsed.
+            IsWellFormed (is_some parsed.fault) (plain_events parsed.events.items)) }
+        ensures sources { IfOk result (λ parsed. AreShown self.entry.text.now parsed.events.items) }
+        ensures plain { IfOk result (λ parsed. SaySources parsed.events.items) }
+        ensures marks { IfOk result (λ parsed. MarksAscend self.entry.text.now parsed.events.items) }
+        ensures places { IfOk result (λ parsed. AreInPlace self.entry.text.now parsed.events.items) }
+        ensures found { IfOk result (λ parsed. is_some parsed.found ≡ is_some parsed.fault) }
+        ensures not_readers { ForSome fault (λ f. f.kind ≢ kind.Reader) →
+            IfOk result (λ parsed. IsNotReaders parsed.fault) }
+    {
+        let Parser { machine, own, .. } = self;
+        let stream = machine.stream;
+        if stream.is_after() {
+            return Ok(Parsed {
+                events: stream.into_whole(),
+                fault: None,
+                found: None,
+            });
+        }
+        let found = match (own, fault) {
+            (Some(own), _) => own,
+            (None, Some(fault)) => fault,
+            (None, None) => no_end(start_mark()),
+        };
+        let fault = owned(alloc, &found)?;
+        Ok(Parsed {
+            events: stream.into_cut(),
+            fault: Some(fault),
+            found: Some(found),
+        })
+    }
 }
 
 /// No events, and the fault of a text that has no tokens. The only error is want of memory.

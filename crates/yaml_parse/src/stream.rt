@@ -24,6 +24,8 @@ use yaml_token::Stop;
 // Events that are a beginning of a stream, always.
 #[derive(Drop)]
 pub(crate) struct Stream<'a> {
+    // Where faults find memory.
+    alloc: Global,
     text: &'a [u8],
     events: Vec<(Event<'a>, Mark)>,
     phase: Phase,
@@ -49,6 +51,7 @@ impl<'a> Stream<'a> {
         ensures { result.text.now ≡ text.now }
     {
         Stream {
+            alloc,
             text,
             events: Vec::new(alloc),
             phase: Phase::Before,
@@ -74,7 +77,7 @@ impl<'a> Stream<'a> {
     {
         let text = self.text;
         if start.index() > text.len() as u64 {
-            return Err(misplaced(start));
+            return Err(misplaced(self.alloc, start));
         }
         let from = start.index() as usize;
         let to = (end.index() as usize).min(text.len()).max(from);
@@ -128,7 +131,7 @@ impl<'a> Stream<'a> {
         ensures place { IfOk result (λ mark. IsInPlace self.new.text.now mark) }
     {
         if said.index() < self.reached.index() || said.index() > self.text.len() as u64 {
-            return Err(misplaced(said));
+            return Err(misplaced(self.alloc, said));
         }
         self.reached = mark_at(self.text, self.reached, said.index());
         Ok(mark_of_event(self.text, self.reached, said))
@@ -155,7 +158,7 @@ impl<'a> Stream<'a> {
     {
         match self.phase {
             Phase::Before => self.add(Event::StreamStart, mark, Phase::First),
-            _ => Err(misplaced(mark)),
+            _ => Err(misplaced(self.alloc, mark)),
         }
     }
 
@@ -165,7 +168,7 @@ impl<'a> Stream<'a> {
     {
         match self.phase {
             Phase::First | Phase::Next => self.add(Event::StreamEnd, mark, Phase::After),
-            _ => Err(misplaced(mark)),
+            _ => Err(misplaced(self.alloc, mark)),
         }
     }
 
@@ -188,7 +191,7 @@ impl<'a> Stream<'a> {
             Phase::First | Phase::Next | Phase::Directives => {
                 self.add(Event::DocumentStart, mark, phase)
             }
-            _ => Err(misplaced(mark)),
+            _ => Err(misplaced(self.alloc, mark)),
         }
     }
 
@@ -198,7 +201,7 @@ impl<'a> Stream<'a> {
     {
         match self.phase {
             Phase::Ended => self.add(Event::DocumentEnd, mark, Phase::Next),
-            _ => Err(misplaced(mark)),
+            _ => Err(misplaced(self.alloc, mark)),
         }
     }
 
@@ -216,7 +219,7 @@ impl<'a> Stream<'a> {
                 mark,
                 Phase::Within(behind(frame)),
             ),
-            _ => Err(misplaced(mark)),
+            _ => Err(misplaced(self.alloc, mark)),
         }
     }
 
@@ -232,7 +235,7 @@ impl<'a> Stream<'a> {
                 mark,
                 Phase::Within(behind(frame)),
             ),
-            _ => Err(misplaced(mark)),
+            _ => Err(misplaced(self.alloc, mark)),
         }
     }
 
@@ -300,7 +303,7 @@ impl<'a> Stream<'a> {
         match self.phase {
             Phase::Root | Phase::Content => self.open_root(event, mark, first, start),
             Phase::Within(frame) => self.open_inner(event, mark, behind(frame), first, start),
-            _ => Err(misplaced(mark)),
+            _ => Err(misplaced(self.alloc, mark)),
         }
     }
 
@@ -320,7 +323,7 @@ impl<'a> Stream<'a> {
         match self.phase {
             Phase::Root | Phase::Content => self.open_root(event, mark, first, start),
             Phase::Within(frame) => self.open_inner(event, mark, behind(frame), first, start),
-            _ => Err(misplaced(mark)),
+            _ => Err(misplaced(self.alloc, mark)),
         }
     }
 
@@ -354,7 +357,7 @@ impl<'a> Stream<'a> {
     {
         match self.phase {
             Phase::Within(frame) if is_sequence(frame) => self.close(Event::SequenceEnd, mark),
-            _ => Err(misplaced(mark)),
+            _ => Err(misplaced(self.alloc, mark)),
         }
     }
 
@@ -365,7 +368,7 @@ impl<'a> Stream<'a> {
     {
         match self.phase {
             Phase::Within(frame) if is_key(frame) => self.close(Event::MappingEnd, mark),
-            _ => Err(misplaced(mark)),
+            _ => Err(misplaced(self.alloc, mark)),
         }
     }
 

@@ -3,11 +3,11 @@ use Rattle.std.proofs.Common.{◌≡◌, ℕ, ◌+◌, ◌<◌, ◌≤◌, Bool,
 use Rattle.std.specs.Prelude.{Some, None}
 use Rattle.std.specs.List.{list_all}
 use Rattle.std.specs.Char.{encode_utf8, IsScalar, len_utf8}
-use Rattle.std.specs.Str.{IsUtf8, IsCharBoundary, IsValidUpTo, NoCharPasses, NonePass, chars, encode_utf8_all}
+use Rattle.std.specs.Str.{IsAscii, IsUtf8, IsCharBoundary, IsValidUpTo, NoCharPasses, NonePass, chars, encode_utf8_all}
 use Rattle.std.specs.Str.Pattern.{FindsBy}
 use Rattle.std.proofs.lemmas.List.{take-take, take-append-drop, drop-append-le, length-take, length-drop, take_all}
 use Rattle.std.proofs.lemmas.List.Folds.{list_all-append}
-use Rattle.std.proofs.lemmas.Str.{IsCharBoundary-from_take, IsUtf8-drop, IsUtf8-take, chars-append, chars_from_encodes, chars_past_char, len_utf8_bounds, length-encode}
+use Rattle.std.proofs.lemmas.Str.{IsUtf8-from_ascii, chars-IsAscii, IsCharBoundary-from_take, IsUtf8-drop, IsUtf8-take, chars-append, chars_from_encodes, chars_past_char, len_utf8_bounds, length-encode}
 use Rattle.yaml_scan.specs.AllowedText.{IsAllowed, IsAllowedUpTo, is_allowed}
 
 abbrev pub is_forbidden : ℕ → Bool
@@ -36,6 +36,10 @@ pub none_forbidden : (text : List ℕ) → IsUtf8 text → NoCharPasses is_forbi
 none_forbidden text u n =
     let same : n.0 ≡ chars text = chars_from_encodes n.0 text u n.1 in
     (u, subst (λ cs. list_all is_allowed cs ≡ true) same (each n.0 n.2))
+
+-- in a text of ASCII the characters are the bytes
+pub ascii_allowed : (text : List ℕ) → IsAscii text → list_all is_allowed text ≡ true → IsAllowed text
+ascii_allowed text a all = (IsUtf8-from_ascii text a, subst (λ cs. list_all is_allowed cs ≡ true) (sym (chars-IsAscii text a)) all)
 
 -- a text that begins with a character has no other there
 first_is : (bs rest more : List ℕ) (h c : ℕ) → IsUtf8 bs → bs ≡ encode_utf8 h ++ rest → bs ≡ encode_utf8 c ++ more → h ≡ c

@@ -157,7 +157,6 @@ impl Lines {
             if cursor.is_break_or_end(0) {
                 break;
             }
-            cursor.read(&mut self.text)?;
             cursor.read_run(Run::Line, &mut self.text)?;
         }
         cursor.read_line(&mut self.first)?;

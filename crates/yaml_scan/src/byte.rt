@@ -1,6 +1,14 @@
 //! What single bytes mean.
 
-ghost use Rattle.std.specs.Prelude.{◌≤◌, length};
+ghost use Rattle.std.specs.Prelude.{◌≡◌, ◌≤◌, length};
+
+// Bytes that end no line: how many they are, and how many characters begin among them.
+#[derive(Clone, Copy)]
+pub(crate) struct Part {
+    pub(crate) bytes: usize,
+    pub(crate) characters: usize,
+    ghost fewer: { characters ≤ bytes },
+}
 
 // Runs of bytes that stand for themselves, up to a byte that may not.
 #[derive(Clone, Copy, PartialEq, Eq)]
@@ -18,7 +26,7 @@ pub(crate) enum Run {
 }
 
 // Whether a line break may begin with this byte.
-fn may_break(byte: u8) -> bool {
+pub(crate) fn may_break(byte: u8) -> bool {
     matches!(byte, b'\n' | b'\r' | 0xC2 | 0xE2)
 }
 
@@ -46,27 +54,82 @@ impl Run {
         }
     }
 
-    // How many bytes come before the first that ends the run.
-    pub(crate) fn len_in(self, bytes: &[u8]) -> usize
-        ensures { result ≤ length bytes.now }
+    // The bytes that come before the first that ends the run.
+    pub(crate) fn part_of(self, bytes: &[u8]) -> Part
+        ensures { result.bytes ≤ length bytes.now }
     {
+        let mut seen: u8 = 0;
         for (index, byte) in bytes.iter().enumerate() {
             if self.is_end(*byte) {
-                return index;
+                return part_before(bytes, index, seen);
             }
+            seen |= *byte;
         }
-        bytes.len()
+        part_before(bytes, bytes.len(), seen)
     }
 }
 
+// The first bytes, which are so many; `seen` has the bits of all of them.
+fn part_before(bytes: &[u8], count: usize, seen: u8) -> Part
+    requires { count ≤ length bytes.now }
+    ensures { result.bytes ≡ count }
+{
+    let characters = if seen < 0x80 {
+        count
+    } else {
+        characters_in(&bytes[..count])
+    };
+    Part {
+        bytes: count,
+        characters,
+    }
+}
+
+// How many characters begin among the bytes.
+fn characters_in(bytes: &[u8]) -> usize
+    ensures { result ≤ length bytes.now }
+{
+    let mut count: usize = 0;
+    for byte in bytes {
+        if !is_continuation(*byte) {
+            count = count.saturating_add(1);
+        }
+    }
+    count.min(bytes.len())
+}
+
+// How many spaces begin the bytes; tabs count where `tabs` says so.
+pub(crate) fn spaces_in(bytes: &[u8], tabs: bool) -> usize
+    ensures { result ≤ length bytes.now }
+{
+    for (index, byte) in bytes.iter().enumerate() {
+        if !(*byte == b' ' || (tabs && *byte == b'\t')) {
+            return index;
+        }
+    }
+    bytes.len()
+}
+
 // Whether this byte goes on with a character that began before it.
-pub(crate) fn is_continuation(byte: u8) -> bool {
+fn is_continuation(byte: u8) -> bool {
     byte & 0xC0 == 0x80
 }
 
 // Whether this byte may stand in a name.
-pub(crate) fn is_word(byte: u8) -> bool {
+fn is_word(byte: u8) -> bool {
     byte.is_ascii_alphanumeric() || byte == b'_' || byte == b'-'
+}
+
+// How many bytes begin the bytes that may stand in a name.
+pub(crate) fn word_in(bytes: &[u8]) -> usize
+    ensures { result ≤ length bytes.now }
+{
+    for (index, byte) in bytes.iter().enumerate() {
+        if !is_word(*byte) {
+            return index;
+        }
+    }
+    bytes.len()
 }
 
 // Whether this byte may stand in a tag; `wide` where it stands between angle brackets or in a directive.

@@ -1,16 +1,15 @@
 //! Tokens that a `:` may still show to be keys.
 
+use crate::cursor::Cursor;
 use std::alloc::{AllocError, Global};
 use yaml_base::Mark;
 
 // How many bytes a key has at most.
 const MOST_BYTES: u64 = 1024;
 
-// A token that a `:` may still show to be a key, or none.
+// A token that a `:` may still show to be a key.
 #[derive(Clone, Copy)]
 pub(crate) struct Candidate {
-    // Whether there is one.
-    pub(crate) possible: bool,
     // Whether it has to be a key, since it stands where the keys of a mapping by indentation do.
     pub(crate) required: bool,
     // Which of the tokens it is.
@@ -20,37 +19,27 @@ pub(crate) struct Candidate {
 }
 
 impl Candidate {
-    // No candidate. The mark tells nothing.
-    pub(crate) fn none(mark: Mark) -> Candidate {
-        Candidate {
-            possible: false,
-            required: false,
-            place: 0,
-            mark,
-        }
-    }
-
     // Whether the candidate can't be a key any more at this place: on a later line, or too far behind.
-    fn is_stale(&self, here: Mark) -> bool {
-        self.mark.line() != here.line()
-            || self.mark.index().saturating_add(MOST_BYTES) < here.index()
+    fn is_stale(&self, here: &Cursor<'_>) -> bool {
+        self.mark.line() != here.line() as u64
+            || self.mark.index().saturating_add(MOST_BYTES) < here.at() as u64
     }
 }
 
-// One candidate outside of brackets, and one in each open bracket.
+// A candidate or none outside of brackets, and one or none in each open bracket.
 #[derive(Drop)]
 pub(crate) struct Candidates {
-    levels: Vec<Candidate>,
+    levels: Vec<Option<Candidate>>,
     // Below this level no candidate is possible.
     fresh: usize,
 }
 
 impl Candidates {
     // No open bracket, and no candidate.
-    pub(crate) fn new(alloc: Global, mark: Mark) -> Result<Candidates, AllocError> {
+    pub(crate) fn new(alloc: Global) -> Result<Candidates, AllocError> {
         let mut levels = Vec::new(alloc);
-        levels.push(Candidate::none(mark))?;
-        Ok(Candidates { levels, fresh: 0 })
+        levels.push(None)?;
+        Ok(Candidates { levels, fresh: 1 })
     }
 
     // Whether a bracket is open.
@@ -59,8 +48,8 @@ impl Candidates {
     }
 
     // A bracket opens.
-    pub(crate) fn open(&mut self, mark: Mark) -> Result<(), AllocError> {
-        self.levels.push(Candidate::none(mark))?;
+    pub(crate) fn open(&mut self) -> Result<(), AllocError> {
+        self.levels.push(None)?;
         Ok(())
     }
 
@@ -72,36 +61,48 @@ impl Candidates {
         }
     }
 
-    // The candidate of the innermost bracket; a stale one is none.
-    pub(crate) fn last(&self, mark: Mark) -> Candidate {
+    // The candidate of the innermost bracket, if it has one that is not stale.
+    pub(crate) fn last(&self) -> Option<Candidate> {
         match self.levels.as_slice().last() {
             Some(candidate) if self.fresh < self.levels.len() => *candidate,
-            _ => Candidate::none(mark),
+            _ => None,
         }
     }
 
     // Puts a candidate in the place of the innermost bracket's.
-    pub(crate) fn replace(&mut self, candidate: Candidate) -> Result<(), AllocError> {
-        let _ = self.levels.pop();
-        self.fresh = self.fresh.min(self.levels.len());
-        self.levels.push(candidate)?;
-        Ok(())
+    fn set(&mut self, candidate: Option<Candidate>) {
+        if let Some(last) = self.levels.as_mut_slice().last_mut() {
+            *last = candidate;
+        }
+    }
+
+    // The next token is the candidate of the innermost bracket.
+    pub(crate) fn save(&mut self, candidate: Candidate) {
+        self.set(Some(candidate));
+        self.fresh = self.fresh.min(self.levels.len().saturating_sub(1));
+    }
+
+    // The innermost bracket has no candidate any more.
+    pub(crate) fn remove(&mut self) {
+        self.set(None);
+        if self.fresh.saturating_add(1) == self.levels.len() {
+            self.fresh = self.levels.len();
+        }
     }
 
     // Gives up the candidates that are stale at this place. One of them that has to be a key stays, and is given.
-    pub(crate) fn drop_stale(&mut self, here: Mark) -> Option<Candidate> {
+    pub(crate) fn drop_stale(&mut self, here: &Cursor<'_>) -> Option<Candidate> {
         for _ in self.fresh..self.levels.len() {
-            let candidate = match self.levels.as_slice().get(self.fresh) {
-                Some(candidate) => *candidate,
-                None => break,
-            };
-            if candidate.possible {
-                if !candidate.is_stale(here) {
-                    break;
+            match self.levels.as_slice().get(self.fresh) {
+                Some(Some(candidate)) => {
+                    if !candidate.is_stale(here) {
+                        break;
+                    }
+                    if candidate.required {
+                        return Some(*candidate);
+                    }
                 }
-                if candidate.required {
-                    return Some(candidate);
-                }
+                _ => {}
             }
             self.fresh = self.fresh.saturating_add(1);
         }
@@ -111,10 +112,10 @@ impl Candidates {
     // Which token is the first that may be a key, if one may.
     pub(crate) fn first_place(&mut self) -> Option<usize> {
         for _ in self.fresh..self.levels.len() {
-            match self.levels.as_slice().get(self.fresh) {
-                Some(candidate) if candidate.possible => return Some(candidate.place),
-                _ => self.fresh = self.fresh.saturating_add(1),
+            if let Some(Some(candidate)) = self.levels.as_slice().get(self.fresh) {
+                return Some(candidate.place);
             }
+            self.fresh = self.fresh.saturating_add(1);
         }
         None
     }

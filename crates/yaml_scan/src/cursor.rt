@@ -6,11 +6,14 @@ mod look;
 mod report;
 mod step;
 
+use std::alloc::Global;
 use yaml_base::Mark;
 
 // A place in a text, with its line and its column, which counts characters, each from 0.
 #[derive(Drop)]
 pub(crate) struct Cursor<'a> {
+    // Where faults find memory.
+    alloc: Global,
     text: &'a [u8],
     at: usize,
     line: usize,
@@ -34,14 +37,20 @@ fn order_mark_len(text: &[u8]) -> usize
 
 impl<'a> Cursor<'a> {
     // The start of a text, behind its mark of the order of bytes.
-    pub(crate) fn new(text: &'a [u8]) -> Cursor<'a> {
+    pub(crate) fn new(alloc: Global, text: &'a [u8]) -> Cursor<'a> {
         Cursor {
+            alloc,
             text,
             at: order_mark_len(text),
             line: 0,
             column: 0,
             ended: false,
         }
+    }
+
+    // How many bytes come before this place.
+    pub(crate) fn at(&self) -> usize {
+        self.at
     }
 
     // How many bytes are left.

@@ -1,4 +1,4 @@
-//! YAML text to tokens, in one pass, as libyaml sees them.
+//! YAML text to tokens, one after another, as libyaml sees them.
 #![tactic(auto)]
 
 mod block;
@@ -13,8 +13,10 @@ mod plain;
 mod quoted;
 mod reader;
 mod scanner;
+mod start;
 mod tag;
 mod tokens;
 mod uri;
 
-pub use tokens::{Scanned, scan};
+pub use start::{Scanned, scan};
+pub use tokens::Tokens;

@@ -1,6 +1,6 @@
 //! Where plain scalars end.
 
-use crate::byte::{Run, is_flow_indicator};
+use crate::byte::{Run, is_blank, is_flow_indicator, may_break};
 use crate::cursor::Cursor;
 use yaml_base::Mark;
 use yaml_token::{Context, Problem, Stop};
@@ -27,15 +27,28 @@ fn is_over(cursor: &Cursor<'_>, flow: bool, start: Mark) -> Result<bool, Stop> {
     Ok(cursor.is_blank_or_end(0) || (flow && is_flow_indicator(byte)))
 }
 
-// Steps over what is of the scalar up to the next blank, and tells whether there was anything.
+// Whether the scalar goes on with this byte behind a space.
+fn goes_on(byte: u8, flow: bool) -> bool {
+    !(byte == 0
+        || byte == b'#'
+        || byte == b':'
+        || is_blank(byte)
+        || may_break(byte)
+        || (flow && is_flow_indicator(byte)))
+}
+
+// Steps over what is of the scalar up to the next blank that is not a single space amid the line, and tells whether
+// there was anything.
 fn skip_part(cursor: &mut Cursor<'_>, flow: bool, start: Mark) -> Result<bool, Stop> {
     let run = if flow { Run::Flow } else { Run::Plain };
     let mut any = false;
     for _ in 0..cursor.left() {
         if is_over(cursor, flow, start)? {
-            break;
+            if !(any && cursor.byte(0) == b' ' && goes_on(cursor.byte(1), flow)) {
+                break;
+            }
+            cursor.skip();
         }
-        cursor.skip();
         cursor.skip_run(run);
         any = true;
     }
@@ -61,6 +74,7 @@ fn skip_gap(
             return Err(cursor.fault(CONTEXT, start, problem));
         } else {
             cursor.skip();
+            cursor.skip_spaces(false);
         }
     }
     Ok(broken)

@@ -60,7 +60,6 @@ fn read_part(
             }
             read_escape(cursor, start, out)?;
         } else {
-            cursor.read(out)?;
             cursor.read_run(quote.run(), out)?;
         }
     }
@@ -87,6 +86,9 @@ pub(crate) fn scan_quoted(
         if cursor.byte(0) == quote.byte() {
             cursor.skip();
             return Ok(text);
+        }
+        if !broken && cursor.read_inner_blanks(&mut text)? {
+            continue;
         }
         let mut fold = Fold::new(alloc, broken);
         take_blanks(cursor, &mut fold)?;

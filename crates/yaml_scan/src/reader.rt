@@ -1,6 +1,7 @@
 //! Which bytes may be a text at all.
 
-ghost use Rattle.std.specs.Prelude.{◌≡◌, ◌<◌, ◌≤◌, IfSome, MatchOption, length};
+ghost use Rattle.std.specs.Prelude.{◌≡◌, ◌<◌, ◌≤◌, IfSome, IsTrue, MatchOption, length};
+ghost use Rattle.std.specs.List.{list_all};
 ghost use Rattle.yaml_scan.specs.AllowedText.{IsAllowed, IsAllowedUpTo, IsOfReader, is_allowed};
 
 use std::str;
@@ -19,6 +20,20 @@ fn is_allowed(code: u32) -> bool
         || (code >= 0xA0 && code <= 0xD7FF)
         || (code >= 0xE000 && code <= 0xFFFD)
         || (code >= 0x10000 && code <= 0x10FFFF)
+}
+
+// Whether the character of each byte's code may stand in a text.
+fn has_allowed_codes(text: &[u8]) -> bool
+    ensures { result ≡ list_all is_allowed text.now }
+{
+    text.iter().all(|byte| is_allowed(*byte as u32))
+}
+
+// Whether a text is ASCII and allowed, which takes less to see than that any other is allowed.
+fn is_allowed_ascii(text: &[u8]) -> bool
+    ensures { IsTrue result → IsAllowed text.now }
+{
+    text.is_ascii() && has_allowed_codes(text)
 }
 
 // The index of the first character that may not stand in a text, if there is one.
@@ -116,6 +131,9 @@ fn start_mark() -> Mark {
 pub(crate) fn first_fault(text: &[u8]) -> Option<Fault>
     ensures { MatchOption result (IsAllowed text.now) (λ f. IsOfReader text.now f.kind f.offset) }
 {
+    if is_allowed_ascii(text) {
+        return None;
+    }
     let at = allowed_len(text)?;
     let (problem, ahead) = diagnose(&text[at..]);
     let mark = start_mark();

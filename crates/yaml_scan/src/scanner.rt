@@ -1,4 +1,4 @@
-//! The scanner's state: its place, its tokens, and which collections are open.
+//! The scanner's state: its place, the tokens that wait, and which collections are open.
 
 mod flow;
 mod indicator;
@@ -9,6 +9,7 @@ use crate::candidate::{Candidate, Candidates};
 use crate::cursor::Cursor;
 pub(crate) use next::More;
 use std::alloc::{AllocError, Global};
+use std::collections::VecDeque;
 use yaml_base::Mark;
 use yaml_token::{Context, Lead, Placed, Problem, Stop, Token};
 
@@ -17,7 +18,10 @@ use yaml_token::{Context, Lead, Placed, Problem, Stop, Token};
 pub(crate) struct Scanner<'a> {
     alloc: Global,
     cursor: Cursor<'a>,
-    tokens: Vec<Placed>,
+    // The tokens that were not handed over.
+    tokens: VecDeque<Placed>,
+    // How many tokens were handed over.
+    taken: usize,
     // The columns of the open block collections, each plus 1.
     indents: Vec<usize>,
     candidates: Candidates,
@@ -28,29 +32,34 @@ pub(crate) struct Scanner<'a> {
 impl<'a> Scanner<'a> {
     // A scanner at the start of a text.
     pub(crate) fn new(alloc: Global, text: &'a [u8]) -> Result<Scanner<'a>, AllocError> {
-        let cursor = Cursor::new(text);
-        let candidates = Candidates::new(alloc, cursor.mark())?;
+        let cursor = Cursor::new(alloc, text);
+        let candidates = Candidates::new(alloc)?;
         Ok(Scanner {
             alloc,
             cursor,
-            tokens: Vec::new(alloc),
+            tokens: VecDeque::new(alloc),
+            taken: 0,
             indents: Vec::new(alloc),
             candidates,
             key_allowed: true,
         })
     }
 
-    // How many tokens can't change any more: those before the first that may be a key.
-    pub(crate) fn released(&mut self) -> usize {
+    // How many of the tokens that wait can't change any more: those before the first that may be a key.
+    fn released(&mut self) -> usize {
         match self.candidates.first_place() {
-            Some(place) => place,
+            Some(place) => place.saturating_sub(self.taken),
             None => self.tokens.len(),
         }
     }
 
-    // The tokens.
-    pub(crate) fn into_tokens(self) -> Vec<Placed> {
-        self.tokens
+    // Hands over the first of the tokens that wait.
+    pub(crate) fn pop(&mut self) -> Option<Placed> {
+        let first = self.tokens.pop_front();
+        if first.is_some() {
+            self.taken = self.taken.saturating_add(1);
+        }
+        first
     }
 
     // Whether a bracket is open.
@@ -68,12 +77,13 @@ impl<'a> Scanner<'a> {
 
     // Adds a token.
     fn put(&mut self, token: Token, start: Mark, end: Mark) -> Result<(), Stop> {
-        self.tokens.push(Placed {
+        self.tokens.reserve(1)?;
+        self.tokens.push_back_reserved(Placed {
             lead: Lead::Nothing,
             token,
             start,
             end,
-        })?;
+        });
         Ok(())
     }
 
@@ -105,8 +115,7 @@ impl<'a> Scanner<'a> {
 
     // Gives up the candidates that can't be keys any more.
     fn drop_stale(&mut self) -> Result<(), Stop> {
-        let here = self.cursor.mark();
-        match self.candidates.drop_stale(here) {
+        match self.candidates.drop_stale(&self.cursor) {
             Some(candidate) => Err(self.no_colon(candidate)),
             None => Ok(()),
         }
@@ -114,13 +123,11 @@ impl<'a> Scanner<'a> {
 
     // Gives up the candidate of the innermost bracket.
     fn remove_candidate(&mut self) -> Result<(), Stop> {
-        let here = self.cursor.mark();
-        let candidate = self.candidates.last(here);
-        if candidate.possible {
+        if let Some(candidate) = self.candidates.last() {
             if candidate.required {
                 return Err(self.no_colon(candidate));
             }
-            self.candidates.replace(Candidate::none(here))?;
+            self.candidates.remove();
         }
         Ok(())
     }
@@ -131,13 +138,13 @@ impl<'a> Scanner<'a> {
             self.remove_candidate()?;
             let required = !self.is_flow()
                 && self.indent() == self.cursor.column().saturating_add(1);
-            let candidate = Candidate {
-                possible: true,
+            let place = self.taken.saturating_add(self.tokens.len());
+            let mark = self.cursor.mark();
+            self.candidates.save(Candidate {
                 required,
-                place: self.tokens.len(),
-                mark: self.cursor.mark(),
-            };
-            self.candidates.replace(candidate)?;
+                place,
+                mark,
+            });
         }
         Ok(())
     }

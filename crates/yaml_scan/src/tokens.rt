@@ -1,60 +1,71 @@
-//! The scanner's one public call.
+//! What the scanner gives: the tokens of a text, one after another.
 
-ghost use Rattle.std.specs.Prelude.{IfOk};
-ghost use Rattle.yaml_scan.specs.Scanning.{IsScanned};
+ghost use Rattle.std.specs.Prelude.{◌≡◌};
+ghost use Rattle.std.specs.Option.{ForSome};
+ghost use Rattle.std.proofs.Props.{props};
+ghost use Rattle.yaml_base.specs.declared.fault.FaultKind.TheVariants as kind;
 
-use crate::reader::first_fault;
 use crate::scanner::{More, Scanner};
 use std::alloc::{AllocError, Global};
 use yaml_base::FaultKind;
-use yaml_token::{Fault, Finding, Placed, Stop};
+use yaml_token::{Fault, Placed, Stop};
 
-/// What a text's tokens are.
+/// The tokens of a text, amid the text. Only those that may still become keys are kept.
 #[derive(Drop)]
-pub enum Scanned {
-    /// The tokens in the order of the text, and what is wrong behind them; no fault where they come to the text's end.
-    Tokens(Vec<Placed>, Option<Fault>),
-    /// The text could not be read at all.
-    Unread(Fault),
+pub struct Tokens<'a> {
+    scanner: Scanner<'a>,
+    // How many of the tokens that wait can't change any more.
+    ready: usize,
+    // What is wrong with the text behind them.
+    fault: Option<Fault>,
+    ghost scanners: { ForSome fault (λ f. f.kind ≡ kind.Scanner) } by { Prim.hlevel props },
 }
 
-// Scans token by token, up to the end or the first fault, and gives how many tokens come before the fault.
-fn scan_all(
-    scanner: &mut Scanner<'_>,
-    bytes: usize,
-) -> Result<Option<(Finding, usize)>, AllocError> {
-    let mut released = 0;
-    for _ in 0..bytes {
-        match scanner.advance(&mut released) {
-            Ok(More::Yes) => {}
-            Ok(More::No) => break,
-            Err(Stop::Memory) => return Err(AllocError),
-            Err(Stop::Fault(found)) => return Ok(Some((found, released))),
-        }
+impl<'a> Tokens<'a> {
+    // The tokens of a text, of which none is scanned yet.
+    pub(crate) fn new(alloc: Global, text: &'a [u8]) -> Result<Tokens<'a>, AllocError> {
+        Ok(Tokens {
+            scanner: Scanner::new(alloc, text)?,
+            ready: 0,
+            fault: None,
+        })
     }
-    Ok(None)
-}
 
-/// The tokens of a text, which is read to its end or to its first fault.
-///
-/// A text whose bytes are not all allowed, by the rules of UTF-8 or of YAML's characters, has no tokens, and the fault
-/// tells the first byte that is not. Any other fault hides the tokens that it came too late to tell keys or none. The
-/// only error is want of memory.
-pub fn scan(alloc: Global, text: &[u8]) -> Result<Scanned, AllocError>
-    ensures { IfOk result (IsScanned text.now) }
-{
-    if let Some(fault) = first_fault(text) {
-        return Ok(Scanned::Unread(fault));
-    }
-    let mut scanner = Scanner::new(alloc, text)?;
-    let found = scan_all(&mut scanner, text.len() + 1)?;
-    let mut tokens = scanner.into_tokens();
-    match found {
-        Some((finding, released)) => {
-            tokens.truncate(released);
-            let fault = finding.found_by(FaultKind::Scanner);
-            Ok(Scanned::Tokens(tokens, Some(fault)))
+    /// Scans the next token, with those that begin or end a collection there, finds how many tokens are ready, those
+    /// that no `:` further on can show to be keys, and tells whether the text goes on: not behind its end, nor behind
+    /// its first fault, which hides the tokens that it came too late to tell keys or none. To be called once all that
+    /// were ready are taken, as long as the text goes on.
+    ///
+    /// A text has at most as many steps as bytes, and one more. The only error is want of memory.
+    pub fn advance(&mut self) -> Result<bool, AllocError> {
+        match self.scanner.advance(&mut self.ready) {
+            Ok(more) => Ok(more == More::Yes),
+            Err(Stop::Memory) => Err(AllocError),
+            Err(Stop::Fault(finding)) => {
+                self.fault = Some(finding.found_by(FaultKind::Scanner));
+                Ok(false)
+            }
         }
-        None => Ok(Scanned::Tokens(tokens, None)),
+    }
+
+    /// How many tokens are ready.
+    pub fn ready(&self) -> usize {
+        self.ready
+    }
+
+    /// The next token that is ready, if one is.
+    pub fn next(&mut self) -> Option<Placed> {
+        if self.ready == 0 {
+            return None;
+        }
+        self.ready -= 1;
+        self.scanner.pop()
+    }
+
+    /// What is wrong with the text, behind all tokens, if that was found.
+    pub fn fault(&self) -> Option<Fault>
+        ensures { ForSome result (λ f. f.kind ≡ kind.Scanner) }
+    {
+        self.fault
     }
 }

@@ -13,8 +13,38 @@ ghost use Rattle.yaml_scan.specs.AllowedText.{IsAllowed, IsOfReader};
 
 use std::alloc::{AllocError, Global};
 pub use yaml_parse::Parsed;
-use yaml_parse::{parse_tokens, unread};
-use yaml_scan::{Scanned, scan};
+use yaml_parse::{Parser, unread};
+use yaml_scan::{Scanned, Tokens, scan};
+
+// Hands the tokens that are ready over to the parser, and tells whether it takes more.
+fn hand_over(tokens: &mut Tokens<'_>, parser: &mut Parser<'_>) -> Result<bool, AllocError>
+    ensures { parser.new.text.now ≡ parser.old.text.now }
+{
+    'ready: for _ in 0..tokens.ready() {
+        match tokens.next() {
+            Some(placed) => {
+                if !parser.take(placed)? {
+                    return Ok(false);
+                }
+            }
+            None => break,
+        }
+    }
+    Ok(true)
+}
+
+// Scans at most so many steps, and parses on the way.
+fn read(tokens: &mut Tokens<'_>, parser: &mut Parser<'_>, steps: usize) -> Result<(), AllocError>
+    ensures { parser.new.text.now ≡ parser.old.text.now }
+{
+    'steps: for _ in 0..steps {
+        let goes_on = tokens.advance()?;
+        if !hand_over(tokens, parser)? || !goes_on {
+            break;
+        }
+    }
+    Ok(())
+}
 
 /// The events of a text, each with its mark, and the parser's fault if it met one. The events borrow from the text: a
 /// scalar's slice is the part of the text that it was read from.
@@ -33,7 +63,11 @@ pub fn parse<'a>(alloc: Global, text: &'a [u8]) -> Result<Parsed<'a>, AllocError
         (parsed.events.items ≡ []) × IsSomeAnd parsed.fault (λ f. IsOfReader text.now f.kind f.offset)) }
 {
     match scan(alloc, text)? {
-        Scanned::Tokens(tokens, fault) => parse_tokens(alloc, text, tokens, fault),
+        Scanned::Tokens(mut tokens) => {
+            let mut parser = Parser::new(alloc, text)?;
+            read(&mut tokens, &mut parser, text.len() + 1)?;
+            parser.finish(alloc, tokens.fault())
+        }
         Scanned::Unread(fault) => unread(alloc, fault),
     }
 }

@@ -4,7 +4,7 @@ ghost use Rattle.std.specs.Prelude.{◌≡◌};
 
 use crate::context::Context;
 use crate::problem::Problem;
-use std::alloc::{AllocError, AllocFailed};
+use std::alloc::{AllocError, AllocFailed, Global};
 use yaml_base::{FaultKind, Mark};
 
 /// What is wrong with a text: a problem at a mark, and what was being read there, with the mark where that began.
@@ -66,8 +66,18 @@ impl Finding {
 pub enum Stop {
     /// Memory ran out.
     Memory,
-    /// The text is wrong.
-    Fault(Finding),
+    /// The text is wrong. What was found has memory of its own, so that a result with a `Stop` is small.
+    Fault(Box<Finding>),
+}
+
+impl Stop {
+    /// The end of reading at what was found. Where there is no memory for it, that is why reading stops.
+    pub fn at(alloc: Global, finding: Finding) -> Stop {
+        match Box::new(alloc, finding) {
+            Ok(finding) => Stop::Fault(finding),
+            Err(_) => Stop::Memory,
+        }
+    }
 }
 
 impl From<AllocError> for Stop {

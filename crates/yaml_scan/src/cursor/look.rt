@@ -15,15 +15,6 @@ impl Cursor<'_> {
         }
     }
 
-    // The byte that lies so many bytes back, or 0 before the start.
-    pub(crate) fn before(&self, back: usize) -> u8 {
-        if back != 0 && back <= self.at {
-            self.text[self.at - back]
-        } else {
-            0
-        }
-    }
-
     // How many bytes the line break has that lies so many bytes ahead; 0 where there is none.
     pub(crate) fn break_len(&self, ahead: usize) -> usize
         requires { ahead < 8 }

@@ -2,42 +2,11 @@
 
 ghost use Rattle.std.specs.Prelude.{◌-◌, ◌≤◌, length};
 
-use crate::byte::{Run, is_continuation, is_word};
+use crate::byte::{Part, Run, may_break, spaces_in, word_in};
 use crate::cursor::Cursor;
 use std::alloc::AllocError;
 
 impl Cursor<'_> {
-    // Whether a line ends with the byte that stands here.
-    fn ends_line(&self) -> bool {
-        match self.byte(0) {
-            b'\n' => true,
-            b'\r' => self.byte(1) != b'\n',
-            0x85 => self.before(1) == 0xC2,
-            0xA8 | 0xA9 => self.before(1) == 0x80 && self.before(2) == 0xE2,
-            _ => false,
-        }
-    }
-
-    // Steps over a byte.
-    fn pass(&mut self) {
-        if self.at < self.text.len() {
-            if self.ends_line() {
-                self.line += 1;
-                self.column = 0;
-            } else if !is_continuation(self.text[self.at]) {
-                self.column += 1;
-            }
-            self.at += 1;
-        }
-    }
-
-    // Steps over so many bytes.
-    fn pass_many(&mut self, count: usize) {
-        for _ in 0..count {
-            self.pass();
-        }
-    }
-
     // How many bytes the next character has, by its first; 0 at the end.
     fn width(&self) -> usize
         ensures { result ≤ length self.now.text.now - self.now.at }
@@ -51,13 +20,24 @@ impl Cursor<'_> {
         wanted.min(self.text.len() - self.at)
     }
 
-    // Steps over a character.
+    // Steps over a character that ends no line.
     pub(crate) fn skip(&mut self) {
         let width = self.width();
-        self.pass_many(width);
+        if width != 0 {
+            self.column += 1;
+            self.at += width;
+        }
     }
 
-    // Steps over so many characters.
+    // Steps over bytes that end no line.
+    fn pass(&mut self, part: Part)
+        requires { part.bytes ≤ length self.old.text.now - self.old.at }
+    {
+        self.column += part.characters;
+        self.at += part.bytes;
+    }
+
+    // Steps over so many characters that end no line.
     pub(crate) fn skip_many(&mut self, count: usize) {
         for _ in 0..count {
             self.skip();
@@ -66,18 +46,24 @@ impl Cursor<'_> {
 
     // Steps over a line break, if one stands here.
     pub(crate) fn skip_line(&mut self) {
-        let width = self.break_len(0);
-        self.pass_many(width);
+        let width = self.break_len(0).min(self.text.len() - self.at);
+        if width != 0 {
+            self.line += 1;
+            self.column = 0;
+            self.at += width;
+        }
     }
 
     // Steps over spaces and tabs.
     pub(crate) fn skip_blanks(&mut self) {
-        for _ in 0..self.left() {
-            if !self.is_blank(0) {
-                break;
-            }
-            self.pass();
-        }
+        self.skip_spaces(true);
+    }
+
+    // Steps over spaces, and over tabs where `tabs` says so.
+    pub(crate) fn skip_spaces(&mut self, tabs: bool) {
+        let width = spaces_in(&self.text[self.at..], tabs);
+        self.column += width;
+        self.at += width;
     }
 
     // Steps over a comment, up to the end of its line.
@@ -87,46 +73,60 @@ impl Cursor<'_> {
                 if self.is_break_or_end(0) {
                     break;
                 }
-                self.skip();
+                self.skip_run(Run::Line);
             }
         }
     }
 
-    // Copies so many bytes and steps over them.
-    fn copy(&mut self, width: usize, out: &mut Vec<u8>) -> Result<(), AllocError>
-        requires { width ≤ length self.old.text.now - self.old.at }
-    {
+    // Copies a character that ends no line.
+    pub(crate) fn read(&mut self, out: &mut Vec<u8>) -> Result<(), AllocError> {
+        let width = self.width();
         out.extend_from_slice(&self.text[self.at..self.at + width])?;
-        self.pass_many(width);
+        self.skip();
         Ok(())
     }
 
-    // Copies a character.
-    pub(crate) fn read(&mut self, out: &mut Vec<u8>) -> Result<(), AllocError> {
-        let width = self.width();
-        self.copy(width, out)
-    }
-
-    // Steps over bytes up to the first that ends such a run.
+    // Steps over bytes up to the first that ends such a run, or else over the character that it is of.
     pub(crate) fn skip_run(&mut self, run: Run) {
-        let width = run.len_in(&self.text[self.at..]);
-        self.pass_many(width);
+        let part = run.part_of(&self.text[self.at..]);
+        if part.bytes == 0 {
+            self.skip();
+        } else {
+            self.pass(part);
+        }
     }
 
-    // Copies bytes up to the first that ends such a run.
+    // Copies bytes up to the first that ends such a run, or else the character that it is of.
     pub(crate) fn read_run(&mut self, run: Run, out: &mut Vec<u8>) -> Result<(), AllocError> {
-        let width = run.len_in(&self.text[self.at..]);
-        self.copy(width, out)
+        let part = run.part_of(&self.text[self.at..]);
+        if part.bytes == 0 {
+            return self.read(out);
+        }
+        out.extend_from_slice(&self.text[self.at..self.at + part.bytes])?;
+        self.pass(part);
+        Ok(())
+    }
+
+    // Copies the spaces and tabs that stand here if more of the line follows them, and tells whether it did.
+    pub(crate) fn read_inner_blanks(&mut self, out: &mut Vec<u8>) -> Result<bool, AllocError> {
+        let width = spaces_in(&self.text[self.at..], true);
+        let inner = width != 0
+            && width < self.text.len() - self.at
+            && !may_break(self.text[self.at + width]);
+        if inner {
+            out.extend_from_slice(&self.text[self.at..self.at + width])?;
+            self.column += width;
+            self.at += width;
+        }
+        Ok(inner)
     }
 
     // Copies what may stand in a name.
     pub(crate) fn read_word(&mut self, out: &mut Vec<u8>) -> Result<(), AllocError> {
-        for _ in 0..self.left() {
-            if !is_word(self.byte(0)) {
-                break;
-            }
-            self.read(out)?;
-        }
+        let width = word_in(&self.text[self.at..]);
+        out.extend_from_slice(&self.text[self.at..self.at + width])?;
+        self.column += width;
+        self.at += width;
         Ok(())
     }
 
@@ -134,12 +134,10 @@ impl Cursor<'_> {
     pub(crate) fn read_line(&mut self, out: &mut Vec<u8>) -> Result<(), AllocError> {
         match self.break_len(0) {
             0 => {}
-            3 => self.read(out)?,
-            _ => {
-                out.push(b'\n')?;
-                self.skip_line();
-            }
+            3 => out.extend_from_slice(&self.text[self.at..self.at + self.width()])?,
+            _ => out.push(b'\n')?,
         }
+        self.skip_line();
         Ok(())
     }
 }

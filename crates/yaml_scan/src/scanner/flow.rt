@@ -7,8 +7,7 @@ impl Scanner<'_> {
     // `[` or `{`
     pub(super) fn flow_start(&mut self, token: Token) -> Result<(), Stop> {
         self.save_candidate()?;
-        let mark = self.cursor.mark();
-        self.candidates.open(mark)?;
+        self.candidates.open()?;
         self.key_allowed = true;
         self.put_byte(token)
     }

@@ -1,6 +1,5 @@
 //! Indicators of entries, keys and values, and where documents begin and end.
 
-use crate::candidate::Candidate;
 use crate::directive::scan_directive;
 use crate::scanner::Scanner;
 use yaml_token::{Lead, Problem, Stop, Token};
@@ -70,20 +69,18 @@ impl Scanner<'_> {
 
     // Tells the token at this place that it is a key.
     fn set_lead(&mut self, place: usize, lead: Lead) {
-        if let Some(placed) = self.tokens.as_mut_slice().get_mut(place) {
+        if let Some(placed) = self.tokens.get_mut(place.saturating_sub(self.taken)) {
             placed.lead = lead;
         }
     }
 
     // `:`
     pub(super) fn value(&mut self) -> Result<(), Stop> {
-        let here = self.cursor.mark();
-        let candidate = self.candidates.last(here);
-        if candidate.possible {
+        if let Some(candidate) = self.candidates.last() {
             let begins = self.roll(candidate.mark.column() as usize)?;
             let lead = if begins { Lead::MappingKey } else { Lead::Key };
             self.set_lead(candidate.place, lead);
-            self.candidates.replace(Candidate::none(here))?;
+            self.candidates.remove();
             self.key_allowed = false;
         } else {
             let problem = Problem::MappingValuesAreNotAllowedInThisContext;

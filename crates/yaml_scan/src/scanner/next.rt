@@ -12,25 +12,14 @@ pub(crate) enum More {
 }
 
 impl Scanner<'_> {
-    // Steps over the spaces that begin a line or stand between tokens, and over the tabs where no key may begin.
-    fn skip_spaces(&mut self) {
-        let tabs = self.is_flow() || !self.key_allowed;
-        for _ in 0..self.cursor.left() {
-            let byte = self.cursor.byte(0);
-            if !(byte == b' ' || (tabs && byte == b'\t')) {
-                break;
-            }
-            self.cursor.skip();
-        }
-    }
-
-    // Steps over blanks, comments and line breaks.
+    // Steps over blanks, comments and line breaks. Tabs are blanks where no key may begin.
     fn to_next_token(&mut self) {
         for _ in 0..self.cursor.left() {
             if self.cursor.is_order_mark() {
                 self.cursor.skip();
             }
-            self.skip_spaces();
+            let tabs = self.is_flow() || !self.key_allowed;
+            self.cursor.skip_spaces(tabs);
             self.cursor.skip_comment();
             if !self.cursor.is_break(0) {
                 break;
@@ -88,16 +77,15 @@ impl Scanner<'_> {
     // Scans a token that may stand anywhere.
     fn token(&mut self) -> Result<(), Stop> {
         let flow = self.is_flow();
-        let alone = self.cursor.is_blank_or_end(1);
         match self.cursor.byte(0) {
             b'[' => self.flow_start(Token::FlowSequenceStart),
             b'{' => self.flow_start(Token::FlowMappingStart),
             b']' => self.flow_end(Token::FlowSequenceEnd),
             b'}' => self.flow_end(Token::FlowMappingEnd),
             b',' => self.flow_entry(),
-            b'-' if alone => self.block_entry(),
-            b'?' if flow || alone => self.key(),
-            b':' if flow || alone => self.value(),
+            b'-' if self.cursor.is_blank_or_end(1) => self.block_entry(),
+            b'?' if flow || self.cursor.is_blank_or_end(1) => self.key(),
+            b':' if flow || self.cursor.is_blank_or_end(1) => self.value(),
             _ => self.node(flow),
         }
     }
@@ -124,10 +112,15 @@ impl Scanner<'_> {
         }
     }
 
-    // Scans the next token, and gives up stale candidates before it is known which tokens can't change any more.
-    pub(crate) fn advance(&mut self, released: &mut usize) -> Result<More, Stop> {
+    // Scans the next token. Before that stale candidates are given up, and it is found how many of the tokens that wait
+    // can't change any more. Behind the last token none can.
+    pub(crate) fn advance(&mut self, ready: &mut usize) -> Result<More, Stop> {
         self.drop_stale()?;
-        *released = self.released();
-        self.next()
+        *ready = self.released();
+        let more = self.next()?;
+        if more == More::No {
+            *ready = self.tokens.len();
+        }
+        Ok(more)
     }
 }
