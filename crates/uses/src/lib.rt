@@ -4,11 +4,13 @@
 mod address;
 mod greeting;
 mod server;
+mod timeouts;
 mod workers;
 
 pub use address::Address;
 pub use greeting::Greeting;
 pub use server::Server;
+pub use timeouts::Timeouts;
 pub use workers::Workers;
 
 #[cfg(test)]

@@ -1,9 +1,9 @@
 //! The types, read from data and written as data.
 
-use crate::{Address, Greeting, Server, Workers};
+use crate::{Address, Greeting, Server, Timeouts, Workers};
 use std::alloc::Global;
 use std::test::Fail;
-use yaml_shape::{Data, Text, Typed};
+use yaml_shape::{Data, Shape, Text, Typed};
 use yaml_types::{BuildFault, Deserialize, Serialize};
 
 // The data of an address.
@@ -48,6 +48,21 @@ fn an_absent_field_has_its_default(rt: HostRuntime) -> Result<(), Fail> {
     assert!(rt; Typed::new(&schema, id, &written).is_some());
     let again: Server = read(alloc, written)??;
     assert!(rt; again == server);
+    Ok(())
+}
+
+#[test]
+fn a_strict_struct_has_its_fields_alone(rt: HostRuntime) -> Result<(), Fail> {
+    let alloc = rt.alloc();
+    let (schema, id) = <Timeouts as Deserialize>::schema(alloc)?;
+    assert!(rt; matches!(schema.shape(id), Some(Shape::StrictStruct { .. })));
+
+    let fields = vec![in alloc; Data::Unsigned(5), Data::Unsigned(30)]?;
+    let timeouts: Timeouts = read(alloc, Data::Struct(fields))??;
+    assert_eq!(rt; timeouts.connect, 5);
+    assert_eq!(rt; timeouts.answer, 30);
+    let again: Timeouts = read(alloc, timeouts.to_data(alloc)?)??;
+    assert!(rt; again == timeouts);
     Ok(())
 }
 
