@@ -55,6 +55,70 @@ printf 'web: 1\n---\n[a\n' > "$work/in"
 run "two documents" 1 "fault: deserializing from YAML containing more than one document is not supported$lf" "" show
 run "each document" 1 '{"web": 1}'"$lf""fault: did not find expected ',' or ']' at line 4 column 1, while parsing a flow \
 sequence at line 3 column 1$lf" "" show --documents
+printf 'web: 1\n---\n[a]\n---\n' > "$work/in"
+run "each of good documents" 0 '{"web": 1}'"$lf"'["a"]'"$lf""null$lf" "" show --documents
+run "each document as a list" 1 "fault: invalid type: map, expected a sequence$lf"\
+'fault: [0]: invalid type: string "a", expected i64 at line 3 column 2'"$lf[]$lf" "" show --documents --shape list
+printf '' > "$work/in"
+run "no document" 0 "" "" show --documents
+
+# Documents as YAML text, and what was printed once more.
+cat > "$work/in" << 'END'
+# two ports
+web: &p 8080
+proxy: [*p, 0x1F91]   # and another
+hosts:
+  - {name: "a b", open: true}
+  -   - 'x'
+      - "true"
+      - !local ~
+none: {}
+? [1, 2]
+: >-
+  folded
+  text
+note: |
+  two
+  lines
+END
+cat > "$work/formatted" << 'END'
+web: 8080
+proxy:
+- 8080
+- 8081
+hosts:
+- name: a b
+  open: true
+- - x
+  - 'true'
+  - !local null
+none: {}
+? - 1
+  - 2
+: folded text
+note: |
+  two
+  lines
+END
+run "formatted" 0 "$(cat "$work/formatted")$lf" "" format
+run "formatted, another file" 0 "$(cat "$work/formatted")$lf" "" format "$work/in"
+"$program" show < "$work/in" > "$work/shown"
+cp "$work/formatted" "$work/in"
+run "formatted once more" 0 "$(cat "$work/formatted")$lf" "" format
+run "what was formatted" 0 "$(cat "$work/shown")$lf" "" show
+printf -- '--- a\n...\n---\n- "1"\n--- {}\n' > "$work/in"
+run "formatted documents" 0 "a$lf---$lf- '1'$lf---$lf{}$lf" "" format
+printf 'a: 1\n---\n[b\n---\n[c\n' > "$work/in"
+run "formatted up to a fault" 1 "fault: did not find expected ',' or ']' at line 4 column 1, while parsing a flow \
+sequence at line 3 column 1$lf" "" format
+printf 'a: [1]\n' > "$work/in"
+run "formatted within few nestings" 1 "fault: recursion limit exceeded at line 1 column 4$lf" "" format --nesting 1
+printf -- '- &a 1\n- *a\n' > "$work/in"
+run "formatted without follows" 1 "fault: repetition limit exceeded$lf" "" format --follows 0
+printf '# nothing\n' > "$work/in"
+run "nothing formatted" 0 "" "" format
+
+printf 'web: 1\n---\n[a\n' > "$work/in"
 run "events" 1 '0:0:0 +STR
 0:0:0 +DOC
 0:0:0 +MAP
@@ -92,6 +156,8 @@ run "a folder" 2 "" "it can't be read" show "$work"
 # Words.
 run "no command" 2 "" "requires a subcommand"
 run "a wrong command" 2 "" "unrecognized subcommand 'shov'" shov
+run "a second file" 2 "" "unexpected argument '$work/second' found" format "$work/first" "$work/second"
+run "a shape where none may stand" 2 "" "unexpected argument '--shape' found" format --shape any
 run "a wrong option" 2 "" "unexpected argument '--documents' found" events --documents
 run "a wrong shape" 2 "" "invalid value 'bol' for '--shape <NAME>'" show --shape bol
 run "too many nestings" 2 "" "300 is not in 0..=255" show --nesting 300
@@ -106,6 +172,8 @@ compare "help" $? 0 "$(cat "$work/out")$lf"
 compare "a folder as standard input" $? 2 ""
 "$program" show <&- > "$work/out" 2> "$work/err"
 compare "closed standard input" $? 2 ""
+"$program" format < / > "$work/out" 2> "$work/err"
+compare "a folder to format" $? 2 ""
 : > "$work/out"
 "$program" show < "$work/first" >&- 2> "$work/err"
 compare "closed standard output" $? 2 ""

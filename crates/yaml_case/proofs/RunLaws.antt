@@ -1,35 +1,22 @@
 -- What a run prints, from what its parts say.
-use Rattle.std.specs.Prelude.{codes, Option, None, Some, IfSome, IfOk, IfErr, Result, Ok, Err}
-use Rattle.std.proofs.Common.{◌≡◌, ◌≢◌, ℕ, List, [], ◌∷◌, ◌++◌, false, length, map, subst, refl, sym, ap, ◌∙◌, get_or}
-use Rattle.std.proofs.Common.{arith}
+use Rattle.std.specs.Prelude.{codes, Option, IfSome, IfOk, IfErr, Result, Ok, Err}
+use Rattle.std.proofs.Common.{◌≡◌, ◌≢◌, ℕ, List, [], ◌∷◌, ◌++◌, length, map, subst, refl, sym, ap, ◌∙◌, get_or, arith}
 use Rattle.std.proofs.lemmas.List.{length-map}
-use Rattle.yaml_base.specs.Answer.{is_memory}
-use Rattle.yaml_base.specs.ErrorText.{error_text}
-use Rattle.yaml_base.specs.PlainFault.{PlainFault}
-use Rattle.yaml_base.specs.declared.error.Cause.{Cause}
-use Rattle.yaml_base.specs.declared.error.Cause.TheVariants.{Memory}
-use Rattle.yaml_case.specs.declared.status.Status.{Status}
-use Rattle.yaml_case.specs.declared.status.Status.TheVariants as status
-use Rattle.yaml_case.specs.declared.shapes.Named.{Named}
-use Rattle.yaml_case.specs.Replies.{IsReply, IsAnswer, IsAnswerTo}
-use Rattle.yaml_case.specs.Replies.IsReply.{bad_line, found, refused, out_of_memory}
-use Rattle.yaml_case.specs.Replies.IsAnswer.{bad_argument, reply}
-use Rattle.yaml_case.specs.Replies.IsAnswerTo.{bad_arguments, asked}
-use Rattle.yaml_case.specs.Printed.{line_of, status_of, Prints}
-use Rattle.yaml_case.specs.declared.answer.Answer.{Answer}
+use Rattle.yaml_read.specs.TreeReader.{PlainLimits, default_limits}
+use Rattle.yaml_run.specs.EventReadings.IsReading.{out_of_memory}
+use Rattle.yaml_run.specs.Printed.{line_of, status_of, Prints}
+use Rattle.yaml_run.specs.Shapes.{name_of, table_of, first_shape, IsNoName}
+use Rattle.yaml_run.specs.declared.answer.Answer.{Answer}
+use Rattle.yaml_run.specs.declared.shapes.Named.{Named}
+use Rattle.yaml_run.specs.declared.status.Status.{Status}
+use Rattle.yaml_run.specs.declared.status.Status.TheVariants as status
+use Rattle.yaml_run.proofs.ReadingLaws.{lines-read}
+use Rattle.yaml_run.proofs.RunLaws as run
 use Rattle.yaml_case.specs.Arguments.{WriteLimits, AskForNothing}
 use Rattle.yaml_case.specs.Arguments.Ask.{shape_alone, shape_within}
-use Rattle.yaml_lines.specs.InputText.{MarkedEvents, IsInput, lines_of}
-use Rattle.yaml_read.specs.TreeReader.{PlainLimits, default_limits}
-use Rattle.yaml_base.specs.Answer.{Answers}
-use Rattle.yaml_shape.specs.PlainData.{PlainData}
-use Rattle.serde_yaml.specs.StreamReads.{InputGives}
-use Rattle.yaml_case.specs.Shapes.{name_of, table_of, first_shape, IsNoName}
-
--- an input that is the known one, if one is known
-pub some_input : (known : Option (List ℕ)) → (input : List ℕ) × IfSome known (λ bytes. input ≡ bytes)
-some_input None = ([], tt)
-some_input (Some input) = (input, refl)
+use Rattle.yaml_case.specs.Replies.{IsReply, IsAnswer, IsAnswerTo}
+use Rattle.yaml_case.specs.Replies.IsAnswer.{bad_argument, reply}
+use Rattle.yaml_case.specs.Replies.IsAnswerTo.{bad_arguments, asked}
 
 -- no input matters to a bad argument
 pub refuses : (name : List ℕ) (limits : PlainLimits) (input : List ℕ) (ended : Status) → IsNoName name → ended
@@ -130,35 +117,18 @@ module _ (words : List (List ℕ)) (name nesting follows : List ℕ) (is : words
   answers_within limits input ended text w (reply shape named r) =
       asked shape limits (shape_within nesting follows (is ∙ ap (λ n. n ∷ nesting ∷ follows ∷ []) (sym named)) w) r
 
--- a reply is no failed read
-pub reply-read : (shape : Named) (limits : PlainLimits) (input : List ℕ) (ended : Status) (text : List ℕ)
-    → IsReply shape limits input ended text → ended ≢ status.ReadFailed
-reply-read shape limits input ended text (bad_line n first e t) = λ f. let same = sym e ∙ f in absurd cc
-reply-read shape limits input ended text (found events fault value lines reads e t) = λ f. let same = sym e ∙ f in
-    absurd cc
-reply-read shape limits input ended text (refused events fault cause lines why e t) = λ f. let same = sym e ∙ f in
-    absurd cc
-reply-read shape limits input ended text (out_of_memory e t) = λ f. let same = sym e ∙ f in absurd cc
-
--- a fault is one that the events ask for, or want of memory
-pub fault_reply : (shape : Named) (limits : PlainLimits) (input : List ℕ) (events : MarkedEvents)
-    (fault : Option PlainFault) (cause : Cause)
-    → IsInput (lines_of input) events fault
-    → (is_memory cause ≡ false → InputGives limits (table_of shape) (first_shape shape) events fault (Err cause))
-    → IsReply shape limits input status.Fault (codes "fault: " ++ error_text cause)
-fault_reply shape limits input events fault Memory lines why = out_of_memory refl refl
-fault_reply shape limits input events fault cause lines why = refused events fault cause lines (why refl) refl refl
-
--- nor is an answer to a name, or to arguments
+-- an answer to a name, or to arguments, is no failed read
 pub answer-read : (name : List ℕ) (limits : PlainLimits) (input : List ℕ) (ended : Status) (text : List ℕ)
     → IsAnswer name limits input ended text → ended ≢ status.ReadFailed
 answer-read name limits input ended text (bad_argument none e t) = λ f. let same = sym e ∙ f in absurd cc
-answer-read name limits input ended text (reply shape named r) = reply-read shape limits input ended text r
+answer-read name limits input ended text (reply shape named r) =
+    lines-read limits (table_of shape) (first_shape shape) input ended text r
 
 pub answer_to-read : (words : List (List ℕ)) (input : List ℕ) (ended : Status) (text : List ℕ)
     → IsAnswerTo words input ended text → ended ≢ status.ReadFailed
 answer_to-read words input ended text (bad_arguments none e t) = λ f. let same = sym e ∙ f in absurd cc
-answer_to-read words input ended text (asked shape limits ask r) = reply-read shape limits input ended text r
+answer_to-read words input ended text (asked shape limits ask r) =
+    lines-read limits (table_of shape) (first_shape shape) input ended text r
 
 -- an answer has a text for an input that is the known one, if one is known
 abbrev pub Answered : Option (List ℕ) → (List ℕ → Status → List ℕ → Type 0) → Answer → Type 0
@@ -173,6 +143,15 @@ pub answered_as : {E : Type 0} (known : Option (List ℕ)) (P Q : List ℕ → S
 answered_as known P Q (Ok a) f h = (h.0, h.1, h.2, h.3, f _ _ _ h.4)
 answered_as known P Q (Err e) f h = h
 
+-- what is printed is a text with a line feed behind it
+abbrev pub AsLine : (List ℕ → Status → List ℕ → Type 0) → List ℕ → Status → List ℕ → Type 0
+AsLine Is input ended line = (text : List ℕ) × (line ≡ text ++ 10 ∷ []) × Is input ended text
+
+as_line : {E : Type 0} (known : Option (List ℕ)) (P : List ℕ → Status → List ℕ → Type 0) (r : Result Answer E)
+    → IfOk r (Answered known P) → IfOk r (run.Answered known (AsLine P))
+as_line known P (Ok a) h = (h.1, h.3, (h.0, h.2, h.4))
+as_line known P (Err e) h = h
+
 -- what a run prints that concludes a reply
 pub concluded : {E : Type 0} (Same : Type 0) (known old new : Option (List ℕ)) (P : List ℕ → Status → List ℕ → Type 0)
     (r : Result Answer E) (result : Status)
@@ -180,15 +159,10 @@ pub concluded : {E : Type 0} (Same : Type 0) (known old new : Option (List ℕ))
     → IfErr r (λ e. (result ≡ status.ReadFailed) × Same) → result ≢ status.ReadFailed
     → (text : List ℕ) × (input : List ℕ) × (ended : Status) × IfSome known (λ bytes. input ≡ bytes)
     × P input ended text × Prints old new (text ++ 10 ∷ []) ended result
-concluded Same known old new P (Ok a) result h prints err read =
-    (h.0, h.1, status_of a, h.3, h.4, subst (λ l. Prints old new l (status_of a) result) h.2 prints)
-concluded Same known old new P (Err e) result h prints err read = absurd (read err.0)
-
--- a line that was printed ends no run as a failed read
-printed-read : (old new : Option (List ℕ)) (line : List ℕ) (ended result : Status) → Prints old new line ended result
-    → ended ≢ status.ReadFailed → result ≢ status.ReadFailed
-printed-read old new line ended result p apart = λ f.
-    apart (sym (p (λ w. let same = sym f ∙ w in absurd cc)).0 ∙ f)
+concluded Same known old new P r result h prints err read =
+    let c = run.concluded Same known old new (AsLine P) r result (as_line known P r h) prints err read in
+    let line = c.4 in
+    (line.0, c.1, c.2, c.3, line.2, subst (λ l. Prints old new l c.2 result) line.1 c.5)
 
 -- where the run ends as a failed read, there is no reply
 pub concluded-unread : {E Same : Type 0} (known old new : Option (List ℕ)) (P : List ℕ → Status → List ℕ → Type 0)
@@ -196,6 +170,6 @@ pub concluded-unread : {E Same : Type 0} (known old new : Option (List ℕ)) (P 
     → ((input : List ℕ) (ended : Status) (text : List ℕ) → P input ended text → ended ≢ status.ReadFailed)
     → IfOk r (Answered known P) → IfOk r (λ a. Prints old new (line_of a) (status_of a) result)
     → IfErr r (λ e. (result ≡ status.ReadFailed) × Same) → result ≡ status.ReadFailed → Same
-concluded-unread known old new P (Ok a) result apart h prints err f =
-    absurd (printed-read old new _ _ result prints (apart _ _ _ h.4) f)
-concluded-unread known old new P (Err e) result apart h prints err f = err.1
+concluded-unread known old new P r result apart h prints err =
+    run.concluded-unread known old new (AsLine P) r result (λ input ended line p. apart input ended p.0 p.2)
+    (as_line known P r h) prints err

@@ -2,8 +2,8 @@
 use Rattle.std.specs.Prelude.{ℕ, ◌≡◌, ◌≤◌, List, [], ◌∷◌}
 use Rattle.std.specs.Str.Parse.{IsNumeral, digits_value}
 use Rattle.yaml_read.specs.TreeReader.{PlainLimits, default_limits}
-use Rattle.yaml_case.specs.Shapes.{name_of}
-use Rattle.yaml_case.specs.declared.shapes.Named.{Named}
+use Rattle.yaml_run.specs.Shapes.{name_of}
+use Rattle.yaml_run.specs.declared.shapes.Named.{Named}
 
 -- decimal digits write this number; zeros may stand first
 pub record Writes (digits : List ℕ) (number : ℕ) : Type 0 where

@@ -3,12 +3,8 @@
 
 mod answer;
 mod limits;
-mod print;
-mod read;
 mod reply;
 mod run;
-mod shapes;
-mod status;
 
 use run::{refuse, start};
 use std::env::{self, Env};

@@ -3,54 +3,16 @@
 ghost use Rattle.std.specs.Prelude.{◌≡◌, ◌∷◌, [], ◌++◌, List, ℕ, map, string_bytes, IfOk, IfSome};
 ghost use Rattle.yaml_case.specs.Replies.{IsAnswer, IsAnswerTo};
 ghost use Rattle.yaml_case.specs.Arguments.{AskForNothing};
-ghost use Rattle.yaml_case.specs.Printed.{line_of, status_of};
-ghost use Rattle.yaml_case.specs.Shapes.{IsNoName};
+ghost use Rattle.yaml_run.specs.Printed.{line_of, status_of};
+ghost use Rattle.yaml_run.specs.Shapes.{IsNoName};
 ghost use Rattle.yaml_read.specs.TreeReader.{default_limits};
 
-use crate::answer::{Answer, answer_to};
+use crate::answer::answer_to;
 use crate::limits::limits_of;
-use crate::shapes::Named;
 use serde_yaml::Limits;
 use std::alloc::Global;
-use std::io::{ErrorKind, Read};
-
-// The most calls of `read`. An input that hasn't ended by then counts as one that can't be read.
-const READ_CALLS: u32 = 1_048_576;
-
-/// The input was not read: the reader failed, or did not come to an end.
-#[derive(Clone, Copy, PartialEq, Eq, Debug)]
-pub struct Unread;
-
-// Why there is no input.
-#[derive(Drop)]
-enum NoInput {
-    // It was not read.
-    Unread,
-    // Memory ran out.
-    Memory,
-}
-
-// All that the reader gives. A read that was interrupted is tried again.
-fn read_input<R: Read>(alloc: Global, reader: &mut R) -> Result<Vec<u8>, NoInput>
-    ensures { IfOk result (λ input.
-        IfSome (R.remaining reader.old) (λ bytes. input.items ≡ bytes)) }
-{
-    let mut input = Vec::new(alloc);
-    let mut buffer = [0u8; 4096];
-    for _ in 0..READ_CALLS {
-        match reader.read(&mut buffer) {
-            Ok(0) => return Ok(input),
-            Ok(count) => {
-                if input.extend_from_slice(&buffer[..count]).is_err() {
-                    return Err(NoInput::Memory);
-                }
-            }
-            Err(error) if error.kind() == ErrorKind::Interrupted => {}
-            Err(_) => return Err(NoInput::Unread),
-        }
-    }
-    Err(NoInput::Unread)
-}
+use std::io::Read;
+use yaml_run::{Answer, Named, Unanswered, Unread, read_input};
 
 /// Reads all of the input, and answers what it is as the shape with this name, within limits.
 ///
@@ -72,8 +34,8 @@ pub fn reply<R: Read>(
     };
     match read_input(alloc, reader) {
         Ok(input) => Ok(answer_to(alloc, named, limits, input.as_slice())),
-        Err(NoInput::Memory) => Ok(Answer::OutOfMemory),
-        Err(NoInput::Unread) => Err(Unread),
+        Err(Unanswered::OutOfMemory) => Ok(Answer::OutOfMemory),
+        Err(Unanswered::Unread) => Err(Unread),
     }
 }
 

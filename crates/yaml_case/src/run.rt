@@ -5,21 +5,19 @@ ghost use Rattle.std.specs.IoError.{error_kind};
 ghost use Rattle.yaml_case.specs.Replies.{IsAnswer, IsAnswerTo};
 ghost use Rattle.yaml_read.specs.TreeReader.{default_limits};
 ghost use Rattle.yaml_case.specs.Arguments.{AskForNothing};
-ghost use Rattle.yaml_case.specs.Printed.{Prints, line_of};
-ghost use Rattle.yaml_case.specs.Shapes.{IsNoName};
-ghost use Rattle.yaml_case.specs.declared.answer.Answer.TheVariants.{OutOfMemory, BadArgument};
-ghost use Rattle.yaml_case.specs.declared.status.Status.{Status as PlainStatus};
+ghost use Rattle.yaml_run.specs.Printed.{Prints, line_of};
+ghost use Rattle.yaml_run.specs.Shapes.{IsNoName};
+ghost use Rattle.yaml_run.specs.declared.answer.Answer.TheVariants.{OutOfMemory, BadArgument};
+ghost use Rattle.yaml_run.specs.declared.status.Status.{Status as PlainStatus};
 
 #[cfg(test)]
 mod tests;
 
-use crate::answer::Answer;
-use crate::print::{conclude, print};
 use crate::reply::{reply, reply_to};
-use crate::status::Status;
 use serde_yaml::Limits;
 use std::alloc::Global;
 use std::io::{self, ErrorKind, Read, Write};
+use yaml_run::{Answer, Status, conclude, print};
 
 /// Reads the input as the shape with this name, and prints what was read, or why nothing was.
 ///

@@ -1,2 +1,7 @@
 -- Lemmas of this crate.
+pub mod ReadingLaws
+pub mod Readings
+pub mod RunLaws
 pub mod ShapeLaws
+pub mod StreamWalks
+pub mod TurnLaws

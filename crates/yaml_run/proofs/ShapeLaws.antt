@@ -10,7 +10,7 @@ use Rattle.std.proofs.lemmas.List.Kept.{AllPairs-cons}
 use Rattle.std.proofs.lemmas.List.Sums.{AllPass-from_list_all}
 use Rattle.yaml_shape.specs.PlainShape.{PlainShape, shape_at, i64, u64, usize, any_shape, bool_shape, integer_shape}
 use Rattle.yaml_shape.specs.PlainShape.{str_shape, option_shape, seq_shape, tuple_shape, map_shape, ignored_shape}
-use Rattle.yaml_shape.specs.PlainShape.{PlainVariant, unit_variant, newtype_variant}
+use Rattle.yaml_shape.specs.PlainShape.{unit_variant, newtype_variant}
 use Rattle.yaml_shape.specs.SchemaRefusal.{IsRefused}
 use Rattle.yaml_shape.specs.Validity.{NamesWithin, AllNameWithin, AreDistinct, IsDistinctInside, HasDistinctNames}
 use Rattle.yaml_shape.specs.Validity.{named, step_from, walk}

@@ -1,2 +1,8 @@
 -- What contracts of this crate cite.
+pub mod EventReadings
+pub mod ExitCode
+pub mod Printed
 pub mod Shapes
+pub mod TextReadings
+pub mod Told
+pub mod Turns

@@ -1,8 +1,23 @@
-//! What programs over YAML share: shapes with names, and an input that is read whole.
+//! What programs over YAML share: shapes with names, an input that is read whole, what is told of a reading, and how
+//! that is printed.
 #![tactic(auto)]
 
+mod answer;
+mod events;
 mod input;
+mod printing;
 mod shapes;
+mod status;
+mod text;
+mod told;
+mod turns;
 
-pub use input::{NoInput, read_input};
+pub use answer::Answer;
+pub use events::read_events;
+pub use input::{Unanswered, Unread, read_input};
+pub use printing::{conclude, print, print_bytes};
 pub use shapes::Named;
+pub use status::Status;
+pub use text::read_text;
+pub use told::{Told, told_of, told_of_bad_line};
+pub use turns::read_in_turn;

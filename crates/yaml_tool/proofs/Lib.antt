@@ -1,2 +1,4 @@
 -- Lemmas of this crate.
-mod Readings
+pub mod AnswerLaws
+pub mod ParsedLaws
+pub mod WritingLaws

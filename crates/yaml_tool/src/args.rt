@@ -31,6 +31,26 @@ fn files<'a>(alloc: Global) -> Arg<'a> {
         .help("The files to read, in turn; standard input where none is named")
 }
 
+// How deep documents may be nested.
+fn nesting<'a>(alloc: Global) -> Arg<'a> {
+    Arg::new(alloc, "nesting")
+        .long("nesting")
+        .value_name("N")
+        .value_parser(ValueParser::unsigned(0, 255))
+        .default_value("128")
+        .help("How deep a document may be nested, at most 255")
+}
+
+// How many aliases may be followed.
+fn follows<'a>(alloc: Global) -> Arg<'a> {
+    Arg::new(alloc, "follows")
+        .long("follows")
+        .value_name("F")
+        .value_parser(ValueParser::unsigned(0, 1000))
+        .default_value("100")
+        .help("How many aliases may be followed for each event, at most 1000")
+}
+
 // The command that shows data.
 fn show<'a>(alloc: Global) -> Result<Command<'a>, AllocError> {
     Command::new(alloc, "show")
@@ -49,23 +69,22 @@ fn show<'a>(alloc: Global) -> Result<Command<'a>, AllocError> {
                 .action(ArgAction::SetTrue)
                 .help("Prints the data of each document, a line each"),
         )?
-        .arg(
-            Arg::new(alloc, "nesting")
-                .long("nesting")
-                .value_name("N")
-                .value_parser(ValueParser::unsigned(0, 255))
-                .default_value("128")
-                .help("How deep a document may be nested, at most 255"),
-        )?
-        .arg(
-            Arg::new(alloc, "follows")
-                .long("follows")
-                .value_name("F")
-                .value_parser(ValueParser::unsigned(0, 1000))
-                .default_value("100")
-                .help("How many aliases may be followed for each event, at most 1000"),
-        )?
+        .arg(nesting(alloc))?
+        .arg(follows(alloc))?
         .arg(files(alloc))
+}
+
+// The command that prints documents as YAML text.
+fn format<'a>(alloc: Global) -> Result<Command<'a>, AllocError> {
+    Command::new(alloc, "format")
+        .about("Prints the documents as YAML text, or the first fault")
+        .arg(nesting(alloc))?
+        .arg(follows(alloc))?
+        .arg(
+            Arg::new(alloc, "file")
+                .value_name("FILE")
+                .help("The file to read; standard input where none is named"),
+        )
 }
 
 // The command that prints events.
@@ -88,6 +107,7 @@ fn program<'a>(alloc: Global) -> Result<Command<'a>, AllocError> {
         .about("Reads YAML text and prints what is in it")
         .subcommand_required(true)
         .subcommand(show(alloc)?)?
+        .subcommand(format(alloc)?)?
         .subcommand(events(alloc)?)
 }
 
@@ -125,6 +145,10 @@ pub fn requested<'a>(alloc: Global, words: &'a [String]) -> Result<Request<'a>, 
     match matches.subcommand() {
         Some(("show", matches)) => Ok(Request {
             task: show_task(matches),
+            files: files_of(alloc, matches)?,
+        }),
+        Some(("format", matches)) => Ok(Request {
+            task: Task::Format(limits_of(matches)),
             files: files_of(alloc, matches)?,
         }),
         Some((_, matches)) => Ok(Request {

@@ -1,30 +1,57 @@
 //! The events of a text, a line each.
 
-use crate::status::Status;
+ghost use Rattle.std.specs.Prelude.{◌≡◌, ◌⊎◌, ◌++◌, string_bytes, IfOk, OnOk};
+ghost use Rattle.yaml_tool.specs.ToldEvents.{AreEventsTold, ending_of, event_lines, fault_lines};
+
 use std::alloc::{AllocError, Global};
 use yaml_base::{Event, Mark, ParserFault};
 use yaml_lines::{write_event, write_fault};
+use yaml_run::{Status, Told};
 use yaml_text::parse;
 
 // The status that goes with a fault, or with none.
-fn status_of(fault: &Option<ParserFault>) -> Status {
-    if fault.is_some() {
-        Status::Fault
-    } else {
-        Status::Read
+fn ending_of(fault: &Option<ParserFault>) -> Status
+    ensures { result ≡ ending_of fault.now }
+{
+    match fault {
+        Some(_) => Status::Fault,
+        None => Status::Read,
     }
 }
 
-/// Appends the events of a text, a line each, and a line for the parser's fault, if there is one.
-pub fn push_events(alloc: Global, out: &mut String, text: &[u8]) -> Result<Status, AllocError> {
+// Appends a line for a fault, if there is one.
+fn push_fault(out: &mut String, fault: &Option<ParserFault>) -> Result<(), AllocError>
+    ensures { OnOk result (string_bytes out.new ≡ string_bytes out.old ++ fault_lines fault.now) }
+{
+    match fault {
+        Some(fault) => write_fault(out, fault),
+        None => Ok(()),
+    }
+}
+
+// Appends events, a line each.
+fn push_events(out: &mut String, events: &[(Event<'_>, Mark)]) -> Result<(), AllocError>
+    ensures { OnOk result (string_bytes out.new ≡ string_bytes out.old ++ event_lines events.now) }
+{
+    for marked in events {
+        write_event(out, &marked.0, marked.1)?;
+    }
+    Ok(())
+}
+
+/// The events of a text, a line each, and a line for the parser's fault, if there is one. The only error is that memory
+/// runs out.
+pub fn told_events(alloc: Global, text: &[u8]) -> Result<Told, AllocError>
+    ensures { IfOk result (λ told. AreEventsTold text.now told.ended (string_bytes told.text)) }
+{
     let parsed = parse(alloc, text)?;
-    for (event, mark) in parsed.events.iter() {
-        write_event(out, event, *mark)?;
-    }
-    if let Some(fault) = &parsed.fault {
-        write_fault(out, fault)?;
-    }
-    Ok(status_of(&parsed.fault))
+    let mut out = String::new(alloc);
+    push_events(&mut out, parsed.events.as_slice())?;
+    push_fault(&mut out, &parsed.fault)?;
+    Ok(Told {
+        ended: ending_of(&parsed.fault),
+        text: out,
+    })
 }
 
 // Appends what stands before the index of a mark: of a scalar the index where it begins, as the mark is given where it
@@ -52,20 +79,22 @@ fn push_context(out: &mut String, fault: &ParserFault) -> Result<(), AllocError>
     writeln!(out, "{index}:{line}:{column} !CONTEXT {context}")
 }
 
-/// Appends the same lines, in which a scalar's has the two ends of its slice of the text, with `..` between, in place
-/// of its index, and behind the fault a line for its context, if it has one.
-pub fn push_full_events(
-    alloc: Global,
-    out: &mut String,
-    text: &[u8],
-) -> Result<Status, AllocError> {
+/// The same lines, in which a scalar's has the two ends of its slice of the text, with `..` between, in place of its
+/// index, and behind the fault a line for its context, if it has one.
+pub fn told_full_events(alloc: Global, text: &[u8]) -> Result<Told, AllocError>
+    ensures { IfOk result (λ told. (told.ended ≡ Status.Read) ⊎ (told.ended ≡ Status.Fault)) }
+{
     let parsed = parse(alloc, text)?;
+    let mut text = String::new(alloc);
     for (event, mark) in parsed.events.iter() {
-        push_full_event(out, event, *mark)?;
+        push_full_event(&mut text, event, *mark)?;
     }
-    if let Some(fault) = &parsed.fault {
-        write_fault(out, fault)?;
-        push_context(out, fault)?;
-    }
-    Ok(status_of(&parsed.fault))
+    let Some(fault) = &parsed.fault else {
+        let ended = Status::Read;
+        return Ok(Told { ended, text });
+    };
+    write_fault(&mut text, fault)?;
+    push_context(&mut text, fault)?;
+    let ended = Status::Fault;
+    Ok(Told { ended, text })
 }

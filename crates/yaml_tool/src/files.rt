@@ -1,11 +1,11 @@
 //! Runs on files, one behind the other.
 
 use crate::run::run;
-use crate::status::Status;
 use crate::task::Task;
 use std::io::Write;
 use std::rt::Files;
 use std::{fs, io};
+use yaml_run::Status;
 
 // Runs on a file with this name. One that can't be opened counts as one that can't be read.
 fn run_file<R: Files + AllocGlobal, W: Write>(

@@ -1,26 +1,24 @@
-//! The program: it reads YAML text and prints the data in it, or the events that the text is.
+//! The program: it reads YAML text and prints the data in it, as a line or as YAML text again, or its events.
 #![tactic(auto)]
 
 mod answer;
 mod args;
-mod documents;
 mod events;
 mod files;
-mod print;
+mod format;
 mod reply;
 mod run;
-mod status;
 mod task;
 
 use args::{Request, requested};
 use clap::Error;
 use files::run_all;
 use run::run;
-use status::Status;
 use std::alloc::Global;
 use std::env::{self, Env};
 use std::io;
 use std::process::ExitCode;
+use yaml_run::Status;
 
 // The words of the call, the program's name first.
 fn words(rt: &(impl Env + AllocGlobal)) -> io::Result<Vec<String>> {

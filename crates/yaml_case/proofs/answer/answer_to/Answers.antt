@@ -3,11 +3,11 @@ use Rattle.std.specs.Prelude.{codes, IfOk, Result, Ok, Err}
 use Rattle.std.proofs.Common.{◌≡◌, ℕ, List, [], ◌∷◌, ◌++◌, refl}
 use Rattle.std.specs.Result.{result_unwrap_or}
 use Rattle.yaml_case.specs.Replies.{IsReply}
-use Rattle.yaml_case.specs.Replies.IsReply.{out_of_memory}
-use Rattle.yaml_case.specs.Printed.{line_of, status_of}
-use Rattle.yaml_case.specs.declared.answer.Answer.{Answer}
-use Rattle.yaml_case.specs.declared.answer.Answer.TheVariants.{OutOfMemory}
-use Rattle.yaml_case.specs.declared.shapes.Named.{Named}
+use Rattle.yaml_run.specs.EventReadings.IsReading.{out_of_memory}
+use Rattle.yaml_run.specs.Printed.{line_of, status_of}
+use Rattle.yaml_run.specs.declared.answer.Answer.{Answer}
+use Rattle.yaml_run.specs.declared.answer.Answer.TheVariants.{OutOfMemory}
+use Rattle.yaml_run.specs.declared.shapes.Named.{Named}
 use Rattle.yaml_read.specs.TreeReader.{PlainLimits}
 use Rattle.yaml_case.proofs.answer.answer_to.Goals as goal
 

@@ -2,8 +2,9 @@
 use Rattle.std.specs.Prelude.{codes}
 use Rattle.std.proofs.Common.{refl, subst}
 use Rattle.yaml_case.specs.Replies.{IsReply}
-use Rattle.yaml_case.specs.Printed.{status_of}
-use Rattle.yaml_case.proofs.RunLaws.{some_input, refuses, wants_memory, replies}
+use Rattle.yaml_run.specs.Printed.{status_of}
+use Rattle.yaml_run.proofs.RunLaws.{some_input}
+use Rattle.yaml_case.proofs.RunLaws.{refuses, wants_memory, replies}
 use Rattle.yaml_case.proofs.reply.reply.Goals as goal
 
 pub returns-in_default-clause-answers : goal.returns-in_default-clause-answers
@@ -18,8 +19,8 @@ returns-in-Ok-clause-answers g c =
     c.as_slice.ensures.value a.2 in
     (a.0, c.in-Ok.input.items, a.1, c.in-Ok.ensures, replies c.in-Some.named _ _ _ _ _ c.in-Some.ensures whole)
 
-pub returns-in-Err-Memory-clause-answers : goal.returns-in-Err-Memory-clause-answers
-returns-in-Err-Memory-clause-answers g c =
+pub returns-in-Err-OutOfMemory-clause-answers : goal.returns-in-Err-OutOfMemory-clause-answers
+returns-in-Err-OutOfMemory-clause-answers g c =
     let given = some_input (g.R.Read.remaining c.args.reader.now) in (
       codes "fault: out of memory",
       given.0,

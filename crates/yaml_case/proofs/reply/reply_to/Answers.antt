@@ -4,7 +4,8 @@ use Rattle.std.proofs.Common.{◌≡◌, ℕ, List, [], ◌∷◌, map, length, 
 use Rattle.std.specs.Global.{Global}
 use Rattle.yaml_case.specs.Replies.{IsAnswer, IsAnswerTo}
 use Rattle.yaml_case.specs.Arguments.{WriteLimits}
-use Rattle.yaml_case.proofs.RunLaws.{some_input, refuses_all, one_argument, three_arguments, another_count}
+use Rattle.yaml_run.proofs.RunLaws.{some_input}
+use Rattle.yaml_case.proofs.RunLaws.{refuses_all, one_argument, three_arguments, another_count}
 use Rattle.yaml_case.proofs.RunLaws.{none_alone, answers_alone, none_within, answers_within, no_limits, answered_as}
 use Rattle.yaml_read.specs.TreeReader.{default_limits}
 use Rattle.yaml_case.proofs.reply.reply_to.Goals as goal

@@ -1,8 +1,8 @@
 //! Arguments that were not gathered.
 
 use crate::run::refuse;
-use crate::status::Status;
 use std::io::{self, ErrorKind};
+use yaml_run::Status;
 
 #[test]
 fn arguments_that_were_not_gathered_are_told(rt: HostRuntime) {

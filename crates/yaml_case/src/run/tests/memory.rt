@@ -2,10 +2,10 @@
 
 use super::stream;
 use crate::run::run;
-use crate::status::Status;
 use std::alloc::Global;
 use std::test::Fail;
 use test_memory::{Outcome, Scene, Shortage, refusals};
+use yaml_run::Status;
 
 // What a run answers, with what it wrote.
 fn ended(alloc: Global, input: &str, writer: &mut Vec<u8>) -> Status {

@@ -2,11 +2,11 @@
 
 use super::stream;
 use crate::run::run;
-use crate::status::Status;
 use std::alloc::{AllocError, Global};
 use std::io::{self, ErrorKind, Read};
 use std::process::Abort;
 use std::test::Fail;
+use yaml_run::Status;
 
 // A reader that gives one byte a call, and fails after so many calls. Each further error interrupts a call alone. It
 // knows whether its end was told, and counts the calls behind it.

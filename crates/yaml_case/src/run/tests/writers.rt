@@ -2,9 +2,9 @@
 
 use super::stream;
 use crate::run::run;
-use crate::status::Status;
 use std::io::{self, ErrorKind, Write};
 use std::test::Fail;
+use yaml_run::Status;
 
 // A writer that takes one byte a call. It fails once, behind so many calls, and takes all bytes from then on.
 #[derive(Drop)]

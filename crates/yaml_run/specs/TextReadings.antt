@@ -1,0 +1,23 @@
+-- What a text is read as.
+use Rattle.std.specs.Prelude.{ℕ, ◌≡◌, List, ◌++◌, codes, Ok, Err}
+use Rattle.yaml_base.specs.ErrorText.{error_text}
+use Rattle.yaml_base.specs.declared.error.Cause.{Cause}
+use Rattle.yaml_lines.specs.DataText.{data_text}
+use Rattle.yaml_run.specs.declared.status.Status.{Status}
+use Rattle.yaml_run.specs.declared.status.Status.TheVariants as status
+use Rattle.yaml_read.specs.TreeReader.{PlainLimits}
+use Rattle.yaml_shape.specs.PlainData.{PlainData}
+use Rattle.yaml_shape.specs.PlainShape.{PlainShape}
+use Rattle.serde_yaml.specs.Headline.{GivesMeaning}
+use Rattle.serde_yaml.specs.TextReads.{IsParsed}
+
+-- how a reading of a text ends, within limits as a shape of a table, and what tells what it gave
+pub data IsTextReading (limits : PlainLimits) (table : List PlainShape) (shape : PlainShape) (ended : Status)
+    (told : List ℕ) : Type 0 where
+  found : (value : PlainData) → IsParsed (λ events fault. GivesMeaning limits table shape events fault (Ok value))
+      → ended ≡ status.Read → told ≡ data_text value → IsTextReading limits table shape ended told
+  refused : (cause : Cause) → IsParsed (λ events fault. GivesMeaning limits table shape events fault (Err cause))
+      → ended ≡ status.Fault → told ≡ codes "fault: " ++ error_text cause
+      → IsTextReading limits table shape ended told
+  out_of_memory : ended ≡ status.Fault → told ≡ codes "fault: out of memory"
+      → IsTextReading limits table shape ended told

@@ -1,0 +1,44 @@
+-- What holds of what a text was parsed to.
+use Rattle.std.proofs.Common.{◌≡◌, false, ℕ, List, [], ◌++◌, Option, subst, ap, ◌∙◌}
+use Rattle.yaml_base.specs.PlainFault.{PlainFault}
+use Rattle.yaml_read.specs.Documents.{Input, documents_of}
+use Rattle.yaml_read.specs.TreeReader.{PlainLimits}
+use Rattle.yaml_shape.specs.PlainShape.{PlainShape}
+use Rattle.serde_yaml.specs.PlainStream.{PlainStream}
+use Rattle.serde_yaml.specs.StreamReads.{stream_of}
+use Rattle.serde_yaml.specs.TextReads.{IsParsed}
+use Rattle.yaml_run.specs.Turns.{AreToldInTurn}
+use Rattle.yaml_run.specs.declared.status.Status.{Status}
+
+-- what follows from what holds of it holds of it too
+pub parsed-weaker : (P Q : Input → Option PlainFault → Type 0)
+    → ((events : Input) (fault : Option PlainFault) → P events fault → Q events fault) → IsParsed P → IsParsed Q
+parsed-weaker P Q f p = record {
+  events = p.events;
+  fault = p.fault;
+  well_formed = p.well_formed;
+  holds = f p.events p.fault p.holds;
+}
+
+-- the stream is that of what a text was parsed to
+abbrev pub IsOfText : PlainStream → Type 0
+IsOfText stream = IsParsed (λ events fault. stream ≡ stream_of events fault)
+
+-- so it is no document alone
+pub many-documents : (stream : PlainStream) → IsOfText stream → stream.is_document ≡ false
+many-documents stream p = ap (λ x. x.is_document) p.holds
+
+-- what is told of its documents is told of the text's
+pub turns-parsed : (limits : PlainLimits) (table named : List PlainShape) (s : PlainShape) (stream : PlainStream)
+    (ended : Status) (text : List ℕ) → table ≡ named → IsOfText stream
+    → AreToldInTurn limits table s stream.documents ended text
+    → IsParsed (λ events fault. AreToldInTurn limits named s (documents_of events fault) ended text)
+turns-parsed limits table named s stream ended text same p told =
+    parsed-weaker (λ events fault. stream ≡ stream_of events fault)
+    (λ events fault. AreToldInTurn limits named s (documents_of events fault) ended text)
+    (λ events fault is. subst (λ x. AreToldInTurn limits named s x.documents ended text) is
+    (subst (λ t. AreToldInTurn limits t s stream.documents ended text) same told)) p
+
+-- two parts, put behind nothing
+pub two_parts : (a b c one two : List ℕ) → a ≡ [] → b ≡ a ++ one → c ≡ b ++ two → c ≡ one ++ two
+two_parts a b c one two none x y = y ∙ ap (λ t. t ++ two) (x ∙ ap (λ t. t ++ one) none)
