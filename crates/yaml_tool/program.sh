@@ -107,7 +107,7 @@ cp "$work/formatted" "$work/in"
 run "formatted once more" 0 "$(cat "$work/formatted")$lf" "" format
 run "what was formatted" 0 "$(cat "$work/shown")$lf" "" show
 printf -- '--- a\n...\n---\n- "1"\n--- {}\n' > "$work/in"
-run "formatted documents" 0 "a$lf---$lf- '1'$lf---$lf{}$lf" "" format
+run "formatted documents" 0 "a$lf---$lf- '1'$lf--- {}$lf" "" format
 printf 'a: 1\n---\n[b\n---\n[c\n' > "$work/in"
 run "formatted up to a fault" 1 "fault: did not find expected ',' or ']' at line 4 column 1, while parsing a flow \
 sequence at line 3 column 1$lf" "" format
