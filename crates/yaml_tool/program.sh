@@ -58,9 +58,10 @@ sequence at line 3 column 1$lf" "" show --documents
 printf 'web: 1\n---\n[a]\n---\n' > "$work/in"
 run "each of good documents" 0 '{"web": 1}'"$lf"'["a"]'"$lf""null$lf" "" show --documents
 run "each document as a list" 1 "fault: invalid type: map, expected a sequence$lf"\
-'fault: [0]: invalid type: string "a", expected i64 at line 3 column 2'"$lf[]$lf" "" show --documents --shape list
+'fault: .[0]: invalid type: string "a", expected i64 at line 3 column 2'"$lf[]$lf" "" show --documents --shape list
 printf '' > "$work/in"
-run "no document" 0 "" "" show --documents
+# a stream without documents is read as one that stands for nothing
+run "no document" 0 "null$lf" "" show --documents
 
 # Documents as YAML text, and what was printed once more.
 cat > "$work/in" << 'END'
@@ -116,7 +117,7 @@ run "formatted within few nestings" 1 "fault: recursion limit exceeded at line 1
 printf -- '- &a 1\n- *a\n' > "$work/in"
 run "formatted without follows" 1 "fault: repetition limit exceeded$lf" "" format --follows 0
 printf '# nothing\n' > "$work/in"
-run "nothing formatted" 0 "" "" format
+run "nothing formatted" 0 "null$lf" "" format
 
 printf 'web: 1\n---\n[a\n' > "$work/in"
 run "events" 1 '0:0:0 +STR
