@@ -248,4 +248,5 @@ def main():
         sys.exit(0 if Comparison(program, folder).all(texts) else 1)
 
 
-main()
+if __name__ == "__main__":
+    main()
