@@ -1,19 +1,20 @@
 -- Shapes that are made of tables joined in a row.
 use Rattle.std.proofs.Common.{◌≡◌, ◌<◌, ◌+◌, ℕ, List, [], ◌∷◌, ◌++◌, map, length, sym, ◌∙◌, ap, subst, All, arith}
+use Rattle.std.proofs.Common.{append-nil}
 use Rattle.std.specs.List.{zip}
 use Rattle.std.proofs.lemmas.List.{length-map}
 use Rattle.std.proofs.lemmas.List.Elements.{All-nil, All-cons, All-head, All-tail}
 use Rattle.yaml_shape.specs.PlainShape.{PlainShape}
 use Rattle.yaml_shape.specs.ShapeView.{ids_of}
-use Rattle.yaml_shape.specs.Validity.{numbers_of, AllNameWithin}
+use Rattle.yaml_shape.specs.Validity.{numbers_of, AllNameWithin, IsValidSchema}
 use Rattle.yaml_shape.specs.Join.{joined_all, starts_behind, named_behind, parts_of, StartsWithin, IsRow, IsTooLarge}
 use Rattle.yaml_shape.specs.Join.{IsNotAdded}
-use Rattle.yaml_shape.specs.Kept.{KeepsAllShapes}
+use Rattle.yaml_shape.specs.Kept.{KeepsShapes, KeepsAllShapes}
 use Rattle.yaml_shape.specs.declared.shape.ShapeId.{ShapeId}
 use Rattle.yaml_shape.specs.declared.fault.SchemaFault.{SchemaFault}
 use Rattle.yaml_shape.specs.declared.fault.SchemaFault.TheVariants.{S1, S2, S3, S4, S5}
 use Rattle.yaml_shape.proofs.PartLaws.{Parts, starts_inside, length-starts}
-use Rattle.yaml_shape.proofs.Stands.{keeps_all}
+use Rattle.yaml_shape.proofs.Stands.{keeps_first, begins, keeps_all}
 
 module _ (none : List PlainShape) (parts : List (List PlainShape × ℕ)) (table : List PlainShape)
     (starts : List ShapeId) where
@@ -32,6 +33,21 @@ module _ (none : List PlainShape) (parts : List (List PlainShape × ℕ)) (table
       subst (λ n. KeepsAllShapes n parts (table ++ shape ∷ [])) (ap length empty)
       (subst (λ t. KeepsAllShapes (length none) parts (t ++ shape ∷ [])) (sym is.table_is)
       (keeps_all none parts (shape ∷ []) closed))
+
+module _ (first : List PlainShape) (parts : List (List PlainShape × ℕ)) (table : List PlainShape)
+    (starts : List ShapeId) where
+  -- the table that others are joined behind keeps its data
+  pub behind_first : IsValidSchema first → IsRow first parts table starts → KeepsShapes 0 first table
+  behind_first valid is =
+      let whole = begins first parts in
+      subst (KeepsShapes 0 first) (sym (is.table_is ∙ whole.1)) (keeps_first first whole.0 valid)
+
+  -- and so does each of them
+  pub behind_each : All (λ p. AllNameWithin (length p.0) p.0) parts → IsRow first parts table starts
+      → KeepsAllShapes (length first) parts table
+  behind_each closed is =
+      subst (KeepsAllShapes (length first) parts) (append-nil (joined_all first parts) ∙ sym is.table_is)
+      (keeps_all first parts [] closed)
 
 -- there are as many starts as parts
 pub row_length : (none : List PlainShape) (parts : Parts) (table : List PlainShape) (starts : List ShapeId)

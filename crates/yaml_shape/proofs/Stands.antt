@@ -103,7 +103,7 @@ keeps_right first second back valid =
     valid.closed
 
 -- a join begins with its first table
-begins : (first : List PlainShape) (parts : List (List PlainShape × ℕ))
+pub begins : (first : List PlainShape) (parts : List (List PlainShape × ℕ))
     → (more : List PlainShape) × (joined_all first parts ≡ first ++ more)
 begins first [] = ([], sym (append-nil first))
 begins first (part ∷ parts) =

@@ -1,8 +1,8 @@
 //! Tables of shapes joined into one, with one more shape that is made of theirs.
 
 ghost use Rattle.std.specs.Prelude.{◌≡◌, ◌+◌, ◌<◌, length, string_bytes, IfOk, IfErr};
-ghost use Rattle.yaml_shape.specs.PlainShape.{newtype_shape, seq_shape, option_shape, map_shape};
-ghost use Rattle.yaml_shape.specs.ShapeView.{shape_of};
+ghost use Rattle.yaml_shape.specs.PlainShape.{newtype_shape, seq_shape, option_shape, map_shape, enum_shape};
+ghost use Rattle.yaml_shape.specs.ShapeView.{variants_of, shape_of};
 ghost use Rattle.yaml_shape.specs.Validity.{NamesWithin, HasDistinctNames};
 ghost use Rattle.yaml_shape.specs.Kept.{KeepsShapes};
 ghost use Rattle.yaml_shape.specs.Join.{joined, IsWith, IsTooLarge, IsNotAdded};
@@ -11,7 +11,7 @@ use crate::distinct_names::has_distinct_names;
 use crate::fault::SchemaFault;
 use crate::moved_shapes::raise_all;
 use crate::schema::{SHAPES, Schema};
-use crate::shape::{Shape, ShapeId};
+use crate::shape::{Shape, ShapeId, VariantShape};
 use std::alloc::Global;
 
 /// The second table behind the first, with the numbers in it raised past the first.
@@ -146,4 +146,23 @@ pub fn map_of(
     let behind = keys.shapes.len() as u32;
     let both = join(keys, values)?;
     add(both, Shape::Map(key, ShapeId(behind + value.0)))
+}
+
+/// The schema with an enum of this name behind it, whose variants have these names and contents, and the number of the
+/// enum. `Schema::has` is the test of what is asked of each number that a content names. Refused by `S4` where there is
+/// no room for it, else by `S3` with the number of the enum where two variants have one name or a variant has one name
+/// for two fields, and by `S5`.
+pub fn enum_of(
+    alloc: Global,
+    name: String,
+    schema: Schema,
+    variants: Vec<(String, VariantShape)>,
+) -> Result<(Schema, ShapeId), SchemaFault>
+    requires { NamesWithin (length schema) (enum_shape (string_bytes name) (variants_of variants.items)) }
+    ensures ok { IfOk result (IsWith schema (enum_shape (string_bytes name) (variants_of variants.items))) }
+    ensures kept { IfOk result (λ r. KeepsShapes 0 schema r.0) }
+    ensures refused { IfErr result (IsNotAdded (length schema)
+        (enum_shape (string_bytes name) (variants_of variants.items))) }
+{
+    add_named(alloc, schema, Shape::Enum { name, variants })
 }

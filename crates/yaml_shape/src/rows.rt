@@ -5,7 +5,7 @@ ghost use Rattle.std.specs.List.{zip};
 ghost use Rattle.yaml_shape.specs.PlainShape.{tuple_shape, tuple_struct_shape, struct_shape};
 ghost use Rattle.yaml_shape.specs.ShapeView.{ids_of, fields_of};
 ghost use Rattle.yaml_shape.specs.Validity.{AllNameWithin};
-ghost use Rattle.yaml_shape.specs.Kept.{KeepsAllShapes};
+ghost use Rattle.yaml_shape.specs.Kept.{KeepsShapes, KeepsAllShapes};
 ghost use Rattle.yaml_shape.specs.Join.{joined_all, starts_behind, named_behind, parts_of, StartsWithin, IsRow, IsWith};
 ghost use Rattle.yaml_shape.specs.Join.{IsTooLarge, IsNotAdded};
 
@@ -40,8 +40,29 @@ fn join_row(
     Ok((all, starts))
 }
 
-// The names, each with the number in its place.
-fn with_names(
+/// The schema with all others in a row behind it, the numbers in each moved, and the number that the shape of each has
+/// there. `Schema::has` is the test of what is asked of each. Refused by `S4` where there are too many, and by `S5`.
+pub fn row_behind(
+    alloc: Global,
+    first: Schema,
+    parts: Vec<(Schema, ShapeId)>,
+) -> Result<(Schema, Vec<ShapeId>), SchemaFault>
+    requires { All StartsWithin (parts_of parts.items) }
+    ensures ok { IfOk result (λ r. IsRow first (parts_of parts.items) r.0 r.1.items) }
+    ensures first_kept { IfOk result (λ r. KeepsShapes 0 first r.0) }
+    ensures kept { IfOk result (λ r. KeepsAllShapes (length first) (parts_of parts.items) r.0) }
+    ensures refused { IfErr result (IsTooLarge (length (joined_all first (parts_of parts.items)))) }
+{
+    first.is_valid();
+    match join_row(alloc, first, parts) {
+        Ok(row) => Ok(row),
+        Err(fault) => Err(fault),
+    }
+}
+
+/// The names, each with the number in its place, as the fields of a struct or a variant. There are as many names as
+/// numbers. Refused only where memory runs out.
+pub fn with_names(
     alloc: Global,
     names: Vec<String>,
     ids: Vec<ShapeId>,
