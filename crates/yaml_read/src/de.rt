@@ -1,5 +1,6 @@
 //! From a document to data, by a shape.
 
+mod at_place;
 mod calls;
 mod kinds;
 mod node;
