@@ -7,7 +7,7 @@ mod node;
 mod plain;
 mod read_refusal;
 mod scalar;
-mod taken_tag;
+pub(crate) mod taken_tag;
 
 ghost use Rattle.std.specs.Prelude.{◌≡◌, ◌≢◌, ◌<◌, ◌≤◌, length, Some, Err, is_ok, false};
 ghost use Rattle.yaml_base.specs.Answer.{Answers, is_memory};

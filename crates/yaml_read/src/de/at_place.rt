@@ -52,7 +52,7 @@ impl<'de> Document<'de> {
             name: "",
             variant: "",
         };
-        let taken = if at.tag_taken { Some(&value) } else { None };
+        let taken = at.taker(&value);
         match source.read_node(path, source.shape(id), at.nestings, taken, &mut walk) {
             Ok(data) => {
                 at.place = walk.place;
