@@ -1,12 +1,13 @@
 //! From a document to data, by a shape.
 
+mod at_place;
 mod calls;
 mod kinds;
 mod node;
 mod plain;
 mod read_refusal;
 mod scalar;
-mod taken_tag;
+pub(crate) mod taken_tag;
 
 ghost use Rattle.std.specs.Prelude.{◌≡◌, ◌≢◌, ◌<◌, ◌≤◌, length, Some, Err, is_ok, false};
 ghost use Rattle.yaml_base.specs.Answer.{Answers, is_memory};
