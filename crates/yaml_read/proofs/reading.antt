@@ -22,6 +22,7 @@ pub mod PlaceLaws
 pub mod Reaches
 pub mod Rows
 pub mod Shown
+pub mod SingleNodes
 pub mod Sound
 pub mod SoundFields
 pub mod SoundLists

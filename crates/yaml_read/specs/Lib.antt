@@ -14,6 +14,7 @@ pub mod Following
 pub mod Kinds
 pub mod MarkedEvents
 pub mod Meaning
+pub mod NodeReads
 pub mod NodeTags
 pub mod Places
 pub mod PlainCursor
