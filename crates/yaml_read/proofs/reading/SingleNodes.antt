@@ -15,6 +15,7 @@ use Rattle.yaml_read.specs.DocTree.{DocNode, events_of, node_of}
 use Rattle.yaml_read.specs.Ends.{ends_of}
 use Rattle.yaml_read.specs.Handing.{depth, reach, nesting_depth, untaken_reach}
 use Rattle.yaml_read.specs.Meaning.{Means}
+use Rattle.yaml_read.specs.NodeTags.{TakenBy}
 use Rattle.yaml_read.specs.NodeReads.{ReadsNode, NodeGives, taker, node_answer}
 use Rattle.yaml_read.specs.Places.{Way}
 use Rattle.yaml_read.specs.PlainDocument.{PlainDocument}
@@ -53,7 +54,7 @@ landed_place : (p : ℕ) (r : Answer PlainData) (v : PlainData) (next : Spot) �
     → (r ≡ Ok (v, next.left)) × (next.place ≡ p)
 landed_place p (Ok x) v next h =
     let same = same_ok _ _ h in
-    (cc, sym (ap (λ (y : PlainData × Spot). y.1.place) same))
+    (ap (λ (y : PlainData × Spot). Ok (y.0, y.1.left)) same, sym (ap (λ (y : PlainData × Spot). y.1.place) same))
 landed_place p (Err y) v next h = absurd cc
 
 module _ (table : List PlainShape) (s : PlainShape) (document : PlainDocument) (way : Way) (at : NodePlace) where
@@ -63,21 +64,22 @@ module _ (table : List PlainShape) (s : PlainShape) (document : PlainDocument) (
       node_at (whole_source table document) (fuel_at at) way s at.nestings (taker at.tag_taken) (spot_at at)
 
   -- what the walk over a document's events gives is that reading
-  pub seen_node : (es : List (DocEvent × Position)) (ends : List ℕ) (r : Reading PlainData) → reach table s ≤ 4096
+  pub seen_node : (es : List (DocEvent × Position)) (ends : List ℕ) (r : Reading PlainData) (around : Option TakenBy)
+      → around ≡ taker at.tag_taken → reach table s ≤ 4096
       → marked_events_of es ≡ document.events → ends ≡ ends_of (map (λ e. e.0) document.events)
-      → ((fuel : ℕ) → depth table s (is_some (taker at.tag_taken)) at.nestings at.follows < fuel
+      → ((fuel : ℕ) → depth table s (is_some around) at.nestings at.follows < fuel
       → node_at (record {
         table = table;
         events = slice_get (marked_events_of es);
         ends = slice_get ends;
         size = length es;
-      }) fuel way s at.nestings (taker at.tag_taken) (spot_at at) ≡ r)
+      }) fuel way s at.nestings around (spot_at at) ≡ r)
       → node_reading ≡ r
-  seen_node es ends r small seen numbers gives =
+  seen_node es ends r around is small seen numbers gives =
       let size : length es ≡ length document.events = sym (length-map es (λ e. (doc_event_of e.0, e.1)))
       ∙ ap length seen in
-      let same = gives (fuel_at at) (omega (arith, small, reach_small (is_some (taker at.tag_taken)))) in
-      rw (seen, size, numbers) at same
+      let same = gives (fuel_at at) (omega (arith, small, reach_small (is_some around))) in
+      rw (seen, size, numbers, is) at same
 
   module _ (root n : DocNode) (is : IsTreeOf document root) (there : node_of root at.place ≡ Some n) where
     -- the reading of the node in its tree
@@ -157,3 +159,7 @@ module _ (table : List PlainShape) (s : PlainShape) (document : PlainDocument) (
           fault_is root n is there y (h root is) ∙ meant root n is there small falls low w d k m a b;
       exact = λ root n is there. fault_is root n is there y (h root is);
     }
+
+-- the shape with a number is one
+pub one_shape : (s t : PlainShape) → Some s ≡ Some t → t ≡ s
+one_shape s t h = cc

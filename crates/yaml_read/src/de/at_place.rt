@@ -37,6 +37,7 @@ impl<'de> Document<'de> {
             → Answers data_of result (NodeGives schema.now s self.now (way_of path.now) at.old at.new) }
         ensures stays { OnErr result (at.new ≡ at.old) }
     {
+        schema.optionals_end();
         let source = Source {
             alloc,
             schema,
