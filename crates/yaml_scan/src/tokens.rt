@@ -49,11 +49,13 @@ impl<'a> Tokens<'a> {
     }
 
     /// How many tokens are ready.
+    #[inline(always)]
     pub fn ready(&self) -> usize {
         self.ready
     }
 
     /// The next token that is ready, if one is.
+    #[inline(always)]
     pub fn next(&mut self) -> Option<Placed> {
         if self.ready == 0 {
             return None;
