@@ -53,6 +53,7 @@ impl<'a> Machine<'a> {
     }
 
     // Goes over a token and what stands before it.
+    #[inline(always)]
     pub(crate) fn take(&mut self, placed: Placed) -> Result<(), Stop>
         ensures { self.new.stream.text.now ≡ self.old.stream.text.now }
     {
@@ -80,6 +81,7 @@ impl<'a> Machine<'a> {
     }
 
     // Goes over a token.
+    #[inline(always)]
     fn feed(&mut self, token: &mut Token, at: &Span) -> Result<(), Stop>
         ensures { self.new.stream.text.now ≡ self.old.stream.text.now }
     {
@@ -92,6 +94,7 @@ impl<'a> Machine<'a> {
     }
 
     // One step at a token: whether it was used up.
+    #[inline(always)]
     fn step(&mut self, token: &mut Token, at: &Span) -> Result<bool, Stop>
         ensures { self.new.stream.text.now ≡ self.old.stream.text.now }
     {
@@ -108,6 +111,7 @@ impl<'a> Machine<'a> {
     }
 
     // One step at a token in a collection.
+    #[inline(always)]
     fn inside(&mut self, frame: Frame, token: &mut Token, at: &Span) -> Result<bool, Stop>
         ensures { self.new.stream.text.now ≡ self.old.stream.text.now }
     {
@@ -135,6 +139,7 @@ impl<'a> Machine<'a> {
     }
 
     // Goes on in the innermost collection by an indicator.
+    #[inline(always)]
     pub(crate) fn pass(&mut self, frame: Frame, at: &Span) -> Result<bool, Stop>
         ensures { self.new.stream.text.now ≡ self.old.stream.text.now }
     {

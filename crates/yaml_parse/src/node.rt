@@ -46,6 +46,7 @@ impl Named {
     }
 
     // Whether neither an anchor nor a tag stands before the node.
+    #[inline(always)]
     fn is_alone(&self) -> bool
         ensures { (self.now.anchor ≡ None → self.now.tag ≡ None → result ≡ true) }
     {
@@ -53,11 +54,13 @@ impl Named {
     }
 
     // Where the node begins: where its anchor or its tag does, or else its text, which begins here.
+    #[inline(always)]
     fn start_before(&self, text: Mark) -> Mark {
         if self.is_alone() { text } else { self.start }
     }
 
     // How many bytes of the node stand before its text, which begins here.
+    #[inline(always)]
     fn len_before(&self, text: Mark) -> usize
         ensures { self.now.anchor ≡ None → self.now.tag ≡ None → result ≡ 0 }
     {
@@ -70,6 +73,7 @@ impl Named {
 }
 
 // The bytes of a source from this index on; none where it is shorter.
+#[inline(always)]
 fn text_in(source: &[u8], front: usize) -> &[u8]
     ensures { result.now ≡ drop (min front (length source.now)) source.now }
 {
@@ -91,6 +95,7 @@ impl<'a> Machine<'a> {
     }
 
     // A node with nothing before it, or the first part of what stands before one.
+    #[inline(always)]
     fn first(&mut self, nodes: Nodes, token: &mut Token, at: &Span) -> Result<bool, Stop>
         ensures { self.new.stream.text.now ≡ self.old.stream.text.now }
     {
@@ -108,6 +113,7 @@ impl<'a> Machine<'a> {
     }
 
     // A node behind an anchor or a tag, or the other of both.
+    #[inline(always)]
     fn behind(
         &mut self,
         mut properties: Properties,
@@ -178,6 +184,7 @@ impl<'a> Machine<'a> {
     }
 
     // What a node is behind its anchor and its tag.
+    #[inline(always)]
     fn named_node(
         &mut self,
         named: Named,
@@ -248,6 +255,7 @@ impl<'a> Machine<'a> {
 
     // A plain scalar, whose text stands here.
     #[tactic(auto, using(crate::proofs::PlainTexts::says))]
+    #[inline(always)]
     fn plain(&mut self, named: Named, text: &Span) -> Result<(), Stop>
         ensures { self.new.stream.text.now ≡ self.old.stream.text.now }
     {
@@ -307,6 +315,7 @@ impl<'a> Machine<'a> {
     }
 
     // The start of a sequence that waits for `first`.
+    #[inline(always)]
     fn sequence(&mut self, named: Named, first: Frame, opened: Mark) -> Result<(), Stop>
         requires { open_of first ≡ Sequence }
         ensures { self.new.stream.text.now ≡ self.old.stream.text.now }
@@ -322,6 +331,7 @@ impl<'a> Machine<'a> {
     }
 
     // The start of a mapping that waits for `first`.
+    #[inline(always)]
     fn mapping(&mut self, named: Named, first: Frame, opened: Mark) -> Result<(), Stop>
         requires { open_of first ≡ Key }
         ensures { self.new.stream.text.now ≡ self.old.stream.text.now }

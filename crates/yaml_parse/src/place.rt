@@ -6,11 +6,13 @@ ghost use Rattle.yaml_parse.specs.Places.{IsInPlace, begins_character, ends_line
 use yaml_base::Mark;
 
 // Whether a line ends with the byte at this index.
+#[inline(always)]
 fn ends_line(text: &[u8], at: usize) -> bool
     requires { at < length text.now }
     ensures { result ≡ ends_line text.now at }
 {
     match text[at] {
+        b' '..=b'~' => false,
         b'\n' => true,
         b'\r' => at + 1 == text.len() || text[at + 1] != b'\n',
         0x85 => at >= 1 && text[at - 1] == 0xC2,
@@ -20,6 +22,7 @@ fn ends_line(text: &[u8], at: usize) -> bool
 }
 
 // Whether a character that counts begins with the byte at this index.
+#[inline(always)]
 fn begins_character(text: &[u8], at: usize) -> bool
     requires { at < length text.now }
     ensures { result ≡ begins_character text.now at }
@@ -57,6 +60,7 @@ pub(crate) fn mark_at(text: &[u8], from: Mark, index: u64) -> Mark
 
 // The mark at the same index where the next event begins: the same one, or behind a last line that has no line break,
 // where the next event is said to begin in column 0, the start of the line behind it.
+#[inline(always)]
 pub(crate) fn mark_of_event(text: &[u8], here: Mark, said: Mark) -> Mark
     requires index { said.index ≡ here.index }
     requires place { (here.line, here.column) ≡ place_of text.now here.index }

@@ -25,6 +25,7 @@ fn break_len(bytes: &[u8]) -> usize
 }
 
 // How many bytes come before the first line break.
+#[inline(always)]
 fn line_len(bytes: &[u8]) -> usize
     ensures within { result ≤ length bytes.now }
     ensures broken { result < length bytes.now → begins_with_break (drop result bytes.now) ≡ true }
@@ -84,6 +85,7 @@ fn fold_breaks<'a>(bytes: &'a [u8], text: &mut Vec<u8>) -> Result<&'a [u8], Allo
 }
 
 // The text of a plain scalar, which is its own source where that has no line break.
+#[inline(always)]
 pub(crate) fn plain_text(alloc: Global, source: &[u8]) -> Result<Vec<u8>, AllocError>
     ensures { IfOk result (λ text. IsOneLine source.now → text.items ≡ source.now) }
 {

@@ -62,16 +62,19 @@ impl<'a> Stream<'a> {
     }
 
     // Which part of the stream comes next.
+    #[inline(always)]
     pub(crate) fn phase(&self) -> Phase {
         self.phase
     }
 
     // Where the innermost collection began, or the directives of a document.
+    #[inline(always)]
     pub(crate) fn opened(&self) -> Mark {
         self.opened
     }
 
     // The bytes of the text from a mark on up to another one, if the first lies in the text.
+    #[inline(always)]
     pub(crate) fn source(&self, start: Mark, end: Mark) -> Result<&'a [u8], Stop>
         ensures { IfOk result (λ bytes. StandsAt self.now.text.now start.index bytes.now) }
     {
@@ -119,6 +122,7 @@ impl<'a> Stream<'a> {
 
     // The mark at which an event begins that is said to begin here, with the line and the column that the text has there,
     // if it may: within the text, and not before the last one.
+    #[inline(always)]
     fn reach(&mut self, said: Mark) -> Result<Mark, Stop>
         ensures text { self.new.text.now ≡ self.old.text.now }
         ensures events { self.new.events.items ≡ self.old.events.items }
@@ -138,6 +142,7 @@ impl<'a> Stream<'a> {
     }
 
     // An event at which no collection begins or ends.
+    #[inline(always)]
     fn add(&mut self, event: Event<'a>, mark: Mark, phase: Phase) -> Result<(), Stop>
         requires moves { next_state (state_of self.old.phase self.old.outer.items) (event_of event)
             ≡ Some (state_of phase self.old.outer.items) }
@@ -207,6 +212,7 @@ impl<'a> Stream<'a> {
 
     // A scalar.
     #[tactic(auto, using(crate::proofs::Streams::passes_scalar))]
+    #[inline(always)]
     pub(crate) fn scalar(&mut self, scalar: Scalar<'a>, mark: Mark) -> Result<(), Stop>
         requires shown { IsSomeAnd (option_map (λ r. r.now) scalar.repr) (StandsAt self.old.text.now mark.index) }
         requires plain { SaysItsSource (scalar_of scalar) }
@@ -263,6 +269,7 @@ impl<'a> Stream<'a> {
     }
 
     // An event at which a collection begins that waits for `first`, within one that then waits for `back`.
+    #[inline(always)]
     fn open_inner(
         &mut self,
         event: Event<'a>,
@@ -328,6 +335,7 @@ impl<'a> Stream<'a> {
     }
 
     // An event at which the innermost collection ends.
+    #[inline(always)]
     fn close(&mut self, event: Event<'a>, mark: Mark) -> Result<(), Stop>
         requires moves { next_state (state_of self.old.phase self.old.outer.items) (event_of event)
             ≡ Some (within (opens self.old.outer.items)) }
@@ -373,6 +381,7 @@ impl<'a> Stream<'a> {
     }
 
     // The innermost collection goes on to another frame, which waits for the same.
+    #[inline(always)]
     pub(crate) fn go(&mut self, next: Frame)
         ensures { self.new.text.now ≡ self.old.text.now }
     {

@@ -20,6 +20,7 @@ pub(crate) struct Candidate {
 
 impl Candidate {
     // Whether the candidate can't be a key any more at this place: on a later line, or too far behind.
+    #[inline(always)]
     fn is_stale(&self, here: &Cursor<'_>) -> bool {
         self.mark.line() != here.line() as u64
             || self.mark.index().saturating_add(MOST_BYTES) < here.at() as u64
@@ -43,6 +44,7 @@ impl Candidates {
     }
 
     // Whether a bracket is open.
+    #[inline(always)]
     pub(crate) fn is_flow(&self) -> bool {
         self.levels.len() > 1
     }
@@ -62,6 +64,7 @@ impl Candidates {
     }
 
     // The candidate of the innermost bracket, if it has one that is not stale.
+    #[inline(always)]
     pub(crate) fn last(&self) -> Option<Candidate> {
         match self.levels.as_slice().last() {
             Some(candidate) if self.fresh < self.levels.len() => *candidate,
@@ -70,6 +73,7 @@ impl Candidates {
     }
 
     // Puts a candidate in the place of the innermost bracket's.
+    #[inline(always)]
     fn set(&mut self, candidate: Option<Candidate>) {
         if let Some(last) = self.levels.as_mut_slice().last_mut() {
             *last = candidate;
@@ -77,12 +81,14 @@ impl Candidates {
     }
 
     // The next token is the candidate of the innermost bracket.
+    #[inline(always)]
     pub(crate) fn save(&mut self, candidate: Candidate) {
         self.set(Some(candidate));
         self.fresh = self.fresh.min(self.levels.len().saturating_sub(1));
     }
 
     // The innermost bracket has no candidate any more.
+    #[inline(always)]
     pub(crate) fn remove(&mut self) {
         self.set(None);
         if self.fresh.saturating_add(1) == self.levels.len() {
@@ -91,6 +97,7 @@ impl Candidates {
     }
 
     // Gives up the candidates that are stale at this place. One of them that has to be a key stays, and is given.
+    #[inline(always)]
     pub(crate) fn drop_stale(&mut self, here: &Cursor<'_>) -> Option<Candidate> {
         for _ in self.fresh..self.levels.len() {
             match self.levels.as_slice().get(self.fresh) {
@@ -110,6 +117,7 @@ impl Candidates {
     }
 
     // Which token is the first that may be a key, if one may.
+    #[inline(always)]
     pub(crate) fn first_place(&mut self) -> Option<usize> {
         for _ in self.fresh..self.levels.len() {
             if let Some(Some(candidate)) = self.levels.as_slice().get(self.fresh) {

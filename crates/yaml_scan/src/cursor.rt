@@ -49,16 +49,19 @@ impl<'a> Cursor<'a> {
     }
 
     // How many bytes come before this place.
+    #[inline(always)]
     pub(crate) fn at(&self) -> usize {
         self.at
     }
 
     // How many bytes are left.
+    #[inline(always)]
     pub(crate) fn left(&self) -> usize {
         self.text.len() - self.at
     }
 
     // Whether the text ends here.
+    #[inline(always)]
     pub(crate) fn is_end(&self) -> bool {
         self.at == self.text.len()
     }
@@ -69,11 +72,13 @@ impl<'a> Cursor<'a> {
     }
 
     // Whether the last line ended with no line break.
+    #[inline(always)]
     fn is_behind_last(&self) -> bool {
         self.ended && self.column != 0
     }
 
     // The line, counted from 0.
+    #[inline(always)]
     pub(crate) fn line(&self) -> usize
         ensures { result ≤ self.now.at + 1 }
     {
@@ -85,6 +90,7 @@ impl<'a> Cursor<'a> {
     }
 
     // The column in characters, counted from 0.
+    #[inline(always)]
     pub(crate) fn column(&self) -> usize
         ensures { result ≤ self.now.at }
     {
@@ -96,6 +102,7 @@ impl<'a> Cursor<'a> {
     }
 
     // The mark of this place.
+    #[inline(always)]
     pub(crate) fn mark(&self) -> Mark {
         match Mark::new(self.at as u64, self.line() as u64, self.column() as u64) {
             Some(mark) => mark,

@@ -46,6 +46,7 @@ impl<'a> Scanner<'a> {
     }
 
     // How many of the tokens that wait can't change any more: those before the first that may be a key.
+    #[inline(always)]
     fn released(&mut self) -> usize {
         match self.candidates.first_place() {
             Some(place) => place.saturating_sub(self.taken),
@@ -54,6 +55,7 @@ impl<'a> Scanner<'a> {
     }
 
     // Hands over the first of the tokens that wait.
+    #[inline(always)]
     pub(crate) fn pop(&mut self) -> Option<Placed> {
         let first = self.tokens.pop_front();
         if first.is_some() {
@@ -63,11 +65,13 @@ impl<'a> Scanner<'a> {
     }
 
     // Whether a bracket is open.
+    #[inline(always)]
     fn is_flow(&self) -> bool {
         self.candidates.is_flow()
     }
 
     // The column of the innermost open block collection plus 1, or 0.
+    #[inline(always)]
     fn indent(&self) -> usize {
         match self.indents.as_slice().last() {
             Some(indent) => *indent,
@@ -76,6 +80,7 @@ impl<'a> Scanner<'a> {
     }
 
     // Adds a token.
+    #[inline(always)]
     fn put(&mut self, token: Token, start: Mark, end: Mark) -> Result<(), Stop> {
         self.tokens.reserve(1)?;
         self.tokens.push_back_reserved(Placed {
@@ -88,18 +93,21 @@ impl<'a> Scanner<'a> {
     }
 
     // Adds a token that ends here.
+    #[inline(always)]
     fn put_here(&mut self, token: Token, start: Mark) -> Result<(), Stop> {
         let end = self.cursor.mark();
         self.put(token, start, end)
     }
 
     // Adds a token that has no text.
+    #[inline(always)]
     fn put_empty(&mut self, token: Token) -> Result<(), Stop> {
         let mark = self.cursor.mark();
         self.put(token, mark, mark)
     }
 
     // Steps over a character, and adds it as a token.
+    #[inline(always)]
     fn put_byte(&mut self, token: Token) -> Result<(), Stop> {
         let start = self.cursor.mark();
         self.cursor.skip();
@@ -114,6 +122,7 @@ impl<'a> Scanner<'a> {
     }
 
     // Gives up the candidates that can't be keys any more.
+    #[inline(always)]
     fn drop_stale(&mut self) -> Result<(), Stop> {
         match self.candidates.drop_stale(&self.cursor) {
             Some(candidate) => Err(self.no_colon(candidate)),
@@ -122,6 +131,7 @@ impl<'a> Scanner<'a> {
     }
 
     // Gives up the candidate of the innermost bracket.
+    #[inline(always)]
     fn remove_candidate(&mut self) -> Result<(), Stop> {
         if let Some(candidate) = self.candidates.last() {
             if candidate.required {
@@ -133,6 +143,7 @@ impl<'a> Scanner<'a> {
     }
 
     // Where a key may stand, the next token may be one.
+    #[inline(always)]
     fn save_candidate(&mut self) -> Result<(), Stop> {
         if self.key_allowed {
             self.remove_candidate()?;
@@ -150,6 +161,7 @@ impl<'a> Scanner<'a> {
     }
 
     // Ends the block collections whose column plus 1 is more than `indent`.
+    #[inline(always)]
     fn unroll(&mut self, indent: usize) -> Result<(), Stop> {
         if self.is_flow() {
             return Ok(());
@@ -166,6 +178,7 @@ impl<'a> Scanner<'a> {
 
     // Begins a block collection at this column, if none is open there or further to the right, and tells whether one
     // begins.
+    #[inline(always)]
     fn roll(&mut self, column: usize) -> Result<bool, Stop> {
         let begins = !self.is_flow() && self.indent() <= column;
         if begins {

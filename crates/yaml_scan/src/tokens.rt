@@ -1,6 +1,6 @@
 //! What the scanner gives: the tokens of a text, one after another.
 
-ghost use Rattle.std.specs.Prelude.{◌≡◌};
+ghost use Rattle.std.specs.Prelude.{◌≡◌, ◌-◌, IfOk, None, true};
 ghost use Rattle.std.specs.Option.{ForSome};
 ghost use Rattle.std.proofs.Props.{props};
 ghost use Rattle.yaml_base.specs.declared.fault.FaultKind.TheVariants as kind;
@@ -37,7 +37,9 @@ impl<'a> Tokens<'a> {
     /// were ready are taken, as long as the text goes on.
     ///
     /// A text has at most as many steps as bytes, and one more. The only error is want of memory.
-    pub fn advance(&mut self) -> Result<bool, AllocError> {
+    pub fn advance(&mut self) -> Result<bool, AllocError>
+        ensures { IfOk result (λ goes_on. goes_on ≡ true → self.new.fault ≡ self.old.fault) }
+    {
         match self.scanner.advance(&mut self.ready) {
             Ok(more) => Ok(more == More::Yes),
             Err(Stop::Memory) => Err(AllocError),
@@ -49,12 +51,20 @@ impl<'a> Tokens<'a> {
     }
 
     /// How many tokens are ready.
-    pub fn ready(&self) -> usize {
+    #[inline(always)]
+    pub fn ready(&self) -> usize
+        ensures { result ≡ self.now.ready }
+    {
         self.ready
     }
 
     /// The next token that is ready, if one is.
-    pub fn next(&mut self) -> Option<Placed> {
+    #[inline(always)]
+    pub fn next(&mut self) -> Option<Placed>
+        ensures fewer { self.new.ready ≡ self.old.ready - 1 }
+        ensures none { self.old.ready ≡ 0 → result ≡ None }
+        ensures fault { self.new.fault ≡ self.old.fault }
+    {
         if self.ready == 0 {
             return None;
         }
@@ -64,7 +74,8 @@ impl<'a> Tokens<'a> {
 
     /// What is wrong with the text, behind all tokens, if that was found.
     pub fn fault(&self) -> Option<Fault>
-        ensures { ForSome result (λ f. f.kind ≡ kind.Scanner) }
+        ensures found { result ≡ self.now.fault }
+        ensures scanners { ForSome result (λ f. f.kind ≡ kind.Scanner) }
     {
         self.fault
     }

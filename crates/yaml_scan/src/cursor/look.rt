@@ -7,6 +7,7 @@ use crate::cursor::Cursor;
 
 impl Cursor<'_> {
     // The byte that lies so many bytes ahead, or 0 behind the end. A text has no byte 0.
+    #[inline(always)]
     pub(crate) fn byte(&self, ahead: usize) -> u8 {
         if ahead < self.text.len() - self.at {
             self.text[self.at + ahead]
@@ -33,18 +34,31 @@ impl Cursor<'_> {
     }
 
     // Whether a line break lies so many bytes ahead.
+    #[inline(always)]
     pub(crate) fn is_break(&self, ahead: usize) -> bool
         requires { ahead < 8 }
     {
-        self.break_len(ahead) != 0
+        match self.byte(ahead) {
+            b'\n' | b'\r' => true,
+            0xC2 | 0xE2 => self.break_len(ahead) != 0,
+            _ => false,
+        }
+    }
+
+    // Whether a token begins here with a character of ASCII that is printed: neither a blank, a comment nor a line break.
+    #[inline(always)]
+    pub(crate) fn is_ascii_start(&self) -> bool {
+        matches!(self.byte(0), b'!' | b'"' | b'$'..=b'~')
     }
 
     // Whether a space or a tab lies so many bytes ahead.
+    #[inline(always)]
     pub(crate) fn is_blank(&self, ahead: usize) -> bool {
         is_blank(self.byte(ahead))
     }
 
     // Whether a line break lies so many bytes ahead, or the text has ended there.
+    #[inline(always)]
     pub(crate) fn is_break_or_end(&self, ahead: usize) -> bool
         requires { ahead < 8 }
     {
@@ -52,6 +66,7 @@ impl Cursor<'_> {
     }
 
     // Whether a space, a tab or a line break lies so many bytes ahead, or the text has ended there.
+    #[inline(always)]
     pub(crate) fn is_blank_or_end(&self, ahead: usize) -> bool
         requires { ahead < 8 }
     {
@@ -59,6 +74,7 @@ impl Cursor<'_> {
     }
 
     // Whether this byte comes three times, with a blank or an end behind.
+    #[inline(always)]
     pub(crate) fn is_triple(&self, byte: u8) -> bool {
         self.byte(0) == byte
             && self.byte(1) == byte
@@ -67,11 +83,13 @@ impl Cursor<'_> {
     }
 
     // Whether `---` or `...` stands at the beginning of this line, alone.
+    #[inline(always)]
     pub(crate) fn is_document_indicator(&self) -> bool {
         self.column() == 0 && (self.is_triple(b'-') || self.is_triple(b'.'))
     }
 
     // Whether a mark of the order of bytes stands here, at the beginning of a line.
+    #[inline(always)]
     pub(crate) fn is_order_mark(&self) -> bool {
         self.column() == 0 && self.byte(0) == 0xEF && self.byte(1) == 0xBB && self.byte(2) == 0xBF
     }

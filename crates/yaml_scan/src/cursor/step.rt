@@ -8,6 +8,7 @@ use std::alloc::AllocError;
 
 impl Cursor<'_> {
     // How many bytes the next character has, by its first; 0 at the end.
+    #[inline(always)]
     fn width(&self) -> usize
         ensures { result ≤ length self.now.text.now - self.now.at }
     {
@@ -21,6 +22,7 @@ impl Cursor<'_> {
     }
 
     // Steps over a character that ends no line.
+    #[inline(always)]
     pub(crate) fn skip(&mut self) {
         let width = self.width();
         if width != 0 {
@@ -30,6 +32,7 @@ impl Cursor<'_> {
     }
 
     // Steps over bytes that end no line.
+    #[inline(always)]
     fn pass(&mut self, part: Part)
         requires { part.bytes ≤ length self.old.text.now - self.old.at }
     {
@@ -45,6 +48,7 @@ impl Cursor<'_> {
     }
 
     // Steps over a line break, if one stands here.
+    #[inline(always)]
     pub(crate) fn skip_line(&mut self) {
         let width = self.break_len(0).min(self.text.len() - self.at);
         if width != 0 {
@@ -60,6 +64,7 @@ impl Cursor<'_> {
     }
 
     // Steps over spaces, and over tabs where `tabs` says so.
+    #[inline(always)]
     pub(crate) fn skip_spaces(&mut self, tabs: bool) {
         let width = spaces_in(&self.text[self.at..], tabs);
         self.column += width;
@@ -67,6 +72,7 @@ impl Cursor<'_> {
     }
 
     // Steps over a comment, up to the end of its line.
+    #[inline(always)]
     pub(crate) fn skip_comment(&mut self) {
         if self.byte(0) == b'#' {
             for _ in 0..self.left() {
@@ -87,6 +93,7 @@ impl Cursor<'_> {
     }
 
     // Steps over bytes up to the first that ends such a run, or else over the character that it is of.
+    #[inline(always)]
     pub(crate) fn skip_run(&mut self, run: Run) {
         let part = run.part_of(&self.text[self.at..]);
         if part.bytes == 0 {

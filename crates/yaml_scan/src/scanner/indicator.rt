@@ -35,6 +35,7 @@ impl Scanner<'_> {
     }
 
     // A collection by indentation begins at an indicator, if none is open at this column. Within brackets it doesn't.
+    #[inline(always)]
     fn begin_block(&mut self, token: Token, problem: Problem) -> Result<(), Stop> {
         if self.is_flow() {
             return Ok(());
@@ -68,6 +69,7 @@ impl Scanner<'_> {
     }
 
     // Tells the token at this place that it is a key.
+    #[inline(always)]
     fn set_lead(&mut self, place: usize, lead: Lead) {
         if let Some(placed) = self.tokens.get_mut(place.saturating_sub(self.taken)) {
             placed.lead = lead;

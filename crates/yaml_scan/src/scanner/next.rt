@@ -13,8 +13,12 @@ pub(crate) enum More {
 
 impl Scanner<'_> {
     // Steps over blanks, comments and line breaks. Tabs are blanks where no key may begin.
+    #[inline(always)]
     fn to_next_token(&mut self) {
         for _ in 0..self.cursor.left() {
+            if self.cursor.is_ascii_start() {
+                break;
+            }
             if self.cursor.is_order_mark() {
                 self.cursor.skip();
             }
@@ -32,6 +36,7 @@ impl Scanner<'_> {
     }
 
     // Whether a plain scalar may begin here.
+    #[inline(always)]
     fn begins_plain(&self) -> bool {
         match self.cursor.byte(0) {
             b'-' => !self.cursor.is_blank(1),
@@ -61,6 +66,7 @@ impl Scanner<'_> {
     }
 
     // Scans what may stand only at the beginning of a line, and tells whether something did.
+    #[inline(always)]
     fn begin_line(&mut self) -> Result<bool, Stop> {
         if self.cursor.byte(0) == b'%' {
             self.directive()?;
