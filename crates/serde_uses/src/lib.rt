@@ -1,0 +1,63 @@
+//! Types with the derives of the crate `serde`, read from YAML text and written as it: the callers that
+//! `yaml_serde/CALLING.md` quotes.
+#![tactic(auto)]
+
+use serde::{Deserialize, Serialize};
+use std::alloc::Global;
+use yaml_serde::{Documents, Error};
+
+/// How a service is reached.
+#[derive(Debug, Drop, Serialize, Deserialize)]
+#[serde(rename_all = "lowercase")]
+pub enum Listen {
+    /// By whatever the system has.
+    Any,
+    /// By a port.
+    Port(u16),
+    /// By a path.
+    Socket { path: String },
+}
+
+/// A service.
+#[derive(Debug, Drop, Serialize, Deserialize)]
+#[serde(rename_all = "camelCase", deny_unknown_fields)]
+pub struct Service {
+    pub name: String,
+    pub listen: Listen,
+    #[serde(default)]
+    pub max_jobs: u32,
+    #[serde(skip_serializing_if = "Option::is_none")]
+    pub label: Option<String>,
+}
+
+/// A service of YAML text.
+pub fn read_service(alloc: Global, text: &str) -> Result<Service, Error> {
+    yaml_serde::from_str(alloc, text)
+}
+
+/// A service as YAML text.
+pub fn write_service(alloc: Global, service: &Service) -> Result<String, Error> {
+    yaml_serde::to_string(alloc, service)
+}
+
+/// Someone, by a name that is lent from the text.
+#[derive(Debug, Drop, Serialize, Deserialize)]
+pub struct Person<'a> {
+    pub name: &'a str,
+}
+
+/// The name that is longest among those of a text's documents.
+pub fn longest_name<'a>(alloc: Global, text: &'a str) -> Result<&'a str, Error> {
+    let mut longest = "";
+    let mut documents = Documents::from_str(alloc, text)?;
+    while let Some(read) = documents.read_next::<Person<'a>>() {
+        let person = read?;
+        if person.name.len() > longest.len() {
+            longest = person.name;
+        }
+    }
+    Ok(longest)
+}
+
+#[cfg(test)]
+mod tests;

@@ -1,0 +1,4 @@
+-- What contracts of this crate cite.
+pub mod Leaves
+pub mod NodeSteps
+pub mod OneDocument

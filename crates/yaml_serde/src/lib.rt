@@ -1,0 +1,22 @@
+//! YAML text and events for types that derive the `Serialize` and `Deserialize` of the crate `serde`.
+#![tactic(auto)]
+
+mod borrowed;
+mod documents;
+mod format;
+mod frame;
+mod kinds;
+mod leaf;
+mod makers;
+mod open;
+mod place_text;
+mod reader;
+mod sink;
+mod steps;
+mod typed;
+mod write;
+
+pub use documents::Documents;
+pub use typed::{from_events, from_slice, from_str};
+pub use write::{to_events, to_string};
+pub use yaml_base::{Error, Result};
