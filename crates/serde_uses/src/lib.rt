@@ -50,7 +50,10 @@ pub struct Person<'a> {
 pub fn longest_name<'a>(alloc: Global, text: &'a str) -> Result<&'a str, Error> {
     let mut longest = "";
     let mut documents = Documents::from_str(alloc, text)?;
-    while let Some(read) = documents.read_next::<Person<'a>>() {
+    for _ in 0..u64::MAX {
+        let Some(read) = documents.read_next::<Person<'a>>() else {
+            break;
+        };
         let person = read?;
         if person.name.len() > longest.len() {
             longest = person.name;
