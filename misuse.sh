@@ -20,14 +20,14 @@ if grep -rnE "$forgotten|$cloned" --include='*.rt' crates/*/src; then
 fi
 
 # Contracts count the events that a reading goes over by its walk. Those that another walk goes over, or that one whose
-# count is begun anew went over before, would be in no count. So one walk is made, and one count for it and one for a
-# cursor, beside those that the two functions of `Tally` make.
+# count is begun anew went over before, would be in no count. So one walk is made of a document and one of a single node,
+# each with its count, and one count for a cursor, beside those that the two functions of `Tally` make.
 made() {
     grep -rnE "$1" --include='*.rt' crates/yaml_read/src | grep -vE "$2"
 }
 walks=$(made '(^|[^_[:alnum:]])Walk *\{' '(struct|impl|let) Walk \{$')
 counts=$(made '(^|[^_[:alnum:]])Tally(::new\(| *\{)' '(struct|impl|for) Tally \{$')
-if [ "$(printf '%s\n' "$walks" | wc -l) $(printf '%s\n' "$counts" | wc -l)" != "1 4" ]; then
+if [ "$(printf '%s\n' "$walks" | wc -l) $(printf '%s\n' "$counts" | wc -l)" != "2 5" ]; then
     printf '%s\n' "$walks" "$counts"
     echo "misuse: other walks or counts than those are made in the lines above"
     failed=1
