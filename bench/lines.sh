@@ -2,15 +2,15 @@
 # Prints the user time of the program on large inputs, the least of RUNS runs (5 at first), as rows of
 # docs/PERFORMANCE.md.
 #
-#     bash measure.sh [PROGRAM]
+#     bash bench/lines.sh [PROGRAM]
 #
 # PROGRAM is by default crates/yaml_case/out/yaml_case, which `rt run` in crates/yaml_case builds.
 set -eu
 export LC_ALL=C
-root=$(cd "$(dirname "$0")" && pwd)
+root=$(cd "$(dirname "$0")/.." && pwd)
 program=${1:-$root/crates/yaml_case/out/yaml_case}
 if [ ! -x "$program" ]; then
-    echo "measure: there is no program $program"
+    echo "lines: there is no program $program"
     exit 1
 fi
 room=$(mktemp -d)

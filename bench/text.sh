@@ -2,14 +2,14 @@
 # Prints how many instructions it takes from text to events, the events let go too, in millions: of `yaml_text::parse`
 # and of libyaml's parser, and the ratio of both, as rows of docs/PERFORMANCE.md.
 #
-#     bash measure_text.sh [PROGRAM]
+#     bash bench/text.sh [PROGRAM]
 #
 # The script makes a program of its own over copies of the crates below yaml_text, and `rt` proves and builds it, which
 # takes some minutes, or some seconds where the crates are proved. PROGRAM is one that an earlier run made, by which a
 # change is compared: KEEP names a file for the program of this run. Wanted are valgrind, `cc` and libyaml's headers.
 set -eu
 export LC_ALL=C
-root=$(cd "$(dirname "$0")" && pwd)
+root=$(cd "$(dirname "$0")/.." && pwd)
 room=$(mktemp -d)
 trap 'rm -rf "$room"' EXIT
 

@@ -2,14 +2,14 @@
 # Prints how long the writing of large data takes, each the least of RUNS runs (5 at first), as rows of
 # docs/PERFORMANCE.md.
 #
-#     bash measure_writing.sh [SIZE..]
+#     bash bench/writing.sh [SIZE..]
 #
 # SIZE is a number of elements or entries, by default 10000 and 1000000. The script makes a program of its own over a
 # copy of crates/yaml_write and of those below it, and `rt` proves and builds it, which takes some minutes where they
 # are not proved yet.
 set -eu
 export LC_ALL=C
-root=$(cd "$(dirname "$0")" && pwd)
+root=$(cd "$(dirname "$0")/.." && pwd)
 room=$(mktemp -d)
 trap 'rm -rf "$room"' EXIT
 
@@ -182,7 +182,7 @@ for size in "$@"; do
         whole=$(least "$kind" "$size" whole)
         calls=$(least "$kind" "$size" calls)
         echo "$whole $calls" | awk -v kind="$kind" '
-            $1 != $4 { print "measure_writing: " kind ": other events"; exit 1 }
+            $1 != $4 { print "writing: " kind ": other events"; exit 1 }
             { print "| " kind " | " $1 " | " $2 " ns | " $5 " ns | " $3 " ns |" }'
     done
 done

@@ -2,13 +2,13 @@
 # Prints how long calls on large mappings take, each the least of RUNS runs (5 at first), as rows of
 # docs/PERFORMANCE.md.
 #
-#     bash measure_tree.sh [SIZE..]
+#     bash bench/mappings.sh [SIZE..]
 #
 # SIZE is a number of keys, by default 100000 and 1000000. The script makes a program of its own over a copy of
 # crates/yaml_tree, and `rt` proves and builds it, which takes some minutes.
 set -eu
 export LC_ALL=C
-root=$(cd "$(dirname "$0")" && pwd)
+root=$(cd "$(dirname "$0")/.." && pwd)
 room=$(mktemp -d)
 trap 'rm -rf "$room"' EXIT
 
@@ -94,7 +94,7 @@ row() {
         $5 != size || $6 != "true" || $7 != "true" { wrong = 1 }
         { for (i = 1; i <= 4; i++) if (NR == 1 || $i < least[i]) least[i] = $i }
         END {
-            if (wrong || !NR) { print "measure_tree: " kind ": a wrong answer"; exit 1 }
+            if (wrong || !NR) { print "mappings: " kind ": a wrong answer"; exit 1 }
             printf "| %s, %d |", kind, size
             for (i = 1; i <= 4; i++) printf " %.1f ms |", least[i] / 1000
             print ""

@@ -1,0 +1,172 @@
+#!/usr/bin/env bash
+# Times texts that are read as values of types and values that are printed as texts, beside the original crate where it
+# is there, and prints rows of docs/PERFORMANCE.md: nanoseconds an element, each the least of many runs, both sides by
+# turns; the ratio of both; and the most memory that a run held, in megabytes.
+#
+#     bash bench/types.sh [TASK[/KIND]]..
+#
+# TASK is `read` (from text), `print` (to text), `parse` (from text to events), `load` (from events) or `write` (to
+# events); KIND is what is read: integers, texts, lent, pairs, lists, any, config, documents. Without one all are run.
+# The last three tasks have no side of the original, whose events are its own.
+#
+# ORIGINAL names a folder with the crate serde_yaml 0.9.34, which cargo can build there; without it the port is timed
+# alone. PROGRAMS names a folder in which what is built is kept, and taken from there by a later run. SIZES are numbers
+# of elements, at first 10000 and 1000000. With COUNT=1 rows tell instructions in place of nanoseconds, counted by
+# valgrind, which do not depend on what else a machine does, at first with 10000 elements alone. The port's program is
+# made over a copy of the crates, and `rt` proves and builds it, which takes some minutes, and more where the crates are
+# not proved yet.
+set -eu
+export LC_ALL=C
+here=$(cd "$(dirname "$0")" && pwd)
+room=$(mktemp -d)
+trap 'rm -rf "$room"' EXIT
+programs=${PROGRAMS:-$room/programs}
+mkdir -p "$programs"
+
+# Builds the port's program, over what earlier checks kept of the crates.
+make_port() {
+    local crates crate
+    crates=$(sed -n 's/^yaml_serde: serde //p; s/^serde_yaml: //p' "$here/../crates.txt" | tr ' ' '\n' | sort -u | grep -v itoa)
+    crates="$crates yaml_serde serde_yaml"
+    mkdir -p "$room/port/crates/bench_port/src"
+    for crate in $crates; do
+        cp -al "$here/../crates/$crate" "$room/port/crates/" 2> /dev/null || cp -a "$here/../crates/$crate" "$room/port/crates/"
+        grep "^$crate:" "$here/../crates.txt" >> "$room/port/crates.txt"
+    done
+    echo "bench_port: serde" $crates >> "$room/port/crates.txt"
+    cp "$here/port.rt.in" "$room/port/crates/bench_port/src/main.rt"
+    (cd "$room/port/crates/bench_port" && rt run < /dev/null > "$room/log" 2>&1) || { tail -n 20 "$room/log"; exit 1; }
+    cp "$room/port/crates/bench_port/out/bench_port" "$programs/port"
+}
+
+# Builds the original's program.
+make_original() {
+    mkdir -p "$room/original/src"
+    cp "$here/original.rs" "$room/original/src/main.rs"
+    [ ! -d "$ORIGINAL/.cargo" ] || cp -r "$ORIGINAL/.cargo" "$room/original/"
+    cat > "$room/original/Cargo.toml" << TOML
+[package]
+name = "bench_original"
+version = "0.0.0"
+edition = "2021"
+[dependencies]
+serde = { version = "1.0", features = ["derive"] }
+serde_yaml = { path = "$ORIGINAL" }
+[profile.release]
+opt-level = 3
+lto = true
+TOML
+    (cd "$room/original" && cargo build --release --offline > "$room/log" 2>&1) || { tail -n 20 "$room/log"; exit 1; }
+    cp "$room/original/target/release/bench_original" "$programs/original"
+}
+
+# Prints the text of a kind, with so many elements.
+text() {
+    awk -v kind="$1" -v size="$2" '
+        function word(i) { return substr("alpha beta  gamma delta omega ", 6 * (i % 5) + 1, 5) }
+        BEGIN {
+            if (kind == "config") {
+                print "name: web\nhost: \"example.org\"\nport: 8080\nworkers: 4\ndebug: false\nroot: /var/www/site"
+                print "timeout: 30000\nlabel: main\ntags:\n- alpha\n- beta\nlimits:\n  memory: 1024\n  files: 256"
+            }
+            for (i = 0; i < size && kind != "config"; i++) {
+                if (kind == "integers") print "- " i * 7919 % 1000003
+                else if (kind == "texts" || kind == "lent") print "- " word(i) " and " word(i + 1)
+                else if (kind == "pairs") printf "key%07d: %d\n", i, i
+                else if (kind == "lists") { if (i % 4 == 0) print "-"; print "  - " i }
+                else if (kind == "any") print "- name: " word(i) "\n  port: " i "\n  on: true"
+                else if (kind == "documents") print "---\n" i
+            }
+        }'
+}
+
+# The most memory that a program of $1 held on the text, in megabytes.
+memory() {
+    command -v python3 > /dev/null || { echo -; return; }
+    python3 - "$@" "$room/text" << 'PY'
+import resource, subprocess, sys
+subprocess.run(sys.argv[1:-1], stdin=open(sys.argv[-1]), stdout=subprocess.DEVNULL)
+print("%.0f" % (resource.getrusage(resource.RUSAGE_CHILDREN).ru_maxrss / 1024))
+PY
+}
+
+# The instructions of so many runs of a program $1 on the text, and all that stands around them.
+instructions() {
+    valgrind --tool=callgrind --callgrind-out-file=/dev/null "$programs/$1" "$2" "$3" "$4" < "$room/text" 2>&1 > /dev/null |
+        awk '/Collected/ { print $4 }'
+}
+
+# The instructions of one run: what a third run takes more than two. Before it prints or writes, a run reads, and before
+# it loads events, it parses them.
+count() {
+    local took
+    took=$(($(instructions "$1" "$2" "$3" 3) - $(instructions "$1" "$2" "$3" 2)))
+    case $2 in
+        print | write) took=$((took - $(count "$1" read "$3"))) ;;
+        load) took=$((took - $(count "$1" parse "$3"))) ;;
+    esac
+    echo "$took"
+}
+
+# Prints the row of a task on a kind of text with so many elements, in instructions.
+counted_row() {
+    local task=$1 kind=$2 size=$3 own other=
+    text "$kind" "$size" > "$room/text"
+    [ "$kind" != config ] || size=1
+    own=$(count port "$task" "$kind")
+    [ ! -x "$programs/original" ] || case $task in read | print) other=$(count original "$task" "$kind") ;; esac
+    awk -v task="$task" -v kind="$kind" -v size="$size" -v own="$own" -v other="$other" 'BEGIN {
+        printf "| %s | %s | %d | %.0f", task, kind, size, own / size
+        if (other != "") printf " / %.0f | %.2f |\n", other / size, own / other
+        else print " | |"
+    }'
+}
+
+# Prints the row of a task on a kind of text with so many elements.
+row() {
+    local task=$1 kind=$2 size=$3 runs turn side took held=() found=() sides=(port)
+    text "$kind" "$size" > "$room/text"
+    [ "$kind" != config ] || size=1
+    runs=$((3000000 / (size * 10) + 3))
+    [ ! -x "$programs/original" ] || case $task in read | print) sides+=(original) ;; esac
+    for turn in 1 2 3 4; do
+        for side in "${sides[@]}"; do
+            took=$("$programs/$side" "$task" "$kind" "$((runs > 300 ? 300 : runs))" < "$room/text")
+            [ -n "$took" ] || { echo "$task $kind: $side does not read it"; exit 1; }
+            echo "$side $took" >> "$room/times"
+        done
+    done
+    for side in "${sides[@]}"; do
+        found+=("$(awk -v side="$side" '$1 == side && (!n++ || $2 < least) { least = $2 } END { print least }' "$room/times")")
+        held+=("$(memory "$programs/$side" "$task" "$kind" 1)")
+    done
+    rm "$room/times"
+    awk -v task="$task" -v kind="$kind" -v size="$size" -v port="${found[0]}" -v other="${found[1]-}" \
+        -v held="${held[0]}" -v others="${held[1]-}" 'BEGIN {
+            printf "| %s | %s | %d | %.1f", task, kind, size, port / size
+            if (other != "") printf " / %.1f | %.2f | %s / %s |\n", other / size, port / other, held, others
+            else printf " | | %s |\n", held
+        }'
+}
+
+[ -x "$programs/port" ] || make_port
+[ -x "$programs/original" ] || [ -z "${ORIGINAL-}" ] || make_original
+[ $# -gt 0 ] || set -- read print parse load write
+for wanted in "$@"; do
+    case ${wanted%%/*} in
+        read) kinds="integers texts lent pairs lists any config documents" ;;
+        print) kinds="integers texts pairs any config" ;;
+        parse) kinds="integers texts pairs lists any" ;;
+        load) kinds="integers texts lent pairs lists any" ;;
+        write) kinds="integers texts pairs" ;;
+        *) echo "there is no task $wanted"; exit 1 ;;
+    esac
+    [ "$wanted" = "${wanted#*/}" ] || kinds=${wanted#*/}
+    for kind in $kinds; do
+        for size in ${SIZES:-10000 $([ -n "${COUNT-}" ] || echo 1000000)}; do
+            ${COUNT:+counted_}row "${wanted%%/*}" "$kind" "$size"
+            # a configuration has one size
+            [ "$kind" != config ] || break
+        done
+    done
+done
