@@ -1,5 +1,6 @@
 -- Lemmas of this crate.
 pub mod BuildLaws
+pub mod EnumFound
 pub mod FoundLaws
 pub mod GatherLaws
 pub mod ItemsThen

@@ -1,5 +1,5 @@
 -- Data of the shape of a struct is its fields; and the schemas of structs, as the code joins them.
-use Rattle.std.proofs.Common.{◌≡◌, ◌≢◌, ◌<◌, ◌≤◌, ◌+◌, ℕ, List, [], ◌∷◌, ◌++◌, length, Bool, true, false, Some, refl, rules}
+use Rattle.std.proofs.Common.{◌≡◌, ◌≢◌, ◌+◌, ℕ, List, [], ◌∷◌, ◌++◌, length, Bool, true, false, Some, refl, rules}
 use Rattle.std.proofs.Common.{sym, ◌∙◌, ap, subst, All, arith, length-append}
 use Rattle.std.specs.Prelude.{Vec, IsTrue, Result, Ok, Err, IfErr}
 use Rattle.std.specs.declared.alloc.Global.{Global}
@@ -11,7 +11,6 @@ use Rattle.yaml_shape.specs.Join.{joined_all, starts_behind, named_behind, parts
 use Rattle.yaml_shape.specs.DataView.{data_of, items_view}
 use Rattle.yaml_shape.specs.declared.data.Data.{Data, the_lemmas}
 use Rattle.yaml_shape.specs.declared.data.Data as code
-use Rattle.yaml_shape.specs.declared.shape.ShapeId.{ShapeId}
 use Rattle.yaml_shape.specs.declared.fault.SchemaFault.{SchemaFault}
 use Rattle.yaml_shape.specs.declared.fault.SchemaFault.TheVariants.{S1, S2, S3, S4, S5}
 use Rattle.yaml_shape.proofs.PartLaws.{larger}
@@ -62,7 +61,7 @@ fields_found strict name names parts same c found fields is h =
     ∙ (ap (has_shape (struct_start strict name names parts).0 (struct_start strict name names parts).1)
     (sym (ap data_of is ∙ data_of-Struct fields)) ∙ h)
 
-one_refused : (fault : SchemaFault) (size more : ℕ) (shape : PlainShape) → more ≡ size + 1 → HasDistinctNames shape
+pub one_refused : (fault : SchemaFault) (size more : ℕ) (shape : PlainShape) → more ≡ size + 1 → HasDistinctNames shape
     → IsNotAdded size shape fault → IsTooLarge more fault
 one_refused (S1 n) size more shape e distinct h = h
 one_refused (S2 n) size more shape e distinct h = h

@@ -1,6 +1,9 @@
 -- What contracts of this crate cite, and the laws of the types.
 pub mod Built
 pub mod BuiltParts
+pub mod ChoiceLaws
+pub mod ChoiceReturns
+pub mod Choices
 pub mod Integers
 pub mod MapLaws
 pub mod PartShapes

@@ -1,7 +1,10 @@
 //! Types that are read from data of their shape, and written as such data.
 #![tactic(auto)]
 
+mod choice;
 mod composed;
+mod contents;
+mod enums;
 mod fault;
 mod impls;
 mod items;
@@ -11,11 +14,17 @@ mod strict;
 mod structs;
 mod traits;
 mod tuples;
+mod variant;
+mod variants;
 
+pub use choice::{Choice, Last, OneOf, ReadChoice, RoundTripChoice, WriteChoice};
 pub use composed::{Composed, FromParts, RoundTripParts, ToParts};
+pub use enums::{Enum, Variants};
 pub use fault::BuildFault;
 pub use row::{ReadRow, RoundTripRow, Row, WriteRow};
 pub use strict::StrictStruct;
 pub use structs::{Fields, Struct, struct_names};
 pub use traits::{Deserialize, RoundTrip, Serialize};
 pub use tuples::Tuple;
+pub use variant::{ReadVariant, RoundTripVariant, Variant, WriteVariant};
+pub use variants::{NewtypeVariant, StructVariant, TupleVariant, UnitVariant};

@@ -37,7 +37,7 @@ where
     ghost as_many: { length names ≡ Self.Types.width };
 }
 
-/// A struct's name and the names of its fields as texts of their own.
+/// The name of a struct or a variant, and the names of its fields, as texts of their own.
 pub fn struct_names(
     alloc: Global,
     name: &str,
