@@ -2,11 +2,10 @@
 
 ghost use Rattle.std.specs.Prelude.{◌≡◌};
 
-use crate::fault::fault_in;
 use crate::frame::Frame;
-use crate::machine::{Machine, Span};
+use crate::machine::Machine;
 use crate::node::Nodes;
-use yaml_token::{Context, Problem, Stop, Token};
+use yaml_token::{Context, Problem, Span, Stop, Token};
 
 impl<'a> Machine<'a> {
     // `-`, or the end of the sequence.
@@ -19,10 +18,8 @@ impl<'a> Machine<'a> {
                 self.stream.end_sequence(at.start)?;
                 Ok(true)
             }
-            _ => Err(fault_in(
-                self.alloc,
+            _ => Err(self.fault_within(
                 Context::ParsingABlockCollection,
-                self.stream.opened(),
                 Problem::DidNotFindExpectedDashIndicator,
                 at.start,
             )),
@@ -35,7 +32,8 @@ impl<'a> Machine<'a> {
     {
         let ends = matches!(token, Token::BlockEntry | Token::BlockEnd);
         if ends && self.properties.is_none() {
-            self.nothing(self.gap)
+            let indicator = self.indicator;
+            self.nothing_behind(&indicator)
         } else {
             self.node(Nodes::Block, token, at)
         }
@@ -63,7 +61,8 @@ impl<'a> Machine<'a> {
             Token::BlockEntry | Token::Key | Token::Value | Token::BlockEnd
         );
         if ends && self.properties.is_none() {
-            self.nothing(self.gap)
+            let indicator = self.indicator;
+            self.nothing_behind(&indicator)
         } else {
             self.node(Nodes::Block, token, at)
         }
@@ -79,10 +78,8 @@ impl<'a> Machine<'a> {
                 self.stream.end_mapping(at.start)?;
                 Ok(true)
             }
-            _ => Err(fault_in(
-                self.alloc,
+            _ => Err(self.fault_within(
                 Context::ParsingABlockMapping,
-                self.stream.opened(),
                 Problem::DidNotFindExpectedKey,
                 at.start,
             )),
@@ -95,7 +92,8 @@ impl<'a> Machine<'a> {
     {
         let ends = matches!(token, Token::Key | Token::Value | Token::BlockEnd);
         if ends && self.properties.is_none() {
-            self.nothing(self.gap)
+            let indicator = self.indicator;
+            self.nothing_behind(&indicator)
         } else {
             self.node(Nodes::Indentless, token, at)
         }

@@ -3,11 +3,11 @@
 ghost use Rattle.std.specs.Prelude.{◌≡◌};
 
 use crate::fault::fault;
-use crate::machine::{Machine, Span};
+use crate::machine::Machine;
 use crate::properties::Handle;
 use std::mem;
 use yaml_base::Mark;
-use yaml_token::{Problem, Stop, Token};
+use yaml_token::{Problem, Span, Stop, Token};
 
 // Whether a handle has a directive.
 fn is_known(handles: &[Handle], handle: &[u8]) -> bool {
@@ -36,11 +36,10 @@ impl<'a> Machine<'a> {
                 self.stream.begin_document(opened, true)?;
                 Ok(true)
             }
-            _ => Err(fault(
-                self.alloc,
-                Problem::DidNotFindExpectedDocumentStart,
-                at.start,
-            )),
+            _ => Err(
+                self.stream
+                    .stop(fault(Problem::DidNotFindExpectedDocumentStart, at.start)),
+            ),
         }
     }
 
@@ -49,10 +48,16 @@ impl<'a> Machine<'a> {
         ensures { self.new.stream.text.now ≡ self.old.stream.text.now }
     {
         if self.has_version {
-            return Err(fault(self.alloc, Problem::FoundDuplicateVersionDirective, mark));
+            return Err(
+                self.stream
+                    .stop(fault(Problem::FoundDuplicateVersionDirective, mark)),
+            );
         }
         if major != 1 || (minor != 1 && minor != 2) {
-            return Err(fault(self.alloc, Problem::FoundIncompatibleYamlDocument, mark));
+            return Err(
+                self.stream
+                    .stop(fault(Problem::FoundIncompatibleYamlDocument, mark)),
+            );
         }
         self.has_version = true;
         Ok(true)
@@ -63,7 +68,10 @@ impl<'a> Machine<'a> {
         ensures { self.new.stream.text.now ≡ self.old.stream.text.now }
     {
         if is_known(self.handles.as_slice(), handle.handle.as_slice()) {
-            return Err(fault(self.alloc, Problem::FoundDuplicateHandleDirective, mark));
+            return Err(
+                self.stream
+                    .stop(fault(Problem::FoundDuplicateHandleDirective, mark)),
+            );
         }
         self.handles.push(handle)?;
         Ok(true)

@@ -2,9 +2,9 @@
 
 ghost use Rattle.std.specs.Prelude.{◌≡◌};
 
-use crate::machine::{Machine, Span};
+use crate::machine::Machine;
 use crate::node::Nodes;
-use yaml_token::{Stop, Token};
+use yaml_token::{Span, Stop, Token};
 
 // Whether a document's node can't begin so.
 fn ends_content(token: &Token) -> bool {

@@ -6,44 +6,36 @@ ghost use Rattle.yaml_parse.specs.Faults.{IsToldBy};
 
 use std::alloc::{AllocError, Global};
 use yaml_base::{FaultKind, Mark, ParserFault};
-use yaml_token::{Context, Fault, Finding, Problem, Stop};
+use yaml_token::{Context, Fault, Finding, Problem};
 
 // A fault at a mark.
-pub(crate) fn fault(alloc: Global, problem: Problem, mark: Mark) -> Stop {
-    let finding = Finding {
+pub(crate) fn fault(problem: Problem, mark: Mark) -> Finding {
+    Finding {
         problem,
         mark,
         context: None,
         context_mark: mark,
-    };
-    Stop::at(alloc, finding)
+    }
 }
 
 // A fault at a mark, found while doing what the context says, which began at `start`.
-pub(crate) fn fault_in(
-    alloc: Global,
-    context: Context,
-    start: Mark,
-    problem: Problem,
-    mark: Mark,
-) -> Stop {
-    let finding = Finding {
+pub(crate) fn fault_in(context: Context, start: Mark, problem: Problem, mark: Mark) -> Finding {
+    Finding {
         problem,
         mark,
         context: Some(context),
         context_mark: start,
-    };
-    Stop::at(alloc, finding)
+    }
 }
 
 // The fault of an event that may not stand here.
-pub(crate) fn misplaced(alloc: Global, mark: Mark) -> Stop {
-    fault(alloc, Problem::TheEventMayNotStandHere, mark)
+pub(crate) fn misplaced(mark: Mark) -> Finding {
+    fault(Problem::TheEventMayNotStandHere, mark)
 }
 
 // The fault of a token at which the parser did not come to an end.
-pub(crate) fn endless(alloc: Global, mark: Mark) -> Stop {
-    fault(alloc, Problem::ATokenTookTooManySteps, mark)
+pub(crate) fn endless(mark: Mark) -> Finding {
+    fault(Problem::ATokenTookTooManySteps, mark)
 }
 
 // The kind of a fault that the parser found: one that no text has is of kind `Other`.

@@ -2,12 +2,11 @@
 
 ghost use Rattle.std.specs.Prelude.{◌≡◌};
 
-use crate::fault::fault_in;
 use crate::frame::Frame;
-use crate::machine::{Machine, Span};
+use crate::machine::Machine;
 use crate::node::Nodes;
 use yaml_base::MappingStart;
-use yaml_token::{Context, Problem, Stop, Token};
+use yaml_token::{Context, Problem, Span, Stop, Token};
 
 impl<'a> Machine<'a> {
     // A node, a pair, or the end of the sequence.
@@ -43,10 +42,8 @@ impl<'a> Machine<'a> {
                 Ok(true)
             }
             Token::FlowEntry => self.pass(Frame::FlowNode, at),
-            _ => Err(fault_in(
-                self.alloc,
+            _ => Err(self.fault_within(
                 Context::ParsingAFlowSequence,
-                self.stream.opened(),
                 Problem::DidNotFindExpectedCommaOrBracket,
                 at.start,
             )),
@@ -62,7 +59,7 @@ impl<'a> Machine<'a> {
             Token::Value | Token::FlowEntry | Token::FlowSequenceEnd
         );
         if ends && self.properties.is_none() {
-            self.nothing(at.end)?;
+            self.nothing_behind(at)?;
             Ok(true)
         } else {
             self.node(Nodes::Flow, token, at)
@@ -161,10 +158,8 @@ impl<'a> Machine<'a> {
                 Ok(true)
             }
             Token::FlowEntry => self.pass(Frame::MapKey, at),
-            _ => Err(fault_in(
-                self.alloc,
+            _ => Err(self.fault_within(
                 Context::ParsingAFlowMapping,
-                self.stream.opened(),
                 Problem::DidNotFindExpectedCommaOrBrace,
                 at.start,
             )),

@@ -3,13 +3,13 @@
 ghost use Rattle.std.specs.Prelude.{◌≡◌};
 ghost use Rattle.yaml_parse.specs.Places.{place_of};
 
-use crate::fault::endless;
+use crate::fault::{endless, fault_in};
 use crate::frame::{Frame, Phase};
 use crate::properties::{Handle, Properties};
 use crate::stream::Stream;
 use std::alloc::Global;
 use yaml_base::Mark;
-use yaml_token::{Lead, Placed, Stop, Token};
+use yaml_token::{Context, Lead, Placed, Problem, Span, Stop, Token};
 
 // A parser of a text, amid its tokens.
 #[derive(Drop)]
@@ -18,19 +18,12 @@ pub(crate) struct Machine<'a> {
     pub(crate) stream: Stream<'a>,
     // What stands before the node that is to come.
     pub(crate) properties: Option<Properties>,
-    // The end of the last indicator.
-    pub(crate) gap: Mark,
+    // Where the last indicator stands.
+    pub(crate) indicator: Span,
     // Whether the document has a `%YAML` directive.
     pub(crate) has_version: bool,
     // What the document's `%TAG` directives say.
     pub(crate) handles: Vec<Handle>,
-}
-
-// Where a token stands.
-#[derive(Drop)]
-pub(crate) struct Span {
-    pub(crate) start: Mark,
-    pub(crate) end: Mark,
 }
 
 // The most steps at a token.
@@ -46,7 +39,10 @@ impl<'a> Machine<'a> {
             alloc,
             stream: Stream::new(alloc, text, start),
             properties: None,
-            gap: start,
+            indicator: Span {
+                start,
+                end: start.index(),
+            },
             has_version: false,
             handles: Vec::new(alloc),
         }
@@ -60,8 +56,7 @@ impl<'a> Machine<'a> {
         let Placed {
             lead,
             mut token,
-            start,
-            end,
+            span: Span { start, end },
         } = placed;
         if lead != Lead::Nothing {
             self.begin_key(lead == Lead::MappingKey, start)?;
@@ -73,7 +68,10 @@ impl<'a> Machine<'a> {
     fn begin_key(&mut self, mapping: bool, start: Mark) -> Result<(), Stop>
         ensures { self.new.stream.text.now ≡ self.old.stream.text.now }
     {
-        let before = Span { start, end: start };
+        let before = Span {
+            start,
+            end: start.index(),
+        };
         if mapping {
             self.feed(&mut Token::BlockMappingStart, &before)?;
         }
@@ -90,7 +88,7 @@ impl<'a> Machine<'a> {
                 return Ok(());
             }
         }
-        Err(endless(self.alloc, at.start))
+        Err(self.stream.stop(endless(at.start)))
     }
 
     // One step at a token: whether it was used up.
@@ -143,8 +141,16 @@ impl<'a> Machine<'a> {
     pub(crate) fn pass(&mut self, frame: Frame, at: &Span) -> Result<bool, Stop>
         ensures { self.new.stream.text.now ≡ self.old.stream.text.now }
     {
-        self.gap = at.end;
+        self.indicator = *at;
         self.stream.go(frame);
         Ok(true)
+    }
+
+    // What is wrong within the innermost collection.
+    pub(crate) fn fault_within(&mut self, context: Context, problem: Problem, mark: Mark) -> Stop
+        ensures { self.new.stream.text.now ≡ self.old.stream.text.now }
+    {
+        let opened = self.stream.opened();
+        self.stream.stop(fault_in(context, opened, problem, mark))
     }
 }

@@ -7,12 +7,12 @@ ghost use Rattle.yaml_parse.specs.Frames.{open_of};
 
 use crate::fault::fault_in;
 use crate::frame::Frame;
-use crate::machine::{Machine, Span};
+use crate::machine::Machine;
 use crate::plain::plain_text;
 use crate::properties::{Properties, WrittenTag, resolve};
 use std::mem;
 use yaml_base::{Anchor, MappingStart, Mark, Scalar, ScalarStyle, SequenceStart, Tag};
-use yaml_token::{Context, Problem, Stop, Token};
+use yaml_token::{Context, Problem, Span, Stop, Token};
 
 // Which nodes may stand in a place.
 #[derive(Clone, Copy)]
@@ -31,7 +31,7 @@ struct Named {
     anchor: Option<Anchor>,
     tag: Option<Tag>,
     start: Mark,
-    end: Mark,
+    end: u64,
 }
 
 impl Named {
@@ -41,7 +41,7 @@ impl Named {
             anchor: None,
             tag: None,
             start: mark,
-            end: mark,
+            end: mark.index(),
         }
     }
 
@@ -53,21 +53,15 @@ impl Named {
         self.anchor.is_none() && self.tag.is_none()
     }
 
-    // Where the node begins: where its anchor or its tag does, or else its text, which begins here.
+    // How many bytes of the node stand before its text, which begins at this index.
     #[inline(always)]
-    fn start_before(&self, text: Mark) -> Mark {
-        if self.is_alone() { text } else { self.start }
-    }
-
-    // How many bytes of the node stand before its text, which begins here.
-    #[inline(always)]
-    fn len_before(&self, text: Mark) -> usize
+    fn len_before(&self, text: u64) -> usize
         ensures { self.now.anchor ≡ None → self.now.tag ≡ None → result ≡ 0 }
     {
         if self.is_alone() {
             0
         } else {
-            text.index().saturating_sub(self.start.index()) as usize
+            text.saturating_sub(self.start.index()) as usize
         }
     }
 }
@@ -78,6 +72,20 @@ fn text_in(source: &[u8], front: usize) -> &[u8]
     ensures { result.now ≡ drop (min front (length source.now)) source.now }
 {
     &source[front.min(source.len())..]
+}
+
+// The place behind an indicator, which stands in one line.
+fn mark_behind(indicator: &Span) -> Mark {
+    let start = indicator.start;
+    let len = indicator.end.saturating_sub(start.index());
+    match Mark::new(
+        indicator.end,
+        start.line(),
+        start.column().saturating_add(len),
+    ) {
+        Some(mark) => mark,
+        None => start,
+    }
 }
 
 impl<'a> Machine<'a> {
@@ -148,7 +156,9 @@ impl<'a> Machine<'a> {
     }
 
     // What stands before a node, with its tag resolved.
-    fn named(&self, properties: Properties) -> Result<Named, Stop> {
+    fn named(&mut self, properties: Properties) -> Result<Named, Stop>
+        ensures { self.new.stream.text.now ≡ self.old.stream.text.now }
+    {
         let Properties {
             anchor,
             tag,
@@ -166,20 +176,23 @@ impl<'a> Machine<'a> {
     }
 
     // The tag of a node, which begins at `start`.
-    fn tag(&self, tag: Option<WrittenTag>, start: Mark) -> Result<Option<Tag>, Stop> {
+    fn tag(&mut self, tag: Option<WrittenTag>, start: Mark) -> Result<Option<Tag>, Stop>
+        ensures { self.new.stream.text.now ≡ self.old.stream.text.now }
+    {
         let Some(written) = tag else {
             return Ok(None);
         };
         let mark = written.mark;
         match resolve(self.alloc, self.handles.as_slice(), written)? {
             Some(tag) => Ok(Some(tag)),
-            None => Err(fault_in(
-                self.alloc,
-                Context::ParsingANode,
-                start,
-                Problem::FoundUndefinedTagHandle,
-                mark,
-            )),
+            None => Err(
+                self.stream.stop(fault_in(
+                    Context::ParsingANode,
+                    start,
+                    Problem::FoundUndefinedTagHandle,
+                    mark,
+                )),
+            ),
         }
     }
 
@@ -200,7 +213,7 @@ impl<'a> Machine<'a> {
                 Ok(false)
             }
             Token::Plain => {
-                self.plain(named, at)?;
+                self.plain(named, at.start.index(), at.end)?;
                 Ok(true)
             }
             Token::Scalar { value, style } => {
@@ -237,33 +250,35 @@ impl<'a> Machine<'a> {
                 Nodes::Flow => Context::ParsingAFlowNode,
                 Nodes::Block | Nodes::Indentless => Context::ParsingABlockNode,
             };
-            return Err(fault_in(
-                self.alloc,
-                context,
-                named.start,
-                Problem::DidNotFindExpectedNodeContent,
-                mark,
-            ));
+            return Err(
+                self.stream.stop(fault_in(
+                    context,
+                    named.start,
+                    Problem::DidNotFindExpectedNodeContent,
+                    mark,
+                )),
+            );
         }
-        let end = Span {
-            start: named.end,
-            end: named.end,
-        };
-        self.plain(named, &end)?;
+        let end = named.end;
+        self.plain(named, end, end)?;
         Ok(false)
     }
 
-    // A plain scalar, whose text stands here.
+    // A plain scalar, whose text begins and ends at these indexes.
     #[tactic(auto, using(crate::proofs::PlainTexts::says))]
     #[inline(always)]
-    fn plain(&mut self, named: Named, text: &Span) -> Result<(), Stop>
+    fn plain(&mut self, named: Named, begin: u64, end: u64) -> Result<(), Stop>
         ensures { self.new.stream.text.now ≡ self.old.stream.text.now }
     {
-        let start = named.start_before(text.start);
-        let front = named.len_before(text.start);
-        let source = self.stream.source(start, text.end)?;
+        let front = named.len_before(begin);
+        let Named {
+            anchor,
+            tag,
+            start,
+            ..
+        } = named;
+        let source = self.stream.source(start, end)?;
         let value = plain_text(self.alloc, text_in(source, front))?;
-        let Named { anchor, tag, .. } = named;
         let scalar = Scalar {
             anchor,
             tag,
@@ -280,7 +295,7 @@ impl<'a> Machine<'a> {
         named: Named,
         value: Vec<u8>,
         style: ScalarStyle,
-        end: Mark,
+        end: u64,
     ) -> Result<(), Stop>
         requires { style ≢ written.Plain }
         ensures { self.new.stream.text.now ≡ self.old.stream.text.now }
@@ -306,12 +321,15 @@ impl<'a> Machine<'a> {
     pub(crate) fn nothing(&mut self, mark: Mark) -> Result<bool, Stop>
         ensures { self.new.stream.text.now ≡ self.old.stream.text.now }
     {
-        let here = Span {
-            start: mark,
-            end: mark,
-        };
-        self.plain(Named::alone(mark), &here)?;
+        self.plain(Named::alone(mark), mark.index(), mark.index())?;
         Ok(false)
+    }
+
+    // An empty scalar behind an indicator, with nothing of its own.
+    pub(crate) fn nothing_behind(&mut self, indicator: &Span) -> Result<bool, Stop>
+        ensures { self.new.stream.text.now ≡ self.old.stream.text.now }
+    {
+        self.nothing(mark_behind(indicator))
     }
 
     // The start of a sequence that waits for `first`.

@@ -16,7 +16,7 @@ use crate::fault::{kind_of, no_end, owned};
 use crate::machine::Machine;
 use std::alloc::{AllocError, Global};
 use yaml_base::{Event, Mark, ParserFault};
-use yaml_token::{Fault, Placed, Stop};
+use yaml_token::{Fault, Finding, Placed, Stop};
 
 /// The events of a text, up to its end or its first fault.
 #[derive(Drop)]
@@ -39,13 +39,13 @@ fn start_mark() -> Mark
     }
 }
 
-// The fault at which the parser stops, where memory did not run out.
-fn own_fault(stop: Stop) -> Result<Fault, AllocError>
+// The fault of the parser by what it found; where it stopped and found nothing, memory ran out.
+fn own_fault(found: Option<Finding>) -> Result<Fault, AllocError>
     ensures { IfOk result (λ own. own.kind ≢ kind.Reader) }
 {
-    match stop {
-        Stop::Memory => Err(AllocError),
-        Stop::Fault(own) => Ok(own.found_by(kind_of(own.problem))),
+    match found {
+        Some(own) => Ok(own.found_by(kind_of(own.problem))),
+        None => Err(AllocError),
     }
 }
 
@@ -69,7 +69,7 @@ impl<'a> Parser<'a> {
         let mut machine = Machine::new(alloc, text, start_mark());
         let own = match machine.stream.begin_stream(start_mark()) {
             Ok(()) => None,
-            Err(stop) => Some(own_fault(stop)?),
+            Err(Stop) => Some(own_fault(machine.stream.found())?),
         };
         Ok(Parser { text, machine, own })
     }
@@ -84,8 +84,8 @@ impl<'a> Parser<'a> {
         }
         match self.machine.take(placed) {
             Ok(()) => Ok(true),
-            Err(stop) => {
-                self.own = Some(own_fault(stop)?);
+            Err(Stop) => {
+                self.own = Some(own_fault(self.machine.stream.found())?);
                 Ok(false)
             }
         }
@@ -95,6 +95,7 @@ impl<'a> Parser<'a> {
     /// with this fault behind them, if there is one. Tokens that neither end nor have a fault give a fault of kind
     /// `Other`. The only error is want of memory.
     pub fn finish(self, alloc: Global, fault: Option<Fault>) -> Result<Parsed<'a>, AllocError>
+        ensures kept { IfOk result (λ parsed. parsed.events.items ≡ self.entry.machine.stream.events.items) }
         ensures taken { IfOk result (λ parsed.
             IsWellFormed (is_some parsed.fault) (plain_events parsed.events.items)) }
         ensures sources { IfOk result (λ parsed. AreShown self.entry.text.now parsed.events.items) }

@@ -1,6 +1,6 @@
 //! Where the bytes of a text stand: in which line, and at which column of it.
 
-ghost use Rattle.std.specs.Prelude.{◌≡◌, ◌<◌, ◌≤◌, length};
+ghost use Rattle.std.specs.Prelude.{◌≡◌, ◌<◌, ◌≤◌, false, length, true};
 ghost use Rattle.yaml_parse.specs.Places.{IsInPlace, begins_character, ends_line, place_of};
 
 use yaml_base::Mark;
@@ -12,13 +12,22 @@ fn ends_line(text: &[u8], at: usize) -> bool
     ensures { result ≡ ends_line text.now at }
 {
     match text[at] {
-        b' '..=b'~' => false,
         b'\n' => true,
         b'\r' => at + 1 == text.len() || text[at + 1] != b'\n',
         0x85 => at >= 1 && text[at - 1] == 0xC2,
         0xA8 | 0xA9 => at >= 2 && text[at - 1] == 0x80 && text[at - 2] == 0xE2,
         _ => false,
     }
+}
+
+// Whether the byte at this index is a character of ASCII that is printed: it ends no line, and takes a column.
+#[inline(always)]
+fn is_printed(text: &[u8], at: usize) -> bool
+    requires { at < length text.now }
+    ensures goes_on { result ≡ true → ends_line text.now at ≡ false }
+    ensures counts { result ≡ true → begins_character text.now at ≡ true }
+{
+    matches!(text[at], b' '..=b'~')
 }
 
 // Whether a character that counts begins with the byte at this index.
@@ -45,7 +54,9 @@ pub(crate) fn mark_at(text: &[u8], from: Mark, index: u64) -> Mark
     let mut line = from.line();
     let mut column = from.column();
     for at in from.index() as usize..index as usize {
-        if ends_line(text, at) {
+        if is_printed(text, at) {
+            column += 1;
+        } else if ends_line(text, at) {
             line += 1;
             column = 0;
         } else if begins_character(text, at) {

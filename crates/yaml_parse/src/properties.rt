@@ -21,7 +21,8 @@ pub(crate) struct Properties {
     // Where the first of them begins, or else the node.
     pub(crate) start: Mark,
     // Where the last of them ends, or else the node begins.
-    pub(crate) end: Mark,
+    // The index.
+    pub(crate) end: u64,
 }
 
 impl Properties {
@@ -31,7 +32,7 @@ impl Properties {
             anchor: None,
             tag: None,
             start: mark,
-            end: mark,
+            end: mark.index(),
         }
     }
 }

@@ -19,13 +19,11 @@ use crate::frame::{Frame, Phase, behind, is_key, is_same, is_sequence};
 use crate::place::{mark_at, mark_of_event};
 use std::alloc::Global;
 use yaml_base::{Anchor, Event, MappingStart, Mark, Scalar, SequenceStart};
-use yaml_token::Stop;
+use yaml_token::{Finding, Stop};
 
 // Events that are a beginning of a stream, always.
 #[derive(Drop)]
 pub(crate) struct Stream<'a> {
-    // Where faults find memory.
-    alloc: Global,
     text: &'a [u8],
     events: Vec<(Event<'a>, Mark)>,
     phase: Phase,
@@ -35,6 +33,8 @@ pub(crate) struct Stream<'a> {
     outer: Vec<(Frame, Mark)>,
     // The place in the text where the last event begins.
     reached: Mark,
+    // What is wrong with the text, if that was found.
+    found: Option<Finding>,
     ghost ran: { run (Some before_stream) (plain_events events.items) ≡ Some (state_of phase outer.items) } by { Prim.hlevel props },
     ghost shown: { AreShown text.now events.items } by { Prim.hlevel props },
     ghost plain: { SaySources events.items } by { Prim.hlevel props },
@@ -51,13 +51,13 @@ impl<'a> Stream<'a> {
         ensures { result.text.now ≡ text.now }
     {
         Stream {
-            alloc,
             text,
             events: Vec::new(alloc),
             phase: Phase::Before,
             opened: start,
             outer: Vec::new(alloc),
             reached: start,
+            found: None,
         }
     }
 
@@ -73,17 +73,31 @@ impl<'a> Stream<'a> {
         self.opened
     }
 
-    // The bytes of the text from a mark on up to another one, if the first lies in the text.
+    // What is wrong with the text, if that was found.
+    pub(crate) fn found(&self) -> Option<Finding> {
+        self.found
+    }
+
+    // Keeps what was found.
+    pub(crate) fn stop(&mut self, found: Finding) -> Stop
+        ensures { self.new.text.now ≡ self.old.text.now }
+    {
+        self.found = Some(found);
+        Stop
+    }
+
+    // The bytes of the text from a mark on up to an index, if the mark lies in the text.
     #[inline(always)]
-    pub(crate) fn source(&self, start: Mark, end: Mark) -> Result<&'a [u8], Stop>
-        ensures { IfOk result (λ bytes. StandsAt self.now.text.now start.index bytes.now) }
+    pub(crate) fn source(&mut self, start: Mark, end: u64) -> Result<&'a [u8], Stop>
+        ensures text { self.new.text.now ≡ self.old.text.now }
+        ensures source { IfOk result (λ bytes. StandsAt self.old.text.now start.index bytes.now) }
     {
         let text = self.text;
         if start.index() > text.len() as u64 {
-            return Err(misplaced(self.alloc, start));
+            return Err(self.stop(misplaced(start)));
         }
         let from = start.index() as usize;
-        let to = (end.index() as usize).min(text.len()).max(from);
+        let to = (end as usize).min(text.len()).max(from);
         Ok(&text[from..to])
     }
 
@@ -98,6 +112,7 @@ impl<'a> Stream<'a> {
     #[tactic(auto, using(crate::proofs::Streams::whole_of))]
     pub(crate) fn into_whole(self) -> Vec<(Event<'a>, Mark)>
         requires { is_done self.phase ≡ true }
+        ensures kept { result.items ≡ self.entry.events.items }
         ensures whole { IsStream (plain_events result.items) }
         ensures shown { AreShown self.entry.text.now result.items }
         ensures plain { SaySources result.items }
@@ -111,6 +126,7 @@ impl<'a> Stream<'a> {
     #[tactic(auto, using(crate::proofs::Streams::cut_of))]
     pub(crate) fn into_cut(self) -> Vec<(Event<'a>, Mark)>
         requires { is_done self.phase ≡ false }
+        ensures kept { result.items ≡ self.entry.events.items }
         ensures cut { IsWellFormed true (plain_events result.items) }
         ensures shown { AreShown self.entry.text.now result.items }
         ensures plain { SaySources result.items }
@@ -135,9 +151,12 @@ impl<'a> Stream<'a> {
         ensures place { IfOk result (λ mark. IsInPlace self.new.text.now mark) }
     {
         if said.index() < self.reached.index() || said.index() > self.text.len() as u64 {
-            return Err(misplaced(self.alloc, said));
+            self.found = Some(misplaced(said));
+            return Err(Stop);
         }
-        self.reached = mark_at(self.text, self.reached, said.index());
+        if said.index() != self.reached.index() {
+            self.reached = mark_at(self.text, self.reached, said.index());
+        }
         Ok(mark_of_event(self.text, self.reached, said))
     }
 
@@ -163,7 +182,7 @@ impl<'a> Stream<'a> {
     {
         match self.phase {
             Phase::Before => self.add(Event::StreamStart, mark, Phase::First),
-            _ => Err(misplaced(self.alloc, mark)),
+            _ => Err(self.stop(misplaced(mark))),
         }
     }
 
@@ -173,7 +192,7 @@ impl<'a> Stream<'a> {
     {
         match self.phase {
             Phase::First | Phase::Next => self.add(Event::StreamEnd, mark, Phase::After),
-            _ => Err(misplaced(self.alloc, mark)),
+            _ => Err(self.stop(misplaced(mark))),
         }
     }
 
@@ -196,7 +215,7 @@ impl<'a> Stream<'a> {
             Phase::First | Phase::Next | Phase::Directives => {
                 self.add(Event::DocumentStart, mark, phase)
             }
-            _ => Err(misplaced(self.alloc, mark)),
+            _ => Err(self.stop(misplaced(mark))),
         }
     }
 
@@ -206,7 +225,7 @@ impl<'a> Stream<'a> {
     {
         match self.phase {
             Phase::Ended => self.add(Event::DocumentEnd, mark, Phase::Next),
-            _ => Err(misplaced(self.alloc, mark)),
+            _ => Err(self.stop(misplaced(mark))),
         }
     }
 
@@ -225,7 +244,7 @@ impl<'a> Stream<'a> {
                 mark,
                 Phase::Within(behind(frame)),
             ),
-            _ => Err(misplaced(self.alloc, mark)),
+            _ => Err(self.stop(misplaced(mark))),
         }
     }
 
@@ -241,7 +260,7 @@ impl<'a> Stream<'a> {
                 mark,
                 Phase::Within(behind(frame)),
             ),
-            _ => Err(misplaced(self.alloc, mark)),
+            _ => Err(self.stop(misplaced(mark))),
         }
     }
 
@@ -296,6 +315,7 @@ impl<'a> Stream<'a> {
 
     // The start of a sequence.
     #[tactic(auto, using(crate::proofs::Streams::begins_sequence))]
+    #[inline(always)]
     pub(crate) fn begin_sequence(
         &mut self,
         sequence: SequenceStart,
@@ -310,12 +330,13 @@ impl<'a> Stream<'a> {
         match self.phase {
             Phase::Root | Phase::Content => self.open_root(event, mark, first, start),
             Phase::Within(frame) => self.open_inner(event, mark, behind(frame), first, start),
-            _ => Err(misplaced(self.alloc, mark)),
+            _ => Err(self.stop(misplaced(mark))),
         }
     }
 
     // The start of a mapping.
     #[tactic(auto, using(crate::proofs::Streams::begins_mapping))]
+    #[inline(always)]
     pub(crate) fn begin_mapping(
         &mut self,
         mapping: MappingStart,
@@ -330,7 +351,7 @@ impl<'a> Stream<'a> {
         match self.phase {
             Phase::Root | Phase::Content => self.open_root(event, mark, first, start),
             Phase::Within(frame) => self.open_inner(event, mark, behind(frame), first, start),
-            _ => Err(misplaced(self.alloc, mark)),
+            _ => Err(self.stop(misplaced(mark))),
         }
     }
 
@@ -365,7 +386,7 @@ impl<'a> Stream<'a> {
     {
         match self.phase {
             Phase::Within(frame) if is_sequence(frame) => self.close(Event::SequenceEnd, mark),
-            _ => Err(misplaced(self.alloc, mark)),
+            _ => Err(self.stop(misplaced(mark))),
         }
     }
 
@@ -376,7 +397,7 @@ impl<'a> Stream<'a> {
     {
         match self.phase {
             Phase::Within(frame) if is_key(frame) => self.close(Event::MappingEnd, mark),
-            _ => Err(misplaced(self.alloc, mark)),
+            _ => Err(self.stop(misplaced(mark))),
         }
     }
 

@@ -20,7 +20,7 @@ enum Chomping {
 #[derive(Drop)]
 pub(crate) struct Block {
     pub(crate) text: Vec<u8>,
-    pub(crate) end: Mark,
+    pub(crate) end: u64,
 }
 
 // What stands behind `|` or `>`: what is done with the last line breaks, and the indentation, or 0 if none is asked.
@@ -77,7 +77,7 @@ fn read_header(cursor: &mut Cursor<'_>, start: Mark) -> Result<Header, Stop> {
 #[derive(Drop)]
 struct Lines {
     start: Mark,
-    end: Mark,
+    end: u64,
     // The column of the lines, or 0 while it is not known.
     indent: usize,
     text: Vec<u8>,
@@ -109,7 +109,7 @@ impl Lines {
     // not known is told by the widest of them and the least that may be.
     fn read_breaks(&mut self, cursor: &mut Cursor<'_>, least: usize) -> Result<(), Stop> {
         let mut widest = 0;
-        self.end = cursor.mark();
+        self.end = cursor.index();
         for _ in 0..cursor.left() {
             self.skip_indentation(cursor);
             widest = cursor.column().max(widest);
@@ -121,7 +121,7 @@ impl Lines {
                 break;
             }
             cursor.read_line(&mut self.rest)?;
-            self.end = cursor.mark();
+            self.end = cursor.index();
         }
         if self.indent == 0 {
             self.indent = widest.max(least).max(1);
@@ -194,7 +194,7 @@ pub(crate) fn scan_block(
     };
     let mut lines = Lines {
         start,
-        end: start,
+        end: start.index(),
         indent,
         text: Vec::new(alloc),
         first: Vec::new(alloc),

@@ -1,6 +1,6 @@
 //! What single bytes mean.
 
-ghost use Rattle.std.specs.Prelude.{◌≡◌, ◌≤◌, length};
+ghost use Rattle.std.specs.Prelude.{◌≡◌, ◌-◌, ◌≤◌, length};
 
 // Bytes that end no line: how many they are, and how many characters begin among them.
 #[derive(Clone, Copy)]
@@ -8,6 +8,18 @@ pub(crate) struct Part {
     pub(crate) bytes: usize,
     pub(crate) characters: usize,
     ghost fewer: { characters ≤ bytes },
+}
+
+impl Part {
+    // The same but for so many bytes at the end, each a character.
+    pub(crate) fn without(self, count: usize) -> Part
+        ensures { result.bytes ≡ self.bytes - count }
+    {
+        Part {
+            bytes: self.bytes.saturating_sub(count),
+            characters: self.characters.saturating_sub(count),
+        }
+    }
 }
 
 // Runs of bytes that stand for themselves, up to a byte that may not.
@@ -49,8 +61,8 @@ impl Run {
             Run::Flow => {
                 may_break(byte) || is_blank(byte) || byte == b':' || is_flow_indicator(byte)
             }
-            Run::Single => may_break(byte) || is_blank(byte) || byte == b'\'',
-            Run::Double => may_break(byte) || is_blank(byte) || byte == b'"' || byte == b'\\',
+            Run::Single => may_break(byte) || byte == b'\'',
+            Run::Double => may_break(byte) || byte == b'"' || byte == b'\\',
         }
     }
 
@@ -83,6 +95,18 @@ fn part_before(bytes: &[u8], count: usize, seen: u8) -> Part
         bytes: count,
         characters,
     }
+}
+
+// How many blanks end the bytes.
+pub(crate) fn blanks_at_end(bytes: &[u8]) -> usize
+    ensures { result ≤ length bytes.now }
+{
+    for count in 0..bytes.len() {
+        if !is_blank(bytes[bytes.len() - 1 - count]) {
+            return count;
+        }
+    }
+    bytes.len()
 }
 
 // How many characters begin among the bytes.

@@ -6,20 +6,18 @@ mod look;
 mod report;
 mod step;
 
-use std::alloc::Global;
 use yaml_base::Mark;
+use yaml_token::Finding;
 
 // A place in a text, with its line and its column, which counts characters, each from 0.
 #[derive(Drop)]
 pub(crate) struct Cursor<'a> {
-    // Where faults find memory.
-    alloc: Global,
     text: &'a [u8],
     at: usize,
     line: usize,
     column: usize,
-    // Whether the last line counts as ended, though no line break stands there.
-    ended: bool,
+    // What is wrong with the text, if that was found.
+    found: Option<Finding>,
     ghost inside: { at ≤ length text.now },
     ghost counted: { line + column ≤ at },
 }
@@ -37,14 +35,13 @@ fn order_mark_len(text: &[u8]) -> usize
 
 impl<'a> Cursor<'a> {
     // The start of a text, behind its mark of the order of bytes.
-    pub(crate) fn new(alloc: Global, text: &'a [u8]) -> Cursor<'a> {
+    pub(crate) fn new(text: &'a [u8]) -> Cursor<'a> {
         Cursor {
-            alloc,
             text,
             at: order_mark_len(text),
             line: 0,
             column: 0,
-            ended: false,
+            found: None,
         }
     }
 
@@ -52,6 +49,12 @@ impl<'a> Cursor<'a> {
     #[inline(always)]
     pub(crate) fn at(&self) -> usize {
         self.at
+    }
+
+    // The index of this place.
+    #[inline(always)]
+    pub(crate) fn index(&self) -> u64 {
+        self.at as u64
     }
 
     // How many bytes are left.
@@ -66,27 +69,20 @@ impl<'a> Cursor<'a> {
         self.at == self.text.len()
     }
 
-    // Counts the last line as ended. Called where the text ends.
+    // Counts the last line as ended, though no line break stands there. Called where the text ends.
     pub(crate) fn end_line(&mut self) {
-        self.ended = true;
-    }
-
-    // Whether the last line ended with no line break.
-    #[inline(always)]
-    fn is_behind_last(&self) -> bool {
-        self.ended && self.column != 0
+        if self.column != 0 {
+            self.line += 1;
+            self.column = 0;
+        }
     }
 
     // The line, counted from 0.
     #[inline(always)]
     pub(crate) fn line(&self) -> usize
-        ensures { result ≤ self.now.at + 1 }
+        ensures { result ≤ self.now.at }
     {
-        if self.is_behind_last() {
-            self.line + 1
-        } else {
-            self.line
-        }
+        self.line
     }
 
     // The column in characters, counted from 0.
@@ -94,11 +90,7 @@ impl<'a> Cursor<'a> {
     pub(crate) fn column(&self) -> usize
         ensures { result ≤ self.now.at }
     {
-        if self.is_behind_last() {
-            0
-        } else {
-            self.column
-        }
+        self.column
     }
 
     // The mark of this place.

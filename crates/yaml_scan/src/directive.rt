@@ -20,7 +20,7 @@ const MOST_DIGITS: usize = 9;
 #[derive(Drop)]
 pub(crate) struct Directive {
     pub(crate) token: Token,
-    pub(crate) end: Mark,
+    pub(crate) end: u64,
 }
 
 // Reads a number of a version.
@@ -100,7 +100,7 @@ pub(crate) fn scan_directive(alloc: Global, cursor: &mut Cursor<'_>) -> Result<D
     } else {
         return Err(cursor.fault(DIRECTIVE, start, Problem::FoundUnknownDirectiveName));
     };
-    let end = cursor.mark();
+    let end = cursor.index();
     cursor.skip_blanks();
     cursor.skip_comment();
     if !cursor.is_break_or_end(0) {

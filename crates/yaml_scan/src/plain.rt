@@ -8,14 +8,14 @@ use yaml_token::{Context, Problem, Stop};
 // The end of a plain scalar, and whether a line break follows it.
 #[derive(Clone, Copy)]
 pub(crate) struct Plain {
-    pub(crate) end: Mark,
+    pub(crate) end: u64,
     pub(crate) broken: bool,
 }
 
 const CONTEXT: Context = Context::ScanningAPlainScalar;
 
 // Whether the scalar ends here, within brackets or outside.
-fn is_over(cursor: &Cursor<'_>, flow: bool, start: Mark) -> Result<bool, Stop> {
+fn is_over(cursor: &mut Cursor<'_>, flow: bool, start: Mark) -> Result<bool, Stop> {
     let byte = cursor.byte(0);
     if byte == b':' {
         let next = cursor.byte(1);
@@ -88,7 +88,7 @@ pub(crate) fn scan_plain(
 ) -> Result<Plain, Stop> {
     let start = cursor.mark();
     let mut plain = Plain {
-        end: start,
+        end: start.index(),
         broken: false,
     };
     for _ in 0..cursor.left() {
@@ -97,7 +97,7 @@ pub(crate) fn scan_plain(
         }
         if skip_part(cursor, flow, start)? {
             plain = Plain {
-                end: cursor.mark(),
+                end: cursor.index(),
                 broken: false,
             };
         }

@@ -35,7 +35,8 @@ impl Quote {
     }
 }
 
-// Reads up to the next blank or the closing quote, and tells whether an escaped line break ended it.
+// Reads up to the closing quote or the end of a line, whose last blanks stay, and tells whether an escaped line break
+// ended it.
 fn read_part(
     cursor: &mut Cursor<'_>,
     start: Mark,
@@ -43,7 +44,7 @@ fn read_part(
     out: &mut Vec<u8>,
 ) -> Result<bool, Stop> {
     for _ in 0..cursor.left() {
-        if cursor.is_blank_or_end(0) {
+        if cursor.is_break_or_end(0) {
             break;
         }
         let byte = cursor.byte(0);
@@ -59,8 +60,8 @@ fn read_part(
                 return Ok(true);
             }
             read_escape(cursor, start, out)?;
-        } else {
-            cursor.read_run(quote.run(), out)?;
+        } else if !cursor.read_quoted(quote.run(), out)? {
+            break;
         }
     }
     Ok(false)
@@ -86,9 +87,6 @@ pub(crate) fn scan_quoted(
         if cursor.byte(0) == quote.byte() {
             cursor.skip();
             return Ok(text);
-        }
-        if !broken && cursor.read_inner_blanks(&mut text)? {
-            continue;
         }
         let mut fold = Fold::new(alloc, broken);
         take_blanks(cursor, &mut fold)?;

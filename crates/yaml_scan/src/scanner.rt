@@ -11,7 +11,7 @@ pub(crate) use next::More;
 use std::alloc::{AllocError, Global};
 use std::collections::VecDeque;
 use yaml_base::Mark;
-use yaml_token::{Context, Lead, Placed, Problem, Stop, Token};
+use yaml_token::{Context, Finding, Lead, Placed, Problem, Span, Stop, Token};
 
 // A scanner amid a text.
 #[derive(Drop)]
@@ -32,7 +32,7 @@ pub(crate) struct Scanner<'a> {
 impl<'a> Scanner<'a> {
     // A scanner at the start of a text.
     pub(crate) fn new(alloc: Global, text: &'a [u8]) -> Result<Scanner<'a>, AllocError> {
-        let cursor = Cursor::new(alloc, text);
+        let cursor = Cursor::new(text);
         let candidates = Candidates::new(alloc)?;
         Ok(Scanner {
             alloc,
@@ -43,6 +43,11 @@ impl<'a> Scanner<'a> {
             candidates,
             key_allowed: true,
         })
+    }
+
+    // What is wrong with the text, if that was found.
+    pub(crate) fn found(&self) -> Option<Finding> {
+        self.cursor.found()
     }
 
     // How many of the tokens that wait can't change any more: those before the first that may be a key.
@@ -81,13 +86,14 @@ impl<'a> Scanner<'a> {
 
     // Adds a token.
     #[inline(always)]
-    fn put(&mut self, token: Token, start: Mark, end: Mark) -> Result<(), Stop> {
-        self.tokens.reserve(1)?;
+    fn put(&mut self, token: Token, start: Mark, end: u64) -> Result<(), Stop> {
+        if self.tokens.len() == self.tokens.capacity() {
+            self.tokens.reserve(1)?;
+        }
         self.tokens.push_back_reserved(Placed {
             lead: Lead::Nothing,
             token,
-            start,
-            end,
+            span: Span { start, end },
         });
         Ok(())
     }
@@ -95,7 +101,7 @@ impl<'a> Scanner<'a> {
     // Adds a token that ends here.
     #[inline(always)]
     fn put_here(&mut self, token: Token, start: Mark) -> Result<(), Stop> {
-        let end = self.cursor.mark();
+        let end = self.cursor.index();
         self.put(token, start, end)
     }
 
@@ -103,7 +109,7 @@ impl<'a> Scanner<'a> {
     #[inline(always)]
     fn put_empty(&mut self, token: Token) -> Result<(), Stop> {
         let mark = self.cursor.mark();
-        self.put(token, mark, mark)
+        self.put(token, mark, mark.index())
     }
 
     // Steps over a character, and adds it as a token.
@@ -115,7 +121,7 @@ impl<'a> Scanner<'a> {
     }
 
     // The fault of a key that has no `:`.
-    fn no_colon(&self, candidate: Candidate) -> Stop {
+    fn no_colon(&mut self, candidate: Candidate) -> Stop {
         let problem = Problem::CouldNotFindExpectedColon;
         self.cursor
             .fault(Context::ScanningASimpleKey, candidate.mark, problem)

@@ -42,11 +42,13 @@ impl<'a> Tokens<'a> {
     {
         match self.scanner.advance(&mut self.ready) {
             Ok(more) => Ok(more == More::Yes),
-            Err(Stop::Memory) => Err(AllocError),
-            Err(Stop::Fault(finding)) => {
-                self.fault = Some(finding.found_by(FaultKind::Scanner));
-                Ok(false)
-            }
+            Err(Stop) => match self.scanner.found() {
+                Some(finding) => {
+                    self.fault = Some(finding.found_by(FaultKind::Scanner));
+                    Ok(false)
+                }
+                None => Err(AllocError),
+            },
         }
     }
 

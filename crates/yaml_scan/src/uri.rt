@@ -53,7 +53,7 @@ fn octet_count(octet: u8) -> usize {
 }
 
 // The octet that `%` and two digits stand for here.
-fn octet_at(cursor: &Cursor<'_>, place: Place, start: Mark) -> Result<u8, Stop> {
+fn octet_at(cursor: &mut Cursor<'_>, place: Place, start: Mark) -> Result<u8, Stop> {
     let Some(octet) = escaped_octet(cursor) else {
         let problem = Problem::DidNotFindUriEscapedOctet;
         return Err(cursor.fault(place.context(), start, problem));

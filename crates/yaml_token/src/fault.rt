@@ -4,7 +4,7 @@ ghost use Rattle.std.specs.Prelude.{◌≡◌};
 
 use crate::context::Context;
 use crate::problem::Problem;
-use std::alloc::{AllocError, AllocFailed, Global};
+use std::alloc::{AllocError, AllocFailed};
 use yaml_base::{FaultKind, Mark};
 
 /// What is wrong with a text: a problem at a mark, and what was being read there, with the mark where that began.
@@ -61,33 +61,19 @@ impl Finding {
     }
 }
 
-/// Why reading stopped.
-#[derive(Drop)]
-pub enum Stop {
-    /// Memory ran out.
-    Memory,
-    /// The text is wrong. What was found has memory of its own, so that a result with a `Stop` is small.
-    Fault(Box<Finding>),
-}
-
-impl Stop {
-    /// The end of reading at what was found. Where there is no memory for it, that is why reading stops.
-    pub fn at(alloc: Global, finding: Finding) -> Stop {
-        match Box::new(alloc, finding) {
-            Ok(finding) => Stop::Fault(finding),
-            Err(_) => Stop::Memory,
-        }
-    }
-}
+/// Reading stopped: the text is wrong, and whoever reads keeps what was found; or else memory ran out. It says no more, so
+/// that a result with a `Stop` is small.
+#[derive(Clone, Copy, PartialEq, Eq)]
+pub struct Stop;
 
 impl From<AllocError> for Stop {
     fn from(_: AllocError) -> Stop {
-        Stop::Memory
+        Stop
     }
 }
 
 impl<T: Drop> From<AllocFailed<T>> for Stop {
     fn from(_: AllocFailed<T>) -> Stop {
-        Stop::Memory
+        Stop
     }
 }

@@ -9,4 +9,4 @@ mod token;
 pub use context::Context;
 pub use fault::{Fault, Finding, Stop};
 pub use problem::Problem;
-pub use token::{Lead, MarkedStyle, Placed, Token};
+pub use token::{Lead, MarkedStyle, Placed, Span, Token};

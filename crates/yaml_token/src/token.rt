@@ -110,15 +110,22 @@ pub enum Lead {
     MappingKey,
 }
 
-/// A token with the marks of its start and its end.
+/// Where a token stands.
+#[derive(Clone, Copy)]
+pub struct Span {
+    /// Where it begins.
+    pub start: Mark,
+    /// Where it ends: the index of the first byte behind it.
+    pub end: u64,
+}
+
+/// A token with its place.
 #[derive(Drop)]
 pub struct Placed {
     /// What stands before the token.
     pub lead: Lead,
     /// The token.
     pub token: Token,
-    /// Where it begins.
-    pub start: Mark,
-    /// Where it ends: the place of the first byte behind it.
-    pub end: Mark,
+    /// Where it stands.
+    pub span: Span,
 }

@@ -5,26 +5,31 @@ use yaml_base::Mark;
 use yaml_token::{Context, Finding, Problem, Stop};
 
 impl Cursor<'_> {
-    // A fault at this place, amid what began at `start`.
-    pub(crate) fn fault(&self, context: Context, start: Mark, problem: Problem) -> Stop {
-        let finding = Finding {
+    // Keeps what is wrong at this place, amid what began at `start`.
+    pub(crate) fn fault(&mut self, context: Context, start: Mark, problem: Problem) -> Stop {
+        self.found = Some(Finding {
             problem,
             mark: self.mark(),
             context: Some(context),
             context_mark: start,
-        };
-        Stop::at(self.alloc, finding)
+        });
+        Stop
     }
 
-    // A fault at this place, with no context.
-    pub(crate) fn bare_fault(&self, problem: Problem) -> Stop {
+    // Keeps what is wrong at this place, with no context.
+    pub(crate) fn bare_fault(&mut self, problem: Problem) -> Stop {
         let mark = self.mark();
-        let finding = Finding {
+        self.found = Some(Finding {
             problem,
             mark,
             context: None,
             context_mark: mark,
-        };
-        Stop::at(self.alloc, finding)
+        });
+        Stop
+    }
+
+    // What is wrong with the text, if that was found.
+    pub(crate) fn found(&self) -> Option<Finding> {
+        self.found
     }
 }

@@ -2,7 +2,7 @@
 
 ghost use Rattle.std.specs.Prelude.{◌-◌, ◌≤◌, length};
 
-use crate::byte::{Part, Run, may_break, spaces_in, word_in};
+use crate::byte::{Part, Run, blanks_at_end, may_break, spaces_in, word_in};
 use crate::cursor::Cursor;
 use std::alloc::AllocError;
 
@@ -114,18 +114,24 @@ impl Cursor<'_> {
         Ok(())
     }
 
-    // Copies the spaces and tabs that stand here if more of the line follows them, and tells whether it did.
-    pub(crate) fn read_inner_blanks(&mut self, out: &mut Vec<u8>) -> Result<bool, AllocError> {
-        let width = spaces_in(&self.text[self.at..], true);
-        let inner = width != 0
-            && width < self.text.len() - self.at
-            && !may_break(self.text[self.at + width]);
-        if inner {
-            out.extend_from_slice(&self.text[self.at..self.at + width])?;
-            self.column += width;
-            self.at += width;
+    // Copies bytes up to the first that ends such a run, or else the character that it is of, and tells whether there was
+    // anything. Blanks stay if a line may end behind them.
+    pub(crate) fn read_quoted(&mut self, run: Run, out: &mut Vec<u8>) -> Result<bool, AllocError> {
+        let rest = &self.text[self.at..];
+        let part = run.part_of(rest);
+        if part.bytes == 0 {
+            self.read(out)?;
+            return Ok(true);
         }
-        Ok(inner)
+        let ends = part.bytes < rest.len() && may_break(rest[part.bytes]);
+        let kept = if ends {
+            part.without(blanks_at_end(&rest[..part.bytes]))
+        } else {
+            part
+        };
+        out.extend_from_slice(&rest[..kept.bytes])?;
+        self.pass(kept);
+        Ok(kept.bytes != 0)
     }
 
     // Copies what may stand in a name.
