@@ -4,12 +4,13 @@ ghost use Rattle.std.specs.Prelude.{◌≡◌, slice_range, IfSome};
 
 use crate::reader::Reader;
 use yaml_base::{Cause, Error, Found, Result};
+use yaml_read::DocEvent;
 
-// The range of the text in the input, if it begins there.
-fn range_at(input: &[u8], from: usize, text: &str) -> Option<(usize, usize)>
+// The range of the text in the input, if it ends there.
+fn range_to(input: &[u8], to: usize, text: &str) -> Option<(usize, usize)>
     ensures { IfSome result (λ r. slice_range input.now r.0 r.1 ≡ text.now) }
 {
-    let to = from.checked_add(text.len())?;
+    let from = to.checked_sub(text.len())?;
     match input.get(from..to) {
         Some(bytes) if bytes == text.as_bytes() => Some((from, to)),
         _ => None,
@@ -17,16 +18,24 @@ fn range_at(input: &[u8], from: usize, text: &str) -> Option<(usize, usize)>
 }
 
 impl<'a, 'de> Reader<'a, 'de> {
-    /// Where the text that the last step read stands in the input, if it stands there as it reads: where the mark is,
-    /// or behind the quote there.
+    // The place behind a scalar's source in the input.
+    fn end_of_source(&self, place: usize) -> Option<usize> {
+        let index = usize::try_from(self.mark_at(place)?.index()).ok()?;
+        match self.event(place)? {
+            DocEvent::Scalar(scalar) => index.checked_add(scalar.repr?.len()),
+            _ => None,
+        }
+    }
+
+    /// Where the text that the last step read stands in the input, if it stands there as it reads: at the end of the
+    /// node's source, behind a tag or an anchor, or before the quote there.
     pub(crate) fn range_in(&self, input: &[u8], text: &str) -> Option<(usize, usize)>
         ensures { IfSome result (λ r. slice_range input.now r.0 r.1 ≡ text.now) }
     {
-        let mark = self.mark_at(self.last.start)?;
-        let index = usize::try_from(mark.index()).ok()?;
-        match range_at(input, index, text) {
+        let end = self.end_of_source(self.last.start)?;
+        match range_to(input, end, text) {
             Some(range) => Some(range),
-            None => range_at(input, index.saturating_add(1), text),
+            None => range_to(input, end.checked_sub(1)?, text),
         }
     }
 

@@ -94,7 +94,7 @@ impl<'a, 'de> Format for Reader<'a, 'de> {
         }
     }
 
-    // A text stands in the input where its mark says, or behind the quote there. It is compared with what was read.
+    // A text stands at the end of its source, or before the quote there. It is compared with what was read.
     #[tactic(auto, using(crate::proofs::StepLaws::took_text))]
     fn plain_str(&mut self, input: &[u8]) -> Result<(usize, usize), Error> {
         match self.leaf(Leaf::Str, Deed::Read)? {

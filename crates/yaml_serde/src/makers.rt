@@ -13,7 +13,6 @@ pub(crate) fn is_fatal(fault: &Error) -> bool {
     matches!(
         fault.cause(),
         Cause::Memory
-            | Cause::EndOfStream
             | Cause::Parser(_)
             | Cause::UnknownAnchor(_)
             | Cause::RecursionLimitExceeded(_)
