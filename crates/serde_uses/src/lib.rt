@@ -2,6 +2,8 @@
 //! `yaml_serde/CALLING.md` quotes.
 #![tactic(auto)]
 
+pub mod readme;
+
 use serde::{Deserialize, Serialize};
 use std::alloc::Global;
 use yaml_serde::{Documents, Error};

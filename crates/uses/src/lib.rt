@@ -3,12 +3,14 @@
 
 mod address;
 mod greeting;
+mod listen;
 mod server;
 mod timeouts;
 mod workers;
 
 pub use address::Address;
 pub use greeting::Greeting;
+pub use listen::Listen;
 pub use server::Server;
 pub use timeouts::Timeouts;
 pub use workers::Workers;

@@ -1,6 +1,6 @@
 //! The types, read from data and written as data.
 
-use crate::{Address, Greeting, Server, Timeouts, Workers};
+use crate::{Address, Greeting, Listen, Server, Timeouts, Workers};
 use std::alloc::Global;
 use std::test::Fail;
 use yaml_shape::{Data, Shape, Text, Typed};
@@ -63,6 +63,50 @@ fn a_strict_struct_has_its_fields_alone(rt: HostRuntime) -> Result<(), Fail> {
     assert_eq!(rt; timeouts.answer, 30);
     let again: Timeouts = read(alloc, timeouts.to_data(alloc)?)??;
     assert!(rt; again == timeouts);
+    Ok(())
+}
+
+// The variant of an enum with this number, and what it holds.
+fn variant<'de>(alloc: Global, place: usize, content: Data<'de>) -> Result<Data<'de>, Fail> {
+    Ok(Data::Variant(place, Box::new(alloc, content)?))
+}
+
+#[test]
+fn a_variant_is_read_by_its_number(rt: HostRuntime) -> Result<(), Fail> {
+    let alloc = rt.alloc();
+    let off: Listen = read(alloc, variant(alloc, 0, Data::Unit)?)??;
+    assert!(rt; off == Listen::Off);
+    let port: Listen = read(alloc, variant(alloc, 1, Data::Unsigned(80))?)??;
+    assert!(rt; port == Listen::Port(80));
+    let at: Listen = read(alloc, variant(alloc, 2, address(alloc)?)?)??;
+    let host = String::from_str(alloc, "localhost")?;
+    assert!(rt; at == Listen::At { host, port: 80 });
+
+    let (schema, id) = <Listen as Deserialize>::schema(alloc)?;
+    for outside in 3..5 {
+        let found = variant(alloc, outside, Data::Unit)?;
+        assert!(rt; Typed::new(&schema, id, &found).is_none());
+    }
+    Ok(())
+}
+
+#[test]
+fn a_variant_is_written_with_its_number(rt: HostRuntime) -> Result<(), Fail> {
+    let alloc = rt.alloc();
+    let host = String::from_str(alloc, "localhost")?;
+    let all = vec![in alloc;
+        Listen::Off,
+        Listen::Port(80),
+        Listen::At { host, port: 80 },
+    ]?;
+    let (schema, id) = <Listen as Serialize>::schema(alloc)?;
+    for i in 0..all.len() {
+        let written = all[i].to_data(alloc)?;
+        assert!(rt; matches!(&written, Data::Variant(place, _) if *place == i));
+        assert!(rt; Typed::new(&schema, id, &written).is_some());
+        let again: Listen = read(alloc, written)??;
+        assert!(rt; again == all[i]);
+    }
     Ok(())
 }
 

@@ -10,7 +10,7 @@ mod handed;
 #[cfg(test)]
 mod loader;
 #[cfg(test)]
-mod readme;
+mod ports;
 #[cfg(test)]
 mod shape;
 #[cfg(test)]

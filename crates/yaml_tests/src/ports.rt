@@ -1,4 +1,4 @@
-//! The example of the README, word for word.
+//! A map of ports, read by its type.
 
 use serde_yaml::{Result, from_str};
 use std::alloc::Global;
