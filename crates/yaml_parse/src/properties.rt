@@ -21,7 +21,6 @@ pub(crate) struct Properties {
     // Where the first of them begins, or else the node.
     pub(crate) start: Mark,
     // Where the last of them ends, or else the node begins.
-    // The index.
     pub(crate) end: u64,
 }
 
