@@ -63,6 +63,3 @@ pub fn longest_name<'a>(alloc: Global, text: &'a str) -> Result<&'a str, Error> 
     }
     Ok(longest)
 }
-
-#[cfg(test)]
-mod tests;

@@ -1,0 +1,61 @@
+//! What is read of a text, as it is written.
+
+use serde::{Deserialize, DeserializeOwned, Serialize};
+use std::alloc::Global;
+use yaml_emit::emit;
+use yaml_serde::{Documents, Error, from_events, from_slice, from_str, to_events, to_string};
+use yaml_text::{Parsed, parse};
+
+/// What `from_str` reads, as `to_string` writes it.
+pub fn answer<'a, T: Deserialize<'a> + Serialize>(
+    alloc: Global,
+    text: &'a str,
+) -> Result<String, Error> {
+    let value: T = from_str(alloc, text)?;
+    to_string(alloc, &value)
+}
+
+/// The same by `from_slice`.
+pub fn answer_of_slice<'a, T: Deserialize<'a> + Serialize>(
+    alloc: Global,
+    text: &'a str,
+) -> Result<String, Error> {
+    let value: T = from_slice(alloc, text.as_bytes())?;
+    to_string(alloc, &value)
+}
+
+/// What `from_events` reads of the text's events, as the emitter prints the events that `to_events` writes.
+pub fn answer_of_events<T: DeserializeOwned + Serialize + Drop>(
+    alloc: Global,
+    text: &str,
+) -> Result<String, Error> {
+    let Parsed { events, fault, .. } = parse(alloc, text.as_bytes())?;
+    let value: T = from_events(alloc, events, fault)?;
+    let written = to_events(alloc, &value)?;
+    emit(alloc, written.as_slice())
+}
+
+// A document's text, or its fault, as a text.
+fn told<T: Serialize + Drop>(alloc: Global, read: Result<T, Error>) -> Result<String, Error> {
+    match read {
+        Ok(value) => to_string(alloc, &value),
+        Err(fault) => Ok(format!(in alloc; "! {fault}\n")?),
+    }
+}
+
+/// What `Documents` reads, each document's text behind `--- `.
+pub fn answer_of_documents<'a, T: Deserialize<'a> + Serialize>(
+    alloc: Global,
+    text: &'a str,
+) -> Result<String, Error> {
+    let mut documents = Documents::from_str(alloc, text)?;
+    let mut answer = String::new(alloc);
+    for _ in 0..u64::MAX {
+        let Some(read) = documents.read_next::<T>() else {
+            break;
+        };
+        answer.push_str("--- ")?;
+        answer.push_str(told(alloc, read)?.as_str())?;
+    }
+    Ok(answer)
+}

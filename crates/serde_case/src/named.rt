@@ -1,0 +1,74 @@
+//! The types by their names.
+
+use crate::answer::{answer, answer_of_documents, answer_of_events, answer_of_slice};
+use serde_types::enums::{Command, Figure, Scalar, Step};
+use serde_types::limits::{Nest, Passed};
+use serde_types::plain::{Metres, Nothing, Pair, Percent};
+use serde_types::structs::{Mark, Note, Setting, Window};
+use serde_uses::readme::renamed;
+use serde_uses::{Person, Service, longest_name, read_service, write_service};
+use std::alloc::Global;
+use std::borrow::CowStr;
+use std::collections::BTreeMap;
+use yaml_serde::Error;
+
+// What a text is answered that is read as a type of std.
+fn answer_as_standard(alloc: Global, name: &str, text: &str) -> Result<String, Error> {
+    match name {
+        "bool" => answer::<bool>(alloc, text),
+        "i8" => answer::<i8>(alloc, text),
+        "u8" => answer::<u8>(alloc, text),
+        "i64" => answer::<i64>(alloc, text),
+        "u64" => answer::<u64>(alloc, text),
+        "i128" => answer::<i128>(alloc, text),
+        "u128" => answer::<u128>(alloc, text),
+        "f64" => answer::<f64>(alloc, text),
+        "char" => answer::<char>(alloc, text),
+        "()" => answer::<()>(alloc, text),
+        "String" => answer::<String>(alloc, text),
+        "&str" => answer::<&str>(alloc, text),
+        "CowStr" => answer::<CowStr<'_>>(alloc, text),
+        "Option<u8>" => answer::<Option<u8>>(alloc, text),
+        "Vec<u8>" => answer::<Vec<u8>>(alloc, text),
+        "(u8,bool)" => answer::<(u8, bool)>(alloc, text),
+        "BTreeMap<String,u8>" => answer::<BTreeMap<String, u8>>(alloc, text),
+        _ => Err(Error::custom(String::from_str(alloc, "no such type")?)),
+    }
+}
+
+// What the functions of this name answer.
+fn answer_by_function(alloc: Global, name: &str, text: &str) -> Result<String, Error> {
+    match name {
+        "read_service" => write_service(alloc, &read_service(alloc, text)?),
+        "longest_name" => Ok(String::from_str(alloc, longest_name(alloc, text)?)?),
+        "renamed" => renamed(alloc, text),
+        _ => answer_as_standard(alloc, name, text),
+    }
+}
+
+/// What a text is answered that is read as the type of this name.
+pub fn answer_as(alloc: Global, name: &str, text: &str) -> Result<String, Error> {
+    match name {
+        "Service" => answer::<Service>(alloc, text),
+        "Service/slice" => answer_of_slice::<Service>(alloc, text),
+        "Service/events" => answer_of_events::<Service>(alloc, text),
+        "Person" => answer::<Person<'_>>(alloc, text),
+        "Person/documents" => answer_of_documents::<Person<'_>>(alloc, text),
+        "Note" => answer::<Note<'_>>(alloc, text),
+        "Setting" => answer::<Setting>(alloc, text),
+        "Window" => answer::<Window>(alloc, text),
+        "Mark" => answer::<Mark>(alloc, text),
+        "Figure" => answer::<Figure>(alloc, text),
+        "Vec<Figure>" => answer::<Vec<Figure>>(alloc, text),
+        "Command" => answer::<Command>(alloc, text),
+        "Step" => answer::<Step>(alloc, text),
+        "Scalar" => answer::<Scalar>(alloc, text),
+        "Nest" => answer::<Nest>(alloc, text),
+        "Passed" => answer::<Passed>(alloc, text),
+        "Metres" => answer::<Metres>(alloc, text),
+        "Nothing" => answer::<Nothing>(alloc, text),
+        "Pair" => answer::<Pair>(alloc, text),
+        "Percent" => answer::<Percent>(alloc, text),
+        _ => answer_by_function(alloc, name, text),
+    }
+}

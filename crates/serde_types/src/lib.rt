@@ -1,0 +1,7 @@
+//! Types with the derives of the crate `serde`, each for some of their attributes.
+#![tactic(auto)]
+
+pub mod enums;
+pub mod limits;
+pub mod plain;
+pub mod structs;

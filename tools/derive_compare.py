@@ -1,0 +1,285 @@
+#!/usr/bin/env python3
+"""Compares what types with derives hold of texts with what serde_yaml 0.9.34 makes of them, row by row.
+
+usage: derive_compare.py THEIRS rows FILE            the rows of a file, as crates/serde_case/stdin
+       derive_compare.py THEIRS random SEED COUNT    random rows
+       add OURS.. behind `--` to name our program, as crates/serde_case/out/serde_case: else it is `rt try` in
+       crates/serde_case, which proves nothing, and takes some 5,000 rows at a time
+
+THEIRS is the program of tools/derived, built by `cargo build --release` there. Both programs read rows and print each
+with its answer. Answers that differ as docs/DIFFERENCES.md says count as listed. Prints the first other ones, and in
+the last line how many were the same, listed, left out, and how many differ. Status 0 only if none differs. Left out are
+rows at which the other program panics.
+"""
+
+import os
+import random
+import re
+import subprocess
+import sys
+
+HERE = os.path.dirname(os.path.abspath(__file__))
+SHOWN = 40
+
+# --- random texts, mostly such as the type can be read of
+
+
+class Texts:
+    def __init__(self, seed):
+        self.random = random.Random(seed)
+        self.anchors = 0
+
+    def often(self, share):
+        return self.random.random() < share
+
+    def pick(self, *choices):
+        return self.random.choice(choices)
+
+    def word(self):
+        return self.pick("a", "web", "true", "False", "null", "~", "12", "-3", "0x1F", "1.5", "01", "''", "'true'", "'7'",
+                         '"a b"', '"a\\\\tb"', "'it''s'", "a b", ".inf", "ö", "''", "!!str 1", "!!int 7", "!!null ''",
+                         "!a b", "!!bool yes", "+1", "0o17", "1e3")
+
+    def number(self, low, high):
+        near = self.pick(low, high, 0, 1, 7, low - 1, high + 1, self.random.randint(low, high))
+        if near >= 0 and self.often(0.1):
+            return self.pick("0x%X" % near, "0o%o" % near, "0b" + bin(near)[2:], "+%d" % near)
+        return "'%d'" % near if self.often(0.03) else str(near)
+
+    def any(self, depth):
+        kind = self.random.random()
+        if depth > 2 or kind < 0.6:
+            return self.word()
+        parts = [self.any(depth + 1) for _ in range(self.random.randint(0, 3))]
+        if kind < 0.8:
+            return "[%s]" % ", ".join(parts)
+        return "{%s}" % ", ".join("%s: %s" % (self.pick("a", "b", "r", "c", "1"), part) for part in parts)
+
+    def entries(self, fields, depth):
+        chosen = []
+        for names, make in fields:
+            if self.often(0.93):
+                chosen.append((self.pick(*names), make(depth + 1)))
+        if self.often(0.08) and chosen:
+            chosen.append(self.pick(*chosen))
+        if self.often(0.12):
+            chosen.append((self.pick("x", "other", "1", "~"), self.any(depth + 1)))
+        if self.often(0.5):
+            self.random.shuffle(chosen)
+        return "{%s}" % ", ".join("%s: %s" % pair for pair in chosen)
+
+    def list(self, makers, depth):
+        parts = [make(depth + 1) for make in makers]
+        if self.often(0.1):
+            parts = parts[:-1] if self.often(0.5) else parts + [self.any(depth + 1)]
+        return "[%s]" % ", ".join(parts)
+
+    def of(self, name, depth=0):
+        """A text of a type, or of another now and then, perhaps with an anchor."""
+        if self.often(0.06):
+            return self.any(depth)
+        text = self.fitting(name, depth)
+        if depth and not text.startswith(("!", "&", "*")) and self.often(0.05):
+            return "&a " + text
+        return "*a" if depth and self.often(0.02) else text
+
+    def fitting(self, name, depth):
+        to = lambda other: lambda deeper: self.of(other, deeper)
+        number = re.fullmatch(r"([iu])(\d+)", name)
+        if number:
+            bits = int(number.group(2))
+            return self.number(*((0, 2**bits - 1) if number.group(1) == "u" else (-(2 ** (bits - 1)), 2 ** (bits - 1) - 1)))
+        if name == "text":
+            return self.word()
+        if name == "bool":
+            return self.pick("true", "false", "True", "FALSE", "yes", "'true'", "!!bool true", "!x true")
+        if name == "char":
+            return self.pick("a", "ö", "1", "~", "ab", "' '", "''")
+        if name == "()":
+            return self.pick("~", "", "null", "''", "NULL", "{}", "!!null ''", "!a")
+        if name == "Option<u8>":
+            return self.pick("~", "null", "", "!!null ~", self.number(0, 255))
+        if name in ("String", "&str", "CowStr"):
+            return self.word()
+        if name == "Vec<u8>":
+            return self.pick(self.list([to("u8")] * self.random.randint(0, 4), depth), "")
+        if name == "(u8,bool)":
+            return self.list([to("u8"), to("bool")], depth)
+        if name == "BTreeMap<String,u8>":
+            return self.entries([(("a", "b", "1", "~", "'x'"), to("u8"))] * self.random.randint(0, 3), depth)
+        if name.startswith("Service"):
+            return self.entries([(("name",), to("text")), (("listen",), to("Listen")),
+                                 (("maxJobs", "maxJobs", "max_jobs"), to("u32")), (("label",), to("text"))], depth)
+        if name == "Listen":
+            return self.pick("any", "!any", "port", "!port " + self.of("u16", depth), "!port " + self.of("u16", depth),
+                             "!socket " + self.entries([(("path",), to("text"))], depth), "!Port 1", "none")
+        if name.startswith("Person"):
+            return self.entries([(("name",), to("text"))], depth)
+        if name == "Note":
+            return self.entries([(("text",), to("text"))], depth)
+        if name == "Setting":
+            return self.entries([(("on", "enabled", "on", "is-on"), to("bool")), (("port",), to("u16")),
+                                 (("back-colour",), to("colour")), (("seen",), to("bool"))][:self.pick(3, 3, 4)], depth)
+        if name == "colour":
+            return self.pick("ff0000", "'000080'", "red", "0c", "12", "true", "7fffffff", "fffffffff")
+        if name == "Window":
+            return self.entries([(("FULL_WIDTH", "full_width"), to("u16")), (("HEIGHT",), to("u16"))], depth)
+        if name == "Mark":
+            return self.entries([(("name",), to("text")), (("row",), to("u16")), (("column",), to("u16"))], depth)
+        if name == "Figure":
+            return self.pick("Dot", "!Dot", "none", "nothing", "!Circle " + self.entries([(("r",), to("u8"))], depth),
+                             "!Line " + self.list([to("i8"), to("i8")], depth), "!Label " + self.word(), "!none ~",
+                             "Circle", "!Square 1", "{Circle: {r: 1}}", "!Label", "!Line []", "!Circle")
+        if name == "Vec<Figure>":
+            return self.list([to("Figure")] * self.random.randint(1, 4), depth)
+        if name == "Command":
+            return self.entries([(("kind",), lambda _: self.pick("stop", "go_to", "go_to", "wait", "Stop", "[a]", "'stop'")),
+                                 (("line",), to("u8"))], depth)
+        if name == "Step":
+            return self.entries([(("t",), lambda _: self.pick("Stay", "Go", "Jump", "Walk")),
+                                 (("c",), lambda deeper: self.pick(self.of("i8", deeper), "~",
+                                                                   self.entries([(("over",), to("u8"))], deeper)))], depth)
+        if name == "Scalar":
+            return self.pick(self.of("bool", depth), self.of("i64", depth), self.word(), self.of("Vec<u8>", depth),
+                             self.entries([(("left",), to("u8")), (("right",), to("u8"))], depth))
+        if name == "Nest":
+            return "[%s]" % ", ".join(self.of("Nest", depth + 1) for _ in range(self.random.randint(0, 3 - min(depth, 3))))
+        if name == "Passed":
+            return self.entries([(("nest",), to("Nest"))], depth)
+        if name == "Metres":
+            return self.of("u32", depth)
+        if name == "Nothing":
+            return self.of("()", depth)
+        if name == "Pair":
+            return self.list([to("i8"), to("u16")], depth)
+        if name == "Percent":
+            return self.number(0, 100)
+        raise ValueError(name)
+
+
+NAMES = """bool i8 u8 i64 u64 i128 u128 char () String &str CowStr Option<u8> Vec<u8> (u8,bool) BTreeMap<String,u8>
+Service Service/slice Service/events Person Person/documents Note Setting Window Mark Figure Vec<Figure> Command Step
+Scalar Nest Passed Metres Nothing Pair Percent""".split()
+WEIGHED = NAMES + "Service Setting Mark Figure Vec<Figure> Command Step Scalar".split() * 3
+
+
+def quoted(text):
+    out = []
+    for letter in text:
+        out.append({"\n": "\\n", '"': '\\"', "\\": "\\\\"}.get(letter, letter))
+    return '"%s"' % "".join(out)
+
+
+def random_rows(seed, count):
+    texts = Texts(seed)
+    rows = []
+    for _ in range(count):
+        name = texts.pick(*WEIGHED)
+        text = texts.of(name).replace("\\\\", "\\")
+        if texts.often(0.5):
+            text = "\n" + text
+        if name.endswith("/documents"):
+            text = "\n---\n".join([text] + [texts.of(name) for _ in range(texts.random.randint(0, 2))])
+        rows.append("%s %s" % (name, quoted(text)))
+    return rows
+
+
+# --- answers
+
+
+def answers(command, rows, folder):
+    text = "".join(row + "\n" for row in rows)
+    done = subprocess.run(command, input=text.encode(), stdout=subprocess.PIPE, stderr=subprocess.DEVNULL, cwd=folder)
+    lines = done.stdout.decode().split("\n")
+    return [line.split("  => ", 1)[-1] for line in lines[: len(rows)]]
+
+
+PLACE = re.compile(r" at line \d+ column \d+$")
+WAY = re.compile(r"^! (\S*): (?=invalid|unknown|missing|duplicate|no hexadecimal|more than|data did|deserializing)")
+EXPECTED = [
+    (r"floating point `[^`]*`", "floating point"),
+    (r"(invalid value: integer `-?\d+`, expected) [iu](8|16|32|64)\b", r"\1 a number in the range of its type"),
+    (r"expected u(8|16|32)\b", "expected u64"),
+    (r"expected i(8|16|32)\b", "expected i64"),
+    (r"expected (struct|struct variant|internally tagged enum|adjacently tagged enum) [A-Z][\w:]*", "expected a map"),
+    (r"(invalid length \d+), expected .*? (with 2 elements|of size 2)", r"\1, expected another length"),
+    (r"expected (tuple (struct|variant) [A-Z][\w:]*|a tuple of size 2)", "expected a sequence"),
+    (r"expected (unit struct Nothing|unit variant [A-Z][\w:]*)", "expected unit"),
+    (r"expected (struct|tuple|newtype) variant\b", "expected variant with content"),
+    (r"untagged enum [A-Z]\w*", "untagged enum"),
+    (r"expected variant identifier", "expected field identifier"),
+    (r"expected a borrowed string", "expected a string"),
+    (r"missing field `back-colour`", "missing field `back_colour`"),
+    (r"duplicate field `(enabled|is-on)`", "duplicate field `on`"),
+]
+# What is copied first by the original: such a fault says how the copy read, and other faults may come before it.
+COPIED = {"Mark", "Command", "Step", "Scalar"}
+
+
+def plain(answer):
+    """An answer without names of types and widths of numbers."""
+    for pattern, to in EXPECTED:
+        answer = re.sub(pattern, to, answer)
+    if "! " in answer:
+        answer = re.sub(r"(\\+x[0-9a-f]{2}|\\+u\{[0-9a-f]+\}|\\+[nrt]|[^ -~])+", "?", answer)
+    return answer
+
+
+def listed(name, ours, theirs):
+    """Whether docs/DIFFERENCES.md has the difference."""
+    ours, theirs = plain(ours), plain(theirs)
+    if ours == theirs or ours.startswith("! floating point numbers are not"):
+        return True
+    if name.endswith("/documents"):
+        # theirs goes on with the parser's fault without end
+        read, more = theirs[: len(ours) - 1], theirs[len(ours) - 1 :].split("--- ")[1:]
+        return ours.startswith(read) and len(more) > 1 and more[0].startswith("! ") and len(set(more[:-1])) == 1
+    if not theirs.startswith("! "):
+        return False
+    if name in COPIED:
+        # their copy has kinds where ours has texts, and theirs tells the faults of a copy last
+        return True
+    if not ours.startswith("! "):
+        return False
+    our_way, their_way = WAY.match(ours), WAY.match(theirs)
+    around = their_way.group(1) if their_way else ""
+    if around and not (our_way and our_way.group(1).startswith(around)):
+        return False
+    return WAY.sub("! ", PLACE.sub("", ours)) == WAY.sub("! ", PLACE.sub("", theirs))
+
+
+def main():
+    words = sys.argv[1:]
+    ours = ["rt", "try"]
+    if "--" in words:
+        ours = words[words.index("--") + 1 :]
+        words = words[: words.index("--")]
+    if len(words) == 3 and words[1] == "rows":
+        with open(words[2]) as file:
+            rows = [line.rstrip("\n") for line in file if line.strip() and not line.startswith("#")]
+    elif len(words) == 4 and words[1] == "random":
+        rows = random_rows(int(words[2]), int(words[3]))
+    else:
+        sys.exit(__doc__)
+    theirs = answers([words[0]], rows, None)
+    ours = answers(ours, rows, None if "--" in sys.argv else os.path.join(HERE, "..", "crates", "serde_case"))
+    if len(ours) != len(rows) or len(theirs) != len(rows):
+        sys.exit("a program did not answer each row")
+    counts = {"same": 0, "listed": 0, "left out": 0, "different": 0}
+    for row, our, their in zip(rows, ours, theirs):
+        if our == their:
+            counts["same"] += 1
+        elif their == "panic":
+            counts["left out"] += 1
+        elif listed(row.split(" ", 1)[0], our, their):
+            counts["listed"] += 1
+        else:
+            counts["different"] += 1
+            if counts["different"] <= SHOWN:
+                print("%s\n  ours   %s\n  theirs %s" % (row, our, their))
+    print(", ".join("%d %s" % (count, what) for what, count in counts.items()))
+    sys.exit(counts["different"] > 0)
+
+
+if __name__ == "__main__":
+    main()

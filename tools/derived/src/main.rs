@@ -1,0 +1,140 @@
+//! Answers rows as `crates/serde_case` does, by Rust's serde and serde_yaml: the types are those of `serde_types` and
+//! `serde_uses`.
+
+mod types;
+
+use serde::{Deserialize, Serialize};
+use serde_yaml::{from_slice, from_str, to_string, Error};
+use std::borrow::Cow;
+use std::collections::BTreeMap;
+use std::io::{self, Read, Write};
+use std::panic::catch_unwind;
+use types::*;
+
+type Answer = Result<String, Error>;
+
+// The most documents of a text. The original gives the parser's fault without end.
+const DOCUMENTS: usize = 6;
+
+fn answer<'a, T: Deserialize<'a> + Serialize>(text: &'a str) -> Answer {
+    to_string(&from_str::<T>(text)?)
+}
+
+fn answer_of_slice<'a, T: Deserialize<'a> + Serialize>(text: &'a str) -> Answer {
+    to_string(&from_slice::<T>(text.as_bytes())?)
+}
+
+fn answer_of_documents<'a, T: Deserialize<'a> + Serialize>(text: &'a str) -> Answer {
+    let mut answer = String::new();
+    for document in serde_yaml::Deserializer::from_str(text).take(DOCUMENTS) {
+        answer.push_str("--- ");
+        match T::deserialize(document) {
+            Ok(value) => answer.push_str(&to_string(&value)?),
+            Err(fault) => answer.push_str(&format!("! {fault}\n")),
+        }
+    }
+    Ok(answer)
+}
+
+fn renamed(text: &str) -> Answer {
+    let mut server: Server = serde_yaml::from_str(text)?;
+    server.name = "proxy".to_owned();
+    serde_yaml::to_string(&server)
+}
+
+fn longest_name(text: &str) -> Answer {
+    let mut longest = "";
+    for document in serde_yaml::Deserializer::from_str(text) {
+        let person = Person::deserialize(document)?;
+        if person.name.len() > longest.len() {
+            longest = person.name;
+        }
+    }
+    Ok(longest.to_owned())
+}
+
+fn answer_as(name: &str, text: &str) -> Answer {
+    match name {
+        "bool" => answer::<bool>(text),
+        "i8" => answer::<i8>(text),
+        "u8" => answer::<u8>(text),
+        "i64" => answer::<i64>(text),
+        "u64" => answer::<u64>(text),
+        "i128" => answer::<i128>(text),
+        "u128" => answer::<u128>(text),
+        "f64" => answer::<f64>(text),
+        "char" => answer::<char>(text),
+        "()" => answer::<()>(text),
+        "String" => answer::<String>(text),
+        "&str" => answer::<&str>(text),
+        "CowStr" => answer::<Cow<'_, str>>(text),
+        "Option<u8>" => answer::<Option<u8>>(text),
+        "Vec<u8>" => answer::<Vec<u8>>(text),
+        "(u8,bool)" => answer::<(u8, bool)>(text),
+        "BTreeMap<String,u8>" => answer::<BTreeMap<String, u8>>(text),
+        "Service" | "Service/events" | "read_service" => answer::<Service>(text),
+        "Service/slice" => answer_of_slice::<Service>(text),
+        "Person" => answer::<Person<'_>>(text),
+        "Person/documents" => answer_of_documents::<Person<'_>>(text),
+        "longest_name" => longest_name(text),
+        "renamed" => renamed(text),
+        "Note" => answer::<Note<'_>>(text),
+        "Setting" => answer::<Setting>(text),
+        "Window" => answer::<Window>(text),
+        "Mark" => answer::<Mark>(text),
+        "Figure" => answer::<Figure>(text),
+        "Vec<Figure>" => answer::<Vec<Figure>>(text),
+        "Command" => answer::<Command>(text),
+        "Step" => answer::<Step>(text),
+        "Scalar" => answer::<Scalar>(text),
+        "Nest" => answer::<Nest>(text),
+        "Passed" => answer::<Passed>(text),
+        "Metres" => answer::<Metres>(text),
+        "Nothing" => answer::<Nothing>(text),
+        "Pair" => answer::<Pair>(text),
+        "Percent" => answer::<Percent>(text),
+        _ => panic!("no such type"),
+    }
+}
+
+// The text between quotes.
+fn unquoted(quoted: &str) -> Option<String> {
+    let mut letters = quoted.strip_prefix('"')?.strip_suffix('"')?.chars();
+    let mut text = String::new();
+    while let Some(letter) = letters.next() {
+        text.push(match letter {
+            '\\' => match letters.next()? {
+                'n' => '\n',
+                't' => '\t',
+                escaped => escaped,
+            },
+            plain => plain,
+        });
+    }
+    Some(text)
+}
+
+fn answered(row: &str) -> String {
+    match row.split_once(' ') {
+        Some((name, quoted)) if name != "#" => match unquoted(quoted) {
+            Some(text) => match catch_unwind(|| answer_as(name, &text)) {
+                Ok(Ok(written)) => format!("{row}  => {written:?}\n"),
+                Ok(Err(fault)) => format!("{row}  => ! {fault}\n"),
+                Err(_) => format!("{row}  => panic\n"),
+            },
+            None => format!("{row}  => ? no text between quotes\n"),
+        },
+        _ => format!("{row}\n"),
+    }
+}
+
+fn main() -> io::Result<()> {
+    let mut rows = String::new();
+    io::stdin().read_to_string(&mut rows)?;
+    std::panic::set_hook(Box::new(|_| {}));
+    let mut out = io::stdout().lock();
+    for row in rows.lines() {
+        out.write_all(answered(row).as_bytes())?;
+    }
+    out.flush()
+}

@@ -1,0 +1,172 @@
+//! The types of `crates/serde_types` and `crates/serde_uses`, with the same attributes.
+
+use serde::{Deserialize, Deserializer, Serialize, Serializer};
+use std::borrow::Cow;
+
+#[derive(Serialize, Deserialize)]
+pub struct Server {
+    pub name: String,
+    port: u16,
+    tags: Vec<String>,
+}
+
+#[derive(Serialize, Deserialize)]
+#[serde(rename_all = "lowercase")]
+pub enum Listen {
+    Any,
+    Port(u16),
+    Socket { path: String },
+}
+
+#[derive(Serialize, Deserialize)]
+#[serde(rename_all = "camelCase", deny_unknown_fields)]
+pub struct Service {
+    pub name: String,
+    pub listen: Listen,
+    #[serde(default)]
+    pub max_jobs: u32,
+    #[serde(skip_serializing_if = "Option::is_none")]
+    pub label: Option<String>,
+}
+
+#[derive(Serialize, Deserialize)]
+pub struct Person<'a> {
+    pub name: &'a str,
+}
+
+#[derive(Serialize, Deserialize)]
+pub struct Note<'a> {
+    #[serde(borrow)]
+    text: Cow<'a, str>,
+}
+
+fn eighty() -> u16 {
+    80
+}
+
+#[derive(Serialize, Deserialize)]
+#[serde(rename_all = "kebab-case")]
+pub struct Setting {
+    #[serde(rename = "on", alias = "enabled")]
+    is_on: bool,
+    #[serde(default = "eighty")]
+    port: u16,
+    #[serde(with = "hexadecimal")]
+    back_colour: u32,
+    #[serde(skip)]
+    seen: bool,
+}
+
+mod hexadecimal {
+    use super::*;
+    pub fn serialize<S: Serializer>(number: &u32, out: S) -> Result<S::Ok, S::Error> {
+        out.collect_str(&format_args!("{number:06x}"))
+    }
+    pub fn deserialize<'de, D: Deserializer<'de>>(from: D) -> Result<u32, D::Error> {
+        let text = <Cow<'de, str>>::deserialize(from)?;
+        u32::from_str_radix(&text, 16).map_err(|_| serde::de::Error::custom("no hexadecimal number"))
+    }
+}
+
+#[derive(Default, Serialize, Deserialize)]
+#[serde(default, rename_all = "SCREAMING_SNAKE_CASE")]
+pub struct Window {
+    full_width: u16,
+    height: u16,
+}
+
+#[derive(Serialize, Deserialize)]
+pub struct Place {
+    row: u16,
+    column: u16,
+}
+
+#[derive(Serialize, Deserialize)]
+pub struct Mark {
+    name: String,
+    #[serde(flatten)]
+    place: Place,
+}
+
+#[derive(Serialize, Deserialize)]
+pub enum Figure {
+    Dot,
+    Circle {
+        r: u8,
+    },
+    Line(i8, i8),
+    Label(String),
+    #[serde(rename = "none", alias = "nothing")]
+    Nothing,
+}
+
+#[derive(Serialize, Deserialize)]
+#[serde(tag = "kind", rename_all = "snake_case")]
+pub enum Command {
+    Stop,
+    GoTo {
+        line: u8,
+    },
+    #[serde(other)]
+    Unknown,
+}
+
+#[derive(Serialize, Deserialize)]
+#[serde(tag = "t", content = "c")]
+pub enum Step {
+    Stay,
+    Go(i8),
+    Jump { over: u8 },
+}
+
+#[derive(Serialize, Deserialize)]
+#[serde(untagged)]
+pub enum Scalar {
+    Flag(bool),
+    Number(i64),
+    Text(String),
+    List(Vec<u8>),
+    Pair { left: u8, right: u8 },
+}
+
+#[derive(Serialize, Deserialize)]
+pub struct Metres(u32);
+
+#[derive(Serialize, Deserialize)]
+pub struct Nothing;
+
+#[derive(Serialize, Deserialize)]
+pub struct Pair(i8, u16);
+
+#[derive(Clone, Copy, Serialize, Deserialize)]
+#[serde(try_from = "u8", into = "u8")]
+pub struct Percent(u8);
+
+impl TryFrom<u8> for Percent {
+    type Error = &'static str;
+    fn try_from(n: u8) -> Result<Percent, &'static str> {
+        if n > 100 {
+            Err("more than all")
+        } else {
+            Ok(Percent(n))
+        }
+    }
+}
+
+impl From<Percent> for u8 {
+    fn from(p: Percent) -> u8 {
+        p.0
+    }
+}
+
+#[derive(Serialize, Deserialize)]
+#[serde(transparent)]
+pub struct Nest {
+    inner: Vec<Nest>,
+}
+
+#[derive(Serialize, Deserialize)]
+pub struct Passed {
+    #[serde(skip_serializing)]
+    nest: Nest,
+}
