@@ -23,7 +23,8 @@ pub use yaml_read::Limits;
 pub use yaml_shape::{Data, Entry, Schema, SchemaFault, Shape, ShapeId, Text, Typed, VariantShape};
 pub use yaml_tree::{Mapping, Number, Sequence, TaggedValue, TreeFault, Value};
 pub use yaml_types::{
-    BuildFault, Composed, Deserialize, Fields, FromParts, RoundTrip, RoundTripParts, Serialize,
-    Struct, ToParts, Tuple, struct_names,
+    BuildFault, Composed, Deserialize, Enum, Fields, FromParts, Last, NewtypeVariant, OneOf,
+    RoundTrip, RoundTripParts, Serialize, StrictStruct, Struct, StructVariant, ToParts, Tuple,
+    TupleVariant, UnitVariant, Variants, struct_names,
 };
 pub use yaml_write::{OpenKind, Serializer};
