@@ -7,7 +7,7 @@ ghost use Rattle.yaml_shape.specs.TypedView.{content_in, id_in, schema_in};
 ghost use Rattle.yaml_base.specs.EmitEvents.{emit_of};
 ghost use Rattle.yaml_base.specs.EmitTree.{IsEmitStream};
 ghost use Rattle.yaml_emit.specs.StreamTexts.{IsStreamText};
-ghost use Rattle.serde_yaml.specs.Printed.{AddsText, HasEvents, HasText, IsDataWritten, IsOutOfPlace, IsRefused};
+ghost use Rattle.serde_yaml.specs.Printed.{AddsText, HasEvents, HasText, IfOfValue, IsDataWritten, IsOutOfPlace, IsRefused};
 ghost use Rattle.serde_yaml.specs.TypedWrites.{TypeWrites};
 
 use crate::ser::{to_events, write_stream};
@@ -30,6 +30,10 @@ pub enum WriteFault {
 }
 
 impl fmt::Display for WriteFault {
+    ghost use Rattle.serde_yaml.specs.Printed.{write_fault_text};
+
+    ghost output = { write_fault_text };
+
     fn fmt<W: fmt::Write>(&self, f: &mut fmt::Formatter<W>) -> fmt::Result {
         match self {
             WriteFault::Value(fault) => write!(f, "{fault}"),
@@ -85,6 +89,9 @@ pub fn to_writer<W: Write, T: Serialize>(
     ensures text { OnOk result (AddsText (TypeWrites T.start (T.written value.now))
         (W.contents writer.old) (W.contents writer.new)) }
     ensures kept { OnOk result (T.kept value.now) }
+    ensures unwritten { IfErr result (IfOfValue (λ cause. is_memory cause ≡ false
+        → TypeWrites T.start (T.written value.now) (Err cause))) }
+    ensures untouched { IfErr result (IfOfValue (λ _. W.contents writer.new ≡ W.contents writer.old)) }
 {
     let text = match to_string(alloc, value) {
         Ok(text) => text,
