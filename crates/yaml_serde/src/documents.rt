@@ -1,8 +1,13 @@
 //! The documents of a text, one after another.
 
+ghost use Rattle.std.specs.Prelude.{◌≡◌, [], true, IfErr, IfNone, IfSome};
+ghost use Rattle.yaml_base.specs.Answer.{is_memory};
+ghost use Rattle.yaml_serde.specs.NextDocument.{ReadsNext};
+
 use crate::typed::read;
 use serde::Deserialize;
 use std::alloc::Global;
+use std::marker::Model;
 use yaml_base::{Cause, Error, Result};
 use yaml_read::{Document, Loader};
 use yaml_text::{Parsed, parse};
@@ -15,27 +20,43 @@ pub struct Documents<'de> {
     left: Loader<'de>,
 }
 
+impl<'de> Model for Documents<'de> {
+    ghost use Rattle.std.specs.Prelude.{List};
+    ghost use Rattle.yaml_read.specs.PlainDocument.{PlainDocument};
+
+    ghost Value = { List PlainDocument };
+
+    ghost view = { λ documents. documents.left };
+}
+
 impl<'de> Documents<'de> {
     /// The documents of a YAML text. What can't be parsed is the fault of the document that it stands in. The only
     /// error is want of memory.
-    pub fn from_str(alloc: Global, text: &'de str) -> Result<Documents<'de>> {
+    pub fn from_str(alloc: Global, text: &'de str) -> Result<Documents<'de>>
+        ensures memory { IfErr result (λ cause. is_memory cause ≡ true) }
+    {
         Documents::from_slice(alloc, text.as_bytes())
     }
 
     /// The same of bytes.
-    pub fn from_slice(alloc: Global, text: &'de [u8]) -> Result<Documents<'de>> {
+    pub fn from_slice(alloc: Global, text: &'de [u8]) -> Result<Documents<'de>>
+        ensures memory { IfErr result (λ cause. is_memory cause ≡ true) }
+    {
         let Ok(Parsed { events, fault, .. }) = parse(alloc, text) else {
             return Err(Error::new(Cause::Memory));
         };
-        Ok(Documents {
-            alloc,
-            text,
-            left: Loader::new(alloc, events, fault)?,
-        })
+        match Loader::new(alloc, events, fault) {
+            Ok(left) => Ok(Documents { alloc, text, left }),
+            Err(fault) => Err(fault),
+        }
     }
 
-    /// The next document as a value of the type, or `None` once each was read.
-    pub fn read_next<T: Deserialize<'de>>(&mut self) -> Option<Result<T>> {
+    /// The next document as a value of the type, or `None` once each was read, for good. What can't be read is passed
+    /// over by the next call.
+    pub fn read_next<T: Deserialize<'de>>(&mut self) -> Option<Result<T>>
+        ensures next { IfSome result (λ read. ReadsNext self.old read self.new) }
+        ensures none { IfNone result ((self.old ≡ []) × (self.new ≡ [])) }
+    {
         let document: Document<'de> = self.left.next_document()?;
         Some(read(self.alloc, self.text, &document))
     }
