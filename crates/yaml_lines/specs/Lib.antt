@@ -3,7 +3,7 @@ pub mod DataText
 pub mod DataTextView
 pub mod Escape
 pub mod EventText
-pub mod FaultText
+pub mod InputFaultText
 pub mod SpelledFault
 pub mod InputText
 pub mod LineText

@@ -38,7 +38,7 @@ impl<T: Drop> From<AllocFailed<T>> for LineFault {
 
 impl fmt::Display for LineFault {
     ghost use Rattle.std.specs.Prelude.{Some};
-    ghost use Rattle.yaml_lines.specs.FaultText.{line_fault_text};
+    ghost use Rattle.yaml_lines.specs.InputFaultText.{line_fault_text};
 
     ghost output = { λ fault. Some (line_fault_text fault) };
 
@@ -73,7 +73,7 @@ impl<T: Drop> From<AllocFailed<T>> for InputFault {
 
 impl fmt::Display for InputFault {
     ghost use Rattle.std.specs.Prelude.{Some};
-    ghost use Rattle.yaml_lines.specs.FaultText.{input_fault_text};
+    ghost use Rattle.yaml_lines.specs.InputFaultText.{input_fault_text};
 
     ghost output = { λ fault. Some (input_fault_text fault) };
 

@@ -8,7 +8,7 @@ pub mod TakeOut
 pub mod EqualLaws
 pub mod Mapping
 pub mod Access
-pub mod FaultText
+pub mod TreeFaultText
 pub mod Quoted
 pub mod Listed
 pub mod TreeText

@@ -14,7 +14,7 @@ pub enum TreeFault {
 
 impl fmt::Display for TreeFault {
     ghost use Rattle.std.specs.Prelude.{Some};
-    ghost use Rattle.yaml_tree.specs.FaultText.{tree_fault_text};
+    ghost use Rattle.yaml_tree.specs.TreeFaultText.{tree_fault_text};
 
     ghost output = { λ fault. Some (tree_fault_text fault) };
 

@@ -9,7 +9,7 @@ pub mod MapLaws
 pub mod PartShapes
 pub mod PlainLaws
 pub mod BuildRefusal
-pub mod FaultText
+pub mod BuildFaultText
 pub mod RefusalParts
 pub mod ReturnLaws
 pub mod RowReturns

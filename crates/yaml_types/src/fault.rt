@@ -37,7 +37,7 @@ impl<T: Drop> From<AllocFailed<T>> for BuildFault {
 
 impl fmt::Display for BuildFault {
     ghost use Rattle.std.specs.Prelude.{Some};
-    ghost use Rattle.yaml_types.specs.FaultText.{build_fault_text};
+    ghost use Rattle.yaml_types.specs.BuildFaultText.{build_fault_text};
 
     ghost output = { λ fault. Some (build_fault_text fault) };
 
