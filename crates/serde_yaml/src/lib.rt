@@ -25,6 +25,6 @@ pub use yaml_tree::{Mapping, Number, Sequence, TaggedValue, TreeFault, Value};
 pub use yaml_types::{
     BuildFault, Composed, Deserialize, Enum, Fields, FromParts, Last, NewtypeVariant, OneOf,
     RoundTrip, RoundTripParts, Serialize, StrictStruct, Struct, StructVariant, ToParts, Tuple,
-    TupleVariant, UnitVariant, Variants, struct_names,
+    TupleVariant, UnitVariant, Variants, enum_names, struct_names,
 };
 pub use yaml_write::{OpenKind, Serializer};

@@ -1,5 +1,5 @@
 -- Choices of variants, and the enums that are made of them.
-use Rattle.std.specs.Prelude.{ℕ, suc, ◌≡◌, ◌+◌, ◌-◌, ◌<◌, List, [], ◌∷◌, ◌++◌, map, length, slice_get, Bool, true}
+use Rattle.std.specs.Prelude.{ℕ, suc, ◌≡◌, ◌+◌, ◌-◌, ◌<◌, List, [], ◌∷◌, ◌++◌, map, length, slice_get, nat_le, Bool, true}
 use Rattle.std.specs.Prelude.{false, ◌&&◌, ◌⊎◌, String, Vec, string_bytes}
 use Rattle.std.specs.List.{list_all}
 use Rattle.std.specs.declared.alloc.Global.{Global}
@@ -68,6 +68,13 @@ enum_start name names contents =
 -- no two variants have one name, and none has a name for two fields
 abbrev pub all_apart : List VariantNames → Bool
 all_apart names = all_distinct (map (λ n. n.0) names) && list_all (λ n. all_distinct n.1) names
+
+-- The names are those of variants with so many fields that have names: there are as many for each, at most 4,096
+-- variants, no two of one name, and none with a name for two fields.
+pub record NamesFit (names : List VariantNames) (widths : List ℕ) : Type 0 where
+  pub distinct : all_apart names ≡ true
+  pub few : nat_le (length names) 4096 ≡ true
+  pub as_many : map (λ n. length n.1) names ≡ widths
 
 -- the names of variants and of their fields, as bytes
 abbrev pub variant_names : List (String Global × Vec (String Global) Global) → List VariantNames

@@ -19,7 +19,7 @@ mod variants;
 
 pub use choice::{Choice, Last, OneOf, ReadChoice, RoundTripChoice, WriteChoice};
 pub use composed::{Composed, FromParts, RoundTripParts, ToParts};
-pub use enums::{Enum, Variants};
+pub use enums::{Enum, Variants, enum_names};
 pub use fault::BuildFault;
 pub use row::{ReadRow, RoundTripRow, Row, WriteRow};
 pub use strict::StrictStruct;
