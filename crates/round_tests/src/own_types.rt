@@ -3,7 +3,7 @@
 use super::typed::{comes_back, message};
 use serde_yaml::from_str;
 use std::test::Fail;
-use uses::{Address, Greeting, Server, Workers};
+use uses::{Address, Backup, Greeting, Server, Workers};
 
 const SERVER: &str = "tags: [a, 'b c']
 other: {not: read}
@@ -54,6 +54,37 @@ fn what_is_wrong_is_told(rt: HostRuntime) -> Result<(), Fail> {
     assert_eq!(rt;
         told.as_str(),
         "listen.port: invalid value: integer `70000`, expected u16 at line 1 column 25"
+    );
+    Ok(())
+}
+
+#[test]
+fn variants_are_read_from_texts(rt: HostRuntime) -> Result<(), Fail> {
+    let alloc = rt.alloc();
+    let at: Backup = from_str(alloc, "!at [4, 30]\n")?;
+    assert!(rt; at == Backup::At(4, 30));
+    assert!(rt; comes_back(alloc, at)?);
+    let every: Backup = from_str(alloc, "!every\nkeep: 7\nhours: 12\n")?;
+    assert!(rt; every == Backup::Every { hours: 12, keep: 7 });
+    assert!(rt; comes_back(alloc, every)?);
+    Ok(())
+}
+
+#[test]
+fn what_is_wrong_with_a_variant_is_told(rt: HostRuntime) -> Result<(), Fail> {
+    let alloc = rt.alloc();
+    let told = message(alloc, from_str::<Backup>(alloc, "!at [4]"))?;
+    assert_eq!(rt;
+        told.as_str(),
+        "invalid length 1, expected tuple variant Backup::at with 2 elements"
+    );
+    let told = message(
+        alloc,
+        from_str::<Backup>(alloc, "!every {hours: 12, kept: 7}"),
+    )?;
+    assert_eq!(rt;
+        told.as_str(),
+        "unknown field `kept`, expected `hours` or `keep` at line 1 column 20"
     );
     Ok(())
 }

@@ -24,7 +24,7 @@ pub use yaml_shape::{Data, Entry, Schema, SchemaFault, Shape, ShapeId, Text, Typ
 pub use yaml_tree::{Mapping, Number, Sequence, TaggedValue, TreeFault, Value};
 pub use yaml_types::{
     BuildFault, Composed, Deserialize, Enum, Fields, FromParts, Last, NewtypeVariant, OneOf,
-    RoundTrip, RoundTripParts, Serialize, StrictStruct, Struct, StructVariant, ToParts, Tuple,
-    TupleVariant, UnitVariant, Variants, struct_names,
+    RoundTrip, RoundTripParts, Serialize, StrictStruct, StrictStructVariant, Struct, StructVariant,
+    ToParts, Tuple, TupleVariant, UnitVariant, Variants, enum_names, struct_names,
 };
 pub use yaml_write::{OpenKind, Serializer};

@@ -1,5 +1,8 @@
 //! A struct: where a server listens.
 
+ghost use Rattle.std.specs.Prelude.{◌≡◌, [], ◌∷◌, codes, refl};
+ghost use Rattle.std.proofs.Common.{rules};
+
 use std::alloc::{AllocError, Global};
 use yaml_base::Error;
 use yaml_shape::Data;
@@ -16,17 +19,13 @@ pub struct Address {
 }
 
 impl Fields for Address {
-    ghost use Rattle.std.specs.Prelude.{[], ◌∷◌, codes, refl};
-
     type Types = (String, (u16, ()));
 
     ghost name = { codes "Address" };
 
     ghost names = { codes "host" ∷ codes "port" ∷ [] };
 
-    ghost distinct = { refl };
-
-    ghost as_many = { refl };
+    ghost fits = { record { distinct = refl; as_many = refl } };
 
     fn names(alloc: Global) -> Result<(String, Vec<String>), AllocError> {
         struct_names(alloc, "Address", &["host", "port"])
@@ -40,9 +39,7 @@ impl Composed for Address {
 }
 
 impl<'de> FromParts<'de> for Address {
-    ghost use Rattle.std.specs.Prelude.{◌≡◌};
-
-    ghost made = { λ parts a. parts.fields ≡ (a.host, (a.port, tt)) };
+    ghost made = { λ parts x. parts ≡ ⟦<Address as Composed>⟧.parts x };
 
     fn from_parts(_alloc: Global, parts: Struct<Address>) -> Result<Address, BuildFault> {
         let (host, (port, ())) = parts.into_fields();
@@ -52,15 +49,11 @@ impl<'de> FromParts<'de> for Address {
 
 impl ToParts for Address {
     fn parts_to_data<'a>(&'a self, alloc: Global) -> Result<Data<'a>, Error> {
-        let host = self.host.to_data(alloc)?;
-        let port = self.port.to_data(alloc)?;
-        Ok(Data::Struct(vec![in alloc; host, port]?))
+        Ok(Data::Struct(vec![in alloc; self.host.to_data(alloc)?, self.port.to_data(alloc)?]?))
     }
 }
 
 impl<'de> RoundTripParts<'de> for Address {
-    ghost use Rattle.std.proofs.Common.{rules};
-
     ghost same = { Prim.search rules };
 
     ghost never = { λ _ _ refused. refused };

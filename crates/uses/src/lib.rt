@@ -2,6 +2,7 @@
 #![tactic(auto)]
 
 mod address;
+mod backup;
 mod greeting;
 mod listen;
 mod server;
@@ -9,6 +10,7 @@ mod timeouts;
 mod workers;
 
 pub use address::Address;
+pub use backup::Backup;
 pub use greeting::Greeting;
 pub use listen::Listen;
 pub use server::Server;

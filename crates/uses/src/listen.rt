@@ -1,11 +1,16 @@
 //! An enum: a variant without content, one with a content, and one with fields.
 
+ghost use Rattle.std.specs.Prelude.{◌≡◌, [], ◌∷◌, codes, refl};
+ghost use Rattle.std.proofs.Common.{rules};
+ghost use Rattle.uses.specs.declared.listen.Listen.TheVariants.{Off, Port, At};
+ghost use Rattle.yaml_types.specs.declared.choice.OneOf.TheVariants.{First, Other};
+
 use std::alloc::{AllocError, Global};
 use yaml_base::Error;
 use yaml_shape::Data;
 use yaml_types::{
     BuildFault, Composed, Enum, FromParts, Last, NewtypeVariant, OneOf, RoundTripParts, Serialize,
-    StructVariant, ToParts, UnitVariant, Variants, struct_names,
+    StructVariant, ToParts, UnitVariant, Variants, enum_names,
 };
 
 /// Where a server listens: nowhere, at a port of its own host, or at a port of a host.
@@ -16,9 +21,9 @@ pub enum Listen {
     At { host: String, port: u16 },
 }
 
-impl Variants for Listen {
-    ghost use Rattle.std.specs.Prelude.{[], ◌∷◌, codes, refl};
+const VARIANTS: &[(&str, &[&str])] = &[("off", &[]), ("port", &[]), ("at", &["host", "port"])];
 
+impl Variants for Listen {
     type Choice = OneOf<
         UnitVariant,
         OneOf<NewtypeVariant<u16>, Last<StructVariant<(String, (u16, ()))>>>,
@@ -28,25 +33,14 @@ impl Variants for Listen {
 
     ghost names = { (codes "off", []) ∷ (codes "port", []) ∷ (codes "at", codes "host" ∷ codes "port" ∷ []) ∷ [] };
 
-    ghost distinct = { refl };
-
-    ghost few = { refl };
-
-    ghost as_many = { refl };
+    ghost fits = { record { distinct = refl; few = refl; as_many = refl } };
 
     fn names(alloc: Global) -> Result<(String, Vec<(String, Vec<String>)>), AllocError> {
-        let off = struct_names(alloc, "off", &[])?;
-        let port = struct_names(alloc, "port", &[])?;
-        let at = struct_names(alloc, "at", &["host", "port"])?;
-        let name = String::from_str(alloc, "Listen")?;
-        Ok((name, vec![in alloc; off, port, at]?))
+        enum_names(alloc, "Listen", VARIANTS)
     }
 }
 
 impl Composed for Listen {
-    ghost use Rattle.uses.specs.declared.listen.Listen.TheVariants.{Off, Port, At};
-    ghost use Rattle.yaml_types.specs.declared.choice.OneOf.TheVariants.{First, Other};
-
     type Parts = Enum<Listen>;
 
     ghost parts = { elim [
@@ -57,15 +51,7 @@ impl Composed for Listen {
 }
 
 impl<'de> FromParts<'de> for Listen {
-    ghost use Rattle.std.specs.Prelude.{◌≡◌};
-    ghost use Rattle.uses.specs.declared.listen.Listen.TheVariants.{Off, Port, At};
-    ghost use Rattle.yaml_types.specs.declared.choice.OneOf.TheVariants.{First, Other};
-
-    ghost made = { λ parts. elim [
-      | Off ↦ parts.choice ≡ First (record {})
-      | Port port ↦ parts.choice ≡ Other (First (record { content = port }))
-      | At host port ↦ parts.choice ≡ Other (Other (record { variant = record { fields = (host, (port, tt)) } }))
-    ] };
+    ghost made = { λ parts x. parts ≡ ⟦<Listen as Composed>⟧.parts x };
 
     fn from_parts(_alloc: Global, parts: Enum<Listen>) -> Result<Listen, BuildFault> {
         match parts.into_choice() {
@@ -85,18 +71,14 @@ impl ToParts for Listen {
             Listen::Off => Ok(Data::Variant(0, Box::new(alloc, Data::Unit)?)),
             Listen::Port(port) => Ok(Data::Variant(1, Box::new(alloc, port.to_data(alloc)?)?)),
             Listen::At { host, port } => {
-                let host = host.to_data(alloc)?;
-                let port = port.to_data(alloc)?;
-                let fields = Data::Struct(vec![in alloc; host, port]?);
-                Ok(Data::Variant(2, Box::new(alloc, fields)?))
+                let fields = vec![in alloc; host.to_data(alloc)?, port.to_data(alloc)?]?;
+                Ok(Data::Variant(2, Box::new(alloc, Data::Struct(fields))?))
             }
         }
     }
 }
 
 impl<'de> RoundTripParts<'de> for Listen {
-    ghost use Rattle.std.proofs.Common.{rules};
-
     ghost same = { Prim.search rules };
 
     ghost never = { λ _ _ refused. refused };

@@ -27,9 +27,7 @@ impl Fields for Server {
 
     ghost names = { codes "listen" ∷ codes "workers" ∷ codes "tags" ∷ [] };
 
-    ghost distinct = { refl };
-
-    ghost as_many = { refl };
+    ghost fits = { record { distinct = refl; as_many = refl } };
 
     fn names(alloc: Global) -> Result<(String, Vec<String>), AllocError> {
         struct_names(alloc, "Server", &["listen", "workers", "tags"])

@@ -1,9 +1,9 @@
 //! The types, read from data and written as data.
 
-use crate::{Address, Greeting, Listen, Server, Timeouts, Workers};
+use crate::{Address, Backup, Greeting, Listen, Server, Timeouts, Workers};
 use std::alloc::Global;
 use std::test::Fail;
-use yaml_shape::{Data, Shape, Text, Typed};
+use yaml_shape::{Data, Shape, Text, Typed, VariantShape};
 use yaml_types::{BuildFault, Deserialize, Serialize};
 
 // The data of an address.
@@ -107,6 +107,33 @@ fn a_variant_is_written_with_its_number(rt: HostRuntime) -> Result<(), Fail> {
         let again: Listen = read(alloc, written)??;
         assert!(rt; again == all[i]);
     }
+    Ok(())
+}
+
+#[test]
+fn a_strict_variant_and_one_without_names_come_back(rt: HostRuntime) -> Result<(), Fail> {
+    let alloc = rt.alloc();
+    let (schema, id) = <Backup as Deserialize>::schema(alloc)?;
+    let Some(Shape::Enum { variants, .. }) = schema.shape(id) else {
+        return Err("not an enum")?;
+    };
+    assert!(rt; matches!(&variants[0].1, VariantShape::Tuple(_)));
+    assert!(rt; matches!(&variants[1].1, VariantShape::StrictStruct(_)));
+
+    let two = vec![in alloc; Data::Unsigned(4), Data::Unsigned(30)]?;
+    let at: Backup = read(alloc, variant(alloc, 0, Data::Tuple(two))?)??;
+    assert!(rt; at == Backup::At(4, 30));
+    let again: Backup = read(alloc, at.to_data(alloc)?)??;
+    assert!(rt; again == at);
+
+    let two = vec![in alloc; Data::Unsigned(12), Data::Unsigned(7)]?;
+    let every: Backup = read(alloc, variant(alloc, 1, Data::Struct(two))?)??;
+    assert!(rt; every == Backup::Every { hours: 12, keep: 7 });
+    let again: Backup = read(alloc, every.to_data(alloc)?)??;
+    assert!(rt; again == every);
+
+    let one = vec![in alloc; Data::Unsigned(4)]?;
+    assert!(rt; Typed::new(&schema, id, &variant(alloc, 0, Data::Tuple(one))?).is_none());
     Ok(())
 }
 

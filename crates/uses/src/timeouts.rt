@@ -1,5 +1,8 @@
 //! A struct that refuses the keys that it does not have.
 
+ghost use Rattle.std.specs.Prelude.{◌≡◌, [], ◌∷◌, codes, refl};
+ghost use Rattle.std.proofs.Common.{rules};
+
 use std::alloc::{AllocError, Global};
 use yaml_base::Error;
 use yaml_shape::Data;
@@ -16,17 +19,13 @@ pub struct Timeouts {
 }
 
 impl Fields for Timeouts {
-    ghost use Rattle.std.specs.Prelude.{[], ◌∷◌, codes, refl};
-
     type Types = (u32, (u32, ()));
 
     ghost name = { codes "Timeouts" };
 
     ghost names = { codes "connect" ∷ codes "answer" ∷ [] };
 
-    ghost distinct = { refl };
-
-    ghost as_many = { refl };
+    ghost fits = { record { distinct = refl; as_many = refl } };
 
     fn names(alloc: Global) -> Result<(String, Vec<String>), AllocError> {
         struct_names(alloc, "Timeouts", &["connect", "answer"])
@@ -40,9 +39,7 @@ impl Composed for Timeouts {
 }
 
 impl<'de> FromParts<'de> for Timeouts {
-    ghost use Rattle.std.specs.Prelude.{◌≡◌};
-
-    ghost made = { λ parts t. parts.fields ≡ (t.connect, (t.answer, tt)) };
+    ghost made = { λ parts x. parts ≡ ⟦<Timeouts as Composed>⟧.parts x };
 
     fn from_parts(_alloc: Global, parts: StrictStruct<Timeouts>) -> Result<Timeouts, BuildFault> {
         let (connect, (answer, ())) = parts.into_fields();
@@ -52,15 +49,12 @@ impl<'de> FromParts<'de> for Timeouts {
 
 impl ToParts for Timeouts {
     fn parts_to_data<'a>(&'a self, alloc: Global) -> Result<Data<'a>, Error> {
-        let connect = self.connect.to_data(alloc)?;
-        let answer = self.answer.to_data(alloc)?;
-        Ok(Data::Struct(vec![in alloc; connect, answer]?))
+        let fields = vec![in alloc; self.connect.to_data(alloc)?, self.answer.to_data(alloc)?]?;
+        Ok(Data::Struct(fields))
     }
 }
 
 impl<'de> RoundTripParts<'de> for Timeouts {
-    ghost use Rattle.std.proofs.Common.{rules};
-
     ghost same = { Prim.search rules };
 
     ghost never = { λ _ _ refused. refused };

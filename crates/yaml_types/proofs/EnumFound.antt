@@ -156,7 +156,7 @@ distinct_content : (size : ℕ) (names : List (List ℕ)) (c : Content) → leng
 distinct_content size names no_content same e = tt
 distinct_content size names (one_content s) same e = tt
 distinct_content size names (tuple_content ss) same e = tt
-distinct_content size names (struct_content ss) same e =
+distinct_content size names (struct_content strict ss) same e =
     subst AreDistinct (sym (firsts-zip names (starts_behind size ss) (length-starts size ss ∙ sym same)))
     (distinct_names names e)
 

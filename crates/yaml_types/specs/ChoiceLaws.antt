@@ -1,6 +1,6 @@
 -- Data is of the shape of an enum just where it is what one of its variants holds; and choices are closed.
 use Rattle.std.proofs.Common.{◌≡◌, ◌<◌, ◌+◌, ℕ, zero, suc, List, [], ◌∷◌, ◌++◌, map, length, true, refl, ◌∙◌}
-use Rattle.std.proofs.Common.{sym, ap, subst, All, arith}
+use Rattle.std.proofs.Common.{sym, ap, subst, All, Bool, arith}
 use Rattle.std.specs.Prelude.{slice_get}
 use Rattle.std.specs.List.{flat_map}
 use Rattle.std.proofs.lemmas.List.Elements.{All-nil, All-cons, All-head, All-tail, All-weaker, All-append}
@@ -67,7 +67,7 @@ content_bounded size names (one_content s) w =
     All-cons (λ id. id < size + (length s.0 + 0)) (size + s.1) [] (omega arith)
     (All-nil (λ id. id < size + (length s.0 + 0)))
 content_bounded size names (tuple_content ss) w = starts_bounded size ss w
-content_bounded size names (struct_content ss) w =
+content_bounded size names (struct_content strict ss) w =
     numbers_inside (λ id. id < size + total ss) names (starts_behind size ss) (starts_bounded size ss w)
 
 -- the numbers that variants name are before the end of the row of their types
@@ -122,11 +122,11 @@ tuple_variant_has : (size : ℕ) (ss : List Start) (whole : List PlainShape) →
 tuple_variant_has size ss whole w k (tuple_data ds) = parts_have size ss whole w k ds
 tuple_variant_has size ss whole w k _ = refl
 
-fields_have : (size : ℕ) (ss : List Start) (whole : List PlainShape) → All StartsWithin ss
+fields_have : (strict : Bool) (size : ℕ) (ss : List Start) (whole : List PlainShape) → All StartsWithin ss
     → KeepsAllShapes size ss whole → (d : PlainData)
-    → struct_has whole (starts_behind size ss) d ≡ content_matches (struct_content ss) d
-fields_have size ss whole w k (struct_data ds) = parts_have size ss whole w k ds
-fields_have size ss whole w k _ = refl
+    → struct_has whole (starts_behind size ss) d ≡ content_matches (struct_content strict ss) d
+fields_have strict size ss whole w k (struct_data ds) = parts_have size ss whole w k ds
+fields_have strict size ss whole w k _ = refl
 
 -- what a variant holds
 content_has : (size : ℕ) (names : List (List ℕ)) (c : Content) (whole : List PlainShape) → length names ≡ width_of c
@@ -135,9 +135,9 @@ content_has : (size : ℕ) (names : List (List ℕ)) (c : Content) (whole : List
 content_has size names no_content whole same w k d = unit_has d
 content_has size names (one_content s) whole same w k d = k.0 s.1 d (All-head StartsWithin s [] w)
 content_has size names (tuple_content ss) whole same w k d = tuple_variant_has size ss whole w k d
-content_has size names (struct_content ss) whole same w k d =
+content_has size names (struct_content strict ss) whole same w k d =
     ap (λ ids. struct_has whole ids d) (seconds-zip names (starts_behind size ss) (length-starts size ss ∙ sym same))
-    ∙ fields_have size ss whole w k d
+    ∙ fields_have strict size ss whole w k d
 
 abbrev pub first_of : List ℕ → ℕ
 first_of [] = 0

@@ -1,5 +1,5 @@
 -- Choices of variants, and the enums that are made of them.
-use Rattle.std.specs.Prelude.{ℕ, suc, ◌≡◌, ◌+◌, ◌-◌, ◌<◌, List, [], ◌∷◌, ◌++◌, map, length, slice_get, Bool, true}
+use Rattle.std.specs.Prelude.{ℕ, suc, ◌≡◌, ◌+◌, ◌-◌, ◌<◌, List, [], ◌∷◌, ◌++◌, map, length, slice_get, nat_le, Bool, true}
 use Rattle.std.specs.Prelude.{false, ◌&&◌, ◌⊎◌, String, Vec, string_bytes}
 use Rattle.std.specs.List.{list_all}
 use Rattle.std.specs.declared.alloc.Global.{Global}
@@ -16,26 +16,27 @@ use Rattle.yaml_types.specs.Rows.{total, all_distinct}
 use Rattle.yaml_types.specs.declared.choice.OneOf.{OneOf}
 use Rattle.yaml_types.specs.declared.choice.OneOf.TheVariants.{First, Other}
 
--- what a variant holds: nothing, one type, or a row of types, without names or with them
+-- what a variant holds: nothing, one type, or a row of types, without names or with them; of these it is known whether
+-- others are a fault
 pub data Content : Type 0 where
   no_content : Content
   one_content : Start → Content
   tuple_content : List Start → Content
-  struct_content : List Start → Content
+  struct_content : (strict : Bool) → List Start → Content
 
 -- the types of what it holds
 abbrev pub types_in : Content → List Start
 types_in no_content = []
 types_in (one_content s) = s ∷ []
 types_in (tuple_content ss) = ss
-types_in (struct_content ss) = ss
+types_in (struct_content strict ss) = ss
 
 -- how many of them have names
 abbrev pub width_of : Content → ℕ
 width_of no_content = 0
 width_of (one_content s) = 0
 width_of (tuple_content ss) = 0
-width_of (struct_content ss) = length ss
+width_of (struct_content strict ss) = length ss
 
 -- the types of what variants hold, in a row
 abbrev pub all_types : List Content → List Start
@@ -47,7 +48,7 @@ abbrev pub content_behind : ℕ → (names : List (List ℕ)) → Content → Pl
 content_behind size names no_content = unit_variant
 content_behind size names (one_content s) = newtype_variant (size + s.1)
 content_behind size names (tuple_content ss) = tuple_variant (starts_behind size ss)
-content_behind size names (struct_content ss) = struct_variant false (named_behind size names ss)
+content_behind size names (struct_content strict ss) = struct_variant strict (named_behind size names ss)
 
 -- the name of a variant, and those of its fields
 abbrev pub VariantNames : Type 0
@@ -68,6 +69,13 @@ enum_start name names contents =
 -- no two variants have one name, and none has a name for two fields
 abbrev pub all_apart : List VariantNames → Bool
 all_apart names = all_distinct (map (λ n. n.0) names) && list_all (λ n. all_distinct n.1) names
+
+-- The names are those of variants with so many fields that have names: there are as many for each, at most 4,096
+-- variants, no two of one name, and none with a name for two fields.
+pub record NamesFit (names : List VariantNames) (widths : List ℕ) : Type 0 where
+  pub distinct : all_apart names ≡ true
+  pub few : nat_le (length names) 4096 ≡ true
+  pub as_many : map (λ n. length n.1) names ≡ widths
 
 -- the names of variants and of their fields, as bytes
 abbrev pub variant_names : List (String Global × Vec (String Global) Global) → List VariantNames
@@ -92,7 +100,7 @@ abbrev pub content_matches : Content → PlainData → Bool
 content_matches no_content unit_data = true
 content_matches (one_content s) d = has_shape s.0 s.1 d
 content_matches (tuple_content ss) (tuple_data ds) = items_match ss ds
-content_matches (struct_content ss) (struct_data ds) = items_match ss ds
+content_matches (struct_content strict ss) (struct_data ds) = items_match ss ds
 content_matches _ _ = false
 
 -- there is a variant with this number, and the data is what it holds

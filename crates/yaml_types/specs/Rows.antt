@@ -1,5 +1,5 @@
 -- Rows of types, and the structs that are made of them.
-use Rattle.std.specs.Prelude.{ℕ, ◌+◌, List, [], ◌∷◌, Bool, true, not, ◌&&◌, ◌⊎◌, bytes_eq, length}
+use Rattle.std.specs.Prelude.{ℕ, ◌≡◌, ◌+◌, List, [], ◌∷◌, Bool, true, not, ◌&&◌, ◌⊎◌, bytes_eq, length}
 use Rattle.yaml_shape.specs.PlainShape.{struct_shape}
 use Rattle.yaml_shape.specs.PlainData.{PlainData, PlainItems, no_items, item, struct_data, tuple_data}
 use Rattle.yaml_shape.specs.Join.{joined_all, named_behind}
@@ -25,6 +25,11 @@ is_apart name (n ∷ names) = not (bytes_eq name n) && is_apart name names
 abbrev pub all_distinct : List (List ℕ) → Bool
 all_distinct [] = true
 all_distinct (name ∷ names) = is_apart name names && all_distinct names
+
+-- the names are those of so many fields: there are as many, and no name is there twice
+pub record FieldNamesFit (names : List (List ℕ)) (width : ℕ) : Type 0 where
+  pub distinct : all_distinct names ≡ true
+  pub as_many : length names ≡ width
 
 -- items, and others behind them
 abbrev pub items_then : PlainItems → PlainItems → PlainItems

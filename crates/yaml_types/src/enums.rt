@@ -1,14 +1,15 @@
 //! Enums: the number of a variant and what it holds, by a choice of variants.
 
-ghost use Rattle.std.specs.Prelude.{◌≡◌, ℕ, List, map, length, nat_le, IsTrue, string_bytes, IfOk, IfErr, All};
+ghost use Rattle.std.specs.Prelude.{◌≡◌, ℕ, List, map, string_bytes, IfOk, IfErr, All};
 ghost use Rattle.yaml_shape.specs.ShapeView.{variants_of};
 ghost use Rattle.yaml_shape.specs.Join.{joined_all, IsTooLarge};
 ghost use Rattle.yaml_types.specs.Start.{IsStart, IsClosed};
 ghost use Rattle.yaml_types.specs.Choices.{VariantNames, Content, all_types, width_of, variants_behind, variant_names};
-ghost use Rattle.yaml_types.specs.Choices.{enum_start, all_apart};
+ghost use Rattle.yaml_types.specs.Choices.{enum_start, NamesFit};
 
 use crate::choice::{Choice, ReadChoice, RoundTripChoice, WriteChoice};
 use crate::fault::BuildFault;
+use crate::structs::struct_names;
 use crate::traits::{Deserialize, RoundTrip, Serialize};
 use std::alloc::{AllocError, Global};
 use yaml_base::Error;
@@ -28,19 +29,32 @@ where
     // The name of each variant, and those of its fields, in order.
     ghost names: { List VariantNames };
 
-    /// The name of the enum, and those of the variants, each with those of its fields, in order; `struct_names` makes
-    /// those of one variant.
+    /// The name of the enum, and those of the variants, each with those of its fields, in order; `enum_names` makes
+    /// them.
     fn names(alloc: Global) -> Result<(String, Vec<(String, Vec<String>)>), AllocError>
         ensures { IfOk result (λ made. (string_bytes made.0 ≡ name) × (variant_names made.1.items ≡ names)) };
 
-    // No two variants have one name, and none has a name for two fields.
-    ghost distinct: { IsTrue (all_apart names) };
+    // The names are those of the variants and of their fields.
+    ghost fits: { NamesFit names Self.Choice.widths };
+}
 
-    // There are at most 4,096 variants.
-    ghost few: { IsTrue (nat_le (length names) 4096) };
-
-    // There are as many names as variants, and as many for each as it has fields with names.
-    ghost as_many: { map (λ n. length n.1) names ≡ Self.Choice.widths };
+/// The name of an enum, and those of its variants, each with those of its fields, as texts of their own.
+pub fn enum_names(
+    alloc: Global,
+    name: &str,
+    variants: &[(&str, &[&str])],
+) -> Result<(String, Vec<(String, Vec<String>)>), AllocError>
+    ensures name { IfOk result (λ made. string_bytes made.0 ≡ name.now) }
+    ensures variants { IfOk result (λ made. variant_names made.1.items
+        ≡ map (λ v. (v.0.now, map (λ text. text.now) v.1.now)) variants.now) }
+{
+    let name = String::from_str(alloc, name)?;
+    let mut names = Vec::with_capacity(alloc, variants.len())?;
+    for i in 0..variants.len() {
+        let (variant, fields) = variants[i];
+        names.push(struct_names(alloc, variant, fields)?)?;
+    }
+    Ok((name, names))
 }
 
 /// The variant of an enum, in a choice. It is read from a node that has the name of a variant as its tag, or as its
@@ -125,7 +139,7 @@ where
 
     ghost closed = { closed_enum F.name F.names F.Choice.contents F.Choice.closed };
 
-    ghost of_shape = { λ x k. enum_of_shape F.name F.names F.Choice.contents F.as_many F.Choice.as_wide
+    ghost of_shape = { λ x k. enum_of_shape F.name F.names F.Choice.contents F.fits.as_many F.Choice.as_wide
         F.Choice.closed (F.Choice.place x.choice) (F.Choice.written x.choice) (F.Choice.of_shape x.choice k) };
 
     fn schema(alloc: Global) -> Result<(Schema, ShapeId), SchemaFault> {

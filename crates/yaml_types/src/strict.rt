@@ -101,7 +101,7 @@ where
 
     ghost closed = { closed_struct true F.name F.names F.Types.starts F.Types.closed };
 
-    ghost of_shape = { λ x k. struct_of_shape true F.name F.names F.Types.starts F.as_many F.Types.as_wide
+    ghost of_shape = { λ x k. struct_of_shape true F.name F.names F.Types.starts F.fits.as_many F.Types.as_wide
         F.Types.closed (F.Types.written x.fields) (F.Types.of_shape x.fields k) };
 
     fn schema(alloc: Global) -> Result<(Schema, ShapeId), SchemaFault> {

@@ -3,7 +3,7 @@
 ghost use Rattle.std.specs.Prelude.{◌≡◌, ℕ, List, map, length, false, IsTrue, string_bytes, All, IfOk, IfErr};
 ghost use Rattle.yaml_shape.specs.Join.{parts_of, StartsWithin, IsTooLarge};
 ghost use Rattle.yaml_types.specs.Start.{IsStart};
-ghost use Rattle.yaml_types.specs.Rows.{struct_start, all_distinct};
+ghost use Rattle.yaml_types.specs.Rows.{struct_start, all_distinct, FieldNamesFit};
 
 use crate::fault::BuildFault;
 use crate::row::{ReadRow, RoundTripRow, Row, WriteRow};
@@ -30,11 +30,8 @@ where
     fn names(alloc: Global) -> Result<(String, Vec<String>), AllocError>
         ensures { IfOk result (λ made. (string_bytes made.0 ≡ name) × (map string_bytes made.1.items ≡ names)) };
 
-    // No name is there twice.
-    ghost distinct: { IsTrue (all_distinct names) };
-
-    // There are as many names as types.
-    ghost as_many: { length names ≡ Self.Types.width };
+    // The names are those of the fields.
+    ghost fits: { FieldNamesFit names Self.Types.width };
 }
 
 /// The name of a struct or a variant, and the names of its fields, as texts of their own.
@@ -148,7 +145,7 @@ where
 
     ghost closed = { closed_struct false F.name F.names F.Types.starts F.Types.closed };
 
-    ghost of_shape = { λ x k. struct_of_shape false F.name F.names F.Types.starts F.as_many F.Types.as_wide
+    ghost of_shape = { λ x k. struct_of_shape false F.name F.names F.Types.starts F.fits.as_many F.Types.as_wide
         F.Types.closed (F.Types.written x.fields) (F.Types.of_shape x.fields k) };
 
     fn schema(alloc: Global) -> Result<(Schema, ShapeId), SchemaFault> {

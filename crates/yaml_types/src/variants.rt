@@ -171,10 +171,11 @@ impl<R: Row> Variant for StructVariant<R> {
 }
 
 impl<'de, R: ReadRow<'de>> ReadVariant<'de> for StructVariant<R> {
+    ghost use Rattle.std.specs.Prelude.{false};
     ghost use Rattle.yaml_types.specs.Rows.{BuiltFields, RefusedFields};
     ghost use Rattle.yaml_types.specs.Choices.{struct_content};
 
-    ghost content = { struct_content R.starts };
+    ghost content = { struct_content false R.starts };
 
     ghost built = { λ d x. BuiltFields R.built d x.fields };
 
@@ -207,10 +208,11 @@ impl<'de, R: ReadRow<'de>> ReadVariant<'de> for StructVariant<R> {
 }
 
 impl<R: WriteRow> WriteVariant for StructVariant<R> {
+    ghost use Rattle.std.specs.Prelude.{false};
     ghost use Rattle.yaml_shape.specs.PlainData.{struct_data};
     ghost use Rattle.yaml_types.specs.Choices.{struct_content};
 
-    ghost content = { struct_content R.starts };
+    ghost content = { struct_content false R.starts };
 
     ghost kept = { λ x. R.kept x.fields };
 
@@ -348,11 +350,12 @@ impl<'de, T: RoundTrip<'de>> RoundTripVariant<'de> for NewtypeVariant<T> {
 }
 
 impl<'de, R: RoundTripRow<'de>> RoundTripVariant<'de> for StructVariant<R> {
+    ghost use Rattle.std.specs.Prelude.{false};
     ghost use Rattle.std.proofs.Common.{ap};
     ghost use Rattle.yaml_types.specs.Choices.{struct_content};
     ghost use Rattle.yaml_types.specs.RowReturns.{fields_returned, fields_accepted};
 
-    ghost one_content = { ap struct_content R.one_row };
+    ghost one_content = { ap (struct_content false) R.one_row };
 
     ghost returned = { λ x y d. fields_returned R.WriteRow.written R.WriteRow.kept R.ReadRow.built R.eq R.returned
         x.fields y.fields d };

@@ -8,7 +8,7 @@ build-requires g c κs =
     let choice = g.met.F.Choice.ReadChoice c.lifetimes (assumption c) in (
       (refl, tt),
       held_found g.F.Variants.name g.F.Variants.names g.F.Choice.ReadChoice.contents
-          (g.met.F.Variants.as_many ∙ sym choice.as_wide) choice.closed c.args.found c.in-Variant.place
+          (g.met.F.Variants.fits.as_many ∙ sym choice.as_wide) choice.closed c.args.found c.in-Variant.place
           c.in-Variant.content c.into_inner.result c.in-Variant.is c.into_inner.ensures c.requires,
     )
 

@@ -22,8 +22,8 @@ returns-in-Ok-clause-refused g c =
     (enum_made c.empty.result c.new.result.items g.F.Variants.names (into_iter_items c.into_iter.result)
     g.F.Choice.WriteChoice.contents (c.in-Ok.table, c.in-Ok.variants) c.empty.ensures c.new.ensures.items
     (ap variant_names c.into_iter.ensures.rest ∙ c.in_ok-name.ensures.1) c.in-Ok.ensures.ok)
-    (g.met.F.Variants.as_many ∙ sym g.met.F.Choice.WriteChoice.as_wide)
-    g.met.F.Variants.distinct c.enum_of.ensures.refused
+    (g.met.F.Variants.fits.as_many ∙ sym g.met.F.Choice.WriteChoice.as_wide)
+    g.met.F.Variants.fits.distinct c.enum_of.ensures.refused
 
 pub returns-in-Err-clause-refused : goal.returns-in-Err-clause-refused
 returns-in-Err-clause-refused g c =

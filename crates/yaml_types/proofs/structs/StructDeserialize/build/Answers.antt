@@ -10,7 +10,7 @@ pub build-requires : goal.build-requires
 build-requires g c κs =
     let row = g.met.F.Types.ReadRow c.lifetimes (assumption c) in
     let same : length g.F.Fields.names ≡ length g.F.Types.ReadRow.starts =
-    g.met.F.Fields.as_many ∙ sym row.as_wide in (
+    g.met.F.Fields.fits.as_many ∙ sym row.as_wide in (
       (refl, tt),
       subst (λ l. IsTrue (items_match g.F.Types.ReadRow.starts (items_view l))) (sym c.into_iter.ensures.rest)
           (fields_found false g.F.Fields.name g.F.Fields.names g.F.Types.ReadRow.starts same row.closed

@@ -3,7 +3,7 @@ use Rattle.std.proofs.Common.{◌∙◌, sym, subst}
 use Rattle.yaml_shape.specs.Join.{parts_of, IsTooLarge}
 use Rattle.yaml_shape.proofs.RowShapes.{row_length}
 use Rattle.yaml_types.specs.StructLaws.{length-row}
-use Rattle.yaml_types.proofs.contents.struct_behind.Goals as goal
+use Rattle.yaml_types.proofs.contents.fields_behind.Goals as goal
 
 pub with_names-requires : goal.with_names-requires
 with_names-requires c =
