@@ -7,6 +7,7 @@ pub mod KindLaws
 pub mod LocalNameLaws
 pub mod MantissaLaws
 pub mod NumberLaws
+pub mod QuotedExamples
 pub mod RangeLaws
 pub mod SignLaws
 pub mod StreamMachineLaws

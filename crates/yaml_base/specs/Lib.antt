@@ -12,6 +12,7 @@ pub mod Floats
 pub mod FoundText
 pub mod Integers
 pub mod Kinds
+pub mod LineBreaks
 pub mod LocalName
 pub mod MarkText
 pub mod MarkedEvents
@@ -21,6 +22,7 @@ pub mod PlainFault
 pub mod PlainWords
 pub mod Position
 pub mod Quoted
+pub mod QuotedLines
 pub mod Renders
 pub mod ScalarText
 pub mod Signs

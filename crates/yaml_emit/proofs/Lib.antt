@@ -1,6 +1,10 @@
 -- Lemmas that proofs of this crate share.
+pub mod ByItself
+pub mod DoubledLaws
+pub mod EscapeLaws
 pub mod Letters
 pub mod LeafLaws
 pub mod RunLaws
+pub mod SaidLaws
 pub mod StreamLaws
 pub mod TreeTexts

@@ -4,6 +4,7 @@ pub mod LayoutMachine
 pub mod Leaves
 pub mod Places
 pub mod PrintedTexts
+pub mod Says
 pub mod Scalars
 pub mod StreamTexts
 pub mod Styles

@@ -3,6 +3,7 @@
 
 mod character;
 mod fit;
+pub mod laws;
 mod layout;
 mod leaf;
 mod open;

@@ -1,7 +1,7 @@
 -- What the rest of a source says.
 use Rattle.std.proofs.Common.{◌≡◌, ℕ, ◌+◌, ◌-◌, ◌<◌, ◌≤◌, List, Option, None, length, drop, min, sym, ap, subst, ◌∙◌, arith}
 use Rattle.std.proofs.lemmas.List.{drop-drop, length-drop}
-use Rattle.yaml_parse.specs.PlainText.{IsOneLine, begins_with_break}
+use Rattle.yaml_base.specs.LineBreaks.{IsOneLine, begins_with_break}
 
 -- what has no line break has none behind any of its bytes
 rest_has_none : (n : ℕ) (bytes : List ℕ) → IsOneLine bytes → IsOneLine (drop n bytes)

@@ -1,23 +1,10 @@
 -- What plain scalars say.
-use Rattle.std.specs.Prelude.{◌≡◌, ◌-◌, ◌==◌, ◌&&◌, ◌||◌, ◌<◌, ℕ, All, Bool, IfSome, List, None, Option, Some}
-use Rattle.std.specs.Prelude.{drop, false, length, slice_index}
+use Rattle.std.specs.Prelude.{◌≡◌, ◌-◌, ℕ, All, IfSome, List, None, Option, Some, drop, length}
+use Rattle.yaml_base.specs.LineBreaks.{IsOneLine}
 use Rattle.yaml_base.specs.PlainEvent.{PlainEvent, PlainScalar, event_of, scalar}
 use Rattle.yaml_base.specs.Position.{Position}
 use Rattle.yaml_base.specs.declared.event.Event.{Event}
 use Rattle.yaml_base.specs.declared.event.ScalarStyle.TheVariants as style
-
--- the bytes begin with a line feed, a carriage return, a next line, a line separator or a paragraph separator
-abbrev pub begins_with_break : List ℕ → Bool
-begins_with_break bytes =
-    let first = slice_index bytes 0 in
-    let second = slice_index bytes 1 in
-    let third = slice_index bytes 2 in
-    first == 0x0A || (first == 0x0D || (first == 0xC2 && second == 0x85
-    || first == 0xE2 && (second == 0x80 && (third == 0xA8 || third == 0xA9))))
-
--- no line break stands in the bytes
-abbrev pub IsOneLine : List ℕ → Type 0
-IsOneLine bytes = (k : ℕ) → k < length bytes → begins_with_break (drop k bytes) ≡ false
 
 -- the text is the last part of the source, and where neither an anchor nor a tag stands before it, the whole source
 abbrev pub IsRestOf : PlainScalar → List ℕ → Type 0

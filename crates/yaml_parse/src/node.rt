@@ -326,6 +326,7 @@ impl<'a> Machine<'a> {
     }
 
     // An empty scalar behind an indicator, with nothing of its own.
+    #[inline(never)]
     pub(crate) fn nothing_behind(&mut self, indicator: &Span) -> Result<bool, Stop>
         ensures { self.new.stream.text.now ≡ self.old.stream.text.now }
     {

@@ -1,7 +1,7 @@
 //! What plain scalars say: their source, with its lines folded.
 
 ghost use Rattle.std.specs.Prelude.{◌≡◌, ◌<◌, ◌≤◌, IfOk, drop, length, true};
-ghost use Rattle.yaml_parse.specs.PlainText.{IsOneLine, begins_with_break};
+ghost use Rattle.yaml_base.specs.LineBreaks.{IsOneLine, begins_with_break};
 
 use std::alloc::{AllocError, Global};
 

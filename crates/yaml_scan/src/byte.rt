@@ -47,6 +47,13 @@ pub(crate) fn is_blank(byte: u8) -> bool {
     byte == b' ' || byte == b'\t'
 }
 
+// Whether a token begins with this byte that is a printed character of ASCII: neither a blank, a comment nor a line
+// break.
+#[inline(always)]
+pub(crate) fn is_ascii_start(byte: u8) -> bool {
+    matches!(byte, b'!' | b'"' | b'$'..=b'~')
+}
+
 // Whether this byte has a meaning of its own within brackets.
 pub(crate) fn is_flow_indicator(byte: u8) -> bool {
     matches!(byte, b',' | b'[' | b']' | b'{' | b'}')

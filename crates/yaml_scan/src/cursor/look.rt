@@ -2,7 +2,7 @@
 
 ghost use Rattle.std.specs.Prelude.{◌<◌};
 
-use crate::byte::is_blank;
+use crate::byte::{is_ascii_start, is_blank};
 use crate::cursor::Cursor;
 
 impl Cursor<'_> {
@@ -45,10 +45,10 @@ impl Cursor<'_> {
         }
     }
 
-    // Whether a token begins here with a character of ASCII that is printed: neither a blank, a comment nor a line break.
+    // Whether a token of ASCII begins here.
     #[inline(always)]
     pub(crate) fn is_ascii_start(&self) -> bool {
-        matches!(self.byte(0), b'!' | b'"' | b'$'..=b'~')
+        is_ascii_start(self.byte(0))
     }
 
     // Whether a space or a tab lies so many bytes ahead.

@@ -2,7 +2,7 @@
 
 ghost use Rattle.std.specs.Prelude.{◌-◌, ◌≤◌, length};
 
-use crate::byte::{Part, Run, blanks_at_end, may_break, spaces_in, word_in};
+use crate::byte::{Part, Run, blanks_at_end, is_ascii_start, may_break, spaces_in, word_in};
 use crate::cursor::Cursor;
 use std::alloc::AllocError;
 
@@ -69,6 +69,20 @@ impl Cursor<'_> {
         let width = spaces_in(&self.text[self.at..], tabs);
         self.column += width;
         self.at += width;
+    }
+
+    // Steps over a single space, if one stands here right before a token of ASCII, and tells whether one did.
+    #[inline(always)]
+    pub(crate) fn skip_lone_space(&mut self) -> bool {
+        if self.text.len() - self.at < 2 {
+            return false;
+        }
+        let found = self.text[self.at] == b' ' && is_ascii_start(self.text[self.at + 1]);
+        if found {
+            self.column += 1;
+            self.at += 1;
+        }
+        found
     }
 
     // Steps over a comment, up to the end of its line.

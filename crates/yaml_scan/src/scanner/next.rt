@@ -16,7 +16,7 @@ impl Scanner<'_> {
     #[inline(always)]
     fn to_next_token(&mut self) {
         for _ in 0..self.cursor.left() {
-            if self.cursor.is_ascii_start() {
+            if self.cursor.is_ascii_start() || self.cursor.skip_lone_space() {
                 break;
             }
             if self.cursor.is_order_mark() {

@@ -10,6 +10,7 @@ use yaml_token::{Context, MarkedStyle, Stop, Token};
 
 impl Scanner<'_> {
     // `&` with a name.
+    #[inline(never)]
     pub(super) fn anchor(&mut self) -> Result<(), Stop> {
         self.save_candidate()?;
         self.key_allowed = false;
@@ -19,6 +20,7 @@ impl Scanner<'_> {
     }
 
     // `*` with a name.
+    #[inline(never)]
     pub(super) fn alias(&mut self) -> Result<(), Stop> {
         self.save_candidate()?;
         self.key_allowed = false;
@@ -38,6 +40,7 @@ impl Scanner<'_> {
     }
 
     // `|` or `>`
+    #[inline(never)]
     pub(super) fn block_scalar(&mut self, style: MarkedStyle) -> Result<(), Stop> {
         self.remove_candidate()?;
         self.key_allowed = true;
@@ -53,6 +56,7 @@ impl Scanner<'_> {
     }
 
     // `'` or `"`
+    #[inline(never)]
     pub(super) fn quoted_scalar(&mut self, quote: Quote) -> Result<(), Stop> {
         self.save_candidate()?;
         self.key_allowed = false;
