@@ -21,7 +21,8 @@ ghost use Rattle.std.specs.Prelude.{◌≡◌, ℕ, suc, ◌<◌, length, OnOk, 
 ghost use Rattle.std.specs.Option.{is_some};
 ghost use Rattle.yaml_base.specs.Answer.{Gives, is_memory};
 ghost use Rattle.yaml_base.specs.Position.{Position};
-ghost use Rattle.yaml_base.specs.declared.error.Cause.TheVariants.{RecursionLimitExceeded};
+ghost use Rattle.yaml_base.specs.declared.error.Cause.TheVariants.{BytesUnsupported};
+ghost use Rattle.yaml_base.specs.declared.error.Cause.TheVariants.{RecursionLimitExceeded, RepetitionLimitExceeded};
 ghost use Rattle.yaml_shape.specs.DataView.{data_of};
 ghost use Rattle.yaml_shape.specs.ShapeView.{shape_of};
 ghost use Rattle.yaml_shape.specs.Validity.{NamesWithin};
@@ -44,10 +45,30 @@ use yaml_base::{Cause, Error, Mark, Path};
 use yaml_shape::{Data, Shape};
 
 /// The refusal of a collection with this mark that is nested too deep, or want of memory.
+#[cold]
+#[inline(never)]
 pub(super) fn too_deep(alloc: Global, mark: Mark) -> Refusal
     ensures { is_memory result ≡ false → result ≡ RecursionLimitExceeded mark }
 {
     refuse(alloc, Error::new(Cause::RecursionLimitExceeded(mark)))
+}
+
+// The refusal of a follow past the last one, or want of memory.
+#[cold]
+#[inline(never)]
+fn followed_too_often(alloc: Global) -> Refusal
+    ensures { is_memory result ≡ false → result ≡ RepetitionLimitExceeded }
+{
+    refuse(alloc, Error::new(Cause::RepetitionLimitExceeded))
+}
+
+// The refusal of bytes, which no node is read as, or want of memory.
+#[cold]
+#[inline(never)]
+fn refused_bytes(alloc: Global) -> Refusal
+    ensures { is_memory result ≡ false → result ≡ BytesUnsupported }
+{
+    refuse(alloc, Error::new(Cause::BytesUnsupported))
 }
 
 /// Whether the shape reads scalars alone.
@@ -107,6 +128,7 @@ impl<'s, 'de> Source<'s, 'de> {
 
     /// The same, where a fault is not placed yet.
     #[cycle(read)]
+    #[inline(never)]
     pub(super) fn read_unplaced(
         &self,
         path: &Path<'_>,
@@ -130,7 +152,7 @@ impl<'s, 'de> Source<'s, 'de> {
             Shape::Enum { name, variants } => {
                 self.read_enum(path, shape, name, variants, nest, taken, walk)
             }
-            Shape::Bytes => Err(refuse(self.alloc, Error::new(Cause::BytesUnsupported))),
+            Shape::Bytes => Err(refused_bytes(self.alloc)),
             Shape::Option(content) => self.read_option(path, shape, *content, nest, taken, walk),
             Shape::Newtype { name: _, inner } => self.read_newtype(path, *inner, nest, taken, walk),
             Shape::Seq(element) => {
@@ -207,7 +229,7 @@ impl<'s, 'de> Source<'s, 'de> {
             DocEvent::Scalar(scalar) => read_scalar(self.alloc, shape, is_taken(taken), scalar),
             DocEvent::Alias(target) => {
                 if walk.left == 0 {
-                    return Err(refuse(self.alloc, Error::new(Cause::RepetitionLimitExceeded)));
+                    return Err(followed_too_often(self.alloc));
                 }
                 walk.left -= 1;
                 let back = walk.place;

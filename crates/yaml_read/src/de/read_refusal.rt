@@ -56,6 +56,8 @@ pub(crate) fn refuse(alloc: Global, fault: Error) -> Refusal
 }
 
 /// The refusal where the events end too early, or want of memory.
+#[cold]
+#[inline(never)]
 pub(crate) fn ended(alloc: Global) -> Refusal
     ensures { is_memory result ≡ false → result ≡ EndOfStream }
 {

@@ -18,6 +18,7 @@ ghost use Rattle.yaml_read.specs.inner.Walks.{around_of, source_of, spot_of, rea
 use crate::de::node::any_parts::{
     any_list, any_tagged, duplicate_entry, has_key, put_pair, value_in,
 };
+use crate::de::node::fault_place::value_path;
 use crate::de::node::source::Source;
 use crate::de::node::too_deep;
 use crate::de::read_refusal::{Result, ended};
@@ -31,6 +32,7 @@ use yaml_tree::{Mapping, Value};
 impl<'s, 'de> Source<'s, 'de> {
     /// Any value.
     #[cycle(read)]
+    #[inline(never)]
     pub(crate) fn read_any(
         &self,
         path: &Path<'_>,
@@ -90,6 +92,7 @@ impl<'s, 'de> Source<'s, 'de> {
 
     /// The pairs of a mapping of any values, to its end.
     #[cycle(read)]
+    #[inline(never)]
     pub(crate) fn read_pairs(
         &self,
         path: &Path<'_>,
@@ -111,21 +114,22 @@ impl<'s, 'de> Source<'s, 'de> {
     {
         let mut pairs = Mapping::new(self.alloc);
         loop {
-            let Some((event, mark)) = self.event(walk.place) else {
+            let Some((event, _)) = self.event(walk.place) else {
                 return Err(ended(self.alloc));
             };
             if let DocEvent::MappingEnd = event {
                 walk.step();
                 return Ok(pairs);
             }
-            let key = match self.read_part(path, any, false, event, *mark, nest, walk) {
+            let key = match self.read_node(path, any, nest, None, walk) {
                 Ok(key) => value_in(key),
                 Err(refusal) => return Err(refusal),
             };
             if has_key(&pairs, &key) {
                 return Err(duplicate_entry(self.alloc, &key));
             }
-            let value = match self.read_value(path, event, any, false, nest, walk) {
+            let inner = value_path(&*path, &*event);
+            let value = match self.read_node(&inner, any, nest, None, walk) {
                 Ok(value) => value_in(value),
                 Err(refusal) => return Err(refusal),
             };

@@ -35,6 +35,8 @@ pub(crate) fn entry_key(alloc: Global, key: &Value) -> std::result::Result<Entry
 }
 
 /// The fault of a key that is there already, or want of memory.
+#[cold]
+#[inline(never)]
 pub(crate) fn duplicate_entry(alloc: Global, key: &Value) -> Refusal
     ensures { is_memory result ≡ false → result ≡ DuplicateEntry (entry_key (tree_of key.now)) None }
 {
@@ -73,6 +75,7 @@ fn values_in(alloc: Global, items: Vec<Data<'_>>) -> std::result::Result<Vec<Val
 }
 
 /// The sequence of the values that the data are.
+#[inline(never)]
 pub(crate) fn any_list<'de>(alloc: Global, items: Vec<Data<'de>>) -> Result<Data<'de>>
     ensures { Gives data_of result
         (Ok (any_data (sequence (trees_in (items_of (map data_of items.entry.items)))))) }
@@ -81,6 +84,7 @@ pub(crate) fn any_list<'de>(alloc: Global, items: Vec<Data<'de>>) -> Result<Data
 }
 
 /// The data under the tag of a name, as a value.
+#[inline(never)]
 pub(crate) fn any_tagged<'de>(alloc: Global, name: &str, data: Data<'_>) -> Result<Data<'de>>
     ensures { Gives data_of result (Ok (any_data (tagged name.now (tree_in (data_of data.entry))))) }
 {
@@ -94,6 +98,7 @@ pub(crate) fn any_tagged<'de>(alloc: Global, name: &str, data: Data<'_>) -> Resu
 }
 
 /// Whether a pair of the mapping has an equal key.
+#[inline(never)]
 pub(crate) fn has_key(pairs: &Mapping, key: &Value) -> bool
     ensures { result ≡ has_key (tree_of key.now) (pairs_of pairs.now) }
 {
@@ -101,6 +106,7 @@ pub(crate) fn has_key(pairs: &Mapping, key: &Value) -> bool
 }
 
 /// Puts the value at the key.
+#[inline(never)]
 pub(crate) fn put_pair(pairs: &mut Mapping, key: Value, value: Value) -> Result<()>
     ensures put { OnOk result
         (pairs_of pairs.new ≡ with_pair (tree_of key) (tree_of value) (pairs_of pairs.old)) }

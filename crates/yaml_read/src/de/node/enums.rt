@@ -45,6 +45,7 @@ fn is_filled_scalar(event: &DocEvent<'_>) -> bool
 impl<'s, 'de> Source<'s, 'de> {
     /// An enum: by the node's tag, or by its text where it has none.
     #[cycle(read)]
+    #[inline(never)]
     pub(crate) fn read_enum(
         &self,
         path: &Path<'_>,

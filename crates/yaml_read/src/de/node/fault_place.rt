@@ -42,6 +42,8 @@ fn places(shape: &Shape, taken: bool, event: &DocEvent<'_>) -> bool
 
 impl<'s, 'de> Source<'s, 'de> {
     /// The fault of the node at a place, with its place, if it has none yet; or want of memory.
+    #[cold]
+    #[inline(never)]
     pub(crate) fn placed_fault(
         &self,
         path: &Path<'_>,

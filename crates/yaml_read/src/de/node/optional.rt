@@ -38,6 +38,7 @@ fn is_content(event: &DocEvent<'_>, taken: bool) -> bool
 impl<'s, 'de> Source<'s, 'de> {
     /// An optional: its content, or absent.
     #[cycle(read)]
+    #[inline(never)]
     pub(crate) fn read_option(
         &self,
         path: &Path<'_>,
@@ -73,6 +74,7 @@ impl<'s, 'de> Source<'s, 'de> {
 
     /// A newtype: its content, one nesting deeper.
     #[cycle(read)]
+    #[inline(never)]
     pub(crate) fn read_newtype(
         &self,
         path: &Path<'_>,

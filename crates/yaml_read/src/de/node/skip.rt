@@ -48,6 +48,7 @@ impl<'s, 'de> Source<'s, 'de> {
     }
 
     /// The data of a node that is stepped over.
+    #[inline(never)]
     pub(crate) fn read_ignored(&self, walk: &mut Walk) -> Result<Data<'de>>
         requires forward { GoForward self.now.ends.now }
         ensures gives { Gives (λ x. (data_of x, spot_of walk.new)) result

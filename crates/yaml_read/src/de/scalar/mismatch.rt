@@ -100,6 +100,8 @@ pub(crate) fn found_scalar(
 }
 
 /// The fault of a sequence that its shape has no meaning for, or want of memory.
+#[cold]
+#[inline(never)]
 pub(crate) fn found_sequence(alloc: Global, shape: &Shape) -> Refusal
     ensures { is_memory result ≡ false → result ≡ sequence_fault (shape_of shape.now) }
 {
@@ -107,6 +109,8 @@ pub(crate) fn found_sequence(alloc: Global, shape: &Shape) -> Refusal
 }
 
 /// The fault of a mapping that its shape has no meaning for, or want of memory.
+#[cold]
+#[inline(never)]
 pub(crate) fn found_mapping(alloc: Global, shape: &Shape) -> Refusal
     ensures { is_memory result ≡ false → result ≡ mapping_fault (shape_of shape.now) }
 {

@@ -285,8 +285,8 @@ read_pairs-returns-in-Err = Pairs.read_pairs-returns-in-Err
 pub read_pairs-returns-then-has_key : goal.read_pairs-returns-then-has_key
 read_pairs-returns-then-has_key = Pairs.read_pairs-returns-then-has_key
 
-pub read_pairs-returns-in-Err-read_value : goal.read_pairs-returns-in-Err-read_value
-read_pairs-returns-in-Err-read_value = Pairs.read_pairs-returns-in-Err-read_value
+pub read_pairs-returns-in-Err-read_node : goal.read_pairs-returns-in-Err-read_node
+read_pairs-returns-in-Err-read_node = Pairs.read_pairs-returns-in-Err-read_node
 
 pub read_pairs-loop-event-preserved : goal.read_pairs-loop-event-preserved
 read_pairs-loop-event-preserved = Pairs.read_pairs-loop-event-preserved

@@ -130,8 +130,8 @@ read_pairs-returns-then-has_key t c =
       cost = omega (arith, v.cost, c.in-Ok.ensures.moves);
     }
 
-pub read_pairs-returns-in-Err-read_value : goal.read_pairs-returns-in-Err-read_value
-read_pairs-returns-in-Err-read_value t c =
+pub read_pairs-returns-in-Err-read_node : goal.read_pairs-returns-in-Err-read_node
+read_pairs-returns-in-Err-read_node t c =
     let l = c.loop-event in
     let v = l.invariant.1 in
     let vs = l.invariant.0 in
@@ -161,10 +161,10 @@ read_pairs-returns-in-Err-read_value t c =
           (any_no_value (source_of c.args.self.now) (reader_of fuel c.args.self.now)
           (way_of c.args.path.now) c.args.nest vs (spot_of l.walk) _ _ _
           (rw c.requires.shape at (c.in-Ok.ensures.gives fuel (omega (arith, v.left, lt, flat)))) new
-          (rw (c.requires.shape, there) at (c.in-Err-read_value.ensures.gives fuel
+          (rw (c.value_path-inner.ensures, c.requires.shape, there) at (c.in-Err-read_node.ensures.gives fuel
           (omega (arith, v.left, lt, moves, flat)) fault))));
       moves = tt;
-      cost = omega (arith, v.cost, moves, c.in-Err-read_value.ensures.cost);
+      cost = omega (arith, v.cost, moves, c.in-Err-read_node.ensures.cost);
     }
 
 pub read_pairs-loop-event-preserved : goal.read_pairs-loop-event-preserved
@@ -178,13 +178,13 @@ read_pairs-loop-event-preserved t c =
     (seen c.args.self.now.events.now l.walk.place) =
     ap (value_way (way_of c.args.path.now)) c.in-Some.ensures.found in
     let moves = c.in-Ok.ensures.moves in
-    let moves' = c.in-Ok-read_value.ensures.moves in
+    let moves' = c.in-Ok-read_node.ensures.moves in
     let absent : has_key (tree_in (data_of c.in-Ok.key)) (pairs_of l.pairs) ≡ false =
     rw c.value_in-key.ensures at (sym c.has_key.ensures ∙ c.if-has_key.false) in
     let new : new_key vs (data_of c.in-Ok.key) ≡ Ok (data_of c.in-Ok.key) =
     new_is_key vs (data_of c.in-Ok.key) (ap (has_key (tree_in (data_of c.in-Ok.key))) v.same ∙ absent) in
     let k = data_of c.in-Ok.key in
-    let w = data_of c.in-Ok-read_value.value in
+    let w = data_of c.in-Ok-read_node.value in
     let longer : length (vs ++ (k, w) ∷ []) ≡ length vs + 1 = length-append vs ((k, w) ∷ []) in (
       vs ++ (k, w) ∷ [],
       record {
@@ -207,7 +207,7 @@ read_pairs-loop-event-preserved t c =
             (any_entry (source_of c.args.self.now) (reader_of fuel c.args.self.now)
             (way_of c.args.path.now) c.args.nest vs (spot_of l.walk) _ _ _ _
             (rw c.requires.shape at (c.in-Ok.ensures.gives fuel (omega (arith, v.left, lt, flat)))) new
-            (rw (c.requires.shape, there) at (c.in-Ok-read_value.ensures.gives fuel
+            (rw (c.value_path-inner.ensures, c.requires.shape, there) at (c.in-Ok-read_node.ensures.gives fuel
             (omega (arith, v.left, lt, moves, flat)))));
       },
     )
