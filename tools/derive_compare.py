@@ -7,9 +7,9 @@ usage: derive_compare.py THEIRS rows FILE            the rows of a file, as crat
        crates/serde_case, which proves nothing, and takes some 5,000 rows at a time
 
 THEIRS is the program of tools/derived, built by `cargo build --release` there. Both programs read rows and print each
-with its answer. Answers that differ as docs/DIFFERENCES.md says count as listed. Prints the first other ones, and in
-the last line how many were the same, listed, left out, and how many differ. Status 0 only if none differs. Left out are
-rows at which the other program panics.
+with its answer. Answers that differ as docs/DIFFERENCES.md says count as listed. Prints the first other ones, then how
+many are listed of each kind, and in the last line how many were the same, listed, left out, and how many differ. Status
+0 only if none differs. Left out are rows at which the other program panics.
 """
 
 import os
@@ -170,6 +170,10 @@ def quoted(text):
     return '"%s"' % "".join(out)
 
 
+def unquoted(text):
+    return re.sub(r"\\(.)", lambda match: {"n": "\n"}.get(match.group(1), match.group(1)), text[1:-1])
+
+
 def random_rows(seed, count):
     texts = Texts(seed)
     rows = []
@@ -225,27 +229,56 @@ def plain(answer):
     return answer
 
 
-def listed(name, ours, theirs):
-    """Whether docs/DIFFERENCES.md has the difference."""
+def kind(name, text, ours, theirs):
+    """The kind of the difference, where docs/DIFFERENCES.md lists it, or None."""
     ours, theirs = plain(ours), plain(theirs)
-    if ours == theirs or ours.startswith("! floating point numbers are not"):
-        return True
+    if ours == theirs:
+        return "names of types and widths of numbers"
+    if ours.startswith("! floating point numbers are not"):
+        return "floating point numbers"
     if name.endswith("/documents"):
-        # theirs goes on with the parser's fault without end
-        read, more = theirs[: len(ours) - 1], theirs[len(ours) - 1 :].split("--- ")[1:]
-        return ours.startswith(read) and len(more) > 1 and more[0].startswith("! ") and len(set(more[:-1])) == 1
-    if not theirs.startswith("! "):
-        return False
+        return kind_of_documents(ours, theirs)
     if name in COPIED:
-        # their copy has kinds where ours has texts, and theirs tells the faults of a copy last
-        return True
-    if not ours.startswith("! "):
-        return False
+        return kind_of_copy(name, text, ours, theirs)
+    if not (ours.startswith("! ") and theirs.startswith("! ")):
+        return None
     our_way, their_way = WAY.match(ours), WAY.match(theirs)
     around = their_way.group(1) if their_way else ""
     if around and not (our_way and our_way.group(1).startswith(around)):
-        return False
-    return WAY.sub("! ", PLACE.sub("", ours)) == WAY.sub("! ", PLACE.sub("", theirs))
+        return None
+    if WAY.sub("! ", PLACE.sub("", ours)) == WAY.sub("! ", PLACE.sub("", theirs)):
+        return "places and ways of faults"
+    return None
+
+
+def kind_of_documents(ours, theirs):
+    """The same for documents that are read in turn."""
+    # theirs goes on with the parser's fault without end
+    read, more = theirs[: len(ours) - 1], theirs[len(ours) - 1 :].split("--- ")[1:]
+    if ours.startswith(read) and len(more) > 1 and more[0].startswith("! ") and len(set(more[:-1])) == 1:
+        return "parser's faults without end"
+    # theirs begins the next document amid the one that failed
+    our_parts, their_parts = ours.split("--- "), theirs.split("--- ")
+    for our, their in zip(our_parts, their_parts):
+        if our != their:
+            return None
+        if "unknown anchor" in our:
+            return "documents behind an unknown anchor"
+    return None
+
+
+def kind_of_copy(name, text, ours, theirs):
+    """The same for types of which theirs reads a copy, by kinds, where ours reads texts."""
+    if theirs.startswith("! "):
+        # theirs tells the faults of a copy last
+        return "faults of what is copied"
+    if "!!str" in text:
+        return "texts of `!!str` in what is copied"
+    if re.search(r"[{,]\s*[\d-]\w*:", text) or re.search(r"^[\d-]\w*:", text, re.M):
+        return "keys that are numbers in what is copied"
+    if name == "Command" and ours.startswith("! ") and "[" in text:
+        return "enums with a tag that are sequences"
+    return None
 
 
 def main():
@@ -266,17 +299,22 @@ def main():
     if len(ours) != len(rows) or len(theirs) != len(rows):
         sys.exit("a program did not answer each row")
     counts = {"same": 0, "listed": 0, "left out": 0, "different": 0}
+    kinds = {}
     for row, our, their in zip(rows, ours, theirs):
+        name, text = row.split(" ", 1)
         if our == their:
             counts["same"] += 1
         elif their == "panic":
             counts["left out"] += 1
-        elif listed(row.split(" ", 1)[0], our, their):
+        elif found := kind(name, unquoted(text), our, their):
             counts["listed"] += 1
+            kinds[found] = kinds.get(found, 0) + 1
         else:
             counts["different"] += 1
             if counts["different"] <= SHOWN:
                 print("%s\n  ours   %s\n  theirs %s" % (row, our, their))
+    for found, count in sorted(kinds.items(), key=lambda pair: -pair[1]):
+        print("%7d listed: %s" % (count, found))
     print(", ".join("%d %s" % (count, what) for what, count in counts.items()))
     sys.exit(counts["different"] > 0)
 

@@ -12,6 +12,17 @@ use yaml_base::{Cause, Error, Result};
 use yaml_shape::{Data, Schema, Shape, ShapeId, Text, Typed};
 use yaml_write::Serializer;
 
+// A value without parts.
+#[derive(Clone, Copy)]
+enum Scalar<'a> {
+    Null,
+    Bool(bool),
+    Signed(i128),
+    Unsigned(u128),
+    Char(char),
+    Str(&'a str),
+}
+
 // What is open, as the type that is written sees it.
 #[derive(Clone, Copy, PartialEq, Eq)]
 enum Level {
@@ -37,31 +48,23 @@ pub(crate) struct Sink {
     is_shared: bool,
 }
 
-// The shapes of what may stand under a tag.
-fn scalar_schema(alloc: Global) -> Result<Schema> {
-    let shapes = vec![in alloc;
-        Shape::Bool,
-        Shape::I128,
-        Shape::U128,
-        Shape::Char,
-        Shape::Str,
-        Shape::Unit,
-    ]?;
-    match Schema::new(alloc, shapes) {
-        Ok(schema) => Ok(schema),
-        Err(_) => Err(Error::new(Cause::Memory)),
+// The shape of a scalar, and its data.
+fn typed_parts(scalar: Scalar<'_>) -> (Shape, Data<'_>) {
+    match scalar {
+        Scalar::Null => (Shape::Unit, Data::Unit),
+        Scalar::Bool(v) => (Shape::Bool, Data::Bool(v)),
+        Scalar::Signed(v) => (Shape::I128, Data::Signed(v)),
+        Scalar::Unsigned(v) => (Shape::U128, Data::Unsigned(v)),
+        Scalar::Char(v) => (Shape::Char, Data::Char(v)),
+        Scalar::Str(v) => (Shape::Str, Data::Str(Text::Borrowed(v))),
     }
 }
 
-// The number of the shape of a scalar's data.
-fn shape_of(scalar: &Data<'_>) -> ShapeId {
-    match scalar {
-        Data::Bool(_) => ShapeId(0),
-        Data::Signed(_) => ShapeId(1),
-        Data::Unsigned(_) => ShapeId(2),
-        Data::Char(_) => ShapeId(3),
-        Data::Str(_) => ShapeId(4),
-        _ => ShapeId(5),
+// A schema of one shape.
+fn schema_of(alloc: Global, shape: Shape) -> Result<Schema> {
+    match Schema::new(alloc, vec![in alloc; shape]?) {
+        Ok(schema) => Ok(schema),
+        Err(_) => Err(Error::new(Cause::Memory)),
     }
 }
 
@@ -104,6 +107,15 @@ impl Sink {
         Ok(text)
     }
 
+    // The name in its case, as a scalar.
+    fn name(&mut self, kind: NameKind, name: &str, case: Case) -> Result<()> {
+        if case == Case::AsIs {
+            return self.scalar(Scalar::Str(name));
+        }
+        let text = self.spelled(kind, name, case)?;
+        self.scalar(Scalar::Str(text.as_str()))
+    }
+
     // A map that was held back is a mapping.
     fn settle(&mut self) -> Result<()> {
         if self.is_held {
@@ -140,21 +152,35 @@ impl Sink {
     }
 
     // A scalar, under a tag if one is held back.
-    fn scalar(&mut self, scalar: &Data<'_>) -> Result<()> {
+    fn scalar(&mut self, scalar: Scalar<'_>) -> Result<()> {
         self.settle()?;
         if self.is_shared {
             return Err(self.told("only structs and maps can be flattened"));
         }
-        let schema = scalar_schema(self.alloc)?;
-        let Some(typed) = Typed::new(&schema, shape_of(scalar), scalar) else {
+        match self.tag.take() {
+            Some(tag) => self.tagged(tag.as_str(), scalar),
+            None => self.untagged(scalar),
+        }
+    }
+
+    fn untagged(&mut self, scalar: Scalar<'_>) -> Result<()> {
+        match scalar {
+            Scalar::Null => self.events.serialize_unit(),
+            Scalar::Bool(v) => self.events.serialize_bool(v),
+            Scalar::Signed(v) => self.events.serialize_i128(v),
+            Scalar::Unsigned(v) => self.events.serialize_u128(v),
+            Scalar::Char(v) => self.events.serialize_char(v),
+            Scalar::Str(v) => self.events.serialize_str(v),
+        }
+    }
+
+    fn tagged(&mut self, tag: &str, scalar: Scalar<'_>) -> Result<()> {
+        let (shape, content) = typed_parts(scalar);
+        let schema = schema_of(self.alloc, shape)?;
+        let Some(typed) = Typed::new(&schema, ShapeId(0), &content) else {
             return Err(self.told("no scalar"));
         };
-        match self.tag.take() {
-            Some(tag) => self
-                .events
-                .serialize_newtype_variant("", 0, tag.as_str(), &typed),
-            None => self.events.serialize_typed(&typed),
-        }
+        self.events.serialize_newtype_variant("", 0, tag, &typed)
     }
 }
 
@@ -162,23 +188,23 @@ impl serde::Serializer for Sink {
     type Error = Error;
 
     fn bool(&mut self, v: bool) -> Result<()> {
-        self.scalar(&Data::Bool(v))
+        self.scalar(Scalar::Bool(v))
     }
 
     fn i64(&mut self, v: i64) -> Result<()> {
-        self.scalar(&Data::Signed(v as i128))
+        self.scalar(Scalar::Signed(v as i128))
     }
 
     fn u64(&mut self, v: u64) -> Result<()> {
-        self.scalar(&Data::Unsigned(v as u128))
+        self.scalar(Scalar::Unsigned(v as u128))
     }
 
     fn i128(&mut self, v: i128) -> Result<()> {
-        self.scalar(&Data::Signed(v))
+        self.scalar(Scalar::Signed(v))
     }
 
     fn u128(&mut self, v: u128) -> Result<()> {
-        self.scalar(&Data::Unsigned(v))
+        self.scalar(Scalar::Unsigned(v))
     }
 
     fn f32(&mut self, _v: f32) -> Result<()> {
@@ -190,11 +216,11 @@ impl serde::Serializer for Sink {
     }
 
     fn char(&mut self, v: char) -> Result<()> {
-        self.scalar(&Data::Char(v))
+        self.scalar(Scalar::Char(v))
     }
 
     fn str(&mut self, v: &str) -> Result<()> {
-        self.scalar(&Data::Str(Text::Borrowed(v)))
+        self.scalar(Scalar::Str(v))
     }
 
     fn bytes(&mut self, _v: &[u8]) -> Result<()> {
@@ -206,12 +232,11 @@ impl serde::Serializer for Sink {
             self.is_shared = false;
             return Ok(());
         }
-        self.scalar(&Data::Unit)
+        self.scalar(Scalar::Null)
     }
 
     fn str_cased(&mut self, name: &str, case: Case) -> Result<()> {
-        let text = self.spelled(NameKind::Variant, name, case)?;
-        self.scalar(&Data::Str(Text::Owned(text)))
+        self.name(NameKind::Variant, name, case)
     }
 
     fn begin_seq(&mut self, _len: Option<usize>) -> Result<()> {
@@ -246,18 +271,17 @@ impl serde::Serializer for Sink {
     }
 
     fn key_cased(&mut self, name: &str, case: Case) -> Result<()> {
-        let text = self.spelled(NameKind::Field, name, case)?;
-        self.scalar(&Data::Str(Text::Owned(text)))
+        self.name(NameKind::Field, name, case)
     }
 
     fn variant_key(&mut self, name: &str, case: Case) -> Result<()> {
-        let text = self.spelled(NameKind::Variant, name, case)?;
         if !self.is_held {
-            return self.scalar(&Data::Str(Text::Owned(text)));
+            return self.name(NameKind::Variant, name, case);
         }
         if self.tag.is_some() {
             return Err(Error::new(Cause::SerializeNestedEnum));
         }
+        let text = self.spelled(NameKind::Variant, name, case)?;
         self.levels.push(Level::Variant)?;
         self.is_held = false;
         self.tag = Some(text);
@@ -284,6 +308,6 @@ impl serde::Serializer for Sink {
 
     fn collect_str<T: Display>(&mut self, value: &T) -> Result<()> {
         let text = value.to_string(self.alloc)?;
-        self.scalar(&Data::Str(Text::Owned(text)))
+        self.scalar(Scalar::Str(text.as_str()))
     }
 }

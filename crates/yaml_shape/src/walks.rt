@@ -1,8 +1,8 @@
 //! Whether a walk through optionals alone comes back to its start.
 //!
-//! The steps of all shapes are doubled until they are more than a schema has shapes. Where a walk goes on so far, it
-//! has come to a cycle, and each shape on a cycle is the end of such a walk, the one that begins so many steps before
-//! it on the cycle.
+//! The steps of all shapes are doubled until no walk goes on so far, or until they are more than a schema has shapes.
+//! Where a walk goes on so far then, it has come to a cycle, and each shape on a cycle is the end of such a walk, the
+//! one that begins so many steps before it on the cycle.
 
 ghost use Rattle.std.specs.Prelude.{◌≡◌, ◌≤◌, ℕ, map, length, None, IsNone, IfOk, IfSome};
 ghost use Rattle.yaml_shape.specs.ShapeView.{shape_of};
@@ -94,6 +94,9 @@ pub(crate) fn first_cycle(alloc: Global, shapes: &[Shape]) -> Result<Option<usiz
 {
     let mut steps = first_steps(alloc, shapes)?;
     for doubling in 0..DOUBLINGS {
+        if least(&steps).is_none() {
+            return Ok(None);
+        }
         steps = doubled(alloc, &steps)?;
     }
     Ok(least(&steps))
