@@ -5,6 +5,7 @@ use yaml_token::{Stop, Token};
 
 impl Scanner<'_> {
     // `[` or `{`
+    #[inline(always)]
     pub(super) fn flow_start(&mut self, token: Token) -> Result<(), Stop> {
         self.save_candidate()?;
         self.candidates.open()?;
@@ -13,6 +14,7 @@ impl Scanner<'_> {
     }
 
     // `]` or `}`
+    #[inline(always)]
     pub(super) fn flow_end(&mut self, token: Token) -> Result<(), Stop> {
         self.remove_candidate()?;
         self.candidates.close();

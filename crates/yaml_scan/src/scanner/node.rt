@@ -10,7 +10,6 @@ use yaml_token::{Context, MarkedStyle, Stop, Token};
 
 impl Scanner<'_> {
     // `&` with a name.
-    #[inline(never)]
     pub(super) fn anchor(&mut self) -> Result<(), Stop> {
         self.save_candidate()?;
         self.key_allowed = false;
@@ -20,7 +19,6 @@ impl Scanner<'_> {
     }
 
     // `*` with a name.
-    #[inline(never)]
     pub(super) fn alias(&mut self) -> Result<(), Stop> {
         self.save_candidate()?;
         self.key_allowed = false;
@@ -40,7 +38,6 @@ impl Scanner<'_> {
     }
 
     // `|` or `>`
-    #[inline(never)]
     pub(super) fn block_scalar(&mut self, style: MarkedStyle) -> Result<(), Stop> {
         self.remove_candidate()?;
         self.key_allowed = true;
@@ -56,7 +53,6 @@ impl Scanner<'_> {
     }
 
     // `'` or `"`
-    #[inline(never)]
     pub(super) fn quoted_scalar(&mut self, quote: Quote) -> Result<(), Stop> {
         self.save_candidate()?;
         self.key_allowed = false;
