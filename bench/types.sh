@@ -157,8 +157,8 @@ for wanted in "$@"; do
         read) kinds="integers texts lent pairs lists any config documents" ;;
         print) kinds="integers texts pairs any config" ;;
         parse) kinds="integers texts pairs lists any" ;;
-        load) kinds="integers texts lent pairs lists any" ;;
-        write) kinds="integers texts pairs" ;;
+        load) kinds="integers texts lent pairs lists any config" ;;
+        write) kinds="integers texts pairs config" ;;
         *) echo "there is no task $wanted"; exit 1 ;;
     esac
     [ "$wanted" = "${wanted#*/}" ] || kinds=${wanted#*/}

@@ -152,6 +152,10 @@ class Texts:
             return self.of("()", depth)
         if name == "Pair":
             return self.list([to("i8"), to("u16")], depth)
+        if name.startswith("Ends"):
+            return self.entries([((end,), to(name[5:-1])) for end in ("from", "to")], depth)
+        if name == "Option<Pair>":
+            return self.pick("~", self.of("Pair", depth))
         if name == "Percent":
             return self.number(0, 100)
         raise ValueError(name)
@@ -159,7 +163,7 @@ class Texts:
 
 NAMES = """bool i8 u8 i64 u64 i128 u128 char () String &str CowStr Option<u8> Vec<u8> (u8,bool) BTreeMap<String,u8>
 Service Service/slice Service/events Person Person/documents Note Setting Window Mark Figure Vec<Figure> Command Step
-Scalar Nest Passed Metres Nothing Pair Percent""".split()
+Scalar Nest Passed Metres Nothing Pair Ends<i8> Ends<Option<Pair>> Percent""".split()
 WEIGHED = NAMES + "Service Setting Mark Figure Vec<Figure> Command Step Scalar".split() * 3
 
 

@@ -3,13 +3,13 @@
 use crate::answer::{answer, answer_of_documents, answer_of_events, answer_of_slice};
 use serde_types::enums::{Command, Figure, Scalar, Step};
 use serde_types::limits::{Nest, Passed};
-use serde_types::plain::{Metres, Nothing, Pair, Percent};
+use serde_types::plain::{Ends, Metres, Nothing, Pair, Percent};
 use serde_types::structs::{Mark, Note, Setting, Window};
 use serde_uses::readme::renamed;
 use serde_uses::{Person, Service, longest_name, read_service, write_service};
 use std::alloc::Global;
 use std::borrow::CowStr;
-use std::collections::BTreeMap;
+use std::collections::{BTreeMap, HashMap};
 use yaml_serde::Error;
 
 // What a text is answered that is read as a type of std.
@@ -32,6 +32,7 @@ fn answer_as_standard(alloc: Global, name: &str, text: &str) -> Result<String, E
         "Vec<u8>" => answer::<Vec<u8>>(alloc, text),
         "(u8,bool)" => answer::<(u8, bool)>(alloc, text),
         "BTreeMap<String,u8>" => answer::<BTreeMap<String, u8>>(alloc, text),
+        "HashMap<String,u8>" => answer::<HashMap<String, u8>>(alloc, text),
         _ => Err(Error::custom(String::from_str(alloc, "no such type")?)),
     }
 }
@@ -68,6 +69,8 @@ pub fn answer_as(alloc: Global, name: &str, text: &str) -> Result<String, Error>
         "Metres" => answer::<Metres>(alloc, text),
         "Nothing" => answer::<Nothing>(alloc, text),
         "Pair" => answer::<Pair>(alloc, text),
+        "Ends<i8>" => answer::<Ends<i8>>(alloc, text),
+        "Ends<Option<Pair>>" => answer::<Ends<Option<Pair>>>(alloc, text),
         "Percent" => answer::<Percent>(alloc, text),
         _ => answer_by_function(alloc, name, text),
     }

@@ -14,6 +14,13 @@ pub struct Nothing;
 #[derive(Drop, Serialize, Deserialize)]
 pub struct Pair(i8, u16);
 
+/// The ends of a range, of any type.
+#[derive(Drop, Serialize, Deserialize)]
+pub struct Ends<T> {
+    from: T,
+    to: T,
+}
+
 /// A number that is refused where it is too large.
 #[derive(Clone, Copy, Serialize, Deserialize)]
 #[serde(try_from = "u8", into = "u8")]

@@ -51,12 +51,8 @@ pub struct Person<'a> {
 /// The name that is longest among those of a text's documents.
 pub fn longest_name<'a>(alloc: Global, text: &'a str) -> Result<&'a str, Error> {
     let mut longest = "";
-    let mut documents = Documents::from_str(alloc, text)?;
-    for _ in 0..u64::MAX {
-        let Some(read) = documents.read_next::<Person<'a>>() else {
-            break;
-        };
-        let person = read?;
+    for person in Documents::from_str(alloc, text)?.into_iter::<Person<'a>>() {
+        let person = person?;
         if person.name.len() > longest.len() {
             longest = person.name;
         }

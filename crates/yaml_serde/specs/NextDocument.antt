@@ -1,5 +1,5 @@
 -- One document of a text after another.
-use Rattle.std.specs.Prelude.{◌≡◌, ◌∷◌, List, Result, None, OnOk}
+use Rattle.std.specs.Prelude.{◌≡◌, ◌∷◌, [], List, Option, Result, None, OnOk, MatchOption}
 use Rattle.yaml_base.specs.declared.error.Cause.{Cause}
 use Rattle.yaml_read.specs.PlainDocument.{PlainDocument}
 
@@ -9,3 +9,7 @@ pub record ReadsNext {T : Type 0} (old : List PlainDocument) (read : Result T Ca
   pub document : PlainDocument
   pub first : old ≡ document ∷ new
   pub whole : OnOk read (document.ending ≡ None)
+
+-- What was read of the next document was given, or none where none was left.
+abbrev pub GivesNext : {T : Type 0} → List PlainDocument → Option (Result T Cause) → List PlainDocument → Type 0
+GivesNext old given new = MatchOption given ((old ≡ []) × (new ≡ [])) (λ read. ReadsNext old read new)

@@ -4,7 +4,9 @@ ghost use Rattle.std.specs.Prelude.{◌≡◌, [], true, IfErr, IfNone, IfSome};
 ghost use Rattle.yaml_base.specs.Answer.{is_memory};
 ghost use Rattle.yaml_serde.specs.NextDocument.{ReadsNext};
 
+use crate::leaf::Leaves;
 use crate::typed::read;
+use crate::values::Values;
 use serde::Deserialize;
 use std::alloc::Global;
 use std::marker::Model;
@@ -17,6 +19,7 @@ use yaml_text::{Parsed, parse};
 pub struct Documents<'de> {
     alloc: Global,
     text: &'de [u8],
+    leaves: Leaves,
     left: Loader<'de>,
 }
 
@@ -42,13 +45,17 @@ impl<'de> Documents<'de> {
     pub fn from_slice(alloc: Global, text: &'de [u8]) -> Result<Documents<'de>>
         ensures memory { IfErr result (λ cause. is_memory cause ≡ true) }
     {
+        let leaves = Leaves::new(alloc)?;
         let Ok(Parsed { events, fault, .. }) = parse(alloc, text) else {
             return Err(Error::new(Cause::Memory));
         };
-        match Loader::new(alloc, events, fault) {
-            Ok(left) => Ok(Documents { alloc, text, left }),
-            Err(fault) => Err(fault),
-        }
+        let left = Loader::new(alloc, events, fault)?;
+        Ok(Documents {
+            alloc,
+            text,
+            leaves,
+            left,
+        })
     }
 
     /// The next document as a value of the type, or `None` once each was read, for good. What can't be read is passed
@@ -58,6 +65,13 @@ impl<'de> Documents<'de> {
         ensures none { IfNone result ((self.old ≡ []) × (self.new ≡ [])) }
     {
         let document: Document<'de> = self.left.next_document()?;
-        Some(read(self.alloc, self.text, &document))
+        Some(read(self.alloc, self.text, &document, &self.leaves))
+    }
+
+    /// The documents that are left as values of one type, for a `for` loop: each is what `read_next` gives.
+    pub fn into_iter<T: Deserialize<'de>>(self) -> Values<'de, T>
+        ensures { result ≡ self.entry }
+    {
+        Values::new(self)
     }
 }

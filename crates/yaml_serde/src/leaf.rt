@@ -1,7 +1,7 @@
 //! The shapes that nodes are read under, one node at a time.
 
-ghost use Rattle.std.specs.Prelude.{◌≡◌, ◌<◌, length, Some, OnErr};
-ghost use Rattle.yaml_base.specs.Answer.{Answers};
+ghost use Rattle.std.specs.Prelude.{◌≡◌, ◌<◌, length, Some, true, IfErr, OnErr};
+ghost use Rattle.yaml_base.specs.Answer.{Answers, is_memory};
 ghost use Rattle.yaml_shape.specs.DataView.{data_of};
 ghost use Rattle.yaml_shape.specs.PlainShape.{shape_at};
 ghost use Rattle.yaml_read.specs.NodeReads.{NodeGives};
@@ -78,7 +78,9 @@ pub(crate) struct Leaves {
 
 impl Leaves {
     /// All of them. The only fault is want of memory.
-    pub(crate) fn new(alloc: Global) -> Result<Leaves> {
+    pub(crate) fn new(alloc: Global) -> Result<Leaves>
+        ensures memory { IfErr result (λ cause. is_memory cause ≡ true) }
+    {
         let shapes = vec![in alloc;
             Shape::IgnoredAny,
             Shape::Bool,

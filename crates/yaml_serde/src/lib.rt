@@ -14,9 +14,11 @@ mod reader;
 mod sink;
 mod steps;
 mod typed;
+mod values;
 mod write;
 
 pub use documents::Documents;
 pub use typed::{from_events, from_slice, from_str};
+pub use values::Values;
 pub use write::{to_events, to_string};
 pub use yaml_base::{Error, Result};

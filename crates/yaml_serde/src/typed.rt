@@ -30,13 +30,25 @@ pub(crate) fn read<'de, T: Deserialize<'de>>(
     alloc: Global,
     input: &'de [u8],
     document: &Document<'de>,
+    leaves: &Leaves,
+) -> Result<T>
+    ensures { OnOk result (document.now.ending ≡ None) }
+{
+    let mut reader = Reader::new(alloc, document, leaves);
+    let read = T::deserialize(alloc, &mut Deserializer::new(input, &mut reader));
+    whole(alloc, read, document)
+}
+
+// The same of one document, for which the shapes are made.
+fn read_alone<'de, T: Deserialize<'de>>(
+    alloc: Global,
+    input: &'de [u8],
+    document: &Document<'de>,
 ) -> Result<T>
     ensures { OnOk result (document.now.ending ≡ None) }
 {
     let leaves = Leaves::new(alloc)?;
-    let mut reader = Reader::new(alloc, document, &leaves);
-    let read = T::deserialize(alloc, &mut Deserializer::new(input, &mut reader));
-    whole(alloc, read, document)
+    read(alloc, input, document, &leaves)
 }
 
 // The same of a value that borrows nothing.
@@ -85,7 +97,7 @@ pub fn from_slice<'de, T: Deserialize<'de>>(alloc: Global, text: &'de [u8]) -> R
     let Some(document) = documents.next_document() else {
         return Err(Error::new(Cause::EndOfStream));
     };
-    alone(read(alloc, text, &document), &mut documents)
+    alone(read_alone(alloc, text, &document), &mut documents)
 }
 
 /// The one document of these events, each with its mark, and of the parser's fault, if it had one, as a value of the

@@ -6,7 +6,7 @@ mod types;
 use serde::{Deserialize, Serialize};
 use serde_yaml::{from_slice, from_str, to_string, Error};
 use std::borrow::Cow;
-use std::collections::BTreeMap;
+use std::collections::{BTreeMap, HashMap};
 use std::io::{self, Read, Write};
 use std::panic::catch_unwind;
 use types::*;
@@ -72,6 +72,7 @@ fn answer_as(name: &str, text: &str) -> Answer {
         "Vec<u8>" => answer::<Vec<u8>>(text),
         "(u8,bool)" => answer::<(u8, bool)>(text),
         "BTreeMap<String,u8>" => answer::<BTreeMap<String, u8>>(text),
+        "HashMap<String,u8>" => answer::<HashMap<String, u8>>(text),
         "Service" | "Service/events" | "read_service" => answer::<Service>(text),
         "Service/slice" => answer_of_slice::<Service>(text),
         "Person" => answer::<Person<'_>>(text),
@@ -92,6 +93,8 @@ fn answer_as(name: &str, text: &str) -> Answer {
         "Metres" => answer::<Metres>(text),
         "Nothing" => answer::<Nothing>(text),
         "Pair" => answer::<Pair>(text),
+        "Ends<i8>" => answer::<Ends<i8>>(text),
+        "Ends<Option<Pair>>" => answer::<Ends<Option<Pair>>>(text),
         "Percent" => answer::<Percent>(text),
         _ => panic!("no such type"),
     }

@@ -138,6 +138,12 @@ pub struct Nothing;
 #[derive(Serialize, Deserialize)]
 pub struct Pair(i8, u16);
 
+#[derive(Serialize, Deserialize)]
+pub struct Ends<T> {
+    from: T,
+    to: T,
+}
+
 #[derive(Clone, Copy, Serialize, Deserialize)]
 #[serde(try_from = "u8", into = "u8")]
 pub struct Percent(u8);
