@@ -6,11 +6,11 @@ use serde_types::limits::{Nest, Passed};
 use serde_types::plain::{Ends, Metres, Nothing, Pair, Percent};
 use serde_types::structs::{Mark, Note, Setting, Window};
 use serde_uses::readme::renamed;
-use serde_uses::{Person, Service, longest_name, read_service, write_service};
+use serde_uses::{Person, Service, all_jobs, longest_name, read_service, write_service};
 use std::alloc::Global;
 use std::borrow::CowStr;
 use std::collections::{BTreeMap, HashMap};
-use yaml_serde::Error;
+use yaml_serde::{Error, to_string};
 
 // What a text is answered that is read as a type of std.
 fn answer_as_standard(alloc: Global, name: &str, text: &str) -> Result<String, Error> {
@@ -42,6 +42,7 @@ fn answer_by_function(alloc: Global, name: &str, text: &str) -> Result<String, E
     match name {
         "read_service" => write_service(alloc, &read_service(alloc, text)?),
         "longest_name" => Ok(String::from_str(alloc, longest_name(alloc, text)?)?),
+        "all_jobs" => to_string(alloc, &all_jobs(alloc, text)?),
         "renamed" => renamed(alloc, text),
         _ => answer_as_standard(alloc, name, text),
     }

@@ -51,11 +51,25 @@ pub struct Person<'a> {
 /// The name that is longest among those of a text's documents.
 pub fn longest_name<'a>(alloc: Global, text: &'a str) -> Result<&'a str, Error> {
     let mut longest = "";
-    for person in Documents::from_str(alloc, text)?.into_iter::<Person<'a>>() {
-        let person = person?;
+    let mut documents = Documents::from_str(alloc, text)?;
+    for _ in 0..u64::MAX {
+        let Some(read) = documents.read_next::<Person<'a>>() else {
+            break;
+        };
+        let person = read?;
         if person.name.len() > longest.len() {
             longest = person.name;
         }
     }
     Ok(longest)
+}
+
+/// How many jobs the services of a text's documents may have in all.
+pub fn all_jobs(alloc: Global, text: &str) -> Result<u32, Error> {
+    let mut jobs: u32 = 0;
+    for service in Documents::from_str(alloc, text)?.into_iter::<Service>() {
+        let service = service?;
+        jobs = jobs.saturating_add(service.max_jobs);
+    }
+    Ok(jobs)
 }
