@@ -53,6 +53,14 @@ fn longest_name(text: &str) -> Answer {
     Ok(longest.to_owned())
 }
 
+fn all_jobs(text: &str) -> Answer {
+    let mut jobs: u32 = 0;
+    for document in serde_yaml::Deserializer::from_str(text) {
+        jobs = jobs.saturating_add(Service::deserialize(document)?.max_jobs);
+    }
+    to_string(&jobs)
+}
+
 fn answer_as(name: &str, text: &str) -> Answer {
     match name {
         "bool" => answer::<bool>(text),
@@ -78,6 +86,7 @@ fn answer_as(name: &str, text: &str) -> Answer {
         "Person" => answer::<Person<'_>>(text),
         "Person/documents" => answer_of_documents::<Person<'_>>(text),
         "longest_name" => longest_name(text),
+        "all_jobs" => all_jobs(text),
         "renamed" => renamed(text),
         "Note" => answer::<Note<'_>>(text),
         "Setting" => answer::<Setting>(text),
