@@ -1,9 +1,8 @@
 //! Values that are written as text, and read again.
 
-use serde_yaml::{Cause, Error, Value, WriteFault, from_str, to_string, to_writer};
+use serde_yaml::{Value, from_str, to_string, to_writer};
 use std::alloc::{AllocError, Global};
 use std::collections::BTreeMap;
-use std::io::{self, ErrorKind};
 use std::test::Fail;
 
 // Texts, and what the value that each is read as is written as.
@@ -106,22 +105,4 @@ fn a_writer_gets_the_text(rt: HostRuntime) -> Result<(), Fail> {
     }
     assert_eq!(rt; out.as_slice(), b"other: null\nport: 8080\n".as_slice());
     Ok(())
-}
-
-// What a fault is printed as.
-fn try_fault(alloc: Global, fault: WriteFault, wanted: &str) -> Result<(), Fail> {
-    let text = fault.to_string(alloc)?;
-    if text.as_str() != wanted {
-        return Err(message(alloc, wanted, text.as_str())?)?;
-    }
-    Ok(())
-}
-
-#[test]
-fn a_write_fault_is_printed_as_its_cause(rt: HostRuntime) -> Result<(), Fail> {
-    let alloc = rt.alloc();
-    let value = WriteFault::Value(Error::new(Cause::SerializeNestedEnum));
-    try_fault(alloc, value, "serializing nested enums in YAML is not supported yet")?;
-    let writer = WriteFault::Writer(io::Error::from(ErrorKind::ConnectionReset));
-    try_fault(alloc, writer, "connection reset")
 }
