@@ -262,7 +262,7 @@ def kind_of_documents(ours, theirs):
     if ours.startswith(read) and len(more) > 1 and more[0].startswith("! ") and len(set(more[:-1])) == 1:
         return "parser's faults without end"
     # theirs begins the next document amid the one that failed
-    our_parts, their_parts = ours.split("--- "), theirs.split("--- ")
+    our_parts, their_parts = ours[1:-1].split("--- "), theirs[1:-1].split("--- ")
     for our, their in zip(our_parts, their_parts):
         if our != their:
             return None
