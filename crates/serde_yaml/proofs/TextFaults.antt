@@ -16,9 +16,9 @@ use Rattle.yaml_read.specs.ReadingFaults.{IsNodeFault, IsReadingFault}
 use Rattle.yaml_read.specs.Reads.{DocumentGives}
 use Rattle.yaml_read.specs.StreamLaw.{IsEnding}
 use Rattle.yaml_read.specs.TreeReader.{PlainLimits}
-use Rattle.yaml_read.proofs.StreamEndings.{all_endings}
-use Rattle.yaml_read.proofs.StreamTrees.{has_some}
-use Rattle.yaml_read.proofs.WrongPlaces.{wrong_not_well_formed}
+use Rattle.yaml_load.proofs.StreamEndings.{all_endings}
+use Rattle.yaml_load.proofs.StreamTrees.{has_some}
+use Rattle.yaml_load.proofs.WrongPlaces.{wrong_not_well_formed}
 use Rattle.serde_yaml.specs.StreamReads.{InputGives, StreamGives, a_stream, follow, no_stream, stream_of, unless_more}
 use Rattle.serde_yaml.specs.TextReads.{IsOfAStream, SaysNoStream}
 use Rattle.serde_yaml.specs.TypedReads.{Makes, TypeGives, no_schema, no_shape, of_shape}

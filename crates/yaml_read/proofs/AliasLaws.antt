@@ -6,7 +6,7 @@ use Rattle.yaml_shape.specs.PlainShape.{identifier_shape, bytes_shape, option_sh
 use Rattle.yaml_shape.specs.PlainShape.{newtype_shape, seq_shape, tuple_shape, tuple_struct_shape, map_shape}
 use Rattle.yaml_shape.specs.PlainShape.{struct_shape, enum_shape, ignored_shape, tuple_variant_shape}
 use Rattle.yaml_shape.specs.PlainShape.{struct_variant_shape}
-use Rattle.yaml_read.specs.DocTree.{DocNode, reference, node_of, first_event}
+use Rattle.yaml_load.specs.DocTree.{DocNode, reference, node_of, first_event}
 use Rattle.yaml_read.specs.Following.{follows_aliases}
 use Rattle.yaml_read.specs.Handing.{Handing, as_is, handed, early}
 use Rattle.yaml_read.specs.Meaning.{Means, MeansAs, means_node, means_target}

@@ -13,12 +13,12 @@ use Rattle.yaml_shape.specs.declared.data.Data.{the_lemmas}
 use Rattle.yaml_shape.specs.declared.data.Data.TheVariants.{Ignored}
 use Rattle.yaml_shape.specs.PlainShape.{PlainShape, option_shape, ignored_shape}
 use Rattle.yaml_shape.specs.Validity.{named}
-use Rattle.yaml_read.specs.DocTree.{DocNode, word}
+use Rattle.yaml_load.specs.DocTree.{DocNode, word}
+use Rattle.yaml_load.specs.PlainDocEvent.{PlainDocEvent, a_scalar}
+use Rattle.yaml_load.specs.PlainDocument.{PlainDocument}
 use Rattle.yaml_read.specs.Handing.{Handing, as_is, as_some, handed, early, reach}
 use Rattle.yaml_read.specs.NodeTags.{TakenBy}
 use Rattle.yaml_read.specs.Places.{Way, root_way, place}
-use Rattle.yaml_read.specs.PlainDocEvent.{PlainDocEvent, a_scalar}
-use Rattle.yaml_read.specs.PlainDocument.{PlainDocument}
 use Rattle.yaml_read.specs.Presence.{is_absent, is_false_null, null_fault}
 use Rattle.yaml_read.specs.Reads.{IsTreeOf}
 use Rattle.yaml_read.specs.ScalarShapes.{scalar_answer}

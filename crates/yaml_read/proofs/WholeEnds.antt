@@ -8,19 +8,19 @@ use Rattle.yaml_base.specs.Position.{Position}
 use Rattle.yaml_base.specs.declared.error.Cause.{Cause}
 use Rattle.yaml_shape.specs.PlainData.{PlainData}
 use Rattle.yaml_shape.specs.PlainShape.{PlainShape}
+use Rattle.yaml_load.specs.DocEventView.{marked_events_of}
+use Rattle.yaml_load.specs.DocTree.{events_of}
+use Rattle.yaml_load.specs.Ends.{ends_of}
+use Rattle.yaml_load.specs.PlainDocEvent.{PlainDocEvent}
+use Rattle.yaml_load.specs.PlainDocument.{PlainDocument}
+use Rattle.yaml_load.specs.StreamLaw.{HasTree}
+use Rattle.yaml_load.specs.declared.doc_event.DocEvent.{DocEvent}
 use Rattle.yaml_read.specs.CursorReads.{LeavesCursor, most_steps}
-use Rattle.yaml_read.specs.DocEventView.{marked_events_of}
-use Rattle.yaml_read.specs.DocTree.{events_of}
-use Rattle.yaml_read.specs.Ends.{ends_of}
 use Rattle.yaml_read.specs.Handing.{depth, reach}
 use Rattle.yaml_read.specs.Places.{root_way}
 use Rattle.yaml_read.specs.PlainCursor.{PlainCursor, fresh_cursor}
-use Rattle.yaml_read.specs.PlainDocEvent.{PlainDocEvent}
-use Rattle.yaml_read.specs.PlainDocument.{PlainDocument}
 use Rattle.yaml_read.specs.Reads.{IsTreeOf}
-use Rattle.yaml_read.specs.StreamLaw.{HasTree}
 use Rattle.yaml_read.specs.TreeReader.{PlainLimits, Spot, Answer, marks_of, whole_fuel, whole_tree}
-use Rattle.yaml_read.specs.declared.doc_event.DocEvent.{DocEvent}
 use Rattle.yaml_read.specs.inner.Reader.{Reading, Events, node_at}
 use Rattle.yaml_read.proofs.reading.EndLaws.{node_ends}
 use Rattle.yaml_read.proofs.reading.Shown.{Shows}

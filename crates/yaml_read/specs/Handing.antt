@@ -6,9 +6,9 @@ use Rattle.yaml_base.specs.declared.error.Cause.TheVariants.{BytesUnsupported, N
 use Rattle.yaml_shape.specs.PlainShape.{PlainShape, any_shape, bytes_shape, option_shape, newtype_shape, ignored_shape}
 use Rattle.yaml_shape.specs.PlainShape.{struct_shape, struct_variant_shape, enum_shape, PlainVariant}
 use Rattle.yaml_shape.specs.Walks.{rank}
+use Rattle.yaml_load.specs.PlainDocEvent.{PlainDocEvent, a_scalar, a_void, sequence_begins, mapping_begins}
 use Rattle.yaml_read.specs.Fields.{Fields}
 use Rattle.yaml_read.specs.NodeTags.{TakenBy, untaken_name}
-use Rattle.yaml_read.specs.PlainDocEvent.{PlainDocEvent, a_scalar, a_void, sequence_begins, mapping_begins}
 use Rattle.yaml_read.specs.Presence.{is_present, is_empty_plain, is_empty}
 use Rattle.yaml_read.specs.Variants.{Variants, variant_named, unknown_variant}
 

@@ -9,8 +9,8 @@ use Rattle.yaml_base.specs.declared.error.Cause.{Cause}
 use Rattle.yaml_base.specs.declared.path.Path.{Path}
 use Rattle.yaml_shape.specs.PlainShape.{PlainShape, option_shape, newtype_shape, ignored_shape, bytes_shape}
 use Rattle.yaml_shape.specs.PlainShape.{enum_shape}
+use Rattle.yaml_load.specs.PlainDocEvent.{PlainDocEvent, alias_to, a_scalar}
 use Rattle.yaml_read.specs.NodeTags.{untaken_name}
-use Rattle.yaml_read.specs.PlainDocEvent.{PlainDocEvent, alias_to, a_scalar}
 
 -- the way from the root to a node, as far as faults print it: whether it is empty, and its text
 pub record Way : Type 0 where

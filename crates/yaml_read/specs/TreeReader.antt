@@ -15,17 +15,17 @@ use Rattle.yaml_shape.specs.PlainShape.{identifier_shape, any_shape, tuple_varia
 use Rattle.yaml_shape.specs.PlainShape.{content_shape}
 use Rattle.yaml_tree.specs.Tree.{sequence, tagged}
 use Rattle.yaml_tree.specs.Tree as tree
+use Rattle.yaml_load.specs.DocTree.{DocNode, DocNodes, DocPairs, nothing, reference, word, list, mapping}
+use Rattle.yaml_load.specs.DocTree.{no_nodes, node, no_pairs, pair, events_of, first_event, node_of}
+use Rattle.yaml_load.specs.PlainDocEvent.{PlainDocEvent}
+use Rattle.yaml_load.specs.PlainDocument.{PlainDocument}
 use Rattle.yaml_read.specs.AnyData.{tree_in, trees_in, pairs_in, new_key}
-use Rattle.yaml_read.specs.DocTree.{DocNode, DocNodes, DocPairs, nothing, reference, word, list, mapping}
-use Rattle.yaml_read.specs.DocTree.{no_nodes, node, no_pairs, pair, events_of, first_event, node_of}
 use Rattle.yaml_read.specs.Fields.{Fields, Slots, no_slots, name_in, field_named, field_step, struct_of}
 use Rattle.yaml_read.specs.Handing.{Handing, as_is, as_some, as_newtype, as_ignored, as_bare, as_variant, as_tagged}
 use Rattle.yaml_read.specs.Handing.{as_refused}
 use Rattle.yaml_read.specs.Handing.{handed, early, refusal, nesting_depth}
 use Rattle.yaml_read.specs.NodeTags.{TakenBy, around_value}
 use Rattle.yaml_read.specs.Places.{Way, element_under, value_under, places, place, root_way, text_place}
-use Rattle.yaml_read.specs.PlainDocEvent.{PlainDocEvent}
-use Rattle.yaml_read.specs.PlainDocument.{PlainDocument}
 use Rattle.yaml_read.specs.Rows.{Row, row_of, one_more, row_data}
 use Rattle.yaml_read.specs.ScalarFound.{sequence_fault, mapping_fault}
 use Rattle.yaml_read.specs.ScalarShapes.{scalar_answer, void_answer}

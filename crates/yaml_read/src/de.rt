@@ -16,11 +16,11 @@ ghost use Rattle.yaml_shape.specs.DataView.{data_of};
 ghost use Rattle.yaml_shape.specs.PlainShape.{PlainShape, shape_at};
 ghost use Rattle.yaml_shape.specs.ShapeView.{shape_of};
 ghost use Rattle.yaml_shape.specs.Validity.{NamesWithin};
+ghost use Rattle.yaml_load.specs.StreamLaw.{IsEnding};
 ghost use Rattle.yaml_read.specs.CursorReads.{LeavesCursor};
 ghost use Rattle.yaml_read.specs.Handing.{reach};
 ghost use Rattle.yaml_read.specs.PlainCursor.{fresh_cursor};
 ghost use Rattle.yaml_read.specs.Reads.{DocumentGives};
-ghost use Rattle.yaml_read.specs.StreamLaw.{IsEnding};
 ghost use Rattle.yaml_read.specs.TreeReader.{default_limits};
 
 use crate::cursor::Cursor;

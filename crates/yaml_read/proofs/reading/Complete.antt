@@ -13,7 +13,7 @@ use Rattle.yaml_tree.specs.Tree.{sequence, tagged}
 use Rattle.yaml_tree.specs.Tree as tree_of
 use Rattle.yaml_read.specs.AnyData.{tree_in, trees_in, pairs_in}
 use Rattle.yaml_shape.specs.Walks.{rank}
-use Rattle.yaml_read.specs.DocTree.{DocNode, DocNodes, DocPairs, first_event}
+use Rattle.yaml_load.specs.DocTree.{DocNode, DocNodes, DocPairs, first_event}
 use Rattle.yaml_read.specs.Fields.{Fields, Slots}
 use Rattle.yaml_read.specs.Handing.{Handing, handed, early, reach, untaken_reach, depth, parts_depth, tag_depth}
 use Rattle.yaml_read.specs.Handing.{nesting_depth}

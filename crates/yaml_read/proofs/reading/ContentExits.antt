@@ -10,20 +10,20 @@ use Rattle.yaml_shape.specs.PlainShape.{PlainShape, any_shape, enum_shape, Plain
 use Rattle.yaml_shape.specs.PlainShape.{struct_variant_shape}
 use Rattle.yaml_tree.specs.Tree.{sequence, tagged}
 use Rattle.yaml_tree.specs.Tree as tree
+use Rattle.yaml_load.specs.PlainDocEvent.{PlainDocEvent, alias_to, a_scalar, a_void}
+use Rattle.yaml_load.specs.PlainDocEvent.{sequence_begins, sequence_ends, mapping_begins, mapping_ends}
+use Rattle.yaml_load.specs.DocEventView.{doc_event_of}
+use Rattle.yaml_load.specs.declared.doc_event.DocEvent.{DocEvent}
+use Rattle.yaml_load.specs.declared.doc_event.DocEvent.TheVariants as event
+use Rattle.yaml_load.specs.declared.doc_event.DocStart.{DocStart}
 use Rattle.yaml_read.specs.AnyData.{tree_in, trees_in, pairs_in}
 use Rattle.yaml_read.specs.Fields.{Fields}
 use Rattle.yaml_read.specs.Handing.{as_variant, is_filled_scalar}
 use Rattle.yaml_read.specs.NodeTags.{TakenBy, around_value, untaken_name}
 use Rattle.yaml_read.specs.Places.{Way, place, places}
-use Rattle.yaml_read.specs.PlainDocEvent.{PlainDocEvent, alias_to, a_scalar, a_void}
-use Rattle.yaml_read.specs.PlainDocEvent.{sequence_begins, sequence_ends, mapping_begins, mapping_ends}
 use Rattle.yaml_read.specs.Steps.{ending, wrap, with_shape}
 use Rattle.yaml_read.specs.TreeReader.{Spot, after}
 use Rattle.yaml_read.specs.Variants.{Variants, variant_named}
-use Rattle.yaml_read.specs.DocEventView.{doc_event_of}
-use Rattle.yaml_read.specs.declared.doc_event.DocEvent.{DocEvent}
-use Rattle.yaml_read.specs.declared.doc_event.DocEvent.TheVariants as event
-use Rattle.yaml_read.specs.declared.doc_event.DocStart.{DocStart}
 use Rattle.yaml_read.specs.inner.Reader.{Source, Reader, node_at, node_step, shape_step, event_at, other_answer, takes}
 use Rattle.yaml_read.specs.inner.Reader.{place_at, item_at, any_entry_at, sequence_parts, mapping_parts}
 use Rattle.yaml_read.proofs.reading.Exits.{step_event, step_handed}

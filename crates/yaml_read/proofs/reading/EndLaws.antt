@@ -4,10 +4,10 @@ use Rattle.std.proofs.Common.{false, ◌&&◌, ◌==◌, refl, sym, ap, subst, �
 use Rattle.std.specs.Prelude.{slice_get, if◌then◌else◌}
 use Rattle.std.proofs.lemmas.Bool.{eqb-true}
 use Rattle.yaml_base.specs.Position.{Position}
-use Rattle.yaml_read.specs.PlainDocEvent.{PlainDocEvent, sequence_ends, mapping_ends}
-use Rattle.yaml_read.specs.DocTree.{DocNode, DocNodes, DocPairs, nothing, reference, word, list, mapping, no_nodes}
-use Rattle.yaml_read.specs.DocTree.{node, no_pairs, pair, events_of, events_of_nodes, events_of_pairs}
-use Rattle.yaml_read.specs.Ends.{is_opening, is_closing, inner_after, end_place, ends_from, ends_of, GoForward}
+use Rattle.yaml_load.specs.PlainDocEvent.{PlainDocEvent, sequence_ends, mapping_ends}
+use Rattle.yaml_load.specs.DocTree.{DocNode, DocNodes, DocPairs, nothing, reference, word, list, mapping, no_nodes}
+use Rattle.yaml_load.specs.DocTree.{node, no_pairs, pair, events_of, events_of_nodes, events_of_pairs}
+use Rattle.yaml_load.specs.Ends.{is_opening, is_closing, inner_after, end_place, ends_from, ends_of, GoForward}
 use Rattle.yaml_read.specs.inner.Reader.{Events}
 use Rattle.yaml_read.proofs.reading.Shown.{Shows}
 

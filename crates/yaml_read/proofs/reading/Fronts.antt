@@ -10,11 +10,11 @@ use Rattle.yaml_base.specs.declared.error.Cause.{Cause}
 use Rattle.yaml_base.specs.declared.error.Cause.TheVariants.{Memory, EndOfStream}
 use Rattle.yaml_shape.specs.PlainData.{PlainData}
 use Rattle.yaml_shape.specs.PlainShape.{PlainShape}
-use Rattle.yaml_read.specs.DocTree.{DocNode, events_of}
-use Rattle.yaml_read.specs.Ends.{ends_of, ends_from, end_place, inner_after, is_opening, is_closing}
+use Rattle.yaml_load.specs.DocTree.{DocNode, events_of}
+use Rattle.yaml_load.specs.Ends.{ends_of, ends_from, end_place, inner_after, is_opening, is_closing}
+use Rattle.yaml_load.specs.PlainDocEvent.{PlainDocEvent}
+use Rattle.yaml_load.specs.PlainDocument.{PlainDocument}
 use Rattle.yaml_read.specs.Places.{root_way}
-use Rattle.yaml_read.specs.PlainDocEvent.{PlainDocEvent}
-use Rattle.yaml_read.specs.PlainDocument.{PlainDocument}
 use Rattle.yaml_read.specs.Reads.{IsTreeOf, GoesOn}
 use Rattle.yaml_read.specs.TreeReader.{PlainLimits, marks_of, whole_fuel, read_tree, answer_within}
 use Rattle.yaml_read.specs.inner.Reader.{Reading, node_at}

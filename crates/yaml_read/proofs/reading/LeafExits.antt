@@ -7,10 +7,10 @@ use Rattle.yaml_base.specs.declared.error.Cause.{Cause}
 use Rattle.yaml_shape.specs.PlainData.{PlainData}
 use Rattle.yaml_shape.specs.PlainShape.{PlainShape, bool_shape, char_shape, integer_shape, str_shape, identifier_shape}
 use Rattle.yaml_shape.specs.PlainShape.{unit_shape, unit_struct_shape}
+use Rattle.yaml_load.specs.PlainDocEvent.{PlainDocEvent, alias_to, a_scalar}
 use Rattle.yaml_read.specs.Handing.{as_is, handed, early}
 use Rattle.yaml_read.specs.NodeTags.{TakenBy}
 use Rattle.yaml_read.specs.Places.{Way, place, placed, places}
-use Rattle.yaml_read.specs.PlainDocEvent.{PlainDocEvent, alias_to, a_scalar}
 use Rattle.yaml_base.specs.PlainEvent.{PlainScalar}
 use Rattle.yaml_read.specs.ScalarShapes.{scalar_answer, text_of, lent_text}
 use Rattle.yaml_read.specs.Steps.{ending}

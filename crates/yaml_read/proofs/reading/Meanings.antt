@@ -7,8 +7,8 @@ use Rattle.yaml_shape.specs.PlainData.{seq_data, item, map_data, some_data, newt
 use Rattle.yaml_shape.specs.PlainShape.{PlainShape, ignored_shape}
 use Rattle.yaml_tree.specs.Tree.{sequence, tagged}
 use Rattle.yaml_tree.specs.Tree as tree
+use Rattle.yaml_load.specs.DocTree.{DocNode, DocNodes, DocPairs}
 use Rattle.yaml_read.specs.AnyData.{tree_in, trees_in, pairs_in}
-use Rattle.yaml_read.specs.DocTree.{DocNode, DocNodes, DocPairs}
 use Rattle.yaml_read.specs.Fields.{Fields, Slots, find, name_in, struct_of}
 use Rattle.yaml_read.specs.Handing.{Handing, as_ignored}
 use Rattle.yaml_read.specs.Meaning.{Means, means_node, MeansAs, means_some, means_newtype, means_ignored, means_target}

@@ -7,7 +7,7 @@ use Rattle.yaml_base.specs.declared.error.Place.{Place}
 use Rattle.yaml_shape.specs.PlainData.{PlainData, PlainItems, PlainEntries, tuple_data}
 use Rattle.yaml_shape.specs.PlainShape.{PlainShape, any_shape, shape_at, identifier_shape}
 use Rattle.yaml_tree.specs.Mapping.{keys_distinct}
-use Rattle.yaml_read.specs.DocTree.{DocNode, DocNodes, DocPairs, node, pair, first_event}
+use Rattle.yaml_load.specs.DocTree.{DocNode, DocNodes, DocPairs, node, pair, first_event}
 use Rattle.yaml_read.specs.Fields.{Fields, Slots, find, is_free, no_slots, name_in, struct_of}
 use Rattle.yaml_read.specs.Places.{Way, element_under, value_under, text_place, place}
 use Rattle.yaml_read.specs.Rows.{row_of, row_data}

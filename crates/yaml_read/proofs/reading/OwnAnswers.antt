@@ -21,6 +21,7 @@ use Rattle.yaml_shape.specs.PlainShape.{PlainShape, PlainVariant, IntegerType, s
 use Rattle.yaml_shape.specs.PlainShape as shape
 use Rattle.yaml_tree.specs.Integer.{is_number}
 use Rattle.yaml_tree.specs.Mapping.{has_key}
+use Rattle.yaml_load.specs.PlainDocEvent.{PlainDocEvent}
 use Rattle.yaml_read.specs.AnyData.{tree_in, pairs_in, new_key}
 use Rattle.yaml_read.specs.CoreTags.{int_tag}
 use Rattle.yaml_read.specs.Kinds.{is_option}
@@ -28,7 +29,6 @@ use Rattle.yaml_read.specs.Fields.{Fields, Slots, find, known_field, field_named
 use Rattle.yaml_read.specs.Fields.{struct_of, is_free}
 use Rattle.yaml_read.specs.Handing.{refusal}
 use Rattle.yaml_read.specs.NodeTags.{TakenBy}
-use Rattle.yaml_read.specs.PlainDocEvent.{PlainDocEvent}
 use Rattle.yaml_read.specs.Presence.{is_absent, is_empty_plain, null_fault}
 use Rattle.yaml_read.specs.Rows.{Row, row_step, one_more, row_end, row_data}
 use Rattle.yaml_read.specs.ScalarAny.{any_integer, any_found, any_in, any_scalar}

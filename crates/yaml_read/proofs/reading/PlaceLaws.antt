@@ -9,9 +9,9 @@ use Rattle.yaml_base.specs.declared.error.Cause.TheVariants.{Memory}
 use Rattle.yaml_base.specs.declared.error.Place.{Place}
 use Rattle.yaml_shape.specs.PlainShape.{PlainShape}
 use Rattle.std.specs.Option.{is_some}
+use Rattle.yaml_load.specs.PlainDocEvent.{PlainDocEvent}
 use Rattle.yaml_read.specs.NodeTags.{TakenBy}
 use Rattle.yaml_read.specs.Places.{Way, placed, place, places}
-use Rattle.yaml_read.specs.PlainDocEvent.{PlainDocEvent}
 use Rattle.yaml_read.specs.TreeReader.{Answer, Spot}
 use Rattle.yaml_read.specs.inner.Reader.{Reading, Source, place_at, node_at, node_step}
 use Rattle.yaml_read.proofs.reading.Loops.{enough}

@@ -3,13 +3,13 @@ use Rattle.std.proofs.Common.{◌≡◌, ℕ, suc, ◌+◌, ◌<◌, List, [], �
 use Rattle.std.proofs.Common.{cond, refl, ap, subst, ◌∙◌, arith, length-append, append_assoc}
 use Rattle.std.proofs.lemmas.Bool.{eqb-true}
 use Rattle.yaml_base.specs.Position.{Position}
-use Rattle.yaml_read.specs.PlainDocEvent.{PlainDocEvent, alias_to, a_scalar, sequence_begins, sequence_ends}
-use Rattle.yaml_read.specs.PlainDocEvent.{mapping_begins, mapping_ends, a_void}
-use Rattle.yaml_read.specs.DocTree.{DocNode, DocNodes, DocPairs, nothing, reference, word, list, mapping, no_nodes}
-use Rattle.yaml_read.specs.DocTree.{node, no_pairs, pair, events_of, events_of_nodes, events_of_pairs, numbered}
-use Rattle.yaml_read.specs.DocTree.{numbered_nodes, numbered_pairs, with_number, node_of, first_event}
+use Rattle.yaml_load.specs.PlainDocEvent.{PlainDocEvent, alias_to, a_scalar, sequence_begins, sequence_ends}
+use Rattle.yaml_load.specs.PlainDocEvent.{mapping_begins, mapping_ends, a_void}
+use Rattle.yaml_load.specs.DocTree.{DocNode, DocNodes, DocPairs, nothing, reference, word, list, mapping, no_nodes}
+use Rattle.yaml_load.specs.DocTree.{node, no_pairs, pair, events_of, events_of_nodes, events_of_pairs, numbered}
+use Rattle.yaml_load.specs.DocTree.{numbered_nodes, numbered_pairs, with_number, node_of, first_event}
+use Rattle.yaml_load.specs.Ends.{is_closing}
 use Rattle.yaml_read.specs.inner.Reader.{Events, is_sequence_end, is_mapping_end}
-use Rattle.yaml_read.specs.Ends.{is_closing}
 
 -- these events stand from a place on
 abbrev pub Shows : Events → ℕ → List PlainDocEvent → Type 0

@@ -10,8 +10,8 @@ use Rattle.yaml_shape.specs.PlainShape.{content_shape}
 use Rattle.yaml_tree.specs.Mapping.{keys_distinct}
 use Rattle.yaml_tree.specs.Tree.{tagged}
 use Rattle.yaml_tree.specs.Tree as tree_of
+use Rattle.yaml_load.specs.DocTree.{DocNode, DocPairs, nothing, reference, word, list, mapping, node_of, first_event}
 use Rattle.yaml_read.specs.AnyData.{tree_in}
-use Rattle.yaml_read.specs.DocTree.{DocNode, DocPairs, nothing, reference, word, list, mapping, node_of, first_event}
 use Rattle.yaml_read.specs.Fields.{no_slots, struct_of}
 use Rattle.yaml_read.specs.Handing.{Handing, as_is, as_some, as_newtype, as_ignored, as_bare, as_variant, as_tagged}
 use Rattle.yaml_read.specs.Handing.{as_refused, handed, early, refusal}

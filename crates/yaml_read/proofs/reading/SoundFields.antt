@@ -5,7 +5,7 @@ use Rattle.yaml_base.specs.Position.{Position}
 use Rattle.yaml_base.specs.declared.error.Place.{Place}
 use Rattle.yaml_shape.specs.PlainData.{PlainData}
 use Rattle.yaml_shape.specs.PlainShape.{PlainShape, identifier_shape, shape_at}
-use Rattle.yaml_read.specs.DocTree.{DocNode, DocPairs, mapping, no_pairs, pair, first_event}
+use Rattle.yaml_load.specs.DocTree.{DocNode, DocPairs, mapping, no_pairs, pair, first_event}
 use Rattle.yaml_read.specs.Fields.{Fields, Slots, no_slots, name_in, field_named, struct_of}
 use Rattle.yaml_read.specs.Handing.{as_is}
 use Rattle.yaml_read.specs.Meaning.{MeansAs, means_mapping, MeanFields, means_no_fields, means_field, means_unknown}

@@ -12,8 +12,8 @@ use Rattle.yaml_shape.specs.PlainData.{PlainData, PlainItems, any_data, seq_data
 use Rattle.yaml_shape.specs.PlainShape.{PlainShape, seq_shape, tuple_shape, tuple_struct_shape, any_shape}
 use Rattle.yaml_shape.specs.PlainShape.{tuple_variant_shape, shape_at}
 use Rattle.yaml_tree.specs.Tree.{sequence}
+use Rattle.yaml_load.specs.DocTree.{DocNode, DocNodes, list, no_nodes, node}
 use Rattle.yaml_read.specs.AnyData.{trees_in}
-use Rattle.yaml_read.specs.DocTree.{DocNode, DocNodes, list, no_nodes, node}
 use Rattle.yaml_read.specs.Handing.{as_is}
 use Rattle.yaml_read.specs.Meaning.{MeansAs, means_list, means_tuple_variant, means_any_list, MeansList, means_seq}
 use Rattle.yaml_read.specs.Meaning.{means_tuple, means_tuple_struct, MeanRow, means_no_elements, means_element}

@@ -7,8 +7,8 @@ use Rattle.yaml_shape.specs.DataView.{items_of, entries_of}
 use Rattle.yaml_shape.specs.PlainData.{PlainData}
 use Rattle.yaml_shape.specs.PlainShape.{PlainShape, any_shape}
 use Rattle.yaml_tree.specs.Mapping.{has_key, keys_distinct}
+use Rattle.yaml_load.specs.DocTree.{DocNode, DocNodes, DocPairs, no_nodes, node, no_pairs, pair, first_event}
 use Rattle.yaml_read.specs.AnyData.{tree_in, new_key}
-use Rattle.yaml_read.specs.DocTree.{DocNode, DocNodes, DocPairs, no_nodes, node, no_pairs, pair, first_event}
 use Rattle.yaml_read.specs.NodeTags.{TakenBy}
 use Rattle.yaml_read.specs.Meaning.{Means, MeanEach, means_none, means_more, MeanPairs, means_no_pairs, means_pair}
 use Rattle.yaml_read.specs.Places.{Way, element_under, value_under}

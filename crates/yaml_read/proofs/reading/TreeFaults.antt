@@ -15,9 +15,9 @@ use Rattle.yaml_shape.specs.Validity.{AllNameWithin, NamesWithin, numbers_of}
 use Rattle.yaml_shape.specs.Walks.{rank}
 use Rattle.yaml_tree.specs.Tree.{sequence, tagged}
 use Rattle.yaml_tree.specs.Tree as tree
+use Rattle.yaml_load.specs.DocTree.{DocNode, DocNodes, DocPairs, nothing, reference, word, list, mapping, node_of}
+use Rattle.yaml_load.specs.DocTree.{first_event}
 use Rattle.yaml_read.specs.AnyData.{tree_in, trees_in, pairs_in}
-use Rattle.yaml_read.specs.DocTree.{DocNode, DocNodes, DocPairs, nothing, reference, word, list, mapping, node_of}
-use Rattle.yaml_read.specs.DocTree.{first_event}
 use Rattle.yaml_read.specs.Fields.{Fields, Slots, no_slots, name_in, field_named, field_step, struct_of}
 use Rattle.yaml_read.specs.Handing.{Handing, as_is, as_some, as_newtype, as_ignored, as_bare, as_variant, as_tagged}
 use Rattle.yaml_read.specs.Handing.{as_refused, handed, depth, reach, untaken_reach}

@@ -10,12 +10,12 @@ use Rattle.yaml_shape.specs.PlainData.{PlainData, any_data, seq_data, ignored_da
 use Rattle.yaml_shape.specs.PlainShape.{PlainShape, seq_shape, tuple_shape, tuple_struct_shape, any_shape}
 use Rattle.yaml_shape.specs.PlainShape.{tuple_variant_shape, shape_at}
 use Rattle.yaml_tree.specs.Tree.{sequence}
+use Rattle.yaml_load.specs.DocTree.{DocNode, DocNodes, nothing, reference, word, list, mapping, events_of}
+use Rattle.yaml_load.specs.DocTree.{events_of_nodes, events_of_pairs}
+use Rattle.yaml_load.specs.PlainDocEvent.{PlainDocEvent, sequence_ends, mapping_ends}
 use Rattle.yaml_read.specs.AnyData.{trees_in}
-use Rattle.yaml_read.specs.DocTree.{DocNode, DocNodes, nothing, reference, word, list, mapping, events_of}
-use Rattle.yaml_read.specs.DocTree.{events_of_nodes, events_of_pairs}
 use Rattle.yaml_read.specs.NodeTags.{TakenBy}
 use Rattle.yaml_read.specs.Places.{Way, element_under}
-use Rattle.yaml_read.specs.PlainDocEvent.{PlainDocEvent, sequence_ends, mapping_ends}
 use Rattle.yaml_read.specs.Rows.{row_of, row_step, row_data}
 use Rattle.yaml_read.specs.Steps.{with_shape}
 use Rattle.yaml_read.specs.TreeReader.{Spot, TreeReader, item_of, row_part, row_by, sequence_of}

@@ -11,11 +11,11 @@ use Rattle.yaml_shape.specs.PlainShape.{PlainVariant}
 use Rattle.yaml_shape.specs.PlainShape.{tuple_shape, tuple_struct_shape, tuple_variant_shape}
 use Rattle.yaml_tree.specs.Tree.{sequence, tagged}
 use Rattle.yaml_tree.specs.Tree as tree
+use Rattle.yaml_load.specs.PlainDocEvent.{PlainDocEvent, sequence_begins, mapping_begins}
 use Rattle.yaml_read.specs.AnyData.{tree_in, trees_in, pairs_in, new_key}
 use Rattle.yaml_read.specs.Handing.{as_is, as_variant, as_tagged, handed, is_filled_scalar}
 use Rattle.yaml_read.specs.NodeTags.{TakenBy, around_value, untaken_name}
 use Rattle.yaml_read.specs.Places.{Way}
-use Rattle.yaml_read.specs.PlainDocEvent.{PlainDocEvent, sequence_begins, mapping_begins}
 use Rattle.yaml_read.specs.Rows.{row_of, row_data}
 use Rattle.yaml_read.specs.Steps.{wrap, finish}
 use Rattle.yaml_read.specs.TreeReader.{Spot, after}

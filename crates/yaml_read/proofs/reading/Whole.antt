@@ -9,15 +9,15 @@ use Rattle.yaml_base.specs.declared.error.Cause.TheVariants.{Memory, MoreThanOne
 use Rattle.yaml_shape.specs.PlainData.{PlainData}
 use Rattle.yaml_shape.specs.PlainShape.{PlainShape, option_shape, shape_at}
 use Rattle.yaml_shape.specs.Walks.{rank}
-use Rattle.yaml_read.specs.DocTree.{DocNode, events_of}
+use Rattle.yaml_load.specs.DocTree.{DocNode, events_of}
+use Rattle.yaml_load.specs.PlainDocument.{PlainDocument}
+use Rattle.yaml_load.specs.StreamLaw.{IsEnding}
 use Rattle.yaml_read.specs.Handing.{reach}
 use Rattle.yaml_read.specs.Meaning.{Means}
 use Rattle.yaml_read.specs.Places.{root_way}
-use Rattle.yaml_read.specs.PlainDocument.{PlainDocument}
 use Rattle.yaml_read.specs.ReadingFaults.{IsNodeFault, IsReadingFault}
 use Rattle.yaml_read.specs.Reads.{IsTreeOf, Reads, IsRefusal, DocumentGives, front_answer, cut_fault}
 use Rattle.yaml_read.specs.Steps.{◌>>=◌}
-use Rattle.yaml_read.specs.StreamLaw.{IsEnding}
 use Rattle.yaml_read.specs.TreeReader.{PlainLimits, Spot, Answer, marks_of, whole_fuel, whole_tree, answer_of}
 use Rattle.yaml_read.specs.TreeReader.{answer_within}
 use Rattle.yaml_read.specs.inner.Reader.{Reading}

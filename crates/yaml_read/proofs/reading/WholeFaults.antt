@@ -6,9 +6,9 @@ use Rattle.yaml_base.specs.declared.error.Cause.{Cause}
 use Rattle.yaml_shape.specs.PlainShape.{PlainShape, option_shape, shape_at}
 use Rattle.yaml_shape.specs.Validity.{AllNameWithin, NamesWithin}
 use Rattle.yaml_shape.specs.Walks.{rank}
-use Rattle.yaml_read.specs.DocTree.{DocNode}
+use Rattle.yaml_load.specs.DocTree.{DocNode}
+use Rattle.yaml_load.specs.PlainDocument.{PlainDocument}
 use Rattle.yaml_read.specs.Places.{root_way}
-use Rattle.yaml_read.specs.PlainDocument.{PlainDocument}
 use Rattle.yaml_read.specs.ReadingFaults.{IsReadingFault}
 use Rattle.yaml_read.specs.TreeReader.{PlainLimits, marks_of, whole_fuel, whole_tree, answer_of}
 use Rattle.yaml_read.proofs.reading.OwnFaults.{own_bind, own_value, own_never}

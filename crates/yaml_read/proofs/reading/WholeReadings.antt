@@ -7,15 +7,15 @@ use Rattle.yaml_base.specs.Position.{Position}
 use Rattle.yaml_base.specs.declared.error.Cause.{Cause}
 use Rattle.yaml_shape.specs.PlainData.{PlainData}
 use Rattle.yaml_shape.specs.PlainShape.{PlainShape}
-use Rattle.yaml_read.specs.DocEventView.{doc_event_of, marked_events_of}
-use Rattle.yaml_read.specs.Ends.{ends_of}
+use Rattle.yaml_load.specs.DocEventView.{doc_event_of, marked_events_of}
+use Rattle.yaml_load.specs.Ends.{ends_of}
+use Rattle.yaml_load.specs.PlainDocEvent.{PlainDocEvent}
+use Rattle.yaml_load.specs.PlainDocument.{PlainDocument}
+use Rattle.yaml_load.specs.declared.doc_event.DocEvent.{DocEvent}
 use Rattle.yaml_read.specs.Handing.{depth, reach}
 use Rattle.yaml_read.specs.Places.{root_way}
-use Rattle.yaml_read.specs.PlainDocEvent.{PlainDocEvent}
-use Rattle.yaml_read.specs.PlainDocument.{PlainDocument}
 use Rattle.yaml_read.specs.Steps.{◌>>=◌}
 use Rattle.yaml_read.specs.TreeReader.{PlainLimits, Spot, Answer, whole_fuel}
-use Rattle.yaml_read.specs.declared.doc_event.DocEvent.{DocEvent}
 use Rattle.yaml_read.specs.inner.Reader.{Source, Reading, Events, node_at}
 use Rattle.yaml_read.proofs.reading.Shown.{Shows}
 use Rattle.yaml_read.proofs.reading.TreeWalks.{landed}

@@ -14,16 +14,16 @@ use Rattle.yaml_shape.specs.PlainShape.{seq_shape, tuple_shape, tuple_struct_sha
 use Rattle.yaml_shape.specs.PlainShape.{any_shape, tuple_variant_shape, struct_variant_shape, shape_at, content_shape}
 use Rattle.yaml_tree.specs.Tree.{sequence, tagged}
 use Rattle.yaml_tree.specs.Tree as tree
+use Rattle.yaml_load.specs.Ends.{is_closing}
+use Rattle.yaml_load.specs.PlainDocEvent.{PlainDocEvent, alias_to, a_scalar, a_void}
+use Rattle.yaml_load.specs.PlainDocEvent.{sequence_begins, sequence_ends, mapping_begins, mapping_ends}
 use Rattle.yaml_read.specs.AnyData.{tree_in, trees_in, pairs_in, new_key}
-use Rattle.yaml_read.specs.Ends.{is_closing}
 use Rattle.yaml_read.specs.Fields.{Fields, Slots, no_slots, name_in, field_named, field_step, struct_of}
 use Rattle.yaml_read.specs.Handing.{Handing, as_is, as_some, as_newtype, as_ignored, as_bare, as_variant, as_tagged}
 use Rattle.yaml_read.specs.Handing.{as_refused}
 use Rattle.yaml_read.specs.Handing.{handed, early, refusal}
 use Rattle.yaml_read.specs.NodeTags.{TakenBy, around_value}
 use Rattle.yaml_read.specs.Places.{Way, element_under, value_under, places, place, text_place}
-use Rattle.yaml_read.specs.PlainDocEvent.{PlainDocEvent, alias_to, a_scalar, a_void}
-use Rattle.yaml_read.specs.PlainDocEvent.{sequence_begins, sequence_ends, mapping_begins, mapping_ends}
 use Rattle.yaml_read.specs.Rows.{Row, row_of, one_more, row_data}
 use Rattle.yaml_read.specs.ScalarFound.{sequence_fault, mapping_fault}
 use Rattle.yaml_read.specs.ScalarShapes.{scalar_answer, void_answer}

@@ -11,13 +11,13 @@ use Rattle.yaml_shape.specs.declared.shape.ShapeId.{ShapeId}
 use Rattle.yaml_shape.specs.PlainShape.{PlainVariant}
 use Rattle.yaml_shape.specs.ShapeView.{content_of}
 use Rattle.yaml_shape.specs.declared.shape.VariantShape.{VariantShape}
-use Rattle.yaml_read.specs.DocEventView.{marked_events_of}
+use Rattle.yaml_load.specs.DocEventView.{marked_events_of}
+use Rattle.yaml_load.specs.declared.doc_event.DocEvent.{DocEvent}
 use Rattle.yaml_read.specs.Fields.{Fields, Slots}
 use Rattle.yaml_read.specs.NodeTags.{TakenBy}
 use Rattle.yaml_read.specs.declared.de.taken_tag.TakenBy.{TakenBy as CodeAround}
 use Rattle.yaml_read.specs.Rows.{Row}
 use Rattle.yaml_read.specs.TreeReader.{Spot}
-use Rattle.yaml_read.specs.declared.doc_event.DocEvent.{DocEvent}
 use Rattle.yaml_read.specs.declared.walk.Walk.{Walk}
 use Rattle.yaml_read.specs.declared.de.node.tuple_length.Elements.{Elements}
 use Rattle.yaml_read.specs.declared.de.node.tuple_length.Owner.{Owner as CodeOwner}

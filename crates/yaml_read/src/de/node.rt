@@ -26,8 +26,8 @@ ghost use Rattle.yaml_base.specs.declared.error.Cause.TheVariants.{RecursionLimi
 ghost use Rattle.yaml_shape.specs.DataView.{data_of};
 ghost use Rattle.yaml_shape.specs.ShapeView.{shape_of};
 ghost use Rattle.yaml_shape.specs.Validity.{NamesWithin};
-ghost use Rattle.yaml_read.specs.DocEventView.{doc_event_of};
-ghost use Rattle.yaml_read.specs.Ends.{GoForward};
+ghost use Rattle.yaml_load.specs.DocEventView.{doc_event_of};
+ghost use Rattle.yaml_load.specs.Ends.{GoForward};
 ghost use Rattle.yaml_read.specs.Handing.{depth};
 ghost use Rattle.yaml_read.specs.Places.{way_of};
 ghost use Rattle.yaml_read.specs.inner.Reader.{event_at, node_step, takes, is_leaf};
@@ -38,10 +38,10 @@ use crate::de::read_refusal::{Refusal, Result, ended, refuse};
 use crate::de::scalar::mismatch::{found_mapping, found_sequence};
 use crate::de::scalar::{read_scalar, read_void};
 use crate::de::taken_tag::{TakenBy, is_taken};
-use crate::doc_event::DocEvent;
 use crate::walk::Walk;
 use std::alloc::Global;
 use yaml_base::{Cause, Error, Mark, Path};
+use yaml_load::DocEvent;
 use yaml_shape::{Data, Shape};
 
 /// The refusal of a collection with this mark that is nested too deep, or want of memory.

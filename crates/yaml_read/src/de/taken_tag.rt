@@ -2,12 +2,12 @@
 
 ghost use Rattle.std.specs.Prelude.{◌≡◌};
 ghost use Rattle.std.specs.Option.{is_some, option_copied};
-ghost use Rattle.yaml_read.specs.DocEventView.{doc_event_of};
+ghost use Rattle.yaml_load.specs.DocEventView.{doc_event_of};
 ghost use Rattle.yaml_read.specs.NodeTags.{untaken_name};
 ghost use Rattle.yaml_read.specs.inner.Walks.{around_of};
 
-use crate::doc_event::DocEvent;
 use yaml_base::parse_tag;
+use yaml_load::DocEvent;
 
 /// What took the tag of a node: a variant, by the names of its enum and of itself, or a value under the tag, without
 /// names.

@@ -5,8 +5,8 @@ ghost use Rattle.yaml_base.specs.Answer.{Gives};
 ghost use Rattle.yaml_shape.specs.DataView.{data_of};
 ghost use Rattle.yaml_shape.specs.ShapeView.{shape_of};
 ghost use Rattle.yaml_shape.specs.Validity.{NamesWithin};
-ghost use Rattle.yaml_read.specs.DocEventView.{doc_event_of};
-ghost use Rattle.yaml_read.specs.Ends.{GoForward};
+ghost use Rattle.yaml_load.specs.DocEventView.{doc_event_of};
+ghost use Rattle.yaml_load.specs.Ends.{GoForward};
 ghost use Rattle.yaml_read.specs.Handing.{depth};
 ghost use Rattle.yaml_read.specs.Places.{value_under, way_of};
 ghost use Rattle.yaml_read.specs.inner.Reader.{is_leaf};
@@ -16,9 +16,9 @@ use crate::de::node::fault_place::{at_place, value_path};
 use crate::de::node::source::Source;
 use crate::de::read_refusal::Result;
 use crate::de::scalar::read_scalar;
-use crate::doc_event::DocEvent;
 use crate::walk::Walk;
 use yaml_base::{Mark, Path};
+use yaml_load::DocEvent;
 use yaml_shape::{Data, Shape};
 
 impl<'s, 'de> Source<'s, 'de> {

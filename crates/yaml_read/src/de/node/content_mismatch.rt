@@ -5,7 +5,7 @@ ghost use Rattle.yaml_base.specs.Answer.{Gives, is_memory};
 ghost use Rattle.yaml_shape.specs.DataView.{data_of};
 ghost use Rattle.yaml_shape.specs.PlainShape.{struct_variant_shape, tuple_variant_shape};
 ghost use Rattle.yaml_shape.specs.ShapeView.{ids_of};
-ghost use Rattle.yaml_read.specs.DocEventView.{doc_event_of, doc_scalar_of};
+ghost use Rattle.yaml_load.specs.DocEventView.{doc_event_of, doc_scalar_of};
 ghost use Rattle.yaml_read.specs.Fields.{Fields};
 ghost use Rattle.yaml_read.specs.ScalarShapes.{scalar_answer};
 ghost use Rattle.yaml_read.specs.inner.Reader.{other_answer};
@@ -17,8 +17,8 @@ use crate::de::scalar::mismatch::{
 };
 use crate::de::scalar::presence::is_empty_plain;
 use crate::de::taken_tag::TakenBy;
-use crate::doc_event::{DocEvent, DocScalar};
 use std::alloc::Global;
+use yaml_load::{DocEvent, DocScalar};
 use yaml_shape::{Data, ShapeId};
 
 // A scalar in place of a variant's elements.

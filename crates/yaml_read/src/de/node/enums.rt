@@ -7,8 +7,8 @@ ghost use Rattle.yaml_shape.specs.DataView.{data_of};
 ghost use Rattle.yaml_shape.specs.PlainShape.{content_shape, enum_shape, struct_variant_shape, tuple_variant_shape};
 ghost use Rattle.yaml_shape.specs.ShapeView.{shape_of, content_of, fields_of, ids_of, variants_of};
 ghost use Rattle.yaml_shape.specs.Validity.{NamesWithin, named_in, numbers_of};
-ghost use Rattle.yaml_read.specs.DocEventView.{doc_event_of};
-ghost use Rattle.yaml_read.specs.Ends.{GoForward};
+ghost use Rattle.yaml_load.specs.DocEventView.{doc_event_of};
+ghost use Rattle.yaml_load.specs.Ends.{GoForward};
 ghost use Rattle.yaml_read.specs.Handing.{depth, is_filled_scalar, most_optionals, nesting_depth};
 ghost use Rattle.yaml_read.specs.NodeTags.{untaken_name};
 ghost use Rattle.yaml_read.specs.Places.{way_of};
@@ -27,9 +27,9 @@ use crate::de::node::tuple_length::{Owner, finish};
 use crate::de::read_refusal::{Result, ended};
 use crate::de::scalar::variant_names::{nested_enum, unknown_variant, variant_named};
 use crate::de::taken_tag::{TakenBy, untaken_name};
-use crate::doc_event::DocEvent;
 use crate::walk::Walk;
 use yaml_base::{Mark, Path};
+use yaml_load::DocEvent;
 use yaml_shape::{Data, Shape, ShapeId, VariantShape};
 
 // Whether the event is that of a scalar with a text.

@@ -4,7 +4,7 @@ ghost use Rattle.std.specs.Prelude.{◌≡◌, true, false, Err};
 ghost use Rattle.std.specs.Option.{is_some};
 ghost use Rattle.yaml_base.specs.Answer.{is_memory, Fails};
 ghost use Rattle.yaml_shape.specs.ShapeView.{shape_of};
-ghost use Rattle.yaml_read.specs.DocEventView.{doc_event_of};
+ghost use Rattle.yaml_load.specs.DocEventView.{doc_event_of};
 ghost use Rattle.yaml_read.specs.Places.{way_of, placed, places, value_under};
 ghost use Rattle.yaml_read.specs.TreeReader.{Spot};
 ghost use Rattle.yaml_read.specs.inner.Reader.{place_at};
@@ -14,9 +14,9 @@ use crate::de::node::source::Source;
 use crate::de::read_refusal::{Refusal, refuse};
 use crate::de::scalar::sort::text_of;
 use crate::de::taken_tag::{TakenBy, is_taken, untaken_name};
-use crate::doc_event::DocEvent;
 use std::alloc::Global;
 use yaml_base::{Mark, Path};
+use yaml_load::DocEvent;
 use yaml_shape::Shape;
 
 /// The fault at this place, if it has none yet, or want of memory.

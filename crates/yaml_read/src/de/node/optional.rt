@@ -7,8 +7,8 @@ ghost use Rattle.yaml_shape.specs.DataView.{data_of};
 ghost use Rattle.yaml_shape.specs.PlainShape.{option_shape, newtype_shape};
 ghost use Rattle.yaml_shape.specs.ShapeView.{shape_of};
 ghost use Rattle.yaml_shape.specs.Validity.{NamesWithin};
-ghost use Rattle.yaml_read.specs.DocEventView.{doc_event_of};
-ghost use Rattle.yaml_read.specs.Ends.{GoForward};
+ghost use Rattle.yaml_load.specs.DocEventView.{doc_event_of};
+ghost use Rattle.yaml_load.specs.Ends.{GoForward};
 ghost use Rattle.yaml_read.specs.Handing.{depth, is_content, untaken_reach, nesting_depth};
 ghost use Rattle.yaml_read.specs.Places.{way_of};
 ghost use Rattle.yaml_read.specs.inner.Reader.{shape_step};
@@ -19,9 +19,9 @@ use crate::de::node::too_deep;
 use crate::de::read_refusal::{Result, ended};
 use crate::de::scalar::presence::is_present;
 use crate::de::taken_tag::{TakenBy, is_taken};
-use crate::doc_event::DocEvent;
 use crate::walk::Walk;
 use yaml_base::Path;
+use yaml_load::DocEvent;
 use yaml_shape::{Data, Shape, ShapeId};
 
 // Whether an optional is present in a node that begins with the event.

@@ -7,8 +7,8 @@ ghost use Rattle.yaml_shape.specs.DataView.{data_of};
 ghost use Rattle.yaml_shape.specs.PlainShape.{seq_shape};
 ghost use Rattle.yaml_shape.specs.ShapeView.{shape_of};
 ghost use Rattle.yaml_shape.specs.Validity.{NamesWithin};
-ghost use Rattle.yaml_read.specs.DocEventView.{doc_event_of};
-ghost use Rattle.yaml_read.specs.Ends.{GoForward};
+ghost use Rattle.yaml_load.specs.DocEventView.{doc_event_of};
+ghost use Rattle.yaml_load.specs.Ends.{GoForward};
 ghost use Rattle.yaml_read.specs.Handing.{depth, reach, parts_depth};
 ghost use Rattle.yaml_read.specs.Places.{way_of};
 ghost use Rattle.yaml_read.specs.inner.Reader.{shape_step, item_at, sequence_parts, is_leaf};
@@ -20,9 +20,9 @@ use crate::de::node::{is_leaf, too_deep};
 use crate::de::read_refusal::{Result, ended};
 use crate::de::scalar::read_scalar;
 use crate::de::taken_tag::TakenBy;
-use crate::doc_event::DocEvent;
 use crate::walk::Walk;
 use yaml_base::{Mark, Path};
+use yaml_load::DocEvent;
 use yaml_shape::{Data, Shape, ShapeId};
 
 impl<'s, 'de> Source<'s, 'de> {

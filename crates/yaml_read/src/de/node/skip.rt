@@ -4,15 +4,15 @@ ghost use Rattle.std.specs.Prelude.{◌≡◌, length, OnOk};
 ghost use Rattle.yaml_base.specs.Answer.{Gives};
 ghost use Rattle.yaml_shape.specs.DataView.{data_of};
 ghost use Rattle.yaml_shape.specs.PlainData.{ignored_data};
-ghost use Rattle.yaml_read.specs.DocEventView.{doc_event_of};
-ghost use Rattle.yaml_read.specs.Ends.{is_closing, GoForward};
+ghost use Rattle.yaml_load.specs.DocEventView.{doc_event_of};
+ghost use Rattle.yaml_load.specs.Ends.{is_closing, GoForward};
 ghost use Rattle.yaml_read.specs.inner.Reader.{skip_at};
 ghost use Rattle.yaml_read.specs.inner.Walks.{source_of, spot_of, MovesOn, Costs};
 
 use crate::de::node::source::Source;
 use crate::de::read_refusal::{Result, ended};
-use crate::doc_event::DocEvent;
 use crate::walk::Walk;
+use yaml_load::DocEvent;
 use yaml_shape::Data;
 
 // Whether a collection ends.

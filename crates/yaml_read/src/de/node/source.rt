@@ -6,14 +6,14 @@ ghost use Rattle.yaml_shape.specs.PlainShape.{shape_at};
 ghost use Rattle.yaml_shape.specs.ShapeView.{shape_of};
 ghost use Rattle.yaml_shape.specs.Validity.{NamesWithin};
 ghost use Rattle.yaml_shape.specs.Walks.{rank};
-ghost use Rattle.yaml_read.specs.DocEventView.{doc_event_of, doc_scalar_of};
+ghost use Rattle.yaml_load.specs.DocEventView.{doc_event_of, doc_scalar_of};
+ghost use Rattle.yaml_load.specs.PlainDocEvent.{a_scalar};
 ghost use Rattle.yaml_read.specs.Handing.{reach};
-ghost use Rattle.yaml_read.specs.PlainDocEvent.{a_scalar};
 ghost use Rattle.yaml_read.specs.inner.Walks.{seen};
 
-use crate::doc_event::{DocEvent, DocScalar};
 use std::alloc::Global;
 use yaml_base::Mark;
+use yaml_load::{DocEvent, DocScalar};
 use yaml_shape::{Schema, Shape, ShapeId};
 
 /// Where a reading takes its memory, the shapes, the document's events, and for each event where the collection ends

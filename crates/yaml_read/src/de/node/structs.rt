@@ -7,8 +7,8 @@ ghost use Rattle.yaml_shape.specs.DataView.{data_of};
 ghost use Rattle.yaml_shape.specs.ShapeView.{shape_of, field_of, fields_of};
 ghost use Rattle.yaml_shape.specs.TextView.{text_bytes};
 ghost use Rattle.yaml_shape.specs.Validity.{NamesWithin, numbers_of};
-ghost use Rattle.yaml_read.specs.DocEventView.{doc_event_of};
-ghost use Rattle.yaml_read.specs.Ends.{GoForward};
+ghost use Rattle.yaml_load.specs.DocEventView.{doc_event_of};
+ghost use Rattle.yaml_load.specs.Ends.{GoForward};
 ghost use Rattle.yaml_read.specs.Fields.{name_in, no_slots, struct_of, field_data};
 ghost use Rattle.yaml_read.specs.Handing.{depth, is_bare, nesting_depth, parts_depth, tag_depth};
 ghost use Rattle.yaml_read.specs.Places.{way_of};
@@ -26,9 +26,9 @@ use crate::de::read_refusal::{Result, ended};
 use crate::de::scalar::presence::is_empty_plain;
 use crate::de::scalar::sort::text_of;
 use crate::de::taken_tag::TakenBy;
-use crate::doc_event::DocEvent;
 use crate::walk::Walk;
 use yaml_base::{Mark, Path};
+use yaml_load::DocEvent;
 use yaml_shape::{Data, Shape, ShapeId};
 
 /// Whether the event is that of an empty plain scalar, or of an empty stream.

@@ -6,7 +6,7 @@ ghost use Rattle.yaml_base.specs.Answer.{Gives};
 ghost use Rattle.yaml_shape.specs.DataView.{data_of};
 ghost use Rattle.yaml_shape.specs.ShapeView.{shape_of, ids_of};
 ghost use Rattle.yaml_shape.specs.Validity.{NamesWithin};
-ghost use Rattle.yaml_read.specs.Ends.{GoForward};
+ghost use Rattle.yaml_load.specs.Ends.{GoForward};
 ghost use Rattle.yaml_read.specs.Handing.{depth, parts_depth};
 ghost use Rattle.yaml_read.specs.Places.{way_of};
 ghost use Rattle.yaml_read.specs.Rows.{row_of};
@@ -18,9 +18,9 @@ use crate::de::node::too_deep;
 use crate::de::node::tuple_length::{Elements, Owner, finish, item_here};
 use crate::de::read_refusal::{Result, ended};
 use crate::de::taken_tag::TakenBy;
-use crate::doc_event::DocEvent;
 use crate::walk::Walk;
 use yaml_base::Path;
+use yaml_load::DocEvent;
 use yaml_shape::{Data, Shape, ShapeId};
 
 impl<'s, 'de> Source<'s, 'de> {

@@ -6,7 +6,7 @@ ghost use Rattle.yaml_base.specs.declared.found.Found.TheVariants.{Signed, Unsig
 ghost use Rattle.yaml_shape.specs.Expected.{expected_text};
 ghost use Rattle.yaml_shape.specs.PlainShape.{any_shape};
 ghost use Rattle.yaml_tree.specs.View.{tree_of};
-ghost use Rattle.yaml_read.specs.DocEventView.{doc_scalar_of};
+ghost use Rattle.yaml_load.specs.DocEventView.{doc_scalar_of};
 ghost use Rattle.yaml_read.specs.ScalarAny.{any_found, any_integer, any_scalar};
 ghost use Rattle.yaml_read.specs.ScalarFound.{wrong_type};
 
@@ -14,9 +14,9 @@ use crate::de::read_refusal::{Refusal, Result, refuse};
 use crate::de::scalar::expected::Expected;
 use crate::de::scalar::found_kind::found_in;
 use crate::de::scalar::mismatch::found_other;
-use crate::doc_event::DocScalar;
 use std::alloc::Global;
 use yaml_base::{Cause, Error, Found};
+use yaml_load::DocScalar;
 use yaml_shape::Shape;
 use yaml_tree::{Number, Value};
 

@@ -7,15 +7,15 @@ ghost use Rattle.yaml_base.specs.Answer.{Gives};
 ghost use Rattle.yaml_shape.specs.DataView.{data_of};
 ghost use Rattle.yaml_shape.specs.PlainShape.{char_shape};
 ghost use Rattle.yaml_shape.specs.ShapeView.{shape_of};
-ghost use Rattle.yaml_read.specs.DocEventView.{doc_scalar_of};
+ghost use Rattle.yaml_load.specs.DocEventView.{doc_scalar_of};
 ghost use Rattle.yaml_read.specs.ScalarFound.{scalar_fault};
 ghost use Rattle.yaml_read.specs.ScalarShapes.{one_character, only_one, text_of};
 
 use crate::de::read_refusal::Result;
 use crate::de::scalar::mismatch::{found_other_text, found_scalar};
 use crate::de::scalar::sort::text_of;
-use crate::doc_event::DocScalar;
 use std::alloc::Global;
+use yaml_load::DocScalar;
 use yaml_shape::{Data, Shape};
 
 // The one character of a text.

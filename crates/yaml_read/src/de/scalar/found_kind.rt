@@ -4,7 +4,7 @@ ghost use Rattle.std.specs.Prelude.{◌≡◌, false, IfOk, MatchResult};
 ghost use Rattle.yaml_base.specs.Answer.{Gives, is_memory};
 ghost use Rattle.yaml_base.specs.declared.found.Found.{Found};
 ghost use Rattle.yaml_base.specs.declared.found.Found.TheVariants.{Float, Str};
-ghost use Rattle.yaml_read.specs.DocEventView.{doc_scalar_of};
+ghost use Rattle.yaml_load.specs.DocEventView.{doc_scalar_of};
 ghost use Rattle.yaml_read.specs.ScalarFound.{wrong_value, found_kind, found_integer, string_found};
 ghost use Rattle.yaml_read.specs.ScalarSorts.{sort_of};
 ghost use Rattle.yaml_read.specs.inner.Expectations.{found_in, plain_sort};
@@ -12,12 +12,12 @@ ghost use Rattle.yaml_read.specs.inner.Expectations.{found_in, plain_sort};
 use crate::de::read_refusal::{Refusal, refuse};
 use crate::de::scalar::expected::words;
 use crate::de::scalar::sort::{ScalarSort, sort_of, text_of};
-use crate::doc_event::DocScalar;
 use std::alloc::{AllocError, Global};
 use yaml_base::{
     Cause, Error, Found, Kind, Words, is_float_text, parse_bool, parse_null, parse_signed_int,
     parse_unsigned_int, resolve,
 };
+use yaml_load::DocScalar;
 
 /// The text as a string that was found.
 pub(crate) fn found_string(alloc: Global, text: &str) -> Result<Found, AllocError>

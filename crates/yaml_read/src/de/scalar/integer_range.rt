@@ -8,8 +8,8 @@ ghost use Rattle.yaml_shape.specs.Expected.{expected_text};
 ghost use Rattle.yaml_shape.specs.PlainShape.{i64 as long, i128 as longest, u64 as unsigned_long};
 ghost use Rattle.yaml_shape.specs.PlainShape.{u128 as unsigned_longest};
 ghost use Rattle.yaml_shape.specs.ShapeView.{shape_of};
+ghost use Rattle.yaml_load.specs.DocEventView.{doc_scalar_of};
 ghost use Rattle.yaml_read.specs.CoreTags.{int_tag};
-ghost use Rattle.yaml_read.specs.DocEventView.{doc_scalar_of};
 ghost use Rattle.yaml_read.specs.ScalarFound.{scalar_fault};
 ghost use Rattle.yaml_read.specs.ScalarShapes.{plain_text, signed_between, signed_text};
 ghost use Rattle.yaml_read.specs.ScalarShapes.{unsigned_text, unsigned_up_to};
@@ -18,9 +18,9 @@ ghost use Rattle.yaml_read.specs.inner.Numbers.{signed_number, unsigned_number};
 use crate::de::read_refusal::Result;
 use crate::de::scalar::integer_text::{signed_64, signed_128, unsigned_64, unsigned_128};
 use crate::de::scalar::mismatch::{found_integer_outside, found_scalar};
-use crate::doc_event::DocScalar;
 use std::alloc::Global;
 use yaml_base::Found;
+use yaml_load::DocScalar;
 use yaml_shape::{Data, Shape};
 
 // The integer with a sign, where it lies from `min` to `max`.

@@ -4,15 +4,15 @@ ghost use Rattle.std.specs.Prelude.{◌≡◌, ◌<◌, ◌^◌, Some, IfSome, o
 ghost use Rattle.std.specs.Str.{IsUtf8};
 ghost use Rattle.std.specs.Str.Parse.{AllDigits};
 ghost use Rattle.yaml_base.specs.Integers.{number_in, decimal};
-ghost use Rattle.yaml_read.specs.DocEventView.{doc_scalar_of};
+ghost use Rattle.yaml_load.specs.DocEventView.{doc_scalar_of};
 ghost use Rattle.yaml_read.specs.ScalarShapes.{plain_text, signed_text, unsigned_text, utf8_text};
 ghost use Rattle.yaml_read.specs.CoreTags.{int_tag};
 ghost use Rattle.yaml_shape.specs.PlainShape.{i64 as long, i128 as longest, u64 as unsigned_long};
 ghost use Rattle.yaml_shape.specs.PlainShape.{u128 as unsigned_longest};
 
 use crate::de::scalar::sort::{is_plain_or_tagged_literal, text_of, utf8_text};
-use crate::doc_event::DocScalar;
 use yaml_base::{Tag, parse_signed_int, parse_unsigned_int};
+use yaml_load::DocScalar;
 
 // So many decimal digits write a number of 64 bits.
 const DIGITS: usize = 18;

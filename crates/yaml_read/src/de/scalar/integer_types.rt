@@ -7,13 +7,13 @@ ghost use Rattle.yaml_shape.specs.PlainShape.{i8 as signed_8, i16 as signed_16, 
 ghost use Rattle.yaml_shape.specs.PlainShape.{u8 as unsigned_8, u16 as unsigned_16, u32 as unsigned_32};
 ghost use Rattle.yaml_shape.specs.PlainShape.{u64 as unsigned_64};
 ghost use Rattle.yaml_shape.specs.ShapeView.{shape_of};
-ghost use Rattle.yaml_read.specs.DocEventView.{doc_scalar_of};
+ghost use Rattle.yaml_load.specs.DocEventView.{doc_scalar_of};
 ghost use Rattle.yaml_read.specs.inner.Numbers.{signed_number, unsigned_number};
 
 use crate::de::read_refusal::Result;
 use crate::de::scalar::integer_range::{read_signed, read_unsigned};
-use crate::doc_event::DocScalar;
 use std::alloc::Global;
+use yaml_load::DocScalar;
 use yaml_shape::{Data, Shape};
 
 /// An integer of 8 bits with a sign.

@@ -6,7 +6,7 @@ ghost use Rattle.yaml_base.specs.declared.error.Cause.TheVariants.{InvalidLength
 ghost use Rattle.yaml_base.specs.declared.found.Found.TheVariants.{Map, Seq, Str};
 ghost use Rattle.yaml_shape.specs.Expected.{expected_text, tuple_variant_with_text};
 ghost use Rattle.yaml_shape.specs.ShapeView.{shape_of};
-ghost use Rattle.yaml_read.specs.DocEventView.{doc_scalar_of};
+ghost use Rattle.yaml_load.specs.DocEventView.{doc_scalar_of};
 ghost use Rattle.yaml_read.specs.Presence.{null_fault};
 ghost use Rattle.yaml_read.specs.ScalarFound.{wrong_type, wrong_value, fault_in};
 ghost use Rattle.yaml_read.specs.ScalarFound.{scalar_fault, sequence_fault, mapping_fault};
@@ -17,9 +17,9 @@ ghost use Rattle.yaml_read.specs.inner.Expectations.{expected_of, wanted_of};
 use crate::de::read_refusal::Refusal;
 use crate::de::scalar::expected::{Expected, words};
 use crate::de::scalar::found_kind::{found_in, found_string, found_text, refusal_of, wrong_value};
-use crate::doc_event::DocScalar;
 use std::alloc::{AllocError, Global};
 use yaml_base::{Cause, Found, Words};
+use yaml_load::DocScalar;
 use yaml_shape::{Shape, tuple_struct_with, tuple_variant_with};
 
 // The fault of a node of another type than is expected.

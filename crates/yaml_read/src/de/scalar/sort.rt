@@ -2,15 +2,15 @@
 
 ghost use Rattle.std.specs.Prelude.{◌≡◌};
 ghost use Rattle.std.specs.Option.{option_copied};
+ghost use Rattle.yaml_load.specs.DocEventView.{doc_scalar_of};
 ghost use Rattle.yaml_read.specs.CoreTags.{bool_tag, int_tag, float_tag, null_tag};
-ghost use Rattle.yaml_read.specs.DocEventView.{doc_scalar_of};
 ghost use Rattle.yaml_read.specs.ScalarShapes.{is_plain_or_tagged_literal, text_of, utf8_text};
 ghost use Rattle.yaml_read.specs.ScalarSorts.{is_plain, is_literal, is_tag, is_local, has_untaken, is_resolved};
 ghost use Rattle.yaml_read.specs.ScalarSorts.{sort_of};
 ghost use Rattle.yaml_read.specs.inner.Expectations.{plain_sort};
 
-use crate::doc_event::DocScalar;
 use yaml_base::{ScalarStyle, Tag};
+use yaml_load::DocScalar;
 
 /// The rows, in their order. A scalar is in the first that applies.
 #[derive(Clone, Copy, PartialEq, Eq)]

@@ -7,16 +7,16 @@ ghost use Rattle.yaml_base.specs.Borrowable.{is_borrowable};
 ghost use Rattle.yaml_shape.specs.DataView.{data_of};
 ghost use Rattle.yaml_shape.specs.PlainData.{text_data};
 ghost use Rattle.yaml_shape.specs.ShapeView.{shape_of};
-ghost use Rattle.yaml_read.specs.DocEventView.{doc_scalar_of};
+ghost use Rattle.yaml_load.specs.DocEventView.{doc_scalar_of};
 ghost use Rattle.yaml_read.specs.ScalarFound.{scalar_fault};
 ghost use Rattle.yaml_read.specs.ScalarShapes.{lent_text, text_of};
 
 use crate::de::read_refusal::Result;
 use crate::de::scalar::mismatch::found_scalar;
 use crate::de::scalar::sort::text_of;
-use crate::doc_event::DocScalar;
 use std::alloc::Global;
 use yaml_base::borrowed_bytes;
+use yaml_load::DocScalar;
 use yaml_shape::{Data, Shape, Text};
 
 // The part of the source that shows the scalar's bytes.

@@ -8,7 +8,7 @@ ghost use Rattle.yaml_base.specs.declared.found.Found.TheVariants.{Bytes, UnitVa
 ghost use Rattle.yaml_shape.specs.DataView.{data_of};
 ghost use Rattle.yaml_shape.specs.ShapeView.{content_of, variants_of};
 ghost use Rattle.yaml_shape.specs.Validity.{names_of};
-ghost use Rattle.yaml_read.specs.DocEventView.{doc_scalar_of};
+ghost use Rattle.yaml_load.specs.DocEventView.{doc_scalar_of};
 ghost use Rattle.yaml_read.specs.ScalarFound.{wrong_type};
 ghost use Rattle.yaml_read.specs.ScalarShapes.{text_of};
 ghost use Rattle.yaml_read.specs.Variants.{bare_variant, named_variant, unknown_variant, variant_named};
@@ -19,9 +19,9 @@ use crate::de::scalar::expected::words;
 use crate::de::scalar::found_kind::refusal_of;
 use crate::de::scalar::sort::text_of;
 use crate::de::taken_tag::TakenBy;
-use crate::doc_event::DocScalar;
 use std::alloc::{AllocError, Global};
 use yaml_base::{Cause, Found, WordList};
+use yaml_load::DocScalar;
 use yaml_shape::{Data, VariantShape};
 
 /// The place of the variant with a name, and what it holds.

@@ -6,10 +6,10 @@ use Rattle.yaml_base.specs.Answer.{is_memory}
 use Rattle.yaml_base.specs.Position.{Position}
 use Rattle.yaml_shape.specs.DataView.{data_of}
 use Rattle.yaml_shape.specs.ShapeView.{shape_of}
-use Rattle.yaml_read.specs.DocEventView.{doc_event_of}
-use Rattle.yaml_read.specs.PlainDocEvent.{PlainDocEvent}
-use Rattle.yaml_read.specs.StreamLaw.{IsEnding}
-use Rattle.yaml_read.specs.declared.doc_event.DocEvent.{DocEvent}
+use Rattle.yaml_load.specs.DocEventView.{doc_event_of}
+use Rattle.yaml_load.specs.PlainDocEvent.{PlainDocEvent}
+use Rattle.yaml_load.specs.StreamLaw.{IsEnding}
+use Rattle.yaml_load.specs.declared.doc_event.DocEvent.{DocEvent}
 use Rattle.yaml_read.proofs.WholeEnds.{seen_within, read_ends, leaves}
 use Rattle.yaml_read.proofs.reading.EndLaws.{ends_go_forward}
 use Rattle.yaml_read.proofs.reading.Whole.{answered, refused, refusal_kind, own_refusal, cut_gives}

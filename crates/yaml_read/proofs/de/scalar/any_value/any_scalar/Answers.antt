@@ -2,7 +2,7 @@
 use Rattle.std.proofs.Common.{sym, ap, ◌∙◌, subst}
 use Rattle.yaml_base.specs.Answer.{Gives}
 use Rattle.yaml_tree.specs.View.{tree_of}
-use Rattle.yaml_read.specs.DocEventView.{doc_scalar_of}
+use Rattle.yaml_load.specs.DocEventView.{doc_scalar_of}
 use Rattle.yaml_read.specs.ScalarAny.{any_found}
 use Rattle.yaml_read.specs.ScalarSorts.{sort_of}
 use Rattle.yaml_read.specs.Steps.{◌>>=◌}

@@ -1,6 +1,6 @@
 -- What the scalar was found to be tells the fault.
 use Rattle.std.proofs.Common.{sym, ap, ◌∙◌}
-use Rattle.yaml_read.specs.DocEventView.{doc_scalar_of}
+use Rattle.yaml_load.specs.DocEventView.{doc_scalar_of}
 use Rattle.yaml_read.specs.ScalarSorts.{sort_of}
 use Rattle.yaml_read.specs.inner.Expectations.{expected_of, fault_by}
 use Rattle.yaml_read.proofs.FoundLaws.{fault_found}

@@ -1,7 +1,7 @@
 use Rattle.std.proofs.Common.{ap, sym, ◌∙◌}
 use Rattle.std.specs.Prelude.{Err, is_some}
+use Rattle.yaml_load.specs.DocEventView.{doc_scalar_of}
 use Rattle.yaml_read.proofs.TextLaws.{lent-shown, unlent-shown, text-shown, text-unshown}
-use Rattle.yaml_read.specs.DocEventView.{doc_scalar_of}
 use Rattle.yaml_read.proofs.de.scalar.text.read_text.Goals as goal
 
 pub returns-in-Ok-clause-gives : goal.returns-in-Ok-clause-gives

@@ -9,8 +9,8 @@ use Rattle.yaml_tree.specs.Tree.{sequence, tagged}
 use Rattle.yaml_tree.specs.Tree as tree
 use Rattle.yaml_tree.specs.Valid.{pairs_of}
 use Rattle.yaml_tree.specs.declared.value.Value.TheVariants as value
+use Rattle.yaml_load.specs.DocEventView.{doc_event_of}
 use Rattle.yaml_read.specs.AnyData.{tree_in, trees_in, pairs_in}
-use Rattle.yaml_read.specs.DocEventView.{doc_event_of}
 use Rattle.yaml_read.specs.Handing.{reach, untaken_reach, tag_depth}
 use Rattle.yaml_read.specs.NodeTags.{untaken_name}
 use Rattle.yaml_read.specs.Places.{way_of}

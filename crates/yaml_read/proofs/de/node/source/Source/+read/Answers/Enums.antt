@@ -7,7 +7,7 @@ use Rattle.yaml_shape.specs.PlainData.{variant_data}
 use Rattle.yaml_shape.specs.PlainShape.{tuple_variant_shape, struct_variant_shape}
 use Rattle.yaml_shape.specs.ShapeView.{shape_of, content_of, ids_of, fields_of, variants_of}
 use Rattle.yaml_shape.specs.declared.data.Data.{Variant, the_lemmas}
-use Rattle.yaml_read.specs.DocEventView.{doc_event_of}
+use Rattle.yaml_load.specs.DocEventView.{doc_event_of}
 use Rattle.yaml_read.specs.Handing.{reach, untaken_reach, tag_depth}
 use Rattle.yaml_read.specs.NodeTags.{untaken_name}
 use Rattle.yaml_read.specs.Places.{way_of, place}

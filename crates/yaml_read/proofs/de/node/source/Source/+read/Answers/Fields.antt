@@ -6,9 +6,9 @@ use Rattle.std.proofs.lemmas.Option.{slice_get_within}
 use Rattle.yaml_shape.specs.DataView.{data_of}
 use Rattle.yaml_shape.specs.ShapeView.{field_of, fields_of}
 use Rattle.yaml_shape.specs.Validity.{numbers_of}
-use Rattle.yaml_read.specs.DocEventView.{doc_event_of, doc_scalar_of}
+use Rattle.yaml_load.specs.DocEventView.{doc_event_of, doc_scalar_of}
+use Rattle.yaml_load.specs.PlainDocEvent.{a_scalar}
 use Rattle.yaml_read.specs.Places.{way_of, value_under}
-use Rattle.yaml_read.specs.PlainDocEvent.{a_scalar}
 use Rattle.yaml_read.specs.ScalarShapes.{text_of, lent_text}
 use Rattle.yaml_read.specs.TreeReader.{after}
 use Rattle.yaml_read.specs.inner.Reader.{value_way, field_key_at}

@@ -8,7 +8,7 @@ use Rattle.yaml_shape.specs.PlainData.{map_data}
 use Rattle.yaml_shape.specs.ShapeView.{shape_of}
 use Rattle.yaml_shape.specs.declared.data.Data.{Map, the_lemmas}
 use Rattle.yaml_shape.specs.declared.data.Entry.{Entry}
-use Rattle.yaml_read.specs.DocEventView.{doc_event_of}
+use Rattle.yaml_load.specs.DocEventView.{doc_event_of}
 use Rattle.yaml_read.specs.Handing.{handed}
 use Rattle.yaml_read.specs.Places.{way_of, value_under}
 use Rattle.yaml_read.specs.TreeReader.{Spot, after}

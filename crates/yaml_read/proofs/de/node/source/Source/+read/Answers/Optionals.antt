@@ -7,7 +7,7 @@ use Rattle.yaml_shape.specs.PlainShape.{bool_shape}
 use Rattle.yaml_shape.specs.ShapeView.{shape_of}
 use Rattle.yaml_shape.specs.Walks.{rank}
 use Rattle.yaml_shape.specs.declared.data.Data.{Some as SomeData, Newtype, the_lemmas}
-use Rattle.yaml_read.specs.DocEventView.{doc_event_of}
+use Rattle.yaml_load.specs.DocEventView.{doc_event_of}
 use Rattle.yaml_read.specs.Handing.{is_content, reach}
 use Rattle.yaml_read.specs.Places.{way_of}
 use Rattle.yaml_read.specs.inner.Walks.{around_of, source_of, spot_of, reader_of}

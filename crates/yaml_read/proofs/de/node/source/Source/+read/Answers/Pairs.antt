@@ -5,8 +5,8 @@ use Rattle.yaml_shape.specs.DataView.{data_of, entries_of}
 use Rattle.yaml_shape.specs.ShapeView.{shape_of}
 use Rattle.yaml_tree.specs.Mapping.{has_key}
 use Rattle.yaml_tree.specs.Valid.{pairs_of}
+use Rattle.yaml_load.specs.DocEventView.{doc_event_of}
 use Rattle.yaml_read.specs.AnyData.{tree_in, pairs_in, new_key}
-use Rattle.yaml_read.specs.DocEventView.{doc_event_of}
 use Rattle.yaml_read.specs.Handing.{reach}
 use Rattle.yaml_read.specs.Places.{way_of, value_under}
 use Rattle.yaml_read.specs.Steps.{wrap}

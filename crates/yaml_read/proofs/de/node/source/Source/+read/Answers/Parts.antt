@@ -4,7 +4,7 @@ use Rattle.yaml_base.specs.Answer.{is_memory}
 use Rattle.yaml_base.specs.PathText.{path_text}
 use Rattle.yaml_shape.specs.DataView.{data_of}
 use Rattle.yaml_shape.specs.ShapeView.{shape_of}
-use Rattle.yaml_read.specs.DocEventView.{doc_event_of, doc_scalar_of}
+use Rattle.yaml_load.specs.DocEventView.{doc_event_of, doc_scalar_of}
 use Rattle.yaml_read.specs.Handing.{early}
 use Rattle.yaml_read.specs.Places.{way_of, value_under, place, placed, places}
 use Rattle.yaml_read.specs.Steps.{ending}

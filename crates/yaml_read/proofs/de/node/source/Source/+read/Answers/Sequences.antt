@@ -7,7 +7,7 @@ use Rattle.yaml_shape.specs.DataView.{data_of, items_of}
 use Rattle.yaml_shape.specs.PlainData.{seq_data}
 use Rattle.yaml_shape.specs.ShapeView.{shape_of}
 use Rattle.yaml_shape.specs.declared.data.Data.{Seq, the_lemmas}
-use Rattle.yaml_read.specs.DocEventView.{doc_event_of}
+use Rattle.yaml_load.specs.DocEventView.{doc_event_of}
 use Rattle.yaml_read.specs.Handing.{handed}
 use Rattle.yaml_read.specs.Places.{way_of}
 use Rattle.yaml_read.specs.TreeReader.{Spot, after}

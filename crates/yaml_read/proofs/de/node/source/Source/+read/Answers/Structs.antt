@@ -4,7 +4,7 @@ use Rattle.std.specs.Option.{is_some, option_map}
 use Rattle.std.proofs.lemmas.List.{length-map}
 use Rattle.yaml_shape.specs.DataView.{data_of}
 use Rattle.yaml_shape.specs.ShapeView.{shape_of, field_of, fields_of}
-use Rattle.yaml_read.specs.DocEventView.{doc_event_of}
+use Rattle.yaml_load.specs.DocEventView.{doc_event_of}
 use Rattle.yaml_read.specs.Fields.{no_slots, struct_of}
 use Rattle.yaml_read.specs.Handing.{is_bare}
 use Rattle.yaml_read.specs.Places.{way_of}

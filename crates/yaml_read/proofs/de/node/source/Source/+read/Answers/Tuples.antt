@@ -7,7 +7,7 @@ use Rattle.std.proofs.lemmas.List.{map-append, length-map}
 use Rattle.yaml_shape.specs.DataView.{data_of}
 use Rattle.yaml_shape.specs.PlainShape.{shape_at}
 use Rattle.yaml_shape.specs.ShapeView.{shape_of, ids_of}
-use Rattle.yaml_read.specs.DocEventView.{doc_event_of}
+use Rattle.yaml_load.specs.DocEventView.{doc_event_of}
 use Rattle.yaml_read.specs.Places.{way_of, element_under}
 use Rattle.yaml_read.specs.Rows.{row_of, row_data}
 use Rattle.yaml_read.specs.Steps.{with_shape}

@@ -4,7 +4,7 @@ use Rattle.yaml_shape.specs.DataView.{data_of}
 use Rattle.yaml_shape.specs.Expected.{tuple_variant_with_text}
 use Rattle.yaml_shape.specs.PlainShape.{tuple_variant_shape, struct_variant_shape}
 use Rattle.yaml_shape.specs.ShapeView.{ids_of, fields_of}
-use Rattle.yaml_read.specs.DocEventView.{doc_event_of}
+use Rattle.yaml_load.specs.DocEventView.{doc_event_of}
 use Rattle.yaml_read.specs.Fields.{struct_of}
 use Rattle.yaml_read.specs.Handing.{is_bare}
 use Rattle.yaml_read.specs.Places.{way_of}

@@ -1,0 +1,150 @@
+-- Among anchors in order, the last place of an anchor in front of an alias stands right in front of where the alias
+-- belongs.
+use Rattle.std.proofs.Common.{◌≡◌, ℕ, zero, suc, ◌+◌, ◌<◌, ◌≤◌, List, [], ◌∷◌, length, get_or, refl, sym, ◌∙◌, ap}
+use Rattle.std.proofs.Common.{subst, arith, Bool, true, false, cond, ◌&&◌, nat_lt, max, Option, Some, None, inl, inr}
+use Rattle.std.proofs.Common.{All}
+use Rattle.std.specs.Cmp.Lexicographic.{slice_cmp, bytes_decides}
+use Rattle.std.specs.List.Sorted.{IsPartitionPoint}
+use Rattle.std.specs.Ordering.{is_lt, nat_cmp}
+use Rattle.std.specs.Str.{bytes_eq}
+use Rattle.std.proofs.lemmas.Bool.{cases_Bool, cases_lt, ltb-false, ltb-true}
+use Rattle.std.proofs.lemmas.List.{get_or_default}
+use Rattle.std.proofs.lemmas.List.Elements.{All-tail}
+use Rattle.std.proofs.lemmas.List.Sorted.{ranks_by, sorted_far}
+use Rattle.yaml_base.specs.Tree.{greater, number_below, greatest_below}
+use Rattle.yaml_load.specs.inner.AnchorOrder.{anchor_order, IsInOrder}
+use Rattle.yaml_load.proofs.AnchorOrders.{Named, order_total, same_names, other_names}
+
+abbrev pub Bounded : ℕ → Option ℕ → Type 0
+Bounded n None = Unit {0}
+Bounded n (Some m) = m ≤ n
+
+greater_bounded : (n : ℕ) (o p : Option ℕ) → Bounded n o → Bounded n p → Bounded n (greater o p)
+greater_bounded n None p h k = k
+greater_bounded n (Some a) None h k = h
+greater_bounded n (Some a) (Some b) h k = omega arith
+
+greater_first : (n : ℕ) (o : Option ℕ) → Bounded n o → greater (Some n) o ≡ Some n
+greater_first n None h = refl
+greater_first n (Some m) h = let e : max n m ≡ n = omega arith in ap Some e
+
+greater_second : (n : ℕ) (o : Option ℕ) → Bounded n o → greater o (Some n) ≡ Some n
+greater_second n None h = refl
+greater_second n (Some m) h = let e : max m n ≡ n = omega arith in ap Some e
+
+module _ (alias : Named) where
+  abbrev pub number : Named → Option ℕ
+  number x = number_below alias.1 alias.0 x
+
+  -- nothing is found where no anchor fits
+  pub find_none : (named : List Named) → All (λ x. number x ≡ None) named → greatest_below alias.1 alias.0 named ≡ None
+  find_none [] h = refl
+  find_none (x ∷ named) h =
+      ap (λ o. greater o (greatest_below alias.1 alias.0 named)) (h 0 x (omega arith))
+      ∙ find_none named (All-tail (λ (y : Named). number y ≡ None) x named h)
+
+  bounded_all : (n : ℕ) (named : List Named) → All (λ x. Bounded n (number x)) named
+      → Bounded n (greatest_below alias.1 alias.0 named)
+  bounded_all n [] h = tt
+  bounded_all n (x ∷ named) h =
+      greater_bounded n (number x) (greatest_below alias.1 alias.0 named) (h 0 x (omega arith))
+      (bounded_all n named (All-tail (λ (y : Named). Bounded n (number y)) x named h))
+
+  -- an anchor that fits, and has the greatest place of those, is found
+  pub find_some : (n : ℕ) (named : List Named) (m : ℕ) (d : Named) → m < length named → number (get_or named m d)
+      ≡ Some n
+      → All (λ x. Bounded n (number x)) named → greatest_below alias.1 alias.0 named ≡ Some n
+  find_some n [] m d l is h = absurd (omega arith)
+  find_some n (x ∷ named) zero d l is h =
+      ap (λ o. greater o (greatest_below alias.1 alias.0 named)) is
+      ∙ greater_first n (greatest_below alias.1 alias.0 named)
+      (bounded_all n named (All-tail (λ (y : Named). Bounded n (number y)) x named h))
+  find_some n (x ∷ named) (suc m) d l is h =
+      ap (greater (number x)) (find_some n named m d (omega arith) is
+      (All-tail (λ (y : Named). Bounded n (number y)) x named h))
+      ∙ greater_second n (number x) (h 0 x (omega arith))
+
+  pub number_as : (x : Named) (same in_front : Bool) → bytes_eq x.0 alias.0 ≡ same → nat_lt x.1 alias.1 ≡ in_front
+      → number x ≡ cond (same && in_front) (Some x.1) None
+  number_as x same in_front s f = rw (s, f)
+
+  pub number_of_other : (x : Named) → bytes_eq x.0 alias.0 ≡ false → number x ≡ None
+  number_of_other x s = rw s
+
+  -- an anchor that stands where the alias belongs, or behind, does not fit
+  behind_none : (x : Named) → is_lt (anchor_order x alias) ≡ false → number x ≡ None
+  behind_none x h = elim (cases_Bool (bytes_eq x.0 alias.0)) [
+    | inl same ↦ number_as x true false same (sym (same_names x alias same) ∙ h)
+    | inr other ↦ number_of_other x other
+  ]
+
+  module _ (named : List Named) (sorted : IsInOrder named) (at : ℕ)
+      (point : IsPartitionPoint (λ x. is_lt (anchor_order x alias) ≡ true)
+      (λ x. is_lt (anchor_order x alias) ≡ false) named at) where
+    -- nothing stands in front
+    pub none_in_front : (1 ≤ at → ⊥) → greatest_below alias.1 alias.0 named ≡ None
+    none_in_front first =
+        find_none named (λ k d l. behind_none (get_or named k d) (point.1 k d (elim (cases_lt k at) [
+          | inl below ↦ absurd (first (omega arith))
+          | inr above ↦ above
+        ]) l))
+
+    module _ (i : ℕ) (y : Named) (last : i + 1 ≡ at) (within : true ≡ nat_lt i (length named))
+        (here : y ≡ get_or named i y) where
+      inside : i < length named
+      inside = ltb-true i (length named) (sym within)
+
+      is : (d : Named) → get_or named i d ≡ y
+      is d = get_or_default named i d y inside ∙ sym here
+
+      before : is_lt (anchor_order y alias) ≡ true
+      before = subst (λ z. is_lt (anchor_order z alias) ≡ true) (is y) (point.0 i y (omega arith) (omega arith))
+
+      -- no anchor in front is behind the last of them
+      earlier : (k : ℕ) (d : Named) → k < at → is_lt (anchor_order y (get_or named k d)) ≡ false
+      earlier k d l =
+          subst (λ z. is_lt (anchor_order z (get_or named k d)) ≡ false) (is d)
+          (sorted_far (λ x z. is_lt (anchor_order x z)) (ranks_by order_total (λ (x : Named). x)) named sorted k i d
+          (omega arith) inside)
+
+      earlier_bounded : bytes_eq y.0 alias.0 ≡ true → (x : Named) → is_lt (anchor_order y x) ≡ false
+          → Bounded y.1 (number x)
+      earlier_bounded same x after = elim (cases_Bool (bytes_eq x.0 alias.0)) [
+        | inr other ↦ subst (Bounded y.1) (sym (number_of_other x other)) tt
+        | inl here ↦
+            let names = (bytes_decides y.0 alias.0).0 same ∙ sym ((bytes_decides x.0 alias.0).0 here) in
+            let far = sym (same_names y x ((bytes_decides y.0 x.0).1 names)) ∙ after in
+            let least : x.1 ≤ y.1 = let f = ltb-false y.1 x.1 far in omega arith in
+            elim (cases_Bool (nat_lt x.1 alias.1)) [
+              | inl front ↦ subst (Bounded y.1) (sym (number_as x true true here front)) least
+              | inr back ↦ subst (Bounded y.1) (sym (number_as x true false here back)) tt
+            ]
+      ]
+
+      -- the last one in front has the alias's name
+      pub found_in_front : bytes_eq y.0 alias.0 ≡ true → greatest_below alias.1 alias.0 named ≡ Some y.1
+      found_in_front same =
+          find_some y.1 named i y inside
+          (ap number (is y) ∙ number_as y true true same (sym (same_names y alias same) ∙ before))
+          (λ k d l. elim (cases_lt k at) [
+            | inl below ↦ earlier_bounded same (get_or named k d) (earlier k d below)
+            | inr above ↦ subst (Bounded y.1) (sym (behind_none (get_or named k d) (point.1 k d above l))) tt
+          ])
+
+      earlier_none : bytes_eq y.0 alias.0 ≡ false → (x : Named) → is_lt (anchor_order y x) ≡ false → number x ≡ None
+      earlier_none other x after = elim (cases_Bool (bytes_eq x.0 alias.0)) [
+        | inr apart ↦ number_of_other x apart
+        | inl here ↦
+            let name = (bytes_decides x.0 alias.0).0 here in
+            let apart = ap (bytes_eq y.0) name ∙ other in
+            let less = ap (λ n. is_lt (slice_cmp nat_cmp y.0 n)) name ∙ sym (other_names y alias other) ∙ before in
+            absurd (let far = sym (other_names y x apart) ∙ after in cc)
+      ]
+
+      -- it has another one
+      pub other_in_front : bytes_eq y.0 alias.0 ≡ false → greatest_below alias.1 alias.0 named ≡ None
+      other_in_front other =
+          find_none named (λ k d l. elim (cases_lt k at) [
+            | inl below ↦ earlier_none other (get_or named k d) (earlier k d below)
+            | inr above ↦ behind_none (get_or named k d) (point.1 k d above l)
+          ])

@@ -1,0 +1,244 @@
+-- What cuts documents off, and what they hold up to there.
+use Rattle.std.proofs.Common.{◌≡◌, ℕ, zero, suc, ◌+◌, List, [], ◌∷◌, ◌++◌, map, length, refl, sym, ◌∙◌, ap, subst}
+use Rattle.std.proofs.Common.{cond, arith, Bool, true, false, Option, Some, None, All, inl, inr, ◌||◌}
+use Rattle.std.specs.Prelude.{slice_get, not}
+use Rattle.std.proofs.lemmas.Bool.{cases_Bool}
+use Rattle.std.proofs.lemmas.List.Elements.{All-append, All-cons, All-nil}
+use Rattle.yaml_base.specs.Position.{Position}
+use Rattle.yaml_base.specs.PlainEvent.{PlainEvent}
+use Rattle.yaml_base.specs.PlainFault.{PlainFault}
+use Rattle.yaml_base.specs.declared.error.Cause.TheVariants.{UnknownAnchor}
+use Rattle.yaml_load.specs.Documents.{Input, Find, find_in, known_events, unknown_mark, body, is_ended}
+use Rattle.yaml_load.specs.Documents.{is_document_start, anchors_in, ending_of, document_from, documents_of}
+use Rattle.yaml_load.specs.Documents.{after_starts, is_open_after}
+use Rattle.yaml_load.specs.Documents.{void_documents, void_document, last_mark, is_document_end, failed_document}
+use Rattle.yaml_load.specs.Documents.{further_document, becomes, then_events, or_mark}
+use Rattle.yaml_load.specs.PlainDocEvent.{PlainDocEvent}
+use Rattle.yaml_load.specs.PlainDocument.{PlainDocument}
+use Rattle.yaml_load.specs.StreamLaw.{IsBeforeFault, IsAtFault, EndAtFault, HoldsFront, HoldFronts}
+
+-- the first unknown mark behind a start
+abbrev unknown_of : Input → Option Position
+unknown_of start = unknown_mark (find_in (anchors_in 0 (body start))) 0 (body start)
+
+-- a document that ends was not cut off by the parser's fault
+before_ended : (unknown : Option Position) (fault : Option PlainFault) → IsBeforeFault (ending_of unknown true fault)
+before_ended (Some mark) fault = tt
+before_ended None fault = tt
+
+-- one that does not end was
+at_unended : (unknown : Option Position) (fault : PlainFault) → IsAtFault fault (ending_of unknown false (Some fault))
+at_unended (Some mark) fault = tt
+at_unended None fault = refl
+
+before_document : (start : Input) (fault : Option PlainFault) → is_ended start ≡ true
+    → IsBeforeFault (document_from fault start).ending
+before_document start fault ended =
+    subst (λ b. IsBeforeFault (ending_of (unknown_of start) b fault)) (sym ended) (before_ended
+    (unknown_of start) fault)
+
+at_document : (start : Input) (fault : PlainFault) → is_ended start ≡ false
+    → IsAtFault fault (document_from (Some fault) start).ending
+at_document start fault unended =
+    subst (λ b. IsAtFault fault (ending_of (unknown_of start) b (Some fault))) (sym unended) (at_unended
+    (unknown_of start) fault)
+
+in_front : (fault : PlainFault) (d : PlainDocument) (ds : List PlainDocument) → IsBeforeFault d.ending
+    → EndAtFault fault ds
+    → EndAtFault fault (d ∷ ds)
+in_front fault d [] h more = absurd more
+in_front fault d (e ∷ ds) h more = (h, more)
+
+-- the documents of an input that begins within a document or between two
+abbrev from_here : PlainFault → Bool → Input → List PlainDocument
+from_here fault opened input =
+    map (document_from (Some fault)) (after_starts opened input)
+    ++ cond (is_open_after opened input) [] (failed_document fault ∷ [])
+
+-- behind a document that ends the fault is still to come, and behind another one nothing is
+abbrev IsBehind : PlainFault → Bool → List PlainDocument → Type 0
+IsBehind fault true documents = EndAtFault fault documents
+IsBehind fault false documents = documents ≡ []
+
+with_document : (fault : PlainFault) (input : Input) (ended : Bool) → is_ended input ≡ ended
+    → IsBehind fault ended (from_here fault true input)
+    → EndAtFault fault (document_from (Some fault) input ∷ from_here fault true input)
+with_document fault input true is more =
+    in_front fault (document_from (Some fault) input) (from_here fault true input) (before_document input
+    (Some fault) is) more
+with_document fault input false is none =
+    subst (λ ds. EndAtFault fault (document_from (Some fault) input ∷ ds)) (sym none) (at_document input fault is)
+
+mutual
+  -- between documents
+  between : (fault : PlainFault) (input : Input) → EndAtFault fault (from_here fault false input)
+  between fault [] = refl
+  between fault (e ∷ input) =
+      elim (cases_Bool (is_document_start e.0)) [
+        | inl yes_ ↦
+            subst (λ b. EndAtFault fault (map (document_from (Some fault)) (cond b (input ∷ after_starts true input)
+            (after_starts false input))
+            ++ cond (is_open_after b input) [] (failed_document fault ∷ [])))
+            (sym yes_) (with_document fault input (is_ended input) refl (behind_one fault input))
+        | inr no_ ↦
+            subst (λ b. EndAtFault fault (map (document_from (Some fault)) (cond b (input ∷ after_starts true input)
+            (after_starts false input))
+            ++ cond (is_open_after b input) [] (failed_document fault ∷ [])))
+            (sym no_) (between fault input)
+      ]
+
+  -- within a document
+  behind_one : (fault : PlainFault) (input : Input) → IsBehind fault (is_ended input) (from_here fault true input)
+  behind_one fault [] = refl
+  behind_one fault (e ∷ input) =
+      elim (cases_Bool (is_document_end e.0)) [
+        | inl yes_ ↦
+            subst (λ b. IsBehind fault (b || is_ended input) (from_here fault (not b) input)) (sym yes_)
+            (between fault input)
+        | inr no_ ↦
+            subst (λ b. IsBehind fault (b || is_ended input) (from_here fault (not b) input)) (sym no_)
+            (behind_one fault input)
+      ]
+
+-- the parser's fault comes in the last document
+pub fault_last : (input : Input) (fault : PlainFault) → EndAtFault fault (documents_of input (Some fault))
+fault_last input fault = between fault input
+
+-- a document that no parser's fault cut off
+abbrev EndsBefore : PlainDocument → Type 0
+EndsBefore d = IsBeforeFault d.ending
+
+before_none : (unknown : Option Position) (ended : Bool) → IsBeforeFault (ending_of unknown ended None)
+before_none (Some mark) ended = tt
+before_none None true = tt
+before_none None false = tt
+
+none_behind : (starts : List Input) → All EndsBefore (map (document_from None) starts)
+none_behind [] = All-nil EndsBefore
+none_behind (s ∷ starts) =
+    All-cons EndsBefore (document_from None s) (map (document_from None) starts) (before_none (unknown_of s)
+    (is_ended s))
+    (none_behind starts)
+
+none_void : (starts : List Input) (end : Option Position) → All EndsBefore (void_documents starts end)
+none_void [] None = All-nil EndsBefore
+none_void [] (Some mark) = All-cons EndsBefore (void_document mark) [] tt (All-nil EndsBefore)
+none_void (s ∷ starts) end = All-nil EndsBefore
+
+-- without the parser's fault no document has it
+pub no_fault : (input : Input) → All EndsBefore (documents_of input None)
+no_fault input =
+    All-append EndsBefore (map (document_from None) (after_starts false input)) (further_document input None)
+    (none_behind (after_starts false input)) (none_void (after_starts false input) (last_mark input))
+
+-- an event at a place, and what it becomes there
+abbrev Holds : Find → Input → ℕ → ℕ → Position → Option PlainDocEvent → Type 0
+Holds find input place number mark made = (source : PlainEvent) × (slice_get input place ≡ Some (source, mark)) ×
+    (becomes find number source ≡ made)
+
+-- the parts of an event that is there
+abbrev event_in : Option (PlainDocEvent × Position) → PlainDocEvent → PlainDocEvent
+event_in (Some x) d = x.0
+event_in None d = d
+
+abbrev mark_in : Option (PlainDocEvent × Position) → Position → Position
+mark_in (Some x) m = x.1
+mark_in None m = m
+
+known_here : (find : Find) (i : ℕ) (e : PlainEvent × Position) (input : Input) (made : Option PlainDocEvent)
+    → becomes find i e.0 ≡ made
+    → ((p number : ℕ) (d : PlainDocEvent) (mark : Position) → number ≡ (i + 1) + p
+    → slice_get (known_events find (i + 1) input) p ≡ Some (d, mark) → Holds find input p number mark (Some d))
+    → (p number : ℕ) (d : PlainDocEvent) (mark : Position) → number ≡ i + p
+    → slice_get (then_events made e.1 (known_events find (i + 1) input)) p ≡ Some (d, mark)
+    → Holds find (e ∷ input) p number mark (Some d)
+known_here find i e input None is more p number d mark n here = absurd (cc)
+known_here find i e input (Some f) is more zero number d mark n here =
+    let same : number ≡ i = omega arith in
+    let marked : e.1 ≡ mark = ap (λ o. mark_in o mark) here in
+    let made : f ≡ d = ap (λ o. event_in o d) here in
+    (e.0, ap (λ m. Some (e.0, m)) marked, ap (λ k. becomes find k e.0) same ∙ is ∙ ap Some made)
+known_here find i e input (Some f) is more (suc p) number d mark n here = more p number d mark (omega arith) here
+
+-- each known event is what the event at its place becomes
+known_at : (find : Find) (i : ℕ) (input : Input) (p number : ℕ) (d : PlainDocEvent) (mark : Position) → number ≡ i + p
+    → slice_get (known_events find i input) p ≡ Some (d, mark) → Holds find input p number mark (Some d)
+known_at find i [] p number d mark n here = absurd (cc)
+known_at find i (e ∷ input) p number d mark n here =
+    known_here find i e input (becomes find i e.0) refl (known_at find (i + 1) input) p number d mark n here
+
+unknown_here : (find : Find) (i : ℕ) (e : PlainEvent × Position) (input : Input) (made : Option PlainDocEvent)
+    → becomes find i e.0 ≡ made
+    → ((number : ℕ) (mark : Position) → number ≡ (i + 1) + length (known_events find (i + 1) input)
+    → unknown_mark find (i + 1) input ≡ Some mark
+    → Holds find input (length (known_events find (i + 1) input)) number mark None)
+    → (number : ℕ) (mark : Position) → number ≡ i + length (then_events made e.1 (known_events find (i + 1) input))
+    → or_mark made e.1 (unknown_mark find (i + 1) input) ≡ Some mark
+    → Holds find (e ∷ input) (length (then_events made e.1 (known_events find (i + 1) input))) number mark None
+unknown_here find i e input None is more number mark n here =
+    let same : number ≡ i = omega arith in
+    let marked : e.1 ≡ mark = cc in
+    (e.0, ap (λ m. Some (e.0, m)) marked, ap (λ k. becomes find k e.0) same ∙ is)
+unknown_here find i e input (Some f) is more number mark n here = more number mark (omega arith) here
+
+-- the event behind the known ones becomes none, where there is an unknown mark
+unknown_at : (find : Find) (i : ℕ) (input : Input) (number : ℕ) (mark : Position)
+    → number ≡ i + length (known_events find i input)
+    → unknown_mark find i input ≡ Some mark → Holds find input (length (known_events find i input)) number mark None
+unknown_at find i [] number mark n here = absurd (cc)
+unknown_at find i (e ∷ input) number mark n here =
+    unknown_here find i e input (becomes find i e.0) refl (unknown_at find (i + 1) input) number mark n here
+
+-- what stands in front of the end of a document stands behind its start
+in_more : (e : PlainEvent × Position) (input : Input)
+    → ((place : ℕ) (x : PlainEvent × Position) → slice_get (body input) place ≡ Some x → slice_get input place ≡ Some x)
+    → (place : ℕ) (x : PlainEvent × Position) → slice_get (e ∷ body input) place ≡ Some x
+    → slice_get (e ∷ input) place ≡ Some x
+in_more e input more zero x here = here
+in_more e input more (suc place) x here = more place x here
+
+in_body : (input : Input) (place : ℕ) (x : PlainEvent × Position) → slice_get (body input) place ≡ Some x
+    → slice_get input place ≡ Some x
+in_body [] place x here = here
+in_body (e ∷ input) place x here =
+    elim (cases_Bool (is_document_end e.0)) [
+      | inl yes_ ↦ absurd (let none = sym (ap (λ b. slice_get (cond b [] (e ∷ body input)) place) yes_) ∙ here in cc)
+      | inr no_ ↦ in_more e input (in_body input) place x (sym (ap (λ b. slice_get (cond b []
+          (e ∷ body input)) place) no_) ∙ here)
+    ]
+
+holds_start : (find : Find) (start : Input) (place number : ℕ) (mark : Position) (made : Option PlainDocEvent)
+    → Holds find (body start) place number mark made → Holds find start place number mark made
+holds_start find start place number mark made h = (h.0, in_body start place (h.0, mark) h.1, h.2)
+
+-- an unknown anchor is the first unknown mark
+unknown_is : (unknown : Option Position) (ended : Bool) (fault : Option PlainFault) (mark : Position)
+    → ending_of unknown ended fault ≡ Some (UnknownAnchor mark) → unknown ≡ Some mark
+unknown_is (Some m) ended fault mark h = cc
+unknown_is None true fault mark h = absurd (cc)
+unknown_is None false None mark h = absurd (cc)
+unknown_is None false (Some f) mark h = absurd (cc)
+
+front_of : (start : Input) (fault : Option PlainFault)
+    → HoldsFront (find_in (anchors_in 0 (body start))) start (document_from fault start)
+front_of start fault =
+    let find : Find = find_in (anchors_in 0 (body start)) in
+    record {
+      events = λ p d mark here. holds_start find start p p mark (Some d) (known_at find 0 (body start) p p d mark
+          (omega arith) here);
+      anchor = λ mark cut.
+          holds_start find start (length (known_events find 0 (body start))) (length (known_events find 0
+          (body start))) mark None
+          (unknown_at find 0 (body start) (length (known_events find 0 (body start))) mark (omega arith)
+          (unknown_is (unknown_of start) (is_ended start) fault mark cut));
+    }
+
+fronts_of : (starts : List Input) (fault : Option PlainFault) (more : List PlainDocument)
+    → HoldFronts starts (map (document_from fault) starts ++ more)
+fronts_of [] fault more = tt
+fronts_of (s ∷ starts) fault more = (front_of s fault, fronts_of starts fault more)
+
+-- each document behind a start holds the front of what follows it
+pub all_fronts : (input : Input) (fault : Option PlainFault)
+    → HoldFronts (after_starts false input) (documents_of input fault)
+all_fronts input fault = fronts_of (after_starts false input) fault (further_document input fault)

@@ -1,0 +1,220 @@
+-- What was seen of a document is what its draft holds.
+use Rattle.std.proofs.Common.{◌≡◌, ℕ, suc, ◌+◌, ◌<◌, ◌≤◌, List, [], ◌∷◌, ◌++◌, length}
+use Rattle.std.proofs.Common.{sym, ◌∙◌, ap, subst, arith, append_assoc, append-nil, length-append, All, IsTrue}
+use Rattle.std.proofs.Common.{true, false, Option, Some, None, option_map, nat_lt, inl, inr, refl}
+use Rattle.std.specs.Str.{bytes_eq}
+use Rattle.std.proofs.lemmas.Bool.{cases_Bool, le-ltb}
+use Rattle.std.proofs.lemmas.List.{length-map, map-append}
+use Rattle.std.proofs.lemmas.List.Elements.{All-cons, All-push}
+use Rattle.yaml_base.specs.Position.{Position}
+use Rattle.yaml_base.specs.PlainEvent.{PlainEvent, stream_start, stream_end, document_start, document_end, alias}
+use Rattle.yaml_base.specs.PlainEvent.{scalar}
+use Rattle.yaml_base.specs.PlainEvent.{sequence_start, sequence_end, mapping_start, mapping_end}
+use Rattle.yaml_base.specs.Tree.{anchor_at, greater, greatest_below, number_below}
+use Rattle.yaml_load.specs.DocEventView.{doc_event_of, marked_events_of}
+use Rattle.yaml_load.specs.Documents.{Find, Input, anchor_of, anchors_in, find_in}
+use Rattle.yaml_load.specs.PlainDocEvent.{PlainDocEvent, alias_to}
+use Rattle.yaml_load.specs.declared.doc_event.DocEvent.{DocEvent}
+use Rattle.yaml_load.specs.declared.loader.draft.Draft.{Draft}
+use Rattle.yaml_load.specs.inner.Drafts.{AreTaken, IsDraft, IsTaken, Waiting, drafted, drafts_of, is_of_node}
+use Rattle.yaml_load.specs.inner.OpenEnds.{HasNumbers}
+
+abbrev Events : Type 0
+Events = List (DocEvent × Position)
+
+abbrev Marked : Type 0
+Marked = List (PlainDocEvent × Position)
+
+-- what is put behind a list, in two ways
+behind : {X : Type 0} (xs ys : List X) (x : X) → (xs ++ x ∷ []) ++ ys ≡ xs ++ x ∷ ys
+behind xs ys x = append_assoc xs (x ∷ []) ys
+
+one_longer : {X : Type 0} (xs : List X) (x : X) → length (xs ++ x ∷ []) ≡ length xs + 1
+one_longer xs x = length-append xs (x ∷ [])
+
+-- the anchors of one event more
+anchors_in-push : (place : ℕ) (seen : Input) (e : PlainEvent × Position)
+    → anchors_in place (seen ++ e ∷ []) ≡ anchors_in place seen ++ anchor_at (anchor_of e.0) (place + length seen)
+anchors_in-push place [] e =
+    let n : place ≡ place + 0 = omega arith in
+    append-nil (anchor_at (anchor_of e.0) place) ∙ ap (anchor_at (anchor_of e.0)) n
+anchors_in-push place (x ∷ seen) e =
+    let n : place + 1 + length seen ≡ place + suc (length seen) = omega arith in
+    ap (λ xs. anchor_at (anchor_of x.0) place ++ xs)
+    (anchors_in-push (place + 1) seen e ∙ ap (λ k. anchors_in (place + 1) seen ++ anchor_at (anchor_of e.0) k) n)
+    ∙ sym (append_assoc (anchor_at (anchor_of x.0) place) (anchors_in (place + 1) seen) _)
+
+-- an event that is taken is taken by each search that finds as much
+taken_same : (find more : Find) (place : ℕ) (e : PlainEvent) (d : PlainDocEvent) (waiting : Waiting)
+    → ((a : List ℕ) → more a place ≡ find a place) → IsTaken find place e d waiting → IsTaken more place e d waiting
+taken_same find more place (alias a) d waiting h (inl w) = inl w
+taken_same find more place (alias a) d waiting h (inr k) = inr (ap (option_map alias_to) (h a) ∙ k.0, k.1)
+taken_same find more place stream_start d waiting h t = t
+taken_same find more place stream_end d waiting h t = t
+taken_same find more place document_start d waiting h t = t
+taken_same find more place document_end d waiting h t = t
+taken_same find more place (scalar s) d waiting h t = t
+taken_same find more place (sequence_start a g) d waiting h t = t
+taken_same find more place sequence_end d waiting h t = t
+taken_same find more place (mapping_start a g) d waiting h t = t
+taken_same find more place mapping_end d waiting h t = t
+
+all_taken_same : (find more : Find) (place : ℕ) (seen : Input) (events : Marked) (waiting : Waiting)
+    → ((a : List ℕ) (p : ℕ) → p < place + length seen → more a p ≡ find a p)
+    → AreTaken find place seen events waiting → AreTaken more place seen events waiting
+all_taken_same find more place [] events waiting h t = t
+all_taken_same find more place (e ∷ seen) events waiting h (d, here, later, left, is, rest, es, ws) = (
+  d,
+  here,
+  later,
+  left,
+  taken_same find more place e.0 d here (λ a. h a place (omega arith)) is,
+  all_taken_same find more (place + 1) seen later left (λ a p l. h a p (omega arith)) rest,
+  es,
+  ws,
+)
+
+-- one event more is taken
+taken_more : (find : Find) (place : ℕ) (seen : Input) (events : Marked) (waiting here : Waiting)
+    (e : PlainEvent × Position) (d : PlainDocEvent) → AreTaken find place seen events waiting
+    → IsTaken find (place + length seen) e.0 d here
+    → AreTaken find place (seen ++ e ∷ []) (events ++ (d, e.1) ∷ []) (waiting ++ here)
+taken_more find place [] events waiting here e d (none, empty) is =
+    let n : place + 0 ≡ place = omega arith in (
+      d,
+      here,
+      [],
+      [],
+      subst (λ k. IsTaken find k e.0 d here) n is,
+      (refl, refl),
+      ap (λ es. es ++ (d, e.1) ∷ []) none,
+      ap (λ ws. ws ++ here) empty ∙ sym (append-nil here),
+    )
+taken_more find place (x ∷ seen) events waiting here e d (d', here', later, left, was, rest, es, ws) is =
+    let n : place + suc (length seen) ≡ place + 1 + length seen = omega arith in (
+      d',
+      here',
+      later ++ (d, e.1) ∷ [],
+      left ++ here,
+      was,
+      taken_more find (place + 1) seen later left here e d rest (subst (λ k. IsTaken find k e.0 d here) n is),
+      ap (λ xs. xs ++ (d, e.1) ∷ []) es,
+      ap (λ xs. xs ++ here) ws ∙ append_assoc here' left here,
+    )
+
+-- as many events stand for those that were seen
+taken_long : (find : Find) (place : ℕ) (seen : Input) (events : Marked) (waiting : Waiting)
+    → AreTaken find place seen events waiting → length events ≡ length seen
+taken_long find place [] events waiting (none, empty) = ap length none
+taken_long find place (e ∷ seen) events waiting (d, here, later, left, is, rest, es, ws) =
+    ap length es ∙ ap suc (taken_long find (place + 1) seen later left rest)
+
+-- the aliases that wait stand among the events
+waits_within : (find : Find) (place : ℕ) (e : PlainEvent) (d : PlainDocEvent) (here left : Waiting) (end : ℕ)
+    → place < end → IsTaken find place e d here → All (λ x. x.1 < end) left → All (λ x. x.1 < end) (here ++ left)
+waits_within find place (alias a) d here left end l (inl w) h =
+    rw w.1 (All-cons (λ (x : List ℕ × ℕ). x.1 < end) (a, place) left l h)
+waits_within find place (alias a) d here left end l (inr k) h = rw k.1 h
+waits_within find place stream_start d here left end l t h = rw t.1 h
+waits_within find place stream_end d here left end l t h = rw t.1 h
+waits_within find place document_start d here left end l t h = rw t.1 h
+waits_within find place document_end d here left end l t h = rw t.1 h
+waits_within find place (scalar s) d here left end l t h = rw t.1 h
+waits_within find place (sequence_start a g) d here left end l t h = rw t.1 h
+waits_within find place sequence_end d here left end l t h = rw t.1 h
+waits_within find place (mapping_start a g) d here left end l t h = rw t.1 h
+waits_within find place mapping_end d here left end l t h = rw t.1 h
+
+taken_within : (find : Find) (place : ℕ) (seen : Input) (events : Marked) (waiting : Waiting)
+    → AreTaken find place seen events waiting → All (λ x. x.1 < place + length seen) waiting
+taken_within find place [] events waiting (none, empty) = rw empty (λ k d l. absurd (omega arith))
+taken_within find place (e ∷ seen) events waiting (d, here, later, left, is, rest, es, ws) =
+    rw ws (waits_within find place e.0 d here left (place + suc (length seen)) (omega arith) is
+    (λ k d l. let h = taken_within find (place + 1) seen later left rest k d l in omega arith))
+
+-- a place further on does not change what is found in front of it
+number_behind : (p k : ℕ) (anchor : List ℕ) (x : List ℕ) → p ≤ k → number_below p anchor (x, k) ≡ None
+number_behind p k anchor x l = elim (cases_Bool (bytes_eq x anchor)) [
+  | inl same ↦ let f : nat_lt k p ≡ false = le-ltb k p l in rw (same, f) refl
+  | inr other ↦ rw other refl
+]
+
+found_before : (p k : ℕ) (anchor : List ℕ) (named : List (List ℕ × ℕ)) (o : Option (List ℕ)) → p ≤ k
+    → greatest_below p anchor (named ++ anchor_at o k) ≡ greatest_below p anchor named
+found_before p k anchor [] None l = refl
+found_before p k anchor [] (Some x) l = ap (λ n. greater n None) (number_behind p k anchor x l)
+found_before p k anchor (y ∷ named) o l = ap (greater (number_below p anchor y)) (found_before p k anchor named o l)
+
+module _ (events : Events) (numbers : List ℕ) (seen : Input) (old : Draft) (h : IsDraft events numbers seen old) where
+  now_long : length h.now ≡ length seen
+  now_long =
+      sym (length-map h.now (λ (e : DocEvent × Position). (doc_event_of e.0, e.1)))
+      ∙ taken_long (find_in (anchors_in 0 seen)) 0 seen _ _ h.taken
+
+  pub drafts_long : length (drafts_of seen) ≡ length seen
+  drafts_long = length-map seen (λ (e : PlainEvent × Position). drafted e.0)
+
+  pub whole_long : length old.events.items ≡ old.from + length seen
+  whole_long = omega (arith, ap length h.whole, length-append events h.now, now_long, h.from)
+
+  from_none : length seen ≡ 0 + length seen
+  from_none = omega arith
+
+  -- what the draft asks of its calls
+  pub begins_within : old.from ≤ length old.events.items
+  begins_within = omega (arith, whole_long)
+
+  pub as_many : length old.ends.numbers ≡ length old.events.items
+  as_many = omega (arith, h.ends.long, drafts_long, whole_long, h.long, h.from)
+
+  pub aliases_in_range : All (λ (x : List ℕ × ℕ). old.from + x.1 < length old.events.items) old.anchors.aliases.items
+  aliases_in_range = λ k d l.
+      let w = taken_within (find_in (anchors_in 0 seen)) 0 seen _ _ h.taken k d l in omega (arith, whole_long)
+
+  -- one event more
+  module _ (new : Draft) (e : PlainEvent) (mark : Position) (d : DocEvent) (here : Waiting)
+      (node : is_of_node e ≡ true) where
+    again : (a : List ℕ) (p : ℕ) → p < 0 + length seen
+        → find_in (anchors_in 0 (seen ++ (e, mark) ∷ [])) a p ≡ find_in (anchors_in 0 seen) a p
+    again a p l =
+        ap (greatest_below p a) (anchors_in-push 0 seen (e, mark))
+        ∙ found_before p (0 + length seen) a (anchors_in 0 seen) (anchor_of e) (omega arith)
+
+    here_again : (a : List ℕ)
+        → find_in (anchors_in 0 (seen ++ (e, mark) ∷ [])) a (length seen)
+        ≡ find_in (anchors_in 0 seen) a (length seen)
+    here_again a =
+        ap (greatest_below (length seen) a) (anchors_in-push 0 seen (e, mark))
+        ∙ found_before (length seen) (0 + length seen) a (anchors_in 0 seen) (anchor_of e) (omega arith)
+
+    pub draft_more : new.from ≡ old.from → new.events.items ≡ old.events.items ++ (d, mark) ∷ []
+        → IsTaken (find_in (anchors_in 0 seen)) (length seen) e (doc_event_of d) here
+        → new.anchors.named.items ≡ old.anchors.named.items ++ anchor_at (anchor_of e) (length seen)
+        → new.anchors.aliases.items ≡ old.anchors.aliases.items ++ here
+        → HasNumbers numbers (drafts_of seen ++ drafted e ∷ []) new.ends
+        → IsDraft events numbers (seen ++ (e, mark) ∷ []) new
+    draft_more from pushed is named aliases ends =
+        let more = find_in (anchors_in 0 (seen ++ (e, mark) ∷ [])) in
+        let shown : marked_events_of (h.now ++ (d, mark) ∷ []) ≡ marked_events_of h.now ++ (doc_event_of d, mark) ∷ [] =
+        map-append (λ (x : DocEvent × Position). (doc_event_of x.0, x.1)) h.now ((d, mark) ∷ []) in
+        let taken =
+        taken_more more 0 seen (marked_events_of h.now) old.anchors.aliases.items here (e, mark) (doc_event_of d)
+        (all_taken_same (find_in (anchors_in 0 seen)) more 0 seen
+        (marked_events_of h.now) old.anchors.aliases.items again
+        h.taken)
+        (subst (λ k. IsTaken more k e (doc_event_of d) here) from_none
+        (taken_same (find_in (anchors_in 0 seen)) more (length seen) e (doc_event_of d) here here_again is)) in
+        record {
+          nodes = All-push (λ (x : PlainEvent × Position). IsTrue (is_of_node x.0)) seen (e, mark) h.nodes node;
+          long = h.long;
+          from = from ∙ h.from;
+          now = h.now ++ (d, mark) ∷ [];
+          whole = pushed ∙ ap (λ es. es ++ (d, mark) ∷ []) h.whole ∙ append_assoc events h.now ((d, mark) ∷ []);
+          taken = rw (shown, aliases) taken;
+          ends =
+              subst (λ es. HasNumbers numbers es new.ends)
+              (sym (map-append (λ (x : PlainEvent × Position). drafted x.0) seen ((e, mark) ∷ []))) ends;
+          named = named ∙ ap (λ xs. xs ++ anchor_at (anchor_of e) (length seen)) h.named
+              ∙ ap (λ k. anchors_in 0 seen ++ anchor_at (anchor_of e) k) from_none
+              ∙ sym (anchors_in-push 0 seen (e, mark));
+        }

@@ -1,0 +1,152 @@
+-- Ranges of a list of events keep their documents when events are put behind.
+use Rattle.std.proofs.Common.{◌≡◌, ℕ, suc, ◌+◌, ◌-◌, ◌≤◌, List, [], ◌∷◌, ◌++◌, map, length, take, drop, take_all}
+use Rattle.std.proofs.Common.{slice_range}
+use Rattle.std.proofs.Common.{refl, sym, ◌∙◌, ap, subst, arith, length-append, length-drop, append_assoc, Option}
+use Rattle.std.proofs.lemmas.List.{take-append-le, drop-append-le, map-append}
+use Rattle.std.proofs.lemmas.List.Elements.{All-append, All-cons, All-nil, All-tail}
+use Rattle.std.proofs.Math.Seq.{drop-append_seam}
+use Rattle.yaml_base.specs.Position.{Position}
+use Rattle.yaml_base.specs.declared.error.Cause.{Cause}
+use Rattle.yaml_load.specs.DocEventView.{doc_event_of, marked_events_of}
+use Rattle.yaml_load.specs.Ends.{ends_from, ends_of}
+use Rattle.yaml_load.specs.Gathering.{AreCuts, HasEnds, document_in, documents_in, ending_in, plain_doc_events}
+use Rattle.yaml_load.specs.PlainDocEvent.{PlainDocEvent}
+use Rattle.yaml_load.specs.PlainDocument.{PlainDocument}
+use Rattle.yaml_load.specs.declared.doc_event.DocEvent.{DocEvent}
+use Rattle.yaml_load.specs.declared.loader.draft.Cut.{Cut}
+
+abbrev Events : Type 0
+Events = List (DocEvent × Position)
+
+-- a range of the front
+range_of_front : {X : Type 0} (xs ys : List X) (from to : ℕ) → from ≤ to → to ≤ length xs
+    → slice_range (xs ++ ys) from to ≡ slice_range xs from to
+range_of_front xs ys from to order within =
+    let long : to - from ≤ length (drop from xs) = simp length-drop (omega arith) in
+    ap (take (to - from)) (drop-append-le from xs ys (omega arith)) ∙ take-append-le (to - from) (drop from xs) ys long
+
+-- the range of what is behind
+range_behind : {X : Type 0} (xs ys : List X) (from to : ℕ) → from ≡ length xs → to ≡ length (xs ++ ys)
+    → slice_range (xs ++ ys) from to ≡ ys
+range_behind xs ys from to begin end =
+    let long : length ys ≤ to - from = omega (arith, length-append xs ys) in
+    ap (λ k. take (to - from) (drop k (xs ++ ys))) begin
+    ∙ ap (take (to - from)) (drop-append_seam xs ys) ∙ take_all (to - from) ys long
+
+-- as many numbers as events
+length-ends_from : (place : ℕ) (events : List PlainDocEvent) → length (ends_from place events) ≡ length events
+length-ends_from place [] = refl
+length-ends_from place (e ∷ events) = ap suc (length-ends_from (place + 1) events)
+
+length-plain_doc_events : (events : Events) → length (plain_doc_events events) ≡ length events
+length-plain_doc_events [] = refl
+length-plain_doc_events (e ∷ events) = ap suc (length-plain_doc_events events)
+
+-- the plain events, with and without their marks
+pub plain_doc_events-marked : (events : Events)
+    → map (λ (e : PlainDocEvent × Position). e.0) (marked_events_of events) ≡ plain_doc_events events
+plain_doc_events-marked [] = refl
+plain_doc_events-marked (e ∷ events) = ap (λ es. doc_event_of e.0 ∷ es) (plain_doc_events-marked events)
+
+-- a range in front stays right
+has_ends_more : (events more : Events) (ends numbers : List ℕ) (from to : ℕ) → HasEnds events ends from to
+    → HasEnds (events ++ more) (ends ++ numbers) from to
+has_ends_more events more ends numbers from to h = (
+  h.0,
+  omega (arith, h.1, length-append events more),
+  omega (arith, h.2, length-append ends numbers),
+  range_of_front ends numbers from to h.0 h.2 ∙ h.3
+      ∙ ap (λ es. ends_of (plain_doc_events es)) (sym (range_of_front events more from to h.0 h.1)),
+)
+
+-- the range behind is right
+has_ends_behind : (events more : Events) (ends numbers : List ℕ) (from to : ℕ) → length ends ≡ length events
+    → numbers ≡ ends_of (plain_doc_events more) → from ≡ length events → to ≡ length (events ++ more)
+    → HasEnds (events ++ more) (ends ++ numbers) from to
+has_ends_behind events more ends numbers from to long are begin end =
+    let many : length numbers ≡ length more =
+    ap length are ∙ length-ends_from 0 (plain_doc_events more) ∙ length-plain_doc_events more in
+    let whole : to ≡ length (ends ++ numbers) =
+    omega (arith, length-append events more, length-append ends numbers) in (
+      omega (arith, length-append events more),
+      omega arith,
+      omega arith,
+      range_behind ends numbers from to (begin ∙ sym long) whole ∙ are
+          ∙ ap (λ es. ends_of (plain_doc_events es)) (sym (range_behind events more from to begin end)),
+    )
+
+-- the ranges with one more
+pub cuts_added : (events more : Events) (ends numbers : List ℕ) (cuts : List Cut) (cut : Cut) → length ends
+    ≡ length events
+    → numbers ≡ ends_of (plain_doc_events more) → cut.from ≡ length events → cut.to ≡ length (events ++ more)
+    → AreCuts events ends cuts → AreCuts (events ++ more) (ends ++ numbers) (cuts ++ cut ∷ [])
+cuts_added events more ends numbers cuts cut long are begin end h =
+    All-append (λ (c : Cut). HasEnds (events ++ more) (ends ++ numbers) c.from c.to) cuts (cut ∷ [])
+    (λ k d l. has_ends_more events more ends numbers _ _ (h k d l))
+    (All-cons (λ (c : Cut). HasEnds (events ++ more) (ends ++ numbers) c.from c.to) cut []
+    (has_ends_behind events more ends numbers cut.from cut.to long are begin end)
+    (All-nil (λ (c : Cut). HasEnds (events ++ more) (ends ++ numbers) c.from c.to)))
+
+abbrev held : Events → Option Cause → PlainDocument
+held events ending = record { events = marked_events_of events; ending = ending }
+
+-- the documents in front stay
+documents_in_front : (events more : Events) (ends : List ℕ) (cuts : List Cut) → AreCuts events ends cuts
+    → documents_in (events ++ more) cuts ≡ documents_in events cuts
+documents_in_front events more ends [] h = refl
+documents_in_front events more ends (cut ∷ cuts) h =
+    let first = h 0 cut (omega arith) in
+    ap (λ (es : Events). held es (ending_in cut.error) ∷ documents_in (events ++ more) cuts)
+    (range_of_front events more cut.from cut.to first.0 first.1)
+    ∙ ap (λ ds. document_in events cut ∷ ds)
+    (documents_in_front events more ends cuts (All-tail (λ (c : Cut). HasEnds events ends c.from c.to) cut cuts h))
+
+-- and the one behind is added
+pub documents_added : (events more : Events) (ends : List ℕ) (cuts : List Cut) (cut : Cut) → AreCuts events ends cuts
+    → cut.from ≡ length events → cut.to ≡ length (events ++ more)
+    → documents_in (events ++ more) (cuts ++ cut ∷ [])
+    ≡ documents_in events cuts ++ record { events = marked_events_of more; ending = ending_in cut.error } ∷ []
+documents_added events more ends cuts cut h begin end =
+    map-append (document_in (events ++ more)) cuts (cut ∷ [])
+    ∙ ap (λ ds. ds ++ document_in (events ++ more) cut ∷ []) (documents_in_front events more ends cuts h)
+    ∙ ap (λ (es : Events). documents_in events cuts ++ held es (ending_in cut.error) ∷ [])
+    (range_behind events more cut.from cut.to begin end)
+
+-- the same, of what a call made of the lists
+pub cuts_pushed : (events more whole : Events) (ends numbers all : List ℕ) (cuts pushed : List Cut) (cut : Cut)
+    → whole ≡ events ++ more → all ≡ ends ++ numbers → pushed ≡ cuts ++ cut ∷ [] → length ends ≡ length events
+    → numbers ≡ ends_of (plain_doc_events more) → cut.from ≡ length events → cut.to ≡ length whole
+    → AreCuts events ends cuts → AreCuts whole all pushed
+cuts_pushed events more whole ends numbers all cuts pushed cut w a p long are begin end h =
+    subst (λ es. AreCuts es all pushed) (sym w)
+    (subst (λ ns. AreCuts (events ++ more) ns pushed) (sym a)
+    (subst (AreCuts (events ++ more) (ends ++ numbers)) (sym p)
+    (cuts_added events more ends numbers cuts cut long are begin (end ∙ ap length w) h)))
+
+pub documents_pushed : (events more whole : Events) (ends : List ℕ) (cuts pushed : List Cut) (cut : Cut)
+    → whole ≡ events ++ more → pushed ≡ cuts ++ cut ∷ [] → cut.from ≡ length events → cut.to ≡ length whole
+    → AreCuts events ends cuts
+    → documents_in whole pushed
+    ≡ documents_in events cuts ++ record { events = marked_events_of more; ending = ending_in cut.error } ∷ []
+documents_pushed events more whole ends cuts pushed cut w p begin end h =
+    ap (λ es. documents_in es pushed) w ∙ ap (documents_in (events ++ more)) p
+    ∙ documents_added events more ends cuts cut h begin (end ∙ ap length w)
+
+-- as many numbers as events
+pub long_pushed : (events more whole : Events) (ends numbers all : List ℕ) → whole ≡ events ++ more → all
+    ≡ ends ++ numbers
+    → length ends ≡ length events → numbers ≡ ends_of (plain_doc_events more) → length all ≡ length whole
+long_pushed events more whole ends numbers all w a long are =
+    let many : length numbers ≡ length more =
+    ap length are ∙ length-ends_from 0 (plain_doc_events more) ∙ length-plain_doc_events more in
+    omega (arith, ap length w, ap length a, length-append events more, length-append ends numbers)
+
+-- one document more, and those of the ranges left
+pub documents_left : (events shared : Events) (cut : Cut) (before after all : List PlainDocument) (doc : PlainDocument)
+    (left later : List Cut) → shared ≡ events → left ≡ cut ∷ later → after ≡ before ++ doc ∷ []
+    → doc ≡ record { events = marked_events_of (slice_range shared cut.from cut.to); ending = ending_in cut.error }
+    → before ++ documents_in events left ≡ all → after ++ documents_in events later ≡ all
+documents_left events shared cut before after all doc left later s l a d found =
+    ap (λ ds. ds ++ documents_in events later) a ∙ append_assoc before (doc ∷ []) (documents_in events later)
+    ∙ ap (λ x. before ++ x ∷ documents_in events later) (d ∙ ap (λ (es : Events). document_in es cut) s)
+    ∙ ap (λ cs. before ++ documents_in events cs) (sym l) ∙ found

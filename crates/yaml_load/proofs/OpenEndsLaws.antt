@@ -1,0 +1,209 @@
+-- The numbers of open collections are filled in as their events go by.
+use Rattle.std.proofs.Common.{◌≡◌, ℕ, zero, suc, ◌+◌, ◌<◌, ◌≤◌, List, [], ◌∷◌, ◌++◌, map, length, set, reverse, min}
+use Rattle.std.proofs.Common.{true, false, refl, sym, ◌∙◌, ap, subst, arith, append-nil, length-set, get_or}
+use Rattle.std.proofs.Math.Seq.{set-append_seam}
+use Rattle.std.proofs.lemmas.List.{reverse-append}
+use Rattle.std.proofs.lemmas.List.Elements.{All-tail}
+use Rattle.yaml_load.specs.Ends.{end_place, ends_from, ends_of, is_closing, is_opening}
+use Rattle.yaml_load.specs.PlainDocEvent.{PlainDocEvent}
+use Rattle.yaml_load.specs.inner.OpenEnds.{EndsView, HasNumbers, bounded_from, filled}
+use Rattle.yaml_load.proofs.FilledEnds.{All-reverse, AreIn, in_set, filled_push, end_here, filled_passes, filled_deeper}
+use Rattle.yaml_load.proofs.FilledEnds.{filled_outer, number_passes, number_opens, behind, one_longer, filled_at_end}
+
+abbrev ends_with : List ℕ → List ℕ → EndsView
+ends_with numbers unended = record { numbers = numbers; unended = unended }
+
+module _ (front : List ℕ) (seen : List PlainDocEvent) (old : EndsView) (h : HasNumbers front seen old)
+    (e : PlainDocEvent) where
+  abbrev size : ℕ
+  size = length seen
+
+  longer : (numbers : List ℕ) (n : ℕ) → length numbers ≡ length old.numbers
+      → length (numbers ++ n ∷ []) ≡ length front + length (seen ++ e ∷ [])
+  longer numbers n l = omega (arith, l, h.long, one_longer numbers n, one_longer seen e)
+
+  -- the numbers behind one event more
+  abbrev Counted : List ℕ → List ℕ → Type 0
+  Counted numbers starts = (later : List PlainDocEvent)
+      → filled starts 0 (size + 1) later numbers ++ ends_from (size + 1) later ≡ front ++ ends_of (seen ++ e ∷ later)
+
+  made : (numbers unended : List ℕ) → length numbers ≡ length front + length (seen ++ e ∷ [])
+      → Counted numbers (reverse unended) → HasNumbers front (seen ++ e ∷ []) (ends_with numbers unended)
+  made numbers unended l c = record {
+    long = l;
+    all = λ later.
+        ap (λ n. filled (reverse unended) 0 n later numbers ++ ends_from n later) (one_longer seen e)
+        ∙ c later ∙ ap (λ es. front ++ ends_of es) (sym (behind seen later e));
+  }
+
+  passed : is_opening e ≡ false → is_closing e ≡ false → AreIn old.numbers (reverse old.unended)
+      → Counted (old.numbers ++ size ∷ []) (reverse old.unended)
+  passed o c within later =
+      let starts = reverse old.unended in
+      ap (λ ns. ns ++ ends_from (size + 1) later) (filled_push starts 0 (size + 1) later old.numbers size within)
+      ∙ behind (filled starts 0 (size + 1) later old.numbers) (ends_from (size + 1) later) size
+      ∙ ap (λ ns. ns ++ size ∷ ends_from (size + 1) later) (sym (filled_passes e later starts 0 size old.numbers o c))
+      ∙ ap (λ ns. filled starts 0 size (e ∷ later) old.numbers ++ ns) (sym (number_passes size e later o))
+      ∙ h.all (e ∷ later)
+
+  pub passes : (new : EndsView) (place : ℕ) → place ≡ size → is_opening e ≡ false → is_closing e ≡ false
+      → AreIn old.numbers old.unended
+      → new.numbers ≡ old.numbers ++ place ∷ [] → new.unended ≡ old.unended → HasNumbers front (seen ++ e ∷ []) new
+  passes new place p o c within n u =
+      let are : new.numbers ≡ old.numbers ++ size ∷ [] = n ∙ ap (λ i. old.numbers ++ i ∷ []) p in
+      subst (λ ns. HasNumbers front (seen ++ e ∷ []) (ends_with ns new.unended)) (sym are)
+      (subst (λ us. HasNumbers front (seen ++ e ∷ []) (ends_with (old.numbers ++ size ∷ []) us)) (sym u)
+      (made (old.numbers ++ size ∷ []) old.unended (longer old.numbers size refl)
+      (passed o c (All-reverse (λ (s : ℕ). s < length old.numbers) old.unended within))))
+
+  begun : is_opening e ≡ true → AreIn old.numbers (reverse old.unended)
+      → Counted (old.numbers ++ size ∷ []) (length old.numbers ∷ reverse old.unended)
+  begun o within later =
+      let starts = reverse old.unended in
+      let v = end_place 0 (size + 1) later in
+      ap (λ ns. filled starts 1 (size + 1) later ns ++ ends_from (size + 1) later)
+      (set-append_seam old.numbers size [] v)
+      ∙ ap (λ ns. ns ++ ends_from (size + 1) later) (filled_push starts 1 (size + 1) later old.numbers v within)
+      ∙ behind (filled starts 1 (size + 1) later old.numbers) (ends_from (size + 1) later) v
+      ∙ ap (λ ns. ns ++ v ∷ ends_from (size + 1) later) (sym (filled_deeper e later starts 0 size old.numbers o))
+      ∙ ap (λ ns. filled starts 0 size (e ∷ later) old.numbers ++ ns) (sym (number_opens size e later o))
+      ∙ h.all (e ∷ later)
+
+  pub begins : (new : EndsView) (place : ℕ) → place ≡ size → is_opening e ≡ true → AreIn old.numbers old.unended
+      → new.numbers ≡ old.numbers ++ place ∷ [] → new.unended ≡ old.unended ++ length old.numbers ∷ []
+      → HasNumbers front (seen ++ e ∷ []) new
+  begins new place p o within n u =
+      let are : new.numbers ≡ old.numbers ++ size ∷ [] = n ∙ ap (λ i. old.numbers ++ i ∷ []) p in
+      let counted = subst (Counted (old.numbers ++ size ∷ []))
+      (sym (reverse-append old.unended (length old.numbers ∷ [])))
+      (begun o (All-reverse (λ (s : ℕ). s < length old.numbers) old.unended within)) in
+      subst (λ ns. HasNumbers front (seen ++ e ∷ []) (ends_with ns new.unended)) (sym are)
+      (subst (λ us. HasNumbers front (seen ++ e ∷ []) (ends_with (old.numbers ++ size ∷ []) us)) (sym u)
+      (made (old.numbers ++ size ∷ []) (old.unended ++ length old.numbers ∷ []) (longer old.numbers size refl) counted))
+
+  ended : (start : ℕ) (rest : List ℕ) → reverse old.unended ≡ start ∷ rest → is_opening e ≡ false → is_closing e ≡ true
+      → AreIn old.numbers rest → Counted (set old.numbers start size ++ size ∷ []) rest
+  ended start rest is o c within later =
+      let numbers = set old.numbers start size in
+      ap (λ ns. ns ++ ends_from (size + 1) later)
+      (filled_push rest 0 (size + 1) later numbers size (in_set old.numbers rest start size within))
+      ∙ behind (filled rest 0 (size + 1) later numbers) (ends_from (size + 1) later) size
+      ∙ ap (λ ns. ns ++ size ∷ ends_from (size + 1) later) (sym (filled_outer e later rest 0 size numbers o c))
+      ∙ ap (λ n. filled rest 1 size (e ∷ later) (set old.numbers start n) ++ size ∷ ends_from (size + 1) later)
+      (sym (end_here size e later c))
+      ∙ ap (λ ss. filled ss 0 size (e ∷ later) old.numbers ++ size ∷ ends_from (size + 1) later) (sym is)
+      ∙ ap (λ ns. filled (reverse old.unended) 0 size (e ∷ later) old.numbers ++ ns)
+      (sym (number_passes size e later o))
+      ∙ h.all (e ∷ later)
+
+  pub ends : (new : EndsView) (place start : ℕ) (rest : List ℕ) → place ≡ size → is_opening e ≡ false → is_closing e
+      ≡ true
+      → AreIn old.numbers old.unended → old.unended ≡ rest ++ start ∷ []
+      → new.numbers ≡ set old.numbers start place ++ place ∷ [] → new.unended ≡ rest
+      → HasNumbers front (seen ++ e ∷ []) new
+  ends new place start rest p o c within was n u =
+      let are : new.numbers ≡ set old.numbers start size ++ size ∷ [] =
+      n ∙ ap (λ i. set old.numbers start i ++ i ∷ []) p in
+      let turned : reverse old.unended ≡ start ∷ reverse rest = ap reverse was ∙ reverse-append rest (start ∷ []) in
+      let inside = All-tail (λ (s : ℕ). s < length old.numbers) start (reverse rest)
+      (subst (AreIn old.numbers) turned (All-reverse (λ (s : ℕ). s < length old.numbers) old.unended within)) in
+      subst (λ ns. HasNumbers front (seen ++ e ∷ []) (ends_with ns new.unended)) (sym are)
+      (subst (λ us. HasNumbers front (seen ++ e ∷ []) (ends_with (set old.numbers start size ++ size ∷ []) us)) (sym u)
+      (made (set old.numbers start size ++ size ∷ []) rest
+      (longer (set old.numbers start size) size (length-set old.numbers start size))
+      (ended start (reverse rest) turned o c inside)))
+
+  -- a stray end, where nothing is open
+  strays : is_opening e ≡ false → reverse old.unended ≡ [] → Counted (old.numbers ++ size ∷ []) []
+  strays o is later =
+      behind old.numbers (ends_from (size + 1) later) size
+      ∙ ap (λ ns. old.numbers ++ ns) (sym (number_passes size e later o))
+      ∙ ap (λ ss. filled ss 0 size (e ∷ later) old.numbers ++ ends_from size (e ∷ later)) (sym is)
+      ∙ h.all (e ∷ later)
+
+  pub stray_ends : (new : EndsView) (place : ℕ) → place ≡ size → is_opening e ≡ false → old.unended ≡ []
+      → new.numbers ≡ old.numbers ++ place ∷ [] → new.unended ≡ [] → HasNumbers front (seen ++ e ∷ []) new
+  stray_ends new place p o was n u =
+      let are : new.numbers ≡ old.numbers ++ size ∷ [] = n ∙ ap (λ i. old.numbers ++ i ∷ []) p in
+      subst (λ ns. HasNumbers front (seen ++ e ∷ []) (ends_with ns new.unended)) (sym are)
+      (subst (λ us. HasNumbers front (seen ++ e ∷ []) (ends_with (old.numbers ++ size ∷ []) us)) (sym u)
+      (made (old.numbers ++ size ∷ []) [] (longer old.numbers size refl) (strays o (ap reverse was))))
+
+-- one open collection more is ended
+pub finish_more : (old new rest : List ℕ) (start place : ℕ) (numbers set_ all : List ℕ) → old ≡ rest ++ start ∷ [] → new
+    ≡ rest
+    → set_ ≡ set numbers start place → filled (reverse old) 0 place [] numbers ≡ all
+    → filled (reverse new) 0 place [] set_ ≡ all
+finish_more old new rest start place numbers set_ all was is s found =
+    ap (λ us. filled (reverse us) 0 place [] set_) is ∙ ap (filled (reverse rest) 0 place []) s
+    ∙ filled_at_end (reverse rest) 0 1 place (set numbers start place)
+    ∙ ap (λ us. filled us 0 place [] numbers) (sym (ap reverse was ∙ reverse-append rest (start ∷ []))) ∙ found
+
+-- and then the numbers are those of the events
+pub finished : (front : List ℕ) (seen : List PlainDocEvent) (old : EndsView) (place : ℕ) (unended numbers : List ℕ)
+    → HasNumbers front seen old → place ≡ length seen → unended ≡ []
+    → filled (reverse unended) 0 place [] numbers ≡ filled (reverse old.unended) 0 place [] old.numbers
+    → numbers ≡ front ++ ends_of seen
+finished front seen old place unended numbers h p u found =
+    ap (λ us. filled (reverse us) 0 place [] numbers) (sym u) ∙ found
+    ∙ ap (λ n. filled (reverse old.unended) 0 n [] old.numbers) p
+    ∙ sym (append-nil (filled (reverse old.unended) 0 (length seen) [] old.numbers))
+    ∙ h.all [] ∙ ap (λ es. front ++ ends_of es) (append-nil seen)
+
+-- before the first event
+pub none_seen : (front : List ℕ) (ends_ : EndsView) → ends_.numbers ≡ front → ends_.unended ≡ []
+    → HasNumbers front [] ends_
+none_seen front ends_ n u = record {
+  long = omega (arith, ap length n);
+  all = λ later.
+      ap (λ us. filled (reverse us) 0 0 later ends_.numbers ++ ends_of later) u ∙ ap (λ ns. ns ++ ends_of later) n;
+}
+
+-- the elements of a list with one behind it
+get_or-seam : (xs : List ℕ) (x : ℕ) → get_or (xs ++ x ∷ []) (length xs) x ≡ x
+get_or-seam [] x = refl
+get_or-seam (y ∷ xs) x = get_or-seam xs x
+
+get_or-front : (xs : List ℕ) (x k d : ℕ) → k < length xs → get_or (xs ++ x ∷ []) k d ≡ get_or xs k d
+get_or-front [] x k d l = absurd (omega arith)
+get_or-front (y ∷ xs) x zero d l = refl
+get_or-front (y ∷ xs) x (suc k) d l = get_or-front xs x k d (omega arith)
+
+-- the last start, and those in front of it, lie within the numbers
+pub last_in : (numbers rest unended : List ℕ) (start : ℕ) → unended ≡ rest ++ start ∷ [] → AreIn numbers unended
+    → start < length numbers
+last_in numbers rest unended start is h =
+    let here = subst (AreIn numbers) is h (length rest) start (omega (arith, one_longer rest start)) in
+    subst (λ n. n < length numbers) (get_or-seam rest start) here
+
+pub in_front : (numbers set_ rest unended : List ℕ) (start : ℕ) → unended ≡ rest ++ start ∷ []
+    → length set_ ≡ length numbers → AreIn numbers unended → AreIn set_ rest
+in_front numbers set_ rest unended start is same h k d l =
+    let here = subst (AreIn numbers) is h k d (omega (arith, one_longer rest start)) in
+    let below = subst (λ n. n < length numbers) (get_or-front rest start k d l) here in
+    omega (arith, same)
+
+-- a number is bounded, and those behind it
+pub bounded_more : (bound at : ℕ) (numbers : List ℕ) (n d : ℕ) → at < length numbers → n
+    ≡ min (get_or numbers at d) bound
+    → bounded_from bound (at + 1) (set numbers at n) ≡ bounded_from bound at numbers
+bounded_more bound at [] n d l is = absurd (omega arith)
+bounded_more bound zero (x ∷ numbers) n d l is = let e : n ≡ min bound x = omega (arith, is) in
+    ap (λ m. m ∷ map (min bound) numbers) e
+bounded_more bound (suc at) (x ∷ numbers) n d l is =
+    let e : suc at + 1 ≡ suc (at + 1) = omega arith in
+    ap (λ k. bounded_from bound k (x ∷ set numbers at n)) e
+    ∙ ap (λ ns. x ∷ ns) (bounded_more bound at numbers n d (omega arith) is)
+
+-- and then all are
+pub bounded_all : (bound at : ℕ) (numbers : List ℕ) → length numbers ≤ at → bounded_from bound at numbers ≡ numbers
+bounded_all bound zero [] l = refl
+bounded_all bound zero (x ∷ numbers) l = absurd (omega arith)
+bounded_all bound (suc at) [] l = refl
+bounded_all bound (suc at) (x ∷ numbers) l = ap (λ ns. x ∷ ns) (bounded_all bound at numbers (omega arith))
+
+-- where no collection is open, the numbers are those of the events
+pub none_open : (front : List ℕ) (seen : List PlainDocEvent) (ends_ : EndsView) → HasNumbers front seen ends_
+    → ends_.unended ≡ []
+    → ends_.numbers ≡ front ++ ends_of seen
+none_open front seen ends_ h u = finished front seen ends_ (length seen) ends_.unended ends_.numbers h refl u refl

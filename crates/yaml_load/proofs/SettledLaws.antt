@@ -1,0 +1,156 @@
+-- Where the aliases of a draft have got their targets, its events are those of the document.
+use Rattle.std.proofs.Common.{◌≡◌, ℕ, ◌+◌, List, [], ◌∷◌, ◌++◌, length, take, refl, sym, ◌∙◌, ap, subst, arith}
+use Rattle.std.proofs.Common.{append_assoc, append-nil, length-append, Option, Some, None, All, IsTrue, option_map}
+use Rattle.std.proofs.Common.{inl, inr}
+use Rattle.std.specs.Prelude.{slice_get}
+use Rattle.std.proofs.lemmas.List.Elements.{All-tail}
+use Rattle.yaml_base.specs.Position.{Position}
+use Rattle.yaml_base.specs.PlainEvent.{PlainEvent, stream_start, stream_end, document_start, document_end, alias}
+use Rattle.yaml_base.specs.PlainEvent.{scalar, sequence_start, sequence_end, mapping_start, mapping_end}
+use Rattle.yaml_load.specs.Documents.{Find, Input, becomes, known_events, or_mark, then_events, unknown_mark}
+use Rattle.yaml_load.specs.PlainDocEvent.{PlainDocEvent, alias_to}
+use Rattle.yaml_load.specs.inner.Drafts.{AreTaken, IsTaken, Settled, Waiting, aimed, drafted, is_of_node, settle}
+use Rattle.yaml_load.specs.inner.Drafts.{settled}
+
+abbrev pub Marked : Type 0
+Marked = List (PlainDocEvent × Position)
+
+abbrev ToNodes : Input → Type 0
+ToNodes seen = All (λ e. IsTrue (is_of_node e.0)) seen
+
+-- what settled events are: those of the document, or, where an alias is unknown, its front is
+abbrev IsSettled : Find → ℕ → Input → Marked → Settled → Type 0
+IsSettled find place seen front (events, None) =
+    (events ≡ front ++ known_events find place seen) × (unknown_mark find place seen ≡ None)
+IsSettled find place seen front (events, Some at) =
+    (take at events ≡ front ++ known_events find place seen)
+    × (unknown_mark find place seen ≡ option_map (λ (e : PlainDocEvent × Position). e.1) (slice_get events at))
+
+behind : {X : Type 0} (xs ys : List X) (x : X) → (xs ++ x ∷ []) ++ ys ≡ xs ++ x ∷ ys
+behind xs ys x = append_assoc xs (x ∷ []) ys
+
+one_longer : {X : Type 0} (xs : List X) (x : X) → length (xs ++ x ∷ []) ≡ length xs + 1
+one_longer xs x = length-append xs (x ∷ [])
+
+-- the element behind a list
+take_front : {X : Type 0} (xs ys : List X) → take (length xs) (xs ++ ys) ≡ xs
+take_front [] ys = refl
+take_front (x ∷ xs) ys = ap (λ zs. x ∷ zs) (take_front xs ys)
+
+get_behind : {X : Type 0} (xs ys : List X) (x : X) → slice_get (xs ++ x ∷ ys) (length xs) ≡ Some x
+get_behind [] ys x = refl
+get_behind (y ∷ xs) ys x = get_behind xs ys x
+
+aimed_at : (front later : Marked) (e : PlainDocEvent × Position) (target : ℕ)
+    → aimed (length front) target (front ++ e ∷ later) ≡ front ++ (alias_to target, e.1) ∷ later
+aimed_at [] later e target = refl
+aimed_at (x ∷ front) later e target = ap (λ es. x ∷ es) (aimed_at front later e target)
+
+-- one event more that is known
+settled_step : (find : Find) (place : ℕ) (seen : Input) (front : Marked) (e : PlainEvent) (mark : Position)
+    (d : PlainDocEvent)
+    (r : Settled) → becomes find place e ≡ Some d → IsSettled find (place + 1) seen (front ++ (d, mark) ∷ []) r
+    → IsSettled find place ((e, mark) ∷ seen) front r
+settled_step find place seen front e mark d (events, None) is h = (
+  h.0 ∙ behind front (known_events find (place + 1) seen) (d, mark)
+      ∙ ap (λ o. front ++ then_events o mark (known_events find (place + 1) seen)) (sym is),
+  ap (λ o. or_mark o mark (unknown_mark find (place + 1) seen)) is ∙ h.1,
+)
+settled_step find place seen front e mark d (events, Some at) is h = (
+  h.0 ∙ behind front (known_events find (place + 1) seen) (d, mark)
+      ∙ ap (λ o. front ++ then_events o mark (known_events find (place + 1) seen)) (sym is),
+  ap (λ o. or_mark o mark (unknown_mark find (place + 1) seen)) is ∙ h.1,
+)
+
+-- an alias that waits, by its target
+settled_waiting : (find : Find) (seen : Input) (front later : Marked) (left : Waiting) (a : List ℕ) (mark : Position)
+    (o : Option ℕ) (place : ℕ)
+    → place ≡ length front → find a place ≡ o
+    → ((d : PlainDocEvent) → IsSettled find (place + 1) seen (front ++ (d, mark) ∷ [])
+    (settled find left ((front ++ (d, mark) ∷ []) ++ later)))
+    → IsSettled find place ((alias a, mark) ∷ seen) front
+    (settle o place (front ++ (alias_to 0, mark) ∷ later) (settled find left))
+settled_waiting find seen front later left a mark None place at is next = (
+  ap (λ n. take n (front ++ (alias_to 0, mark) ∷ later)) at ∙ take_front front ((alias_to 0, mark) ∷ later)
+      ∙ sym (append-nil front)
+      ∙ ap (λ t. front ++ then_events (option_map alias_to t) mark (known_events find (place + 1) seen)) (sym is),
+  ap (λ t. or_mark (option_map alias_to t) mark (unknown_mark find (place + 1) seen)) is
+      ∙ sym (ap (option_map (λ (e : PlainDocEvent × Position). e.1))
+      (ap (slice_get (front ++ (alias_to 0, mark) ∷ later)) at ∙ get_behind front later (alias_to 0, mark))),
+)
+settled_waiting find seen front later left a mark (Some target) place at is next =
+    let es : aimed place target (front ++ (alias_to 0, mark) ∷ later) ≡ (front ++ (alias_to target, mark) ∷ [])
+    ++ later =
+    ap (λ n. aimed n target (front ++ (alias_to 0, mark) ∷ later)) at
+    ∙ aimed_at front later (alias_to 0, mark) target
+    ∙ sym (behind front later (alias_to target, mark)) in
+    subst (λ x. IsSettled find place ((alias a, mark) ∷ seen) front (settled find left x)) (sym es)
+    (settled_step find place seen front (alias a) mark (alias_to target) _ (ap (option_map alias_to) is)
+    (next (alias_to target)))
+
+-- an event that is what it becomes
+settled_known : (find : Find) (seen : Input) (front later : Marked) (left : Waiting) (e : PlainEvent) (mark : Position)
+    (d : PlainDocEvent) (place : ℕ) → becomes find place e ≡ Some d
+    → IsSettled find (place + 1) seen (front ++ (d, mark) ∷ [])
+    (settled find left ((front ++ (d, mark) ∷ []) ++ later))
+    → IsSettled find place ((e, mark) ∷ seen) front (settled find left (front ++ (d, mark) ∷ later))
+settled_known find seen front later left e mark d place is next =
+    settled_step find place seen front e mark d _ is
+    (subst (λ es. IsSettled find (place + 1) seen (front ++ (d, mark) ∷ []) (settled find left es))
+    (behind front later (d, mark)) next)
+
+-- an event that is no alias stands for itself
+plain_known : (find : Find) (place : ℕ) (e : PlainEvent) (d : PlainDocEvent) → becomes find place e ≡ Some (drafted e)
+    → d ≡ drafted e → becomes find place e ≡ Some d
+plain_known find place e d known is = known ∙ ap Some (sym is)
+
+-- one event, and those behind it
+settled_one : (find : Find) (seen : Input) (front later : Marked) (left here : Waiting) (e : PlainEvent)
+    (mark : Position) (d : PlainDocEvent) (place : ℕ)
+    → place ≡ length front → IsTrue (is_of_node e) → IsTaken find place e d here
+    → ((d : PlainDocEvent) → IsSettled find (place + 1) seen (front ++ (d, mark) ∷ [])
+    (settled find left ((front ++ (d, mark) ∷ []) ++ later)))
+    → IsSettled find place ((e, mark) ∷ seen) front (settled find (here ++ left) (front ++ (d, mark) ∷ later))
+settled_one find seen front later left here (alias a) mark d place at node (inl w) next =
+    rw (w.0, w.1) (settled_waiting find seen front later left a mark (find a place) place at refl next)
+settled_one find seen front later left here (alias a) mark d place at node (inr k) next =
+    rw k.1 (settled_known find seen front later left (alias a) mark d place k.0 (next d))
+settled_one find seen front later left here (scalar s) mark d place at node is next =
+    rw is.1 (settled_known find seen front later left (scalar s) mark d place
+    (plain_known find place (scalar s) d refl is.0) (next d))
+settled_one find seen front later left here (sequence_start a t) mark d place at node is next =
+    rw is.1 (settled_known find seen front later left (sequence_start a t) mark d place
+    (plain_known find place (sequence_start a t) d refl is.0) (next d))
+settled_one find seen front later left here sequence_end mark d place at node is next =
+    rw is.1 (settled_known find seen front later left sequence_end mark d place
+    (plain_known find place sequence_end d refl is.0) (next d))
+settled_one find seen front later left here (mapping_start a t) mark d place at node is next =
+    rw is.1 (settled_known find seen front later left (mapping_start a t) mark d place
+    (plain_known find place (mapping_start a t) d refl is.0) (next d))
+settled_one find seen front later left here mapping_end mark d place at node is next =
+    rw is.1 (settled_known find seen front later left mapping_end mark d place
+    (plain_known find place mapping_end d refl is.0) (next d))
+settled_one find seen front later left here stream_start mark d place at node is next = absurd (cc)
+settled_one find seen front later left here stream_end mark d place at node is next = absurd (cc)
+settled_one find seen front later left here document_start mark d place at node is next = absurd (cc)
+settled_one find seen front later left here document_end mark d place at node is next = absurd (cc)
+
+nodes_left : (e : PlainEvent × Position) (seen : Input) → ToNodes (e ∷ seen) → ToNodes seen
+nodes_left e seen nodes = All-tail (λ (x : PlainEvent × Position). IsTrue (is_of_node x.0)) e seen nodes
+
+-- the events from a place on
+settled_from : (find : Find) (seen : Input) (place : ℕ) (front events : Marked) (waiting : Waiting)
+    → place ≡ length front → ToNodes seen → AreTaken find place seen events waiting
+    → IsSettled find place seen front (settled find waiting (front ++ events))
+settled_from find [] place front events waiting at nodes (none, empty) = rw (none, empty) (refl, refl)
+settled_from find (e ∷ seen) place front events waiting at nodes (d, here, later, left, is, rest, es, ws) =
+    rw (es, ws) (settled_one find seen front later left here e.0 e.1 d place at (nodes 0 e (omega arith)) is
+    (λ d'. settled_from find seen (place + 1) (front ++ (d', e.1) ∷ []) later left
+    (omega (arith, at, one_longer front (d', e.1))) (nodes_left e seen nodes) rest))
+
+-- the events of a document
+pub settled_whole : (find : Find) (seen : Input) (events now : Marked) (waiting : Waiting) (o : Option ℕ)
+    → ToNodes seen → AreTaken find 0 seen events waiting → settled find waiting events ≡ (now, o)
+    → IsSettled find 0 seen [] (now, o)
+settled_whole find seen events now waiting o nodes taken is =
+    subst (IsSettled find 0 seen []) is (settled_from find seen 0 [] events waiting refl nodes taken)

@@ -1,0 +1,55 @@
+-- The aliases of a document get their targets one after another, up to the first unknown one.
+use Rattle.std.proofs.Common.{◌≡◌, ℕ, zero, suc, ◌+◌, ◌<◌, List, [], ◌∷◌, length, get_or, set, drop}
+use Rattle.std.proofs.Common.{sym, ◌∙◌, ap, arith, add-one, Option, Some}
+use Rattle.std.proofs.Math.Seq.{drop-cons}
+use Rattle.std.proofs.lemmas.List.{drop-set-add, get_or-drop, length-drop}
+use Rattle.yaml_base.specs.Position.{Position}
+use Rattle.yaml_load.specs.DocEventView.{doc_event_of, marked_events_of}
+use Rattle.yaml_load.specs.Documents.{Find}
+use Rattle.yaml_load.specs.PlainDocEvent.{PlainDocEvent, alias_to}
+use Rattle.yaml_load.specs.declared.doc_event.DocEvent.{DocEvent}
+use Rattle.yaml_load.specs.declared.doc_event.DocEvent.TheVariants as event
+use Rattle.yaml_load.specs.inner.Drafts.{Settled, aimed, settle, settled}
+
+abbrev Events : Type 0
+Events = List (DocEvent × Position)
+
+abbrev Marked : Type 0
+Marked = List (PlainDocEvent × Position)
+
+-- an event that is set at a place
+aimed_set : (events : Events) (place target : ℕ) (y : DocEvent × Position) → place < length events → y
+    ≡ get_or events place y
+    → marked_events_of (set events place (event.Alias target, y.1)) ≡ aimed place target (marked_events_of events)
+aimed_set [] place target y l is = absurd (omega arith)
+aimed_set (x ∷ events) zero target y l is =
+    ap (λ (z : DocEvent × Position). (alias_to target, z.1) ∷ marked_events_of events) is
+aimed_set (x ∷ events) (suc place) target y l is =
+    ap (λ es. (doc_event_of x.0, x.1) ∷ es) (aimed_set events place target y (omega arith) is)
+
+pub aimed_behind : (events : Events) (from place target : ℕ) (y : DocEvent × Position) → from + place < length events
+    → y ≡ get_or events (from + place) y
+    → marked_events_of (drop from (set events (from + place) (event.Alias target, y.1)))
+    ≡ aimed place target (marked_events_of (drop from events))
+aimed_behind events from place target y l is =
+    ap marked_events_of (drop-set-add from events place (event.Alias target, y.1))
+    ∙ aimed_set (drop from events) place target y (omega (arith, length-drop from events))
+    (is ∙ sym (get_or-drop from events place y))
+
+-- the aliases from one on
+aliases_from : (aliases : List (List ℕ × ℕ)) (i : ℕ) (x : List ℕ × ℕ) → i < length aliases → x ≡ get_or aliases i x
+    → drop i aliases ≡ x ∷ drop (i + 1) aliases
+aliases_from aliases i x l is =
+    drop-cons aliases i x l ∙ ap (λ z. z ∷ drop (suc i) aliases) (sym is)
+    ∙ ap (λ n. x ∷ drop n aliases) (sym (add-one i))
+
+module _ (find : Find) (aliases : List (List ℕ × ℕ)) (i : ℕ) (x : List ℕ × ℕ) (l : i < length aliases)
+    (is : x ≡ get_or aliases i x) where
+  -- the next alias is known
+  pub settled_more : (target : ℕ) (old new : Marked) (all : Settled) → Some target ≡ find x.0 x.1 → new
+      ≡ aimed x.1 target old
+      → settled find (drop i aliases) old ≡ all → settled find (drop (i + 1) aliases) new ≡ all
+  settled_more target old new all found are h =
+      ap (settled find (drop (i + 1) aliases)) are
+      ∙ ap (λ (o : Option ℕ). settle o x.1 old (settled find (drop (i + 1) aliases))) found
+      ∙ ap (λ xs. settled find xs old) (sym (aliases_from aliases i x l is)) ∙ h

@@ -1,0 +1,137 @@
+-- The documents of a whole stream are those of its trees.
+use Rattle.std.proofs.Common.{◌≡◌, ℕ, ◌+◌, List, [], ◌∷◌, ◌++◌, map, refl, sym, ◌∙◌, ap, subst, cond, append-nil, Bool}
+use Rattle.std.proofs.Common.{true, false, Option, Some, None, is_some}
+use Rattle.yaml_base.specs.Position.{Position}
+use Rattle.yaml_base.specs.PlainEvent.{PlainEvent, stream_start, stream_end, document_start, document_end}
+use Rattle.yaml_base.specs.PlainFault.{PlainFault}
+use Rattle.yaml_base.specs.Stream.{documents_events, stream_events}
+use Rattle.yaml_base.specs.Tree.{Node, node_events, size_of, target, anchors_of}
+use Rattle.yaml_load.specs.DocTree.{DocNode, events_of}
+use Rattle.yaml_load.specs.Documents.{Input, Find, find_in, known_events, unknown_mark, body, behind, is_ended}
+use Rattle.yaml_load.specs.Documents.{is_document_start, anchors_in, ending_of, document_from, documents_of}
+use Rattle.yaml_load.specs.Documents.{after_starts, void_documents, last_mark}
+use Rattle.yaml_load.specs.MarkedEvents.{events_in}
+use Rattle.yaml_load.specs.Resolved.{resolved}
+use Rattle.yaml_load.specs.PlainDocEvent.{alias_to}
+use Rattle.yaml_load.specs.StreamLaw.{IsDocumentOf, AreDocumentsOf, AreStreamDocuments}
+use Rattle.yaml_load.proofs.DocumentLaws.{starts_behind}
+use Rattle.yaml_load.proofs.PlainWalks.{events_in-body, events_in-behind, is_ended-plain, anchors_in-plain, known-plain}
+use Rattle.yaml_load.proofs.PlainWalks.{missing-plain, plain_anchors, plain_known, plain_missing, plain_body}
+use Rattle.yaml_load.proofs.PlainWalks.{plain_behind, plain_ended, body_node, behind_node, ended_node}
+use Rattle.yaml_load.proofs.ToldNodes.{anchors_node, Told, told_node}
+use Rattle.yaml_load.proofs.OnTrees.{OnTree, Each}
+use Rattle.yaml_load.proofs.Targets.{Refers, IsNode, targets_known, event_at}
+
+-- a mark that is there or not
+is_missing : (o : Option Position) → is_some o ≡ false → o ≡ None
+is_missing None h = refl
+is_missing (Some m) h = absurd (cc)
+
+is_there : (o : Option Position) → is_some o ≡ true → (m : Position) × (o ≡ Some m)
+is_there None h = absurd (cc)
+is_there (Some m) h = (m, refl)
+
+-- a document whose events, without their marks, are those of a node
+told_document : (o : Option DocNode) (find : Find) (i j : ℕ) (input : Input) (ended : Bool) (fault : Option PlainFault)
+    (events : List PlainEvent) → events_in input ≡ events → ended ≡ true → Told events_of find o i j events []
+    → OnTree (λ t. Each (Refers (IsNode t)) (events_of t)) o
+    → IsDocumentOf o record {
+      events = known_events find i input;
+      ending = ending_of (unknown_mark find i input) ended fault;
+    }
+told_document None find i j input ended fault events is e h refers =
+    let there = is_there (unknown_mark find i input) (missing-plain find i input ∙ ap (plain_missing find i) is ∙ h) in
+    (there.0, ap (λ m. ending_of m ended fault) there.1)
+told_document (Some t) find i j input ended fault events is e h refers =
+    let none = is_missing (unknown_mark find i input) (missing-plain find i input ∙ ap (plain_missing find i) is ∙ h.1)
+    in
+    let same = known-plain find i input ∙ ap (plain_known find i) is ∙ h.0 ∙ append-nil (events_of t) in
+    record {
+      whole = ap (λ m. ending_of m ended fault) none ∙ ap (λ b. ending_of None b fault) e;
+      events = same;
+      known = λ p k mark here. event_at (Refers (IsNode t)) (known_events find i input) p (alias_to k) mark
+          (subst (Each (Refers (IsNode t))) (sym same) refers) here;
+    }
+
+-- the document behind a start, which ends and whose node is this root
+pub document_of_body : (root : Node) (rest : Input) (fault : Option PlainFault) → events_in (body rest)
+    ≡ node_events root []
+    → is_ended rest ≡ true → IsDocumentOf (resolved root) (document_from fault rest)
+document_of_body root rest fault events ended =
+    let anchors : anchors_in 0 (body rest) ≡ anchors_of root 0 =
+    anchors_in-plain 0 (body rest) ∙ ap (plain_anchors 0) events ∙ anchors_node root 0 []
+    ∙ append-nil (anchors_of root 0) in
+    let told = told_document (resolved root) (target root) 0 (0 + size_of root) (body rest) (is_ended rest) fault
+    (node_events root []) events ended (told_node (target root) root 0 []) (targets_known root) in
+    subst (λ (find : Find). IsDocumentOf (resolved root)
+    record {
+      events = known_events find 0 (body rest);
+      ending = ending_of (unknown_mark find 0 (body rest))
+          (is_ended rest) fault;
+    })
+    (ap find_in (sym anchors)) told
+
+document_of_root : (root : Node) (rest : Input) (more : List PlainEvent)
+    → events_in rest ≡ node_events root (document_end ∷ more) → IsDocumentOf (resolved root) (document_from None rest)
+document_of_root root rest more is =
+    document_of_body root rest None (events_in-body rest ∙ ap plain_body is ∙ body_node root (document_end ∷ more))
+    (is_ended-plain rest ∙ ap plain_ended is ∙ ended_node root (document_end ∷ more))
+
+-- one document for each root
+documents_of_roots : (roots : List Node) (input : Input) → events_in input ≡ documents_events roots
+    → AreDocumentsOf roots (map (document_from None) (after_starts false input))
+documents_of_roots [] [] is = absurd (cc)
+documents_of_roots [] (e ∷ []) is =
+    let end : e.0 ≡ stream_end = cc in
+    subst (λ (x : PlainEvent). AreDocumentsOf [] (map (document_from None) (cond (is_document_start x) ([] ∷ []) [])))
+    (sym end) tt
+documents_of_roots [] (e ∷ (f ∷ input)) is = absurd (cc)
+documents_of_roots (root ∷ roots) [] is = absurd (cc)
+documents_of_roots (root ∷ roots) (e ∷ rest) is =
+    let start : e.0 ≡ document_start = cc in
+    let node : events_in rest ≡ node_events root (document_end ∷ documents_events roots) = cc in
+    let ended = is_ended-plain rest ∙ ap plain_ended node ∙ ended_node root (document_end ∷ documents_events roots) in
+    let later = events_in-behind rest ∙ ap plain_behind node
+    ∙ behind_node root (document_end ∷ documents_events roots) in
+    let starts : after_starts false (e ∷ rest) ≡ rest ∷ after_starts false (behind rest) =
+    ap (λ x. cond (is_document_start x) (rest ∷ after_starts true rest) (after_starts false rest)) start
+    ∙ ap (λ s. rest ∷ s) (starts_behind rest ended) in
+    subst (λ s. AreDocumentsOf (root ∷ roots) (map (document_from None) s)) (sym starts)
+    (document_of_root root rest (documents_events roots) node, documents_of_roots roots (behind rest) later)
+
+-- nothing more comes behind documents
+documents_alone : (roots : List Node) (root : Node) (starts : List Input) (end : Option Position)
+    → AreDocumentsOf (root ∷ roots) (map (document_from None) starts)
+    → AreDocumentsOf (root ∷ roots) (map (document_from None) starts ++ void_documents starts end)
+documents_alone roots root [] end h = absurd h
+documents_alone roots root (s ∷ starts) end h =
+    subst (AreDocumentsOf (root ∷ roots)) (sym (append-nil (map (document_from None) (s ∷ starts)))) h
+
+-- the documents of a whole stream
+pub documents_of_stream : (roots : List Node) (input : Input) → events_in input ≡ stream_events roots
+    → AreStreamDocuments roots (last_mark input) (documents_of input None)
+documents_of_stream roots [] is = absurd (cc)
+documents_of_stream [] (s ∷ []) is = absurd (cc)
+documents_of_stream [] (s ∷ (e ∷ [])) is =
+    let start : s.0 ≡ stream_start = cc in
+    let end : e.0 ≡ stream_end = cc in (
+      e.1,
+      refl,
+      ap (λ x. map (document_from None) (cond (is_document_start x) ((e ∷ []) ∷ after_starts true (e ∷ []))
+          (after_starts false (e ∷ [])))
+          ++ void_documents (cond (is_document_start x) ((e ∷ []) ∷ after_starts true (e ∷ []))
+          (after_starts false (e ∷ []))) (Some e.1)) start
+          ∙ ap (λ x. map (document_from None) (cond (is_document_start x) ([] ∷ []) [])
+          ++ void_documents (cond (is_document_start x) ([] ∷ []) []) (Some e.1)) end,
+    )
+documents_of_stream [] (s ∷ (e ∷ (f ∷ input))) is = absurd (cc)
+documents_of_stream (root ∷ roots) (s ∷ input) is =
+    let start : s.0 ≡ stream_start = cc in
+    let rest : events_in input ≡ documents_events (root ∷ roots) = cc in
+    let skip : after_starts false (s ∷ input) ≡ after_starts false input =
+    ap (λ x. cond (is_document_start x) (input ∷ after_starts true input) (after_starts false input)) start in
+    subst (λ starts. AreDocumentsOf (root ∷ roots) (map (document_from None) starts
+    ++ void_documents starts (last_mark (s ∷ input))))
+    (sym skip)
+    (documents_alone roots root (after_starts false input) (last_mark (s ∷ input))
+    (documents_of_roots (root ∷ roots) input rest))

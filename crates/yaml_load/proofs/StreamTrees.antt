@@ -1,0 +1,183 @@
+-- Each document of a stream that nothing cut off has a tree, and a stream has a document.
+use Rattle.std.proofs.Common.{◌≡◌, List, [], ◌∷◌, ◌++◌, map, refl, sym, ◌∙◌, ap, subst, cond, Bool, true, false}
+use Rattle.std.proofs.Common.{Option, Some, None, is_some, All, inl, inr, ◌||◌, ◌≢◌}
+use Rattle.std.proofs.lemmas.Bool.{cases_Bool}
+use Rattle.std.proofs.lemmas.List.Elements.{All-append, All-cons, All-nil}
+use Rattle.yaml_base.specs.Position.{Position}
+use Rattle.yaml_base.specs.PlainEvent.{PlainEvent, stream_start, stream_end, document_start, document_end}
+use Rattle.yaml_base.specs.PlainFault.{PlainFault}
+use Rattle.yaml_base.specs.Stream.{documents_events, stream_events, IsWellFormed}
+use Rattle.yaml_base.specs.Tree.{Node, node_events}
+use Rattle.yaml_load.specs.DocTree.{DocNode, IsTreeOf, nothing}
+use Rattle.yaml_load.specs.Documents.{Input, find_in, unknown_mark, body, behind, is_ended, is_document_start}
+use Rattle.yaml_load.specs.Documents.{anchors_in, ending_of, document_from, documents_of, after_starts, last_mark}
+use Rattle.yaml_load.specs.Documents.{void_document, is_document_end, failed_document, further_document, is_open_after}
+use Rattle.yaml_load.specs.MarkedEvents.{events_in}
+use Rattle.yaml_load.specs.Resolved.{resolved}
+use Rattle.yaml_load.specs.PlainDocEvent.{alias_to, a_void}
+use Rattle.yaml_load.specs.PlainDocument.{PlainDocument}
+use Rattle.yaml_load.specs.StreamLaw.{IsDocumentOf, AreDocumentsOf, AreStreamDocuments, HasTree}
+use Rattle.yaml_load.proofs.DocumentLaws.{starts_behind, no_starts}
+use Rattle.yaml_load.proofs.PlainWalks.{events_in-body, events_in-behind, is_ended-plain, plain_body, plain_behind}
+use Rattle.yaml_load.proofs.PlainWalks.{plain_ended, body_node, behind_node}
+use Rattle.yaml_load.proofs.Targets.{event_at}
+use Rattle.yaml_load.proofs.StreamLaws.{document_of_body, documents_of_stream}
+
+-- of an input that ends within a document or behind one, what ends in it is as in all that follows
+body_ended : (es more : List PlainEvent) → plain_ended es ≡ true → plain_body (es ++ more) ≡ plain_body es
+body_ended [] more h = absurd (cc)
+body_ended (e ∷ es) more h =
+    elim (cases_Bool (is_document_end e)) [
+      | inl yes_ ↦ simp yes_
+      | inr no_ ↦ simp no_ (ap (λ l. e ∷ l) (body_ended es more (ap (λ b. b || plain_ended es) (sym no_) ∙ h)))
+    ]
+
+behind_ended : (es more : List PlainEvent) → plain_ended es ≡ true → plain_behind (es ++ more) ≡ plain_behind es ++ more
+behind_ended [] more h = absurd (cc)
+behind_ended (e ∷ es) more h =
+    elim (cases_Bool (is_document_end e)) [
+      | inl yes_ ↦ simp yes_
+      | inr no_ ↦ simp no_ (behind_ended es more (ap (λ b. b || plain_ended es) (sym no_) ∙ h))
+    ]
+
+-- a document of a tree has one, or was cut off
+tree_of_root : (o : Option DocNode) (document : PlainDocument) → IsDocumentOf o document → HasTree document
+tree_of_root None document h = λ whole. absurd (let cut = h.1 in cc)
+tree_of_root (Some t) document h = λ whole. (t, h)
+
+trees_of_roots : (roots : List Node) (documents : List PlainDocument) → AreDocumentsOf roots documents
+    → All HasTree documents
+trees_of_roots [] [] h = All-nil HasTree
+trees_of_roots [] (d ∷ ds) h = absurd h
+trees_of_roots (root ∷ roots) [] h = absurd h
+trees_of_roots (root ∷ roots) (d ∷ ds) h =
+    All-cons HasTree d ds (tree_of_root (resolved root) d h.0) (trees_of_roots roots ds h.1)
+
+-- the document of an empty stream
+nothing_known : (mark : Position) → IsTreeOf (void_document mark) nothing
+nothing_known mark = record {
+  whole = refl;
+  events = refl;
+  known = λ p j m here. absurd (let is = event_at (λ e. e ≡ a_void) ((a_void, mark) ∷ []) p (alias_to j) m
+      (refl, tt) here in cc);
+}
+
+trees_of_stream : (roots : List Node) (last : Option Position) (documents : List PlainDocument)
+    → AreStreamDocuments roots last documents → All HasTree documents
+trees_of_stream [] last documents h =
+    subst (All HasTree) (sym h.2) (All-cons HasTree (void_document h.0) [] (λ whole. (nothing, nothing_known h.0))
+    (All-nil HasTree))
+trees_of_stream (root ∷ roots) last documents h = trees_of_roots (root ∷ roots) documents h
+
+never_whole : (unknown : Option Position) (fault : PlainFault) → ending_of unknown false (Some fault) ≡ None → ⊥
+never_whole None fault h = cc
+never_whole (Some mark) fault h = cc
+
+-- a document that the parser's fault cut off
+cut_by_fault : (rest : Input) (fault : PlainFault) → is_ended rest ≡ false → HasTree (document_from (Some fault) rest)
+cut_by_fault rest fault unended =
+    let cut : ending_of (unknown_mark (find_in (anchors_in 0 (body rest))) 0 (body rest)) (is_ended rest) (Some fault)
+    ≡ ending_of (unknown_mark (find_in (anchors_in 0 (body rest))) 0 (body rest)) false (Some fault) =
+    ap (λ b. ending_of (unknown_mark (find_in (anchors_in 0 (body rest))) 0 (body rest)) b (Some fault)) unended in
+    λ whole. absurd (never_whole (unknown_mark (find_in (anchors_in 0 (body rest))) 0 (body rest)) fault
+    (sym cut ∙ whole))
+
+-- the documents of a beginning of a stream
+trees_of_beginning : (roots : List Node) (input : Input) (more : List PlainEvent) (fault : PlainFault)
+    → events_in input ++ more ≡ documents_events roots
+    → All HasTree (map (document_from (Some fault)) (after_starts false input))
+trees_of_beginning roots [] more fault is = All-nil HasTree
+trees_of_beginning [] (e ∷ []) more fault is =
+    let end : e.0 ≡ stream_end = cc in
+    subst (λ (x : PlainEvent). All HasTree (map (document_from (Some fault)) (cond (is_document_start x) ([] ∷ []) [])))
+    (sym end) (All-nil HasTree)
+trees_of_beginning [] (e ∷ (f ∷ input)) more fault is = absurd (cc)
+trees_of_beginning (root ∷ roots) (e ∷ rest) more fault is =
+    let start : e.0 ≡ document_start = cc in
+    let node : events_in rest ++ more ≡ node_events root (document_end ∷ documents_events roots) = cc in
+    let begin : after_starts false (e ∷ rest) ≡ rest ∷ after_starts true rest =
+    ap (λ x. cond (is_document_start x) (rest ∷ after_starts true rest) (after_starts false rest)) start in
+    elim (cases_Bool (is_ended rest)) [
+      | inl ended ↦
+          let plain : plain_ended (events_in rest) ≡ true = sym (is_ended-plain rest) ∙ ended in
+          let events : events_in (body rest) ≡ node_events root [] =
+          events_in-body rest ∙ sym (body_ended (events_in rest) more plain) ∙ ap plain_body node
+          ∙ body_node root (document_end ∷ documents_events roots) in
+          let later : events_in (behind rest) ++ more ≡ documents_events roots =
+          ap (λ es. es ++ more) (events_in-behind rest) ∙ sym (behind_ended (events_in rest) more plain)
+          ∙ ap plain_behind node ∙ behind_node root (document_end ∷ documents_events roots) in
+          subst (λ s. All HasTree (map (document_from (Some fault)) s))
+          (sym (begin ∙ ap (λ s. rest ∷ s) (starts_behind rest ended)))
+          (All-cons HasTree (document_from (Some fault) rest)
+          (map (document_from (Some fault)) (after_starts false (behind rest)))
+          (tree_of_root (resolved root) (document_from (Some fault) rest)
+          (document_of_body root rest (Some fault) events ended))
+          (trees_of_beginning roots (behind rest) more fault later))
+      | inr unended ↦
+          subst (λ s. All HasTree (map (document_from (Some fault)) s))
+          (sym (begin ∙ ap (λ s. rest ∷ s) (no_starts rest unended)))
+          (All-cons HasTree (document_from (Some fault) rest) [] (cut_by_fault rest fault unended) (All-nil HasTree))
+    ]
+
+-- the document that a fault leaves
+trees_further : (fault : PlainFault) (b : Bool) → All HasTree (cond b [] (failed_document fault ∷ []))
+trees_further fault true = All-nil HasTree
+trees_further fault false =
+    All-cons HasTree (failed_document fault) [] (λ whole. absurd (cc)) (All-nil HasTree)
+
+trees_of_fault : (roots : List Node) (input : Input) (more : List PlainEvent) (fault : PlainFault)
+    → events_in input ++ more ≡ stream_events roots → All HasTree (documents_of input (Some fault))
+trees_of_fault roots [] more fault is =
+    All-append HasTree [] (further_document [] (Some fault)) (All-nil HasTree)
+    (trees_further fault (is_open_after false []))
+trees_of_fault roots (s ∷ input) more fault is =
+    let start : s.0 ≡ stream_start = cc in
+    let rest : events_in input ++ more ≡ documents_events roots = cc in
+    let skip : after_starts false (s ∷ input) ≡ after_starts false input =
+    ap (λ x. cond (is_document_start x) (input ∷ after_starts true input) (after_starts false input)) start in
+    All-append HasTree (map (document_from (Some fault)) (after_starts false (s ∷ input)))
+    (further_document (s ∷ input) (Some fault))
+    (subst (λ starts. All HasTree (map (document_from (Some fault)) starts)) (sym skip)
+    (trees_of_beginning roots input more fault rest))
+    (trees_further fault (is_open_after false (s ∷ input)))
+
+-- each document that nothing cut off has a tree
+pub whole_has_tree : (input : Input) (fault : Option PlainFault) → IsWellFormed (is_some fault) (events_in input)
+    → All HasTree (documents_of input fault)
+whole_has_tree input None h = trees_of_stream h.0 (last_mark input) (documents_of input None)
+    (documents_of_stream h.0 input h.1)
+whole_has_tree input (Some fault) h = trees_of_fault h.0.1.0 input h.0.0 fault h.0.1.1
+
+-- where no document begins none is open
+none_open : (input : Input) → after_starts false input ≡ [] → is_open_after false input ≡ false
+none_open [] none = refl
+none_open (e ∷ input) none =
+    elim (cases_Bool (is_document_start e.0)) [
+      | inl yes_ ↦
+          absurd (let some = sym (ap (λ b. cond b (input ∷ after_starts true input) (after_starts false input)) yes_)
+          ∙ none in cc)
+      | inr no_ ↦
+          ap (λ b. is_open_after b input) no_
+          ∙ none_open input (sym (ap (λ b. cond b (input ∷ after_starts true input) (after_starts false input)) no_)
+          ∙ none)
+    ]
+
+some_of_stream : (roots : List Node) (last : Option Position) (documents : List PlainDocument)
+    → AreStreamDocuments roots last documents → documents ≢ []
+some_of_stream [] last documents h = λ none. absurd (let one = sym none ∙ h.2 in cc)
+some_of_stream (root ∷ roots) last [] h = absurd h
+some_of_stream (root ∷ roots) last (d ∷ ds) h = λ none. absurd (cc)
+
+some_of_fault : (fault : PlainFault) (starts : List Input) (b : Bool) → (starts ≡ [] → b ≡ false)
+    → map (document_from (Some fault)) starts ++ cond b [] (failed_document fault ∷ []) ≢ []
+some_of_fault fault [] true h = λ none. absurd (let no_ = h refl in cc)
+some_of_fault fault [] false h = λ none. absurd (cc)
+some_of_fault fault (s ∷ starts) b h = λ none. absurd (cc)
+
+-- a stream has a document
+pub has_some : (input : Input) (fault : Option PlainFault) → IsWellFormed (is_some fault) (events_in input)
+    → documents_of input fault ≢ []
+has_some input None h = some_of_stream h.0 (last_mark input) (documents_of input None)
+    (documents_of_stream h.0 input h.1)
+has_some input (Some fault) h = some_of_fault fault (after_starts false input) (is_open_after false input)
+    (none_open input)

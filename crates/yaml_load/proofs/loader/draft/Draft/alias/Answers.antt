@@ -1,0 +1,16 @@
+-- An alias is gone over.
+use Rattle.std.proofs.Common.{◌∙◌, append-nil, refl, sym}
+use Rattle.yaml_base.specs.PlainEvent.{alias}
+use Rattle.yaml_load.specs.inner.Drafts.{drafted}
+use Rattle.yaml_load.proofs.LoadingLaws.{takes}
+use Rattle.yaml_load.proofs.loader.draft.Draft.alias.Goals as goal
+
+pub returns : goal.returns
+returns c =
+    let e = alias c.args.anchor in
+    λ outer clean. (
+      c.in-Some.ensures.alias outer c.args.anchor clean,
+      takes e c.args.mark c.args.self.now _ _ c.place-place.result refl c.place-place.ensures refl refl
+          c.in_ok-push.ensures.items (c.in_ok-target.ensures.named ∙ sym (append-nil _)) c.in_ok-target.ensures.taken
+          (λ front seen h at. c.in_ok-pass.ensures.numbers front seen (drafted e) h at refl refl),
+    )

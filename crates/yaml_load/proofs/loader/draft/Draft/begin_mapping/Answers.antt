@@ -1,0 +1,19 @@
+-- The start of a mapping is gone over.
+use Rattle.std.proofs.Common.{[], ◌∙◌, append-nil, refl, sym}
+use Rattle.yaml_base.specs.PlainEvent.{mapping_start}
+use Rattle.yaml_load.specs.inner.Drafts.{drafted}
+use Rattle.yaml_load.proofs.LoadingLaws.{takes}
+use Rattle.yaml_load.proofs.loader.draft.Draft.begin_mapping.Goals as goal
+
+pub returns : goal.returns
+returns c =
+    let e = mapping_start c.args.start.anchor c.args.start.tag in (
+      rw c.in-Some.is at (c.in_ok-after.ensures.mapping refl c.args.start.anchor c.args.start.tag),
+      takes e c.args.mark c.args.self.now _ _ c.place-place.result refl c.place-place.ensures refl refl
+          c.in_ok-push.ensures.items c.in_ok-name.ensures.named
+          (λ seen named at. ([], (refl, refl), c.in_ok-name.ensures.aliases ∙ sym (append-nil _)))
+          (λ front seen h at. c.in_ok-begin.ensures.numbers front seen (drafted e) h at refl),
+    )
+
+pub returns-in-None : goal.returns-in-None
+returns-in-None c = (rw c.in-None.is at (c.in_ok-after.ensures.mapping refl c.args.start.anchor c.args.start.tag), tt)

@@ -1,0 +1,17 @@
+-- The number of the collection is filled in where it ends.
+use Rattle.std.proofs.Common.{◌≡◌, arith, length, ap, ◌++◌, ◌∷◌, [], ◌∙◌, sym, subst}
+use Rattle.yaml_load.specs.inner.OpenEnds.{HasNumbers}
+use Rattle.yaml_load.proofs.OpenEndsLaws.{begins}
+use Rattle.yaml_load.proofs.loader.ends.Ends.begin.Goals as goal
+
+pub returns : goal.returns
+returns c =
+    let i = c.self.inside in
+    let counted : c.len-start.result ≡ length i.numbers.items = omega (arith, i.numbers.ok, c.len-start.ensures) in
+    record {
+      numbers = λ front seen e h p o.
+          begins front seen (record { numbers = i.numbers.items; unended = i.unended.items })
+          (subst (HasNumbers front seen) (sym c.self.view_is) h) e _ c.args.place p o c.self.invariant
+          c.in_ok-push.ensures.items
+          (c.in_ok-push-2.ensures.items ∙ ap (λ n. i.unended.items ++ n ∷ []) counted);
+    }

@@ -1,0 +1,12 @@
+-- The number of an event at which no collection begins or ends is its place.
+use Rattle.std.proofs.Common.{refl, sym, subst}
+use Rattle.yaml_load.specs.inner.OpenEnds.{HasNumbers}
+use Rattle.yaml_load.proofs.OpenEndsLaws.{passes}
+use Rattle.yaml_load.proofs.loader.ends.Ends.pass.Goals as goal
+
+pub returns-clause-numbers : goal.returns-clause-numbers
+returns-clause-numbers c = λ front seen e h p o q.
+    let i = c.self.inside in
+    passes front seen (record { numbers = i.numbers.items; unended = i.unended.items })
+    (subst (HasNumbers front seen) (sym c.self.view_is) h) e _ c.args.place p o q c.self.invariant
+    c.in_ok-push.ensures.items refl

@@ -1,0 +1,5 @@
+-- What private contracts cite: the loader at work.
+pub mod AnchorOrder
+pub mod Drafts
+pub mod Loading
+pub mod OpenEnds

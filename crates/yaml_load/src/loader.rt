@@ -1,0 +1,134 @@
+//! The documents of a stream, one after another.
+
+mod anchors;
+mod check;
+mod draft;
+mod ends;
+mod resolve;
+mod share;
+mod steps;
+
+ghost use Rattle.std.specs.Prelude.{◌≡◌, ℕ, ◌++◌, [], IfNone, IfOk, IfErr, false, is_some, option_to_list};
+ghost use Rattle.yaml_base.specs.Answer.{is_memory};
+ghost use Rattle.yaml_base.specs.Stream.{IsWellFormed};
+ghost use Rattle.yaml_base.specs.declared.error.Cause.TheVariants.{NotAStream};
+ghost use Rattle.yaml_load.specs.Documents.{documents_of, last_mark};
+ghost use Rattle.yaml_load.specs.MarkedEvents.{plain_events, plain_marked};
+ghost use Rattle.yaml_load.specs.WrongPlace.{IsWrongAt};
+ghost use Rattle.yaml_load.specs.inner.Drafts.{IsBetween};
+
+use crate::document::LoadedDocument;
+use crate::loader::check::{Phase, after_stream_end, after_stream_start, is_after, is_inside};
+use crate::loader::draft::Draft;
+use crate::loader::share::share;
+use std::alloc::Global;
+use std::marker::Model;
+use yaml_base::{Cause, Error, Event, Mark, ParserFault};
+
+/// The documents of a stream that are still to be handed out.
+#[derive(Drop)]
+pub struct Loader<'de> {
+    left: std::vec::IntoIter<LoadedDocument<'de>, Global>,
+}
+
+impl<'de> Model for Loader<'de> {
+    ghost use Rattle.std.specs.Prelude.{List};
+    ghost use Rattle.std.specs.Vec.Iter.{into_iter_items};
+    ghost use Rattle.yaml_load.specs.PlainDocument.{PlainDocument};
+
+    ghost Value = { List PlainDocument };
+
+    ghost view = { λ l. into_iter_items l.left };
+}
+
+// The mark of the last event.
+fn last(events: &[(Event<'_>, Mark)]) -> Option<Mark>
+    ensures { result ≡ last_mark (plain_marked events.now) }
+{
+    match events.last() {
+        Some(last) => Some(last.1),
+        None => None,
+    }
+}
+
+// All events, checked and put into documents one after another.
+fn load<'de>(
+    alloc: Global,
+    events: Vec<(Event<'de>, Mark)>,
+    fault: Option<ParserFault>,
+) -> yaml_base::Result<Draft<'de>>
+    ensures accepted { IfOk result (λ _.
+        IsWellFormed (is_some fault) (plain_events events.entry.items)) }
+    ensures documents { IfOk result (λ draft.
+        IsBetween (documents_of (plain_marked events.entry.items) fault) draft) }
+    ensures refused { IfErr result (λ cause. is_memory cause ≡ false
+        → IsWellFormed (is_some fault) (plain_events events.entry.items) → ⊥) }
+    ensures wrong { IfErr result (λ cause. is_memory cause ≡ false
+        → (place : ℕ) × (cause ≡ NotAStream place)
+        × IsWrongAt (is_some fault) (plain_events events.entry.items) place) }
+{
+    let end = last(&events);
+    let mut draft = Draft::with_capacity(alloc, events.len())?;
+    let mut outer = Vec::new(alloc);
+    let mut phase = Phase::Before;
+    let mut place = 0;
+    let mut rest = events.into_iter();
+    'events: while let Some((event, mark)) = rest.next() {
+        let next = match event {
+            Event::Scalar(scalar) => draft.scalar(phase, scalar, mark)?,
+            Event::Alias(anchor) => draft.alias(phase, anchor, mark)?,
+            Event::SequenceStart(start) => draft.begin_sequence(phase, &mut outer, start, mark)?,
+            Event::SequenceEnd => draft.end_sequence(phase, &mut outer, mark)?,
+            Event::MappingStart(start) => draft.begin_mapping(phase, &mut outer, start, mark)?,
+            Event::MappingEnd => draft.end_mapping(phase, &mut outer, mark)?,
+            Event::DocumentStart => draft.begin_document(phase),
+            Event::DocumentEnd => draft.end_document(alloc, phase)?,
+            Event::StreamStart => after_stream_start(phase),
+            Event::StreamEnd => after_stream_end(phase),
+        };
+        match next {
+            None => return Err(Error::new(Cause::NotAStream(place))),
+            Some(after) => phase = after,
+        }
+        place += 1;
+    }
+    if is_after(phase) == fault.is_some() {
+        return Err(Error::new(Cause::NotAStream(place)));
+    }
+    draft.close(alloc, is_inside(phase), end, fault)?;
+    Ok(draft)
+}
+
+impl<'de> Loader<'de> {
+    /// The documents of a stream, or, with a parser's fault, of a beginning of a stream that lacks the end. Any other
+    /// list is refused with the least place that is wrong. The events are dropped on refusal.
+    pub fn new(
+        alloc: Global,
+        events: Vec<(Event<'de>, Mark)>,
+        fault: Option<ParserFault>,
+    ) -> yaml_base::Result<Loader<'de>>
+        ensures accepted { IfOk result (λ _.
+            IsWellFormed (is_some fault) (plain_events events.entry.items)) }
+        ensures documents { IfOk result (λ documents.
+            documents ≡ documents_of (plain_marked events.entry.items) fault) }
+
+        ensures refused { IfErr result (λ cause. is_memory cause ≡ false
+            → IsWellFormed (is_some fault) (plain_events events.entry.items) → ⊥) }
+        ensures wrong { IfErr result (λ cause. is_memory cause ≡ false
+            → (place : ℕ) × (cause ≡ NotAStream place)
+            × IsWrongAt (is_some fault) (plain_events events.entry.items) place) }
+    {
+        let draft = load(alloc, events, fault)?;
+        Ok(Loader {
+            left: share(alloc, draft)?.into_iter(),
+        })
+    }
+
+    /// The next document, or `None` once each was handed out, for good. Takes no memory.
+    pub fn next_document(&mut self) -> Option<LoadedDocument<'de>>
+        ensures items { self.old ≡ option_to_list result ++ self.new }
+        ensures none { IfNone result (self.old ≡ []) }
+    {
+        self.left.next()
+    }
+}
