@@ -252,11 +252,3 @@ pub no_stream : (es : List PlainEmit) → run (Some unbegun) es ≡ None → IsE
 no_stream es h w =
     let same : None ≡ Some (stream_text w.0) = sym h ∙ (ap (run (Some unbegun)) w.1 ∙ prints_stream w.0) in
     absurd (cc)
-
--- events have one text
-pub one_text : (es : List PlainEmit) (text other : List ℕ) → IsStreamText es text → IsStreamText es other
-    → text ≡ other
-one_text es text other a b =
-    let same : Some (stream_text a.roots) ≡ Some (stream_text b.roots) =
-    sym (prints_stream a.roots) ∙ (ap (run (Some unbegun)) (sym a.stream ∙ b.stream) ∙ prints_stream b.roots) in
-    a.printed ∙ (ap (λ o. unwrap_or o []) same ∙ sym b.printed)

@@ -1,13 +1,13 @@
 -- Data of the shape of a struct is its fields; and the schemas of structs, as the code joins them.
 use Rattle.std.proofs.Common.{◌≡◌, ◌≢◌, ◌+◌, ℕ, List, [], ◌∷◌, ◌++◌, length, Bool, true, false, Some, refl, rules}
-use Rattle.std.proofs.Common.{sym, ◌∙◌, ap, subst, All, arith, length-append}
+use Rattle.std.proofs.Common.{sym, ◌∙◌, ap, All, arith, length-append}
 use Rattle.std.specs.Prelude.{Vec, IsTrue, Result, Ok, Err, IfErr}
 use Rattle.std.specs.declared.alloc.Global.{Global}
 use Rattle.yaml_shape.specs.PlainShape.{PlainShape, shape_at, struct_shape, tuple_shape}
 use Rattle.yaml_shape.specs.PlainData.{PlainData, struct_data}
 use Rattle.yaml_shape.specs.HasShape.{HasShape, has_shape}
 use Rattle.yaml_shape.specs.Validity.{HasDistinctNames}
-use Rattle.yaml_shape.specs.Join.{joined_all, starts_behind, named_behind, parts_of, StartsWithin, IsTooLarge, IsNotAdded}
+use Rattle.yaml_shape.specs.Join.{joined_all, starts_behind, named_behind, IsTooLarge, IsNotAdded}
 use Rattle.yaml_shape.specs.DataView.{data_of, items_view}
 use Rattle.yaml_shape.specs.declared.data.Data.{Data, the_lemmas}
 use Rattle.yaml_shape.specs.declared.data.Data as code
@@ -15,7 +15,6 @@ use Rattle.yaml_shape.specs.declared.fault.SchemaFault.{SchemaFault}
 use Rattle.yaml_shape.specs.declared.fault.SchemaFault.TheVariants.{S1, S2, S3, S4, S5}
 use Rattle.yaml_shape.proofs.PartLaws.{larger}
 use Rattle.yaml_types.specs.Start.{Start, IsClosed, tuple_start}
-use Rattle.yaml_types.specs.StartLaws.{all_within}
 use Rattle.yaml_types.specs.PartShapes.{items_match}
 use Rattle.yaml_types.specs.Rows.{total, struct_start, all_distinct}
 use Rattle.yaml_types.specs.StructLaws.{struct_has, distinct_struct, length-row}
@@ -89,11 +88,6 @@ row_too_large fault strict name names parts h =
     length-append (joined_all [] parts) (struct_shape strict name (named_behind 0 names parts) ∷ []) in
     let row : length (joined_all [] parts) ≡ 0 + total parts = length-row [] parts in
     larger fault (total parts) (length (struct_start strict name names parts).0) (omega (arith, size, row)) h
-
--- the schemas of a row, each with its start in it
-pub schemas_within : (all : List Part) (starts : List Start) → parts_of all ≡ starts → All IsClosed starts
-    → All StartsWithin (parts_of all)
-schemas_within all starts is c = subst (All StartsWithin) (sym is) (all_within starts c)
 
 -- where one type of a row is too large, the tuple is
 pub tuple_too_large : (fault : SchemaFault) (parts : List Start) → IsTooLarge (total parts) fault

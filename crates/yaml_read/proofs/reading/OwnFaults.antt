@@ -1,7 +1,7 @@
 -- Which faults the steps of a reading have: those of reading, and want of memory where that is let through.
 use Rattle.std.proofs.Common.{ℕ, zero, suc, ◌-◌, Option, Some, None, Result, Ok, Err}
-use Rattle.std.proofs.Common.{Bool, true, false, ◌≡◌, subst, refl}
-use Rattle.std.specs.Prelude.{if◌then◌else◌, ◌≢◌}
+use Rattle.std.proofs.Common.{Bool, true, false, ◌≡◌, subst}
+use Rattle.std.specs.Prelude.{if◌then◌else◌}
 use Rattle.std.specs.Option.{option_map_or}
 use Rattle.yaml_base.specs.Answer.{is_memory}
 use Rattle.yaml_base.specs.CausePlace.{filled}
@@ -55,10 +55,6 @@ own_kind _ y (own_fault z h) e known = own_reading true y (subst (IsOwn true) (s
 pub own_never : {A : Type 0} (r : Result A Cause) (y : Cause) → OwnIf false r → r ≡ Err y → IsReadingFault y
 own_never _ y (own_value x) e = absurd cc
 own_never _ y (own_fault z h) e = own_always y (subst (IsOwn false) (same_fault z y e) h)
-
--- no fault of reading says that there are other documents
-pub own_apart : {A : Type 0} (r : Result A Cause) → Own r → r ≢ Err cause.MoreThanOneDocument
-own_apart r h e = own_kind r cause.MoreThanOneDocument h e refl
 
 -- a shape that is looked up
 pub own_with_shape : {A : Type 0} (o : Option PlainShape) (go : PlainShape → Result A Cause)
