@@ -1,5 +1,4 @@
 -- What contracts of this crate cite.
-pub mod Asked
 pub mod Headline
 pub mod PlainStream
 pub mod Printed

@@ -24,6 +24,10 @@ abbrev pub follow : List PlainDocument → Bool
 follow [] = false
 follow (document ∷ others) = true
 
+-- the stream was not iterated, its first document is this one, and the flag says whether others follow
+abbrev pub IsFirst : PlainStream → PlainDocument → Bool → Type 0
+IsFirst stream document more = (others : List PlainDocument) × Begins stream document others × (more ≡ follow others)
+
 -- what a first document gives, by whether others follow: then its data is refused, and its fault stays
 abbrev pub unless_more : Bool → Result PlainData Cause → Result PlainData Cause
 unless_more true (Ok v) = Err MoreThanOneDocument
@@ -37,6 +41,11 @@ pub record StreamGives (limits : PlainLimits) (table : List PlainShape) (s : Pla
       → (found : Result PlainData Cause) × DocumentGives limits table s document found
       × (given ≡ unless_more (follow others) found)
   pub iterated : stream.iterated ≡ true → given ≡ Err MoreThanOneDocument
+
+-- a stream from which nothing is read for this reason, whatever is asked of it
+abbrev pub IsRefusedBy : PlainStream → Cause → Type 0
+IsRefusedBy stream cause = (limits : PlainLimits) (table : List PlainShape) (s : PlainShape)
+    → StreamGives limits table s stream (Err cause)
 
 -- the stream of an input, before it is iterated
 abbrev pub stream_of : Input → Option PlainFault → PlainStream

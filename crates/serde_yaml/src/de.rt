@@ -1,6 +1,6 @@
 //! Reading a stream of events.
 
-mod asked;
+mod alone;
 mod calls;
 mod input;
 mod kinds;
@@ -21,7 +21,7 @@ ghost use Rattle.yaml_read.specs.Reads.{DocumentGives};
 ghost use Rattle.yaml_read.specs.TreeReader.{default_limits};
 ghost use Rattle.yaml_read.specs.WrongPlace.{IsWrongAt};
 ghost use Rattle.serde_yaml.specs.Headline.{GivesMeaning};
-ghost use Rattle.serde_yaml.specs.StreamReads.{StreamGives, stream_of, unless_more};
+ghost use Rattle.serde_yaml.specs.StreamReads.{IsFirst, IsRefusedBy, StreamGives, stream_of, unless_more};
 
 use crate::laws::reading_gives_the_meaning;
 pub use input::data_from_events;
@@ -166,6 +166,29 @@ impl<'de> Deserializer<'de> {
         self.read_within(alloc, schema, id, limits)
     }
 
+    // The first document of the stream, and whether others follow. A stream that was iterated is refused as more than
+    // one document.
+    fn first(self) -> Result<(Document<'de>, bool)>
+        ensures found { IfOk result (λ found. IsFirst self.entry found.0 found.1) }
+        ensures refused { IfErr result (IsRefusedBy self.entry) }
+    {
+        let Deserializer { source, iterated } = self;
+        if iterated {
+            discard(source);
+            return Err(Error::new(Cause::MoreThanOneDocument));
+        }
+        match source {
+            Source::One(document) => Ok((document, false)),
+            Source::Stream(mut documents) => match documents.next_document() {
+                Some(document) => {
+                    let others = is_there(documents.next_document());
+                    Ok((document, others))
+                }
+                None => Err(Error::new(Cause::EndOfStream)),
+            },
+        }
+    }
+
     // The data of the stream, within limits.
     fn read_within(
         self,
@@ -178,20 +201,9 @@ impl<'de> Deserializer<'de> {
         ensures { (s : PlainShape) → shape_at schema.now id.0 ≡ Some s
             → Answers data_of result (StreamGives limits schema.now s self.entry) }
     {
-        let Deserializer { source, iterated } = self;
-        if iterated {
-            discard(source);
-            return Err(Error::new(Cause::MoreThanOneDocument));
-        }
-        match source {
-            Source::One(document) => read_first(alloc, &document, schema, id, limits, false),
-            Source::Stream(mut documents) => match documents.next_document() {
-                Some(document) => {
-                    let others = is_there(documents.next_document());
-                    read_first(alloc, &document, schema, id, limits, others)
-                }
-                None => Err(Error::new(Cause::EndOfStream)),
-            },
+        match self.first() {
+            Ok((document, others)) => read_first(alloc, &document, schema, id, limits, others),
+            Err(fault) => Err(fault),
         }
     }
 }

@@ -11,163 +11,162 @@ ghost use Rattle.yaml_read.specs.TreeReader.{default_limits};
 ghost use Rattle.serde_yaml.specs.StreamReads.{StreamGives};
 
 use crate::de::Deserializer;
-use crate::de::asked::Asked;
 use std::alloc::Global;
 use yaml_base::Result;
-use yaml_shape::Data;
+use yaml_shape::{Data, Shape};
 
 impl<'de> Deserializer<'de> {
     /// The data of the stream's one document as a value of any kind.
     pub fn deserialize_any(self, alloc: Global) -> Result<Data<'de>>
         ensures { Answers data_of result (StreamGives default_limits [] any_shape self.entry) }
     {
-        self.read_under(alloc, Asked::Any)
+        self.read_alone(alloc, &Shape::Any)
     }
 
     /// The data of the stream's one document as a boolean.
     pub fn deserialize_bool(self, alloc: Global) -> Result<Data<'de>>
         ensures { Answers data_of result (StreamGives default_limits [] bool_shape self.entry) }
     {
-        self.read_under(alloc, Asked::Bool)
+        self.read_alone(alloc, &Shape::Bool)
     }
 
     /// The data of the stream's one document as an integer of 8 bits with a sign.
     pub fn deserialize_i8(self, alloc: Global) -> Result<Data<'de>>
         ensures { Answers data_of result (StreamGives default_limits [] (integer_shape i8) self.entry) }
     {
-        self.read_under(alloc, Asked::I8)
+        self.read_alone(alloc, &Shape::I8)
     }
 
     /// The data of the stream's one document as an integer of 16 bits with a sign.
     pub fn deserialize_i16(self, alloc: Global) -> Result<Data<'de>>
         ensures { Answers data_of result (StreamGives default_limits [] (integer_shape i16) self.entry) }
     {
-        self.read_under(alloc, Asked::I16)
+        self.read_alone(alloc, &Shape::I16)
     }
 
     /// The data of the stream's one document as an integer of 32 bits with a sign.
     pub fn deserialize_i32(self, alloc: Global) -> Result<Data<'de>>
         ensures { Answers data_of result (StreamGives default_limits [] (integer_shape i32) self.entry) }
     {
-        self.read_under(alloc, Asked::I32)
+        self.read_alone(alloc, &Shape::I32)
     }
 
     /// The data of the stream's one document as an integer of 64 bits with a sign.
     pub fn deserialize_i64(self, alloc: Global) -> Result<Data<'de>>
         ensures { Answers data_of result (StreamGives default_limits [] (integer_shape i64) self.entry) }
     {
-        self.read_under(alloc, Asked::I64)
+        self.read_alone(alloc, &Shape::I64)
     }
 
     /// The data of the stream's one document as an integer of 128 bits with a sign.
     pub fn deserialize_i128(self, alloc: Global) -> Result<Data<'de>>
         ensures { Answers data_of result (StreamGives default_limits [] (integer_shape i128) self.entry) }
     {
-        self.read_under(alloc, Asked::I128)
+        self.read_alone(alloc, &Shape::I128)
     }
 
     /// The data of the stream's one document as an integer of 64 bits, the width of the machine, with a sign.
     pub fn deserialize_isize(self, alloc: Global) -> Result<Data<'de>>
         ensures { Answers data_of result (StreamGives default_limits [] (integer_shape isize) self.entry) }
     {
-        self.read_under(alloc, Asked::Isize)
+        self.read_alone(alloc, &Shape::Isize)
     }
 
     /// The data of the stream's one document as an integer of 8 bits without a sign.
     pub fn deserialize_u8(self, alloc: Global) -> Result<Data<'de>>
         ensures { Answers data_of result (StreamGives default_limits [] (integer_shape u8) self.entry) }
     {
-        self.read_under(alloc, Asked::U8)
+        self.read_alone(alloc, &Shape::U8)
     }
 
     /// The data of the stream's one document as an integer of 16 bits without a sign.
     pub fn deserialize_u16(self, alloc: Global) -> Result<Data<'de>>
         ensures { Answers data_of result (StreamGives default_limits [] (integer_shape u16) self.entry) }
     {
-        self.read_under(alloc, Asked::U16)
+        self.read_alone(alloc, &Shape::U16)
     }
 
     /// The data of the stream's one document as an integer of 32 bits without a sign.
     pub fn deserialize_u32(self, alloc: Global) -> Result<Data<'de>>
         ensures { Answers data_of result (StreamGives default_limits [] (integer_shape u32) self.entry) }
     {
-        self.read_under(alloc, Asked::U32)
+        self.read_alone(alloc, &Shape::U32)
     }
 
     /// The data of the stream's one document as an integer of 64 bits without a sign.
     pub fn deserialize_u64(self, alloc: Global) -> Result<Data<'de>>
         ensures { Answers data_of result (StreamGives default_limits [] (integer_shape u64) self.entry) }
     {
-        self.read_under(alloc, Asked::U64)
+        self.read_alone(alloc, &Shape::U64)
     }
 
     /// The data of the stream's one document as an integer of 128 bits without a sign.
     pub fn deserialize_u128(self, alloc: Global) -> Result<Data<'de>>
         ensures { Answers data_of result (StreamGives default_limits [] (integer_shape u128) self.entry) }
     {
-        self.read_under(alloc, Asked::U128)
+        self.read_alone(alloc, &Shape::U128)
     }
 
     /// The data of the stream's one document as an integer of 64 bits, the width of the machine, without a sign.
     pub fn deserialize_usize(self, alloc: Global) -> Result<Data<'de>>
         ensures { Answers data_of result (StreamGives default_limits [] (integer_shape usize) self.entry) }
     {
-        self.read_under(alloc, Asked::Usize)
+        self.read_alone(alloc, &Shape::Usize)
     }
 
     /// The data of the stream's one document as a character.
     pub fn deserialize_char(self, alloc: Global) -> Result<Data<'de>>
         ensures { Answers data_of result (StreamGives default_limits [] char_shape self.entry) }
     {
-        self.read_under(alloc, Asked::Char)
+        self.read_alone(alloc, &Shape::Char)
     }
 
     /// The data of the stream's one document as a text, borrowed from the source where the source shows it.
     pub fn deserialize_str(self, alloc: Global) -> Result<Data<'de>>
         ensures { Answers data_of result (StreamGives default_limits [] str_shape self.entry) }
     {
-        self.read_under(alloc, Asked::Str)
+        self.read_alone(alloc, &Shape::Str)
     }
 
     /// The data of the stream's one document as a text.
     pub fn deserialize_string(self, alloc: Global) -> Result<Data<'de>>
         ensures { Answers data_of result (StreamGives default_limits [] str_shape self.entry) }
     {
-        self.read_under(alloc, Asked::Str)
+        self.read_alone(alloc, &Shape::Str)
     }
 
     /// The data of the stream's one document as bytes, which no event stands for.
     pub fn deserialize_bytes(self, alloc: Global) -> Result<Data<'de>>
         ensures { Answers data_of result (StreamGives default_limits [] bytes_shape self.entry) }
     {
-        self.read_under(alloc, Asked::Bytes)
+        self.read_alone(alloc, &Shape::Bytes)
     }
 
     /// The data of the stream's one document as bytes, likewise.
     pub fn deserialize_byte_buf(self, alloc: Global) -> Result<Data<'de>>
         ensures { Answers data_of result (StreamGives default_limits [] bytes_shape self.entry) }
     {
-        self.read_under(alloc, Asked::Bytes)
+        self.read_alone(alloc, &Shape::Bytes)
     }
 
     /// The data of the stream's one document as nothing.
     pub fn deserialize_unit(self, alloc: Global) -> Result<Data<'de>>
         ensures { Answers data_of result (StreamGives default_limits [] unit_shape self.entry) }
     {
-        self.read_under(alloc, Asked::Unit)
+        self.read_alone(alloc, &Shape::Unit)
     }
 
     /// The data of the stream's one document as the name of a field or a variant.
     pub fn deserialize_identifier(self, alloc: Global) -> Result<Data<'de>>
         ensures { Answers data_of result (StreamGives default_limits [] identifier_shape self.entry) }
     {
-        self.read_under(alloc, Asked::Identifier)
+        self.read_alone(alloc, &Shape::Identifier)
     }
 
     /// The data of the stream's one document as a node that is stepped over, whatever it is.
     pub fn deserialize_ignored_any(self, alloc: Global) -> Result<Data<'de>>
         ensures { Answers data_of result (StreamGives default_limits [] ignored_shape self.entry) }
     {
-        self.read_under(alloc, Asked::IgnoredAny)
+        self.read_alone(alloc, &Shape::IgnoredAny)
     }
 }

@@ -123,8 +123,10 @@ impl<'de> Document<'de> {
         }
     }
 
-    // The data of the document under a shape that names no other.
-    pub(super) fn read_plain(&self, alloc: Global, shape: &Shape) -> Result<Data<'de>>
+    /// The data of the document under a shape that names no other, within the default limits. A whole document that is
+    /// one scalar with a meaning takes no memory as a boolean, an integer, a character or a unit, nor as a text or a
+    /// name that the source shows; nor does one that is stepped over.
+    pub fn deserialize_alone(&self, alloc: Global, shape: &Shape) -> Result<Data<'de>>
         requires { named (shape_of shape.now) ≡ [] }
         ensures gives { Answers data_of result (DocumentGives default_limits [] (shape_of shape.now) self.now) }
         ensures scalar { (w : PlainScalar) → IsFreeScalar (shape_of shape.now) self.now w → is_ok result ≡ true }

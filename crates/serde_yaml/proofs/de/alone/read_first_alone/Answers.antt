@@ -1,7 +1,7 @@
 -- What a document gives, where others may follow.
 use Rattle.std.proofs.Common.{Err}
 use Rattle.serde_yaml.proofs.FirstDocument.{fault_stays}
-use Rattle.serde_yaml.proofs.de.asked.read_first_asked.Goals as goal
+use Rattle.serde_yaml.proofs.de.alone.read_first_alone.Goals as goal
 
 pub returns-in-Err : goal.returns-in-Err
 returns-in-Err c = λ m. (Err c.in-Err.fault, c.in-Err.ensures m, fault_stays c.args.others c.in-Err.fault)

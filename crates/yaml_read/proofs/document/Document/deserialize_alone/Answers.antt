@@ -6,7 +6,7 @@ use Rattle.yaml_read.specs.Reads.{DocumentGives}
 use Rattle.yaml_read.specs.TreeReader.{default_limits}
 use Rattle.yaml_read.proofs.FreeLaws.{reaches_none}
 use Rattle.yaml_read.proofs.reading.Whole.{gives_of_exact}
-use Rattle.yaml_read.proofs.document.Document.read_plain.Goals as goal
+use Rattle.yaml_read.proofs.document.Document.deserialize_alone.Goals as goal
 
 pub returns-in-Some-clause-gives : goal.returns-in-Some-clause-gives
 returns-in-Some-clause-gives c =
