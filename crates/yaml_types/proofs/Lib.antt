@@ -10,3 +10,4 @@ pub mod RowLaws
 pub mod StructFound
 pub mod TupleLaws
 pub mod WriteLaws
+pub mod WriteRefusals

@@ -3,13 +3,13 @@
 
 ghost use Rattle.std.specs.Prelude.{◌≡◌, ◌≤◌, ◌+◌, ℕ, List, true, map, length, IsTrue, All, IfOk, IfErr, OnOk};
 ghost use Rattle.std.specs.Vec.Iter.{into_iter_items};
-ghost use Rattle.yaml_base.specs.Answer.{is_memory};
 ghost use Rattle.yaml_shape.specs.PlainData.{PlainData, variant_data};
 ghost use Rattle.yaml_shape.specs.DataView.{data_of};
 ghost use Rattle.yaml_shape.specs.EqualData.{EqualData};
 ghost use Rattle.yaml_shape.specs.Join.{IsTooLarge};
 ghost use Rattle.yaml_types.specs.Start.{IsClosed};
 ghost use Rattle.yaml_types.specs.BuildRefusal.{IsBuildRefusal};
+ghost use Rattle.yaml_types.specs.WriteRefusal.{IsWriteRefusal};
 ghost use Rattle.yaml_types.specs.Rows.{total};
 ghost use Rattle.yaml_types.specs.Choices.{Content, all_types, width_of, variant_names, AreVariants, choice_matches};
 
@@ -204,6 +204,9 @@ pub trait WriteChoice: Choice {
     // The data of what the variant holds.
     ghost written: { Self → PlainData };
 
+    // By which messages that is not written.
+    ghost unwritten: { Self → List ℕ → Type 0 };
+
     /// The schema with the types of what the variants hold behind it, and the variants with these names behind others.
     /// Refused by `S4` where there are too many shapes, and by `S5`.
     fn shapes(
@@ -218,13 +221,13 @@ pub trait WriteChoice: Choice {
         ensures refused { IfErr result (IsTooLarge (length before + total (all_types contents))) };
 
     /// The variant of the value, with as many numbers before its own as are told, and what it holds as data, which
-    /// borrows its texts from the value. Refused only where memory runs out.
+    /// borrows its texts from the value. Refused where memory runs out, or by a message of what the variant holds.
     fn write<'a>(&'a self, alloc: Global, before: usize) -> Result<Data<'a>, Error>
         requires { before + length contents ≤ usize.MAX }
         ensures ok { IfOk result
             (λ made. data_of made ≡ variant_data (before + place self.now) (written self.now)) }
         ensures kept { OnOk result (kept self.now) }
-        ensures refused { IfErr result (λ fault. IsTrue (is_memory fault)) };
+        ensures refused { IfErr result (IsWriteRefusal (unwritten self.now)) };
 
     // Each shape is in its table, which names no shape outside.
     ghost closed: { All IsClosed (all_types contents) };
@@ -248,6 +251,8 @@ impl<V: WriteVariant> WriteChoice for Last<V> {
     ghost place = { λ _. 0 };
 
     ghost written = { λ x. V.written x.variant };
+
+    ghost unwritten = { λ x. V.unwritten x.variant };
 
     ghost closed = { last_closed V.content V.closed };
 
@@ -285,6 +290,7 @@ impl<V: WriteVariant, C: WriteChoice> WriteChoice for OneOf<V, C> {
     ghost use Rattle.std.specs.Prelude.{◌∷◌};
     ghost use Rattle.yaml_types.specs.declared.choice.OneOf.TheVariants.{First, Other};
     ghost use Rattle.yaml_types.specs.Choices.{one_of_kept, one_of_place, one_of_written};
+    ghost use Rattle.yaml_types.specs.WriteRefusal.{OneOfUnwritten};
     ghost use Rattle.yaml_types.specs.ChoiceLaws.{more_closed};
 
     ghost contents = { V.content ∷ C.contents };
@@ -294,6 +300,8 @@ impl<V: WriteVariant, C: WriteChoice> WriteChoice for OneOf<V, C> {
     ghost place = { one_of_place C.place };
 
     ghost written = { one_of_written V.written C.written };
+
+    ghost unwritten = { OneOfUnwritten V.unwritten C.unwritten };
 
     ghost closed = { more_closed V.content C.contents V.closed C.closed };
 

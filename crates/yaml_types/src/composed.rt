@@ -1,9 +1,9 @@
 //! Types whose values are made of parts that another type holds: of a struct's fields, or of a value that is checked.
 
-ghost use Rattle.std.specs.Prelude.{◌≡◌, ℕ, List, true, IsTrue, IfOk, IfErr, OnOk};
-ghost use Rattle.yaml_base.specs.Answer.{is_memory};
+ghost use Rattle.std.specs.Prelude.{◌≡◌, ℕ, ◌⊎◌, List, true, IfOk, IfErr, OnOk};
 ghost use Rattle.yaml_shape.specs.DataView.{data_of};
 ghost use Rattle.yaml_types.specs.BuildRefusal.{IsBuildRefusal};
+ghost use Rattle.yaml_types.specs.WriteRefusal.{IsWriteRefusal};
 
 use crate::fault::BuildFault;
 use crate::traits::{Deserialize, RoundTrip, Serialize};
@@ -65,11 +65,18 @@ pub trait ToParts: Composed
 where
     Self::Parts: Serialize,
 {
-    /// The data of the parts, which borrows its texts from the value. Refused only where memory runs out.
+    // By which messages a value is withheld, beside those by which its parts are not written.
+    ghost withheld: { Self → List ℕ → Type 0 } = { λ _ _. ⊥ };
+
+    /// The data of the parts, which borrows its texts from the value. Refused where memory runs out, by a message of a
+    /// part, or by one of the type's own, as `Error::custom` makes one. A value that is withheld by a message never
+    /// succeeds.
     fn parts_to_data<'a>(&'a self, alloc: Global) -> Result<Data<'a>, Error>
         ensures ok { IfOk result (λ made. data_of made ≡ Self.Parts.written (Self.parts self.now)) }
         ensures kept { OnOk result (Self.Parts.kept (Self.parts self.now)) }
-        ensures refused { IfErr result (λ fault. IsTrue (is_memory fault)) };
+        ensures allowed { OnOk result ((message : List ℕ) → withheld self.now message → ⊥) }
+        ensures refused { IfErr result (IsWriteRefusal
+            (λ message. Self.Parts.unwritten (Self.parts self.now) message ⊎ withheld self.now message)) };
 }
 
 impl<T: ToParts> Serialize for T
@@ -78,13 +85,15 @@ where
 {
     ghost start = { T.Parts.start };
 
-    ghost kept = { λ x. T.Parts.kept (T.parts x) };
+    ghost kept = { λ x. T.Parts.kept (T.parts x) × ((message : List ℕ) → T.withheld x message → ⊥) };
 
     ghost written = { λ x. T.Parts.written (T.parts x) };
 
+    ghost unwritten = { λ x message. T.Parts.unwritten (T.parts x) message ⊎ T.withheld x message };
+
     ghost closed = { T.Parts.closed };
 
-    ghost of_shape = { λ x. T.Parts.of_shape (T.parts x) };
+    ghost of_shape = { λ x k. T.Parts.of_shape (T.parts x) k.0 };
 
     fn schema(alloc: Global) -> Result<(Schema, ShapeId), SchemaFault> {
         T::Parts::schema(alloc)
@@ -116,8 +125,8 @@ where
 
     ghost one_schema = { T.Parts.one_schema };
 
-    ghost returned = { of_returned T.parts T.Parts.kept T.Parts.written T.Parts.built T.Parts.eq T.Parts.returned T.made T.eq
-        T.same };
+    ghost returned = { λ x y d k. of_returned T.parts T.Parts.kept T.Parts.written T.Parts.built T.Parts.eq
+        T.Parts.returned T.made T.eq T.same x y d k.0 };
 
     ghost accepted = { of_accepted T.parts T.Parts.written T.Parts.built T.Parts.refused T.Parts.accepted T.unmade
         T.never };

@@ -137,6 +137,8 @@ where
 
     ghost written = { λ x. variant_data (F.Choice.place x.choice) (F.Choice.written x.choice) };
 
+    ghost unwritten = { λ x. F.Choice.unwritten x.choice };
+
     ghost closed = { closed_enum F.name F.names F.Choice.contents F.Choice.closed };
 
     ghost of_shape = { λ x k. enum_of_shape F.name F.names F.Choice.contents F.fits.as_many F.Choice.as_wide

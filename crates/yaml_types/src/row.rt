@@ -1,7 +1,6 @@
 //! Rows of types: `()`, or a type with the rest of the row, as `(String, (u16, (Option<bool>, ())))`.
 
 ghost use Rattle.std.specs.Prelude.{◌≡◌, ◌++◌, ℕ, List, true, length, IsTrue, All, IfOk, IfErr, OnOk};
-ghost use Rattle.yaml_base.specs.Answer.{is_memory};
 ghost use Rattle.yaml_shape.specs.EqualData.{items_eq};
 ghost use Rattle.std.specs.Vec.Iter.{into_iter_items};
 ghost use Rattle.yaml_shape.specs.PlainData.{PlainItems};
@@ -10,6 +9,7 @@ ghost use Rattle.yaml_shape.specs.Join.{IsTooLarge, parts_of};
 ghost use Rattle.yaml_types.specs.Start.{Start, IsClosed};
 ghost use Rattle.yaml_types.specs.PartShapes.{items_match};
 ghost use Rattle.yaml_types.specs.BuildRefusal.{IsBuildRefusal};
+ghost use Rattle.yaml_types.specs.WriteRefusal.{IsWriteRefusal};
 ghost use Rattle.yaml_types.specs.Rows.{total, items_then};
 
 use crate::fault::BuildFault;
@@ -152,6 +152,9 @@ pub trait WriteRow: Row {
     // The items of the values.
     ghost written: { Self → PlainItems };
 
+    // By which messages one of the values is not written.
+    ghost unwritten: { Self → List ℕ → Type 0 };
+
     /// The schemas of the types behind others. Refused by `S4` where one has more than 4,096 shapes, and by `S5`.
     fn schemas(
         alloc: Global,
@@ -160,13 +163,13 @@ pub trait WriteRow: Row {
         ensures ok { IfOk result (λ all. parts_of all.items ≡ parts_of before.items ++ starts) }
         ensures refused { IfErr result (IsTooLarge (total starts)) };
 
-    /// The items of the values behind others, which borrow their texts from the values. Refused only where memory runs
-    /// out.
+    /// The items of the values behind others, which borrow their texts from the values. Refused where memory runs out,
+    /// or by a message of a value.
     fn write<'a>(&'a self, alloc: Global, before: Vec<Data<'a>>) -> Result<Vec<Data<'a>>, Error>
         ensures ok { IfOk result (λ all. items_view all.items
             ≡ items_then (items_view before.entry.items) (written self.now)) }
         ensures kept { OnOk result (kept self.now) }
-        ensures refused { IfErr result (λ fault. IsTrue (is_memory fault)) };
+        ensures refused { IfErr result (IsWriteRefusal (unwritten self.now)) };
 
     // Each shape is in its table, which names no shape outside.
     ghost closed: { All IsClosed starts };
@@ -188,6 +191,8 @@ impl WriteRow for () {
     ghost kept = { λ _. Unit {0} };
 
     ghost written = { λ _. no_items };
+
+    ghost unwritten = { λ _ _. ⊥ };
 
     ghost closed = { no_row_closed };
 
@@ -211,6 +216,7 @@ impl<A: Serialize, R: WriteRow> WriteRow for (A, R) {
     ghost use Rattle.std.specs.Prelude.{◌∷◌, ◌&&◌};
     ghost use Rattle.std.proofs.Common.{ap, suc};
     ghost use Rattle.yaml_shape.specs.PlainData.{item};
+    ghost use Rattle.yaml_types.specs.WriteRefusal.{PairUnwritten};
     ghost use Rattle.yaml_types.specs.StructLaws.{row_closed};
 
     ghost starts = { A.start ∷ R.starts };
@@ -218,6 +224,8 @@ impl<A: Serialize, R: WriteRow> WriteRow for (A, R) {
     ghost kept = { λ x. A.kept x.0 × R.kept x.1 };
 
     ghost written = { λ x. item (A.written x.0) (R.written x.1) };
+
+    ghost unwritten = { PairUnwritten A.unwritten R.unwritten };
 
     ghost closed = { row_closed A.start R.starts A.closed R.closed };
 

@@ -99,6 +99,8 @@ where
 
     ghost written = { λ x. struct_data (F.Types.written x.fields) };
 
+    ghost unwritten = { λ x. F.Types.unwritten x.fields };
+
     ghost closed = { closed_struct true F.name F.names F.Types.starts F.Types.closed };
 
     ghost of_shape = { λ x k. struct_of_shape true F.name F.names F.Types.starts F.fits.as_many F.Types.as_wide

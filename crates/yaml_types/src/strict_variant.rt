@@ -67,6 +67,8 @@ impl<R: WriteRow> WriteVariant for StrictStructVariant<R> {
 
     ghost written = { λ x. struct_data (R.written x.fields) };
 
+    ghost unwritten = { λ x. R.unwritten x.fields };
+
     ghost closed = { R.closed };
 
     ghost as_wide = { R.as_wide };

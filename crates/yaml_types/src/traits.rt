@@ -1,7 +1,6 @@
 //! What a type is to have to be read from data and written as data.
 
-ghost use Rattle.std.specs.Prelude.{◌≡◌, ℕ, List, true, length, IsTrue, IfOk, IfErr, OnOk};
-ghost use Rattle.yaml_base.specs.Answer.{is_memory};
+ghost use Rattle.std.specs.Prelude.{◌≡◌, ℕ, List, true, length, IfOk, IfErr, OnOk};
 ghost use Rattle.yaml_shape.specs.PlainData.{PlainData};
 ghost use Rattle.yaml_shape.specs.DataView.{data_of};
 ghost use Rattle.yaml_shape.specs.HasShape.{HasShape};
@@ -9,6 +8,7 @@ ghost use Rattle.yaml_shape.specs.EqualData.{EqualData};
 ghost use Rattle.yaml_shape.specs.Join.{IsTooLarge};
 ghost use Rattle.yaml_types.specs.Start.{Start, IsStart, IsClosed};
 ghost use Rattle.yaml_types.specs.BuildRefusal.{IsBuildRefusal};
+ghost use Rattle.yaml_types.specs.WriteRefusal.{IsWriteRefusal};
 
 use crate::fault::BuildFault;
 use std::alloc::Global;
@@ -48,11 +48,14 @@ pub trait Serialize {
     // The table of shapes, and the number of the one of the type.
     ghost start: { Start };
 
-    // What a value of the type always keeps, as an integer its range.
+    // What a value of the type keeps that is written, as an integer its range.
     ghost kept: { Self → Type 0 } = { λ _. Unit {0} };
 
     // The data of a value.
     ghost written: { Self → PlainData };
+
+    // By which messages a value is not written.
+    ghost unwritten: { Self → List ℕ → Type 0 } = { λ _ _. ⊥ };
 
     /// The shape of the type: a schema, and its number there. Refused by `S4` where the table would have more than
     /// 4,096 shapes, and by `S5`.
@@ -60,11 +63,12 @@ pub trait Serialize {
         ensures ok { IfOk result (IsStart start) }
         ensures refused { IfErr result (IsTooLarge (length start.0)) };
 
-    /// The value as data, which borrows its texts from the value. Refused only where memory runs out.
+    /// The value as data, which borrows its texts from the value. Refused where memory runs out, or by a message, as
+    /// `Error::custom` makes one.
     fn to_data<'a>(&'a self, alloc: Global) -> Result<Data<'a>, Error>
         ensures ok { IfOk result (λ made. data_of made ≡ written self.now) }
         ensures kept { OnOk result (kept self.now) }
-        ensures refused { IfErr result (λ fault. IsTrue (is_memory fault)) };
+        ensures refused { IfErr result (IsWriteRefusal (unwritten self.now)) };
 
     // The shape is in the table, which names no shape outside.
     ghost closed: { IsClosed start };

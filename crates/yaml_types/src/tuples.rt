@@ -73,6 +73,8 @@ impl<R: WriteRow> Serialize for Tuple<R> {
 
     ghost written = { λ x. tuple_data (R.written x.elements) };
 
+    ghost unwritten = { λ x. R.unwritten x.elements };
+
     ghost closed = { closed_tuple R.starts R.closed };
 
     ghost of_shape = { λ x k. row_of_shape R.starts R.closed (R.written x.elements) (R.of_shape x.elements k) };

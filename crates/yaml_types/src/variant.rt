@@ -1,13 +1,13 @@
 //! Variants of enums, by what they hold.
 
 ghost use Rattle.std.specs.Prelude.{◌≡◌, ◌+◌, ℕ, List, true, map, length, string_bytes, IsTrue, All, IfOk, IfErr, OnOk};
-ghost use Rattle.yaml_base.specs.Answer.{is_memory};
 ghost use Rattle.yaml_shape.specs.PlainData.{PlainData};
 ghost use Rattle.yaml_shape.specs.DataView.{data_of};
 ghost use Rattle.yaml_shape.specs.EqualData.{EqualData};
 ghost use Rattle.yaml_shape.specs.Join.{IsTooLarge};
 ghost use Rattle.yaml_types.specs.Start.{IsClosed};
 ghost use Rattle.yaml_types.specs.BuildRefusal.{IsBuildRefusal};
+ghost use Rattle.yaml_types.specs.WriteRefusal.{IsWriteRefusal};
 ghost use Rattle.yaml_types.specs.Rows.{total};
 ghost use Rattle.yaml_types.specs.Choices.{Content, types_in, width_of, IsContent, content_matches};
 
@@ -68,6 +68,9 @@ pub trait WriteVariant: Variant {
     // The data of a value.
     ghost written: { Self → PlainData };
 
+    // By which messages a value is not written.
+    ghost unwritten: { Self → List ℕ → Type 0 };
+
     /// The schema with the types of what the variant holds behind it, and what the variant holds there, its fields by
     /// these names. Refused by `S4` where there are too many shapes, and by `S5`.
     fn shape(
@@ -79,11 +82,12 @@ pub trait WriteVariant: Variant {
         ensures ok { IfOk result (IsContent before (map string_bytes names.items) content) }
         ensures refused { IfErr result (IsTooLarge (length before + total (types_in content))) };
 
-    /// What the variant holds as data, which borrows its texts from the value. Refused only where memory runs out.
+    /// What the variant holds as data, which borrows its texts from the value. Refused where memory runs out, or by a
+    /// message of what the variant holds.
     fn to_content<'a>(&'a self, alloc: Global) -> Result<Data<'a>, Error>
         ensures ok { IfOk result (λ made. data_of made ≡ written self.now) }
         ensures kept { OnOk result (kept self.now) }
-        ensures refused { IfErr result (λ fault. IsTrue (is_memory fault)) };
+        ensures refused { IfErr result (IsWriteRefusal (unwritten self.now)) };
 
     // Each shape is in its table, which names no shape outside.
     ghost closed: { All IsClosed (types_in content) };

@@ -59,6 +59,8 @@ impl WriteVariant for UnitVariant {
 
     ghost written = { λ _. unit_data };
 
+    ghost unwritten = { λ _ _. ⊥ };
+
     ghost closed = { no_row_closed };
 
     ghost as_wide = { refl };
@@ -135,6 +137,8 @@ impl<T: Serialize> WriteVariant for NewtypeVariant<T> {
     ghost kept = { λ x. T.kept x.content };
 
     ghost written = { λ x. T.written x.content };
+
+    ghost unwritten = { λ x. T.unwritten x.content };
 
     ghost closed = { row_closed T.start [] T.closed no_row_closed };
 
@@ -217,6 +221,8 @@ impl<R: WriteRow> WriteVariant for StructVariant<R> {
     ghost kept = { λ x. R.kept x.fields };
 
     ghost written = { λ x. struct_data (R.written x.fields) };
+
+    ghost unwritten = { λ x. R.unwritten x.fields };
 
     ghost closed = { R.closed };
 
@@ -302,6 +308,8 @@ impl<R: WriteRow> WriteVariant for TupleVariant<R> {
     ghost kept = { λ x. R.kept x.elements };
 
     ghost written = { λ x. tuple_data (R.written x.elements) };
+
+    ghost unwritten = { λ x. R.unwritten x.elements };
 
     ghost closed = { R.closed };
 

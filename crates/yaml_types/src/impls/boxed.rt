@@ -32,6 +32,8 @@ impl<T: Serialize> Serialize for Box<T> {
 
     ghost written = { λ x. T.written x.value };
 
+    ghost unwritten = { λ x. T.unwritten x.value };
+
     ghost closed = { T.closed };
 
     ghost of_shape = { λ x kept. T.of_shape x.value kept };

@@ -1,8 +1,7 @@
 //! Texts that are borrowed where the data borrows them, which Rust writes `Cow<str>`.
 
-ghost use Rattle.std.specs.Prelude.{◌≡◌, [], ◌∷◌, true, refl, IsTrue, IfOk, IfErr, OnOk};
+ghost use Rattle.std.specs.Prelude.{◌≡◌, [], ◌∷◌, true, refl, IfOk, IfErr, OnOk};
 ghost use Rattle.std.specs.Cow.{cow_str_bytes};
-ghost use Rattle.yaml_base.specs.Answer.{is_memory};
 ghost use Rattle.yaml_shape.specs.PlainShape.{str_shape};
 ghost use Rattle.yaml_shape.specs.PlainData.{text_data};
 ghost use Rattle.yaml_shape.specs.DataView.{data_of};
@@ -12,6 +11,7 @@ ghost use Rattle.yaml_types.specs.Start.{IsStart, leaf_start};
 ghost use Rattle.yaml_types.specs.StartLaws.{closed_leaf};
 ghost use Rattle.yaml_types.specs.BuildRefusal.{IsBuildRefusal, NeverRefused};
 ghost use Rattle.yaml_types.specs.Texts.{BuiltCow, cow_returned};
+ghost use Rattle.yaml_types.specs.WriteRefusal.{IsWriteRefusal};
 
 use crate::fault::BuildFault;
 use crate::leaf::leaf_schema;
@@ -70,7 +70,7 @@ impl<'b> Serialize for CowStr<'b> {
     fn to_data<'a>(&'a self, _alloc: Global) -> Result<Data<'a>, Error>
         ensures ok { IfOk result (λ made. data_of made ≡ text_data true (cow_str_bytes self.now)) }
         ensures kept { OnOk result (Unit {0}) }
-        ensures refused { IfErr result (λ fault. IsTrue (is_memory fault)) }
+        ensures refused { IfErr result (IsWriteRefusal (λ _. ⊥)) }
     {
         Ok(Data::Str(Text::Borrowed(self.as_str())))
     }

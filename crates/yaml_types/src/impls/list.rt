@@ -62,12 +62,15 @@ impl<T: Serialize> Serialize for Vec<T> {
     ghost use Rattle.yaml_types.specs.WrittenParts.{seq_written};
     ghost use Rattle.yaml_types.specs.StartLaws.{closed_seq};
     ghost use Rattle.yaml_types.specs.WrittenLaws.{seq_of_shape};
+    ghost use Rattle.yaml_types.specs.WriteRefusal.{SomeUnwritten};
 
     ghost start = { seq_start T.start };
 
     ghost kept = { λ xs. All T.kept xs.items };
 
     ghost written = { λ xs. seq_written T.written xs.items };
+
+    ghost unwritten = { λ xs. SomeUnwritten T.unwritten xs.items };
 
     ghost closed = { closed_seq T.start T.closed };
 

@@ -90,12 +90,15 @@ impl<K: Serialize + Ord, V: Serialize> Serialize for BTreeMap<K, V> {
     ghost use Rattle.yaml_types.specs.WrittenParts.{map_written, MapKeeps};
     ghost use Rattle.yaml_types.specs.StartLaws.{closed_map};
     ghost use Rattle.yaml_types.specs.WrittenLaws.{map_of_shape};
+    ghost use Rattle.yaml_types.specs.WriteRefusal.{PairUnwritten, SomeUnwritten};
 
     ghost start = { map_start K.start V.start };
 
     ghost kept = { MapKeeps K.cmp K.kept V.kept };
 
     ghost written = { λ m. map_written K.written V.written m.entries };
+
+    ghost unwritten = { λ m. SomeUnwritten (PairUnwritten K.unwritten V.unwritten) m.entries };
 
     ghost closed = { closed_map K.start V.start K.closed V.closed };
 

@@ -40,12 +40,15 @@ impl<T: Serialize> Serialize for Option<T> {
     ghost use Rattle.yaml_types.specs.WrittenParts.{option_written};
     ghost use Rattle.yaml_types.specs.StartLaws.{closed_option};
     ghost use Rattle.yaml_types.specs.WrittenLaws.{option_of_shape};
+    ghost use Rattle.yaml_types.specs.WriteRefusal.{OptionUnwritten};
 
     ghost start = { option_start T.start };
 
     ghost kept = { λ x. IfSome x T.kept };
 
     ghost written = { option_written T.written };
+
+    ghost unwritten = { OptionUnwritten T.unwritten };
 
     ghost closed = { closed_option T.start T.closed };
 

@@ -70,12 +70,15 @@ impl<A: Serialize, B: Serialize> Serialize for (A, B) {
     ghost use Rattle.yaml_types.specs.WrittenParts.{pair_written};
     ghost use Rattle.yaml_types.specs.StartLaws.{closed_tuple, both_closed};
     ghost use Rattle.yaml_types.specs.WrittenLaws.{pair_of_shape};
+    ghost use Rattle.yaml_types.specs.WriteRefusal.{PairUnwritten};
 
     ghost start = { tuple_start (A.start ∷ B.start ∷ []) };
 
     ghost kept = { λ x. A.kept x.0 × B.kept x.1 };
 
     ghost written = { pair_written A.written B.written };
+
+    ghost unwritten = { PairUnwritten A.unwritten B.unwritten };
 
     ghost closed = { closed_tuple (A.start ∷ B.start ∷ []) (both_closed A.start B.start A.closed B.closed) };
 

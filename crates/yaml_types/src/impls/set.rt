@@ -60,12 +60,15 @@ impl<'de, T: Deserialize<'de> + Ord + Drop> Deserialize<'de> for BTreeSet<T> {
 impl<T: Serialize + Ord> Serialize for BTreeSet<T> {
     ghost use Rattle.yaml_types.specs.WrittenParts.{seq_written};
     ghost use Rattle.yaml_types.specs.WrittenLaws.{seq_of_shape};
+    ghost use Rattle.yaml_types.specs.WriteRefusal.{SomeUnwritten};
 
     ghost start = { seq_start T.start };
 
     ghost kept = { SetKeeps T.cmp T.kept };
 
     ghost written = { λ s. seq_written T.written s.keys };
+
+    ghost unwritten = { λ s. SomeUnwritten T.unwritten s.keys };
 
     ghost closed = { closed_seq T.start T.closed };
 

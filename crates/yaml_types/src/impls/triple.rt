@@ -84,12 +84,15 @@ impl<A: Serialize, B: Serialize, C: Serialize> Serialize for (A, B, C) {
     ghost use Rattle.yaml_types.specs.WrittenParts.{triple_written};
     ghost use Rattle.yaml_types.specs.StartLaws.{closed_tuple, three_closed};
     ghost use Rattle.yaml_types.specs.WrittenLaws.{triple_of_shape};
+    ghost use Rattle.yaml_types.specs.WriteRefusal.{TripleUnwritten};
 
     ghost start = { tuple_start (A.start ∷ B.start ∷ C.start ∷ []) };
 
     ghost kept = { λ x. A.kept x.0 × B.kept x.1 × C.kept x.2 };
 
     ghost written = { triple_written A.written B.written C.written };
+
+    ghost unwritten = { TripleUnwritten A.unwritten B.unwritten C.unwritten };
 
     ghost closed = { closed_tuple (A.start ∷ B.start ∷ C.start ∷ [])
         (three_closed A.start B.start C.start A.closed B.closed C.closed) };
