@@ -1,10 +1,13 @@
 -- Tables joined in a row, part by part.
 use Rattle.std.proofs.Common.{◌≡◌, ◌<◌, ◌≤◌, ◌+◌, ℕ, suc, List, [], ◌∷◌, ◌++◌, map, length, refl, sym, ◌∙◌, ap, subst, All}
-use Rattle.std.proofs.Common.{arith, append_assoc, append-nil, length-append}
+use Rattle.std.proofs.Common.{arith, append_assoc, append-nil, length-append, string_bytes}
+use Rattle.std.specs.Prelude.{String}
+use Rattle.std.specs.List.{zip}
+use Rattle.std.specs.declared.alloc.Global.{Global}
 use Rattle.std.proofs.lemmas.List.{length-map, map-append}
 use Rattle.std.proofs.lemmas.List.Elements.{All-nil, All-cons, All-head, All-tail, All-push, All-map}
 use Rattle.yaml_shape.specs.PlainShape.{PlainShape}
-use Rattle.yaml_shape.specs.ShapeView.{ids_of}
+use Rattle.yaml_shape.specs.ShapeView.{ids_of, field_of, fields_of}
 use Rattle.yaml_shape.specs.Validity.{AllNameWithin}
 use Rattle.yaml_shape.specs.Join.{raised, joined, joined_all, starts_behind, parts_of, StartsWithin, IsRow}
 use Rattle.yaml_shape.specs.Join.{IsTooLarge}
@@ -129,3 +132,32 @@ all_seen parts done are =
 pub length-starts : (size : ℕ) (parts : List (List PlainShape × ℕ)) → length (starts_behind size parts) ≡ length parts
 length-starts size [] = refl
 length-starts size (part ∷ parts) = ap suc (length-starts (size + length part.0) parts)
+
+-- some of the names have their numbers, and as many names as numbers are left
+pub record AreNamed (names : List (String Global)) (ids : List ShapeId) (fields : List (String Global × ShapeId))
+    (rest : List (String Global)) (left : List ShapeId) : Type 0 where
+  pub row : fields_of fields ++ zip (map string_bytes rest) (ids_of left) ≡ zip (map string_bytes names) (ids_of ids)
+  pub same : length rest ≡ length left
+
+-- one more has
+pub one_named : (names : List (String Global)) (ids : List ShapeId) (fields more : List (String Global × ShapeId))
+    (name : String Global) (id : ShapeId) (before rest : List (String Global)) (all left : List ShapeId)
+    → before ≡ name ∷ rest → all ≡ id ∷ left → more ≡ fields ++ (name, id) ∷ []
+    → AreNamed names ids fields before all → AreNamed names ids more rest left
+one_named names ids fields more name id before rest all left next first pushed are =
+    let here : AreNamed names ids fields (name ∷ rest) (id ∷ left) =
+    subst (λ l. AreNamed names ids fields (name ∷ rest) l) first
+    (subst (λ l. AreNamed names ids fields l all) next are) in
+    record {
+      row = ap (λ l. fields_of l ++ zip (map string_bytes rest) (ids_of left)) pushed
+          ∙ (ap (λ l. l ++ zip (map string_bytes rest) (ids_of left)) (map-append field_of fields ((name, id) ∷ []))
+          ∙ (append_assoc (fields_of fields) (field_of (name, id) ∷ []) (zip (map string_bytes rest) (ids_of left))
+          ∙ here.row));
+      same = omega (arith, here.same);
+    }
+
+-- all have
+pub all_named : (names : List (String Global)) (ids : List ShapeId) (fields : List (String Global × ShapeId))
+    (left : List ShapeId) → AreNamed names ids fields [] left
+    → fields_of fields ≡ zip (map string_bytes names) (ids_of ids)
+all_named names ids fields left are = sym (append-nil (fields_of fields)) ∙ are.row
