@@ -18,7 +18,7 @@ ghost use Rattle.yaml_load.specs.WrongPlace.{IsWrongAt};
 ghost use Rattle.yaml_load.specs.inner.Drafts.{IsBetween};
 
 use crate::document::LoadedDocument;
-use crate::loader::check::{Phase, after_stream_end, after_stream_start, is_after, is_inside};
+use crate::loader::check::{Phase, is_after, is_inside};
 use crate::loader::draft::Draft;
 use crate::loader::share::share;
 use std::alloc::Global;
@@ -74,19 +74,7 @@ fn load<'de>(
     let mut place = 0;
     let mut rest = events.into_iter();
     'events: while let Some((event, mark)) = rest.next() {
-        let next = match event {
-            Event::Scalar(scalar) => draft.scalar(phase, scalar, mark)?,
-            Event::Alias(anchor) => draft.alias(phase, anchor, mark)?,
-            Event::SequenceStart(start) => draft.begin_sequence(phase, &mut outer, start, mark)?,
-            Event::SequenceEnd => draft.end_sequence(phase, &mut outer, mark)?,
-            Event::MappingStart(start) => draft.begin_mapping(phase, &mut outer, start, mark)?,
-            Event::MappingEnd => draft.end_mapping(phase, &mut outer, mark)?,
-            Event::DocumentStart => draft.begin_document(phase),
-            Event::DocumentEnd => draft.end_document(alloc, phase)?,
-            Event::StreamStart => after_stream_start(phase),
-            Event::StreamEnd => after_stream_end(phase),
-        };
-        match next {
+        match draft.take(alloc, phase, &mut outer, event, mark)? {
             None => return Err(Error::new(Cause::NotAStream(place))),
             Some(after) => phase = after,
         }

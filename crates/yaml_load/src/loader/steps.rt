@@ -2,7 +2,8 @@
 
 ghost use Rattle.std.specs.Prelude.{◌≡◌, ◌+◌, ◌≤◌, [], IfOk, List, is_some, length, true};
 ghost use Rattle.yaml_base.specs.Position.{Position};
-ghost use Rattle.yaml_base.specs.PlainEvent.{alias, document_end, document_start, mapping_end, mapping_start};
+ghost use Rattle.yaml_base.specs.PlainEvent.{alias, document_end, document_start, event_of, mapping_end};
+ghost use Rattle.yaml_base.specs.PlainEvent.{mapping_start};
 ghost use Rattle.yaml_base.specs.PlainEvent.{scalar as scalar_event};
 ghost use Rattle.yaml_base.specs.PlainEvent.{scalar_of, sequence_end, sequence_start};
 ghost use Rattle.yaml_load.specs.Documents.{Input, documents_of, last_mark};
@@ -17,7 +18,7 @@ use crate::loader::check::{
 };
 use crate::loader::draft::Draft;
 use std::alloc::{AllocError, Global};
-use yaml_base::{Anchor, MappingStart, Mark, Open, ParserFault, Scalar, SequenceStart};
+use yaml_base::{Anchor, Event, MappingStart, Mark, Open, ParserFault, Scalar, SequenceStart};
 
 impl<'de> Draft<'de> {
     // The place of the next event in the open document.
@@ -209,6 +210,36 @@ impl<'de> Draft<'de> {
         };
         self.finish(alloc, None)?;
         Ok(Some(after))
+    }
+
+    // Goes over an event, if it may stand in this phase, and answers the phase behind it. What the collections around
+    // the innermost wait for stands beside the phase.
+    #[inline(always)]
+    pub(crate) fn take(
+        &mut self,
+        alloc: Global,
+        phase: Phase,
+        outer: &mut Vec<Open>,
+        event: Event<'de>,
+        mark: Mark,
+    ) -> Result<Option<Phase>, AllocError>
+        requires clean { IsClean phase outer.old.items }
+        requires ready { is_open phase ≡ true → IsReady self.old }
+        ensures { IfOk result (λ found. Steps phase outer.old.items (event_of event.entry) mark
+            self.old outer.new.items self.new found) }
+    {
+        match event {
+            Event::Scalar(scalar) => self.scalar(phase, scalar, mark),
+            Event::Alias(anchor) => self.alias(phase, anchor, mark),
+            Event::SequenceStart(start) => self.begin_sequence(phase, outer, start, mark),
+            Event::SequenceEnd => self.end_sequence(phase, outer, mark),
+            Event::MappingStart(start) => self.begin_mapping(phase, outer, start, mark),
+            Event::MappingEnd => self.end_mapping(phase, outer, mark),
+            Event::DocumentStart => Ok(self.begin_document(phase)),
+            Event::DocumentEnd => self.end_document(alloc, phase),
+            Event::StreamStart => Ok(after_stream_start(phase)),
+            Event::StreamEnd => Ok(after_stream_end(phase)),
+        }
     }
 
     // Goes over the end of the events, within a document or not. The mark is that of the last event.
