@@ -9,12 +9,12 @@ use Rattle.yaml_shape.specs.HasShape.{has_shape, each_has, passes, on_option}
 use Rattle.yaml_shape.specs.PlainData.{PlainData, struct_data, none_data}
 use Rattle.yaml_shape.specs.PlainShape.{PlainShape, struct_shape, struct_variant_shape, option_shape, shape_at}
 use Rattle.yaml_shape.specs.Validity.{numbers_of}
+use Rattle.yaml_scalar.specs.Steps.{◌>>=◌}
+use Rattle.yaml_scalar.proofs.OfShape.{is_of}
 use Rattle.yaml_read.specs.Kinds.{is_option}
 use Rattle.yaml_read.specs.Fields.{Fields, Slots, no_slots, find, is_free, known_field, field_named}
 use Rattle.yaml_read.specs.Fields.{field_data, all_fields, struct_of}
-use Rattle.yaml_read.specs.Steps.{◌>>=◌}
 use Rattle.yaml_read.specs.inner.Reader.{fields_in}
-use Rattle.yaml_read.proofs.OfShape.{is_of}
 
 -- answers are the same only where their data is
 ok_is : {A : Type 0} {x y : A} → ◌≡◌ {A = Result A Cause} (Ok x) (Ok y) → x ≡ y

@@ -16,13 +16,13 @@ use Rattle.yaml_shape.specs.Validity.{named}
 use Rattle.yaml_load.specs.DocTree.{DocNode, word}
 use Rattle.yaml_load.specs.PlainDocEvent.{PlainDocEvent, a_scalar}
 use Rattle.yaml_load.specs.PlainDocument.{PlainDocument}
+use Rattle.yaml_scalar.specs.Presence.{is_absent, is_false_null, null_fault}
+use Rattle.yaml_scalar.specs.ScalarShapes.{scalar_answer}
+use Rattle.yaml_scalar.specs.Steps.{ending}
 use Rattle.yaml_read.specs.Handing.{Handing, as_is, as_some, handed, early, reach}
 use Rattle.yaml_read.specs.NodeTags.{TakenBy}
 use Rattle.yaml_read.specs.Places.{Way, root_way, place}
-use Rattle.yaml_read.specs.Presence.{is_absent, is_false_null, null_fault}
 use Rattle.yaml_read.specs.Reads.{IsTreeOf}
-use Rattle.yaml_read.specs.ScalarShapes.{scalar_answer}
-use Rattle.yaml_read.specs.Steps.{ending}
 use Rattle.yaml_read.specs.TreeReader.{Spot, after, marks_of, whole_fuel, read_tree}
 use Rattle.yaml_read.specs.inner.Answered.{IsAnswered}
 use Rattle.yaml_read.specs.inner.Reader.{Source, is_leaf, node_at}

@@ -15,8 +15,8 @@ use Rattle.yaml_shape.specs.PlainShape.{PlainShape}
 use Rattle.yaml_shape.specs.ShapeView.{field_of, fields_of}
 use Rattle.yaml_shape.specs.declared.data.Data.{Data}
 use Rattle.yaml_shape.specs.declared.shape.ShapeId.{ShapeId}
+use Rattle.yaml_scalar.specs.Steps.{◌>>=◌}
 use Rattle.yaml_read.specs.Fields.{Fields, Slots, is_free, no_slots, field_data, all_fields}
-use Rattle.yaml_read.specs.Steps.{◌>>=◌}
 use Rattle.yaml_read.specs.inner.Walks.{slots_of}
 use Rattle.yaml_read.proofs.FieldCode.{Declared, same_some}
 

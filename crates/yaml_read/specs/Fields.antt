@@ -11,8 +11,8 @@ use Rattle.yaml_shape.specs.HasShape.{passes}
 use Rattle.yaml_shape.specs.PlainData.{PlainData, text_data, none_data, struct_data}
 use Rattle.yaml_shape.specs.PlainShape.{PlainShape, shape_at}
 use Rattle.yaml_shape.specs.Validity.{names_of}
+use Rattle.yaml_scalar.specs.Steps.{◌>>=◌, wrap}
 use Rattle.yaml_read.specs.Kinds.{is_option}
-use Rattle.yaml_read.specs.Steps.{◌>>=◌, wrap}
 
 -- the fields that a struct declares: their names, and the numbers of their shapes
 abbrev pub Fields : Type 0

@@ -7,10 +7,10 @@ use Rattle.yaml_shape.specs.PlainShape.{PlainShape, any_shape, bytes_shape, opti
 use Rattle.yaml_shape.specs.PlainShape.{struct_shape, struct_variant_shape, enum_shape, PlainVariant}
 use Rattle.yaml_shape.specs.Walks.{rank}
 use Rattle.yaml_load.specs.PlainDocEvent.{PlainDocEvent, a_scalar, a_void, sequence_begins, mapping_begins}
+use Rattle.yaml_scalar.specs.Presence.{is_present, is_empty_plain, is_empty}
+use Rattle.yaml_scalar.specs.Variants.{Variants, variant_named, unknown_variant}
 use Rattle.yaml_read.specs.Fields.{Fields}
 use Rattle.yaml_read.specs.NodeTags.{TakenBy, untaken_name}
-use Rattle.yaml_read.specs.Presence.{is_present, is_empty_plain, is_empty}
-use Rattle.yaml_read.specs.Variants.{Variants, variant_named, unknown_variant}
 
 -- the fault of a shape that reads no node, whatever stands there
 abbrev pub early : PlainShape → Option Cause

@@ -1,6 +1,5 @@
 -- What contracts of this crate, and of those above it, cite.
 pub mod AnyData
-pub mod CoreTags
 pub mod CursorReads
 pub mod Fields
 pub mod FreeReads
@@ -12,19 +11,12 @@ pub mod NodeReads
 pub mod NodeTags
 pub mod Places
 pub mod PlainCursor
-pub mod Presence
 pub mod ReadingFaults
 pub mod Reads
 pub mod Rows
-pub mod ScalarAny
-pub mod ScalarFound
-pub mod ScalarShapes
-pub mod ScalarSorts
-pub mod Steps
 pub mod TreeReader
-pub mod Variants
 pub mod inner
--- What the crate below has of documents, under the names that they have here.
+-- What the crates below have of documents and of scalars, under the names that they have here.
 pub use Rattle.yaml_load.specs.DocEventView
 pub use Rattle.yaml_load.specs.DocTree
 pub use Rattle.yaml_load.specs.Documents
@@ -37,3 +29,11 @@ pub use Rattle.yaml_load.specs.Resolved
 pub use Rattle.yaml_load.specs.StreamLaw
 pub use Rattle.yaml_load.specs.StreamPhases
 pub use Rattle.yaml_load.specs.WrongPlace
+pub use Rattle.yaml_scalar.specs.CoreTags
+pub use Rattle.yaml_scalar.specs.Presence
+pub use Rattle.yaml_scalar.specs.ScalarAny
+pub use Rattle.yaml_scalar.specs.ScalarFound
+pub use Rattle.yaml_scalar.specs.ScalarShapes
+pub use Rattle.yaml_scalar.specs.ScalarSorts
+pub use Rattle.yaml_scalar.specs.Steps
+pub use Rattle.yaml_scalar.specs.Variants

@@ -5,12 +5,12 @@ use Rattle.yaml_shape.specs.PlainData.{PlainData}
 use Rattle.yaml_shape.specs.PlainShape.{PlainShape}
 use Rattle.yaml_load.specs.DocTree.{DocNode, events_of, node_of}
 use Rattle.yaml_load.specs.PlainDocument.{PlainDocument}
+use Rattle.yaml_scalar.specs.Steps.{◌>>=◌}
 use Rattle.yaml_read.specs.Handing.{nesting_depth}
 use Rattle.yaml_read.specs.Meaning.{Means}
 use Rattle.yaml_read.specs.NodeTags.{TakenBy, around_value}
 use Rattle.yaml_read.specs.Places.{Way}
 use Rattle.yaml_read.specs.Reads.{IsTreeOf}
-use Rattle.yaml_read.specs.Steps.{◌>>=◌}
 use Rattle.yaml_read.specs.TreeReader.{marks_of, read_tree}
 use Rattle.yaml_read.specs.declared.node_place.NodePlace.{NodePlace}
 

@@ -6,7 +6,7 @@ use Rattle.std.specs.Prelude.{None}
 use Rattle.yaml_shape.specs.DataView.{items_of}
 use Rattle.yaml_shape.specs.Expected.{sequence_text}
 use Rattle.yaml_shape.specs.PlainData.{PlainData, tuple_data}
-use Rattle.yaml_read.specs.Steps.{wrap}
+use Rattle.yaml_scalar.specs.Steps.{wrap}
 
 -- the shapes of the elements to come, the elements that were read, and how many more there are
 pub record Row : Type 0 where

@@ -19,6 +19,9 @@ use Rattle.yaml_load.specs.DocTree.{DocNode, DocNodes, DocPairs, nothing, refere
 use Rattle.yaml_load.specs.DocTree.{no_nodes, node, no_pairs, pair, events_of, first_event, node_of}
 use Rattle.yaml_load.specs.PlainDocEvent.{PlainDocEvent}
 use Rattle.yaml_load.specs.PlainDocument.{PlainDocument}
+use Rattle.yaml_scalar.specs.ScalarFound.{sequence_fault, mapping_fault}
+use Rattle.yaml_scalar.specs.ScalarShapes.{scalar_answer, void_answer}
+use Rattle.yaml_scalar.specs.Steps.{◌>>=◌, ending, wrap, enter, follow, finish, with_shape, unless}
 use Rattle.yaml_read.specs.AnyData.{tree_in, trees_in, pairs_in, new_key}
 use Rattle.yaml_read.specs.Fields.{Fields, Slots, no_slots, name_in, field_named, field_step, struct_of}
 use Rattle.yaml_read.specs.Handing.{Handing, as_is, as_some, as_newtype, as_ignored, as_bare, as_variant, as_tagged}
@@ -27,9 +30,6 @@ use Rattle.yaml_read.specs.Handing.{handed, early, refusal, nesting_depth}
 use Rattle.yaml_read.specs.NodeTags.{TakenBy, around_value}
 use Rattle.yaml_read.specs.Places.{Way, element_under, value_under, places, place, root_way, text_place}
 use Rattle.yaml_read.specs.Rows.{Row, row_of, one_more, row_data}
-use Rattle.yaml_read.specs.ScalarFound.{sequence_fault, mapping_fault}
-use Rattle.yaml_read.specs.ScalarShapes.{scalar_answer, void_answer}
-use Rattle.yaml_read.specs.Steps.{◌>>=◌, ending, wrap, enter, follow, finish, with_shape, unless}
 
 -- where a reading is: the place of its next event, and the follows that are left
 pub record Spot : Type 0 where

@@ -5,8 +5,6 @@ mod calls;
 mod kinds;
 mod node;
 mod plain;
-mod read_refusal;
-mod scalar;
 pub(crate) mod taken_tag;
 
 ghost use Rattle.std.specs.Prelude.{◌≡◌, ◌≢◌, ◌<◌, ◌≤◌, length, Some, Err, is_ok, false};
@@ -25,13 +23,13 @@ ghost use Rattle.yaml_read.specs.TreeReader.{default_limits};
 
 use crate::cursor::Cursor;
 use crate::de::node::source::Source;
-use crate::de::read_refusal::Refusal;
 use crate::document::Document;
 use crate::limits::Limits;
 use crate::tally::Tally;
 use crate::walk::Walk;
 use std::alloc::Global;
 use yaml_base::{Cause, Error, Path, Result};
+use yaml_scalar::Refusal;
 use yaml_shape::{Data, Schema, Shape, ShapeId};
 
 // A copy of the fault, or want of memory.

@@ -33,7 +33,7 @@ use Rattle.yaml_read.specs.ScalarFound.{found_kind}
 use Rattle.yaml_read.specs.ScalarShapes.{scalar_answer, lent_text, widest}
 use Rattle.yaml_read.specs.ScalarSorts.{is_plain}
 use Rattle.yaml_read.specs.Variants.{Variants, named_variant}
-use Rattle.yaml_read.proofs.CharacterLaws.{one-character}
+use Rattle.yaml_scalar.proofs.CharacterLaws.{one-character}
 use Rattle.yaml_write.specs.WrittenValue.{truth_text}
 use Rattle.yaml_round.proofs.Decimals.{unsigned_of-decimal, integer_of-signed_decimal, is_utf8-decimal}
 use Rattle.yaml_round.proofs.Decimals.{is_utf8-signed_decimal, kind_of-decimal, kind_of-negative}

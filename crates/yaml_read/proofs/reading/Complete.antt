@@ -14,6 +14,8 @@ use Rattle.yaml_tree.specs.Tree as tree_of
 use Rattle.yaml_read.specs.AnyData.{tree_in, trees_in, pairs_in}
 use Rattle.yaml_shape.specs.Walks.{rank}
 use Rattle.yaml_load.specs.DocTree.{DocNode, DocNodes, DocPairs, first_event}
+use Rattle.yaml_scalar.specs.ScalarShapes.{scalar_answer}
+use Rattle.yaml_scalar.specs.Steps.{wrap, ending}
 use Rattle.yaml_read.specs.Fields.{Fields, Slots}
 use Rattle.yaml_read.specs.Handing.{Handing, handed, early, reach, untaken_reach, depth, parts_depth, tag_depth}
 use Rattle.yaml_read.specs.Handing.{nesting_depth}
@@ -26,8 +28,6 @@ use Rattle.yaml_read.specs.Meaning.{means_any_mapping, MeansList, means_seq, mea
 use Rattle.yaml_read.specs.Meaning.{MeansPairs, means_map, MeanEach, means_none, means_more, MeanRow, means_no_elements}
 use Rattle.yaml_read.specs.Meaning.{means_element, MeanPairs, means_no_pairs, means_pair}
 use Rattle.yaml_read.specs.Places.{Way, element_under, value_under, places, place}
-use Rattle.yaml_read.specs.ScalarShapes.{scalar_answer}
-use Rattle.yaml_read.specs.Steps.{wrap, ending}
 use Rattle.yaml_read.specs.TreeReader.{field_key, field_value, any_key_of, Spot, after, behind, each_node, each_pair}
 use Rattle.yaml_read.specs.TreeReader.{TreeReader, item_of, key_of, value_of, row_part, sequence_of, mapping_of}
 use Rattle.yaml_read.specs.TreeReader.{target_of, handed_by, read_tree}

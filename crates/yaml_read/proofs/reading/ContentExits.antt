@@ -16,14 +16,14 @@ use Rattle.yaml_load.specs.DocEventView.{doc_event_of}
 use Rattle.yaml_load.specs.declared.doc_event.DocEvent.{DocEvent}
 use Rattle.yaml_load.specs.declared.doc_event.DocEvent.TheVariants as event
 use Rattle.yaml_load.specs.declared.doc_event.DocStart.{DocStart}
+use Rattle.yaml_scalar.specs.Steps.{ending, wrap, with_shape}
+use Rattle.yaml_scalar.specs.Variants.{Variants, variant_named}
 use Rattle.yaml_read.specs.AnyData.{tree_in, trees_in, pairs_in}
 use Rattle.yaml_read.specs.Fields.{Fields}
 use Rattle.yaml_read.specs.Handing.{as_variant, is_filled_scalar}
 use Rattle.yaml_read.specs.NodeTags.{TakenBy, around_value, untaken_name}
 use Rattle.yaml_read.specs.Places.{Way, place, places}
-use Rattle.yaml_read.specs.Steps.{ending, wrap, with_shape}
 use Rattle.yaml_read.specs.TreeReader.{Spot, after}
-use Rattle.yaml_read.specs.Variants.{Variants, variant_named}
 use Rattle.yaml_read.specs.inner.Reader.{Source, Reader, node_at, node_step, shape_step, event_at, other_answer, takes}
 use Rattle.yaml_read.specs.inner.Reader.{place_at, item_at, any_entry_at, sequence_parts, mapping_parts}
 use Rattle.yaml_read.proofs.reading.Exits.{step_event, step_handed}

@@ -14,11 +14,11 @@ use Rattle.yaml_load.specs.DocEventView.{doc_event_of}
 use Rattle.yaml_load.specs.PlainDocEvent.{PlainDocEvent, sequence_begins, mapping_begins}
 use Rattle.yaml_load.specs.declared.doc_event.DocEvent.{DocEvent}
 use Rattle.yaml_load.specs.declared.doc_event.DocEvent.TheVariants as event
+use Rattle.yaml_scalar.specs.Steps.{ending, wrap, finish, with_shape}
 use Rattle.yaml_read.specs.Handing.{Handing, as_is, handed, early, is_content}
 use Rattle.yaml_read.specs.NodeTags.{TakenBy}
 use Rattle.yaml_read.specs.Places.{Way}
 use Rattle.yaml_read.specs.Rows.{row_of, row_data}
-use Rattle.yaml_read.specs.Steps.{ending, wrap, finish, with_shape}
 use Rattle.yaml_read.specs.TreeReader.{Spot, after}
 use Rattle.yaml_read.specs.inner.Reader.{Source, Reader, is_sequence_end, is_mapping_end, row_shape, few_text}
 use Rattle.yaml_read.specs.inner.Reader.{owner_named, of_tuple, of_tuple_struct, item_at, entry_at, row_at}

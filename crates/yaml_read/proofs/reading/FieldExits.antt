@@ -9,11 +9,11 @@ use Rattle.yaml_base.specs.declared.error.Cause.{Cause}
 use Rattle.yaml_shape.specs.PlainData.{PlainData}
 use Rattle.yaml_shape.specs.PlainShape.{PlainShape, identifier_shape, struct_shape, struct_variant_shape, shape_at}
 use Rattle.yaml_load.specs.PlainDocEvent.{PlainDocEvent, mapping_begins}
+use Rattle.yaml_scalar.specs.Steps.{◌>>=◌, wrap, finish}
 use Rattle.yaml_read.specs.Fields.{Fields, Slots, no_slots, name_in, field_named, struct_of}
 use Rattle.yaml_read.specs.Handing.{as_is, handed, is_bare}
 use Rattle.yaml_read.specs.NodeTags.{TakenBy}
 use Rattle.yaml_read.specs.Places.{Way, place}
-use Rattle.yaml_read.specs.Steps.{◌>>=◌, wrap, finish}
 use Rattle.yaml_read.specs.TreeReader.{Spot, after, mark_or_first}
 use Rattle.yaml_read.specs.inner.Reader.{Source, Reading, Reader, value_way, text_at, fields_in, skip_at, mapping_parts}
 use Rattle.yaml_read.specs.inner.Reader.{shape_step, mapping_at, fields_at, field_at, field_key_at}

@@ -7,10 +7,10 @@ use Rattle.yaml_base.specs.declared.error.Cause.{Cause}
 use Rattle.yaml_base.specs.declared.error.Cause.TheVariants.{Memory, EndOfStream}
 use Rattle.yaml_shape.specs.PlainData.{PlainData}
 use Rattle.yaml_shape.specs.PlainShape.{PlainShape}
+use Rattle.yaml_scalar.specs.Steps.{◌>>=◌, wrap, finish, enter, follow, with_shape, unless}
 use Rattle.yaml_read.specs.Fields.{Slots, field_step}
 use Rattle.yaml_read.specs.Places.{Way, place}
 use Rattle.yaml_read.specs.Rows.{Row, row_step, one_more}
-use Rattle.yaml_read.specs.Steps.{◌>>=◌, wrap, finish, enter, follow, with_shape, unless}
 
 -- the second answer is the first, unless that is the end of the events, or want of memory
 pub data Grows {A : Type 0} : Result A Cause → Result A Cause → Type 0 where

@@ -16,6 +16,7 @@ use Rattle.yaml_tree.specs.Tree as tree
 use Rattle.yaml_load.specs.Ends.{is_closing}
 use Rattle.yaml_load.specs.PlainDocEvent.{PlainDocEvent, alias_to, a_scalar, a_void}
 use Rattle.yaml_load.specs.PlainDocEvent.{sequence_begins, sequence_ends, mapping_begins, mapping_ends}
+use Rattle.yaml_scalar.specs.Steps.{◌>>=◌, unless}
 use Rattle.yaml_read.specs.AnyData.{tree_in, trees_in, pairs_in}
 use Rattle.yaml_read.specs.Fields.{Fields, Slots, no_slots, struct_of}
 use Rattle.yaml_read.specs.Handing.{Handing, as_is, as_some, as_newtype, as_ignored, as_bare, as_variant, as_tagged}
@@ -23,7 +24,6 @@ use Rattle.yaml_read.specs.Handing.{as_refused, handed, early}
 use Rattle.yaml_read.specs.NodeTags.{TakenBy, around_value}
 use Rattle.yaml_read.specs.Places.{Way, element_under, places, place}
 use Rattle.yaml_read.specs.Rows.{Row, row_of, row_data}
-use Rattle.yaml_read.specs.Steps.{◌>>=◌, unless}
 use Rattle.yaml_read.specs.TreeReader.{Spot, after, mark_or_first}
 use Rattle.yaml_read.specs.inner.Reader.{Reading, Reader, Events, Source, turn, each_at, place_at, item_at}
 use Rattle.yaml_read.specs.inner.Reader.{entry_at, any_entry_at, skip_to, skip_event, skip_at, row_at}

@@ -3,11 +3,11 @@ use Rattle.std.proofs.Common.{◌≡◌, ℕ, List, Option, Some, None, Bool, tr
 use Rattle.yaml_shape.specs.PlainShape.{PlainShape, any_shape, option_shape, newtype_shape, ignored_shape, struct_shape}
 use Rattle.yaml_shape.specs.PlainShape.{struct_variant_shape, enum_shape, PlainVariant}
 use Rattle.yaml_load.specs.PlainDocEvent.{PlainDocEvent}
+use Rattle.yaml_scalar.specs.Variants.{Variants, variant_named}
 use Rattle.yaml_read.specs.Handing.{Handing, as_is, as_some, as_newtype, as_ignored, as_bare, as_variant, as_tagged}
 use Rattle.yaml_read.specs.Handing.{as_refused}
 use Rattle.yaml_read.specs.Handing.{handed, is_content, is_bare, is_filled_scalar, any_by, enum_by, variant_by}
 use Rattle.yaml_read.specs.NodeTags.{untaken_name}
-use Rattle.yaml_read.specs.Variants.{Variants, variant_named}
 use Rattle.yaml_read.specs.inner.Reader.{fields_in}
 
 -- what is handed on as something is handed on by a shape that has it, from an event that has it

@@ -12,8 +12,8 @@ use Rattle.yaml_read.specs.Handing.{as_is, handed, early}
 use Rattle.yaml_read.specs.NodeTags.{TakenBy}
 use Rattle.yaml_read.specs.Places.{Way, place, placed, places}
 use Rattle.yaml_base.specs.PlainEvent.{PlainScalar}
-use Rattle.yaml_read.specs.ScalarShapes.{scalar_answer, text_of, lent_text}
-use Rattle.yaml_read.specs.Steps.{ending}
+use Rattle.yaml_scalar.specs.ScalarShapes.{scalar_answer, text_of, lent_text}
+use Rattle.yaml_scalar.specs.Steps.{ending}
 use Rattle.yaml_read.specs.TreeReader.{Spot, after, mark_or_first}
 use Rattle.yaml_read.specs.inner.Reader.{Source, is_leaf, text_at, node_at, pursue}
 use Rattle.yaml_read.proofs.reading.Loops.{pursue_fails, pursue_finds}

@@ -6,7 +6,7 @@ use Rattle.yaml_base.specs.declared.error.Cause.{Cause}
 use Rattle.yaml_base.specs.declared.error.Cause.TheVariants.{EndOfStream, RecursionLimitExceeded}
 use Rattle.yaml_shape.specs.PlainData.{PlainData}
 use Rattle.yaml_load.specs.PlainDocEvent.{PlainDocEvent}
-use Rattle.yaml_read.specs.Steps.{◌>>=◌, wrap, enter}
+use Rattle.yaml_scalar.specs.Steps.{◌>>=◌, wrap, enter}
 use Rattle.yaml_read.specs.TreeReader.{Spot, after}
 use Rattle.yaml_read.specs.inner.Reader.{Reading, Events, each_at, pursue}
 

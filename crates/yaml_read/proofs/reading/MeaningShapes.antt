@@ -5,6 +5,9 @@ use Rattle.yaml_shape.specs.PlainData.{PlainData, PlainItems, PlainEntries}
 use Rattle.yaml_shape.specs.PlainShape.{PlainShape, struct_shape, struct_variant_shape, shape_at}
 use Rattle.yaml_load.specs.DocTree.{DocNode, DocNodes, DocPairs, first_event}
 use Rattle.yaml_load.specs.PlainDocEvent.{PlainDocEvent}
+use Rattle.yaml_scalar.proofs.OfShape.{is_of, of_shape, content_has}
+use Rattle.yaml_scalar.proofs.ScalarShapeLaws.{scalar-has, void-has}
+use Rattle.yaml_scalar.proofs.VariantLaws.{variant_has}
 use Rattle.yaml_read.specs.Fields.{Fields, Slots, no_slots, name_in}
 use Rattle.yaml_read.specs.Handing.{Handing}
 use Rattle.yaml_read.specs.Meaning.{Means, means_node, MeansAs, means_some, means_newtype, means_ignored, means_target}
@@ -16,9 +19,6 @@ use Rattle.yaml_read.specs.Meaning.{MeansList, means_seq, means_tuple, means_tup
 use Rattle.yaml_read.specs.Meaning.{MeanEach, means_none, means_more, MeanRow, means_no_elements, means_element}
 use Rattle.yaml_read.specs.Meaning.{MeanPairs, means_no_pairs, means_pair}
 use Rattle.yaml_read.proofs.FieldLaws.{Fit, none_fit, set_fit, struct_has_shape}
-use Rattle.yaml_read.proofs.OfShape.{is_of, of_shape, content_has}
-use Rattle.yaml_read.proofs.ScalarShapeLaws.{scalar-has, void-has}
-use Rattle.yaml_read.proofs.VariantLaws.{variant_has}
 use Rattle.yaml_read.proofs.reading.Handings.{From, from_handing}
 
 module _ (table : List PlainShape) where

@@ -8,10 +8,10 @@ use Rattle.yaml_shape.specs.PlainData.{PlainData, PlainItems, PlainEntries, tupl
 use Rattle.yaml_shape.specs.PlainShape.{PlainShape, any_shape, shape_at, identifier_shape}
 use Rattle.yaml_tree.specs.Mapping.{keys_distinct}
 use Rattle.yaml_load.specs.DocTree.{DocNode, DocNodes, DocPairs, node, pair, first_event}
+use Rattle.yaml_scalar.specs.Steps.{◌>>=◌}
 use Rattle.yaml_read.specs.Fields.{Fields, Slots, find, is_free, no_slots, name_in, struct_of}
 use Rattle.yaml_read.specs.Places.{Way, element_under, value_under, text_place, place}
 use Rattle.yaml_read.specs.Rows.{row_of, row_data}
-use Rattle.yaml_read.specs.Steps.{◌>>=◌}
 use Rattle.yaml_read.specs.TreeReader.{field_key, field_value, any_key_of, fields_by, Spot, after, behind, each_node}
 use Rattle.yaml_read.specs.TreeReader.{each_pair, TreeReader, item_of, key_of, value_of, row_part, row_by}
 use Rattle.yaml_read.proofs.AnyLaws.{pairs_of, first_apart, new_is_key}

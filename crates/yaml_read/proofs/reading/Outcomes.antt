@@ -10,8 +10,8 @@ use Rattle.yaml_base.specs.declared.error.Place.{Place}
 use Rattle.yaml_shape.specs.DataView.{items_of, entries_of}
 use Rattle.yaml_shape.specs.PlainData.{PlainData, PlainItems, PlainEntries, no_items, item, no_entries, entry}
 use Rattle.yaml_shape.specs.PlainShape.{PlainShape}
+use Rattle.yaml_scalar.specs.Steps.{◌>>=◌, wrap, enter, follow, finish, with_shape}
 use Rattle.yaml_read.specs.Places.{Way, placed, place}
-use Rattle.yaml_read.specs.Steps.{◌>>=◌, wrap, enter, follow, finish, with_shape}
 use Rattle.yaml_read.specs.TreeReader.{Answer}
 
 -- It is the data, and a limit is passed where one has to be.

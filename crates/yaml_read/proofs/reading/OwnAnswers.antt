@@ -22,24 +22,24 @@ use Rattle.yaml_shape.specs.PlainShape as shape
 use Rattle.yaml_tree.specs.Integer.{is_number}
 use Rattle.yaml_tree.specs.Mapping.{has_key}
 use Rattle.yaml_load.specs.PlainDocEvent.{PlainDocEvent}
+use Rattle.yaml_scalar.specs.CoreTags.{int_tag}
+use Rattle.yaml_scalar.specs.Presence.{is_absent, is_empty_plain, null_fault}
+use Rattle.yaml_scalar.specs.ScalarAny.{any_integer, any_found, any_in, any_scalar}
+use Rattle.yaml_scalar.specs.ScalarFound.{wrong_type, wrong_value, found_kind, found_integer, fault_in}
+use Rattle.yaml_scalar.specs.ScalarFound.{scalar_fault}
+use Rattle.yaml_scalar.specs.ScalarShapes.{signed_between, unsigned_up_to, integer_answer, one_character, no_elements}
+use Rattle.yaml_scalar.specs.ScalarShapes.{scalar_answer, void_answer, only_one, text_of, lent_text}
+use Rattle.yaml_scalar.specs.ScalarShapes.{signed_text, unsigned_text, plain_text}
+use Rattle.yaml_scalar.specs.ScalarSorts.{PlainSort, sort_of}
+use Rattle.yaml_scalar.specs.ScalarSorts as sort
+use Rattle.yaml_scalar.specs.Variants.{Variants, variant_named, bare_variant, named_variant}
 use Rattle.yaml_read.specs.AnyData.{tree_in, pairs_in, new_key}
-use Rattle.yaml_read.specs.CoreTags.{int_tag}
 use Rattle.yaml_read.specs.Kinds.{is_option}
 use Rattle.yaml_read.specs.Fields.{Fields, Slots, find, known_field, field_named, field_step, field_data, all_fields}
 use Rattle.yaml_read.specs.Fields.{struct_of, is_free}
 use Rattle.yaml_read.specs.Handing.{refusal}
 use Rattle.yaml_read.specs.NodeTags.{TakenBy}
-use Rattle.yaml_read.specs.Presence.{is_absent, is_empty_plain, null_fault}
 use Rattle.yaml_read.specs.Rows.{Row, row_step, one_more, row_end, row_data}
-use Rattle.yaml_read.specs.ScalarAny.{any_integer, any_found, any_in, any_scalar}
-use Rattle.yaml_read.specs.ScalarFound.{wrong_type, wrong_value, found_kind, found_integer, fault_in}
-use Rattle.yaml_read.specs.ScalarFound.{scalar_fault}
-use Rattle.yaml_read.specs.ScalarShapes.{signed_between, unsigned_up_to, integer_answer, one_character, no_elements}
-use Rattle.yaml_read.specs.ScalarShapes.{scalar_answer, void_answer, only_one, text_of, lent_text}
-use Rattle.yaml_read.specs.ScalarShapes.{signed_text, unsigned_text, plain_text}
-use Rattle.yaml_read.specs.ScalarSorts.{PlainSort, sort_of}
-use Rattle.yaml_read.specs.ScalarSorts as sort
-use Rattle.yaml_read.specs.Variants.{Variants, variant_named, bare_variant, named_variant}
 use Rattle.yaml_read.proofs.reading.OwnFaults.{IsOwn, OwnIf, own_value, own_fault, own_bind, own_wrap, own_option}
 use Rattle.yaml_read.proofs.reading.OwnFaults.{own_if}
 

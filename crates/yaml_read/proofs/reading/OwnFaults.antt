@@ -11,10 +11,10 @@ use Rattle.yaml_base.specs.declared.error.Cause.TheVariants as cause
 use Rattle.yaml_base.specs.declared.error.Place.{Place}
 use Rattle.yaml_shape.specs.PlainShape.{PlainShape}
 use Rattle.yaml_shape.specs.PlainShape as shape
+use Rattle.yaml_scalar.specs.Steps.{◌>>=◌, ending, wrap, finish, enter, follow, with_shape, unless}
 use Rattle.yaml_read.specs.Handing.{early}
 use Rattle.yaml_read.specs.Places.{Way, place, placed}
 use Rattle.yaml_read.specs.ReadingFaults.{IsReadingFault}
-use Rattle.yaml_read.specs.Steps.{◌>>=◌, ending, wrap, finish, enter, follow, with_shape, unless}
 
 -- want of memory is let through
 abbrev pub IsLet : Bool → Type 0

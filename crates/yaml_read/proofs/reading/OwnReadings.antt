@@ -11,14 +11,14 @@ use Rattle.yaml_shape.specs.PlainShape as shape
 use Rattle.yaml_load.specs.Ends.{is_closing}
 use Rattle.yaml_load.specs.PlainDocEvent.{PlainDocEvent, alias_to, a_scalar, a_void}
 use Rattle.yaml_load.specs.PlainDocEvent.{sequence_begins, sequence_ends, mapping_begins, mapping_ends}
+use Rattle.yaml_scalar.specs.ScalarShapes.{scalar_answer, void_answer}
+use Rattle.yaml_scalar.specs.Steps.{◌>>=◌}
 use Rattle.yaml_read.specs.Fields.{Fields, Slots, no_slots}
 use Rattle.yaml_read.specs.Handing.{Handing, as_is, as_some, as_newtype, as_ignored, as_bare, as_variant, as_tagged}
 use Rattle.yaml_read.specs.Handing.{as_refused, handed}
 use Rattle.yaml_read.specs.NodeTags.{TakenBy, around_value}
 use Rattle.yaml_read.specs.Places.{Way, places}
 use Rattle.yaml_read.specs.Rows.{Row, row_of}
-use Rattle.yaml_read.specs.ScalarShapes.{scalar_answer, void_answer}
-use Rattle.yaml_read.specs.Steps.{◌>>=◌}
 use Rattle.yaml_read.specs.TreeReader.{Spot, after}
 use Rattle.yaml_read.specs.inner.Reader.{Reading, Reader, Events, Source, turn, each_at, pursue, place_at, item_at}
 use Rattle.yaml_read.specs.inner.Reader.{entry_at}

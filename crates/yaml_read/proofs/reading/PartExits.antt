@@ -7,9 +7,9 @@ use Rattle.std.proofs.lemmas.Option.{get_or_from_slice_get, slice_get_within}
 use Rattle.yaml_base.specs.declared.error.Cause.{Cause}
 use Rattle.yaml_shape.specs.PlainData.{PlainData}
 use Rattle.yaml_shape.specs.PlainShape.{PlainShape}
+use Rattle.yaml_scalar.specs.Steps.{wrap}
 use Rattle.yaml_read.specs.Places.{Way}
 use Rattle.yaml_read.specs.Rows.{row_step}
-use Rattle.yaml_read.specs.Steps.{wrap}
 use Rattle.yaml_read.specs.TreeReader.{Spot}
 use Rattle.yaml_read.specs.inner.Reader.{Source, Reader, value_way, entry_at}
 

@@ -15,13 +15,13 @@ use Rattle.yaml_load.specs.DocTree.{DocNode, events_of, node_of}
 use Rattle.yaml_load.specs.Ends.{ends_of}
 use Rattle.yaml_load.specs.PlainDocument.{PlainDocument}
 use Rattle.yaml_load.specs.declared.doc_event.DocEvent.{DocEvent}
+use Rattle.yaml_scalar.specs.Steps.{◌>>=◌}
 use Rattle.yaml_read.specs.Handing.{depth, reach, nesting_depth, untaken_reach}
 use Rattle.yaml_read.specs.Meaning.{Means}
 use Rattle.yaml_read.specs.NodeTags.{TakenBy}
 use Rattle.yaml_read.specs.NodeReads.{ReadsNode, NodeGives, taker, node_answer}
 use Rattle.yaml_read.specs.Places.{Way}
 use Rattle.yaml_read.specs.Reads.{IsTreeOf}
-use Rattle.yaml_read.specs.Steps.{◌>>=◌}
 use Rattle.yaml_read.specs.TreeReader.{Spot, Answer, marks_of, read_tree}
 use Rattle.yaml_read.specs.declared.node_place.NodePlace.{NodePlace}
 use Rattle.yaml_read.specs.inner.Reader.{Reading, node_at}

@@ -11,6 +11,9 @@ use Rattle.yaml_tree.specs.Mapping.{keys_distinct}
 use Rattle.yaml_tree.specs.Tree.{tagged}
 use Rattle.yaml_tree.specs.Tree as tree_of
 use Rattle.yaml_load.specs.DocTree.{DocNode, DocPairs, nothing, reference, word, list, mapping, node_of, first_event}
+use Rattle.yaml_scalar.specs.ScalarFound.{mapping_fault}
+use Rattle.yaml_scalar.specs.ScalarShapes.{scalar_answer, void_answer}
+use Rattle.yaml_scalar.specs.Steps.{unless}
 use Rattle.yaml_read.specs.AnyData.{tree_in}
 use Rattle.yaml_read.specs.Fields.{no_slots, struct_of}
 use Rattle.yaml_read.specs.Handing.{Handing, as_is, as_some, as_newtype, as_ignored, as_bare, as_variant, as_tagged}
@@ -20,9 +23,6 @@ use Rattle.yaml_read.specs.Meaning.{Means, means_node, MeansAs, means_some, mean
 use Rattle.yaml_read.specs.Meaning.{means_void, means_scalar, means_mapping, means_bare, means_struct, means_variant}
 use Rattle.yaml_read.specs.Meaning.{means_tagged, means_struct_variant, means_any_mapping, means_map}
 use Rattle.yaml_read.specs.Places.{Way, places}
-use Rattle.yaml_read.specs.ScalarFound.{mapping_fault}
-use Rattle.yaml_read.specs.ScalarShapes.{scalar_answer, void_answer}
-use Rattle.yaml_read.specs.Steps.{unless}
 use Rattle.yaml_read.specs.TreeReader.{any_key_of, Spot, after, each_pair, TreeReader, key_of, value_of, mapping_of}
 use Rattle.yaml_read.specs.TreeReader.{target_of, node_by, handed_by, read_tree}
 use Rattle.yaml_read.proofs.AnyLaws.{pairs_of}

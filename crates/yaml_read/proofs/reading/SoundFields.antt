@@ -6,12 +6,12 @@ use Rattle.yaml_base.specs.declared.error.Place.{Place}
 use Rattle.yaml_shape.specs.PlainData.{PlainData}
 use Rattle.yaml_shape.specs.PlainShape.{PlainShape, identifier_shape, shape_at}
 use Rattle.yaml_load.specs.DocTree.{DocNode, DocPairs, mapping, no_pairs, pair, first_event}
+use Rattle.yaml_scalar.specs.Steps.{◌>>=◌, with_shape}
 use Rattle.yaml_read.specs.Fields.{Fields, Slots, no_slots, name_in, field_named, struct_of}
 use Rattle.yaml_read.specs.Handing.{as_is}
 use Rattle.yaml_read.specs.Meaning.{MeansAs, means_mapping, MeanFields, means_no_fields, means_field, means_unknown}
 use Rattle.yaml_read.specs.Meaning.{MeansPairs}
 use Rattle.yaml_read.specs.Places.{Way, value_under, text_place}
-use Rattle.yaml_read.specs.Steps.{◌>>=◌, with_shape}
 use Rattle.yaml_read.specs.TreeReader.{field_key, field_value, fields_by, Spot, behind, each_pair, TreeReader}
 use Rattle.yaml_read.proofs.FieldLaws.{named_found, named_unknown}
 use Rattle.yaml_read.proofs.reading.Steps.{IfData, data_ok, data_then, data_wrap, data_enter, data_with, data_finish}

@@ -13,14 +13,14 @@ use Rattle.yaml_shape.specs.PlainShape.{PlainShape, seq_shape, tuple_shape, tupl
 use Rattle.yaml_shape.specs.PlainShape.{tuple_variant_shape, shape_at}
 use Rattle.yaml_tree.specs.Tree.{sequence}
 use Rattle.yaml_load.specs.DocTree.{DocNode, DocNodes, list, no_nodes, node}
+use Rattle.yaml_scalar.specs.ScalarFound.{sequence_fault}
+use Rattle.yaml_scalar.specs.Steps.{with_shape}
 use Rattle.yaml_read.specs.AnyData.{trees_in}
 use Rattle.yaml_read.specs.Handing.{as_is}
 use Rattle.yaml_read.specs.Meaning.{MeansAs, means_list, means_tuple_variant, means_any_list, MeansList, means_seq}
 use Rattle.yaml_read.specs.Meaning.{means_tuple, means_tuple_struct, MeanRow, means_no_elements, means_element}
 use Rattle.yaml_read.specs.Places.{Way, element_under}
 use Rattle.yaml_read.specs.Rows.{row_of, row_end, row_data}
-use Rattle.yaml_read.specs.ScalarFound.{sequence_fault}
-use Rattle.yaml_read.specs.Steps.{with_shape}
 use Rattle.yaml_read.specs.TreeReader.{Spot, behind, each_node, TreeReader, item_of, row_part, row_by, sequence_of}
 use Rattle.yaml_read.proofs.reading.Steps.{IfData, data_ok, data_err, data_then, data_wrap, data_enter, data_with}
 use Rattle.yaml_read.proofs.reading.Steps.{data_finish}

@@ -8,10 +8,10 @@ use Rattle.yaml_shape.specs.PlainData.{PlainData}
 use Rattle.yaml_shape.specs.PlainShape.{PlainShape}
 use Rattle.yaml_shape.specs.PlainShape as shape
 use Rattle.yaml_load.specs.PlainDocEvent.{PlainDocEvent, alias_to}
+use Rattle.yaml_scalar.specs.Steps.{◌>>=◌, unless}
 use Rattle.yaml_read.specs.Handing.{early}
 use Rattle.yaml_read.specs.NodeTags.{TakenBy}
 use Rattle.yaml_read.specs.Places.{Way, place}
-use Rattle.yaml_read.specs.Steps.{◌>>=◌, unless}
 use Rattle.yaml_read.specs.TreeReader.{Spot}
 use Rattle.yaml_read.specs.inner.Reader.{Reading, Source, pursue, place_at}
 use Rattle.yaml_read.specs.inner.Reader.{text_at}

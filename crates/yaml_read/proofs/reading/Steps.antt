@@ -3,7 +3,7 @@ use Rattle.std.proofs.Common.{◌≡◌, ℕ, zero, suc, Some, None, Option, Res
 use Rattle.yaml_base.specs.Position.{Position}
 use Rattle.yaml_base.specs.declared.error.Cause.{Cause}
 use Rattle.yaml_shape.specs.PlainShape.{PlainShape}
-use Rattle.yaml_read.specs.Steps.{◌>>=◌, ending, wrap, enter, follow, finish, with_shape, unless}
+use Rattle.yaml_scalar.specs.Steps.{◌>>=◌, ending, wrap, enter, follow, finish, with_shape, unless}
 
 -- this holds of the answer, if it is one
 abbrev pub IfData : {A : Type 0} → (A → Type 0) → Result A Cause → Type 0

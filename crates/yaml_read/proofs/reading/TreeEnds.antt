@@ -7,9 +7,9 @@ use Rattle.yaml_base.specs.declared.error.Cause.{Cause}
 use Rattle.yaml_shape.specs.PlainShape.{PlainShape}
 use Rattle.yaml_shape.specs.PlainShape as shape
 use Rattle.yaml_load.specs.DocTree.{DocNode, DocNodes, DocPairs, no_nodes, node, no_pairs, pair}
+use Rattle.yaml_scalar.specs.Steps.{◌>>=◌, ending, wrap, finish, enter, follow, with_shape, unless}
 use Rattle.yaml_read.specs.Handing.{early}
 use Rattle.yaml_read.specs.Places.{Way, placed, place}
-use Rattle.yaml_read.specs.Steps.{◌>>=◌, ending, wrap, finish, enter, follow, with_shape, unless}
 use Rattle.yaml_read.specs.TreeReader.{Spot, Answer, behind, each_node, each_pair}
 use Rattle.yaml_read.proofs.reading.OwnFaults.{OwnIf, own_value, own_fault, IsOwn, own_placed}
 

@@ -17,6 +17,8 @@ use Rattle.yaml_tree.specs.Tree.{sequence, tagged}
 use Rattle.yaml_tree.specs.Tree as tree
 use Rattle.yaml_load.specs.DocTree.{DocNode, DocNodes, DocPairs, nothing, reference, word, list, mapping, node_of}
 use Rattle.yaml_load.specs.DocTree.{first_event}
+use Rattle.yaml_scalar.specs.ScalarShapes.{scalar_answer, void_answer}
+use Rattle.yaml_scalar.proofs.VariantCode.{content_all}
 use Rattle.yaml_read.specs.AnyData.{tree_in, trees_in, pairs_in}
 use Rattle.yaml_read.specs.Fields.{Fields, Slots, no_slots, name_in, field_named, field_step, struct_of}
 use Rattle.yaml_read.specs.Handing.{Handing, as_is, as_some, as_newtype, as_ignored, as_bare, as_variant, as_tagged}
@@ -24,12 +26,10 @@ use Rattle.yaml_read.specs.Handing.{as_refused, handed, depth, reach, untaken_re
 use Rattle.yaml_read.specs.NodeTags.{TakenBy, around_value}
 use Rattle.yaml_read.specs.Places.{Way, element_under, value_under, places}
 use Rattle.yaml_read.specs.Rows.{Row, row_of, row_step, row_data}
-use Rattle.yaml_read.specs.ScalarShapes.{scalar_answer, void_answer}
 use Rattle.yaml_read.specs.TreeReader.{Spot, Answer, TreeReader, after, each_node, each_pair, item_of, key_of, value_of}
 use Rattle.yaml_read.specs.TreeReader.{any_key_of, field_key, field_value, target_of, row_part, row_by, fields_by}
 use Rattle.yaml_read.specs.TreeReader.{sequence_of, mapping_of, node_by, handed_by, read_tree}
 use Rattle.yaml_read.proofs.FieldLaws.{named_found}
-use Rattle.yaml_read.proofs.VariantCode.{content_all}
 use Rattle.yaml_read.proofs.reading.Handings.{From, handed_from}
 use Rattle.yaml_read.proofs.reading.OwnFaults.{own_value, own_bind}
 use Rattle.yaml_read.proofs.reading.OwnAnswers.{own_scalar, own_void, own_struct, own_named, own_new_key, own_row}

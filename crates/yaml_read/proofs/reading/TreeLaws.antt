@@ -9,14 +9,14 @@ use Rattle.yaml_tree.specs.Tree.{tagged}
 use Rattle.yaml_load.specs.DocTree.{DocNode, nothing, reference, word, list, mapping, events_of, events_of_nodes}
 use Rattle.yaml_load.specs.DocTree.{events_of_pairs, node_of, first_event}
 use Rattle.yaml_load.specs.PlainDocEvent.{PlainDocEvent, alias_to, sequence_ends, mapping_ends}
+use Rattle.yaml_scalar.specs.ScalarShapes.{scalar_answer, void_answer}
+use Rattle.yaml_scalar.specs.Steps.{◌>>=◌, ending}
 use Rattle.yaml_read.specs.AnyData.{tree_in}
 use Rattle.yaml_read.specs.Fields.{Fields, no_slots, struct_of}
 use Rattle.yaml_read.specs.Handing.{Handing, as_is, as_some, as_newtype, as_ignored, as_bare, as_variant, as_tagged}
 use Rattle.yaml_read.specs.Handing.{as_refused, is_bare, handed, early}
 use Rattle.yaml_read.specs.NodeTags.{TakenBy, around_value}
 use Rattle.yaml_read.specs.Places.{Way, places, place}
-use Rattle.yaml_read.specs.ScalarShapes.{scalar_answer, void_answer}
-use Rattle.yaml_read.specs.Steps.{◌>>=◌, ending}
 use Rattle.yaml_read.specs.TreeReader.{Spot, after, TreeReader, Answer, sequence_of, mapping_of, target_of, node_by}
 use Rattle.yaml_read.specs.TreeReader.{handed_by, read_tree, mark_or_first}
 use Rattle.yaml_read.specs.inner.Reader.{Source, Reading, Reader, sequence_at, mapping_at, event_at, handed_at}

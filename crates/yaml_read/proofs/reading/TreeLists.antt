@@ -13,11 +13,11 @@ use Rattle.yaml_tree.specs.Tree.{sequence}
 use Rattle.yaml_load.specs.DocTree.{DocNode, DocNodes, nothing, reference, word, list, mapping, events_of}
 use Rattle.yaml_load.specs.DocTree.{events_of_nodes, events_of_pairs}
 use Rattle.yaml_load.specs.PlainDocEvent.{PlainDocEvent, sequence_ends, mapping_ends}
+use Rattle.yaml_scalar.specs.Steps.{with_shape}
 use Rattle.yaml_read.specs.AnyData.{trees_in}
 use Rattle.yaml_read.specs.NodeTags.{TakenBy}
 use Rattle.yaml_read.specs.Places.{Way, element_under}
 use Rattle.yaml_read.specs.Rows.{row_of, row_step, row_data}
-use Rattle.yaml_read.specs.Steps.{with_shape}
 use Rattle.yaml_read.specs.TreeReader.{Spot, TreeReader, item_of, row_part, row_by, sequence_of}
 use Rattle.yaml_read.specs.inner.Reader.{Source, Reader, item_at, row_at, rows_at, skip_at, sequence_at}
 use Rattle.yaml_read.proofs.reading.Shown.{Shows, begins, opens, shows_within}

@@ -10,10 +10,10 @@ use Rattle.yaml_shape.specs.PlainShape.{struct_variant_shape, shape_at}
 use Rattle.yaml_tree.specs.Tree as tree_of
 use Rattle.yaml_load.specs.DocTree.{DocNode, DocPairs, events_of, events_of_pairs, first_event}
 use Rattle.yaml_load.specs.PlainDocEvent.{PlainDocEvent, mapping_ends}
+use Rattle.yaml_scalar.specs.Steps.{◌>>=◌, wrap, finish}
 use Rattle.yaml_read.specs.AnyData.{pairs_in, new_key}
 use Rattle.yaml_read.specs.Fields.{Fields, Slots, no_slots, name_in, field_named, struct_of}
 use Rattle.yaml_read.specs.Places.{Way, value_under, text_place}
-use Rattle.yaml_read.specs.Steps.{◌>>=◌, wrap, finish}
 use Rattle.yaml_read.specs.TreeReader.{Spot, TreeReader, key_of, value_of, fields_by, mapping_of, field_key}
 use Rattle.yaml_read.specs.TreeReader.{field_value, any_key_of, mark_or_first}
 use Rattle.yaml_read.specs.inner.Reader.{field_key_at, field_value_at, any_key_at, text_at, Source, Reader, fields_at}

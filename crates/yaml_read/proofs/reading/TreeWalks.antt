@@ -6,7 +6,7 @@ use Rattle.yaml_base.specs.declared.error.Cause.{Cause}
 use Rattle.yaml_load.specs.PlainDocEvent.{PlainDocEvent, sequence_ends, mapping_ends}
 use Rattle.yaml_load.specs.DocTree.{DocNode, DocNodes, DocPairs, no_nodes, node, no_pairs, pair, events_of}
 use Rattle.yaml_load.specs.DocTree.{events_of_nodes, events_of_pairs}
-use Rattle.yaml_read.specs.Steps.{◌>>=◌, ending, wrap, enter, follow, finish, with_shape, unless}
+use Rattle.yaml_scalar.specs.Steps.{◌>>=◌, ending, wrap, enter, follow, finish, with_shape, unless}
 use Rattle.yaml_read.specs.TreeReader.{Spot, Answer, each_node, each_pair}
 use Rattle.yaml_read.specs.inner.Reader.{Reading, Events, is_sequence_end, is_mapping_end, each_at}
 use Rattle.yaml_read.proofs.reading.Loops.{each_end, each_going}

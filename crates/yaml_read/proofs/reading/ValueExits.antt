@@ -12,14 +12,14 @@ use Rattle.yaml_shape.specs.PlainShape.{tuple_shape, tuple_struct_shape, tuple_v
 use Rattle.yaml_tree.specs.Tree.{sequence, tagged}
 use Rattle.yaml_tree.specs.Tree as tree
 use Rattle.yaml_load.specs.PlainDocEvent.{PlainDocEvent, sequence_begins, mapping_begins}
+use Rattle.yaml_scalar.specs.Steps.{wrap, finish}
+use Rattle.yaml_scalar.specs.Variants.{Variants, variant_named}
 use Rattle.yaml_read.specs.AnyData.{tree_in, trees_in, pairs_in, new_key}
 use Rattle.yaml_read.specs.Handing.{as_is, as_variant, as_tagged, handed, is_filled_scalar}
 use Rattle.yaml_read.specs.NodeTags.{TakenBy, around_value, untaken_name}
 use Rattle.yaml_read.specs.Places.{Way}
 use Rattle.yaml_read.specs.Rows.{row_of, row_data}
-use Rattle.yaml_read.specs.Steps.{wrap, finish}
 use Rattle.yaml_read.specs.TreeReader.{Spot, after}
-use Rattle.yaml_read.specs.Variants.{Variants, variant_named}
 use Rattle.yaml_read.specs.inner.Reader.{Source, Reader, item_at, any_entry_at, row_at, rows_at, rows_in}
 use Rattle.yaml_read.specs.inner.Reader.{sequence_at, value_way}
 use Rattle.yaml_read.specs.inner.Reader.{sequence_parts, mapping_parts, shape_step}

@@ -12,12 +12,12 @@ use Rattle.yaml_shape.specs.Walks.{rank}
 use Rattle.yaml_load.specs.DocTree.{DocNode, events_of}
 use Rattle.yaml_load.specs.PlainDocument.{PlainDocument}
 use Rattle.yaml_load.specs.StreamLaw.{IsEnding}
+use Rattle.yaml_scalar.specs.Steps.{◌>>=◌}
 use Rattle.yaml_read.specs.Handing.{reach}
 use Rattle.yaml_read.specs.Meaning.{Means}
 use Rattle.yaml_read.specs.Places.{root_way}
 use Rattle.yaml_read.specs.ReadingFaults.{IsNodeFault, IsReadingFault}
 use Rattle.yaml_read.specs.Reads.{IsTreeOf, Reads, IsRefusal, DocumentGives, front_answer, cut_fault}
-use Rattle.yaml_read.specs.Steps.{◌>>=◌}
 use Rattle.yaml_read.specs.TreeReader.{PlainLimits, Spot, Answer, marks_of, whole_fuel, whole_tree, answer_of}
 use Rattle.yaml_read.specs.TreeReader.{answer_within}
 use Rattle.yaml_read.specs.inner.Reader.{Reading}

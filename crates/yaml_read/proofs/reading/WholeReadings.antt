@@ -12,9 +12,9 @@ use Rattle.yaml_load.specs.Ends.{ends_of}
 use Rattle.yaml_load.specs.PlainDocEvent.{PlainDocEvent}
 use Rattle.yaml_load.specs.PlainDocument.{PlainDocument}
 use Rattle.yaml_load.specs.declared.doc_event.DocEvent.{DocEvent}
+use Rattle.yaml_scalar.specs.Steps.{◌>>=◌}
 use Rattle.yaml_read.specs.Handing.{depth, reach}
 use Rattle.yaml_read.specs.Places.{root_way}
-use Rattle.yaml_read.specs.Steps.{◌>>=◌}
 use Rattle.yaml_read.specs.TreeReader.{PlainLimits, Spot, Answer, whole_fuel}
 use Rattle.yaml_read.specs.inner.Reader.{Source, Reading, Events, node_at}
 use Rattle.yaml_read.proofs.reading.Shown.{Shows}

@@ -10,10 +10,10 @@ use Rattle.yaml_shape.specs.PlainShape.{PlainShape, PlainVariant, shape_at, cont
 use Rattle.yaml_shape.specs.PlainShape as shape
 use Rattle.yaml_shape.specs.Validity.{AllNameWithin, NamesWithin, named_in, numbers_of}
 use Rattle.yaml_shape.specs.Walks.{rank}
+use Rattle.yaml_scalar.specs.Steps.{◌>>=◌}
 use Rattle.yaml_read.specs.Fields.{Fields, find}
 use Rattle.yaml_read.specs.Handing.{reach}
 use Rattle.yaml_read.specs.Places.{Way}
-use Rattle.yaml_read.specs.Steps.{◌>>=◌}
 use Rattle.yaml_read.proofs.reading.Reaches.{low}
 
 -- what all numbers of a struct's fields meet, that of a field that is found meets

@@ -17,6 +17,9 @@ use Rattle.yaml_tree.specs.Tree as tree
 use Rattle.yaml_load.specs.Ends.{is_closing}
 use Rattle.yaml_load.specs.PlainDocEvent.{PlainDocEvent, alias_to, a_scalar, a_void}
 use Rattle.yaml_load.specs.PlainDocEvent.{sequence_begins, sequence_ends, mapping_begins, mapping_ends}
+use Rattle.yaml_scalar.specs.ScalarFound.{sequence_fault, mapping_fault}
+use Rattle.yaml_scalar.specs.ScalarShapes.{scalar_answer, void_answer}
+use Rattle.yaml_scalar.specs.Steps.{◌>>=◌, ending, wrap, enter, follow, finish, with_shape, unless}
 use Rattle.yaml_read.specs.AnyData.{tree_in, trees_in, pairs_in, new_key}
 use Rattle.yaml_read.specs.Fields.{Fields, Slots, no_slots, name_in, field_named, field_step, struct_of}
 use Rattle.yaml_read.specs.Handing.{Handing, as_is, as_some, as_newtype, as_ignored, as_bare, as_variant, as_tagged}
@@ -25,9 +28,6 @@ use Rattle.yaml_read.specs.Handing.{handed, early, refusal}
 use Rattle.yaml_read.specs.NodeTags.{TakenBy, around_value}
 use Rattle.yaml_read.specs.Places.{Way, element_under, value_under, places, place, text_place}
 use Rattle.yaml_read.specs.Rows.{Row, row_of, one_more, row_data}
-use Rattle.yaml_read.specs.ScalarFound.{sequence_fault, mapping_fault}
-use Rattle.yaml_read.specs.ScalarShapes.{scalar_answer, void_answer}
-use Rattle.yaml_read.specs.Steps.{◌>>=◌, ending, wrap, enter, follow, finish, with_shape, unless}
 use Rattle.yaml_read.specs.TreeReader.{Spot, after, mark_or_first}
 pub use Rattle.yaml_read.specs.inner.Takes.{takes_sequence, takes_mapping, takes, is_leaf, other_answer, fields_in}
 pub use Rattle.yaml_read.specs.inner.Takes.{rows_in}

@@ -9,9 +9,9 @@ use Rattle.yaml_shape.specs.PlainShape.{unit_shape, unit_struct_shape, seq_shape
 use Rattle.yaml_shape.specs.PlainShape.{map_shape}
 use Rattle.yaml_shape.specs.PlainShape.{struct_shape, any_shape, tuple_variant_shape, struct_variant_shape}
 use Rattle.yaml_load.specs.PlainDocEvent.{PlainDocEvent, a_scalar, sequence_begins, mapping_begins}
+use Rattle.yaml_scalar.specs.ScalarFound.{sequence_fault, mapping_fault}
+use Rattle.yaml_scalar.specs.ScalarShapes.{scalar_answer}
 use Rattle.yaml_read.specs.Fields.{Fields}
-use Rattle.yaml_read.specs.ScalarFound.{sequence_fault, mapping_fault}
-use Rattle.yaml_read.specs.ScalarShapes.{scalar_answer}
 
 -- the shape reads sequences as its own, and mappings
 abbrev pub takes_sequence : PlainShape → Bool

@@ -8,9 +8,6 @@ use Rattle.yaml_shape.specs.DataView.{data_of}
 use Rattle.yaml_shape.specs.Validity.{numbers_of}
 use Rattle.yaml_shape.specs.declared.data.Data.{Data}
 use Rattle.yaml_shape.specs.declared.shape.ShapeId.{ShapeId}
-use Rattle.yaml_shape.specs.PlainShape.{PlainVariant}
-use Rattle.yaml_shape.specs.ShapeView.{content_of}
-use Rattle.yaml_shape.specs.declared.shape.VariantShape.{VariantShape}
 use Rattle.yaml_load.specs.DocEventView.{marked_events_of}
 use Rattle.yaml_load.specs.declared.doc_event.DocEvent.{DocEvent}
 use Rattle.yaml_read.specs.Fields.{Fields, Slots}
@@ -76,10 +73,6 @@ slots_of = map (option_map data_of)
 -- the place of a field, and the number of its shape
 abbrev pub field_view : Option (ℕ × ShapeId) → Option (ℕ × ℕ)
 field_view = option_map (λ f. (f.0, f.1.0))
-
--- the place of a variant, and what it holds
-abbrev pub variant_view : Option (ℕ × Bor VariantShape) → Option (ℕ × PlainVariant)
-variant_view = option_map (λ v. (v.0, content_of v.1.now))
 
 -- the field is in its place among these
 abbrev pub IsAmong : Fields → ℕ × ShapeId → Type 0

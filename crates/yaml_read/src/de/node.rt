@@ -34,14 +34,14 @@ ghost use Rattle.yaml_read.specs.inner.Reader.{event_at, node_step, takes, is_le
 ghost use Rattle.yaml_read.specs.inner.Walks.{around_of, source_of, spot_of, reader_of, MovesOn, Costs};
 
 use crate::de::node::source::Source;
-use crate::de::read_refusal::{Refusal, Result, ended, refuse};
-use crate::de::scalar::mismatch::{found_mapping, found_sequence};
-use crate::de::scalar::{read_scalar, read_void};
 use crate::de::taken_tag::{TakenBy, is_taken};
 use crate::walk::Walk;
 use std::alloc::Global;
 use yaml_base::{Cause, Error, Mark, Path};
 use yaml_load::DocEvent;
+use yaml_scalar::{
+    Refusal, Result, ended, found_mapping, found_sequence, read_scalar, read_void, refuse,
+};
 use yaml_shape::{Data, Shape};
 
 /// The refusal of a collection with this mark that is nested too deep, or want of memory.

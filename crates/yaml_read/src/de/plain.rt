@@ -12,23 +12,22 @@ ghost use Rattle.yaml_shape.specs.ShapeView.{shape_of};
 ghost use Rattle.yaml_shape.specs.Validity.{named};
 ghost use Rattle.yaml_load.specs.DocEventView.{doc_event_of};
 ghost use Rattle.yaml_load.specs.PlainDocEvent.{a_scalar};
+ghost use Rattle.yaml_scalar.specs.Presence.{is_absent};
+ghost use Rattle.yaml_scalar.specs.ScalarShapes.{scalar_answer, takes_no_memory};
 ghost use Rattle.yaml_read.specs.FreeReads.{IsFreeScalar};
-ghost use Rattle.yaml_read.specs.Presence.{is_absent};
 ghost use Rattle.yaml_read.specs.Reads.{DocumentGives};
-ghost use Rattle.yaml_read.specs.ScalarShapes.{scalar_answer, takes_no_memory};
 ghost use Rattle.yaml_read.specs.TreeReader.{default_limits};
 ghost use Rattle.yaml_read.specs.inner.Answered.{IsAnswered};
 ghost use Rattle.yaml_read.specs.inner.Reader.{is_leaf};
 
 use crate::cursor::Cursor;
 use crate::de::node::is_leaf;
-use crate::de::scalar::presence::is_absent;
-use crate::de::scalar::read_scalar;
 use crate::document::Document;
 use crate::limits::Limits;
 use std::alloc::Global;
 use yaml_base::{Mark, Result};
 use yaml_load::DocEvent;
+use yaml_scalar::{is_absent, read_scalar};
 use yaml_shape::{Data, Schema, Shape, ShapeId};
 
 impl<'de> Document<'de> {

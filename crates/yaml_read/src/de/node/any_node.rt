@@ -8,10 +8,10 @@ ghost use Rattle.yaml_shape.specs.PlainShape.{any_shape};
 ghost use Rattle.yaml_shape.specs.ShapeView.{shape_of};
 ghost use Rattle.yaml_tree.specs.Valid.{pairs_of};
 ghost use Rattle.yaml_load.specs.Ends.{GoForward};
+ghost use Rattle.yaml_scalar.specs.Steps.{wrap};
 ghost use Rattle.yaml_read.specs.AnyData.{pairs_in};
 ghost use Rattle.yaml_read.specs.Handing.{depth, parts_depth};
 ghost use Rattle.yaml_read.specs.Places.{way_of};
-ghost use Rattle.yaml_read.specs.Steps.{wrap};
 ghost use Rattle.yaml_read.specs.inner.Reader.{shape_step, any_entry_at, mapping_parts};
 ghost use Rattle.yaml_read.specs.inner.Walks.{around_of, source_of, spot_of, reader_of, seen, MovesOn, Costs};
 
@@ -21,11 +21,11 @@ use crate::de::node::any_parts::{
 use crate::de::node::fault_place::value_path;
 use crate::de::node::source::Source;
 use crate::de::node::too_deep;
-use crate::de::read_refusal::{Result, ended};
 use crate::de::taken_tag::{TakenBy, is_taken, untaken_name};
 use crate::walk::Walk;
 use yaml_base::Path;
 use yaml_load::DocEvent;
+use yaml_scalar::{Result, ended};
 use yaml_shape::{Data, Shape};
 use yaml_tree::{Mapping, Value};
 

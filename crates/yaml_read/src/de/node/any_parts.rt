@@ -11,10 +11,9 @@ ghost use Rattle.yaml_tree.specs.Valid.{pairs_of};
 ghost use Rattle.yaml_tree.specs.View.{tree_of, trees_of};
 ghost use Rattle.yaml_read.specs.AnyData.{entry_key, tree_in, trees_in};
 
-use crate::de::read_refusal::{Refusal, Result, refuse};
-use crate::de::scalar::expected::words;
 use std::alloc::{AllocError, Global};
 use yaml_base::{Cause, EntryKey, Error};
+use yaml_scalar::{Refusal, Result, refuse, words};
 use yaml_shape::Data;
 use yaml_tree::{Mapping, Sequence, Tag, TaggedValue, Value};
 

@@ -14,11 +14,10 @@ ghost use Rattle.yaml_read.specs.inner.Walks.{spot_of, reader_of, seen, MovesOn,
 
 use crate::de::node::fault_place::{at_place, value_path};
 use crate::de::node::source::Source;
-use crate::de::read_refusal::Result;
-use crate::de::scalar::read_scalar;
 use crate::walk::Walk;
 use yaml_base::{Mark, Path};
 use yaml_load::DocEvent;
+use yaml_scalar::{Result, read_scalar};
 use yaml_shape::{Data, Shape};
 
 impl<'s, 'de> Source<'s, 'de> {

@@ -6,19 +6,17 @@ ghost use Rattle.yaml_shape.specs.DataView.{data_of};
 ghost use Rattle.yaml_shape.specs.PlainShape.{struct_variant_shape, tuple_variant_shape};
 ghost use Rattle.yaml_shape.specs.ShapeView.{ids_of};
 ghost use Rattle.yaml_load.specs.DocEventView.{doc_event_of, doc_scalar_of};
+ghost use Rattle.yaml_scalar.specs.ScalarShapes.{scalar_answer};
 ghost use Rattle.yaml_read.specs.Fields.{Fields};
-ghost use Rattle.yaml_read.specs.ScalarShapes.{scalar_answer};
 ghost use Rattle.yaml_read.specs.inner.Reader.{other_answer};
 
-use crate::de::read_refusal::{Refusal, Result, ended};
-use crate::de::scalar::expected::Expected;
-use crate::de::scalar::mismatch::{
-    found_mapping_for, found_no_variant_elements, found_scalar_for, found_sequence_for,
-};
-use crate::de::scalar::presence::is_empty_plain;
 use crate::de::taken_tag::TakenBy;
 use std::alloc::Global;
 use yaml_load::{DocEvent, DocScalar};
+use yaml_scalar::{
+    Expected, Refusal, Result, ended, found_mapping_for, found_no_variant_elements,
+    found_scalar_for, found_sequence_for, is_empty_plain,
+};
 use yaml_shape::{Data, ShapeId};
 
 // A scalar in place of a variant's elements.

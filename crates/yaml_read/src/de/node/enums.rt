@@ -9,10 +9,10 @@ ghost use Rattle.yaml_shape.specs.ShapeView.{shape_of, content_of, fields_of, id
 ghost use Rattle.yaml_shape.specs.Validity.{NamesWithin, named_in, numbers_of};
 ghost use Rattle.yaml_load.specs.DocEventView.{doc_event_of};
 ghost use Rattle.yaml_load.specs.Ends.{GoForward};
+ghost use Rattle.yaml_scalar.specs.Steps.{with_shape};
 ghost use Rattle.yaml_read.specs.Handing.{depth, is_filled_scalar, most_optionals, nesting_depth};
 ghost use Rattle.yaml_read.specs.NodeTags.{untaken_name};
 ghost use Rattle.yaml_read.specs.Places.{way_of};
-ghost use Rattle.yaml_read.specs.Steps.{with_shape};
 ghost use Rattle.yaml_read.specs.inner.Reader.{shape_step, node_step};
 ghost use Rattle.yaml_read.specs.inner.Walks.{around_of, plain_around, source_of, spot_of, reader_of, seen, MovesOn};
 ghost use Rattle.yaml_read.specs.inner.Walks.{Costs};
@@ -24,12 +24,11 @@ use crate::de::node::source::Source;
 use crate::de::node::structs::is_bare;
 use crate::de::node::too_deep;
 use crate::de::node::tuple_length::{Owner, finish};
-use crate::de::read_refusal::{Result, ended};
-use crate::de::scalar::variant_names::{nested_enum, unknown_variant, variant_named};
 use crate::de::taken_tag::{TakenBy, untaken_name};
 use crate::walk::Walk;
 use yaml_base::{Mark, Path};
 use yaml_load::DocEvent;
+use yaml_scalar::{Result, ended, nested_enum, unknown_variant, variant_named};
 use yaml_shape::{Data, Shape, ShapeId, VariantShape};
 
 // Whether the event is that of a scalar with a text.
@@ -75,7 +74,7 @@ impl<'s, 'de> Source<'s, 'de> {
             if is_filled_scalar(event) {
                 return self.read_simple(path, shape, event, nest, taken, walk);
             }
-            return Err(nested_enum(self.alloc, around));
+            return Err(nested_enum(self.alloc, around.name, around.variant));
         }
         let Some(tag) = untaken_name(event, false) else {
             return self.read_simple(path, shape, event, nest, taken, walk);

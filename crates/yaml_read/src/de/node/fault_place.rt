@@ -11,12 +11,11 @@ ghost use Rattle.yaml_read.specs.inner.Reader.{place_at};
 ghost use Rattle.yaml_read.specs.inner.Walks.{around_of, seen};
 
 use crate::de::node::source::Source;
-use crate::de::read_refusal::{Refusal, refuse};
-use crate::de::scalar::sort::text_of;
 use crate::de::taken_tag::{TakenBy, is_taken, untaken_name};
 use std::alloc::Global;
 use yaml_base::{Mark, Path};
 use yaml_load::DocEvent;
+use yaml_scalar::{Refusal, refuse, text_of};
 use yaml_shape::Shape;
 
 /// The fault at this place, if it has none yet, or want of memory.

@@ -12,9 +12,9 @@ ghost use Rattle.yaml_read.specs.inner.Walks.{slots_of, field_view, IsAmong};
 
 use crate::de::node::fault_place::at_place;
 use crate::de::node::field_index::FieldIndex;
-use crate::de::read_refusal::{Refusal, refuse};
 use std::alloc::{AllocError, Global};
 use yaml_base::{Cause, Error, Mark, Path, WordList, Words};
+use yaml_scalar::{Refusal, refuse};
 use yaml_shape::{Data, ShapeId};
 
 /// The place of the field with a name, and its shape.

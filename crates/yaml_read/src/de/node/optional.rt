@@ -16,12 +16,11 @@ ghost use Rattle.yaml_read.specs.inner.Walks.{around_of, source_of, spot_of, rea
 
 use crate::de::node::source::Source;
 use crate::de::node::too_deep;
-use crate::de::read_refusal::{Result, ended};
-use crate::de::scalar::presence::is_present;
 use crate::de::taken_tag::{TakenBy, is_taken};
 use crate::walk::Walk;
 use yaml_base::Path;
 use yaml_load::DocEvent;
+use yaml_scalar::{Result, ended, is_present};
 use yaml_shape::{Data, Shape, ShapeId};
 
 // Whether an optional is present in a node that begins with the event.

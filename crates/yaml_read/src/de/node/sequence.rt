@@ -17,12 +17,11 @@ ghost use Rattle.yaml_read.specs.inner.Walks.{around_of, source_of, spot_of, rea
 use crate::de::node::fault_place::at_place;
 use crate::de::node::source::Source;
 use crate::de::node::{is_leaf, too_deep};
-use crate::de::read_refusal::{Result, ended};
-use crate::de::scalar::read_scalar;
 use crate::de::taken_tag::TakenBy;
 use crate::walk::Walk;
 use yaml_base::{Mark, Path};
 use yaml_load::DocEvent;
+use yaml_scalar::{Result, ended, read_scalar};
 use yaml_shape::{Data, Shape, ShapeId};
 
 impl<'s, 'de> Source<'s, 'de> {

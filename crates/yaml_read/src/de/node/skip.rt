@@ -10,9 +10,9 @@ ghost use Rattle.yaml_read.specs.inner.Reader.{skip_at};
 ghost use Rattle.yaml_read.specs.inner.Walks.{source_of, spot_of, MovesOn, Costs};
 
 use crate::de::node::source::Source;
-use crate::de::read_refusal::{Result, ended};
 use crate::walk::Walk;
 use yaml_load::DocEvent;
+use yaml_scalar::{Result, ended};
 use yaml_shape::Data;
 
 // Whether a collection ends.

@@ -22,13 +22,11 @@ use crate::de::node::field_index::FieldIndex;
 use crate::de::node::field_slots::{field_named, missing_field, no_slots, put};
 use crate::de::node::source::Source;
 use crate::de::node::{is_leaf, too_deep};
-use crate::de::read_refusal::{Result, ended};
-use crate::de::scalar::presence::is_empty_plain;
-use crate::de::scalar::sort::text_of;
 use crate::de::taken_tag::TakenBy;
 use crate::walk::Walk;
 use yaml_base::{Mark, Path};
 use yaml_load::DocEvent;
+use yaml_scalar::{Result, ended, is_empty_plain, text_of};
 use yaml_shape::{Data, Shape, ShapeId};
 
 /// Whether the event is that of an empty plain scalar, or of an empty stream.

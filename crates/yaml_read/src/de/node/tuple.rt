@@ -16,11 +16,11 @@ ghost use Rattle.yaml_read.specs.inner.Walks.{around_of, source_of, spot_of, rea
 use crate::de::node::source::Source;
 use crate::de::node::too_deep;
 use crate::de::node::tuple_length::{Elements, Owner, finish, item_here};
-use crate::de::read_refusal::{Result, ended};
 use crate::de::taken_tag::TakenBy;
 use crate::walk::Walk;
 use yaml_base::Path;
 use yaml_load::DocEvent;
+use yaml_scalar::{Result, ended};
 use yaml_shape::{Data, Shape, ShapeId};
 
 impl<'s, 'de> Source<'s, 'de> {

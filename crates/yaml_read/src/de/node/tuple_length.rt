@@ -10,9 +10,9 @@ ghost use Rattle.yaml_read.specs.Rows.{row_data};
 ghost use Rattle.yaml_read.specs.inner.Reader.{few_text, owner_named};
 ghost use Rattle.yaml_read.specs.inner.Walks.{owner_of, row_view};
 
-use crate::de::read_refusal::{Refusal, Result, refuse};
 use std::alloc::Global;
 use yaml_base::{Cause, Error, Words};
+use yaml_scalar::{Refusal, Result, refuse};
 use yaml_shape::{Data, ShapeId, sequence_of, tuple_struct_with, tuple_variant_with};
 
 /// The elements that were read, and how many more there are.

@@ -7,8 +7,8 @@ use Rattle.yaml_shape.specs.DataView.{data_of, items_of}
 use Rattle.yaml_shape.specs.PlainData.{struct_data}
 use Rattle.yaml_shape.specs.ShapeView.{field_of}
 use Rattle.yaml_shape.specs.declared.data.Data.{Struct, the_lemmas}
+use Rattle.yaml_scalar.specs.Steps.{◌>>=◌}
 use Rattle.yaml_read.specs.Fields.{field_data}
-use Rattle.yaml_read.specs.Steps.{◌>>=◌}
 use Rattle.yaml_read.specs.inner.Walks.{slots_of}
 use Rattle.yaml_read.proofs.FieldCode.{number_within}
 use Rattle.yaml_read.proofs.SlotCode.{taken, gathered_next, gathered_ends, gathered_all, handed_on}

@@ -8,12 +8,12 @@ use Rattle.yaml_shape.specs.PlainShape.{tuple_variant_shape, struct_variant_shap
 use Rattle.yaml_shape.specs.ShapeView.{shape_of, content_of, ids_of, fields_of, variants_of}
 use Rattle.yaml_shape.specs.declared.data.Data.{Variant, the_lemmas}
 use Rattle.yaml_load.specs.DocEventView.{doc_event_of}
+use Rattle.yaml_scalar.specs.Variants.{variant_named}
+use Rattle.yaml_scalar.proofs.VariantCode.{content_all}
 use Rattle.yaml_read.specs.Handing.{reach, untaken_reach, tag_depth}
 use Rattle.yaml_read.specs.NodeTags.{untaken_name}
 use Rattle.yaml_read.specs.Places.{way_of, place}
-use Rattle.yaml_read.specs.Variants.{variant_named}
-use Rattle.yaml_read.specs.inner.Walks.{around_of, plain_around, variant_view, source_of, spot_of, reader_of}
-use Rattle.yaml_read.proofs.VariantCode.{content_all}
+use Rattle.yaml_read.specs.inner.Walks.{around_of, plain_around, source_of, spot_of, reader_of}
 use Rattle.yaml_read.proofs.reading.ContentExits.{enum_content, enum_plain, enum_taken, node_placed}
 use Rattle.yaml_read.proofs.reading.Loops.{wrap_fails, wrap_finds}
 use Rattle.yaml_read.proofs.reading.PlaceLaws.{filled_memory}

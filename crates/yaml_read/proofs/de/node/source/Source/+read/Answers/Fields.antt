@@ -8,8 +8,8 @@ use Rattle.yaml_shape.specs.ShapeView.{field_of, fields_of}
 use Rattle.yaml_shape.specs.Validity.{numbers_of}
 use Rattle.yaml_load.specs.DocEventView.{doc_event_of, doc_scalar_of}
 use Rattle.yaml_load.specs.PlainDocEvent.{a_scalar}
+use Rattle.yaml_scalar.specs.ScalarShapes.{text_of, lent_text}
 use Rattle.yaml_read.specs.Places.{way_of, value_under}
-use Rattle.yaml_read.specs.ScalarShapes.{text_of, lent_text}
 use Rattle.yaml_read.specs.TreeReader.{after}
 use Rattle.yaml_read.specs.inner.Reader.{value_way, field_key_at}
 use Rattle.yaml_read.specs.inner.Walks.{source_of, spot_of, seen, reader_of, slots_of, field_view, IsAmong}

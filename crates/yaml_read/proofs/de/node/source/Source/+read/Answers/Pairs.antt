@@ -6,10 +6,10 @@ use Rattle.yaml_shape.specs.ShapeView.{shape_of}
 use Rattle.yaml_tree.specs.Mapping.{has_key}
 use Rattle.yaml_tree.specs.Valid.{pairs_of}
 use Rattle.yaml_load.specs.DocEventView.{doc_event_of}
+use Rattle.yaml_scalar.specs.Steps.{wrap}
 use Rattle.yaml_read.specs.AnyData.{tree_in, pairs_in, new_key}
 use Rattle.yaml_read.specs.Handing.{reach}
 use Rattle.yaml_read.specs.Places.{way_of, value_under}
-use Rattle.yaml_read.specs.Steps.{wrap}
 use Rattle.yaml_read.specs.TreeReader.{Spot, after}
 use Rattle.yaml_read.specs.inner.Reader.{is_mapping_end, value_way, any_entry_at, mapping_parts}
 use Rattle.yaml_read.specs.inner.Walks.{source_of, spot_of, seen, reader_of}

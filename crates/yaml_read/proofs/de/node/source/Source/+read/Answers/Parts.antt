@@ -5,9 +5,9 @@ use Rattle.yaml_base.specs.PathText.{path_text}
 use Rattle.yaml_shape.specs.DataView.{data_of}
 use Rattle.yaml_shape.specs.ShapeView.{shape_of}
 use Rattle.yaml_load.specs.DocEventView.{doc_event_of, doc_scalar_of}
+use Rattle.yaml_scalar.specs.Steps.{ending}
 use Rattle.yaml_read.specs.Handing.{early}
 use Rattle.yaml_read.specs.Places.{way_of, value_under, place, placed, places}
-use Rattle.yaml_read.specs.Steps.{ending}
 use Rattle.yaml_read.specs.TreeReader.{Spot, after}
 use Rattle.yaml_read.specs.inner.Reader.{place_at}
 use Rattle.yaml_read.specs.inner.Walks.{source_of, spot_of, seen, reader_of}

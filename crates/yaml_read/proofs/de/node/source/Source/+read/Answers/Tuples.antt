@@ -8,9 +8,9 @@ use Rattle.yaml_shape.specs.DataView.{data_of}
 use Rattle.yaml_shape.specs.PlainShape.{shape_at}
 use Rattle.yaml_shape.specs.ShapeView.{shape_of, ids_of}
 use Rattle.yaml_load.specs.DocEventView.{doc_event_of}
+use Rattle.yaml_scalar.specs.Steps.{with_shape}
 use Rattle.yaml_read.specs.Places.{way_of, element_under}
 use Rattle.yaml_read.specs.Rows.{row_of, row_data}
-use Rattle.yaml_read.specs.Steps.{with_shape}
 use Rattle.yaml_read.specs.TreeReader.{Spot, after}
 use Rattle.yaml_read.specs.inner.Reader.{is_sequence_end, few_text, owner_named, row_at, skip_at, sequence_parts}
 use Rattle.yaml_read.specs.inner.Walks.{around_of, source_of, spot_of, seen, reader_of, row_view}

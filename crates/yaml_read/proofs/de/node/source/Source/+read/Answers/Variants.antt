@@ -5,11 +5,11 @@ use Rattle.yaml_shape.specs.Expected.{tuple_variant_with_text}
 use Rattle.yaml_shape.specs.PlainShape.{tuple_variant_shape, struct_variant_shape}
 use Rattle.yaml_shape.specs.ShapeView.{ids_of, fields_of}
 use Rattle.yaml_load.specs.DocEventView.{doc_event_of}
+use Rattle.yaml_scalar.specs.Steps.{ending}
 use Rattle.yaml_read.specs.Fields.{struct_of}
 use Rattle.yaml_read.specs.Handing.{is_bare}
 use Rattle.yaml_read.specs.Places.{way_of}
 use Rattle.yaml_read.specs.Rows.{row_data}
-use Rattle.yaml_read.specs.Steps.{ending}
 use Rattle.yaml_read.specs.TreeReader.{after}
 use Rattle.yaml_read.specs.inner.Walks.{plain_around, source_of, spot_of, reader_of}
 use Rattle.yaml_read.proofs.reading.ContentExits.{other_in_fields, no_mapping_starts}

@@ -1,0 +1,9 @@
+-- Lemmas of this crate.
+pub mod CharacterLaws
+pub mod FoundLaws
+pub mod OfShape
+pub mod ScalarShapeLaws
+pub mod SmallNumbers
+pub mod TextLaws
+pub mod VariantCode
+pub mod VariantLaws

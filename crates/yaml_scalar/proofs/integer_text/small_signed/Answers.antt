@@ -1,0 +1,9 @@
+use Rattle.yaml_scalar.proofs.SmallNumbers.{digits-utf8, minus-utf8}
+use Rattle.yaml_scalar.proofs.integer_text.small_signed.Goals as goal
+
+pub returns-in_ok-number-in-Some-clause-text : goal.returns-in_ok-number-in-Some-clause-text
+returns-in_ok-number-in-Some-clause-text c =
+    minus-utf8 _ _ _ c.in-Some.ensures.cases.0 c.if-sign-eq45.true c.in_ok-number-in-Some.ensures.digits
+
+pub returns-in_ok-number-in_default-clause-text : goal.returns-in_ok-number-in_default-clause-text
+returns-in_ok-number-in_default-clause-text c = digits-utf8 _ c.in_ok-number-in_default.ensures.digits

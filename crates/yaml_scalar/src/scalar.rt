@@ -1,0 +1,186 @@
+//! A scalar, and the node of an empty stream, under a shape.
+
+ghost use Rattle.std.specs.Prelude.{◌≡◌, Ok, Err, true, is_ok, option_and_then, if◌then◌else◌};
+ghost use Rattle.std.specs.Option.{option_map_or};
+ghost use Rattle.yaml_base.specs.Answer.{Gives};
+ghost use Rattle.yaml_base.specs.PlainWords.{boolean_of};
+ghost use Rattle.yaml_shape.specs.DataView.{data_of};
+ghost use Rattle.yaml_shape.specs.PlainData.{bool_data, none_data, unit_data};
+ghost use Rattle.yaml_shape.specs.PlainShape.{any_shape};
+ghost use Rattle.yaml_shape.specs.ShapeView.{ids_of, shape_of};
+ghost use Rattle.yaml_load.specs.DocEventView.{doc_scalar_of};
+ghost use Rattle.yaml_scalar.specs.CoreTags.{bool_tag};
+ghost use Rattle.yaml_scalar.specs.Presence.{is_absent, null_fault};
+ghost use Rattle.yaml_scalar.specs.ScalarFound.{scalar_fault};
+ghost use Rattle.yaml_scalar.specs.ScalarShapes.{no_elements, plain_text, scalar_answer};
+ghost use Rattle.yaml_scalar.specs.ScalarShapes.{takes_no_memory, void_answer};
+
+use crate::any_value::any_scalar;
+use crate::character::read_char;
+use crate::integer_range::{read_signed_128, read_unsigned_128};
+use crate::integer_types::{
+    read_signed_8, read_signed_16, read_signed_32, read_signed_64, read_unsigned_8,
+    read_unsigned_16, read_unsigned_32, read_unsigned_64,
+};
+use crate::mismatch::{found_no_elements, found_no_null, found_scalar};
+use crate::presence::{is_absent, is_empty_plain};
+use crate::refusal::{Result, ended, refuse};
+use crate::sort::{is_plain_or_tagged_literal, text_of};
+use crate::text::read_text;
+use crate::variant_names::read_variant_name;
+use std::alloc::Global;
+use yaml_base::{Cause, Error, Tag, parse_bool};
+use yaml_load::DocScalar;
+use yaml_shape::{Data, Shape, ShapeId};
+use yaml_tree::Value;
+
+// The boolean that a scalar is a word for.
+#[tactic(auto, unfolding(crate::specs::CoreTags::bool_tag))]
+fn boolean_of(taken: bool, scalar: &DocScalar<'_>) -> Option<bool>
+    ensures { result ≡ option_and_then boolean_of (plain_text bool_tag taken (doc_scalar_of scalar.now)) }
+{
+    if !is_plain_or_tagged_literal(Tag::BOOL, taken, scalar) {
+        return None;
+    }
+    parse_bool(text_of(scalar)?)
+}
+
+// A boolean.
+fn read_bool<'de>(
+    alloc: Global,
+    shape: &Shape,
+    taken: bool,
+    scalar: &DocScalar<'de>,
+) -> Result<Data<'de>>
+    ensures gives { Gives data_of result
+        (option_map_or (λ b. Ok (bool_data b))
+        (option_and_then boolean_of (plain_text bool_tag taken (doc_scalar_of scalar.now)))
+        (Err (scalar_fault (shape_of shape.now) taken (doc_scalar_of scalar.now)))) }
+    ensures free { is_ok result ≡ is_ok
+        (option_map_or (λ b. Ok (bool_data b))
+        (option_and_then boolean_of (plain_text bool_tag taken (doc_scalar_of scalar.now)))
+        (Err (scalar_fault (shape_of shape.now) taken (doc_scalar_of scalar.now)))) }
+{
+    match boolean_of(taken, scalar) {
+        Some(value) => Ok(Data::Bool(value)),
+        None => Err(found_scalar(alloc, shape, taken, scalar)),
+    }
+}
+
+// Any value.
+fn read_any<'de>(alloc: Global, taken: bool, scalar: &DocScalar<'de>) -> Result<Data<'de>>
+    ensures { Gives data_of result
+        (scalar_answer any_shape taken (doc_scalar_of scalar.now)) }
+{
+    Ok(Data::Any(any_scalar(alloc, taken, scalar)?))
+}
+
+// A unit.
+fn read_unit<'de>(alloc: Global, taken: bool, scalar: &DocScalar<'de>) -> Result<Data<'de>>
+    ensures gives { Gives data_of result
+        (if is_absent taken (doc_scalar_of scalar.now) then Ok unit_data
+        else Err (null_fault (doc_scalar_of scalar.now))) }
+    ensures free { is_ok result ≡ is_ok
+        (if is_absent taken (doc_scalar_of scalar.now) then Ok unit_data
+        else Err (null_fault (doc_scalar_of scalar.now))) }
+{
+    if is_absent(scalar, taken) {
+        Ok(Data::Unit)
+    } else {
+        Err(found_no_null(alloc, scalar))
+    }
+}
+
+// An optional that is absent.
+fn read_none<'de>(alloc: Global, taken: bool, scalar: &DocScalar<'de>) -> Result<Data<'de>>
+    ensures gives { Gives data_of result
+        (if is_absent taken (doc_scalar_of scalar.now) then Ok none_data
+        else Err (null_fault (doc_scalar_of scalar.now))) }
+    ensures free { is_ok result ≡ is_ok
+        (if is_absent taken (doc_scalar_of scalar.now) then Ok none_data
+        else Err (null_fault (doc_scalar_of scalar.now))) }
+{
+    if is_absent(scalar, taken) {
+        Ok(Data::None)
+    } else {
+        Err(found_no_null(alloc, scalar))
+    }
+}
+
+// A tuple or a tuple struct without elements.
+fn no_elements<'de>(alloc: Global, shape: &Shape, asked: &[ShapeId]) -> Result<Data<'de>>
+    ensures { Gives data_of result (no_elements (ids_of asked.now) (shape_of shape.now)) }
+{
+    if asked.is_empty() {
+        Ok(Data::Tuple(Vec::new(alloc)))
+    } else {
+        Err(found_no_elements(alloc, shape))
+    }
+}
+
+/// A scalar under a shape. The flag says whether its tag is taken. Under an optional it is asked only of a scalar that
+/// is not the optional's content.
+pub fn read_scalar<'de>(
+    alloc: Global,
+    shape: &Shape,
+    taken: bool,
+    scalar: &DocScalar<'de>,
+) -> Result<Data<'de>>
+    ensures gives { Gives data_of result (scalar_answer (shape_of shape.now) taken (doc_scalar_of scalar.now)) }
+    ensures free { takes_no_memory (shape_of shape.now) (doc_scalar_of scalar.now) ≡ true
+        → is_ok result ≡ is_ok (scalar_answer (shape_of shape.now) taken (doc_scalar_of scalar.now)) }
+{
+    match shape {
+        Shape::Any => read_any(alloc, taken, scalar),
+        Shape::Bool => read_bool(alloc, shape, taken, scalar),
+        Shape::I8 => read_signed_8(alloc, shape, taken, scalar),
+        Shape::I16 => read_signed_16(alloc, shape, taken, scalar),
+        Shape::I32 => read_signed_32(alloc, shape, taken, scalar),
+        Shape::I64 | Shape::Isize => read_signed_64(alloc, shape, taken, scalar),
+        Shape::I128 => read_signed_128(alloc, shape, taken, scalar),
+        Shape::U8 => read_unsigned_8(alloc, shape, taken, scalar),
+        Shape::U16 => read_unsigned_16(alloc, shape, taken, scalar),
+        Shape::U32 => read_unsigned_32(alloc, shape, taken, scalar),
+        Shape::U64 | Shape::Usize => read_unsigned_64(alloc, shape, taken, scalar),
+        Shape::U128 => read_unsigned_128(alloc, shape, taken, scalar),
+        Shape::Char => read_char(alloc, shape, taken, scalar),
+        Shape::Str => read_text(alloc, shape, taken, scalar),
+        Shape::Identifier => read_text(alloc, shape, taken, scalar),
+        Shape::Bytes => Err(refuse(alloc, Error::new(Cause::BytesUnsupported))),
+        Shape::Option(_) => read_none(alloc, taken, scalar),
+        Shape::Unit | Shape::UnitStruct { name: _ } => read_unit(alloc, taken, scalar),
+        Shape::Seq(_) if is_empty_plain(scalar) => Ok(Data::Seq(Vec::new(alloc))),
+        Shape::Tuple(items) if is_empty_plain(scalar) => no_elements(alloc, shape, items),
+        Shape::TupleStruct { name: _, items } if is_empty_plain(scalar) => {
+            no_elements(alloc, shape, items)
+        }
+        Shape::Map(_, _) if is_empty_plain(scalar) => Ok(Data::Map(Vec::new(alloc))),
+        Shape::Enum { name: _, variants } => read_variant_name(alloc, variants, scalar),
+        Shape::Newtype { name: _, inner: _ }
+        | Shape::Seq(_)
+        | Shape::Tuple(_)
+        | Shape::TupleStruct { name: _, items: _ }
+        | Shape::Map(_, _)
+        | Shape::Struct { name: _, fields: _ }
+        | Shape::StrictStruct { name: _, fields: _ }
+        | Shape::IgnoredAny => Err(found_scalar(alloc, shape, taken, scalar)),
+    }
+}
+
+/// The node of an empty stream under a shape.
+#[inline(never)]
+pub fn read_void<'de>(alloc: Global, shape: &Shape) -> Result<Data<'de>>
+    ensures { Gives data_of result (void_answer (shape_of shape.now)) }
+{
+    match shape {
+        Shape::Any => Ok(Data::Any(Value::Null)),
+        Shape::Bytes => Err(refuse(alloc, Error::new(Cause::BytesUnsupported))),
+        Shape::Option(_) => Ok(Data::None),
+        Shape::Unit | Shape::UnitStruct { name: _ } => Ok(Data::Unit),
+        Shape::Seq(_) => Ok(Data::Seq(Vec::new(alloc))),
+        Shape::Tuple(items) => no_elements(alloc, shape, items),
+        Shape::TupleStruct { name: _, items } => no_elements(alloc, shape, items),
+        Shape::Map(_, _) => Ok(Data::Map(Vec::new(alloc))),
+        _ => Err(ended(alloc)),
+    }
+}
