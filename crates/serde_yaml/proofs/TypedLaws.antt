@@ -12,6 +12,7 @@ use Rattle.yaml_base.specs.Position.{Position}
 use Rattle.yaml_base.specs.Stream.{IsWellFormed}
 use Rattle.yaml_base.specs.declared.event.Event.{Event}
 use Rattle.yaml_base.specs.declared.error.Cause.{Cause}
+use Rattle.yaml_base.specs.declared.error.Cause.TheVariants as cause
 use Rattle.yaml_base.specs.declared.error.Cause.TheVariants.{NotAStream}
 use Rattle.yaml_shape.specs.DataView.{data_of}
 use Rattle.yaml_shape.specs.HasShape.{HasShape}
@@ -28,6 +29,7 @@ use Rattle.yaml_read.specs.Meaning.{Means}
 use Rattle.yaml_read.specs.TreeReader.{PlainLimits}
 use Rattle.yaml_read.specs.WrongPlace.{IsWrongAt}
 use Rattle.yaml_types.specs.BuildRefusal.{IsBuildRefusal}
+use Rattle.yaml_types.specs.WriteRefusal.{IsWriteRefusal}
 use Rattle.yaml_types.specs.Start.{Start, IsClosed}
 use Rattle.yaml_types.specs.declared.fault.BuildFault.{BuildFault}
 use Rattle.yaml_types.specs.declared.fault.BuildFault.TheVariants as build
@@ -176,23 +178,31 @@ module _ {T : Type 0} (limits : PlainLimits) (start : Start) (built : PlainData 
             (m.only v none (subst (λ s. ReadsAs limits start.0 s input v) same r.reads)) makes;
       }
 
-module _ (start : Start) (d : PlainData) where
+module _ (start : Start) (d : PlainData) (unwritten : List ℕ → Type 0) where
   pub no_type_written : (refusal : SchemaFault) (cause : Cause) → IsTooLarge (length start.0) refusal
-      → IsNoSchema refusal cause → is_memory cause ≡ false → TypeWrites start d (Err cause)
+      → IsNoSchema refusal cause → is_memory cause ≡ false → TypeWrites start d unwritten (Err cause)
   no_type_written refusal cause large is m =
       let no = is (length start.0) large m in
-      subst (λ e. TypeWrites start d (Err e)) (sym no.1) (writes.no_shape no.0)
+      subst (λ e. TypeWrites start d unwritten (Err e)) (sym no.1) (writes.no_shape no.0)
+
+  -- a value that is refused by a message of its type is told so
+  pub type_refused : (cause : Cause) → IsWriteRefusal unwritten cause → is_memory cause ≡ false
+      → TypeWrites start d unwritten (Err cause)
+  type_refused cause.Memory by m = absurd cc
+  type_refused (cause.Custom message None) by m = writes.by_message message by
+  type_refused (cause.Custom message (Some place)) by m = absurd by
+  type_refused _ by m = absurd by
 
   written_by : {X : Type 0} (view : X → List PlainEmit) (table : List PlainShape) (id : ℕ) (result : Result X Cause)
       → IsValidSchema table → Gives view result (made written_stream (written table id None d))
-      → Answers view result (TypeWrites (table, id) d)
-  written_by view table id (Ok x) valid g = subst (TypeWrites (table, id) d) g (writes.of_shape valid)
-  written_by view table id (Err cause) valid g = λ m. subst (TypeWrites (table, id) d) (g m) (writes.of_shape valid)
+      → Answers view result (TypeWrites (table, id) d unwritten)
+  written_by view table id (Ok x) valid g = subst (TypeWrites (table, id) d unwritten) g (writes.of_shape valid)
+  written_by view table id (Err cause) valid g = λ m. subst (TypeWrites (table, id) d unwritten) (g m) (writes.of_shape valid)
 
   -- what is written by the shape of a type, the type writes
   pub type_writes : {X : Type 0} (view : X → List PlainEmit) (table : List PlainShape) (id : ℕ)
       (result : Result X Cause) → table ≡ start.0 → id ≡ start.1 → IsValidSchema table
-      → Gives view result (made written_stream (written table id None d)) → Answers view result (TypeWrites start d)
+      → Gives view result (made written_stream (written table id None d)) → Answers view result (TypeWrites start d unwritten)
   type_writes view table id result p q valid g =
-      subst (λ t. Answers view result (TypeWrites (t, start.1) d)) p
-      (subst (λ i. Answers view result (TypeWrites (table, i) d)) q (written_by view table id result valid g))
+      subst (λ t. Answers view result (TypeWrites (t, start.1) d unwritten)) p
+      (subst (λ i. Answers view result (TypeWrites (table, i) d unwritten)) q (written_by view table id result valid g))

@@ -60,14 +60,14 @@ fn printed(alloc: Global, events: &[EmitEvent]) -> Result<String>
 /// The value as YAML text, a document that ends with a line feed: what `emit` prints for the events of `to_events`.
 /// What `to_events` refuses is refused so.
 pub fn to_string<T: Serialize>(alloc: Global, value: &T) -> Result<String>
-    ensures written { OnOk result (HasEvents (TypeWrites T.start (T.written value.now))) }
-    ensures text { IfOk result (λ text. HasText (TypeWrites T.start (T.written value.now))
+    ensures written { OnOk result (HasEvents (TypeWrites T.start (T.written value.now) (T.unwritten value.now))) }
+    ensures text { IfOk result (λ text. HasText (TypeWrites T.start (T.written value.now) (T.unwritten value.now))
         (string_bytes text)) }
     ensures kept { OnOk result (T.kept value.now) }
     ensures refused { IfErr result (λ cause. is_memory cause ≡ false
-        → IsRefused (TypeWrites T.start (T.written value.now)) cause) }
+        → IsRefused (TypeWrites T.start (T.written value.now) (T.unwritten value.now)) cause) }
     ensures unwritten { IfErr result (λ cause. is_memory cause ≡ false
-        → TypeWrites T.start (T.written value.now) (Err cause)) }
+        → TypeWrites T.start (T.written value.now) (T.unwritten value.now) (Err cause)) }
 {
     let events = match to_events(alloc, value) {
         Ok(events) => events,
@@ -85,12 +85,12 @@ pub fn to_writer<W: Write, T: Serialize>(
     writer: &mut W,
     value: &T,
 ) -> std::result::Result<(), WriteFault>
-    ensures written { OnOk result (HasEvents (TypeWrites T.start (T.written value.now))) }
-    ensures text { OnOk result (AddsText (TypeWrites T.start (T.written value.now))
+    ensures written { OnOk result (HasEvents (TypeWrites T.start (T.written value.now) (T.unwritten value.now))) }
+    ensures text { OnOk result (AddsText (TypeWrites T.start (T.written value.now) (T.unwritten value.now))
         (W.contents writer.old) (W.contents writer.new)) }
     ensures kept { OnOk result (T.kept value.now) }
     ensures unwritten { IfErr result (IfOfValue (λ cause. is_memory cause ≡ false
-        → TypeWrites T.start (T.written value.now) (Err cause))) }
+        → TypeWrites T.start (T.written value.now) (T.unwritten value.now) (Err cause))) }
     ensures untouched { IfErr result (IfOfValue (λ _. W.contents writer.new ≡ W.contents writer.old)) }
 {
     let text = match to_string(alloc, value) {

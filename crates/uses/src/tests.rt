@@ -1,6 +1,6 @@
 //! The types, read from data and written as data.
 
-use crate::{Address, Backup, Greeting, Listen, Server, Timeouts, Workers};
+use crate::{Address, Backup, Folder, Greeting, Listen, Ports, Server, Timeouts, Workers};
 use std::alloc::Global;
 use std::test::Fail;
 use yaml_shape::{Data, Shape, Text, Typed, VariantShape};
@@ -148,6 +148,70 @@ fn a_check_tells_its_message(rt: HostRuntime) -> Result<(), Fail> {
         _ => String::new(alloc),
     };
     assert_eq!(rt; told.as_str(), "expected a worker");
+    Ok(())
+}
+
+// What a writing that is refused tells.
+fn refusal<T: Serialize>(alloc: Global, value: &T) -> Result<String, Fail> {
+    match value.to_data(alloc) {
+        Ok(_) => Ok(String::new(alloc)),
+        Err(fault) => Ok(fault.to_string(alloc)?),
+    }
+}
+
+#[test]
+fn a_value_is_withheld_by_a_message(rt: HostRuntime) -> Result<(), Fail> {
+    let alloc = rt.alloc();
+    for last in 80..82u16 {
+        let ports = Ports { first: 80, last };
+        let again: Ports = read(alloc, ports.to_data(alloc)?)??;
+        assert!(rt; again == ports);
+    }
+    let told = refusal(
+        alloc,
+        &Ports {
+            first: 81,
+            last: 80,
+        },
+    )?;
+    assert_eq!(rt; told.as_str(), "the first port is above the last");
+
+    // so are a sequence and an optional that hold it
+    let all = vec![in alloc; Ports { first: 1, last: 2 }, Ports { first: 2, last: 1 }]?;
+    let told = refusal(alloc, &all)?;
+    assert_eq!(rt; told.as_str(), "the first port is above the last");
+    let told = refusal(alloc, &Some(Ports { first: 2, last: 1 }))?;
+    assert_eq!(rt; told.as_str(), "the first port is above the last");
+    Ok(())
+}
+
+// The data of a folder of this name, with these in it.
+fn folder_data<'de>(
+    alloc: Global,
+    name: &'de str,
+    folders: Vec<Data<'de>>,
+) -> Result<Data<'de>, Fail> {
+    let name = Data::Str(Text::Borrowed(name));
+    Ok(Data::Struct(vec![in alloc; name, Data::Seq(folders)]?))
+}
+
+#[test]
+fn a_type_holds_itself(rt: HostRuntime) -> Result<(), Fail> {
+    let alloc = rt.alloc();
+    let inner = folder_data(alloc, "inner", Vec::new(alloc))?;
+    let other = folder_data(alloc, "other", Vec::new(alloc))?;
+    let root = folder_data(alloc, "root", vec![in alloc; inner, other]?)?;
+    let root: Folder = read(alloc, root)??;
+    assert_eq!(rt; root.name.as_str(), "root");
+    let Some(other) = root.folders.get(1) else {
+        return Err("there is no second folder")?;
+    };
+    assert_eq!(rt; other.name.as_str(), "other");
+    assert_eq!(rt; other.folders.len(), 0);
+
+    let again: Folder = read(alloc, root.to_data(alloc)?)??;
+    assert_eq!(rt; again.name.as_str(), "root");
+    assert_eq!(rt; again.folders.len(), 2);
     Ok(())
 }
 

@@ -29,4 +29,4 @@ pub returns-clause-unwritten : goal.returns-clause-unwritten
 returns-clause-unwritten g c = λ known.
     absurd (c.in-Err-printed.ensures.no_stream known
     (subst (λ es. IsEmitStream (map emit_of es)) (sym c.as_slice.ensures.value)
-    (type_stream _ _ _ c.in-Ok.ensures.written)))
+    (type_stream _ _ _ _ c.in-Ok.ensures.written)))
