@@ -8,6 +8,7 @@ use Rattle.yaml_shape.specs.PlainShape.{tuple_variant_shape, struct_variant_shap
 use Rattle.yaml_shape.specs.ShapeView.{shape_of, content_of, ids_of, fields_of, variants_of}
 use Rattle.yaml_shape.specs.declared.data.Data.{Variant, the_lemmas}
 use Rattle.yaml_load.specs.DocEventView.{doc_event_of}
+use Rattle.yaml_scalar.specs.VariantView.{variant_view}
 use Rattle.yaml_scalar.specs.Variants.{variant_named}
 use Rattle.yaml_scalar.proofs.VariantCode.{content_all}
 use Rattle.yaml_read.specs.Handing.{reach, untaken_reach, tag_depth}
