@@ -4,6 +4,7 @@ use Rattle.std.proofs.Common.{◌∙◌, subst, arith}
 use Rattle.yaml_base.specs.EmitEvents.{PlainEmit}
 use Rattle.yaml_base.specs.EmitTree.{EmitNode}
 use Rattle.yaml_base.specs.declared.error.Cause.{Cause}
+use Rattle.yaml_base.specs.declared.error.Cause.TheVariants.{Custom}
 use Rattle.yaml_shape.specs.PlainData.{PlainData}
 use Rattle.yaml_shape.specs.PlainShape.{PlainShape, shape_at}
 use Rattle.yaml_shape.specs.Validity.{IsValidSchema}
@@ -17,6 +18,7 @@ use Rattle.serde_yaml.specs.TypedReads as reads
 use Rattle.serde_yaml.specs.TypedReads.{TypeGives, Makes}
 use Rattle.serde_yaml.specs.TypedWrites as writes
 use Rattle.serde_yaml.specs.TypedWrites.{TypeWrites, written_stream}
+use Rattle.yaml_round.specs.ReadsBack.{IsSameUnless, is_same, by_message}
 
 -- the table is a schema, and this is what is written
 pub record Wrote (start : Start) (d : PlainData) (events : List PlainEmit) : Type 0 where
@@ -30,11 +32,12 @@ made_of : (start : Start) (d : PlainData) (events : List PlainEmit) → IsValidS
 made_of start d events valid (Ok root) is h = record { valid = valid; root = root; is_written = is; stream = cc }
 made_of start d events valid (Err cause) is h = absurd cc
 
-pub wrote : {start : Start} {d : PlainData} {o : Result (List PlainEmit) Cause} (events : List PlainEmit)
-    → TypeWrites start d o → o ≡ Ok events → Wrote start d events
+pub wrote : {start : Start} {d : PlainData} {unwritten : List ℕ → Type 0} {o : Result (List PlainEmit) Cause}
+    (events : List PlainEmit) → TypeWrites start d unwritten o → o ≡ Ok events → Wrote start d events
 wrote events (writes.no_shape many) h = absurd cc
 wrote {start} {d} events (writes.of_shape valid) h =
     made_of start d events valid (written start.0 start.1 None d) refl h
+wrote events (writes.by_message message by) h = absurd cc
 
 module _ {T : Type 0} (limits : PlainLimits) (start : Start) (built : PlainData → T → Type 0)
     (refused : PlainData → List ℕ → Type 0) (input : Input) where
@@ -63,19 +66,25 @@ returned_of built refused P d (Ok e) (Err cause) h good bad m =
     let same : e ≡ d = cc in absurd (bad m.0 (subst (λ f. refused f m.0) same m.1))
 returned_of built refused P d (Err c) given h good bad m = absurd cc
 
--- what fits is written
-pub not_refused : {start : Start} {d : PlainData} {o : Result (List PlainEmit) Cause} (cause : Cause) (e : EmitNode)
-    → length start.0 ≤ 4096 → written start.0 start.1 None d ≡ Ok e → TypeWrites start d o → o ≡ Err cause → ⊥
-not_refused cause e few is (writes.no_shape many) h = omega (arith, many, few)
-not_refused cause e few is (writes.of_shape valid) h =
+-- what fits is written, unless a message refuses it
+pub only_by_message : {start : Start} {d : PlainData} {unwritten : List ℕ → Type 0}
+    {o : Result (List PlainEmit) Cause} (cause : Cause) (e : EmitNode) → length start.0 ≤ 4096
+    → written start.0 start.1 None d ≡ Ok e → TypeWrites start d unwritten o → o ≡ Err cause
+    → IsSameUnless unwritten (Err cause)
+only_by_message cause e few is (writes.no_shape many) h = absurd (omega (arith, many, few))
+only_by_message cause e few is (writes.of_shape valid) h =
     let bad = sym (ap (made written_stream) is) ∙ h in absurd cc
+only_by_message {unwritten = unwritten} cause e few is (writes.by_message message by) h =
+    let same : Custom message None ≡ cause = cc in
+    subst (λ c. IsSameUnless unwritten (Err c)) same (by_message message by)
 
 same_value : {T : Type 0} {x y : T} → ◌≡◌ {A = Result T Cause} (Ok x) (Ok y) → x ≡ y
 same_value h = cc
 
 -- a value that is read where an equal one has to be is equal
-pub equal_again : {T : Type 0} (eq : T → T → Bool) (x found : T) (same : Bool) → same ≡ eq x found
+pub equal_again : {T : Type 0} (eq : T → T → Bool) (unwritten : List ℕ → Type 0) (x found : T) (same : Bool) → same ≡ eq x found
     → (y : T) × (◌≡◌ {A = Result T Cause} (Ok found) (Ok y)) × (eq x y ≡ true)
-    → ◌≡◌ {A = Result Bool Cause} (Ok same) (Ok true)
-equal_again eq x found same is r =
-    let e : r.0 ≡ found = sym (same_value r.1) in ap Ok (is ∙ subst (λ y. eq x y ≡ true) e r.2)
+    → IsSameUnless unwritten (Ok same)
+equal_again eq unwritten x found same is r =
+    let e : r.0 ≡ found = sym (same_value r.1) in
+    subst (λ b. IsSameUnless unwritten (Ok b)) (sym (is ∙ subst (λ y. eq x y ≡ true) e r.2)) is_same

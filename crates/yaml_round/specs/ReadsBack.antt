@@ -1,7 +1,9 @@
 -- How data that was written comes back from a parser, and reads back.
-use Rattle.std.specs.Prelude.{◌≡◌, ℕ, List, None, Ok, IsTrue}
+use Rattle.std.specs.Prelude.{◌≡◌, ℕ, List, Bool, true, None, Result, Ok, Err, IsTrue}
 use Rattle.yaml_base.specs.EmitTree.{EmitNode}
 use Rattle.yaml_base.specs.Renders.{Renders}
+use Rattle.yaml_base.specs.declared.error.Cause.{Cause}
+use Rattle.yaml_base.specs.declared.error.Cause.TheVariants.{Custom}
 use Rattle.yaml_shape.specs.PlainData.{PlainData}
 use Rattle.yaml_shape.specs.PlainShape.{PlainShape}
 use Rattle.yaml_read.specs.Documents.{Input}
@@ -25,3 +27,8 @@ pub record ReadsBack (limits : PlainLimits) (table : List PlainShape) (s : Plain
   pub found : PlainData
   pub reads : ReadsAs limits table s input found
   pub same : IsTrue (same_data d found)
+
+-- what came back of a value is equal to it, unless a message refused to write it
+pub data IsSameUnless (unwritten : List ℕ → Type 0) : Result Bool Cause → Type 0 where
+  is_same : IsSameUnless unwritten (Ok true)
+  by_message : (message : List ℕ) → unwritten message → IsSameUnless unwritten (Err (Custom message None))

@@ -1,8 +1,9 @@
 //! A value that is written, comes back from a parser, and is read.
 
-ghost use Rattle.std.specs.Prelude.{◌≡◌, ◌≤◌, length, true, Ok};
+ghost use Rattle.std.specs.Prelude.{◌≤◌, length};
 ghost use Rattle.yaml_base.specs.Answer.{Answers};
 ghost use Rattle.yaml_round.specs.Fits.{Fits};
+ghost use Rattle.yaml_round.specs.ReadsBack.{IsSameUnless};
 
 use crate::laws::a_written_value_reads_back;
 use crate::renderer::Renderer;
@@ -13,7 +14,8 @@ use yaml_read::Limits;
 use yaml_types::RoundTrip;
 
 /// Whether what is read within the limits is equal to the value that was written. Memory aside it is, for each value
-/// that fits, of a type whose table has at most 4,096 shapes, whatever stands between.
+/// that fits, of a type whose table has at most 4,096 shapes, whatever stands between; unless `to_data` refuses the
+/// value by a message.
 pub fn comes_back<'de, T: RoundTrip<'de> + Drop, R: Renderer<'de>>(
     alloc: Global,
     value: &T,
@@ -22,7 +24,7 @@ pub fn comes_back<'de, T: RoundTrip<'de> + Drop, R: Renderer<'de>>(
 ) -> Result<bool>
     ensures { length T.Serialize.start.0 ≤ 4096
         → Fits limits.nesting T.Serialize.start.0 T.Serialize.start.1 (T.written value.now)
-        → Answers (λ same. same) result (λ given. given ≡ Ok true) }
+        → Answers (λ same. same) result (IsSameUnless (T.unwritten value.now)) }
 {
     a_written_value_reads_back::<T>();
     let written = match to_events(alloc, value) {

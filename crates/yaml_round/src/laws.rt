@@ -75,7 +75,7 @@ pub fn a_written_value_reads_back<'de, T: RoundTrip<'de>>()
     ensures { (limits : PlainLimits) (x : T) (events : List PlainEmit) (input : Input) (given : Result T Cause)
         → IsTrue (is_table T.Serialize.start.0) → T.kept x → IsHeld (T.written x)
         → Fits limits.nesting T.Serialize.start.0 T.Serialize.start.1 (T.written x)
-        → TypeWrites T.Serialize.start (T.written x) (Ok events) → Renders events (events_in input)
+        → TypeWrites T.Serialize.start (T.written x) (T.unwritten x) (Ok events) → Renders events (events_in input)
         → TypeGives limits T.Deserialize.start T.built T.refused input None given
         → (y : T) × (given ≡ Ok y) × (T.eq x y ≡ true) }
 {

@@ -5,19 +5,19 @@ use Rattle.yaml_base.specs.MarkedEvents.{events_in, plain_marked}
 use Rattle.yaml_base.specs.Renders.{Renders}
 use Rattle.yaml_base.specs.declared.emitter.EmitEvent.{EmitEvent}
 use Rattle.std.specs.Prelude.{List}
-use Rattle.yaml_round.proofs.TypedReturn.{not_refused, equal_again}
+use Rattle.yaml_round.proofs.TypedReturn.{only_by_message, equal_again}
 use Rattle.yaml_round.proofs.again.comes_back.Goals as goal
 
 pub returns-in-Err : goal.returns-in-Err
 returns-in-Err g c = λ few fits m.
-    absurd (not_refused c.in-Err.fault fits.written.0 few fits.written.1 (c.in-Err.ensures.written m) refl)
+    only_by_message c.in-Err.fault fits.written.0 few fits.written.1 (c.in-Err.ensures.written m) refl
 
 pub returns-in-Err-render : goal.returns-in-Err-render
 returns-in-Err-render g c = λ few fits m. let bad : true ≡ false = sym c.in-Err-render.ensures.refused ∙ m in absurd cc
 
 pub returns-in-Ok-from_events_limited : goal.returns-in-Ok-from_events_limited
 returns-in-Ok-from_events_limited g c = λ few fits.
-    equal_again g.T.PartialEq.eq c.args.value.now c.in-Ok-from_events_limited.found _ c.eq.ensures
+    equal_again g.T.PartialEq.eq (g.T.Serialize.unwritten c.args.value.now) c.args.value.now c.in-Ok-from_events_limited.found _ c.eq.ensures
     (c.a_written_value_reads_back.ensures c.args.limits c.args.value.now (map emit_of c.in-Ok.written.items)
     (plain_marked c.in-Ok-render.input.items) (Ok c.in-Ok-from_events_limited.found) c.in-Ok.ensures.table
     c.in-Ok.ensures.kept c.in-Ok.ensures.held fits c.in-Ok.ensures.written
