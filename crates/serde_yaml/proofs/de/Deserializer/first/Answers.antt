@@ -5,11 +5,11 @@ use Rattle.serde_yaml.specs.StreamView.{documents_left}
 use Rattle.serde_yaml.proofs.FirstDocument.{first_alone, first_of, gone_through, none_left}
 use Rattle.serde_yaml.proofs.de.Deserializer.first.Goals as goal
 
-pub returns-in-One : goal.returns-in-One
-returns-in-One c = first_alone c.self.view_is c.if-iterated.false (ap documents_left c.in-One.is)
+pub returns-in-One-clause-found : goal.returns-in-One-clause-found
+returns-in-One-clause-found c = first_alone c.self.view_is c.if-iterated.false (ap documents_left c.in-One.is)
 
-pub returns-in-Some : goal.returns-in-Some
-returns-in-Some c =
+pub returns-in-Some-clause-found : goal.returns-in-Some-clause-found
+returns-in-Some-clause-found c =
     first_of c.next_document-in-Some.result c.next_document-in-Some.new.self c.self.view_is c.if-iterated.false
     (ap documents_left c.in-Stream.is ∙ c.in-Some.ensures.items) c.next_document-in-Some.ensures.items
     c.next_document-in-Some.ensures.none c.is_there-others.ensures
