@@ -1,9 +1,9 @@
 //! Types of one's own, read from texts and written as streams that are read again.
 
 use super::typed::{comes_back, message};
-use serde_yaml::from_str;
+use serde_yaml::{from_str, to_string};
 use std::test::Fail;
-use uses::{Address, Backup, Greeting, Server, Workers};
+use uses::{Address, Backup, Folder, Greeting, Ports, Server, Workers};
 
 const SERVER: &str = "tags: [a, 'b c']
 other: {not: read}
@@ -86,5 +86,60 @@ fn what_is_wrong_with_a_variant_is_told(rt: HostRuntime) -> Result<(), Fail> {
         told.as_str(),
         "unknown field `kept`, expected `hours` or `keep` at line 1 column 20"
     );
+    Ok(())
+}
+
+#[test]
+fn a_value_that_is_withheld_has_no_text(rt: HostRuntime) -> Result<(), Fail> {
+    let alloc = rt.alloc();
+    let written = to_string(alloc, &Ports { first: 80, last: 90 })?;
+    assert_eq!(rt; written.as_str(), "first: 80\nlast: 90\n");
+    let ports: Ports = from_str(alloc, written.as_str())?;
+    assert!(rt; ports == Ports { first: 80, last: 90 });
+
+    let told = message(alloc, to_string(alloc, &Ports { first: 90, last: 80 }))?;
+    assert_eq!(rt; told.as_str(), "the first port is above the last");
+    let told = message(alloc, from_str::<Ports>(alloc, "{first: 90, last: 80}"))?;
+    assert_eq!(rt; told.as_str(), "the first port is above the last");
+    Ok(())
+}
+
+const FOLDERS: &str = "name: root
+folders:
+- name: a
+  folders:
+  - name: b
+    folders: []
+- name: c
+  folders: []
+";
+
+// The folder that these places lead to, level by level.
+fn folder_at<'a>(root: &'a Folder, places: &[usize]) -> Option<&'a Folder> {
+    let mut folder = root;
+    for place in places {
+        folder = folder.folders.get(*place)?;
+    }
+    Some(folder)
+}
+
+#[test]
+fn a_type_that_holds_itself_comes_back(rt: HostRuntime) -> Result<(), Fail> {
+    let alloc = rt.alloc();
+    let root: Folder = from_str(alloc, FOLDERS)?;
+    let rows: &[(&[usize], &str)] = &[(&[], "root"), (&[0], "a"), (&[0, 0], "b"), (&[1], "c")];
+    for (places, name) in rows {
+        let Some(folder) = folder_at(&root, places) else {
+            return Err("there is no such folder")?;
+        };
+        assert_eq!(rt; folder.name.as_str(), *name);
+    }
+    assert_eq!(rt; to_string(alloc, &root)?.as_str(), FOLDERS);
+
+    let empty: Folder = from_str(alloc, "{folders: [], name: ''}")?;
+    assert_eq!(rt; to_string(alloc, &empty)?.as_str(), "name: ''\nfolders: []\n");
+
+    let told = message(alloc, from_str::<Folder>(alloc, "name: a\nfolders:\n- name: b\n"))?;
+    assert_eq!(rt; told.as_str(), "folders[0]: missing field `folders` at line 3 column 3");
     Ok(())
 }
