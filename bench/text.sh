@@ -12,6 +12,7 @@ export LC_ALL=C
 root=$(cd "$(dirname "$0")/.." && pwd)
 room=$(mktemp -d)
 trap 'rm -rf "$room"' EXIT
+. "$root/bench/texts.sh"
 
 # Makes the program, which reads standard input, and parses it unless its argument says to read alone.
 make_program() {
@@ -83,30 +84,6 @@ int main(int argc, char **argv) {
 }
 C
     cc -O2 -o "$room/other" "$room/other.c" -lyaml
-}
-
-# Prints the text of a row.
-text() {
-    awk -v row="$1" '
-        function word(i) { return substr("alpha beta  gamma delta omega ", 6 * (i % 5) + 1, 5) }
-        BEGIN {
-            if (row == "lines") for (i = 0; i < 20000; i++) print "- 7"
-            if (row == "nested") { for (i = 0; i < 20000; i++) printf "- "; print "" }
-            if (row == "pairs") for (i = 0; i < 12000; i++) print "name" i ": value " i
-            if (row == "brackets") { printf "[0"; for (i = 1; i < 20000; i++) printf ", %d", i; print "]" }
-            if (row == "quoted") for (i = 0; i < 8000; i++) print "- \"some text " i " in quotes\""
-            if (row == "literal") for (i = 0; i < 5000; i++) print "- |\n  some text " i " in a block\n  and more of it"
-            if (row == "folded") { print "- >"; for (i = 0; i < 10000; i++) print "  a line of it" }
-            if (row == "key") { for (i = 0; i < 200000; i++) printf "k"; print "" }
-            if (row == "mixed") for (i = 0; i < 1000; i++) {
-                print "key" i ": " word(i) " and " word(i + 1)
-                print "list" i ":\n  - " i "\n  - " word(i) "\n  - {a: 1, b: [2, 3]}"
-                print "said" i ": \"" word(i) " \\n " word(i + 2) "\"\nquoted" i ": \047" word(i) "\047"
-                print "block" i ": |\n  " word(i) "\n  " word(i + 1)
-                print "named" i ": &a" i " !!str " word(i) "\nagain" i ": *a" i
-                print "part" i ":\n  name: " word(i + 3) "\n  port: " i "\n# a comment"
-            }
-        }'
 }
 
 # Prints how many instructions a program takes on the row.

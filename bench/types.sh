@@ -20,6 +20,7 @@ export LC_ALL=C
 here=$(cd "$(dirname "$0")" && pwd)
 room=$(mktemp -d)
 trap 'rm -rf "$room"' EXIT
+. "$here/texts.sh"
 programs=${PROGRAMS:-$room/programs}
 mkdir -p "$programs"
 
@@ -60,26 +61,6 @@ TOML
     cp "$room/original/target/release/bench_original" "$programs/original"
 }
 
-# Prints the text of a kind, with so many elements.
-text() {
-    awk -v kind="$1" -v size="$2" '
-        function word(i) { return substr("alpha beta  gamma delta omega ", 6 * (i % 5) + 1, 5) }
-        BEGIN {
-            if (kind == "config") {
-                print "name: web\nhost: \"example.org\"\nport: 8080\nworkers: 4\ndebug: false\nroot: /var/www/site"
-                print "timeout: 30000\nlabel: main\ntags:\n- alpha\n- beta\nlimits:\n  memory: 1024\n  files: 256"
-            }
-            for (i = 0; i < size && kind != "config"; i++) {
-                if (kind == "integers") print "- " i * 7919 % 1000003
-                else if (kind == "texts" || kind == "lent") print "- " word(i) " and " word(i + 1)
-                else if (kind == "pairs") printf "key%07d: %d\n", i, i
-                else if (kind == "lists") { if (i % 4 == 0) print "-"; print "  - " i }
-                else if (kind == "any") print "- name: " word(i) "\n  port: " i "\n  on: true"
-                else if (kind == "documents") print "---\n" i
-            }
-        }'
-}
-
 # The most memory that a program of $1 held on the text, in megabytes.
 memory() {
     command -v python3 > /dev/null || { echo -; return; }
@@ -111,7 +92,7 @@ count() {
 # Prints the row of a task on a kind of text with so many elements, in instructions.
 counted_row() {
     local task=$1 kind=$2 size=$3 own other=
-    text "$kind" "$size" > "$room/text"
+    typed_text "$kind" "$size" > "$room/text"
     [ "$kind" != config ] || size=1
     own=$(count port "$task" "$kind")
     [ ! -x "$programs/original" ] || case $task in read | print) other=$(count original "$task" "$kind") ;; esac
@@ -125,7 +106,7 @@ counted_row() {
 # Prints the row of a task on a kind of text with so many elements.
 row() {
     local task=$1 kind=$2 size=$3 runs turn side took held=() found=() sides=(port)
-    text "$kind" "$size" > "$room/text"
+    typed_text "$kind" "$size" > "$room/text"
     [ "$kind" != config ] || size=1
     runs=$((3000000 / (size * 10) + 3))
     [ ! -x "$programs/original" ] || case $task in read | print) sides+=(original) ;; esac
