@@ -16,8 +16,8 @@ returns-in-Err-clause-written g c =
 pub returns-in_err-content-clause-written : goal.returns-in_err-content-clause-written
 returns-in_err-content-clause-written g c =
     let told : is_memory c.in_err-content.field-0.0 ≡ false
-        → TypeWrites g.T.Serialize.start (g.T.Serialize.written c.args.value.now)
-        (g.T.Serialize.unwritten c.args.value.now) (Err c.in_err-content.field-0.0) =
+    → TypeWrites g.T.Serialize.start (g.T.Serialize.written c.args.value.now)
+    (g.T.Serialize.unwritten c.args.value.now) (Err c.in_err-content.field-0.0) =
     type_refused g.T.Serialize.start (g.T.Serialize.written c.args.value.now)
     (g.T.Serialize.unwritten c.args.value.now) c.in_err-content.field-0.0 c.in_err-content.ensures.refused in
     search (rules, told)
