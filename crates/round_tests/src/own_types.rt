@@ -89,15 +89,20 @@ fn what_is_wrong_with_a_variant_is_told(rt: HostRuntime) -> Result<(), Fail> {
     Ok(())
 }
 
+// The ports from one to another.
+fn ports(first: u16, last: u16) -> Ports {
+    Ports { first, last }
+}
+
 #[test]
 fn a_value_that_is_withheld_has_no_text(rt: HostRuntime) -> Result<(), Fail> {
     let alloc = rt.alloc();
-    let written = to_string(alloc, &Ports { first: 80, last: 90 })?;
+    let written = to_string(alloc, &ports(80, 90))?;
     assert_eq!(rt; written.as_str(), "first: 80\nlast: 90\n");
-    let ports: Ports = from_str(alloc, written.as_str())?;
-    assert!(rt; ports == Ports { first: 80, last: 90 });
+    let again: Ports = from_str(alloc, written.as_str())?;
+    assert!(rt; again == ports(80, 90));
 
-    let told = message(alloc, to_string(alloc, &Ports { first: 90, last: 80 }))?;
+    let told = message(alloc, to_string(alloc, &ports(90, 80)))?;
     assert_eq!(rt; told.as_str(), "the first port is above the last");
     let told = message(alloc, from_str::<Ports>(alloc, "{first: 90, last: 80}"))?;
     assert_eq!(rt; told.as_str(), "the first port is above the last");
@@ -137,9 +142,12 @@ fn a_type_that_holds_itself_comes_back(rt: HostRuntime) -> Result<(), Fail> {
     assert_eq!(rt; to_string(alloc, &root)?.as_str(), FOLDERS);
 
     let empty: Folder = from_str(alloc, "{folders: [], name: ''}")?;
-    assert_eq!(rt; to_string(alloc, &empty)?.as_str(), "name: ''\nfolders: []\n");
+    let written = to_string(alloc, &empty)?;
+    assert_eq!(rt; written.as_str(), "name: ''\nfolders: []\n");
 
-    let told = message(alloc, from_str::<Folder>(alloc, "name: a\nfolders:\n- name: b\n"))?;
-    assert_eq!(rt; told.as_str(), "folders[0]: missing field `folders` at line 3 column 3");
+    let cut = "name: a\nfolders:\n- name: b\n";
+    let told = message(alloc, from_str::<Folder>(alloc, cut))?;
+    let missing = "folders[0]: missing field `folders` at line 3 column 3";
+    assert_eq!(rt; told.as_str(), missing);
     Ok(())
 }
