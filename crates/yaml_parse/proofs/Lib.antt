@@ -1,4 +1,5 @@
 -- Lemmas of this crate.
+pub mod Fronts
 pub mod PlaceLaws
 mod PlainTexts
 pub mod Streams

@@ -44,10 +44,9 @@ cut_of phase.After outer events ran done = absurd (cc)
 cut_of at outer events ran done =
     ((goes_on_run events).1 (state_of at outer, ran), λ whole. absurd (let over = (whole_run events).0 whole in cc))
 
--- where there are no events yet
-pub none_yet : (events : List (Event × Position)) → events ≡ [] → IsWellFormed true (plain_events events)
-none_yet events none =
-    cut_of phase.Before [] (plain_events events) (ap (λ es. run (Some before_stream) (plain_events es)) none) refl
+-- where there are no events
+pub none_yet : IsWellFormed true []
+none_yet = cut_of phase.Before [] [] refl refl
 
 -- one collection more around
 pub opens-push : (outer : List (Frame × Position)) (x : Frame × Position) → opens (outer ++ x ∷ []) ≡ open_of x.0 ∷ opens outer

@@ -1,6 +1,8 @@
 -- What contracts of this crate, and of those above it, cite.
 pub mod Faults
 pub mod Frames
+pub mod Handed
+pub mod Kept
 pub mod Marks
 pub mod Places
 pub mod PlainText

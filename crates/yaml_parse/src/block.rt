@@ -2,6 +2,7 @@
 
 ghost use Rattle.std.specs.Prelude.{◌≡◌};
 
+ghost use Rattle.yaml_parse.specs.Kept.{Keeps};
 use crate::frame::Frame;
 use crate::machine::Machine;
 use crate::node::Nodes;
@@ -10,7 +11,7 @@ use yaml_token::{Context, Problem, Span, Stop, Token};
 impl<'a> Machine<'a> {
     // `-`, or the end of the sequence.
     pub(crate) fn block_entry(&mut self, token: &mut Token, at: &Span) -> Result<bool, Stop>
-        ensures { self.new.stream.text.now ≡ self.old.stream.text.now }
+        ensures { Keeps self.old.stream self.new.stream }
     {
         match token {
             Token::BlockEntry => self.pass(Frame::BlockNode, at),
@@ -28,7 +29,7 @@ impl<'a> Machine<'a> {
 
     // A node behind `-`, which may be empty.
     pub(crate) fn block_node(&mut self, token: &mut Token, at: &Span) -> Result<bool, Stop>
-        ensures { self.new.stream.text.now ≡ self.old.stream.text.now }
+        ensures { Keeps self.old.stream self.new.stream }
     {
         let ends = matches!(token, Token::BlockEntry | Token::BlockEnd);
         if ends && self.properties.is_none() {
@@ -41,7 +42,7 @@ impl<'a> Machine<'a> {
 
     // `-` at the column of the key, or else the sequence ends.
     pub(crate) fn indentless_entry(&mut self, token: &mut Token, at: &Span) -> Result<bool, Stop>
-        ensures { self.new.stream.text.now ≡ self.old.stream.text.now }
+        ensures { Keeps self.old.stream self.new.stream }
     {
         match token {
             Token::BlockEntry => self.pass(Frame::IndentlessNode, at),
@@ -54,7 +55,7 @@ impl<'a> Machine<'a> {
 
     // A node behind `-` at the column of the key, which may be empty.
     pub(crate) fn indentless_node(&mut self, token: &mut Token, at: &Span) -> Result<bool, Stop>
-        ensures { self.new.stream.text.now ≡ self.old.stream.text.now }
+        ensures { Keeps self.old.stream self.new.stream }
     {
         let ends = matches!(
             token,
@@ -70,7 +71,7 @@ impl<'a> Machine<'a> {
 
     // The place of a key, or the end of the mapping.
     pub(crate) fn block_key(&mut self, token: &mut Token, at: &Span) -> Result<bool, Stop>
-        ensures { self.new.stream.text.now ≡ self.old.stream.text.now }
+        ensures { Keeps self.old.stream self.new.stream }
     {
         match token {
             Token::Key => self.pass(Frame::BlockKeyNode, at),
@@ -88,7 +89,7 @@ impl<'a> Machine<'a> {
 
     // A key behind `?`, or a value behind `:`, which may be empty.
     pub(crate) fn block_part(&mut self, token: &mut Token, at: &Span) -> Result<bool, Stop>
-        ensures { self.new.stream.text.now ≡ self.old.stream.text.now }
+        ensures { Keeps self.old.stream self.new.stream }
     {
         let ends = matches!(token, Token::Key | Token::Value | Token::BlockEnd);
         if ends && self.properties.is_none() {
@@ -101,7 +102,7 @@ impl<'a> Machine<'a> {
 
     // `:`, or else the value is empty.
     pub(crate) fn block_value(&mut self, token: &mut Token, at: &Span) -> Result<bool, Stop>
-        ensures { self.new.stream.text.now ≡ self.old.stream.text.now }
+        ensures { Keeps self.old.stream self.new.stream }
     {
         match token {
             Token::Value => self.pass(Frame::BlockValueNode, at),

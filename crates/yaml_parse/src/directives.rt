@@ -2,6 +2,7 @@
 
 ghost use Rattle.std.specs.Prelude.{◌≡◌};
 
+ghost use Rattle.yaml_parse.specs.Kept.{Keeps};
 use crate::fault::fault;
 use crate::machine::Machine;
 use crate::properties::Handle;
@@ -22,7 +23,7 @@ fn is_known(handles: &[Handle], handle: &[u8]) -> bool {
 impl<'a> Machine<'a> {
     // A directive, or the `---` behind all of them.
     pub(crate) fn directive(&mut self, token: &mut Token, at: &Span) -> Result<bool, Stop>
-        ensures { self.new.stream.text.now ≡ self.old.stream.text.now }
+        ensures { Keeps self.old.stream self.new.stream }
     {
         match token {
             Token::VersionDirective { major, minor } => self.version(*major, *minor, at.start),
@@ -45,7 +46,7 @@ impl<'a> Machine<'a> {
 
     // `%YAML`, once, with 1.1 or 1.2.
     fn version(&mut self, major: u32, minor: u32, mark: Mark) -> Result<bool, Stop>
-        ensures { self.new.stream.text.now ≡ self.old.stream.text.now }
+        ensures { Keeps self.old.stream self.new.stream }
     {
         if self.has_version {
             return Err(
@@ -65,7 +66,7 @@ impl<'a> Machine<'a> {
 
     // `%TAG`, once for each handle.
     fn tag_handle(&mut self, handle: Handle, mark: Mark) -> Result<bool, Stop>
-        ensures { self.new.stream.text.now ≡ self.old.stream.text.now }
+        ensures { Keeps self.old.stream self.new.stream }
     {
         if is_known(self.handles.as_slice(), handle.handle.as_slice()) {
             return Err(

@@ -2,6 +2,7 @@
 
 ghost use Rattle.std.specs.Prelude.{◌≡◌};
 
+ghost use Rattle.yaml_parse.specs.Kept.{Keeps};
 use crate::machine::Machine;
 use crate::node::Nodes;
 use yaml_token::{Span, Stop, Token};
@@ -26,7 +27,7 @@ impl<'a> Machine<'a> {
         token: &mut Token,
         at: &Span,
     ) -> Result<bool, Stop>
-        ensures { self.new.stream.text.now ≡ self.old.stream.text.now }
+        ensures { Keeps self.old.stream self.new.stream }
     {
         match token {
             Token::DocumentEnd if !first => Ok(true),
@@ -51,14 +52,14 @@ impl<'a> Machine<'a> {
 
     // The node of a document without `---`.
     pub(crate) fn root(&mut self, token: &mut Token, at: &Span) -> Result<bool, Stop>
-        ensures { self.new.stream.text.now ≡ self.old.stream.text.now }
+        ensures { Keeps self.old.stream self.new.stream }
     {
         self.node(Nodes::Block, token, at)
     }
 
     // The node of a document behind `---`, which may be empty.
     pub(crate) fn content(&mut self, token: &mut Token, at: &Span) -> Result<bool, Stop>
-        ensures { self.new.stream.text.now ≡ self.old.stream.text.now }
+        ensures { Keeps self.old.stream self.new.stream }
     {
         if self.properties.is_none() && ends_content(token) {
             self.nothing(at.start)
@@ -69,7 +70,7 @@ impl<'a> Machine<'a> {
 
     // The end of a document, with `...` or without.
     pub(crate) fn document_end(&mut self, token: &mut Token, at: &Span) -> Result<bool, Stop>
-        ensures { self.new.stream.text.now ≡ self.old.stream.text.now }
+        ensures { Keeps self.old.stream self.new.stream }
     {
         self.stream.end_document(at.start)?;
         self.has_version = false;

@@ -2,6 +2,7 @@
 
 ghost use Rattle.std.specs.Prelude.{◌≡◌};
 
+ghost use Rattle.yaml_parse.specs.Kept.{Keeps};
 use crate::frame::Frame;
 use crate::machine::Machine;
 use crate::node::Nodes;
@@ -11,7 +12,7 @@ use yaml_token::{Context, Problem, Span, Stop, Token};
 impl<'a> Machine<'a> {
     // A node, a pair, or the end of the sequence.
     pub(crate) fn flow_node(&mut self, token: &mut Token, at: &Span) -> Result<bool, Stop>
-        ensures { self.new.stream.text.now ≡ self.old.stream.text.now }
+        ensures { Keeps self.old.stream self.new.stream }
     {
         let waits = self.properties.is_some();
         match token {
@@ -34,7 +35,7 @@ impl<'a> Machine<'a> {
 
     // `,`, or the end of the sequence.
     pub(crate) fn flow_entry(&mut self, token: &mut Token, at: &Span) -> Result<bool, Stop>
-        ensures { self.new.stream.text.now ≡ self.old.stream.text.now }
+        ensures { Keeps self.old.stream self.new.stream }
     {
         match token {
             Token::FlowSequenceEnd => {
@@ -52,7 +53,7 @@ impl<'a> Machine<'a> {
 
     // The key of a pair. Behind an empty one the token is swallowed, as libyaml does: `[? ]` does not end there.
     pub(crate) fn pair_key(&mut self, token: &mut Token, at: &Span) -> Result<bool, Stop>
-        ensures { self.new.stream.text.now ≡ self.old.stream.text.now }
+        ensures { Keeps self.old.stream self.new.stream }
     {
         let ends = matches!(
             token,
@@ -68,7 +69,7 @@ impl<'a> Machine<'a> {
 
     // `:`, or else the value of the pair is empty.
     pub(crate) fn pair_value(&mut self, token: &mut Token, at: &Span) -> Result<bool, Stop>
-        ensures { self.new.stream.text.now ≡ self.old.stream.text.now }
+        ensures { Keeps self.old.stream self.new.stream }
     {
         match token {
             Token::Value => self.pass(Frame::PairValueNode, at),
@@ -78,7 +79,7 @@ impl<'a> Machine<'a> {
 
     // The value of a pair behind `:`, which may be empty.
     pub(crate) fn pair_value_node(&mut self, token: &mut Token, at: &Span) -> Result<bool, Stop>
-        ensures { self.new.stream.text.now ≡ self.old.stream.text.now }
+        ensures { Keeps self.old.stream self.new.stream }
     {
         let ends = matches!(token, Token::FlowEntry | Token::FlowSequenceEnd);
         if ends && self.properties.is_none() {
@@ -90,7 +91,7 @@ impl<'a> Machine<'a> {
 
     // The end of a pair.
     pub(crate) fn pair_end(&mut self, at: &Span) -> Result<bool, Stop>
-        ensures { self.new.stream.text.now ≡ self.old.stream.text.now }
+        ensures { Keeps self.old.stream self.new.stream }
     {
         self.stream.end_mapping(at.start)?;
         Ok(false)
@@ -98,7 +99,7 @@ impl<'a> Machine<'a> {
 
     // A key, or the end of the mapping.
     pub(crate) fn map_key(&mut self, token: &mut Token, at: &Span) -> Result<bool, Stop>
-        ensures { self.new.stream.text.now ≡ self.old.stream.text.now }
+        ensures { Keeps self.old.stream self.new.stream }
     {
         let waits = self.properties.is_some();
         match token {
@@ -113,7 +114,7 @@ impl<'a> Machine<'a> {
 
     // A key behind `?` or before `:`, which may be empty.
     pub(crate) fn map_key_node(&mut self, token: &mut Token, at: &Span) -> Result<bool, Stop>
-        ensures { self.new.stream.text.now ≡ self.old.stream.text.now }
+        ensures { Keeps self.old.stream self.new.stream }
     {
         let ends = matches!(
             token,
@@ -128,7 +129,7 @@ impl<'a> Machine<'a> {
 
     // `:`, or else the value is empty.
     pub(crate) fn map_value(&mut self, token: &mut Token, at: &Span) -> Result<bool, Stop>
-        ensures { self.new.stream.text.now ≡ self.old.stream.text.now }
+        ensures { Keeps self.old.stream self.new.stream }
     {
         match token {
             Token::Value => self.pass(Frame::MapValueNode, at),
@@ -138,7 +139,7 @@ impl<'a> Machine<'a> {
 
     // A value behind `:`, which may be empty.
     pub(crate) fn map_value_node(&mut self, token: &mut Token, at: &Span) -> Result<bool, Stop>
-        ensures { self.new.stream.text.now ≡ self.old.stream.text.now }
+        ensures { Keeps self.old.stream self.new.stream }
     {
         let ends = matches!(token, Token::FlowEntry | Token::FlowMappingEnd);
         if ends && self.properties.is_none() {
@@ -150,7 +151,7 @@ impl<'a> Machine<'a> {
 
     // `,`, or the end of the mapping.
     pub(crate) fn map_entry(&mut self, token: &mut Token, at: &Span) -> Result<bool, Stop>
-        ensures { self.new.stream.text.now ≡ self.old.stream.text.now }
+        ensures { Keeps self.old.stream self.new.stream }
     {
         match token {
             Token::FlowMappingEnd => {

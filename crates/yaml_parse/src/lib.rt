@@ -13,6 +13,7 @@ mod parse;
 mod place;
 mod plain;
 mod properties;
+mod queue;
 mod stream;
 
-pub use parse::{Parsed, Parser, unread};
+pub use parse::{Ending, Parser, unread};

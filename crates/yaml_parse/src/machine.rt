@@ -1,6 +1,7 @@
 //! The machine that takes tokens one by one and gives events.
 
-ghost use Rattle.std.specs.Prelude.{◌≡◌};
+ghost use Rattle.std.specs.Prelude.{◌≡◌, []};
+ghost use Rattle.yaml_parse.specs.Kept.{Keeps};
 ghost use Rattle.yaml_parse.specs.Places.{place_of};
 
 use crate::fault::{endless, fault_in};
@@ -33,7 +34,8 @@ impl<'a> Machine<'a> {
     // A parser that has taken no token of a text that begins at this mark. Takes no memory.
     pub(crate) fn new(alloc: Global, text: &'a [u8], start: Mark) -> Machine<'a>
         requires { (start.line, start.column) ≡ place_of text.now start.index }
-        ensures { result.stream.text.now ≡ text.now }
+        ensures text { result.stream.text.now ≡ text.now }
+        ensures none { result.stream.events.handed.items ≡ [] }
     {
         Machine {
             alloc,
@@ -51,7 +53,7 @@ impl<'a> Machine<'a> {
     // Goes over a token and what stands before it.
     #[inline(always)]
     pub(crate) fn take(&mut self, placed: Placed) -> Result<(), Stop>
-        ensures { self.new.stream.text.now ≡ self.old.stream.text.now }
+        ensures { Keeps self.old.stream self.new.stream }
     {
         let Placed {
             lead,
@@ -66,7 +68,7 @@ impl<'a> Machine<'a> {
 
     // Goes over the place of a key, and the start of a mapping before it, if one begins there.
     fn begin_key(&mut self, mapping: bool, start: Mark) -> Result<(), Stop>
-        ensures { self.new.stream.text.now ≡ self.old.stream.text.now }
+        ensures { Keeps self.old.stream self.new.stream }
     {
         let before = Span {
             start,
@@ -81,7 +83,7 @@ impl<'a> Machine<'a> {
     // Goes over a token.
     #[inline(always)]
     fn feed(&mut self, token: &mut Token, at: &Span) -> Result<(), Stop>
-        ensures { self.new.stream.text.now ≡ self.old.stream.text.now }
+        ensures { Keeps self.old.stream self.new.stream }
     {
         'steps: for _ in 0..STEPS {
             if self.step(token, at)? {
@@ -94,7 +96,7 @@ impl<'a> Machine<'a> {
     // One step at a token: whether it was used up.
     #[inline(always)]
     fn step(&mut self, token: &mut Token, at: &Span) -> Result<bool, Stop>
-        ensures { self.new.stream.text.now ≡ self.old.stream.text.now }
+        ensures { Keeps self.old.stream self.new.stream }
     {
         match self.stream.phase() {
             Phase::First => self.document_start(true, token, at),
@@ -111,7 +113,7 @@ impl<'a> Machine<'a> {
     // One step at a token in a collection.
     #[inline(always)]
     fn inside(&mut self, frame: Frame, token: &mut Token, at: &Span) -> Result<bool, Stop>
-        ensures { self.new.stream.text.now ≡ self.old.stream.text.now }
+        ensures { Keeps self.old.stream self.new.stream }
     {
         match frame {
             Frame::BlockEntry => self.block_entry(token, at),
@@ -139,7 +141,7 @@ impl<'a> Machine<'a> {
     // Goes on in the innermost collection by an indicator.
     #[inline(always)]
     pub(crate) fn pass(&mut self, frame: Frame, at: &Span) -> Result<bool, Stop>
-        ensures { self.new.stream.text.now ≡ self.old.stream.text.now }
+        ensures { Keeps self.old.stream self.new.stream }
     {
         self.indicator = *at;
         self.stream.go(frame);
@@ -148,7 +150,7 @@ impl<'a> Machine<'a> {
 
     // What is wrong within the innermost collection.
     pub(crate) fn fault_within(&mut self, context: Context, problem: Problem, mark: Mark) -> Stop
-        ensures { self.new.stream.text.now ≡ self.old.stream.text.now }
+        ensures { Keeps self.old.stream self.new.stream }
     {
         let opened = self.stream.opened();
         self.stream.stop(fault_in(context, opened, problem, mark))

@@ -3,6 +3,7 @@
 ghost use Rattle.std.specs.Prelude.{◌≡◌, ◌≢◌, None, drop, length, min, true};
 ghost use Rattle.yaml_base.specs.declared.event.ScalarStyle.TheVariants as written;
 ghost use Rattle.yaml_base.specs.declared.open.Open.TheVariants.{Key, Sequence};
+ghost use Rattle.yaml_parse.specs.Kept.{Keeps};
 ghost use Rattle.yaml_parse.specs.Frames.{open_of};
 
 use crate::fault::fault_in;
@@ -91,7 +92,7 @@ fn mark_behind(indicator: &Span) -> Mark {
 impl<'a> Machine<'a> {
     // A node, or a part of what stands before one.
     pub(crate) fn node(&mut self, nodes: Nodes, token: &mut Token, at: &Span) -> Result<bool, Stop>
-        ensures { self.new.stream.text.now ≡ self.old.stream.text.now }
+        ensures { Keeps self.old.stream self.new.stream }
     {
         if self.properties.is_none() {
             return self.first(nodes, token, at);
@@ -105,7 +106,7 @@ impl<'a> Machine<'a> {
     // A node with nothing before it, or the first part of what stands before one.
     #[inline(always)]
     fn first(&mut self, nodes: Nodes, token: &mut Token, at: &Span) -> Result<bool, Stop>
-        ensures { self.new.stream.text.now ≡ self.old.stream.text.now }
+        ensures { Keeps self.old.stream self.new.stream }
     {
         match token {
             Token::Alias(name) => {
@@ -129,7 +130,7 @@ impl<'a> Machine<'a> {
         token: &mut Token,
         at: &Span,
     ) -> Result<bool, Stop>
-        ensures { self.new.stream.text.now ≡ self.old.stream.text.now }
+        ensures { Keeps self.old.stream self.new.stream }
     {
         match token {
             Token::Anchor(name) if properties.anchor.is_none() => {
@@ -157,7 +158,7 @@ impl<'a> Machine<'a> {
 
     // What stands before a node, with its tag resolved.
     fn named(&mut self, properties: Properties) -> Result<Named, Stop>
-        ensures { self.new.stream.text.now ≡ self.old.stream.text.now }
+        ensures { Keeps self.old.stream self.new.stream }
     {
         let Properties {
             anchor,
@@ -177,7 +178,7 @@ impl<'a> Machine<'a> {
 
     // The tag of a node, which begins at `start`.
     fn tag(&mut self, tag: Option<WrittenTag>, start: Mark) -> Result<Option<Tag>, Stop>
-        ensures { self.new.stream.text.now ≡ self.old.stream.text.now }
+        ensures { Keeps self.old.stream self.new.stream }
     {
         let Some(written) = tag else {
             return Ok(None);
@@ -205,7 +206,7 @@ impl<'a> Machine<'a> {
         token: &mut Token,
         at: &Span,
     ) -> Result<bool, Stop>
-        ensures { self.new.stream.text.now ≡ self.old.stream.text.now }
+        ensures { Keeps self.old.stream self.new.stream }
     {
         match token {
             Token::BlockEntry if matches!(nodes, Nodes::Indentless) => {
@@ -243,7 +244,7 @@ impl<'a> Machine<'a> {
 
     // An empty scalar behind an anchor or a tag; with neither a node has to stand here.
     fn no_node(&mut self, named: Named, nodes: Nodes, mark: Mark) -> Result<bool, Stop>
-        ensures { self.new.stream.text.now ≡ self.old.stream.text.now }
+        ensures { Keeps self.old.stream self.new.stream }
     {
         if named.anchor.is_none() && named.tag.is_none() {
             let context = match nodes {
@@ -268,7 +269,7 @@ impl<'a> Machine<'a> {
     #[tactic(auto, using(crate::proofs::PlainTexts::says))]
     #[inline(always)]
     fn plain(&mut self, named: Named, begin: u64, end: u64) -> Result<(), Stop>
-        ensures { self.new.stream.text.now ≡ self.old.stream.text.now }
+        ensures { Keeps self.old.stream self.new.stream }
     {
         let front = named.len_before(begin);
         let Named {
@@ -298,7 +299,7 @@ impl<'a> Machine<'a> {
         end: u64,
     ) -> Result<(), Stop>
         requires { style ≢ written.Plain }
-        ensures { self.new.stream.text.now ≡ self.old.stream.text.now }
+        ensures { Keeps self.old.stream self.new.stream }
     {
         let Named {
             anchor,
@@ -319,7 +320,7 @@ impl<'a> Machine<'a> {
 
     // An empty scalar before this token, with nothing of its own.
     pub(crate) fn nothing(&mut self, mark: Mark) -> Result<bool, Stop>
-        ensures { self.new.stream.text.now ≡ self.old.stream.text.now }
+        ensures { Keeps self.old.stream self.new.stream }
     {
         self.plain(Named::alone(mark), mark.index(), mark.index())?;
         Ok(false)
@@ -328,7 +329,7 @@ impl<'a> Machine<'a> {
     // An empty scalar behind an indicator, with nothing of its own.
     #[inline(never)]
     pub(crate) fn nothing_behind(&mut self, indicator: &Span) -> Result<bool, Stop>
-        ensures { self.new.stream.text.now ≡ self.old.stream.text.now }
+        ensures { Keeps self.old.stream self.new.stream }
     {
         self.nothing(mark_behind(indicator))
     }
@@ -337,7 +338,7 @@ impl<'a> Machine<'a> {
     #[inline(always)]
     fn sequence(&mut self, named: Named, first: Frame, opened: Mark) -> Result<(), Stop>
         requires { open_of first ≡ Sequence }
-        ensures { self.new.stream.text.now ≡ self.old.stream.text.now }
+        ensures { Keeps self.old.stream self.new.stream }
     {
         let Named {
             anchor,
@@ -353,7 +354,7 @@ impl<'a> Machine<'a> {
     #[inline(always)]
     fn mapping(&mut self, named: Named, first: Frame, opened: Mark) -> Result<(), Stop>
         requires { open_of first ≡ Key }
-        ensures { self.new.stream.text.now ≡ self.old.stream.text.now }
+        ensures { Keeps self.old.stream self.new.stream }
     {
         let Named {
             anchor,

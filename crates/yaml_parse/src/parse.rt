@@ -1,6 +1,6 @@
 //! Tokens to events.
 
-ghost use Rattle.std.specs.Prelude.{◌≡◌, ◌≢◌, [], IfOk, IfSome, Some, is_some, true};
+ghost use Rattle.std.specs.Prelude.{◌≡◌, ◌≢◌, ◌++◌, [], IfNone, IfOk, IfSome, Some, is_some, option_to_list, true};
 ghost use Rattle.std.specs.Option.{ForSome};
 ghost use Rattle.std.proofs.Props.{props};
 ghost use Rattle.yaml_base.specs.MarkedEvents.{plain_events};
@@ -18,12 +18,10 @@ use std::alloc::{AllocError, Global};
 use yaml_base::{Event, Mark, ParserFault};
 use yaml_token::{Fault, Finding, Placed, Stop};
 
-/// The events of a text, up to its end or its first fault.
+/// Why a text has no more events.
 #[derive(Drop)]
-pub struct Parsed<'a> {
-    /// The events, each with the mark where it begins.
-    pub events: Vec<(Event<'a>, Mark)>,
-    /// What is wrong behind them; none where the stream has come to its end.
+pub struct Ending {
+    /// What is wrong behind the events; none where the stream has come to its end.
     pub fault: Option<ParserFault>,
     /// The same fault in parts.
     pub found: Option<Fault>,
@@ -62,9 +60,12 @@ pub struct Parser<'a> {
 }
 
 impl<'a> Parser<'a> {
+    ghost use Rattle.yaml_parse.specs.Handed.{handed, made};
+
     /// A parser of a text that has taken no token. The only error is want of memory.
     pub fn new(alloc: Global, text: &'a [u8]) -> Result<Parser<'a>, AllocError>
-        ensures { IfOk result (λ parser. parser.text.now ≡ text.now) }
+        ensures text { IfOk result (λ parser. parser.text.now ≡ text.now) }
+        ensures none { IfOk result (λ parser. handed parser ≡ []) }
     {
         let mut machine = Machine::new(alloc, text, start_mark());
         let own = match machine.stream.begin_stream(start_mark()) {
@@ -77,7 +78,8 @@ impl<'a> Parser<'a> {
     /// Takes the next token of the text, and tells whether more may come: none behind the parser's own fault. The only
     /// error is want of memory.
     pub fn take(&mut self, placed: Placed) -> Result<bool, AllocError>
-        ensures { self.new.text.now ≡ self.old.text.now }
+        ensures text { self.new.text.now ≡ self.old.text.now }
+        ensures handed { handed self.new ≡ handed self.old }
     {
         if self.own.is_some() {
             return Ok(false);
@@ -91,58 +93,63 @@ impl<'a> Parser<'a> {
         }
     }
 
-    /// The events of the tokens that were taken, which borrow from the text, up to the parser's own first fault or else
-    /// with this fault behind them, if there is one. Tokens that neither end nor have a fault give a fault of kind
-    /// `Other`. The only error is want of memory.
-    pub fn finish(self, alloc: Global, fault: Option<Fault>) -> Result<Parsed<'a>, AllocError>
-        ensures kept { IfOk result (λ parsed. parsed.events.items ≡ self.entry.machine.stream.events.items) }
-        ensures taken { IfOk result (λ parsed.
-            IsWellFormed (is_some parsed.fault) (plain_events parsed.events.items)) }
-        ensures sources { IfOk result (λ parsed. AreShown self.entry.text.now parsed.events.items) }
-        ensures plain { IfOk result (λ parsed. SaySources parsed.events.items) }
-        ensures marks { IfOk result (λ parsed. MarksAscend self.entry.text.now parsed.events.items) }
-        ensures places { IfOk result (λ parsed. AreInPlace self.entry.text.now parsed.events.items) }
-        ensures found { IfOk result (λ parsed. is_some parsed.found ≡ is_some parsed.fault) }
-        ensures not_readers { ForSome fault (λ f. f.kind ≢ kind.Reader) →
-            IfOk result (λ parsed. IsNotReaders parsed.fault) }
+    /// Hands out the next event that was made of the tokens, with the mark where it begins, or `None` where more tokens
+    /// have to be taken first. The event borrows from the text. Takes no memory.
+    #[inline(always)]
+    pub fn next_event(&mut self) -> Option<(Event<'a>, Mark)>
+        ensures text { self.new.text.now ≡ self.old.text.now }
+        ensures handed { handed self.new ≡ handed self.old ++ option_to_list result }
+        ensures made { made self.new ≡ made self.old }
+        ensures none { IfNone result (handed self.new ≡ made self.new) }
     {
-        let Parser { machine, own, .. } = self;
-        let stream = machine.stream;
-        if stream.is_after() {
-            return Ok(Parsed {
-                events: stream.into_whole(),
+        self.machine.stream.pop()
+    }
+
+    /// What is known of the events that were handed out. This is a law: the call does nothing.
+    pub fn has_events(&self)
+        ensures sources { AreShown self.now.text.now (handed self.now) }
+        ensures plain { SaySources (handed self.now) }
+        ensures marks { MarksAscend self.now.text.now (handed self.now) }
+        ensures places { AreInPlace self.now.text.now (handed self.now) }
+    {
+        self.machine.stream.has_events();
+    }
+
+    /// Why no more events come: for the parser's own first fault, or else for this fault of the tokens, if there is one.
+    /// Tokens that neither end nor have a fault give a fault of kind `Other`. The only error is want of memory.
+    pub fn finish(self, alloc: Global, fault: Option<Fault>) -> Result<Ending, AllocError>
+        ensures taken { IfOk result (λ ending. IsWellFormed (is_some ending.fault) (plain_events (made self.entry))) }
+        ensures found { IfOk result (λ ending. is_some ending.found ≡ is_some ending.fault) }
+        ensures not_readers { ForSome fault (λ f. f.kind ≢ kind.Reader) →
+            IfOk result (λ ending. IsNotReaders ending.fault) }
+    {
+        if self.machine.stream.is_after() {
+            return Ok(Ending {
                 fault: None,
                 found: None,
             });
         }
-        let found = match (own, fault) {
+        let found = match (self.own, fault) {
             (Some(own), _) => own,
             (None, Some(fault)) => fault,
             (None, None) => no_end(start_mark()),
         };
-        let fault = owned(alloc, &found)?;
-        Ok(Parsed {
-            events: stream.into_cut(),
-            fault: Some(fault),
+        Ok(Ending {
+            fault: Some(owned(alloc, &found)?),
             found: Some(found),
         })
     }
 }
 
-/// No events, and the fault of a text that has no tokens. The only error is want of memory.
-pub fn unread<'a>(alloc: Global, fault: Fault) -> Result<Parsed<'a>, AllocError>
-    ensures taken { IfOk result (λ parsed.
-        IsWellFormed (is_some parsed.fault) (plain_events parsed.events.items)) }
-    ensures none { IfOk result (λ parsed. parsed.events.items ≡ []) }
-    ensures faulted { IfOk result (λ parsed. is_some parsed.fault ≡ true) }
-    ensures told { IfOk result (λ parsed. IfSome parsed.fault (IsToldBy fault)) }
-    ensures found { IfOk result (λ parsed. parsed.found ≡ Some fault) }
+/// Why a text without tokens has no events: for this fault. The only error is want of memory.
+pub fn unread(alloc: Global, fault: Fault) -> Result<Ending, AllocError>
+    ensures taken { IfOk result (λ ending. IsWellFormed (is_some ending.fault) []) }
+    ensures faulted { IfOk result (λ ending. is_some ending.fault ≡ true) }
+    ensures told { IfOk result (λ ending. IfSome ending.fault (IsToldBy fault)) }
+    ensures found { IfOk result (λ ending. ending.found ≡ Some fault) }
 {
-    let found = Some(fault);
-    let fault = Some(owned(alloc, &fault)?);
-    Ok(Parsed {
-        events: Vec::new(alloc),
-        fault,
-        found,
+    Ok(Ending {
+        fault: Some(owned(alloc, &fault)?),
+        found: Some(fault),
     })
 }

@@ -1,6 +1,6 @@
 -- The text stays the same.
-use Rattle.std.proofs.Common.{◌≡◌}
+use Rattle.yaml_parse.specs.Kept.{Keeps}
 use Rattle.yaml_parse.proofs.machine.Machine.feed.Given as goal
 
 abbrev pub invariant-steps : goal.invariant-steps
-invariant-steps l = l.self.stream.text.now ≡ l.fn.self.stream.text.now
+invariant-steps l = Keeps l.fn.self.stream l.self.stream

@@ -1,0 +1,11 @@
+-- The events of a parser: all that it made of its tokens, and those of them that it handed out.
+use Rattle.std.specs.Prelude.{List}
+use Rattle.yaml_base.specs.Position.{Position}
+use Rattle.yaml_base.specs.declared.event.Event.{Event}
+use Rattle.yaml_parse.specs.declared.parse.Parser.{Parser}
+
+abbrev pub made : Parser → List (Event × Position)
+made parser = parser.machine.stream.events.made.items
+
+abbrev pub handed : Parser → List (Event × Position)
+handed parser = parser.machine.stream.events.handed.items

@@ -1,0 +1,73 @@
+//! The events that were made, of which the first were handed out.
+
+ghost use Rattle.std.specs.Prelude.{◌≡◌, ◌++◌, ◌∷◌, ◌-◌, ◌<◌, [], IfNone, OnOk, option_to_list};
+ghost use Rattle.std.specs.VecDeque.{deque_len, deque_capacity};
+ghost use Rattle.std.proofs.Props.{props};
+
+use std::alloc::{AllocError, Global};
+use std::collections::VecDeque;
+use yaml_base::{Event, Mark};
+use yaml_history::History;
+
+// Events one behind another, of which those that wait were not handed out.
+#[derive(Drop)]
+pub(crate) struct Queue<'a> {
+    waiting: VecDeque<(Event<'a>, Mark)>,
+    // All events, and those that were handed out.
+    made: History<(Event<'a>, Mark)>,
+    handed: History<(Event<'a>, Mark)>,
+    ghost order: { made.items ≡ handed.items ++ waiting.items } by { Prim.hlevel props },
+}
+
+impl<'a> Queue<'a> {
+    // No event. Takes no memory.
+    pub(crate) fn new(alloc: Global) -> Queue<'a>
+        ensures made { result.made.items ≡ [] }
+        ensures handed { result.handed.items ≡ [] }
+    {
+        Queue {
+            waiting: VecDeque::new(alloc),
+            made: History::new(),
+            handed: History::new(),
+        }
+    }
+
+    // Makes room for one event more.
+    #[inline(always)]
+    pub(crate) fn reserve(&mut self) -> Result<(), AllocError>
+        ensures made { self.new.made.items ≡ self.old.made.items }
+        ensures handed { self.new.handed.items ≡ self.old.handed.items }
+        ensures room { OnOk result (deque_len self.new.waiting < deque_capacity self.new.waiting) }
+    {
+        self.waiting.reserve(1)?;
+        Ok(())
+    }
+
+    // Adds an event behind the others.
+    #[inline(always)]
+    pub(crate) fn push_reserved(&mut self, event: (Event<'a>, Mark))
+        requires { deque_len self.old.waiting < deque_capacity self.old.waiting }
+        ensures made { self.new.made.items ≡ self.old.made.items ++ event.entry ∷ [] }
+        ensures handed { self.new.handed.items ≡ self.old.handed.items }
+    {
+        self.made = History::with(&self.made, &event);
+        self.waiting.push_back_reserved(event);
+    }
+
+    // Hands out the first of the events that wait.
+    #[inline(always)]
+    pub(crate) fn pop(&mut self) -> Option<(Event<'a>, Mark)>
+        ensures made { self.new.made.items ≡ self.old.made.items }
+        ensures handed { self.new.handed.items ≡ self.old.handed.items ++ option_to_list result }
+        ensures none { IfNone result (self.new.handed.items ≡ self.new.made.items) }
+        ensures fewer { deque_len self.new.waiting ≡ deque_len self.old.waiting - 1 }
+    {
+        match self.waiting.pop_front() {
+            Some(event) => {
+                self.handed = History::with(&self.handed, &event);
+                Some(event)
+            }
+            None => None,
+        }
+    }
+}

@@ -1,0 +1,23 @@
+-- Where the events of a text come from.
+use Rattle.std.specs.Prelude.{◌≡◌, ℕ, List, []}
+use Rattle.yaml_base.specs.Position.{Position}
+use Rattle.yaml_base.specs.declared.event.Event.{Event}
+use Rattle.yaml_parse.specs.Handed.{handed, made}
+use Rattle.yaml_scan.specs.AllowedText.{IsAllowed, IsOfReader}
+use Rattle.yaml_text.specs.declared.events.Source.{Source}
+use Rattle.yaml_text.specs.declared.events.Source.TheVariants.{Text, Unread}
+
+-- a text that is allowed has tokens, and no other has
+abbrev pub IsSourceOf : List ℕ → Source → Type 0
+IsSourceOf text (Text reading) = IsAllowed text × (reading.parser.text.now ≡ text)
+IsSourceOf text (Unread fault) = IsOfReader text fault.kind fault.offset
+
+-- the events that were handed out
+abbrev pub given_by : Source → List (Event × Position)
+given_by (Text reading) = handed reading.parser
+given_by (Unread fault) = []
+
+-- no event waits
+abbrev pub IsSpent : Source → Type 0
+IsSpent (Text reading) = handed reading.parser ≡ made reading.parser
+IsSpent (Unread fault) = Unit {0}
