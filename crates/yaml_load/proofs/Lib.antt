@@ -7,6 +7,7 @@ pub mod DraftLaws
 pub mod FilledEnds
 pub mod FinishLaws
 pub mod Gatherings
+pub mod Intakes
 pub mod LastAnchor
 pub mod LoadingEnds
 pub mod LoadingLaws

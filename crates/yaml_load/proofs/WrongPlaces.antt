@@ -1,10 +1,10 @@
 -- Where the machine stops, the list of events goes wrong.
 use Rattle.std.proofs.Common.{◌≡◌, ℕ, ◌+◌, ◌<◌, ◌≤◌, List, [], ◌∷◌, ◌++◌, length, take, drop, take_all, get_or, Some}
 use Rattle.std.proofs.Common.{None}
-use Rattle.std.proofs.Common.{Bool, true, false, refl, sym, ◌∙◌, ap, inl, inr, arith, append_assoc, append-nil, add-one}
-use Rattle.std.proofs.Common.{zero, suc}
-use Rattle.std.proofs.Math.Seq.{drop-cons}
-use Rattle.std.proofs.lemmas.List.{take_more, length-drop, length-map, take-append-drop}
+use Rattle.std.proofs.Common.{Bool, true, false, refl, sym, ◌∙◌, ap, inl, inr, arith, append_assoc, append-nil, subst}
+use Rattle.std.proofs.Math.Seq.{take-append-add, take-append_seam, take-length}
+use Rattle.std.proofs.lemmas.List.{length-append, length-map, map-append, take-append-drop}
+use Rattle.std.proofs.lemmas.Simd.{map-map}
 use Rattle.yaml_base.specs.Position.{Position}
 use Rattle.yaml_base.specs.PlainEvent.{PlainEvent, event_of}
 use Rattle.yaml_base.specs.declared.event.Event.{Event}
@@ -13,26 +13,19 @@ use Rattle.yaml_base.specs.declared.open.Open.{Open}
 use Rattle.yaml_load.specs.declared.loader.check.Phase.{Phase}
 use Rattle.yaml_load.specs.declared.loader.check.Phase.TheVariants.{Before, Between, Root, Within, Ended, After}
 use Rattle.yaml_base.specs.StreamMachine.{State, before_stream, after_stream, next_state, run}
+use Rattle.yaml_load.specs.Documents.{Input}
+use Rattle.yaml_load.specs.MarkedEvents.{events_in, plain_events, plain_marked}
 use Rattle.yaml_load.specs.StreamPhases.{is_done, state_of}
-use Rattle.yaml_load.specs.MarkedEvents.{plain_events}
-use Rattle.yaml_load.specs.WrongPlace.{IsWrongAt}
+use Rattle.yaml_load.specs.WrongPlace.{IsWrongAt, IsWrongNext}
 use Rattle.yaml_base.proofs.StreamMachineLaws.{whole_run, goes_on_run, run_append}
 
-pub run_more : (es : List PlainEvent) (i : ℕ) (d : PlainEvent) (s : State) → i < length es
-    → run (Some before_stream) (take i es) ≡ Some s
-    → run (Some before_stream) (take (i + 1) es) ≡ next_state s (get_or es i d)
-run_more es i d s h ran =
-    ap (run (Some before_stream)) (take_more es i d h) ∙ run_append (take i es) (get_or es i d ∷ [])
-    (Some before_stream) ∙ ap (λ o. run o (get_or es i d ∷ [])) ran
+-- the plain events of events with marks
+pub events_of_marked : (events : List (Event × Position)) → events_in (plain_marked events) ≡ plain_events events
+events_of_marked events =
+    map-map (λ (e : PlainEvent × Position). e.0) (λ (e : Event × Position). (event_of e.0, e.1)) events
 
 not_some : (es : List PlainEvent) → run (Some before_stream) es ≡ None → IsBeginning es → ⊥
 not_some es e g = let found = (goes_on_run es).0 g in let is = found.1 in cc
-
-pub wrong_at : (faulted : Bool) (es : List PlainEvent) (i : ℕ) (d : PlainEvent) (s : State) → i < length es
-    → run (Some before_stream) (take i es) ≡ Some s
-    → next_state s (get_or es i d) ≡ None → IsWrongAt faulted es i
-wrong_at faulted es i d s h ran stop =
-    ((goes_on_run (take i es)).1 (s, ran), inl (h, not_some (take (i + 1) es) (run_more es i d s h ran ∙ stop)))
 
 -- the end, of a whole stream
 pub whole_at_end : (es : List PlainEvent) (s : State) → run (Some before_stream) es ≡ Some s → s ≡ after_stream
@@ -50,37 +43,6 @@ wrong_whole es s ran e w = w.1 (whole_at_end es s ran e)
 pub wrong_cut : (es : List PlainEvent) (s : State) → run (Some before_stream) es ≡ Some s → (s ≡ after_stream → ⊥)
     → IsWellFormed false es → ⊥
 wrong_cut es s ran e w = (cut_at_end es s ran e).1 w
-
-pub ran_all : (es : List PlainEvent) (i : ℕ) (s : State) → length es ≤ i → run (Some before_stream) (take i es) ≡ Some s
-    → run (Some before_stream) es ≡ Some s
-ran_all es i s h ran = ap (run (Some before_stream)) (sym (take_all i es h)) ∙ ran
-
--- the plain events are as many as the events
-pub length-plain_events : (events : List (Event × Position)) → length (plain_events events) ≡ length events
-length-plain_events events = length-map events (λ (e : Event × Position). event_of e.0)
-
--- the plain event at a place is that of the event at the place
-pub plain_event_at : (events : List (Event × Position)) (i : ℕ) (d : Event × Position)
-    → get_or (plain_events events) i (event_of d.0) ≡ event_of (get_or events i d).0
-plain_event_at [] i d = refl
-plain_event_at (e ∷ events) zero d = refl
-plain_event_at (e ∷ events) (suc i) d = plain_event_at events i d
-
--- the state after one more event
-pub run_plain : (events : List (Event × Position)) (i : ℕ) (d : Event × Position) (s : State)
-    → i < length events → run (Some before_stream) (take i (plain_events events)) ≡ Some s
-    → run (Some before_stream) (take (i + 1) (plain_events events)) ≡ next_state s (event_of (get_or events i d).0)
-run_plain events i d s h ran =
-    run_more (plain_events events) i (event_of d.0) s (omega (arith, length-plain_events events)) ran
-    ∙ ap (next_state s) (plain_event_at events i d)
-
--- where the machine stops, the events go wrong
-pub wrong_plain : (faulted : Bool) (events : List (Event × Position)) (i : ℕ) (d : Event × Position) (s : State)
-    → i < length events → run (Some before_stream) (take i (plain_events events)) ≡ Some s
-    → next_state s (event_of (get_or events i d).0) ≡ None → IsWrongAt faulted (plain_events events) i
-wrong_plain faulted events i d s h ran stop =
-    wrong_at faulted (plain_events events) i (event_of d.0) s (omega (arith, length-plain_events events)) ran
-    (ap (next_state s) (plain_event_at events i d) ∙ stop)
 
 -- the front of a beginning of a stream is one too
 pub beginning_taken : (events : List PlainEvent) (k : ℕ) → IsBeginning events → IsBeginning (take k events)
@@ -140,36 +102,47 @@ right true false p opened es ran h other = cut_at_end es (state_of p opened) ran
 right false true p opened es ran h other = whole_at_end es (state_of p opened) ran (done_state p opened h)
 right false false p opened es ran h other = absurd (other refl)
 
-module _ (faulted : Bool) (p : Phase) (opened : List Open) (events : List (Event × Position)) (i : ℕ)
-    (within : i ≤ length events)
-    (end : drop i events ≡ []) (ran : run (Some before_stream) (take i (plain_events events))
-    ≡ Some (state_of p opened)) where
-  all_read : i ≡ length (plain_events events)
-  all_read = omega (arith, within, ap length end, length-drop i events, length-plain_events events)
-
-  ran_whole : run (Some before_stream) (plain_events events) ≡ Some (state_of p opened)
-  ran_whole = ran_all (plain_events events) i (state_of p opened) (omega (arith, all_read)) ran
-
-  pub wrong_end : is_done p ≡ faulted → IsWrongAt faulted (plain_events events) i
+module _ (faulted : Bool) (p : Phase) (opened : List Open) (events : List PlainEvent)
+    (ran : run (Some before_stream) events ≡ Some (state_of p opened)) where
+  pub wrong_end : is_done p ≡ faulted → IsWrongAt faulted events (length events)
   wrong_end h = (
-    (goes_on_run (take i (plain_events events))).1 (state_of p opened, ran),
-    inr (all_read, not_right faulted p opened (plain_events events) ran_whole h),
+    subst IsBeginning (sym (take-length events)) ((goes_on_run events).1 (state_of p opened, ran)),
+    inr (refl, not_right faulted p opened events ran h),
   )
 
-  pub right_end : (is_done p ≡ faulted → ⊥) → IsWellFormed faulted (plain_events events)
-  right_end h = right faulted (is_done p) p opened (plain_events events) ran_whole refl h
+  pub right_end : (is_done p ≡ faulted → ⊥) → IsWellFormed faulted events
+  right_end h = right faulted (is_done p) p opened events ran refl h
 
--- the event at a place, and those behind it
-pub at_place : (events rest : List (Event × Position)) (i : ℕ) (x : Event × Position) → drop i events ≡ x ∷ rest
-    → i < length events
-at_place events rest i x h = omega (arith, ap length h, length-drop i events)
+-- the event behind a beginning of a stream is wrong where the machine stops there
+pub wrong_next : (events : List PlainEvent) (e : PlainEvent) (s : State)
+    → run (Some before_stream) events ≡ Some s → next_state s e ≡ None → IsWrongNext events e
+wrong_next events e s ran stop = (
+  (goes_on_run events).1 (s, ran),
+  not_some (events ++ e ∷ [])
+      (run_append events (e ∷ []) (Some before_stream) ∙ ap (λ o. run o (e ∷ [])) ran ∙ stop),
+)
 
-same_parts : {X : Type 0} (x y : X) (xs ys : List X) → x ∷ xs ≡ y ∷ ys → (x ≡ y) × (xs ≡ ys)
-same_parts x y xs ys h = (cc, cc)
+-- a list goes wrong where its first wrong event stands
+pub wrong_behind : (faulted : Bool) (front rest : List PlainEvent) (e : PlainEvent) → IsWrongNext front e
+    → IsWrongAt faulted (front ++ e ∷ rest) (length front)
+wrong_behind faulted front rest e h = (
+  subst IsBeginning (sym (take-append_seam front (e ∷ rest))) h.0,
+  inl (
+    omega (arith, length-append front (e ∷ rest)),
+    λ begins. h.1 (subst IsBeginning (take-append-add front (e ∷ rest) 1) begins),
+  ),
+)
 
-pub next_parts : (events rest : List (Event × Position)) (i : ℕ) (x : Event × Position) → drop i events ≡ x ∷ rest
-    → (get_or events i x ≡ x) × (drop (i + 1) events ≡ rest)
-next_parts events rest i x h =
-    let parts = same_parts x (get_or events i x) rest (drop (suc i) events)
-    (sym h ∙ drop-cons events i x (at_place events rest i x h)) in
-    (sym parts.0, ap (λ n. drop n events) (add-one i) ∙ sym parts.1)
+-- the same among events of which some were taken and some are left
+pub wrong_amid : (faulted : Bool) (events : List (Event × Position)) (taken : Input) (left rest : List (Event × Position))
+    (x : Event × Position) → plain_marked events ≡ taken ++ plain_marked left → left ≡ x ∷ rest
+    → IsWrongNext (events_in taken) (event_of x.0) → IsWrongAt faulted (plain_events events) (length taken)
+wrong_amid faulted events taken left rest x all is wrong =
+    let later = events_in (plain_marked rest) in
+    let whole : plain_events events ≡ events_in taken ++ event_of x.0 ∷ later =
+    sym (events_of_marked events) ∙ ap events_in (all ∙ ap (λ l. taken ++ plain_marked l) is)
+    ∙ map-append (λ (e : PlainEvent × Position). e.0) taken (plain_marked (x ∷ rest)) in
+    subst (λ es. IsWrongAt faulted es (length taken)) (sym whole)
+    (subst (IsWrongAt faulted (events_in taken ++ event_of x.0 ∷ later))
+    (length-map taken (λ (e : PlainEvent × Position). e.0))
+    (wrong_behind faulted (events_in taken) later (event_of x.0) wrong))

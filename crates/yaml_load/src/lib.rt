@@ -8,4 +8,4 @@ pub mod stream_law;
 
 pub use doc_event::{DocEvent, DocScalar, DocStart};
 pub use document::LoadedDocument;
-pub use loader::Loader;
+pub use loader::{Loader, LoaderBuilder};

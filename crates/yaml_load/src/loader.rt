@@ -1,6 +1,7 @@
 //! The documents of a stream, one after another.
 
 mod anchors;
+mod builder;
 mod check;
 mod draft;
 mod ends;
@@ -12,18 +13,15 @@ ghost use Rattle.std.specs.Prelude.{◌≡◌, ℕ, ◌++◌, [], IfNone, IfOk, 
 ghost use Rattle.yaml_base.specs.Answer.{is_memory};
 ghost use Rattle.yaml_base.specs.Stream.{IsWellFormed};
 ghost use Rattle.yaml_base.specs.declared.error.Cause.TheVariants.{NotAStream};
-ghost use Rattle.yaml_load.specs.Documents.{documents_of, last_mark};
+ghost use Rattle.yaml_load.specs.Documents.{documents_of};
 ghost use Rattle.yaml_load.specs.MarkedEvents.{plain_events, plain_marked};
 ghost use Rattle.yaml_load.specs.WrongPlace.{IsWrongAt};
-ghost use Rattle.yaml_load.specs.inner.Drafts.{IsBetween};
 
 use crate::document::LoadedDocument;
-use crate::loader::check::{Phase, is_after, is_inside};
-use crate::loader::draft::Draft;
-use crate::loader::share::share;
+pub use builder::LoaderBuilder;
 use std::alloc::Global;
 use std::marker::Model;
-use yaml_base::{Cause, Error, Event, Mark, ParserFault};
+use yaml_base::{Event, Mark, ParserFault};
 
 /// The documents of a stream that are still to be handed out.
 #[derive(Drop)]
@@ -39,52 +37,6 @@ impl<'de> Model for Loader<'de> {
     ghost Value = { List PlainDocument };
 
     ghost view = { λ l. into_iter_items l.left };
-}
-
-// The mark of the last event.
-fn last(events: &[(Event<'_>, Mark)]) -> Option<Mark>
-    ensures { result ≡ last_mark (plain_marked events.now) }
-{
-    match events.last() {
-        Some(last) => Some(last.1),
-        None => None,
-    }
-}
-
-// All events, checked and put into documents one after another.
-fn load<'de>(
-    alloc: Global,
-    events: Vec<(Event<'de>, Mark)>,
-    fault: Option<ParserFault>,
-) -> yaml_base::Result<Draft<'de>>
-    ensures accepted { IfOk result (λ _.
-        IsWellFormed (is_some fault) (plain_events events.entry.items)) }
-    ensures documents { IfOk result (λ draft.
-        IsBetween (documents_of (plain_marked events.entry.items) fault) draft) }
-    ensures refused { IfErr result (λ cause. is_memory cause ≡ false
-        → IsWellFormed (is_some fault) (plain_events events.entry.items) → ⊥) }
-    ensures wrong { IfErr result (λ cause. is_memory cause ≡ false
-        → (place : ℕ) × (cause ≡ NotAStream place)
-        × IsWrongAt (is_some fault) (plain_events events.entry.items) place) }
-{
-    let end = last(&events);
-    let mut draft = Draft::with_capacity(alloc, events.len())?;
-    let mut outer = Vec::new(alloc);
-    let mut phase = Phase::Before;
-    let mut place = 0;
-    let mut rest = events.into_iter();
-    'events: while let Some((event, mark)) = rest.next() {
-        match draft.take(alloc, phase, &mut outer, event, mark)? {
-            None => return Err(Error::new(Cause::NotAStream(place))),
-            Some(after) => phase = after,
-        }
-        place += 1;
-    }
-    if is_after(phase) == fault.is_some() {
-        return Err(Error::new(Cause::NotAStream(place)));
-    }
-    draft.close(alloc, is_inside(phase), end, fault)?;
-    Ok(draft)
 }
 
 impl<'de> Loader<'de> {
@@ -106,10 +58,14 @@ impl<'de> Loader<'de> {
             → (place : ℕ) × (cause ≡ NotAStream place)
             × IsWrongAt (is_some fault) (plain_events events.entry.items) place) }
     {
-        let draft = load(alloc, events, fault)?;
-        Ok(Loader {
-            left: share(alloc, draft)?.into_iter(),
-        })
+        let mut builder = LoaderBuilder::with_capacity(alloc, events.len())?;
+        let mut rest = events.into_iter();
+        'events: while let Some((event, mark)) = rest.next() {
+            if let Err(fault) = builder.push(event, mark) {
+                return Err(fault);
+            }
+        }
+        builder.finish(fault)
     }
 
     /// The next document, or `None` once each was handed out, for good. Takes no memory.

@@ -1,23 +1,62 @@
--- The documents of a stream have their trees, and are cut off by what may cut them off.
-use Rattle.std.proofs.Common.{All, is_some, subst, sym}
-use Rattle.std.proofs.lemmas.Simd.{map-map}
-use Rattle.yaml_base.specs.PlainEvent.{PlainEvent, event_of}
-use Rattle.yaml_base.specs.Position.{Position}
+-- The list goes wrong where the builder refuses an event, or the end; else the builder took all of it.
+use Rattle.std.proofs.Common.{◌≡◌, ◌∙◌, ◌++◌, Err, IfErr, IfOk, Ok, Result, ap, append-nil, arith, is_some, length, subst, sym}
+use Rattle.std.specs.Vec.Iter.{into_iter_items}
 use Rattle.yaml_base.specs.Stream.{IsWellFormed}
-use Rattle.yaml_base.specs.declared.event.Event.{Event}
-use Rattle.yaml_load.specs.MarkedEvents.{plain_marked}
-use Rattle.yaml_load.specs.StreamLaw.{IsDocument}
-use Rattle.yaml_load.proofs.StreamEndings.{all_endings}
-use Rattle.yaml_load.proofs.StreamTrees.{whole_has_tree}
+use Rattle.yaml_load.specs.MarkedEvents.{events_in, plain_events, plain_marked}
+use Rattle.yaml_load.specs.WrongPlace.{IsWrongAt}
+use Rattle.yaml_load.proofs.LoadingEnds.{nothing_left}
+use Rattle.yaml_load.proofs.WrongPlaces.{events_of_marked, wrong_amid, wrong_not_well_formed}
 use Rattle.yaml_load.proofs.loader.Loader.new.Goals as goal
 
-pub share-requires-clause-documents : goal.share-requires-clause-documents
-share-requires-clause-documents c =
-    let events = c.args.events.items in
-    let trees = whole_has_tree (plain_marked events) c.args.fault
-    (subst (IsWellFormed (is_some c.args.fault))
-    (sym (map-map (λ (e : PlainEvent × Position). e.0) (λ (e : Event × Position). (event_of e.0, e.1)) events))
-    c.in_ok-draft.ensures.accepted) in
-    let endings = all_endings (plain_marked events) c.args.fault in
-    subst (All IsDocument) (sym c.in_ok-draft.ensures.documents.shown)
-    (λ k d lt. record { tree = trees k d lt; ending = endings k d lt })
+pub returns-in-Err-clause-wrong : goal.returns-in-Err-clause-wrong
+returns-in-Err-clause-wrong c = λ other.
+    let told = c.in-Err.ensures.wrong other in (
+      length c.events.builder,
+      told.0,
+      wrong_amid (is_some c.args.fault) c.args.events.items c.events.builder (into_iter_items c.events.rest)
+          (into_iter_items c.next.new.self) (c.in-Some.event, c.in-Some.mark) c.events.invariant.all
+          c.in-Some.ensures.items told.1,
+    )
+
+pub returns-in-Err-clause-refused : goal.returns-in-Err-clause-refused
+returns-in-Err-clause-refused c = λ other good.
+    let wrong = returns-in-Err-clause-wrong c other in
+    wrong_not_well_formed (is_some c.args.fault) (plain_events c.args.events.items) wrong.0 wrong.2 good
+
+pub returns-clause-accepted : goal.returns-clause-accepted
+returns-clause-accepted c =
+    let none =
+    nothing_left (into_iter_items c.events.rest) (omega (arith, c.events.rest.rest.ok, c.in_default.ensures.cases.0)) in
+    let all : c.events.builder ≡ plain_marked c.args.events.items =
+    sym (c.events.invariant.all ∙ ap (λ (l : _). c.events.builder ++ plain_marked l) none ∙ append-nil c.events.builder) in
+    let plain = ap events_in all ∙ events_of_marked c.args.events.items in
+    subst (λ (es : _). IfOk c.finish.result (λ _. IsWellFormed (is_some c.args.fault) es)) plain
+    (subst (λ (f : _). IfOk c.finish.result (λ _. IsWellFormed (is_some f) (events_in c.events.builder)))
+    c.events.invariant.same c.finish.ensures.accepted)
+
+-- what is known of a fault is known of it in weaker words
+weaker : {T E : Type 0} (P Q : E → Type 0) (r : Result T E) → ((e : E) → P e → Q e) → IfErr r P → IfErr r Q
+weaker P Q (Ok x) goes h = tt
+weaker P Q (Err e) goes h = goes e h
+
+pub returns-clause-wrong : goal.returns-clause-wrong
+returns-clause-wrong c =
+    let none =
+    nothing_left (into_iter_items c.events.rest) (omega (arith, c.events.rest.rest.ok, c.in_default.ensures.cases.0)) in
+    let all : c.events.builder ≡ plain_marked c.args.events.items =
+    sym (c.events.invariant.all ∙ ap (λ (l : _). c.events.builder ++ plain_marked l) none ∙ append-nil c.events.builder) in
+    let plain = ap events_in all ∙ events_of_marked c.args.events.items in
+    weaker _ _ c.finish.result (λ cause told other. (
+      length c.events.builder,
+      (told other).0,
+      subst (λ (es : _). IsWrongAt (is_some c.args.fault) es (length c.events.builder)) plain
+          (subst (λ (f : _). IsWrongAt (is_some f) (events_in c.events.builder) (length c.events.builder))
+          c.events.invariant.same (told other).1),
+    )) c.finish.ensures.wrong
+
+pub returns-clause-refused : goal.returns-clause-refused
+returns-clause-refused c =
+    weaker _ _ c.finish.result (λ cause told other good.
+    let wrong = told other in
+    wrong_not_well_formed (is_some c.args.fault) (plain_events c.args.events.items) wrong.0 wrong.2 good)
+    (returns-clause-wrong c)

@@ -1,0 +1,14 @@
+-- All events are those that the builder took and those that are left.
+use Rattle.std.proofs.Common.{◌≡◌, ◌++◌, length}
+use Rattle.std.specs.Vec.Iter.{into_iter_items}
+use Rattle.yaml_load.specs.MarkedEvents.{plain_marked}
+use Rattle.yaml_load.proofs.loader.Loader.new.Given as goal
+
+abbrev pub invariant-events : goal.invariant-events
+invariant-events l = record {
+  same : l.fault ≡ l.fn.fault;
+  all : plain_marked l.fn.events.items ≡ l.builder ++ plain_marked (into_iter_items l.rest);
+}
+
+abbrev pub decreases-events : goal.decreases-events
+decreases-events l = length (into_iter_items l.rest)
