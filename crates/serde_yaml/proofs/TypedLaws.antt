@@ -78,15 +78,22 @@ pub same_events : (events : List (Event × Position)) → plain_events events �
 same_events [] = refl
 same_events (e ∷ events) = ap (λ es. event_of e.0 ∷ es) (same_events events)
 
+-- what the stream of an input gives, the input gives
+pub whole_input : {limits : PlainLimits} {table : List PlainShape} {s : PlainShape} (input : Input)
+    (fault : Option PlainFault) {stream : PlainStream} → IsWellFormed (is_some fault) (events_in input)
+    → stream ≡ stream_of input fault → (given : Result PlainData Cause) → StreamGives limits table s stream given
+    → InputGives limits table s input fault given
+whole_input {limits} {table} {s} input fault formed is given g =
+    a_stream formed (subst (λ stream. StreamGives limits table s stream given) is g)
+
 -- what a stream of events gives, they give as an input
 pub stream_input : {limits : PlainLimits} {table : List PlainShape} {s : PlainShape} (events : List (Event × Position))
     (fault : Option PlainFault) {stream : PlainStream} → IsWellFormed (is_some fault) (plain_events events)
     → stream ≡ stream_of (plain_marked events) fault
     → (given : Result PlainData Cause) → StreamGives limits table s stream given
     → InputGives limits table s (plain_marked events) fault given
-stream_input {limits} {table} {s} events fault formed is given g =
-    a_stream (subst (IsWellFormed (is_some fault)) (same_events events) formed)
-    (subst (λ stream. StreamGives limits table s stream given) is g)
+stream_input events fault formed =
+    whole_input (plain_marked events) fault (subst (IsWellFormed (is_some fault)) (same_events events) formed)
 
 -- what the stream of an input gives is what the input means
 pub stream_means : InputsGiveMeanings → {limits : PlainLimits} {table : List PlainShape} {s : PlainShape}
@@ -94,8 +101,7 @@ pub stream_means : InputsGiveMeanings → {limits : PlainLimits} {table : List P
     → stream ≡ stream_of input fault → (given : Result PlainData Cause) → StreamGives limits table s stream given
     → GivesMeaning limits table s input fault given
 stream_means law {limits} {table} {s} input fault formed is given g =
-    law limits table s input fault given
-    (a_stream formed (subst (λ stream. StreamGives limits table s stream given) is g))
+    law limits table s input fault given (whole_input input fault formed is given g)
 
 -- events that are no stream give the fault that they are refused by
 pub refused_input : {limits : PlainLimits} {table : List PlainShape} {s : PlainShape}

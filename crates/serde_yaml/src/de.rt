@@ -27,6 +27,7 @@ use crate::laws::reading_gives_the_meaning;
 pub use input::data_from_events;
 use std::alloc::Global;
 use std::marker::Model;
+pub(crate) use typed::from_stream;
 pub use typed::{from_events, from_events_limited};
 use yaml_base::{Cause, Error, Event, Mark, ParserFault, Result};
 use yaml_read::{Document, Limits, Loader};
@@ -115,11 +116,17 @@ impl<'de> Deserializer<'de> {
         ensures wrong { IfErr result (λ cause. is_memory cause ≡ false → (place : ℕ) × (cause ≡ NotAStream place)
             × IsWrongAt (is_some fault) (plain_events events.entry.items) place) }
     {
-        let documents = Loader::new(alloc, events, fault)?;
-        Ok(Deserializer {
+        Ok(Deserializer::of_documents(Loader::new(alloc, events, fault)?))
+    }
+
+    // A stream of these documents.
+    pub(crate) fn of_documents(documents: Loader<'de>) -> Deserializer<'de>
+        ensures { result ≡ (record { documents = documents.entry; is_document = false; iterated = false }) }
+    {
+        Deserializer {
             source: Source::Stream(documents),
             iterated: false,
-        })
+        }
     }
 
     /// The data of the stream's one document under the shape with this number, within 128 nestings and 100 follows for

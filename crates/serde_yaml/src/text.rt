@@ -1,9 +1,7 @@
 //! Reading YAML text.
 
-ghost use Rattle.std.specs.Prelude.{◌≡◌, ◌<◌, length, Some, IfOk, IfErr, is_some, true};
+ghost use Rattle.std.specs.Prelude.{◌≡◌, ◌<◌, length, Some, IfOk, IfErr, true};
 ghost use Rattle.yaml_base.specs.Answer.{Answers, is_memory};
-ghost use Rattle.yaml_base.specs.MarkedEvents.{events_in, plain_marked};
-ghost use Rattle.yaml_base.specs.Stream.{IsWellFormed};
 ghost use Rattle.yaml_shape.specs.DataView.{data_of};
 ghost use Rattle.yaml_shape.specs.HasShape.{HasShape};
 ghost use Rattle.yaml_shape.specs.PlainShape.{PlainShape, shape_at};
@@ -14,31 +12,21 @@ ghost use Rattle.serde_yaml.specs.TextReads.{IsOfAStream, IsParsed};
 ghost use Rattle.serde_yaml.specs.TypedHeadline.{GivesValue};
 ghost use Rattle.serde_yaml.specs.TypedReads.{TypeGives};
 
-use crate::de::{Deserializer, data_from_events, from_events_limited};
+use crate::de::{Deserializer, from_stream};
+use crate::laws::reading_gives_the_meaning;
 use std::alloc::Global;
-use yaml_base::{Cause, Error, Result};
+use yaml_base::Result;
+use yaml_documents::load;
 use yaml_read::Limits;
+use yaml_read::laws::a_meaning_has_its_shape;
 use yaml_shape::{Data, Schema, ShapeId};
-use yaml_text::{Parsed, parse};
 use yaml_types::Deserialize;
-
-// The events of a text, and the parser's fault. The only error is want of memory.
-fn parsed<'de>(alloc: Global, text: &'de [u8]) -> Result<Parsed<'de>>
-    ensures taken { IfOk result (λ parsed.
-        IsWellFormed (is_some parsed.fault) (events_in (plain_marked parsed.events.items))) }
-    ensures memory { IfErr result (λ cause. is_memory cause ≡ true) }
-{
-    match parse(alloc, text) {
-        Ok(parsed) => Ok(parsed),
-        Err(_) => Err(Error::new(Cause::Memory)),
-    }
-}
 
 /// The one document of a YAML text as a value of the type, within 128 nestings and 100 follows for each event. The
 /// value may borrow from the text.
 ///
-/// It is the text's events, as libyaml's parser makes them, and then `from_events`. A text that can't be parsed is
-/// refused by the parser's fault, unless what stands before it is refused earlier.
+/// It is the text's events, as libyaml's parser makes them, and then `from_events`, but that no list of them is made. A
+/// text that can't be parsed is refused by the parser's fault, unless what stands before it is refused earlier.
 pub fn from_str<'de, T: Deserialize<'de>>(alloc: Global, text: &'de str) -> Result<T>
     ensures given { Answers (λ value. value) result (λ given. IsParsed (λ events fault.
         GivesValue default_limits T.start T.built T.refused events fault given
@@ -69,8 +57,8 @@ pub fn from_slice_limited<'de, T: Deserialize<'de>>(
         × TypeGives limits T.start T.built T.refused events fault given)) }
     ensures stream { IsOfAStream result }
 {
-    let Parsed { events, fault, .. } = parsed(alloc, text)?;
-    from_events_limited(alloc, events, fault, limits)
+    let stream = Deserializer::from_slice(alloc, text)?;
+    from_stream(alloc, stream, limits)
 }
 
 /// The data of the one document of a YAML text under the shape with this number, within limits. Texts are borrowed from
@@ -107,8 +95,10 @@ pub fn data_from_slice<'de>(
     ensures typed { IfOk result (λ found. HasShape schema.now id.0 (data_of found)) }
     ensures stream { IsOfAStream result }
 {
-    let Parsed { events, fault, .. } = parsed(alloc, text)?;
-    data_from_events(alloc, events, fault, schema, id, limits)
+    reading_gives_the_meaning();
+    a_meaning_has_its_shape();
+    let stream = Deserializer::from_slice(alloc, text)?;
+    stream.deserialize_limited(alloc, schema, id, limits)
 }
 
 impl<'de> Deserializer<'de> {
@@ -126,7 +116,6 @@ impl<'de> Deserializer<'de> {
         ensures documents { IfOk result (λ stream. IsParsed (λ events fault. stream ≡ stream_of events fault)) }
         ensures memory { IfErr result (λ cause. is_memory cause ≡ true) }
     {
-        let Parsed { events, fault, .. } = parsed(alloc, text)?;
-        Deserializer::from_events(alloc, events, fault)
+        Ok(Deserializer::of_documents(load(alloc, text)?))
     }
 }

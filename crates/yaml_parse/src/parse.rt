@@ -4,7 +4,7 @@ ghost use Rattle.std.specs.Prelude.{◌≡◌, ◌≢◌, ◌++◌, [], IfNone, 
 ghost use Rattle.std.specs.Option.{ForSome};
 ghost use Rattle.std.proofs.Props.{props};
 ghost use Rattle.yaml_base.specs.MarkedEvents.{plain_events};
-ghost use Rattle.yaml_base.specs.Stream.{IsWellFormed};
+ghost use Rattle.yaml_base.specs.Stream.{IsBeginning, IsWellFormed};
 ghost use Rattle.yaml_base.specs.declared.fault.FaultKind.TheVariants as kind;
 ghost use Rattle.yaml_parse.specs.Faults.{IsNotReaders, IsToldBy};
 ghost use Rattle.yaml_parse.specs.Marks.{MarksAscend};
@@ -107,6 +107,7 @@ impl<'a> Parser<'a> {
 
     /// What is known of the events that were handed out. This is a law: the call does nothing.
     pub fn has_events(&self)
+        ensures begins { IsBeginning (plain_events (handed self.now)) }
         ensures sources { AreShown self.now.text.now (handed self.now) }
         ensures plain { SaySources (handed self.now) }
         ensures marks { MarksAscend self.now.text.now (handed self.now) }

@@ -10,9 +10,9 @@ use crate::values::Values;
 use serde::Deserialize;
 use std::alloc::Global;
 use std::marker::Model;
-use yaml_base::{Cause, Error, Result};
+use yaml_base::Result;
+use yaml_documents::load;
 use yaml_read::{Document, Loader};
-use yaml_text::{Parsed, parse};
 
 /// The documents of a YAML text that are still to be read.
 #[derive(Drop)]
@@ -46,10 +46,7 @@ impl<'de> Documents<'de> {
         ensures memory { IfErr result (λ cause. is_memory cause ≡ true) }
     {
         let leaves = Leaves::new(alloc)?;
-        let Ok(Parsed { events, fault, .. }) = parse(alloc, text) else {
-            return Err(Error::new(Cause::Memory));
-        };
-        let left = Loader::new(alloc, events, fault)?;
+        let left = load(alloc, text)?;
         Ok(Documents {
             alloc,
             text,

@@ -11,8 +11,8 @@ use crate::reader::Reader;
 use serde::{Deserialize, DeserializeOwned, Deserializer};
 use std::alloc::Global;
 use yaml_base::{Cause, Error, Event, Mark, ParserFault, Result};
+use yaml_documents::load;
 use yaml_read::{Document, Loader};
-use yaml_text::{Parsed, parse};
 
 // The value, unless the document was cut off.
 fn whole<T: Drop>(alloc: Global, read: Result<T>, document: &Document<'_>) -> Result<T>
@@ -86,14 +86,11 @@ pub fn from_str<'de, T: Deserialize<'de>>(alloc: Global, text: &'de str) -> Resu
 }
 
 /// The same of bytes, which are refused with the place of the first one that UTF-8 or YAML does not allow.
-#[tactic(auto, using(crate::proofs::CutOff::cut_off))]
+#[tactic(auto, using(crate::proofs::CutOff::never_cut_off))]
 pub fn from_slice<'de, T: Deserialize<'de>>(alloc: Global, text: &'de [u8]) -> Result<T>
     ensures allowed { OnOk result ((IsAllowed text.now → ⊥) → ⊥) }
 {
-    let Ok(Parsed { events, fault, .. }) = parse(alloc, text) else {
-        return Err(Error::new(Cause::Memory));
-    };
-    let mut documents = Loader::new(alloc, events, fault)?;
+    let mut documents = load(alloc, text)?;
     let Some(document) = documents.next_document() else {
         return Err(Error::new(Cause::EndOfStream));
     };

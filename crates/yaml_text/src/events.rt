@@ -2,7 +2,7 @@
 
 ghost use Rattle.std.specs.Prelude.{◌≡◌, ◌++◌, [], IfErr, IfNone, IfOk, IsSomeAnd, false, is_some, option_to_list, true};
 ghost use Rattle.yaml_base.specs.MarkedEvents.{plain_events};
-ghost use Rattle.yaml_base.specs.Stream.{IsWellFormed};
+ghost use Rattle.yaml_base.specs.Stream.{IsBeginning, IsWellFormed};
 ghost use Rattle.yaml_parse.specs.Faults.{IsNotReaders};
 ghost use Rattle.yaml_parse.specs.Marks.{MarksAscend};
 ghost use Rattle.yaml_parse.specs.Places.{AreInPlace};
@@ -92,6 +92,7 @@ impl<'a> Events<'a> {
 
     /// What is known of the events that were handed out. This is a law: the call does nothing.
     pub fn has_events(&self)
+        ensures begins { IsBeginning (plain_events self.now.given) }
         ensures sources { AreShown self.now.text self.now.given }
         ensures plain { SaySources self.now.given }
         ensures marks { MarksAscend self.now.text self.now.given }

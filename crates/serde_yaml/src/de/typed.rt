@@ -1,11 +1,17 @@
 //! Reading a stream as a value of a type.
 
+ghost use Rattle.std.specs.Prelude.{◌≡◌, Option, is_some};
 ghost use Rattle.yaml_base.specs.Answer.{Answers};
-ghost use Rattle.yaml_read.specs.MarkedEvents.{plain_marked};
+ghost use Rattle.yaml_base.specs.PlainFault.{PlainFault};
+ghost use Rattle.yaml_base.specs.Stream.{IsWellFormed};
+ghost use Rattle.yaml_read.specs.Documents.{Input};
+ghost use Rattle.yaml_read.specs.MarkedEvents.{events_in, plain_marked};
 ghost use Rattle.yaml_read.specs.TreeReader.{default_limits};
+ghost use Rattle.serde_yaml.specs.StreamReads.{stream_of};
 ghost use Rattle.serde_yaml.specs.TypedHeadline.{GivesValue};
 ghost use Rattle.serde_yaml.specs.TypedReads.{TypeGives};
 
+use super::Deserializer;
 use super::input::data_from_events;
 use crate::laws::reading_gives_the_meaning;
 use crate::type_faults::{build_refusal, schema_refusal};
@@ -53,6 +59,34 @@ pub fn from_events_limited<'de, T: Deserialize<'de>>(
     };
     schema.is_valid();
     match data_from_events(alloc, events, fault, &schema, id, limits) {
+        Ok(found) => match T::build(alloc, found) {
+            Ok(value) => Ok(value),
+            Err(refused) => Err(build_refusal(refused)),
+        },
+        Err(refused) => Err(refused),
+    }
+}
+
+// The value of the type that a stream's one document stands for, within limits.
+pub(crate) fn from_stream<'de, T: Deserialize<'de>>(
+    alloc: Global,
+    stream: Deserializer<'de>,
+    limits: Limits,
+) -> Result<T>
+    ensures meaning { (input : Input) (fault : Option PlainFault) → stream.entry ≡ stream_of input fault
+        → IsWellFormed (is_some fault) (events_in input) → Answers (λ value. value) result
+        (GivesValue limits T.start T.built T.refused input fault) }
+    ensures given { (input : Input) (fault : Option PlainFault) → stream.entry ≡ stream_of input fault
+        → IsWellFormed (is_some fault) (events_in input) → Answers (λ value. value) result
+        (TypeGives limits T.start T.built T.refused input fault) }
+{
+    reading_gives_the_meaning();
+    let (schema, id) = match T::schema(alloc) {
+        Ok(start) => start,
+        Err(refused) => return Err(schema_refusal(alloc, refused)),
+    };
+    schema.is_valid();
+    match stream.deserialize_limited(alloc, &schema, id, limits) {
         Ok(found) => match T::build(alloc, found) {
             Ok(value) => Ok(value),
             Err(refused) => Err(build_refusal(refused)),

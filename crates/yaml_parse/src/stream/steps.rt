@@ -6,7 +6,7 @@ ghost use Rattle.std.specs.Option.{option_map};
 ghost use Rattle.std.proofs.Props.{props};
 ghost use Rattle.yaml_base.specs.MarkedEvents.{plain_events};
 ghost use Rattle.yaml_base.specs.PlainEvent.{event_of, scalar_of};
-ghost use Rattle.yaml_base.specs.Stream.{IsStream, IsWellFormed};
+ghost use Rattle.yaml_base.specs.Stream.{IsBeginning, IsStream, IsWellFormed};
 ghost use Rattle.yaml_base.specs.StreamMachine.{before_stream, next_state, run, within};
 ghost use Rattle.yaml_base.specs.declared.open.Open.TheVariants.{Key, Sequence};
 ghost use Rattle.yaml_parse.specs.Frames.{open_of, opens, state_of};
@@ -60,12 +60,14 @@ impl<'a> Stream<'a> {
 
     // What is known of the events that were handed out, always. This is a law: the call does nothing.
     #[tactic(auto, using(
+        crate::proofs::Fronts::begins_front,
         crate::proofs::Fronts::shown_front,
         crate::proofs::Fronts::said_front,
         crate::proofs::Fronts::marks_front,
         crate::proofs::Fronts::placed_front,
     ))]
     pub(crate) fn has_events(&self)
+        ensures begins { IsBeginning (plain_events self.now.events.handed.items) }
         ensures shown { AreShown self.now.text.now self.now.events.handed.items }
         ensures plain { SaySources self.now.events.handed.items }
         ensures marks { MarksAscend self.now.text.now self.now.events.handed.items }

@@ -1,9 +1,18 @@
--- The events of a text are a stream, so only want of memory refuses them.
-use Rattle.std.proofs.Common.{is_some}
-use Rattle.serde_yaml.proofs.TextLaws.{only_memory}
+-- The documents of a text are the stream of what a parser makes of it.
+use Rattle.std.proofs.Common.{List, ◌∙◌, ap, false}
+use Rattle.yaml_read.specs.PlainDocument.{PlainDocument}
+use Rattle.serde_yaml.specs.PlainStream.{PlainStream}
 use Rattle.serde_yaml.proofs.de.Deserializer.from_slice.Goals as goal
 
-pub returns-clause-memory : goal.returns-clause-memory
-returns-clause-memory c =
-    only_memory (is_some c.in_ok-events.field-0.fault) c.in_ok-events.field-0.events.items c.from_events.result
-    c.in_ok-events.ensures.taken c.from_events.ensures.refused
+fresh : List PlainDocument → PlainStream
+fresh documents = record { documents = documents; is_document = false; iterated = false }
+
+pub returns-clause-documents : goal.returns-clause-documents
+returns-clause-documents c =
+    let p = c.in_ok-load.ensures.documents in
+    record {
+      events = p.events;
+      fault = p.fault;
+      well_formed = p.well_formed;
+      holds = c.of_documents.ensures ∙ ap fresh p.holds.0;
+    }

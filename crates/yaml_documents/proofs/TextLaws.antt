@@ -1,0 +1,35 @@
+-- The events of a text are never refused as no stream.
+use Rattle.std.proofs.Common.{◌≡◌, ◌∙◌, ◌∷◌, ◌++◌, [], Bool, IsSomeAnd, List, None, Option, Some, ap, false, is_some, refl, subst, sym, true}
+use Rattle.std.proofs.lemmas.List.{map-append}
+use Rattle.yaml_base.specs.MarkedEvents.{events_in, plain_events, plain_marked}
+use Rattle.yaml_base.specs.PlainEvent.{event_of}
+use Rattle.yaml_base.specs.Position.{Position}
+use Rattle.yaml_base.specs.Stream.{IsBeginning}
+use Rattle.yaml_base.specs.declared.event.Event.{Event}
+use Rattle.yaml_load.specs.Documents.{Input}
+use Rattle.yaml_load.specs.WrongPlace.{IsWrongNext}
+
+-- what is not false is true
+pub not_false : (b : Bool) → (b ≡ false → ⊥) → b ≡ true
+not_false true never = refl
+not_false false never = absurd (never refl)
+
+-- an option of which something holds has a value
+pub is_there : {X : Type 0} (P : X → Type 0) (o : Option X) → IsSomeAnd o P → is_some o ≡ true
+is_there P (Some x) holds = refl
+is_there P None holds = absurd holds
+
+-- the plain events, with their marks beside them or not
+pub same_events : (events : List (Event × Position)) → plain_events events ≡ events_in (plain_marked events)
+same_events [] = refl
+same_events (e ∷ events) = ap (λ es. event_of e.0 ∷ es) (same_events events)
+
+-- an event with which events are a beginning of a stream is not wrong behind them
+pub never_wrong : (taken : Input) (given now : List (Event × Position)) (x : Event × Position)
+    → taken ≡ plain_marked given → now ≡ given ++ x ∷ [] → IsBeginning (plain_events now)
+    → IsWrongNext (events_in taken) (event_of x.0) → ⊥
+never_wrong taken given now x is more begins wrong =
+    let same : plain_events now ≡ events_in taken ++ event_of x.0 ∷ [] =
+    ap plain_events more ∙ map-append (λ (e : Event × Position). event_of e.0) given (x ∷ [])
+    ∙ ap (λ es. es ++ event_of x.0 ∷ []) (same_events given ∙ ap events_in (sym is)) in
+    wrong.1 (subst IsBeginning same begins)

@@ -1,0 +1,2 @@
+-- What contracts of this crate, and of those above it, cite.
+pub mod TextDocuments
