@@ -25,6 +25,7 @@ ghost use Rattle.serde_yaml.specs.StreamReads.{IsFirst, IsRefusedBy, StreamGives
 
 use crate::laws::reading_gives_the_meaning;
 pub use input::data_from_events;
+pub(crate) use input::data_from_stream;
 use std::alloc::Global;
 use std::marker::Model;
 pub(crate) use typed::from_stream;

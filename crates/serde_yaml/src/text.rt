@@ -12,13 +12,11 @@ ghost use Rattle.serde_yaml.specs.TextReads.{IsOfAStream, IsParsed};
 ghost use Rattle.serde_yaml.specs.TypedHeadline.{GivesValue};
 ghost use Rattle.serde_yaml.specs.TypedReads.{TypeGives};
 
-use crate::de::{Deserializer, from_stream};
-use crate::laws::reading_gives_the_meaning;
+use crate::de::{Deserializer, data_from_stream, from_stream};
 use std::alloc::Global;
 use yaml_base::Result;
 use yaml_documents::load;
 use yaml_read::Limits;
-use yaml_read::laws::a_meaning_has_its_shape;
 use yaml_shape::{Data, Schema, ShapeId};
 use yaml_types::Deserialize;
 
@@ -95,10 +93,8 @@ pub fn data_from_slice<'de>(
     ensures typed { IfOk result (λ found. HasShape schema.now id.0 (data_of found)) }
     ensures stream { IsOfAStream result }
 {
-    reading_gives_the_meaning();
-    a_meaning_has_its_shape();
     let stream = Deserializer::from_slice(alloc, text)?;
-    stream.deserialize_limited(alloc, schema, id, limits)
+    data_from_stream(alloc, stream, schema, id, limits)
 }
 
 impl<'de> Deserializer<'de> {

@@ -1,13 +1,17 @@
 //! Reading a list of events as data.
 
-ghost use Rattle.std.specs.Prelude.{◌≡◌, ◌<◌, length, Some, IfOk};
+ghost use Rattle.std.specs.Prelude.{◌≡◌, ◌<◌, length, Option, Some, IfOk, is_some};
 ghost use Rattle.yaml_base.specs.Answer.{Answers};
+ghost use Rattle.yaml_base.specs.PlainFault.{PlainFault};
+ghost use Rattle.yaml_base.specs.Stream.{IsWellFormed};
 ghost use Rattle.yaml_shape.specs.DataView.{data_of};
 ghost use Rattle.yaml_shape.specs.HasShape.{HasShape};
 ghost use Rattle.yaml_shape.specs.PlainShape.{PlainShape, shape_at};
-ghost use Rattle.yaml_read.specs.MarkedEvents.{plain_marked};
+ghost use Rattle.yaml_read.specs.Documents.{Input};
+ghost use Rattle.yaml_read.specs.MarkedEvents.{events_in, plain_marked};
 ghost use Rattle.serde_yaml.specs.Headline.{GivesMeaning};
-ghost use Rattle.serde_yaml.specs.StreamReads.{InputGives};
+ghost use Rattle.serde_yaml.specs.StreamReads.{InputGives, StreamGives, stream_of};
+ghost use Rattle.serde_yaml.specs.TextReads.{IsParsed};
 
 use super::Deserializer;
 use crate::laws::reading_gives_the_meaning;
@@ -45,4 +49,27 @@ pub fn data_from_events<'de>(
         Ok(stream) => stream.deserialize_limited(alloc, schema, id, limits),
         Err(refused) => Err(refused),
     }
+}
+
+// The data of the one document of a stream under the shape with this number, within limits.
+pub(crate) fn data_from_stream<'de>(
+    alloc: Global,
+    stream: Deserializer<'de>,
+    schema: &Schema,
+    id: ShapeId,
+    limits: Limits,
+) -> Result<Data<'de>>
+    requires within { id.0 < length schema.now }
+    requires parsed { IsParsed (λ events fault. stream ≡ stream_of events fault) }
+    ensures gives { (s : PlainShape) → shape_at schema.now id.0 ≡ Some s
+        → Answers data_of result (StreamGives limits schema.now s stream.entry) }
+    ensures meaning { (s : PlainShape) → shape_at schema.now id.0 ≡ Some s → (input : Input)
+        (fault : Option PlainFault) → stream.entry ≡ stream_of input fault
+        → IsWellFormed (is_some fault) (events_in input)
+        → Answers data_of result (GivesMeaning limits schema.now s input fault) }
+    ensures typed { IfOk result (λ found. HasShape schema.now id.0 (data_of found)) }
+{
+    reading_gives_the_meaning();
+    a_meaning_has_its_shape();
+    stream.deserialize_limited(alloc, schema, id, limits)
 }

@@ -8,11 +8,12 @@ ghost use Rattle.yaml_read.specs.Documents.{Input};
 ghost use Rattle.yaml_read.specs.MarkedEvents.{events_in, plain_marked};
 ghost use Rattle.yaml_read.specs.TreeReader.{default_limits};
 ghost use Rattle.serde_yaml.specs.StreamReads.{stream_of};
+ghost use Rattle.serde_yaml.specs.TextReads.{IsParsed};
 ghost use Rattle.serde_yaml.specs.TypedHeadline.{GivesValue};
 ghost use Rattle.serde_yaml.specs.TypedReads.{TypeGives};
 
 use super::Deserializer;
-use super::input::data_from_events;
+use super::input::{data_from_events, data_from_stream};
 use crate::laws::reading_gives_the_meaning;
 use crate::type_faults::{build_refusal, schema_refusal};
 use std::alloc::Global;
@@ -73,6 +74,7 @@ pub(crate) fn from_stream<'de, T: Deserialize<'de>>(
     stream: Deserializer<'de>,
     limits: Limits,
 ) -> Result<T>
+    requires { IsParsed (λ events fault. stream ≡ stream_of events fault) }
     ensures meaning { (input : Input) (fault : Option PlainFault) → stream.entry ≡ stream_of input fault
         → IsWellFormed (is_some fault) (events_in input) → Answers (λ value. value) result
         (GivesValue limits T.start T.built T.refused input fault) }
@@ -86,7 +88,7 @@ pub(crate) fn from_stream<'de, T: Deserialize<'de>>(
         Err(refused) => return Err(schema_refusal(alloc, refused)),
     };
     schema.is_valid();
-    match stream.deserialize_limited(alloc, &schema, id, limits) {
+    match data_from_stream(alloc, stream, &schema, id, limits) {
         Ok(found) => match T::build(alloc, found) {
             Ok(value) => Ok(value),
             Err(refused) => Err(build_refusal(refused)),

@@ -4,7 +4,7 @@ use Rattle.yaml_read.specs.PlainDocument.{PlainDocument}
 use Rattle.serde_yaml.specs.PlainStream.{PlainStream}
 use Rattle.serde_yaml.proofs.de.Deserializer.from_slice.Goals as goal
 
-fresh : List PlainDocument → PlainStream
+abbrev fresh : List PlainDocument → PlainStream
 fresh documents = record { documents = documents; is_document = false; iterated = false }
 
 pub returns-clause-documents : goal.returns-clause-documents
