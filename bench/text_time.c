@@ -1,7 +1,8 @@
 /* Times the way from the text of standard input to events by both parsers in one process: `text_time warm|fresh RUNS`.
 
-   A run of each side follows the other: the port's `parse`, whose list of events is let go at the end; libyaml, which
-   lets go of each event before the next; and libyaml with all events kept in a list, and let go at the end. The time is
+   A run of each side follows the other: the port's `Events`, which hands out each event before it makes the next, and
+   lets it go; libyaml, which does the same; the port's `parse`, whose list of events is let go at the end; and libyaml
+   with all events kept in a list, and let go at the end. The time is
    the processor's for this thread, the kernel's share with it, so that other work on the machine counts only by what
    it does to the caches. `warm`: one process in which freed memory is kept. `fresh`: each run in a process of its own,
    forked before any memory was taken, as in a program that parses one text.
@@ -19,11 +20,12 @@
 #include <yaml.h>
 
 /* What the port's library offers, and what it calls between its parts. */
+uint64_t port_hand_out(const unsigned char *text, size_t len);
 uint64_t port_parse(const unsigned char *text, size_t len);
 void tick(uint32_t part);
 
-enum { SIDES = 3 };
-static const char *names[SIDES] = {"port", "libyaml", "libyaml, list"};
+enum { SIDES = 4 };
+static const char *names[SIDES] = {"port", "libyaml", "port, list", "libyaml, list"};
 static unsigned char *text;
 static size_t len;
 
@@ -154,7 +156,10 @@ static uint64_t libyaml_list(void) {
 }
 
 static uint64_t run(int side) {
-    return side == 0 ? port_parse(text, len) : side == 1 ? libyaml_parse() : libyaml_list();
+    return side == 0   ? port_hand_out(text, len)
+           : side == 1 ? libyaml_parse()
+           : side == 2 ? port_parse(text, len)
+                       : libyaml_list();
 }
 
 #ifndef COUNT

@@ -3,11 +3,11 @@
 #
 #     bash bench/text_time.sh [small|large]..
 #
-# A row tells the events, then in milliseconds `yaml_text::parse` with its events let go, libyaml's parser that lets go
-# of each event before the next, and libyaml with its events in a list, let go at the end, and the ratios of the first
-# to either: in a process that keeps freed memory, and then in processes that have parsed nothing before. Each is the
-# least of RUNS runs (200 of small texts at first, and 40 of others), the sides by turns, of the processor's time. At
-# last the most memory that `parse` held beyond the text, and libyaml with its list, in megabytes, counted as malloc
+# A row tells the events, then in milliseconds `yaml_text::Events` beside libyaml's parser, both of which let go of each
+# event before the next, and their ratio, and `yaml_text::parse` beside libyaml with its events in a list, both lists let
+# go at the end, and their ratio: in a process that keeps freed memory, and then in processes that have parsed nothing
+# before. Each is the least of RUNS runs (200 of small texts at first, and 40 of others), the sides by turns, of the
+# processor's time. At last the most memory that each of the four held beyond the text, in megabytes, counted as malloc
 # gives it. TOLD names a file to which all is added that the programs said: of times also those before the events are
 # let go, and of memory also what was held at the end, and the largest block.
 #
@@ -28,14 +28,14 @@ mkdir -p "$programs"
 # Makes the port's static library.
 make_library() {
     mkdir -p "$room/crates/text_library/src" "$room/crates/text_library/c"
-    for crate in yaml_tree yaml_base yaml_token yaml_scan yaml_parse yaml_text; do
+    for crate in yaml_tree yaml_base yaml_history yaml_token yaml_scan yaml_parse yaml_text; do
         mkdir -p "$room/crates/$crate"
         for part in src specs proofs; do
             [ ! -d "$root/crates/$crate/$part" ] || cp -a "$root/crates/$crate/$part" "$room/crates/$crate/"
         done
         grep "^$crate:" "$root/crates.txt" >> "$room/crates.txt"
     done
-    echo 'text_library staticlib: yaml_text yaml_parse yaml_scan yaml_token yaml_base yaml_tree' >> "$room/crates.txt"
+    echo 'text_library staticlib: yaml_text yaml_parse yaml_scan yaml_token yaml_base yaml_tree yaml_history' >> "$room/crates.txt"
     cat > "$room/crates/text_library/src/lib.rt" <<'RT'
 //! What is timed, behind C's interface: nothing is promised of what is answered.
 #![tactic(auto)]
@@ -56,6 +56,27 @@ pub extern "C" fn port_parse(alloc: Global, text: &[u8]) -> u64 {
     tick(1);
     let count = parsed.events.len() as u64;
     drop(parsed);
+    tick(2);
+    count
+}
+
+/// Lets each event of the text go as it is handed out, with a tick before and behind. Answers how many there were.
+#[unsafe(no_mangle)]
+pub extern "C" fn port_hand_out(alloc: Global, text: &[u8]) -> u64 {
+    tick(0);
+    let Ok(mut events) = yaml_text::Events::new(alloc, text) else {
+        return 0;
+    };
+    let mut count: u64 = 0;
+    'events: for _ in 0..u64::MAX {
+        let Ok(Some(event)) = events.next_event() else {
+            break;
+        };
+        drop(event);
+        count = count.saturating_add(1);
+    }
+    drop(events);
+    tick(1);
     tick(2);
     count
 }
@@ -91,14 +112,15 @@ row() {
     awk -F '\t' -v title="$*" '
         { events[NR] = $2; first[NR] = $3 }
         function near(number) { return sprintf(number >= 100 ? "%.0f" : number >= 10 ? "%.1f" : "%.2f", number) }
-        function times(at) {
-            return sprintf("%s / %s / %s | %.2f, %.2f", near(first[at] / 1e6), near(first[at + 1] / 1e6),
-                near(first[at + 2] / 1e6), first[at] / first[at + 1], first[at] / first[at + 2])
-        }
+        function pair(at) { return sprintf("%s / %s | %.2f", near(first[at] / 1e6), near(first[at + 1] / 1e6), first[at] / first[at + 1]) }
+        function held(at) { return sprintf("%s / %s", near(first[at] / 1e6), near(first[at + 1] / 1e6)) }
         END {
-            if (events[1] != events[2] || events[1] != events[3]) { print "other events: " title; exit 1 }
-            printf "| %s | %d | %s | %s | %.1f / %.1f |\n", title, events[1], times(1), times(4),
-                first[7] / 1e6, first[9] / 1e6
+            if (events[1] != events[2] || events[1] != events[3] || events[1] != events[4]) {
+                print "other events: " title
+                exit 1
+            }
+            printf "| %s | %d | %s | %s | %s | %s | %s | %s |\n", title, events[1], pair(1), pair(3), pair(5), pair(7),
+                held(9), held(11)
         }' "$room/told"
     [ -z "${TOLD-}" ] || { echo "# $*"; cat "$room/told"; } >> "$TOLD"
 }

@@ -1,5 +1,5 @@
 -- Where the machine stops, the list of events goes wrong.
-use Rattle.std.proofs.Common.{◌≡◌, ℕ, ◌+◌, ◌<◌, ◌≤◌, List, [], ◌∷◌, ◌++◌, length, take, drop, take_all, get_or, Some}
+use Rattle.std.proofs.Common.{◌≡◌, ℕ, ◌+◌, List, [], ◌∷◌, ◌++◌, length, take, drop, Some}
 use Rattle.std.proofs.Common.{None}
 use Rattle.std.proofs.Common.{Bool, true, false, refl, sym, ◌∙◌, ap, inl, inr, arith, append_assoc, append-nil, subst}
 use Rattle.std.proofs.Math.Seq.{take-append-add, take-append_seam, take-length}

@@ -1,8 +1,8 @@
 //! Collections by indentation.
 
 ghost use Rattle.std.specs.Prelude.{◌≡◌};
-
 ghost use Rattle.yaml_parse.specs.Kept.{Keeps};
+
 use crate::frame::Frame;
 use crate::machine::Machine;
 use crate::node::Nodes;

@@ -1,8 +1,8 @@
 //! The directives of a document.
 
 ghost use Rattle.std.specs.Prelude.{◌≡◌};
-
 ghost use Rattle.yaml_parse.specs.Kept.{Keeps};
+
 use crate::fault::fault;
 use crate::machine::Machine;
 use crate::properties::Handle;

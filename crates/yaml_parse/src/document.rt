@@ -1,8 +1,8 @@
 //! Where documents begin and end.
 
 ghost use Rattle.std.specs.Prelude.{◌≡◌};
-
 ghost use Rattle.yaml_parse.specs.Kept.{Keeps};
+
 use crate::machine::Machine;
 use crate::node::Nodes;
 use yaml_token::{Span, Stop, Token};

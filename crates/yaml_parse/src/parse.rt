@@ -60,7 +60,7 @@ pub struct Parser<'a> {
 }
 
 impl<'a> Parser<'a> {
-    ghost use Rattle.yaml_parse.specs.Handed.{handed, made};
+    ghost use Rattle.yaml_parse.specs.Handed.{handed, made, waiting};
 
     /// A parser of a text that has taken no token. The only error is want of memory.
     pub fn new(alloc: Global, text: &'a [u8]) -> Result<Parser<'a>, AllocError>
@@ -103,6 +103,14 @@ impl<'a> Parser<'a> {
         ensures none { IfNone result (handed self.new ≡ made self.new) }
     {
         self.machine.stream.pop()
+    }
+
+    /// How many events were made of the tokens and not handed out.
+    #[inline(always)]
+    pub fn waiting(&self) -> usize
+        ensures { result ≡ waiting self.now }
+    {
+        self.machine.stream.waiting()
     }
 
     /// What is known of the events that were handed out. This is a law: the call does nothing.

@@ -32,6 +32,14 @@ impl<'a> Queue<'a> {
         }
     }
 
+    // How many events wait.
+    #[inline(always)]
+    pub(crate) fn len(&self) -> usize
+        ensures { result ≡ deque_len self.now.waiting }
+    {
+        self.waiting.len()
+    }
+
     // Makes room for one event more.
     #[inline(always)]
     pub(crate) fn reserve(&mut self) -> Result<(), AllocError>

@@ -54,11 +54,10 @@ impl<'a> Events<'a> {
         ensures none { IfOk result (λ events. events.given ≡ []) }
     {
         let source = match scan(alloc, text)? {
-            Scanned::Tokens(tokens) => Source::Text(Reading {
-                tokens,
-                parser: Parser::new(alloc, text)?,
-                steps: text.len() + 1,
-            }),
+            Scanned::Tokens(tokens) => {
+                let parser = Parser::new(alloc, text)?;
+                Source::Text(Reading::new(tokens, parser, text.len()))
+            }
             Scanned::Unread(fault) => Source::Unread(fault),
         };
         Ok(Events {
@@ -99,7 +98,7 @@ impl<'a> Events<'a> {
         ensures places { AreInPlace self.now.text self.now.given }
     {
         match &self.source {
-            Source::Text(reading) => reading.parser.has_events(),
+            Source::Text(reading) => reading.parser().has_events(),
             Source::Unread(_) => {}
         }
     }
@@ -117,7 +116,10 @@ impl<'a> Events<'a> {
             IsSomeAnd ending.fault (λ f. IsOfReader self.entry.text f.kind f.offset)) }
     {
         match self.source {
-            Source::Text(Reading { tokens, parser, .. }) => parser.finish(alloc, tokens.fault()),
+            Source::Text(reading) => {
+                let (fault, parser) = reading.into_parts();
+                parser.finish(alloc, fault)
+            }
             Source::Unread(fault) => unread(alloc, fault),
         }
     }

@@ -1,29 +1,40 @@
 //! Tokens to events, step by step.
 
-ghost use Rattle.std.specs.Prelude.{◌≡◌, ◌++◌, ◌<◌, IfErr, IfNone, IfOk, option_to_list};
+ghost use Rattle.std.specs.Prelude.{◌≡◌, ◌<◌, ◌++◌, IfErr, IfNone, IfOk, option_to_list};
+ghost use Rattle.std.specs.Option.{ForSome};
+ghost use Rattle.yaml_base.specs.declared.fault.FaultKind.TheVariants as kind;
 ghost use Rattle.yaml_parse.specs.Handed.{handed, made};
 
 use std::alloc::AllocError;
 use yaml_base::{Event, Mark};
 use yaml_parse::Parser;
 use yaml_scan::Tokens;
+use yaml_token::Fault;
+
+// How many events are made before the first of them is handed out. One that was just written is slow to move on.
+const BATCH: usize = 64;
+
+// The most tokens that are parsed one after another, since a text may end with as many as it has bytes.
+const MOST_TOKENS: usize = 1024;
 
 // The tokens of a text and its parser.
 #[derive(Drop)]
 pub(crate) struct Reading<'a> {
-    pub(crate) tokens: Tokens<'a>,
-    pub(crate) parser: Parser<'a>,
-    // The most steps that the scanner has left; none where the tokens have ended.
-    pub(crate) steps: usize,
+    tokens: Tokens<'a>,
+    parser: Parser<'a>,
+    // Whether the text goes on behind the tokens.
+    goes_on: bool,
+    // The most steps that are left; none where all tokens were parsed, or no more of them are.
+    steps: usize,
 }
 
-// Hands the tokens that are ready over to the parser, and tells whether it takes more.
+// Hands tokens that are ready over to the parser, and tells whether it takes more.
 #[inline(always)]
 fn hand_over(tokens: &mut Tokens<'_>, parser: &mut Parser<'_>) -> Result<bool, AllocError>
     ensures text { parser.new.text.now ≡ parser.old.text.now }
     ensures handed { handed parser.new ≡ handed parser.old }
 {
-    'ready: for _ in 0..tokens.ready() {
+    'ready: for _ in 0..tokens.ready().min(MOST_TOKENS) {
         match tokens.next() {
             Some(placed) => {
                 if !parser.take(placed)? {
@@ -37,7 +48,19 @@ fn hand_over(tokens: &mut Tokens<'_>, parser: &mut Parser<'_>) -> Result<bool, A
 }
 
 impl<'a> Reading<'a> {
-    // Scans a step, and parses the tokens that are ready then.
+    // The tokens of a text of so many bytes and its parser, of which nothing was read.
+    pub(crate) fn new(tokens: Tokens<'a>, parser: Parser<'a>, len: usize) -> Reading<'a>
+        ensures { result.parser ≡ parser.entry }
+    {
+        Reading {
+            tokens,
+            parser,
+            goes_on: true,
+            steps: len.saturating_mul(2).saturating_add(2),
+        }
+    }
+
+    // Scans a step where the text goes on, and parses tokens that are ready then.
     fn advance(&mut self) -> Result<(), AllocError>
         requires { 0 < self.old.steps }
         ensures text { self.new.parser.text.now ≡ self.old.parser.text.now }
@@ -45,11 +68,41 @@ impl<'a> Reading<'a> {
         ensures fewer { self.new.steps < self.old.steps }
     {
         self.steps -= 1;
-        let goes_on = self.tokens.advance()?;
-        if !hand_over(&mut self.tokens, &mut self.parser)? || !goes_on {
+        if self.goes_on {
+            self.goes_on = self.tokens.advance()?;
+        }
+        let takes_more = hand_over(&mut self.tokens, &mut self.parser)?;
+        if !takes_more || !self.goes_on && self.tokens.ready() == 0 {
             self.steps = 0;
         }
         Ok(())
+    }
+
+    // Scans and parses until enough events wait, or the tokens have ended.
+    fn refill(&mut self) -> Result<(), AllocError>
+        ensures text { self.new.parser.text.now ≡ self.old.parser.text.now }
+        ensures handed { handed self.new.parser ≡ handed self.old.parser }
+    {
+        'steps: while self.steps > 0 && self.parser.waiting() < BATCH {
+            self.advance()?;
+        }
+        Ok(())
+    }
+
+    // What is wrong with the tokens, behind all of them, if that was found, and the parser.
+    pub(crate) fn into_parts(self) -> (Option<Fault>, Parser<'a>)
+        ensures parser { result.1 ≡ self.entry.parser }
+        ensures scanners { ForSome result.0 (λ f. f.kind ≡ kind.Scanner) }
+    {
+        let Reading { tokens, parser, .. } = self;
+        (tokens.fault(), parser)
+    }
+
+    // The parser.
+    pub(crate) fn parser(&self) -> &Parser<'a>
+        ensures { result.now ≡ self.now.parser }
+    {
+        &self.parser
     }
 
     // Hands out the next event, or `None` where the tokens have ended.
@@ -61,11 +114,9 @@ impl<'a> Reading<'a> {
         ensures kept { IfErr result (λ _. handed self.new.parser ≡ handed self.old.parser) }
         ensures none { IfOk result (λ found. IfNone found (handed self.new.parser ≡ made self.new.parser)) }
     {
-        let mut found = self.parser.next_event();
-        'steps: while found.is_none() && self.steps > 0 {
-            self.advance()?;
-            found = self.parser.next_event();
+        if self.parser.waiting() == 0 {
+            self.refill()?;
         }
-        Ok(found)
+        Ok(self.parser.next_event())
     }
 }

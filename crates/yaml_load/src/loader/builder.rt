@@ -84,7 +84,10 @@ impl<'de> LoaderBuilder<'de> {
         let item = (event, mark);
         let taken = History::with(&self.taken, &item);
         let (event, mark) = item;
-        match self.draft.take(self.alloc, self.phase, &mut self.outer, event, mark)? {
+        match self
+            .draft
+            .take(self.alloc, self.phase, &mut self.outer, event, mark)?
+        {
             Some(after) => self.phase = after,
             None => return Err(Error::new(Cause::NotAStream(self.count))),
         }

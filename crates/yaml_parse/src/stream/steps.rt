@@ -3,6 +3,7 @@
 ghost use Rattle.std.specs.Prelude.{◌≡◌, ◌≤◌, ◌∷◌, ◌++◌, [], All, IfNone, IfOk, IsSomeAnd, OnOk, Some, false, length};
 ghost use Rattle.std.specs.Prelude.{option_to_list, true};
 ghost use Rattle.std.specs.Option.{option_map};
+ghost use Rattle.std.specs.VecDeque.{deque_len};
 ghost use Rattle.std.proofs.Props.{props};
 ghost use Rattle.yaml_base.specs.MarkedEvents.{plain_events};
 ghost use Rattle.yaml_base.specs.PlainEvent.{event_of, scalar_of};
@@ -16,11 +17,11 @@ ghost use Rattle.yaml_parse.specs.Places.{AreInPlace, IsInPlace, place_of};
 ghost use Rattle.yaml_parse.specs.PlainText.{SaySources, SaysItsSource, SaysSource};
 ghost use Rattle.yaml_parse.specs.Shown.{AreShown, IsShown, StandsAt};
 
-use crate::stream::Stream;
 use crate::fault::misplaced;
 use crate::frame::{Frame, Phase, behind, is_key, is_same, is_sequence};
 use crate::place::{mark_at, mark_of_event};
 use crate::queue::Queue;
+use crate::stream::Stream;
 use std::alloc::Global;
 use yaml_base::{Anchor, Event, MappingStart, Mark, Scalar, SequenceStart};
 use yaml_token::{Finding, Stop};
@@ -59,13 +60,7 @@ impl<'a> Stream<'a> {
     }
 
     // What is known of the events that were handed out, always. This is a law: the call does nothing.
-    #[tactic(auto, using(
-        crate::proofs::Fronts::begins_front,
-        crate::proofs::Fronts::shown_front,
-        crate::proofs::Fronts::said_front,
-        crate::proofs::Fronts::marks_front,
-        crate::proofs::Fronts::placed_front,
-    ))]
+    #[tactic(auto, using(crate::proofs::Fronts::begins_front, crate::proofs::Fronts::shown_front, crate::proofs::Fronts::said_front, crate::proofs::Fronts::marks_front, crate::proofs::Fronts::placed_front,))]
     pub(crate) fn has_events(&self)
         ensures begins { IsBeginning (plain_events self.now.events.handed.items) }
         ensures shown { AreShown self.now.text.now self.now.events.handed.items }
@@ -74,6 +69,14 @@ impl<'a> Stream<'a> {
         ensures places { AreInPlace self.now.text.now self.now.events.handed.items }
     {
         let _ = &self.events;
+    }
+
+    // How many events wait.
+    #[inline(always)]
+    pub(crate) fn waiting(&self) -> usize
+        ensures { result ≡ deque_len self.now.events.waiting }
+    {
+        self.events.len()
     }
 
     // Hands out the next event, if one waits.
