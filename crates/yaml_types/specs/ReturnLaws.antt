@@ -36,7 +36,8 @@ module _ {T : Type 0} (kept : T → Type 0) (written : T → PlainData) (built :
   option_returned eq law (Some x) (Some y) (some_data a) k e b = law x y a k e b
   option_returned eq law (Some x) (Some y) _ k e b = absurd b
 
-  items_returned : (eq : T → T → Bool) → AreReturned kept written built eq → (xs ys : List T) (ds : PlainItems)
+  -- elements
+  pub items_returned : (eq : T → T → Bool) → AreReturned kept written built eq → (xs ys : List T) (ds : PlainItems)
       → All kept xs → items_eq (items_of (map written xs)) ds ≡ true → BuiltItems built ds ys
       → pointwise eq xs ys ≡ true
   items_returned eq law [] [] ds k e b = refl
@@ -63,7 +64,8 @@ module _ {T : Type 0} (written : T → PlainData) (refused : PlainData → List 
   option_accepted law (Some x) (some_data a) m e r = law x a m e r
   option_accepted law _ _ m e r = r
 
-  items_accepted : (built : PlainData → T → Type 0) → AreAccepted written refused → (xs : List T) (ds : PlainItems)
+  -- elements
+  pub items_accepted : (built : PlainData → T → Type 0) → AreAccepted written refused → (xs : List T) (ds : PlainItems)
       (message : List ℕ) → items_eq (items_of (map written xs)) ds ≡ true → RefusedItems built refused ds message → ⊥
   items_accepted built law [] no_items m e r = r
   items_accepted built law (x ∷ xs) no_items m e r = r

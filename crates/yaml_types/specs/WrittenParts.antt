@@ -15,6 +15,10 @@ option_written written (Some x) = some_data (written x)
 abbrev pub seq_written : {T : Type 0} → (T → PlainData) → List T → PlainData
 seq_written written xs = seq_data (items_of (map written xs))
 
+-- the elements of an array, in order
+abbrev pub array_written : {T : Type 0} → (T → PlainData) → List T → PlainData
+array_written written xs = tuple_data (items_of (map written xs))
+
 -- the two elements, in order
 abbrev pub pair_written : {A B : Type 0} → (A → PlainData) → (B → PlainData) → A × B → PlainData
 pair_written first second x = tuple_data (item (first x.0) (item (second x.1) no_items))

@@ -1,4 +1,5 @@
 //! The types that are read and written as themselves.
+mod array;
 mod boolean;
 mod boxed;
 mod boxed_text;
