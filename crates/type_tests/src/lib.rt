@@ -4,6 +4,8 @@
 #[cfg(test)]
 mod arrays;
 #[cfg(test)]
+mod kept;
+#[cfg(test)]
 mod maps;
 #[cfg(test)]
 mod parts;

@@ -1,6 +1,6 @@
 -- Data of the shape of an array is as many elements of one type; and where the type is too large, the array is.
-use Rattle.std.proofs.Common.{◌≡◌, ◌≤◌, ◌<◌, ◌+◌, ℕ, zero, suc, List, [], ◌∷◌, length, ◌&&◌, true, refl, sym, ◌∙◌}
-use Rattle.std.proofs.Common.{ap, subst, arith}
+use Rattle.std.proofs.Common.{◌≡◌, ◌≤◌, ◌<◌, ℕ, zero, suc, List, [], ◌∷◌, length, ◌&&◌, true, refl}
+use Rattle.std.proofs.Common.{ap, arith}
 use Rattle.std.specs.Prelude.{Vec, IsTrue, replicate}
 use Rattle.std.specs.declared.alloc.Global.{Global}
 use Rattle.yaml_tree.specs.TakeOut.{from_false, and_left, and_right}

@@ -7,8 +7,6 @@ pub mod GatherLaws
 pub mod ItemsThen
 pub mod InsertLaws
 pub mod LeafLaws
-pub mod RowLaws
 pub mod StructFound
-pub mod TupleLaws
 pub mod WriteLaws
 pub mod WriteRefusals

@@ -1,16 +1,13 @@
 -- The data of values one by one, as a loop makes it.
-use Rattle.std.proofs.Common.{◌≡◌, ◌<◌, ◌≤◌, ◌+◌, ℕ, List, [], ◌∷◌, ◌++◌, map, length, take, get_or, sym, ◌∙◌}
+use Rattle.std.proofs.Common.{◌≡◌, ◌<◌, ◌+◌, ℕ, List, [], ◌∷◌, ◌++◌, map, length, take, get_or, sym, ◌∙◌}
 use Rattle.std.proofs.Common.{ap, subst, All, append_assoc, rules}
-use Rattle.std.specs.Prelude.{Vec}
-use Rattle.std.specs.declared.alloc.Global.{Global}
-use Rattle.std.proofs.lemmas.List.{map-append, take_more, take_all}
+use Rattle.std.proofs.lemmas.List.{map-append, take_more}
 use Rattle.std.proofs.lemmas.List.Elements.{All-more, All-push}
-use Rattle.yaml_shape.specs.PlainData.{PlainData, seq_data}
-use Rattle.yaml_shape.specs.DataView.{data_of, items_of, entry_of}
-use Rattle.yaml_shape.specs.declared.data.Data.{Data, Seq, the_lemmas}
+use Rattle.yaml_shape.specs.PlainData.{PlainData}
+use Rattle.yaml_shape.specs.DataView.{data_of, entry_of}
+use Rattle.yaml_shape.specs.declared.data.Data.{Data, the_lemmas}
 use Rattle.yaml_shape.specs.declared.data.Entry.{Entry, roll-Entry}
-use Rattle.yaml_types.specs.WrittenParts.{seq_written, PairsKeep}
-use Rattle.yaml_types.proofs.FoundLaws.{data_of-Seq}
+use Rattle.yaml_types.specs.WrittenParts.{PairsKeep}
 
 module _ {T : Type 0} (written : T → PlainData) (kept : T → Type 0) where
   -- the data is that of the first values, which keep what they do

@@ -22,7 +22,6 @@ pub mod Start
 pub mod StartLaws
 pub mod StructLaws
 pub mod Texts
-pub mod TripleLaws
 pub mod WriteRefusal
 pub mod WrittenLaws
 pub mod WrittenParts
