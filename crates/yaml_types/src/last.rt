@@ -1,8 +1,5 @@
 //! The last type of a row, as `(A,)`: it need not be `Drop`, since no later one is refused.
 
-ghost use Rattle.std.specs.Prelude.{◌≡◌, ◌++◌, IfOk, IfErr};
-ghost use Rattle.yaml_shape.specs.Join.{IsTooLarge, parts_of};
-
 use crate::fault::BuildFault;
 use crate::items::with_data;
 use crate::row::{ReadRow, RoundTripRow, Row, WriteRow};
