@@ -4,6 +4,8 @@
 #[cfg(test)]
 mod again;
 #[cfg(test)]
+mod arrays;
+#[cfg(test)]
 mod color;
 #[cfg(test)]
 mod laws;

@@ -2,6 +2,10 @@
 #![tactic(auto)]
 
 #[cfg(test)]
+mod arrays;
+#[cfg(test)]
+mod kept;
+#[cfg(test)]
 mod maps;
 #[cfg(test)]
 mod parts;

@@ -27,8 +27,7 @@ use Rattle.yaml_types.specs.Choices.{Content, no_content, one_content, tuple_con
 use Rattle.yaml_types.specs.Choices.{width_of, all_types, content_behind, VariantNames, variants_behind, enum_start, all_apart}
 use Rattle.yaml_types.specs.Choices.{variant_names, IsContent, AreVariants, choice_matches}
 use Rattle.yaml_types.specs.ChoiceLaws.{total-append, names_variants, enum_has, first_of, others_of}
-use Rattle.yaml_types.proofs.TupleLaws.{Part}
-use Rattle.yaml_types.proofs.StructFound.{one_refused}
+use Rattle.yaml_types.proofs.StructFound.{Part, one_refused}
 
 last_shape : (shapes : List PlainShape) (shape : PlainShape)
     → shape_at (shapes ++ shape ∷ []) (length shapes) ≡ Some shape

@@ -1,4 +1,5 @@
 -- Lemmas of this crate.
+pub mod ArrayFound
 pub mod BuildLaws
 pub mod EnumFound
 pub mod FoundLaws
@@ -6,8 +7,6 @@ pub mod GatherLaws
 pub mod ItemsThen
 pub mod InsertLaws
 pub mod LeafLaws
-pub mod RowLaws
 pub mod StructFound
-pub mod TupleLaws
 pub mod WriteLaws
 pub mod WriteRefusals

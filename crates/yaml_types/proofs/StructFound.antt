@@ -11,6 +11,7 @@ use Rattle.yaml_shape.specs.Join.{joined_all, starts_behind, named_behind, IsToo
 use Rattle.yaml_shape.specs.DataView.{data_of, items_view}
 use Rattle.yaml_shape.specs.declared.data.Data.{Data, the_lemmas}
 use Rattle.yaml_shape.specs.declared.data.Data as code
+use Rattle.yaml_shape.specs.declared.shape.ShapeId.{ShapeId}
 use Rattle.yaml_shape.specs.declared.fault.SchemaFault.{SchemaFault}
 use Rattle.yaml_shape.specs.declared.fault.SchemaFault.TheVariants.{S1, S2, S3, S4, S5}
 use Rattle.yaml_shape.proofs.PartLaws.{larger}
@@ -18,7 +19,10 @@ use Rattle.yaml_types.specs.Start.{Start, IsClosed, tuple_start}
 use Rattle.yaml_types.specs.PartShapes.{items_match}
 use Rattle.yaml_types.specs.Rows.{total, struct_start, all_distinct}
 use Rattle.yaml_types.specs.StructLaws.{struct_has, distinct_struct, length-row}
-use Rattle.yaml_types.proofs.TupleLaws.{Part}
+
+-- a table with its number, as plain parts
+abbrev pub Part : Type 0
+Part = List PlainShape × ShapeId
 
 last_shape : (shapes : List PlainShape) (shape : PlainShape)
     → shape_at (shapes ++ shape ∷ []) (length shapes) ≡ Some shape

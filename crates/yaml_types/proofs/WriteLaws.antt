@@ -1,16 +1,13 @@
 -- The data of values one by one, as a loop makes it.
-use Rattle.std.proofs.Common.{◌≡◌, ◌<◌, ◌≤◌, ◌+◌, ℕ, List, [], ◌∷◌, ◌++◌, map, length, take, get_or, sym, ◌∙◌}
+use Rattle.std.proofs.Common.{◌≡◌, ◌<◌, ◌+◌, ℕ, List, [], ◌∷◌, ◌++◌, map, length, take, get_or, sym, ◌∙◌}
 use Rattle.std.proofs.Common.{ap, subst, All, append_assoc, rules}
-use Rattle.std.specs.Prelude.{Vec}
-use Rattle.std.specs.declared.alloc.Global.{Global}
-use Rattle.std.proofs.lemmas.List.{map-append, take_more, take_all}
+use Rattle.std.proofs.lemmas.List.{map-append, take_more}
 use Rattle.std.proofs.lemmas.List.Elements.{All-more, All-push}
-use Rattle.yaml_shape.specs.PlainData.{PlainData, seq_data}
-use Rattle.yaml_shape.specs.DataView.{data_of, items_of, entry_of}
-use Rattle.yaml_shape.specs.declared.data.Data.{Data, Seq, the_lemmas}
+use Rattle.yaml_shape.specs.PlainData.{PlainData}
+use Rattle.yaml_shape.specs.DataView.{data_of, entry_of}
+use Rattle.yaml_shape.specs.declared.data.Data.{Data, the_lemmas}
 use Rattle.yaml_shape.specs.declared.data.Entry.{Entry, roll-Entry}
-use Rattle.yaml_types.specs.WrittenParts.{seq_written, PairsKeep}
-use Rattle.yaml_types.proofs.FoundLaws.{data_of-Seq}
+use Rattle.yaml_types.specs.WrittenParts.{PairsKeep}
 
 module _ {T : Type 0} (written : T → PlainData) (kept : T → Type 0) where
   -- the data is that of the first values, which keep what they do
@@ -18,28 +15,18 @@ module _ {T : Type 0} (written : T → PlainData) (kept : T → Type 0) where
   AreWritten xs i made = (map data_of made ≡ map written (take i xs)) × All kept (take i xs)
 
   -- one more
-  pub written_more : (xs lent : List T) (made pushed : List Data) (i : ℕ) (x : T) (d : Data) → lent ≡ xs
-      → i < length lent → x ≡ get_or lent i x → pushed ≡ made ++ d ∷ [] → data_of d ≡ written x → kept x
-      → AreWritten xs i made → AreWritten xs (i + 1) pushed
-  written_more xs lent made pushed i x d same lt is push ok keeps are =
-      let within : i < length xs = subst (λ l. i < length l) same lt in
-      let here : x ≡ get_or xs i x = is ∙ ap (λ l. get_or l i x) same in
+  pub written_more : (xs : List T) (made pushed : List Data) (i : ℕ) (x : T) (d : Data) → i < length xs
+      → x ≡ get_or xs i x → pushed ≡ made ++ d ∷ [] → data_of d ≡ written x → kept x → AreWritten xs i made
+      → AreWritten xs (i + 1) pushed
+  written_more xs made pushed i x d within is push ok keeps are =
       let more : take (i + 1) xs ≡ take i xs ++ x ∷ [] =
-      take_more xs i x within ∙ ap (λ y. take i xs ++ y ∷ []) (sym here) in (
+      take_more xs i x within ∙ ap (λ y. take i xs ++ y ∷ []) (sym is) in (
         ap (map data_of) push
             ∙ (map-append data_of made (d ∷ [])
             ∙ ((λ t. are.0 t ++ ok t ∷ [])
             ∙ (sym (map-append written (take i xs) (x ∷ [])) ∙ ap (map written) (sym more)))),
-        All-more kept xs i x within are.1 (subst kept here keeps),
+        All-more kept xs i x within are.1 (subst kept is keeps),
       )
-
-  -- all
-  pub written_all : (xs lent : List T) (made : Vec Data Global) (i : ℕ) → lent ≡ xs → length lent ≤ i
-      → AreWritten xs i made.items → data_of (Seq made) ≡ seq_written written xs
-  written_all xs lent made i same end are =
-      data_of-Seq made
-      ∙ ap (λ ds. seq_data (items_of ds))
-      (are.0 ∙ ap (map written) (take_all i xs (subst (λ l. length l ≤ i) same end)))
 
 -- a key with a value as plain data
 pub entry_of-made : (key value : Data)

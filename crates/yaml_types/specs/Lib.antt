@@ -1,4 +1,5 @@
 -- What contracts of this crate cite, and the laws of the types.
+pub mod ArrayLaws
 pub mod Built
 pub mod BuiltParts
 pub mod ChoiceLaws
@@ -21,7 +22,6 @@ pub mod Start
 pub mod StartLaws
 pub mod StructLaws
 pub mod Texts
-pub mod TripleLaws
 pub mod WriteRefusal
 pub mod WrittenLaws
 pub mod WrittenParts

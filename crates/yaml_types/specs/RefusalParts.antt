@@ -1,6 +1,6 @@
 -- By which messages data is refused that has parts: by that of the first part that is refused.
 use Rattle.std.specs.Prelude.{ℕ, List, ◌⊎◌}
-use Rattle.yaml_shape.specs.PlainData.{PlainData, PlainItems, PlainEntries, some_data, seq_data, tuple_data, map_data}
+use Rattle.yaml_shape.specs.PlainData.{PlainData, PlainItems, PlainEntries, some_data, seq_data, map_data}
 use Rattle.yaml_shape.specs.PlainData.{no_items, item, no_entries, entry}
 use Rattle.yaml_types.specs.BuiltParts.{IsBuilt}
 
@@ -21,34 +21,6 @@ abbrev pub RefusedSeq : {T : Type 0} → (PlainData → T → Type 0) → (Plain
     → List ℕ → Type 0
 RefusedSeq built refused (seq_data ds) message = RefusedItems built refused ds message
 RefusedSeq built refused _ message = ⊥
-
--- the first of two items is refused, or it is built and the second is refused
-abbrev pub RefusedTwo : {A : Type 0} → (PlainData → A → Type 0) → (PlainData → List ℕ → Type 0)
-    → (PlainData → List ℕ → Type 0) → PlainItems → List ℕ → Type 0
-RefusedTwo built first second (item a (item b no_items)) message =
-    first a message ⊎ (IsBuilt built a × second b message)
-RefusedTwo built first second _ message = ⊥
-
--- an element of a pair is refused
-abbrev pub RefusedPair : {A : Type 0} → (PlainData → A → Type 0) → (PlainData → List ℕ → Type 0)
-    → (PlainData → List ℕ → Type 0) → PlainData → List ℕ → Type 0
-RefusedPair built first second (tuple_data ds) message = RefusedTwo built first second ds message
-RefusedPair built first second _ message = ⊥
-
--- the first of three items is refused, or it is built and the first of the others that isn't built is refused
-abbrev pub RefusedThree : {A B : Type 0} → (PlainData → A → Type 0) → (PlainData → B → Type 0)
-    → (PlainData → List ℕ → Type 0) → (PlainData → List ℕ → Type 0) → (PlainData → List ℕ → Type 0) → PlainItems
-    → List ℕ → Type 0
-RefusedThree one two first second third (item a (item b (item c no_items))) message =
-    first a message ⊎ (IsBuilt one a × (second b message ⊎ (IsBuilt two b × third c message)))
-RefusedThree one two first second third _ message = ⊥
-
--- an element of a triple is refused
-abbrev pub RefusedTriple : {A B : Type 0} → (PlainData → A → Type 0) → (PlainData → B → Type 0)
-    → (PlainData → List ℕ → Type 0) → (PlainData → List ℕ → Type 0) → (PlainData → List ℕ → Type 0) → PlainData
-    → List ℕ → Type 0
-RefusedTriple one two first second third (tuple_data ds) message = RefusedThree one two first second third ds message
-RefusedTriple one two first second third _ message = ⊥
 
 -- the key is refused, or it is built and the value is refused
 abbrev pub RefusedBoth : {K : Type 0} → (PlainData → K → Type 0) → (PlainData → List ℕ → Type 0)

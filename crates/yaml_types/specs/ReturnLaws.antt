@@ -7,11 +7,10 @@ use Rattle.std.proofs.lemmas.List.Elements.{All-head, All-tail}
 use Rattle.yaml_tree.specs.TakeOut.{from_false, and_left, and_right}
 use Rattle.yaml_shape.specs.DataView.{items_of}
 use Rattle.yaml_shape.specs.EqualData.{data_eq, items_eq, EqualData}
-use Rattle.yaml_shape.specs.PlainData.{PlainData, PlainItems, none_data, some_data, seq_data, tuple_data, no_items}
-use Rattle.yaml_shape.specs.PlainData.{item}
-use Rattle.yaml_types.specs.BuiltParts.{BuiltOption, BuiltItems, BuiltSeq, BuiltTwo, BuiltPair}
-use Rattle.yaml_types.specs.RefusalParts.{RefusedOption, RefusedItems, RefusedSeq, RefusedTwo, RefusedPair}
-use Rattle.yaml_types.specs.WrittenParts.{option_written, seq_written, pair_written}
+use Rattle.yaml_shape.specs.PlainData.{PlainData, PlainItems, none_data, some_data, seq_data, no_items, item}
+use Rattle.yaml_types.specs.BuiltParts.{BuiltOption, BuiltItems, BuiltSeq}
+use Rattle.yaml_types.specs.RefusalParts.{RefusedOption, RefusedItems, RefusedSeq}
+use Rattle.yaml_types.specs.WrittenParts.{option_written, seq_written}
 
 -- of data equal to that of a value, only values equal to it are built
 abbrev pub AreReturned : {T : Type 0} → (T → Type 0) → (T → PlainData) → (PlainData → T → Type 0) → (T → T → Bool)
@@ -36,7 +35,8 @@ module _ {T : Type 0} (kept : T → Type 0) (written : T → PlainData) (built :
   option_returned eq law (Some x) (Some y) (some_data a) k e b = law x y a k e b
   option_returned eq law (Some x) (Some y) _ k e b = absurd b
 
-  items_returned : (eq : T → T → Bool) → AreReturned kept written built eq → (xs ys : List T) (ds : PlainItems)
+  -- elements
+  pub items_returned : (eq : T → T → Bool) → AreReturned kept written built eq → (xs ys : List T) (ds : PlainItems)
       → All kept xs → items_eq (items_of (map written xs)) ds ≡ true → BuiltItems built ds ys
       → pointwise eq xs ys ≡ true
   items_returned eq law [] [] ds k e b = refl
@@ -63,7 +63,8 @@ module _ {T : Type 0} (written : T → PlainData) (refused : PlainData → List 
   option_accepted law (Some x) (some_data a) m e r = law x a m e r
   option_accepted law _ _ m e r = r
 
-  items_accepted : (built : PlainData → T → Type 0) → AreAccepted written refused → (xs : List T) (ds : PlainItems)
+  -- elements
+  pub items_accepted : (built : PlainData → T → Type 0) → AreAccepted written refused → (xs : List T) (ds : PlainItems)
       (message : List ℕ) → items_eq (items_of (map written xs)) ds ≡ true → RefusedItems built refused ds message → ⊥
   items_accepted built law [] no_items m e r = r
   items_accepted built law (x ∷ xs) no_items m e r = r
@@ -77,44 +78,3 @@ module _ {T : Type 0} (written : T → PlainData) (refused : PlainData → List 
       (message : List ℕ) → EqualData (seq_written written xs) d → RefusedSeq built refused d message → ⊥
   seq_accepted built law xs (seq_data ds) m e r = items_accepted built law xs ds m e r
   seq_accepted built law xs _ m e r = r
-
-module _ {A B : Type 0} (one : A → PlainData) (two : B → PlainData) where
-  two_returned : (left : A → Type 0) (right : B → Type 0) (first : PlainData → A → Type 0)
-      (second : PlainData → B → Type 0) (eq : A → A → Bool) (eq' : B → B → Bool) → AreReturned left one first eq
-      → AreReturned right two second eq' → (x y : A × B) (ds : PlainItems) → left x.0 × right x.1
-      → items_eq (item (one x.0) (item (two x.1) no_items)) ds ≡ true → BuiltTwo first second ds y
-      → (eq x.0 y.0 && eq' x.1 y.1) ≡ true
-  two_returned left right first second eq eq' law law' x y (item a (item b no_items)) k e h =
-      let rest = and_right (data_eq (one x.0) a) _ e in
-      λ t. law x.0 y.0 a k.0 (and_left _ _ e) h.0 t && law' x.1 y.1 b k.1 (and_left _ _ rest) h.1 t
-  two_returned left right first second eq eq' law law' x y no_items k e h = absurd h
-  two_returned left right first second eq eq' law law' x y (item a no_items) k e h = absurd h
-  two_returned left right first second eq eq' law law' x y (item a (item b (item c ds))) k e h = absurd h
-
-  -- pairs
-  pub pair_returned : (left : A → Type 0) (right : B → Type 0) (first : PlainData → A → Type 0)
-      (second : PlainData → B → Type 0) (eq : A → A → Bool) (eq' : B → B → Bool) → AreReturned left one first eq
-      → AreReturned right two second eq' → (x y : A × B) (d : PlainData) → left x.0 × right x.1
-      → EqualData (pair_written one two x) d → BuiltPair first second d y → (eq x.0 y.0 && eq' x.1 y.1) ≡ true
-  pair_returned left right first second eq eq' law law' x y (tuple_data ds) k e h =
-      two_returned left right first second eq eq' law law' x y ds k e h
-  pair_returned left right first second eq eq' law law' x y _ k e h = absurd h
-
-  two_accepted : (built : PlainData → A → Type 0) (first second : PlainData → List ℕ → Type 0)
-      → AreAccepted one first → AreAccepted two second → (x : A × B) (ds : PlainItems) (message : List ℕ)
-      → items_eq (item (one x.0) (item (two x.1) no_items)) ds ≡ true → RefusedTwo built first second ds message → ⊥
-  two_accepted built first second law law' x (item a (item b no_items)) m e (inl r) =
-      law x.0 a m (and_left _ _ e) r
-  two_accepted built first second law law' x (item a (item b no_items)) m e (inr r) =
-      law' x.1 b m (and_left _ _ (and_right (data_eq (one x.0) a) _ e)) r.1
-  two_accepted built first second law law' x no_items m e r = r
-  two_accepted built first second law law' x (item a no_items) m e r = r
-  two_accepted built first second law law' x (item a (item b (item c ds))) m e r = r
-
-  -- pairs
-  pub pair_accepted : (built : PlainData → A → Type 0) (first second : PlainData → List ℕ → Type 0)
-      → AreAccepted one first → AreAccepted two second → (x : A × B) (d : PlainData) (message : List ℕ)
-      → EqualData (pair_written one two x) d → RefusedPair built first second d message → ⊥
-  pair_accepted built first second law law' x (tuple_data ds) m e r =
-      two_accepted built first second law law' x ds m e r
-  pair_accepted built first second law law' x _ m e r = r

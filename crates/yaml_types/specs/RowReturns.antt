@@ -5,8 +5,8 @@ use Rattle.yaml_tree.specs.TakeOut.{and_left, and_right}
 use Rattle.yaml_shape.specs.EqualData.{data_eq, items_eq, EqualData}
 use Rattle.yaml_shape.specs.PlainData.{PlainData, PlainItems, struct_data, tuple_data, no_items, item}
 use Rattle.yaml_types.specs.ReturnLaws.{AreReturned, AreAccepted}
-use Rattle.yaml_types.specs.Rows.{BuiltRow, RefusedRow, BuiltFields, RefusedFields, BuiltElements}
-use Rattle.yaml_types.specs.Rows.{RefusedElements, BuiltOf, RefusedOf}
+use Rattle.yaml_types.specs.Rows.{BuiltNothing, BuiltRow, NoneRefused, RefusedRow, BuiltFields, RefusedFields}
+use Rattle.yaml_types.specs.Rows.{BuiltElements, RefusedElements, BuiltOf, RefusedOf}
 
 -- of items equal to those of a row, only rows equal to it are built
 abbrev pub RowReturned : {R : Type 0} → (R → PlainItems) → (R → Type 0) → (PlainItems → R → Type 0) → (R → R → Bool)
@@ -39,6 +39,22 @@ module _ {A R : Type 0} (one : A → PlainData) where
   row_accepted built refused others refused' law law' x (item d ds) m e (inr r) =
       law' x.1 ds m (and_right (data_eq (one x.0) d) _ e) r.1
   row_accepted built refused others refused' law law' x no_items m e r = r
+
+module _ {A : Type 0} (one : A → PlainData) where
+  -- the last type of a row
+  pub last_returned : (kept : A → Type 0) (built : PlainData → A → Type 0) (eq : A → A → Bool)
+      → AreReturned kept one built eq → (x y : A) (ds : PlainItems) → kept x
+      → items_eq (item (one x) no_items) ds ≡ true → BuiltRow {R = Unit {0}} built BuiltNothing ds (y, tt)
+      → eq x y ≡ true
+  last_returned kept built eq law x y (item d ds) k e b = law x y d k (and_left _ _ e) b.0
+  last_returned kept built eq law x y no_items k e b = absurd b
+
+  pub last_accepted : (built : PlainData → A → Type 0) (refused : PlainData → List ℕ → Type 0)
+      → AreAccepted one refused → (x : A) (ds : PlainItems) (message : List ℕ)
+      → items_eq (item (one x) no_items) ds ≡ true → RefusedRow built refused NoneRefused ds message → ⊥
+  last_accepted built refused law x (item d ds) m e (inl r) = law x d m (and_left _ _ e) r
+  last_accepted built refused law x (item d ds) m e (inr r) = r.1
+  last_accepted built refused law x no_items m e r = r
 
 module _ {R : Type 0} (written : R → PlainItems) where
   -- the fields of a struct

@@ -1,5 +1,5 @@
 -- The shape of a type: a table of shapes, and the number of one of them.
-use Rattle.std.specs.Prelude.{ℕ, ◌≡◌, ◌<◌, ◌+◌, List, [], ◌∷◌, ◌++◌, length}
+use Rattle.std.specs.Prelude.{ℕ, ◌≡◌, ◌<◌, ◌+◌, List, [], ◌∷◌, ◌++◌, length, replicate}
 use Rattle.yaml_shape.specs.PlainShape.{PlainShape, any_shape, bool_shape, char_shape, integer_shape, str_shape}
 use Rattle.yaml_shape.specs.PlainShape.{unit_shape, option_shape, seq_shape, map_shape, tuple_shape}
 use Rattle.yaml_shape.specs.Join.{joined, joined_all, starts_behind}
@@ -53,3 +53,7 @@ map_start key value = with_shape (joined key.0 value.0) (map_shape key.1 (length
 -- tuples of them, their tables in a row
 abbrev pub tuple_start : List Start → Start
 tuple_start parts = with_shape (joined_all [] parts) (tuple_shape (starts_behind 0 parts))
+
+-- tuples of so many of it
+abbrev pub array_start : ℕ → Start → Start
+array_start count element = tuple_start (replicate count element)

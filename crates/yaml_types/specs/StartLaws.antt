@@ -102,11 +102,3 @@ closed_tuple parts c =
     closed_with (joined_all [] parts) (tuple_shape (starts_behind 0 parts))
     (closed_all [] parts (All-nil (NamesWithin 0)) c)
     (starts_inside [] parts (all_within parts c))
-
--- two types
-pub both_closed : (a b : Start) → IsClosed a → IsClosed b → All IsClosed (a ∷ b ∷ [])
-both_closed a b x y = All-cons IsClosed a (b ∷ []) x (All-cons IsClosed b [] y (All-nil IsClosed))
-
--- three types
-pub three_closed : (a b c : Start) → IsClosed a → IsClosed b → IsClosed c → All IsClosed (a ∷ b ∷ c ∷ [])
-three_closed a b c x y z = All-cons IsClosed a (b ∷ c ∷ []) x (both_closed b c y z)

@@ -24,11 +24,6 @@ SomeUnwritten unwritten xs message = Any (λ x. unwritten x message) xs
 abbrev pub PairUnwritten : {A B : Type 0} → (A → List ℕ → Type 0) → (B → List ℕ → Type 0) → A × B → List ℕ → Type 0
 PairUnwritten first second x message = first x.0 message ⊎ second x.1 message
 
--- one of three is not written
-abbrev pub TripleUnwritten : {A B C : Type 0} → (A → List ℕ → Type 0) → (B → List ℕ → Type 0) → (C → List ℕ → Type 0)
-    → A × B × C → List ℕ → Type 0
-TripleUnwritten first second third x message = first x.0 message ⊎ (second x.1 message ⊎ third x.2 message)
-
 -- what the first variant holds is not written, or what one of the others does
 abbrev pub OneOfUnwritten : {V C : Type 0} → (V → List ℕ → Type 0) → (C → List ℕ → Type 0) → OneOf V C → List ℕ → Type 0
 OneOfUnwritten first others (First x) message = first x message

@@ -3,14 +3,12 @@ use Rattle.std.specs.Prelude.{◌≡◌, List, [], ◌∷◌, map, true, ◌&&�
 use Rattle.std.proofs.Common.{◌∙◌}
 use Rattle.std.proofs.lemmas.List.Elements.{All-head, All-tail}
 use Rattle.yaml_shape.specs.DataView.{items_of, entries_of}
-use Rattle.yaml_shape.specs.PlainData.{PlainData, no_items, item}
+use Rattle.yaml_shape.specs.PlainData.{PlainData}
 use Rattle.yaml_shape.specs.HasShape.{all_have, HasShape}
-use Rattle.yaml_types.specs.Start.{Start, IsClosed, option_start, seq_start, map_start, tuple_start}
-use Rattle.yaml_types.specs.StartLaws.{both_closed, three_closed}
+use Rattle.yaml_types.specs.Start.{Start, IsClosed, option_start, seq_start, map_start}
 use Rattle.yaml_types.specs.PartShapes.{entries_match}
-use Rattle.yaml_types.specs.ShapeLaws.{none_has, some_has, seq_has, tuple_has, map_has}
-use Rattle.yaml_types.specs.WrittenParts.{option_written, seq_written, pair_written, triple_written, map_written}
-use Rattle.yaml_types.specs.WrittenParts.{PairsKeep}
+use Rattle.yaml_types.specs.ShapeLaws.{none_has, some_has, seq_has, map_has}
+use Rattle.yaml_types.specs.WrittenParts.{option_written, seq_written, map_written, PairsKeep}
 
 -- the data of each value of a type is of its shape
 abbrev pub AreOfShape : {T : Type 0} → Start → (T → Type 0) → (T → PlainData) → Type 0
@@ -35,26 +33,6 @@ pub seq_of_shape : {T : Type 0} (s : Start) (kept : T → Type 0) (written : T �
     → HasShape (seq_start s).0 (seq_start s).1 (seq_written written xs)
 seq_of_shape s kept written c law xs k =
     seq_has s c (items_of (map written xs)) ∙ all_written s kept written law xs k
-
--- pairs
-pub pair_of_shape : {A B : Type 0} (a b : Start) (first : A → Type 0) (second : B → Type 0) (one : A → PlainData)
-    (two : B → PlainData) → IsClosed a → IsClosed b → AreOfShape a first one → AreOfShape b second two
-    → (x : A × B) → first x.0 × second x.1
-    → HasShape (tuple_start (a ∷ b ∷ [])).0 (tuple_start (a ∷ b ∷ [])).1 (pair_written one two x)
-pair_of_shape a b first second one two c d left right x k =
-    tuple_has (a ∷ b ∷ []) (both_closed a b c d) (item (one x.0) (item (two x.1) no_items))
-    ∙ (λ t. left x.0 k.0 t && (right x.1 k.1 t && true))
-
--- triples
-pub triple_of_shape : {A B C : Type 0} (a b c : Start) (first : A → Type 0) (second : B → Type 0)
-    (third : C → Type 0) (one : A → PlainData) (two : B → PlainData) (three : C → PlainData) → IsClosed a
-    → IsClosed b → IsClosed c → AreOfShape a first one → AreOfShape b second two → AreOfShape c third three
-    → (x : A × B × C) → first x.0 × second x.1 × third x.2
-    → HasShape (tuple_start (a ∷ b ∷ c ∷ [])).0 (tuple_start (a ∷ b ∷ c ∷ [])).1 (triple_written one two three x)
-triple_of_shape a b c first second third one two three d e f left middle right x k =
-    tuple_has (a ∷ b ∷ c ∷ []) (three_closed a b c d e f)
-    (item (one x.0) (item (two x.1) (item (three x.2) no_items)))
-    ∙ (λ t. left x.0 k.0 t && (middle x.1 k.1 t && (right x.2 k.2 t && true)))
 
 pairs_written : {K V : Type 0} (a b : Start) (key : K → Type 0) (value : V → Type 0) (one : K → PlainData)
     (two : V → PlainData) → AreOfShape a key one → AreOfShape b value two → (pairs : List (K × V))

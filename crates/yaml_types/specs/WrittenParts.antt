@@ -3,8 +3,7 @@ use Rattle.std.specs.Prelude.{List, map, Option, Some, None, All}
 use Rattle.std.specs.BTreeMap.{BTreeMap, IsOrdered}
 use Rattle.std.specs.declared.cmp.Ordering.{Ordering}
 use Rattle.yaml_shape.specs.DataView.{items_of, entries_of}
-use Rattle.yaml_shape.specs.PlainData.{PlainData, none_data, some_data, seq_data, tuple_data}
-use Rattle.yaml_shape.specs.PlainData.{map_data, no_items, item}
+use Rattle.yaml_shape.specs.PlainData.{PlainData, none_data, some_data, seq_data, tuple_data, map_data}
 
 -- nothing, or the content
 abbrev pub option_written : {T : Type 0} → (T → PlainData) → Option T → PlainData
@@ -15,15 +14,9 @@ option_written written (Some x) = some_data (written x)
 abbrev pub seq_written : {T : Type 0} → (T → PlainData) → List T → PlainData
 seq_written written xs = seq_data (items_of (map written xs))
 
--- the two elements, in order
-abbrev pub pair_written : {A B : Type 0} → (A → PlainData) → (B → PlainData) → A × B → PlainData
-pair_written first second x = tuple_data (item (first x.0) (item (second x.1) no_items))
-
--- the three elements, in order
-abbrev pub triple_written : {A B C : Type 0} → (A → PlainData) → (B → PlainData) → (C → PlainData) → A × B × C
-    → PlainData
-triple_written first second third x =
-    tuple_data (item (first x.0) (item (second x.1) (item (third x.2) no_items)))
+-- the elements of an array, in order
+abbrev pub array_written : {T : Type 0} → (T → PlainData) → List T → PlainData
+array_written written xs = tuple_data (items_of (map written xs))
 
 -- the pairs, in the order of their keys
 abbrev pub map_written : {K V : Type 0} → (K → PlainData) → (V → PlainData) → List (K × V) → PlainData

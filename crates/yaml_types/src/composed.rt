@@ -69,8 +69,8 @@ where
     ghost withheld: { Self → List ℕ → Type 0 } = { λ _ _. ⊥ };
 
     /// The data of the parts, which borrows its texts from the value. Refused where memory runs out, by a message of a
-    /// part, or by one of the type's own, as `Error::custom` makes one. A value that is withheld by a message never
-    /// succeeds.
+    /// part, or by one of the type's own, as `Error::custom` makes one. A value that is withheld by a message is never
+    /// written.
     fn parts_to_data<'a>(&'a self, alloc: Global) -> Result<Data<'a>, Error>
         ensures ok { IfOk result (λ made. data_of made ≡ Self.Parts.written (Self.parts self.now)) }
         ensures kept { OnOk result (Self.Parts.kept (Self.parts self.now)) }

@@ -1,4 +1,5 @@
 //! The types that are read and written as themselves.
+mod array;
 mod boolean;
 mod boxed;
 mod boxed_text;
@@ -8,10 +9,8 @@ mod lent_text;
 mod list;
 mod map;
 mod optional;
-mod pair;
 mod set;
 mod text;
-mod triple;
 mod tuples;
 mod unit;
 mod value;

@@ -8,6 +8,7 @@ mod enums;
 mod fault;
 mod impls;
 mod items;
+mod last;
 mod leaf;
 mod row;
 mod strict;

@@ -18,8 +18,8 @@ pub struct Tuple<R> {
     pub elements: R,
 }
 
-// The schema of a tuple of these elements.
-fn tuple_schema(
+/// The schema of a tuple of these elements.
+pub(crate) fn tuple_schema(
     alloc: Global,
     parts: Vec<(Schema, ShapeId)>,
 ) -> Result<(Schema, ShapeId), SchemaFault>

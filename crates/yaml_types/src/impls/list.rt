@@ -1,11 +1,12 @@
 //! Sequences of a type.
 
-ghost use Rattle.std.specs.Prelude.{IsTrue, IfOk, IfErr};
-ghost use Rattle.yaml_shape.specs.DataView.{items_view};
+ghost use Rattle.std.specs.Prelude.{◌≡◌, map, IsTrue, All, IfOk, IfErr, OnOk};
+ghost use Rattle.yaml_shape.specs.DataView.{items_of, items_view};
 ghost use Rattle.yaml_shape.specs.HasShape.{all_have};
 ghost use Rattle.yaml_types.specs.BuiltParts.{BuiltItems};
 ghost use Rattle.yaml_types.specs.BuildRefusal.{IsBuildRefusal};
 ghost use Rattle.yaml_types.specs.RefusalParts.{RefusedItems};
+ghost use Rattle.yaml_types.specs.WriteRefusal.{IsWriteRefusal, SomeUnwritten};
 
 use crate::fault::BuildFault;
 use crate::traits::{Deserialize, RoundTrip, Serialize};
@@ -14,7 +15,7 @@ use yaml_base::Error;
 use yaml_shape::{Data, Schema, SchemaFault, ShapeId, seq_of};
 
 // The values of the items, in order.
-fn build_items<'de, T: Deserialize<'de> + Drop>(
+pub(super) fn build_items<'de, T: Deserialize<'de> + Drop>(
     alloc: Global,
     items: Vec<Data<'de>>,
 ) -> Result<Vec<T>, BuildFault>
@@ -27,6 +28,23 @@ fn build_items<'de, T: Deserialize<'de> + Drop>(
         values.push(T::build(alloc, item)?)?;
     }
     Ok(values)
+}
+
+// The data of the values, in order, which borrows its texts from them. Refused where memory runs out, or by a message
+// of a value.
+pub(super) fn write_items<'a, T: Serialize>(
+    alloc: Global,
+    values: &'a [T],
+) -> Result<Vec<Data<'a>>, Error>
+    ensures ok { IfOk result (λ items. items_view items.items ≡ items_of (map T.written values.now)) }
+    ensures kept { OnOk result (All T.kept values.now) }
+    ensures refused { IfErr result (IsWriteRefusal (SomeUnwritten T.unwritten values.now)) }
+{
+    let mut items = Vec::with_capacity(alloc, values.len())?;
+    for value in values {
+        items.push(value.to_data(alloc)?)?;
+    }
+    Ok(items)
 }
 
 impl<'de, T: Deserialize<'de> + Drop> Deserialize<'de> for Vec<T> {
@@ -82,11 +100,10 @@ impl<T: Serialize> Serialize for Vec<T> {
     }
 
     fn to_data<'a>(&'a self, alloc: Global) -> Result<Data<'a>, Error> {
-        let mut items = Vec::with_capacity(alloc, self.len())?;
-        for value in self {
-            items.push(value.to_data(alloc)?)?;
+        match write_items(alloc, self) {
+            Ok(items) => Ok(Data::Seq(items)),
+            Err(fault) => Err(fault),
         }
-        Ok(Data::Seq(items))
     }
 }
 

@@ -12,20 +12,20 @@ use yaml_base::Error;
 use yaml_shape::Data;
 
 impl<A, B, C, D, E, F, G, H> Composed for (A, B, C, D, E, F, G, H) {
-    type Parts = Tuple<(A, (B, (C, (D, (E, (F, (G, (H, ()))))))))>;
+    type Parts = Tuple<(A, (B, (C, (D, (E, (F, (G, (H,))))))))>;
 
-    ghost parts = { λ x. record { elements = (x.0, (x.1, (x.2, (x.3, (x.4, (x.5, (x.6, (x.7, tt)))))))) } };
+    ghost parts = { λ x. record { elements = (x.0, (x.1, (x.2, (x.3, (x.4, (x.5, (x.6, record { 0 = x.7 }))))))) } };
 }
 
 impl<'de, A, B, C, D, E, F, G, H> FromParts<'de> for (A, B, C, D, E, F, G, H) {
-    ghost made = { λ parts x. parts.elements ≡ (x.0, (x.1, (x.2, (x.3, (x.4, (x.5, (x.6, (x.7, tt)))))))) };
+    ghost made = { λ parts x. parts.elements ≡ (x.0, (x.1, (x.2, (x.3, (x.4, (x.5, (x.6, record { 0 = x.7 }))))))) };
 
     fn from_parts(
         _alloc: Global,
-        parts: Tuple<(A, (B, (C, (D, (E, (F, (G, (H, ()))))))))>,
+        parts: Tuple<(A, (B, (C, (D, (E, (F, (G, (H,))))))))>,
     ) -> Result<(A, B, C, D, E, F, G, H), BuildFault> {
         let Tuple {
-            elements: (a, (b, (c, (d, (e, (f, (g, (h, ())))))))),
+            elements: (a, (b, (c, (d, (e, (f, (g, (h,)))))))),
         } = parts;
         Ok((a, b, c, d, e, f, g, h))
     }

@@ -13,20 +13,20 @@ use yaml_base::Error;
 use yaml_shape::Data;
 
 impl<A, B, C, D, E> Composed for (A, B, C, D, E) {
-    type Parts = Tuple<(A, (B, (C, (D, (E, ())))))>;
+    type Parts = Tuple<(A, (B, (C, (D, (E,)))))>;
 
-    ghost parts = { λ x. record { elements = (x.0, (x.1, (x.2, (x.3, (x.4, tt))))) } };
+    ghost parts = { λ x. record { elements = (x.0, (x.1, (x.2, (x.3, record { 0 = x.4 })))) } };
 }
 
 impl<'de, A, B, C, D, E> FromParts<'de> for (A, B, C, D, E) {
-    ghost made = { λ parts x. parts.elements ≡ (x.0, (x.1, (x.2, (x.3, (x.4, tt))))) };
+    ghost made = { λ parts x. parts.elements ≡ (x.0, (x.1, (x.2, (x.3, record { 0 = x.4 })))) };
 
     fn from_parts(
         _alloc: Global,
-        parts: Tuple<(A, (B, (C, (D, (E, ())))))>,
+        parts: Tuple<(A, (B, (C, (D, (E,)))))>,
     ) -> Result<(A, B, C, D, E), BuildFault> {
         let Tuple {
-            elements: (a, (b, (c, (d, (e, ()))))),
+            elements: (a, (b, (c, (d, (e,))))),
         } = parts;
         Ok((a, b, c, d, e))
     }
@@ -51,7 +51,7 @@ impl<
     B: RoundTrip<'de> + Drop,
     C: RoundTrip<'de> + Drop,
     D: RoundTrip<'de> + Drop,
-    E: RoundTrip<'de> + Drop,
+    E: RoundTrip<'de>,
 > RoundTripParts<'de> for (A, B, C, D, E) {
     ghost same = { Prim.search rules };
 

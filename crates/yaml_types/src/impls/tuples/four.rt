@@ -13,20 +13,20 @@ use yaml_base::Error;
 use yaml_shape::Data;
 
 impl<A, B, C, D> Composed for (A, B, C, D) {
-    type Parts = Tuple<(A, (B, (C, (D, ()))))>;
+    type Parts = Tuple<(A, (B, (C, (D,))))>;
 
-    ghost parts = { λ x. record { elements = (x.0, (x.1, (x.2, (x.3, tt)))) } };
+    ghost parts = { λ x. record { elements = (x.0, (x.1, (x.2, record { 0 = x.3 }))) } };
 }
 
 impl<'de, A, B, C, D> FromParts<'de> for (A, B, C, D) {
-    ghost made = { λ parts x. parts.elements ≡ (x.0, (x.1, (x.2, (x.3, tt)))) };
+    ghost made = { λ parts x. parts.elements ≡ (x.0, (x.1, (x.2, record { 0 = x.3 }))) };
 
     fn from_parts(
         _alloc: Global,
-        parts: Tuple<(A, (B, (C, (D, ()))))>,
+        parts: Tuple<(A, (B, (C, (D,))))>,
     ) -> Result<(A, B, C, D), BuildFault> {
         let Tuple {
-            elements: (a, (b, (c, (d, ())))),
+            elements: (a, (b, (c, (d,)))),
         } = parts;
         Ok((a, b, c, d))
     }
@@ -48,7 +48,7 @@ impl<
     A: RoundTrip<'de> + Drop,
     B: RoundTrip<'de> + Drop,
     C: RoundTrip<'de> + Drop,
-    D: RoundTrip<'de> + Drop,
+    D: RoundTrip<'de>,
 > RoundTripParts<'de> for (A, B, C, D) {
     ghost same = { Prim.search rules };
 

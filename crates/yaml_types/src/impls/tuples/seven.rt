@@ -12,20 +12,20 @@ use yaml_base::Error;
 use yaml_shape::Data;
 
 impl<A, B, C, D, E, F, G> Composed for (A, B, C, D, E, F, G) {
-    type Parts = Tuple<(A, (B, (C, (D, (E, (F, (G, ())))))))>;
+    type Parts = Tuple<(A, (B, (C, (D, (E, (F, (G,)))))))>;
 
-    ghost parts = { λ x. record { elements = (x.0, (x.1, (x.2, (x.3, (x.4, (x.5, (x.6, tt))))))) } };
+    ghost parts = { λ x. record { elements = (x.0, (x.1, (x.2, (x.3, (x.4, (x.5, record { 0 = x.6 })))))) } };
 }
 
 impl<'de, A, B, C, D, E, F, G> FromParts<'de> for (A, B, C, D, E, F, G) {
-    ghost made = { λ parts x. parts.elements ≡ (x.0, (x.1, (x.2, (x.3, (x.4, (x.5, (x.6, tt))))))) };
+    ghost made = { λ parts x. parts.elements ≡ (x.0, (x.1, (x.2, (x.3, (x.4, (x.5, record { 0 = x.6 })))))) };
 
     fn from_parts(
         _alloc: Global,
-        parts: Tuple<(A, (B, (C, (D, (E, (F, (G, ())))))))>,
+        parts: Tuple<(A, (B, (C, (D, (E, (F, (G,)))))))>,
     ) -> Result<(A, B, C, D, E, F, G), BuildFault> {
         let Tuple {
-            elements: (a, (b, (c, (d, (e, (f, (g, ()))))))),
+            elements: (a, (b, (c, (d, (e, (f, (g,))))))),
         } = parts;
         Ok((a, b, c, d, e, f, g))
     }

@@ -13,20 +13,20 @@ use yaml_base::Error;
 use yaml_shape::Data;
 
 impl<A, B, C, D, E, F> Composed for (A, B, C, D, E, F) {
-    type Parts = Tuple<(A, (B, (C, (D, (E, (F, ()))))))>;
+    type Parts = Tuple<(A, (B, (C, (D, (E, (F,))))))>;
 
-    ghost parts = { λ x. record { elements = (x.0, (x.1, (x.2, (x.3, (x.4, (x.5, tt)))))) } };
+    ghost parts = { λ x. record { elements = (x.0, (x.1, (x.2, (x.3, (x.4, record { 0 = x.5 }))))) } };
 }
 
 impl<'de, A, B, C, D, E, F> FromParts<'de> for (A, B, C, D, E, F) {
-    ghost made = { λ parts x. parts.elements ≡ (x.0, (x.1, (x.2, (x.3, (x.4, (x.5, tt)))))) };
+    ghost made = { λ parts x. parts.elements ≡ (x.0, (x.1, (x.2, (x.3, (x.4, record { 0 = x.5 }))))) };
 
     fn from_parts(
         _alloc: Global,
-        parts: Tuple<(A, (B, (C, (D, (E, (F, ()))))))>,
+        parts: Tuple<(A, (B, (C, (D, (E, (F,))))))>,
     ) -> Result<(A, B, C, D, E, F), BuildFault> {
         let Tuple {
-            elements: (a, (b, (c, (d, (e, (f, ())))))),
+            elements: (a, (b, (c, (d, (e, (f,)))))),
         } = parts;
         Ok((a, b, c, d, e, f))
     }
@@ -53,7 +53,7 @@ impl<
     C: RoundTrip<'de> + Drop,
     D: RoundTrip<'de> + Drop,
     E: RoundTrip<'de> + Drop,
-    F: RoundTrip<'de> + Drop,
+    F: RoundTrip<'de>,
 > RoundTripParts<'de> for (A, B, C, D, E, F) {
     ghost same = { Prim.search rules };
 
