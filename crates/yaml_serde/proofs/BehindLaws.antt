@@ -1,6 +1,6 @@
 -- The place behind a node, by the numbers of a document's events.
-use Rattle.std.proofs.Common.{◌≡◌, ◌∙◌, ℕ, zero, suc, ◌+◌, ◌≤◌, List, [], ◌∷◌, map, length, Some, None, Bool, true, false}
-use Rattle.std.proofs.Common.{refl, sym, ap, arith, if◌then◌else◌, ◌==◌, ◌&&◌}
+use Rattle.std.proofs.Common.{◌≡◌, ◌∙◌, ℕ, zero, suc, ◌+◌, ◌≤◌, List, [], ◌∷◌, map, length, Some, None, Bool}
+use Rattle.std.proofs.Common.{true, false, refl, sym, ap, arith, if◌then◌else◌, ◌==◌, ◌&&◌}
 use Rattle.std.specs.Prelude.{slice_get}
 use Rattle.std.specs.Option.{option_map_or}
 use Rattle.yaml_load.specs.Ends.{end_place, ends_from, ends_of, inner_after, is_closing, is_opening}
@@ -56,6 +56,7 @@ behind_number ends document place end are found =
 
 -- where there is none, it is the same place
 pub behind_nothing : (ends : List ℕ) (document : PlainDocument) (place : ℕ)
-    → ends ≡ ends_of (map (λ e. e.0) document.events) → slice_get ends place ≡ None → place_behind document place ≡ place
+    → ends ≡ ends_of (map (λ e. e.0) document.events) → slice_get ends place ≡ None
+    → place_behind document place ≡ place
 behind_nothing ends document place are found =
     ap (λ o. option_map_or (λ e. e + 1) o place) (sym (ap (λ xs. slice_get xs place) are) ∙ found)

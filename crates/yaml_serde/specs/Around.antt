@@ -1,5 +1,6 @@
 -- Where a reading stands: the next node, and what is open around it.
-use Rattle.std.specs.Prelude.{◌≡◌, ℕ, zero, suc, ◌+◌, ◌<◌, ◌==◌, if◌then◌else◌, List, map, slice_get, Option, Some, None}
+use Rattle.std.specs.Prelude.{◌≡◌, ℕ, zero, suc, ◌+◌, ◌<◌, ◌==◌, if◌then◌else◌, List, map, slice_get, Option}
+use Rattle.std.specs.Prelude.{Some, None}
 use Rattle.std.specs.Option.{option_and_then, option_map, option_map_or}
 use Rattle.yaml_load.specs.Ends.{ends_of}
 use Rattle.yaml_load.specs.PlainDocEvent.{PlainDocEvent}
@@ -77,5 +78,6 @@ frame_here k r = record {
 -- A frame was put around what comes next, and those around it are as they were.
 pub record Opens (frame : Frame) (old new : Standing) : Type 0 where
   pub inside : innermost new ≡ Some frame
-  pub around : (k : ℕ) (f : Frame) → k < old.spot.top → slice_get old.frames k ≡ Some f → slice_get new.frames k ≡ Some f
+  pub around : (k : ℕ) (f : Frame) → k < old.spot.top → slice_get old.frames k ≡ Some f
+      → slice_get new.frames k ≡ Some f
   pub rest : new ≡ record old { frames = new.frames; spot = record old.spot { top = new.spot.top } }

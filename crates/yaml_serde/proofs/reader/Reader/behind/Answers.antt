@@ -22,5 +22,6 @@ returns-in-Some c =
 pub returns-in-None : goal.returns-in-None
 returns-in-None c =
     let ends = c.ends.result.now in
-    let past = slice_get_past ends c.args.place (ltb-false c.args.place (length ends) (sym c.in-None.ensures.lookup.0)) in
+    let place = c.args.place in
+    let past = slice_get_past ends place (ltb-false place (length ends) (sym c.in-None.ensures.lookup.0)) in
     sym (behind_nothing ends c.args.self.now.document.now c.args.place c.ends.ensures past)
