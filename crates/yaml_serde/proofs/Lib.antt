@@ -1,3 +1,5 @@
 -- Lemmas of this crate.
+pub mod BehindLaws
 pub mod CutOff
+pub mod NameLaws
 pub mod StepLaws

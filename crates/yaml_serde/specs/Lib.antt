@@ -1,5 +1,9 @@
 -- What contracts of this crate cite.
+pub mod Around
+pub mod Collections
 pub mod Leaves
 pub mod NextDocument
 pub mod NodeSteps
 pub mod OneDocument
+pub mod Picks
+pub mod Steps

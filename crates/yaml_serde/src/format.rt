@@ -22,13 +22,16 @@ fn narrowed<N: Copy + Drop>(number: Option<N>, reader: &Reader<'_, '_>) -> Resul
 }
 
 impl<'a, 'de> Format for Reader<'a, 'de> {
-    ghost use Rattle.yaml_serde.specs.NodeSteps.{Reads, Stays};
+    ghost use Rattle.yaml_serde.specs.Picks.{Picks};
+    ghost use Rattle.yaml_serde.specs.Steps.{Reads, Stays};
 
     type Error = Error;
 
     type Mark = Mark;
 
     ghost gives = { Reads };
+
+    ghost picks = { Picks };
 
     ghost stays = { Stays };
 
@@ -143,7 +146,7 @@ impl<'a, 'de> Format for Reader<'a, 'de> {
     }
 
     fn begin_seq(&mut self, _input: &[u8]) -> Result<(), Error> {
-        self.open(false)
+        self.open_seq()
     }
 
     fn next_item(&mut self, _input: &[u8]) -> Result<bool, Error> {
@@ -156,7 +159,7 @@ impl<'a, 'de> Format for Reader<'a, 'de> {
     }
 
     fn begin_struct(&mut self, _input: &[u8]) -> Result<bool, Error> {
-        self.open(true)?;
+        self.open_map()?;
         Ok(false)
     }
 

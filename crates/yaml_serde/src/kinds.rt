@@ -1,5 +1,9 @@
 //! What a node is, as a look at it tells.
 
+ghost use Rattle.std.specs.Prelude.{◌≡◌};
+ghost use Rattle.std.specs.Option.{option_copied};
+ghost use Rattle.yaml_serde.specs.Around.{next_tag, standing};
+
 use crate::leaf::Leaf;
 use crate::makers::tag_of;
 use crate::reader::Reader;
@@ -38,7 +42,9 @@ fn kind_of_text(scalar: &DocScalar<'_>) -> serde::Kind {
 
 impl<'a, 'de> Reader<'a, 'de> {
     /// The name of the local tag of the node at which the reading stands, where it is not taken.
-    pub(crate) fn tag_name(&self) -> Option<&'a str> {
+    pub(crate) fn tag_name(&self) -> Option<&'a str>
+        ensures { option_copied result ≡ next_tag (standing self.now) }
+    {
         if self.spot.taken {
             return None;
         }

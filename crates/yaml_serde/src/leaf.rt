@@ -1,8 +1,9 @@
 //! The shapes that nodes are read under, one node at a time.
 
-ghost use Rattle.std.specs.Prelude.{◌≡◌, ◌<◌, length, Some, true, IfErr, OnErr};
+ghost use Rattle.std.specs.Prelude.{◌≡◌, ◌<◌, length, Some, true, IfErr, IsTrue, OnErr};
 ghost use Rattle.yaml_base.specs.Answer.{Answers, is_memory};
 ghost use Rattle.yaml_shape.specs.DataView.{data_of};
+ghost use Rattle.yaml_shape.specs.PlainData.{map_data, seq_data, no_entries, no_items};
 ghost use Rattle.yaml_shape.specs.PlainShape.{shape_at};
 ghost use Rattle.yaml_read.specs.NodeReads.{NodeGives};
 ghost use Rattle.yaml_read.specs.Places.{way_of};
@@ -66,6 +67,26 @@ impl Leaf {
             Leaf::Bytes => ShapeId(14),
             Leaf::Any => ShapeId(15),
         }
+    }
+}
+
+/// Whether data is a sequence of no elements.
+pub(crate) fn has_no_items(read: &Data<'_>) -> bool
+    ensures { IsTrue result → data_of read.now ≡ seq_data no_items }
+{
+    match read {
+        Data::Seq(items) => items.is_empty(),
+        _ => false,
+    }
+}
+
+/// Whether data is a mapping of no entries.
+pub(crate) fn has_no_entries(read: &Data<'_>) -> bool
+    ensures { IsTrue result → data_of read.now ≡ map_data no_entries }
+{
+    match read {
+        Data::Map(entries) => entries.is_empty(),
+        _ => false,
     }
 }
 

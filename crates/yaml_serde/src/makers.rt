@@ -1,5 +1,11 @@
 //! The faults that a type asks for, with what was found and where.
 
+ghost use Rattle.std.specs.Prelude.{◌≡◌};
+ghost use Rattle.std.specs.Option.{option_and_then, option_copied};
+ghost use Rattle.yaml_base.specs.LocalName.{local_name};
+ghost use Rattle.yaml_load.specs.DocEventView.{doc_event_of};
+ghost use Rattle.yaml_read.specs.NodeTags.{tag_in};
+
 use crate::frame::{Deed, Frame, Kind, Stranger};
 use crate::leaf::Leaf;
 use crate::reader::Reader;
@@ -21,7 +27,10 @@ pub(crate) fn is_fatal(fault: &Error) -> bool {
 }
 
 /// The name of the local tag of the node that begins with an event.
-pub(crate) fn tag_of<'t>(event: &'t DocEvent<'_>) -> Option<&'t str> {
+pub(crate) fn tag_of<'t>(event: &'t DocEvent<'_>) -> Option<&'t str>
+    ensures { option_copied result
+        ≡ option_and_then local_name (tag_in (doc_event_of event.entry.now)) }
+{
     match event {
         DocEvent::Scalar(scalar) => parse_tag(scalar.tag.as_ref()),
         DocEvent::SequenceStart(start) | DocEvent::MappingStart(start) => parse_tag(

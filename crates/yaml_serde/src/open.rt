@@ -1,112 +1,179 @@
 //! Collections and variants that are gone into and left.
 
+ghost use Rattle.std.specs.Prelude.{◌≡◌, ◌+◌, ◌<◌, ◌^◌, Some, IfOk, IfSome, IsTrue, MatchBool, OnOk};
+ghost use Rattle.yaml_load.specs.PlainDocEvent.{PlainDocEvent};
+ghost use Rattle.yaml_shape.specs.PlainData.{map_data, seq_data, no_entries, no_items};
+ghost use Rattle.yaml_serde.specs.Around.{LeftFollowing, Opens, event_at, frame_here, open_kind, standing};
+ghost use Rattle.yaml_serde.specs.Collections.{Begins, BeginsMap, BeginsSeq, GoesInto, TakesEmpty};
+ghost use Rattle.yaml_serde.specs.Collections.{behind_frame};
+ghost use Rattle.yaml_serde.specs.Picks.{TakesTag};
+ghost use Rattle.yaml_serde.specs.declared.frame.Kind.TheVariants.{Named};
+ghost use Rattle.yaml_serde.specs.declared.leaf.Leaf.TheVariants as leaf;
+
 use crate::frame::{Deed, Frame, Kind, Last, Spot};
-use crate::leaf::Leaf;
+use crate::leaf::{Leaf, has_no_entries, has_no_items};
 use crate::reader::Reader;
 use yaml_base::Result;
 use yaml_read::DocEvent;
 
 impl<'a, 'de> Reader<'a, 'de> {
-    // Whether an alias in a place may be followed.
-    fn may_follow(&self, at: usize, start: usize) -> bool {
-        at == start || self.follows > 0
-    }
-
-    // Follows the alias in a place.
-    fn follow(&mut self, at: usize, start: usize) {
-        if at != start {
-            self.follows = self.follows.saturating_sub(1);
-        }
-    }
-
-    // The place behind the node in what is around it.
-    fn back_from(&self, at: usize, start: usize) -> usize {
-        if at == start {
-            self.behind(start)
+    // How many aliases may still be followed behind the one that stands for the next node, if one does. None where it
+    // may not be followed.
+    fn follows_behind(&self) -> Option<u128>
+        ensures { IfSome result (λ left. LeftFollowing (standing self.now) left) }
+    {
+        let at = self.spot.place;
+        if self.target(at) == at {
+            Some(self.follows)
         } else {
-            at.saturating_add(1)
+            self.follows.checked_sub(1)
         }
     }
 
-    // Opens a frame around what comes next.
-    fn push(&mut self, kind: Kind, start: usize, at: usize, back: usize) -> Result<()> {
+    /// The frame of a kind around the next node.
+    pub(crate) fn frame_here(&self, kind: Kind) -> Frame
+        ensures { result ≡ frame_here kind (standing self.now) }
+    {
+        let at = self.spot.place;
+        Frame {
+            kind,
+            start: self.target(at),
+            at,
+            back: self.behind(at),
+            outer: self.spot.top,
+        }
+    }
+
+    /// Puts a frame around what comes next.
+    pub(crate) fn push(&mut self, frame: Frame) -> Result<()>
+        ensures { OnOk result (Opens frame (standing self.old) (standing self.new)) }
+    {
         if self.marks == 0 {
             self.frames.truncate(self.spot.top);
         }
-        self.frames.push(Frame {
-            kind,
-            start,
-            at,
-            back,
-            outer: self.spot.top,
-        })?;
+        self.frames.push(frame)?;
         self.spot.top = self.frames.len();
         Ok(())
     }
 
-    /// Goes into the sequence or the mapping at which the reading stands.
-    pub(crate) fn open(&mut self, is_paired: bool) -> Result<()> {
-        let at = self.spot.place;
-        let start = self.target(at);
-        let (kind, leaf) = if is_paired {
-            (Kind::Entries, Leaf::Map)
-        } else {
-            (Kind::Items, Leaf::Seq)
-        };
-        let is_there = match self.event(start) {
-            Some(DocEvent::MappingStart(_)) => is_paired,
-            Some(DocEvent::SequenceStart(_)) => !is_paired,
+    // Whether a collection of a kind begins in a place.
+    fn begins(&self, kind: Kind, start: usize) -> bool
+        ensures begins { IsTrue result → (event : PlainDocEvent)
+            × (event_at self.now.document.now start ≡ Some event) × Begins kind event }
+        ensures countable { IsTrue result → start + 1 < 2 ^ 64 }
+    {
+        match (kind, self.event(start)) {
+            (Kind::Items, Some(DocEvent::SequenceStart(_))) => true,
+            (Kind::Entries, Some(DocEvent::MappingStart(_))) => true,
             _ => false,
-        };
-        let is_named = matches!(
+        }
+    }
+
+    /// Whether what comes next is the content of a variant that has none.
+    pub(crate) fn is_bare(&self) -> bool
+        ensures { IsTrue result → open_kind (standing self.now) ≡ Some Named }
+    {
+        matches!(
             self.open_frame(),
             Some(Frame {
                 kind: Kind::Named,
                 ..
             })
-        );
-        if !is_there || is_named || self.spot.nestings == 0 || !self.may_follow(at, start) {
-            self.leaf(leaf, Deed::Read)?;
-            let back = self.spot.place;
-            return self.push(Kind::Empty, start, at, back);
+        )
+    }
+
+    // Goes into the collection of a kind that the next node is or stands for, if it is one and the limits let it.
+    fn go_into(&mut self, kind: Kind) -> Result<bool>
+        ensures { IfOk result (λ went. MatchBool went
+            (GoesInto kind (standing self.old) (standing self.new))
+            (standing self.new ≡ standing self.old)) }
+    {
+        let frame = self.frame_here(kind);
+        if !self.begins(kind, frame.start) || self.is_bare() {
+            return Ok(false);
         }
-        self.follow(at, start);
-        let back = self.back_from(at, start);
-        self.push(kind, start, at, back)?;
-        self.spot.place = start.saturating_add(1);
-        self.spot.nestings = self.spot.nestings.saturating_sub(1);
-        self.spot.taken = false;
-        self.spot.begun = false;
-        Ok(())
+        let Some(follows) = self.follows_behind() else {
+            return Ok(false);
+        };
+        let Some(nestings) = self.spot.nestings.checked_sub(1) else {
+            return Ok(false);
+        };
+        self.push(frame)?;
+        self.spot = Spot {
+            place: frame.start.saturating_add(1),
+            top: self.spot.top,
+            nestings,
+            taken: false,
+            begun: false,
+        };
+        self.follows = follows;
+        Ok(true)
+    }
+
+    // Takes the next node, which is no sequence, as an empty one, where it means that.
+    fn take_no_items(&mut self) -> Result<()>
+        ensures { OnOk result
+            (TakesEmpty leaf.Seq (seq_data no_items) (standing self.old) (standing self.new)) }
+    {
+        let frame = self.frame_here(Kind::Empty);
+        if !has_no_items(&self.leaf(Leaf::Seq, Deed::Read)?) {
+            return Err(self.ended());
+        }
+        self.push(frame)
+    }
+
+    // The same of a mapping.
+    fn take_no_entries(&mut self) -> Result<()>
+        ensures { OnOk result
+            (TakesEmpty leaf.Map (map_data no_entries) (standing self.old) (standing self.new)) }
+    {
+        let frame = self.frame_here(Kind::Empty);
+        if !has_no_entries(&self.leaf(Leaf::Map, Deed::Read)?) {
+            return Err(self.ended());
+        }
+        self.push(frame)
+    }
+
+    /// Goes into the sequence at which the reading stands.
+    pub(crate) fn open_seq(&mut self) -> Result<()>
+        ensures { OnOk result (BeginsSeq (standing self.old) (standing self.new)) }
+    {
+        if self.go_into(Kind::Items)? {
+            return Ok(());
+        }
+        self.take_no_items()
+    }
+
+    /// Goes into the mapping at which the reading stands.
+    pub(crate) fn open_map(&mut self) -> Result<()>
+        ensures { OnOk result (BeginsMap (standing self.old) (standing self.new)) }
+    {
+        if self.go_into(Kind::Entries)? {
+            return Ok(());
+        }
+        self.take_no_entries()
     }
 
     /// Takes the tag of the node at which the reading stands, which named a variant.
-    pub(crate) fn take_tag(&mut self) -> Result<()> {
-        let at = self.spot.place;
-        let start = self.target(at);
-        if !self.may_follow(at, start) {
+    pub(crate) fn take_tag(&mut self) -> Result<()>
+        ensures { OnOk result (TakesTag (standing self.old) (standing self.new)) }
+    {
+        let Some(follows) = self.follows_behind() else {
             return Err(self.fault_of(Leaf::Enum));
-        }
-        self.follow(at, start);
-        let back = self.back_from(at, start);
-        self.push(Kind::Tag, start, at, back)?;
-        self.spot.place = start;
+        };
+        let frame = self.frame_here(Kind::Tag);
+        self.push(frame)?;
+        self.spot.place = frame.start;
         self.spot.taken = true;
+        self.spot.begun = false;
+        self.follows = follows;
         Ok(())
     }
 
-    /// Takes the text of the node before the reading, which named a variant.
-    pub(crate) fn take_text(&mut self) -> Result<()> {
-        let back = self.spot.place;
-        let last = self.last;
-        self.push(Kind::Named, last.start, last.at, back)
-    }
-
-    /// Leaves the innermost open frame.
-    pub(crate) fn close(&mut self) {
-        let Some(frame) = self.open_frame() else {
-            return
-        };
+    /// Leaves what a frame is around, which is the innermost open one.
+    pub(crate) fn close(&mut self, frame: Frame)
+        ensures { standing self.new ≡ behind_frame frame (standing self.old) }
+    {
         let nestings = match frame.kind {
             Kind::Items | Kind::Entries => self.spot.nestings.saturating_add(1),
             Kind::Empty | Kind::Tag | Kind::Named => self.spot.nestings,

@@ -1,10 +1,13 @@
 //! The reading of one document, step by step.
 
-ghost use Rattle.std.specs.Prelude.{◌≡◌, IfOk};
+ghost use Rattle.std.specs.Prelude.{◌≡◌, ◌+◌, ◌<◌, ◌^◌, IfOk, OnSome};
+ghost use Rattle.std.specs.Option.{option_map};
 ghost use Rattle.yaml_shape.specs.DataView.{data_of};
-ghost use Rattle.yaml_serde.specs.NodeSteps.{Gave, GoesOn, Stays, Took, node_at};
+ghost use Rattle.yaml_load.specs.DocEventView.{doc_event_of};
+ghost use Rattle.yaml_serde.specs.Around.{event_at, innermost, place_behind, standing, target_of};
+ghost use Rattle.yaml_serde.specs.NodeSteps.{Gave, Took, gone_on, node_at};
 
-use crate::frame::{Deed, Frame, Kind, Last, Spot, Stranger};
+use crate::frame::{Deed, Frame, Last, Spot, Stranger};
 use crate::leaf::{Leaf, Leaves};
 use serde::Case;
 use std::alloc::Global;
@@ -77,7 +80,11 @@ impl<'a, 'de> Reader<'a, 'de> {
     }
 
     /// The event in a place.
-    pub(crate) fn event(&self, place: usize) -> Option<&'a DocEvent<'de>> {
+    pub(crate) fn event(&self, place: usize) -> Option<&'a DocEvent<'de>>
+        ensures found { option_map (λ e. doc_event_of e.now) result
+            ≡ event_at self.now.document.now place }
+        ensures countable { OnSome result (place + 1 < 2 ^ 64) }
+    {
         let document: &'a Document<'de> = self.document;
         match document.events().get(place) {
             Some((event, _)) => Some(event),
@@ -94,7 +101,9 @@ impl<'a, 'de> Reader<'a, 'de> {
     }
 
     /// The place of the node that the one in a place is, or that it stands for as an alias.
-    pub(crate) fn target(&self, place: usize) -> usize {
+    pub(crate) fn target(&self, place: usize) -> usize
+        ensures { result ≡ target_of self.now.document.now place }
+    {
         match self.event(place) {
             Some(DocEvent::Alias(target)) => *target,
             _ => place,
@@ -102,7 +111,9 @@ impl<'a, 'de> Reader<'a, 'de> {
     }
 
     /// The place behind the node that begins in a place, without following an alias.
-    pub(crate) fn behind(&self, place: usize) -> usize {
+    pub(crate) fn behind(&self, place: usize) -> usize
+        ensures { result ≡ place_behind self.now.document.now place }
+    {
         match self.document.ends().get(place) {
             Some(end) => end.saturating_add(1),
             None => place,
@@ -110,7 +121,9 @@ impl<'a, 'de> Reader<'a, 'de> {
     }
 
     /// The innermost open frame.
-    pub(crate) fn open_frame(&self) -> Option<Frame> {
+    pub(crate) fn open_frame(&self) -> Option<Frame>
+        ensures { result ≡ innermost (standing self.now) }
+    {
         match self.frames.get(self.spot.top.checked_sub(1)?) {
             Some(frame) => Some(*frame),
             None => None,
@@ -130,7 +143,7 @@ impl<'a, 'de> Reader<'a, 'de> {
 
     // Where a call that reads a node by itself is to begin.
     fn node(&self) -> NodePlace
-        ensures { result ≡ node_at self.now }
+        ensures { result ≡ node_at (standing self.now) }
     {
         NodePlace {
             place: self.spot.place,
@@ -142,7 +155,7 @@ impl<'a, 'de> Reader<'a, 'de> {
 
     /// Notes what a step did with the node at which the reading stands.
     pub(crate) fn note(&mut self, deed: Deed)
-        ensures { Stays self.old self.new }
+        ensures { standing self.new ≡ standing self.old }
     {
         let at = self.spot.place;
         self.last = Last {
@@ -155,7 +168,7 @@ impl<'a, 'de> Reader<'a, 'de> {
 
     /// Tells what the last step did.
     pub(crate) fn tell(&mut self, deed: Deed)
-        ensures { Stays self.old self.new }
+        ensures { standing self.new ≡ standing self.old }
     {
         self.last.deed = deed;
     }
@@ -184,17 +197,10 @@ impl<'a, 'de> Reader<'a, 'de> {
     }
 
     /// The data of the node at which the reading stands, and the place behind it.
-    #[tactic(auto, using(crate::proofs::StepLaws::gave))]
     pub(crate) fn look(&self, leaf: Leaf) -> Result<(Data<'de>, NodePlace)>
-        ensures { IfOk result (λ r. Gave leaf self.now (data_of r.0) r.1) }
+        ensures { IfOk result (λ r. Gave leaf (standing self.now) (data_of r.0) r.1) }
     {
-        if let Some(
-            Frame {
-                kind: Kind::Named,
-                ..
-            },
-        ) = self.open_frame()
-        {
+        if self.is_bare() {
             return Err(self.fault_of_content());
         }
         let mut at = self.node();
@@ -212,8 +218,7 @@ impl<'a, 'de> Reader<'a, 'de> {
 
     /// Goes on behind the node that was looked at.
     pub(crate) fn go(&mut self, at: NodePlace)
-        ensures goes_on { GoesOn at self.new }
-        ensures same { self.new.document ≡ self.old.document }
+        ensures { standing self.new ≡ gone_on at (standing self.old) }
     {
         self.spot.place = at.place;
         self.spot.taken = false;
@@ -224,7 +229,7 @@ impl<'a, 'de> Reader<'a, 'de> {
     /// The data of the node at which the reading stands, which then stands behind it.
     #[tactic(auto, using(crate::proofs::StepLaws::took))]
     pub(crate) fn leaf(&mut self, leaf: Leaf, deed: Deed) -> Result<Data<'de>>
-        ensures { IfOk result (λ d. Took leaf (data_of d) self.old self.new) }
+        ensures { IfOk result (λ d. Took leaf (data_of d) (standing self.old) (standing self.new)) }
     {
         self.note(deed);
         let (data, at) = self.look(leaf)?;
