@@ -83,15 +83,15 @@ pub(crate) fn from_stream<'de, T: Deserialize<'de>>(
         (TypeGives limits T.start T.built T.refused input fault) }
 {
     reading_gives_the_meaning();
-    let (schema, id) = match T::schema(alloc) {
+    let (table, id) = match T::schema(alloc) {
         Ok(start) => start,
-        Err(refused) => return Err(schema_refusal(alloc, refused)),
+        Err(reason) => return Err(schema_refusal(alloc, reason)),
     };
-    schema.is_valid();
-    match data_from_stream(alloc, stream, &schema, id, limits) {
+    table.is_valid();
+    match data_from_stream(alloc, stream, &table, id, limits) {
         Ok(found) => match T::build(alloc, found) {
             Ok(value) => Ok(value),
-            Err(refused) => Err(build_refusal(refused)),
+            Err(reason) => Err(build_refusal(reason)),
         },
         Err(refused) => Err(refused),
     }

@@ -8,7 +8,7 @@ use Rattle.serde_yaml.proofs.de.typed.from_stream.Goals as goal
 pub returns-in-Err-clause-given : goal.returns-in-Err-clause-given
 returns-in-Err-clause-given g c = λ input fault is formed.
     no_type c.args.limits g.T.Deserialize.start g.T.Deserialize.built g.T.Deserialize.refused input fault
-    c.in-Err.refused c.schema_refusal.result c.in-Err.ensures.refused c.schema_refusal.ensures
+    c.in-Err.reason c.schema_refusal.result c.in-Err.ensures.refused c.schema_refusal.ensures
 
 pub returns-in-Err-clause-meaning : goal.returns-in-Err-clause-meaning
 returns-in-Err-clause-meaning g c = λ input fault is formed m.
@@ -37,7 +37,7 @@ returns-in-Ok-data_from_stream-clause-given g c = λ input fault is formed m.
     (Ok found) (Err c.build_refusal.result) c.in-Ok.ensures.ok.table c.in-Ok.ensures.ok.number closed
     c.is_valid.ensures
     (λ s at. whole_input input fault formed is (Ok found) (c.in-Ok-data_from_stream.ensures.gives s at))
-    (no_value g.T.Deserialize.built g.T.Deserialize.refused found c.in-Err-build.refused c.build_refusal.result
+    (no_value g.T.Deserialize.built g.T.Deserialize.refused found c.in-Err-build.reason c.build_refusal.result
     c.in-Err-build.ensures.refused c.build_refusal.ensures m)
 
 pub returns-in-Ok-data_from_stream-clause-meaning : goal.returns-in-Ok-data_from_stream-clause-meaning
