@@ -27,7 +27,7 @@ mkdir -p "$programs"
 # Builds the port's program, over what earlier checks kept of the crates.
 make_port() {
     local crates crate
-    crates=$(sed -n 's/^yaml_serde: serde //p; s/^serde_yaml: //p' "$here/../crates.txt" | tr ' ' '\n' | sort -u | grep -v itoa)
+    crates=$(sed -n 's/^yaml_serde: //p; s/^serde_yaml: //p' "$here/../crates.txt" | tr ' ' '\n' | sort -u | grep -v 'itoa\|^serde$')
     crates="$crates yaml_serde serde_yaml"
     mkdir -p "$room/port/crates/bench_port/src"
     for crate in $crates; do
