@@ -17,14 +17,14 @@ trap 'rm -rf "$room"' EXIT
 # Makes the program, which reads standard input, and parses it unless its argument says to read alone.
 make_program() {
     mkdir -p "$room/crates/text_cost/src"
-    for crate in yaml_tree yaml_base yaml_token yaml_scan yaml_parse yaml_text; do
+    for crate in yaml_tree yaml_base yaml_history yaml_token yaml_scan yaml_parse yaml_text; do
         mkdir -p "$room/crates/$crate"
         for part in src specs proofs; do
             [ ! -d "$root/crates/$crate/$part" ] || cp -a "$root/crates/$crate/$part" "$room/crates/$crate/"
         done
         grep "^$crate:" "$root/crates.txt" >> "$room/crates.txt"
     done
-    echo 'text_cost: yaml_text yaml_parse yaml_scan yaml_token yaml_base yaml_tree' >> "$room/crates.txt"
+    echo 'text_cost: yaml_text yaml_parse yaml_scan yaml_token yaml_base yaml_tree yaml_history' >> "$room/crates.txt"
     cat > "$room/crates/text_cost/src/main.rt" <<'RT'
 //! Parses standard input, unless the argument is `read`, and prints how many events or bytes there were.
 #![tactic(auto)]
