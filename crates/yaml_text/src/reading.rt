@@ -14,17 +14,12 @@ use yaml_token::Fault;
 // How many events are made before the first of them is handed out. One that was just written is slow to move on.
 const BATCH: usize = 64;
 
-// The most tokens that are parsed one after another, since a text may end with as many as it has bytes.
-const MOST_TOKENS: usize = 1024;
-
 // The tokens of a text and its parser.
 #[derive(Drop)]
 pub(crate) struct Reading<'a> {
     tokens: Tokens<'a>,
     parser: Parser<'a>,
-    // Whether the text goes on behind the tokens.
-    goes_on: bool,
-    // The most steps that are left; none where all tokens were parsed, or no more of them are.
+    // The most steps that the scanner has left; none where the text has ended, or no more of it is parsed.
     steps: usize,
 }
 
@@ -34,7 +29,7 @@ fn hand_over(tokens: &mut Tokens<'_>, parser: &mut Parser<'_>) -> Result<bool, A
     ensures text { parser.new.text.now ≡ parser.old.text.now }
     ensures handed { handed parser.new ≡ handed parser.old }
 {
-    'ready: for _ in 0..tokens.ready().min(MOST_TOKENS) {
+    'ready: for _ in 0..tokens.ready() {
         match tokens.next() {
             Some(placed) => {
                 if !parser.take(placed)? {
@@ -55,12 +50,12 @@ impl<'a> Reading<'a> {
         Reading {
             tokens,
             parser,
-            goes_on: true,
-            steps: len.saturating_mul(2).saturating_add(2),
+            steps: len.saturating_add(1),
         }
     }
 
-    // Scans a step where the text goes on, and parses tokens that are ready then.
+    // Scans a step, and parses the tokens that are ready then.
+    #[inline(always)]
     fn advance(&mut self) -> Result<(), AllocError>
         requires { 0 < self.old.steps }
         ensures text { self.new.parser.text.now ≡ self.old.parser.text.now }
@@ -68,11 +63,8 @@ impl<'a> Reading<'a> {
         ensures fewer { self.new.steps < self.old.steps }
     {
         self.steps -= 1;
-        if self.goes_on {
-            self.goes_on = self.tokens.advance()?;
-        }
-        let takes_more = hand_over(&mut self.tokens, &mut self.parser)?;
-        if !takes_more || !self.goes_on && self.tokens.ready() == 0 {
+        let goes_on = self.tokens.advance()?;
+        if !hand_over(&mut self.tokens, &mut self.parser)? || !goes_on {
             self.steps = 0;
         }
         Ok(())
