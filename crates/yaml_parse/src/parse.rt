@@ -124,10 +124,23 @@ impl<'a> Parser<'a> {
         self.machine.stream.has_events();
     }
 
+    /// The events that were not handed out, in a list. Takes no memory, but where some were handed out the others are
+    /// moved.
+    pub fn into_waiting(self) -> Vec<(Event<'a>, Mark)>
+        ensures waiting { made self.entry ≡ handed self.entry ++ result.items }
+        ensures sources { AreShown self.entry.text.now (made self.entry) }
+        ensures plain { SaySources (made self.entry) }
+        ensures marks { MarksAscend self.entry.text.now (made self.entry) }
+        ensures places { AreInPlace self.entry.text.now (made self.entry) }
+    {
+        let Parser { machine, .. } = self;
+        machine.stream.into_waiting()
+    }
+
     /// Why no more events come: for the parser's own first fault, or else for this fault of the tokens, if there is one.
     /// Tokens that neither end nor have a fault give a fault of kind `Other`. The only error is want of memory.
-    pub fn finish(self, alloc: Global, fault: Option<Fault>) -> Result<Ending, AllocError>
-        ensures taken { IfOk result (λ ending. IsWellFormed (is_some ending.fault) (plain_events (made self.entry))) }
+    pub fn finish(&self, alloc: Global, fault: Option<Fault>) -> Result<Ending, AllocError>
+        ensures taken { IfOk result (λ ending. IsWellFormed (is_some ending.fault) (plain_events (made self.now))) }
         ensures found { IfOk result (λ ending. is_some ending.found ≡ is_some ending.fault) }
         ensures not_readers { ForSome fault (λ f. f.kind ≢ kind.Reader) →
             IfOk result (λ ending. IsNotReaders ending.fault) }

@@ -78,4 +78,11 @@ impl<'a> Queue<'a> {
             None => None,
         }
     }
+
+    // The events that wait, in a list.
+    pub(crate) fn into_waiting(self) -> Vec<(Event<'a>, Mark)>
+        ensures { self.entry.made.items ≡ self.entry.handed.items ++ result.items }
+    {
+        self.waiting.into_vec()
+    }
 }

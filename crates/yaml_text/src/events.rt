@@ -103,6 +103,30 @@ impl<'a> Events<'a> {
         }
     }
 
+    /// All events that are left, in a list, and why no more come: the parser's fault, if it met one. The only error is
+    /// want of memory.
+    pub fn into_list(self, alloc: Global) -> Result<(Vec<(Event<'a>, Mark)>, Ending), AllocError>
+        ensures taken { self.entry.given ≡ [] → IfOk result (λ all.
+            IsWellFormed (is_some all.1.fault) (plain_events all.0.items)) }
+        ensures sources { self.entry.given ≡ [] → IfOk result (λ all. AreShown self.entry.text all.0.items) }
+        ensures plain { self.entry.given ≡ [] → IfOk result (λ all. SaySources all.0.items) }
+        ensures marks { self.entry.given ≡ [] → IfOk result (λ all. MarksAscend self.entry.text all.0.items) }
+        ensures places { self.entry.given ≡ [] → IfOk result (λ all. AreInPlace self.entry.text all.0.items) }
+        ensures allowed { IsAllowed self.entry.text → IfOk result (λ all. IsNotReaders all.1.fault) }
+        ensures refused { (IsAllowed self.entry.text → ⊥) → IfOk result (λ all. (all.0.items ≡ [])
+            × IsSomeAnd all.1.fault (λ f. IsOfReader self.entry.text f.kind f.offset)) }
+    {
+        match self.source {
+            Source::Text(mut reading) => {
+                reading.read_all()?;
+                let (fault, parser) = reading.into_parts();
+                let ending = parser.finish(alloc, fault)?;
+                Ok((parser.into_waiting(), ending))
+            }
+            Source::Unread(fault) => Ok((Vec::new(alloc), unread(alloc, fault)?)),
+        }
+    }
+
     /// Why no more events come, once `next_event` answered `None`: the parser's fault, if it met one. A text whose bytes
     /// are not all allowed, by the rules of UTF-8 or of YAML's characters, has no events, and the fault tells where. The
     /// only error is want of memory.

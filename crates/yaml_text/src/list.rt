@@ -43,13 +43,7 @@ pub fn parse<'a>(alloc: Global, text: &'a [u8]) -> Result<Parsed<'a>, AllocError
     ensures refused { IfOk result (λ parsed. (IsAllowed text.now → ⊥) →
         (parsed.events.items ≡ []) × IsSomeAnd parsed.fault (λ f. IsOfReader text.now f.kind f.offset)) }
 {
-    let mut source = Events::new(alloc, text)?;
-    let mut events = Vec::new(alloc);
-    'events: while let Some(event) = source.next_event()? {
-        events.push(event)?;
-    }
-    source.has_events();
-    let Ending { fault, found } = source.finish(alloc)?;
+    let (events, Ending { fault, found }) = Events::new(alloc, text)?.into_list(alloc)?;
     Ok(Parsed {
         events,
         fault,

@@ -81,6 +81,17 @@ impl<'a> Reading<'a> {
         Ok(())
     }
 
+    // Scans and parses all that is left.
+    pub(crate) fn read_all(&mut self) -> Result<(), AllocError>
+        ensures text { self.new.parser.text.now ≡ self.old.parser.text.now }
+        ensures handed { handed self.new.parser ≡ handed self.old.parser }
+    {
+        'steps: while self.steps > 0 {
+            self.advance()?;
+        }
+        Ok(())
+    }
+
     // What is wrong with the tokens, behind all of them, if that was found, and the parser.
     pub(crate) fn into_parts(self) -> (Option<Fault>, Parser<'a>)
         ensures parser { result.1 ≡ self.entry.parser }

@@ -90,6 +90,17 @@ impl<'a> Stream<'a> {
         self.events.pop()
     }
 
+    // The events that were not handed out, in a list.
+    pub(crate) fn into_waiting(self) -> Vec<(Event<'a>, Mark)>
+        ensures waiting { self.entry.events.made.items ≡ self.entry.events.handed.items ++ result.items }
+        ensures shown { AreShown self.entry.text.now self.entry.events.made.items }
+        ensures plain { SaySources self.entry.events.made.items }
+        ensures marks { MarksAscend self.entry.text.now self.entry.events.made.items }
+        ensures places { AreInPlace self.entry.text.now self.entry.events.made.items }
+    {
+        self.events.into_waiting()
+    }
+
     // The mark at which an event begins that is said to begin here, with the line and the column that the text has there,
     // if it may: within the text, and not before the last one.
     #[inline(always)]

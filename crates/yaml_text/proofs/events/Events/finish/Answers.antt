@@ -1,16 +1,10 @@
 -- A text that the reader refuses is not allowed.
-use Rattle.std.proofs.Common.{ℕ, List, Result, Ok, Err, IfOk, length, sym, subst, arith}
-use Rattle.std.proofs.lemmas.List.{take_all}
-use Rattle.yaml_base.specs.declared.fault.FaultKind.{FaultKind}
-use Rattle.yaml_scan.specs.AllowedText.{IsAllowed, IsOfReader}
+use Rattle.std.proofs.Common.{Result, Ok, Err, IfOk, subst, sym}
+use Rattle.yaml_scan.specs.AllowedText.{IsAllowed}
 use Rattle.yaml_text.specs.PlainReading.{PlainReading}
 use Rattle.yaml_text.specs.Sources.{IsSourceOf}
+use Rattle.yaml_text.proofs.TextLaws.{not_allowed}
 use Rattle.yaml_text.proofs.events.Events.finish.Goals as goal
-
-not_allowed : (text : List ℕ) (kind : FaultKind) (offset : ℕ) → IsOfReader text kind offset → IsAllowed text → ⊥
-not_allowed text kind offset found all =
-    let up_to = found.1.1 in
-    up_to.longest (length text) up_to.short (subst IsAllowed (sym (take_all (length text) text (omega arith))) all)
 
 never : {T E : Type 0} (P : T → Type 0) (Q : Type 0) (r : Result T E) → (Q → ⊥) → Q → IfOk r P
 never P Q (Ok x) against q = absurd (against q)
@@ -22,4 +16,5 @@ returns-in-Unread-clause-allowed c =
     let fault = c.in-Unread.fault in
     let found = subst (IsSourceOf text) c.in-Unread.is c.self.invariant.0 in
     never _ (IsAllowed c.args.self.text) c.unread.result
-    (λ all. not_allowed text fault.kind fault.offset found (subst (λ (v : PlainReading). IsAllowed v.text) (sym c.self.view_is) all))
+    (λ all. not_allowed text fault.kind fault.offset found
+    (subst (λ (v : PlainReading). IsAllowed v.text) (sym c.self.view_is) all))
