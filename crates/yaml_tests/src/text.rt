@@ -1,6 +1,7 @@
 //! YAML text that is read as a value of any kind, and text that is refused.
 
 mod calls;
+mod events;
 
 use std::alloc::{AllocError, Global};
 use std::test::Fail;

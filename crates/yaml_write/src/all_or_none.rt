@@ -72,7 +72,7 @@ fn write_start(
     if opened.is_empty() {
         out.push(EmitEvent::DocumentStart)?;
     }
-    out.start(is_mapping(kind), tag)
+    out.start(is_mapping(kind), tag, 0)
 }
 
 /// Adds the start of a collection, and of its document where nothing is open.

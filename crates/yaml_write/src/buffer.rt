@@ -1,11 +1,12 @@
 //! Events that are made one after another.
 
 ghost use Rattle.std.specs.Prelude.{◌≡◌, ◌∷◌, [], Ok, codes, length, map, string_bytes, take};
-ghost use Rattle.std.specs.Prelude.{OnErr, OnOk};
+ghost use Rattle.std.specs.Prelude.{IfErr, OnErr, OnOk};
 ghost use Rattle.std.specs.Char.{encode_utf8};
 ghost use Rattle.yaml_base.specs.EmitEvents.{emit_of, tag_bytes, emit_sequence_start, emit_sequence_end};
 ghost use Rattle.yaml_base.specs.EmitEvents.{emit_mapping_start, emit_mapping_end};
 ghost use Rattle.yaml_base.specs.EmitTree.{emit_node_events, emit_scalar_node};
+ghost use Rattle.yaml_base.specs.declared.error.Cause.TheVariants.{Memory};
 ghost use Rattle.yaml_write.specs.Adds.{Adds};
 ghost use Rattle.yaml_write.specs.Brackets.{start_by, end_by};
 ghost use Rattle.yaml_write.specs.Outcomes.{plain_node, null_node, string_node};
@@ -74,6 +75,15 @@ impl EventBuffer {
         Ok(())
     }
 
+    // Room for so many events, and for the starts and ends of a stream, a document and a collection around them.
+    fn make_room(&mut self, count: usize) -> Result<()>
+        ensures same { self.new ≡ self.old }
+        ensures memory { IfErr result (λ cause. cause ≡ Memory) }
+    {
+        self.events.reserve(count.saturating_add(6))?;
+        Ok(())
+    }
+
     // A scalar.
     #[inline(always)]
     pub(crate) fn scalar(
@@ -135,11 +145,12 @@ impl EventBuffer {
         self.scalar(tag, value, AskedStyle::SingleQuoted)
     }
 
-    // The start of a sequence.
-    pub(crate) fn start_sequence(&mut self, tag: Option<String>) -> Result<()>
+    // The start of a sequence, and room for so many elements of one event.
+    pub(crate) fn start_sequence(&mut self, tag: Option<String>, elements: usize) -> Result<()>
         ensures { Adds (λ e. e ∷ []) (Ok (emit_sequence_start (tag_bytes tag)))
             self.old self.new result }
     {
+        self.make_room(elements)?;
         self.push(EmitEvent::SequenceStart(Sequence { tag }))
     }
 
@@ -150,11 +161,12 @@ impl EventBuffer {
         self.push(EmitEvent::SequenceEnd)
     }
 
-    // The start of a mapping.
-    pub(crate) fn start_mapping(&mut self, tag: Option<String>) -> Result<()>
+    // The start of a mapping, and room for so many entries of two events.
+    pub(crate) fn start_mapping(&mut self, tag: Option<String>, entries: usize) -> Result<()>
         ensures { Adds (λ e. e ∷ []) (Ok (emit_mapping_start (tag_bytes tag)))
             self.old self.new result }
     {
+        self.make_room(entries.saturating_mul(2))?;
         self.push(EmitEvent::MappingStart(Mapping { tag }))
     }
 
@@ -165,15 +177,15 @@ impl EventBuffer {
         self.push(EmitEvent::MappingEnd)
     }
 
-    // The start of a mapping where parts are keys with values, else of a sequence.
-    pub(crate) fn start(&mut self, paired: bool, tag: Option<String>) -> Result<()>
+    // The start of a mapping where parts are keys with values, else of a sequence, and room for so many parts.
+    pub(crate) fn start(&mut self, paired: bool, tag: Option<String>, parts: usize) -> Result<()>
         ensures { Adds (λ e. e ∷ []) (Ok (start_by paired (tag_bytes tag)))
             self.old self.new result }
     {
         if paired {
-            self.start_mapping(tag)
+            self.start_mapping(tag, parts)
         } else {
-            self.start_sequence(tag)
+            self.start_sequence(tag, parts)
         }
     }
 

@@ -89,7 +89,7 @@ fn write_collection(
         out.old out.new result }
 {
     let named = are_named(shapes);
-    out.start(named, tag)?;
+    out.start(named, tag, items.len())?;
     write_parts(out, schema, shapes, items)?;
     out.end(named)
 }
@@ -157,7 +157,7 @@ fn write_map(
         (written_entries schema.now key.0 value.0 (entries_view entries.now)))
         out.old out.new result }
 {
-    out.start_mapping(tag)?;
+    out.start_mapping(tag, entries.len())?;
     write_entries(out, schema, key, value, entries)?;
     out.end_mapping()
 }

@@ -63,7 +63,7 @@ fn write_sequence(out: &mut EventBuffer, tag: Option<String>, values: &Sequence)
     ensures { Adds emit_node_events
         (written_value (tag_bytes tag) (sequence (items_of values.now))) out.old out.new result }
 {
-    out.start_sequence(tag)?;
+    out.start_sequence(tag, values.len())?;
     write_values(out, values)?;
     out.end_sequence()
 }
@@ -84,7 +84,7 @@ fn write_mapping(out: &mut EventBuffer, tag: Option<String>, pairs: &Mapping) ->
     ensures { Adds emit_node_events
         (written_value (tag_bytes tag) (mapping (pairs_of pairs.now))) out.old out.new result }
 {
-    out.start_mapping(tag)?;
+    out.start_mapping(tag, pairs.len())?;
     write_pairs(out, pairs)?;
     out.end_mapping()
 }

@@ -9,6 +9,7 @@ use std::test::Fail;
 use test_rows::documents::write_event;
 use test_rows::lines;
 use yaml_base::{Error, Event, Mark, ParserFault};
+use yaml_load::LoaderBuilder;
 use yaml_read::{Document, Loader};
 
 // Writes what stands before the part with this number, which is nothing before the first.
@@ -60,19 +61,37 @@ pub(crate) fn load(
     Loader::new(alloc, events, fault)
 }
 
-// Writes the documents of the lines of a text.
-fn write_input(alloc: Global, text: &str, out: &mut String) -> Result<(), Fail> {
-    let input = lines::input(alloc, text)?;
-    match load(alloc, input.events, input.fault) {
-        Ok(mut loader) => write_documents(&mut loader, out)?,
-        Err(error) => write!(out, "{error}")?,
+// The documents of events that are handed to a loader one by one.
+fn build(
+    alloc: Global,
+    events: Vec<(Event<'_>, Mark)>,
+    fault: Option<ParserFault>,
+) -> Result<Loader<'_>, Error> {
+    let mut builder = LoaderBuilder::with_capacity(alloc, 0)?;
+    for (event, mark) in events {
+        builder.push(event, mark)?;
     }
-    Ok(())
+    Ok(Loader::from(builder.finish(fault)?))
 }
 
-/// Whether these are the documents of the lines of a text.
-pub(crate) fn shows(alloc: Global, text: &str, expected: &str) -> Result<bool, Fail> {
+/// The documents that were loaded, or why none were.
+pub(crate) fn shown(
+    alloc: Global,
+    loaded: Result<Loader<'_>, Error>,
+) -> Result<String, AllocError> {
     let mut out = String::new(alloc);
-    write_input(alloc, text, &mut out)?;
-    Ok(out.as_str() == expected)
+    match loaded {
+        Ok(mut loader) => write_documents(&mut loader, &mut out)?,
+        Err(error) => write!(out, "{error}")?,
+    }
+    Ok(out)
+}
+
+/// Whether these are the documents of the lines of a text, whose events are loaded as a list and one by one.
+pub(crate) fn shows(alloc: Global, text: &str, expected: &str) -> Result<bool, Fail> {
+    let input = lines::input(alloc, text)?;
+    let listed = shown(alloc, load(alloc, input.events, input.fault))?;
+    let input = lines::input(alloc, text)?;
+    let built = shown(alloc, build(alloc, input.events, input.fault))?;
+    Ok(listed.as_str() == expected && built.as_str() == expected)
 }
