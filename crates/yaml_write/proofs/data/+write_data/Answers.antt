@@ -35,6 +35,15 @@ write_data-returns-in-Str t c =
       ← c.as_str.ensures,
     ) c.string.ensures
 
+pub write_untagged-returns-in-Str : goal.write_untagged-returns-in-Str
+write_untagged-returns-in-Str t c =
+    rw (
+      c.in-Str.is,
+      data_of-Str c.in-Str.text,
+      written-text c.args.schema.now c.args.id.0 None c.in-Str.text,
+      ← c.as_str.ensures,
+    ) c.string.ensures
+
 pub write_collection-returns : goal.write_collection-returns
 write_collection-returns t c =
     let named : c.are_named-named.result ≡ are_named c.args.shapes = c.are_named-named.ensures in
@@ -65,14 +74,14 @@ write_elements-loop-item-preserved t c = (
       ∙ left-joined emit_node emit_node_events emit_nodes_events emit_nodes_events node-row
       (written c.args.schema.now c.args.id.0 None (data_of c.item-item.result))
       (written_elements c.args.schema.now c.args.id.0 (items_view (drop (c.loop-item.item-index + 1) c.args.items.now)))
-      c.loop-item.out c.write_data.new.out c.in_ok-write_data.ensures),
-  kept-then emit_node_events _ c.args.out.now c.loop-item.out c.write_data.new.out c.loop-item.invariant.1
-      c.in_ok-write_data.ensures,
+      c.loop-item.out c.write_untagged.new.out c.in_ok-write_untagged.ensures),
+  kept-then emit_node_events _ c.args.out.now c.loop-item.out c.write_untagged.new.out c.loop-item.invariant.1
+      c.in_ok-write_untagged.ensures,
 )
 
-pub write_elements-returns-in_err-write_data : goal.write_elements-returns-in_err-write_data
-write_elements-returns-in_err-write_data t c =
-    let refused : Fails c.in_err-write_data.field-0.0
+pub write_elements-returns-in_err-write_untagged : goal.write_elements-returns-in_err-write_untagged
+write_elements-returns-in_err-write_untagged t c =
+    let refused : Fails c.in_err-write_untagged.field-0.0
     (written_elements c.args.schema.now c.args.id.0 (items_view c.args.items.now)) =
     fails-left emit_node (λ part. c.args.out.now ++ emit_nodes_events part)
     (λ part. c.loop-item.out ++ emit_nodes_events part) _
@@ -82,10 +91,10 @@ write_elements-returns-in_err-write_data t c =
     ∙ ap (made (λ part. c.loop-item.out ++ emit_nodes_events part))
     (elements-left c.args.schema.now c.args.id.0 c.args.items.now c.loop-item.item-index c.item-item.result
     c.loop-item-test.true c.item-item.is))
-    c.in_err-write_data.ensures.0 in
-    let kept : KeepsEvents c.args.out.now c.write_data.new.out =
-    keeps-through c.args.out.now c.loop-item.out c.write_data.new.out c.loop-item.invariant.1
-    c.in_err-write_data.ensures.1 in
+    c.in_err-write_untagged.ensures.0 in
+    let kept : KeepsEvents c.args.out.now c.write_untagged.new.out =
+    keeps-through c.args.out.now c.loop-item.out c.write_untagged.new.out c.loop-item.invariant.1
+    c.in_err-write_untagged.ensures.1 in
     search rules
 
 pub write_entries-loop-entry-preserved : goal.write_entries-loop-entry-preserved
@@ -143,9 +152,9 @@ write_field-returns t c =
     adds-joined pair_node emit_node_events emit_node_events pair_events pair-row
     (Ok (string_node None (string_bytes c.args.field.now.0)))
     (written c.args.schema.now c.args.field.now.1.0 None (data_of c.args.item.now))
-    c.args.out.now c.string.new.self c.write_data.new.out c.write_data.result
+    c.args.out.now c.string.new.self c.write_untagged.new.out c.write_untagged.result
     (ap (λ s. made (λ part. c.args.out.now ++ emit_node_events part) (Ok (string_node None s)))
-    (sym c.as_str.ensures.value) ∙ c.in_ok-string.ensures) c.write_data.ensures
+    (sym c.as_str.ensures.value) ∙ c.in_ok-string.ensures) c.write_untagged.ensures
 
 pub write_items-loop-i-preserved : goal.write_items-loop-i-preserved
 write_items-loop-i-preserved t c = (
@@ -156,15 +165,15 @@ write_items-loop-i-preserved t c = (
       ∙ left-joined emit_node emit_node_events emit_nodes_events emit_nodes_events node-row
       (written c.args.schema.now c.id_at.result.0 None (data_of c.index-items-i.result))
       (written_items c.args.schema.now (ids_of (drop (c.loop-i.i + 1) c.args.ids.now))
-      (items_view (drop (c.loop-i.i + 1) c.args.items.now))) c.loop-i.out c.write_data.new.out
-      c.in_ok-write_data.ensures),
-  kept-then emit_node_events _ c.args.out.now c.loop-i.out c.write_data.new.out c.loop-i.invariant.1
-      c.in_ok-write_data.ensures,
+      (items_view (drop (c.loop-i.i + 1) c.args.items.now))) c.loop-i.out c.write_untagged.new.out
+      c.in_ok-write_untagged.ensures),
+  kept-then emit_node_events _ c.args.out.now c.loop-i.out c.write_untagged.new.out c.loop-i.invariant.1
+      c.in_ok-write_untagged.ensures,
 )
 
-pub write_items-returns-in_err-write_data : goal.write_items-returns-in_err-write_data
-write_items-returns-in_err-write_data t c =
-    let refused : Fails c.in_err-write_data.field-0.0
+pub write_items-returns-in_err-write_untagged : goal.write_items-returns-in_err-write_untagged
+write_items-returns-in_err-write_untagged t c =
+    let refused : Fails c.in_err-write_untagged.field-0.0
     (written_items c.args.schema.now (ids_of c.args.ids.now) (items_view c.args.items.now)) =
     fails-left emit_node (λ part. c.args.out.now ++ emit_nodes_events part)
     (λ part. c.loop-i.out ++ emit_nodes_events part) _
@@ -175,10 +184,10 @@ write_items-returns-in_err-write_data t c =
     ∙ ap (made (λ part. c.loop-i.out ++ emit_nodes_events part))
     (items-left c.args.schema.now c.args.ids.now c.args.items.now c.loop-i.i c.id_at.result c.index-items-i.result
     (omega (arith, c.min-i-end.ensures)) (omega (arith, c.min-i-end.ensures)) c.id_at.ensures c.index-items-i.is))
-    c.in_err-write_data.ensures.0 in
-    let kept : KeepsEvents c.args.out.now c.write_data.new.out =
-    keeps-through c.args.out.now c.loop-i.out c.write_data.new.out c.loop-i.invariant.1
-    c.in_err-write_data.ensures.1 in
+    c.in_err-write_untagged.ensures.0 in
+    let kept : KeepsEvents c.args.out.now c.write_untagged.new.out =
+    keeps-through c.args.out.now c.loop-i.out c.write_untagged.new.out c.loop-i.invariant.1
+    c.in_err-write_untagged.ensures.1 in
     search rules
 
 pub write_items-returns : goal.write_items-returns
