@@ -4,7 +4,7 @@ ghost use Rattle.std.specs.Prelude.{◌≡◌, ◌<◌, ◌≤◌, IfSome, IsTru
 ghost use Rattle.std.specs.List.{list_all};
 ghost use Rattle.yaml_scan.specs.AllowedText.{IsAllowed, IsAllowedUpTo, IsOfReader, is_allowed};
 
-use std::str;
+use simdutf8::compat::from_utf8;
 use yaml_base::{FaultKind, Mark};
 use yaml_token::{Fault, Problem};
 
@@ -47,11 +47,11 @@ fn first_forbidden(text: &str) -> Option<usize>
 fn allowed_len(text: &[u8]) -> Option<usize>
     ensures { MatchOption result (IsAllowed text.now) (IsAllowedUpTo text.now) }
 {
-    let valid = match str::from_utf8(text) {
+    let valid = match from_utf8(text) {
         Ok(text) => return first_forbidden(text),
         Err(error) => error.valid_up_to(),
     };
-    match str::from_utf8(&text[..valid]) {
+    match from_utf8(&text[..valid]) {
         Ok(front) => Some(first_forbidden(front).unwrap_or(valid)),
         Err(_) => unreachable!(),
     }
