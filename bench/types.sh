@@ -7,7 +7,8 @@
 #
 # TASK is `read` (from text), `print` (to text), `parse` (from text to events), `load` (from events) or `write` (to
 # events); KIND is what is read: integers, texts, lent, pairs, lists, any, config, documents. Without one all are run.
-# The last three tasks have no side of the original, whose events are its own.
+# The original shows its events to nobody: the last three tasks have a side of it only where PROGRAMS holds a program
+# `original_events` that takes the same arguments, made of the crate with a list in place of its parser and emitter.
 #
 # ORIGINAL names a folder with the crate serde_yaml 0.9.34, which cargo can build there; without it the port is timed
 # alone. PROGRAMS names a folder in which what is built is kept, and taken from there by a later run. SIZES are numbers
@@ -61,6 +62,13 @@ TOML
     cp "$room/original/target/release/bench_original" "$programs/original"
 }
 
+# The program of the original that does the task, if it is there.
+other_side() {
+    local name=original
+    case $1 in parse | load | write) name=original_events ;; esac
+    [ ! -x "$programs/$name" ] || echo "$name"
+}
+
 # The most memory that a program of $1 held on the text, in megabytes.
 memory() {
     command -v python3 > /dev/null || { echo -; return; }
@@ -91,11 +99,12 @@ count() {
 
 # Prints the row of a task on a kind of text with so many elements, in instructions.
 counted_row() {
-    local task=$1 kind=$2 size=$3 own other=
+    local task=$1 kind=$2 size=$3 own side other=
     typed_text "$kind" "$size" > "$room/text"
     [ "$kind" != config ] || size=1
     own=$(count port "$task" "$kind")
-    [ ! -x "$programs/original" ] || case $task in read | print) other=$(count original "$task" "$kind") ;; esac
+    side=$(other_side "$task")
+    [ "$side" != original ] || other=$(count "$side" "$task" "$kind")
     awk -v task="$task" -v kind="$kind" -v size="$size" -v own="$own" -v other="$other" 'BEGIN {
         printf "| %s | %s | %d | %.0f", task, kind, size, own / size
         if (other != "") printf " / %.0f | %.2f |\n", other / size, own / other
@@ -105,11 +114,12 @@ counted_row() {
 
 # Prints the row of a task on a kind of text with so many elements.
 row() {
-    local task=$1 kind=$2 size=$3 runs turn side took held=() found=() sides=(port)
+    local task=$1 kind=$2 size=$3 runs turn side other took held=() found=() sides=(port)
     typed_text "$kind" "$size" > "$room/text"
     [ "$kind" != config ] || size=1
     runs=$((3000000 / (size * 10) + 3))
-    [ ! -x "$programs/original" ] || case $task in read | print) sides+=(original) ;; esac
+    other=$(other_side "$task")
+    [ -z "$other" ] || sides+=("$other")
     for turn in 1 2 3 4; do
         for side in "${sides[@]}"; do
             took=$("$programs/$side" "$task" "$kind" "$((runs > 300 ? 300 : runs))" < "$room/text")
