@@ -1,7 +1,9 @@
 #!/usr/bin/env bash
 # Times texts that are read as values of types and values that are printed as texts, beside the original crate where it
-# is there, and prints rows of docs/PERFORMANCE.md: nanoseconds an element, each the least of many runs, both sides by
-# turns; the ratio of both; and the most memory that a run held, in megabytes.
+# is there, and prints rows of docs/PERFORMANCE.md: nanoseconds an element and the ratio of both, first in processes that
+# keep freed memory, each the least of many runs, then in processes that have done nothing before, each the least of four;
+# and the most memory that such a process held, in megabytes, of which the python that asks for it holds some 13. The
+# sides run by turns.
 #
 #     bash bench/types.sh [TASK[/KIND]]..
 #
@@ -112,32 +114,41 @@ counted_row() {
     }'
 }
 
+# The nanoseconds of a task by a program $1 in a process that keeps freed memory, the least of so many runs, or, with one
+# run, in a process that has done nothing before.
+took() {
+    local keep=() found
+    [ "$4" = 1 ] || keep=(MALLOC_MMAP_THRESHOLD_=8589934592 MALLOC_TRIM_THRESHOLD_=17179869184)
+    found=$(env "${keep[@]}" "$programs/$1" "$2" "$3" "$4" < "$room/text")
+    [ -n "$found" ] || { echo "$2 $3: $1 does not do it" >&2; exit 1; }
+    echo "$1 $5 $found" >> "$room/times"
+}
+
 # Prints the row of a task on a kind of text with so many elements.
 row() {
-    local task=$1 kind=$2 size=$3 runs turn side other took held=() found=() sides=(port)
+    local task=$1 kind=$2 size=$3 runs turn side other held=- others=-
     typed_text "$kind" "$size" > "$room/text"
     [ "$kind" != config ] || size=1
     runs=$((3000000 / (size * 10) + 3))
     other=$(other_side "$task")
-    [ -z "$other" ] || sides+=("$other")
     for turn in 1 2 3 4; do
-        for side in "${sides[@]}"; do
-            took=$("$programs/$side" "$task" "$kind" "$((runs > 300 ? 300 : runs))" < "$room/text")
-            [ -n "$took" ] || { echo "$task $kind: $side does not read it"; exit 1; }
-            echo "$side $took" >> "$room/times"
+        for side in port $other; do
+            took "$side" "$task" "$kind" "$((runs > 300 ? 300 : runs))" kept
+            took "$side" "$task" "$kind" 1 fresh
         done
     done
-    for side in "${sides[@]}"; do
-        found+=("$(awk -v side="$side" '$1 == side && (!n++ || $2 < least) { least = $2 } END { print least }' "$room/times")")
-        held+=("$(memory "$programs/$side" "$task" "$kind" 1)")
-    done
+    held=$(memory "$programs/port" "$task" "$kind" 1)
+    [ -z "$other" ] || others=$(memory "$programs/$other" "$task" "$kind" 1)
+    awk -v task="$task" -v kind="$kind" -v size="$size" -v other="$other" -v held="$held" -v others="$others" '
+        !(($1, $2) in least) || $3 < least[$1, $2] { least[$1, $2] = $3 }
+        function told(way, own, its) {
+            own = least["port", way] / size
+            its = least[other, way] / size
+            return other == "" ? sprintf("%.1f | ", own) : sprintf("%.1f / %.1f | %.2f", own, its, own / its)
+        }
+        END { printf "| %s | %s | %d | %s | %s | %s / %s |\n", task, kind, size, told("kept"), told("fresh"), held, others }
+    ' "$room/times"
     rm "$room/times"
-    awk -v task="$task" -v kind="$kind" -v size="$size" -v port="${found[0]}" -v other="${found[1]-}" \
-        -v held="${held[0]}" -v others="${held[1]-}" 'BEGIN {
-            printf "| %s | %s | %d | %.1f", task, kind, size, port / size
-            if (other != "") printf " / %.1f | %.2f | %s / %s |\n", other / size, port / other, held, others
-            else printf " | | %s |\n", held
-        }'
 }
 
 [ -x "$programs/port" ] || make_port
