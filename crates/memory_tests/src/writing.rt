@@ -284,8 +284,15 @@ const WRITINGS: &[Writing] = &[
         call: Call::Element,
         ending: Ending::Written,
     },
+    // the list's end still has room, and the document's has none
     Writing {
-        before: &[Call::List, Call::Element],
+        before: &[
+            Call::List,
+            Call::Element,
+            Call::Element,
+            Call::Element,
+            Call::Element,
+        ],
         call: Call::End,
         ending: Ending::Written,
     },
@@ -299,18 +306,26 @@ const WRITINGS: &[Writing] = &[
         call: Call::Entry,
         ending: Ending::Written,
     },
-    Writing {
-        before: &[Call::Map, Call::Entry],
-        call: Call::End,
-        ending: Ending::Written,
-    },
 ];
+
+// An end whose room was taken with the start of a collection.
+const ROOMY: Writing = Writing {
+    before: &[Call::Map, Call::Entry],
+    call: Call::End,
+    ending: Ending::Written,
+};
 
 #[test]
 fn calls(rt: HostRuntime) -> Result<(), Fail> {
     for (number, row) in WRITINGS.iter().enumerate() {
         assert!(rt; refusals(rt.alloc(), row)? > 0, "row {number}");
     }
+    Ok(())
+}
+
+#[test]
+fn an_end_that_has_its_room(rt: HostRuntime) -> Result<(), Fail> {
+    assert_eq!(rt; refusals(rt.alloc(), &ROOMY)?, 0);
     Ok(())
 }
 
