@@ -1,10 +1,11 @@
 //! Whether data is of a shape.
 
-ghost use Rattle.std.specs.Prelude.{◌≡◌, true, slice_get, IsTrue};
+ghost use Rattle.std.specs.Prelude.{◌≡◌, true, slice_get, IsTrue, Some};
 ghost use Rattle.std.specs.Char.{IsScalar};
 ghost use Rattle.std.specs.Option.{option_map};
 ghost use Rattle.yaml_tree.specs.Valid.{is_value};
 ghost use Rattle.yaml_tree.specs.View.{tree_of};
+ghost use Rattle.yaml_shape.specs.PlainShape.{shape_at};
 ghost use Rattle.yaml_shape.specs.ShapeView.{ids_of, fields_of, content_of, variants_of, shape_of};
 ghost use Rattle.yaml_shape.specs.DataView.{data_of, items_view, entries_view, text_data_of};
 ghost use Rattle.yaml_shape.specs.Validity.{numbers_of};
@@ -94,9 +95,19 @@ pub(crate) fn has_shape(schema: &Schema, id: ShapeId, data: &Data) -> bool
     ensures exactly { result ≡ has_shape schema.now id.0 (data_of data.now) }
     ensures held { result ≡ true → IsHeld (data_of data.now) }
 {
-    let Some(shape) = schema.shape(id) else {
-        return false;
-    };
+    match schema.shape(id) {
+        Some(shape) => is_of(schema, id, shape, data),
+        None => false,
+    }
+}
+
+// The same, where the shape with this number was looked up.
+#[cycle(has_shape)]
+fn is_of(schema: &Schema, id: ShapeId, shape: &Shape, data: &Data) -> bool
+    requires { shape_at schema.now id.0 ≡ Some (shape_of shape.now) }
+    ensures exactly { result ≡ has_shape schema.now id.0 (data_of data.now) }
+    ensures held { result ≡ true → IsHeld (data_of data.now) }
+{
     match data {
         Data::Any(value) => takes_value(shape, value),
         Data::Bool(_) => matches!(shape, Shape::Bool),
@@ -177,8 +188,17 @@ fn all_have(schema: &Schema, id: ShapeId, items: &[Data]) -> bool
     ensures exactly { result ≡ all_have schema.now id.0 (items_view items.now) }
     ensures held { result ≡ true → AreHeld (items_view items.now) }
 {
+    let Some(shape) = schema.shape(id) else {
+        return items.is_empty();
+    };
     for item in items {
-        if !has_shape(schema, id, item) {
+        let is_of = match item {
+            Data::Signed(n) => takes_signed(shape, *n),
+            Data::Unsigned(n) => takes_unsigned(shape, *n),
+            Data::Str(text) => takes_text(shape, text),
+            _ => is_of(schema, id, shape, item),
+        };
+        if !is_of {
             return false;
         }
     }
