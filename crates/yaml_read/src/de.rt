@@ -22,6 +22,7 @@ ghost use Rattle.yaml_read.specs.Reads.{DocumentGives};
 ghost use Rattle.yaml_read.specs.TreeReader.{default_limits};
 
 use crate::cursor::Cursor;
+use crate::de::node::ask::Ask;
 use crate::de::node::source::Source;
 use crate::document::Document;
 use crate::limits::Limits;
@@ -89,7 +90,13 @@ impl<'de> Document<'de> {
             left: limits.follows() as u128 * source.events.len() as u128,
             steps: Tally::new(),
         };
-        match source.read_node(&Path::Root, shape, limits.nesting(), None, &mut walk) {
+        let ask = Ask {
+            path: &Path::Root,
+            shape,
+            nest: limits.nesting(),
+            taken: None,
+        };
+        match source.read_node(&ask, &mut walk) {
             Ok(data) => match self.error() {
                 None => {
                     cursor.pass(walk);

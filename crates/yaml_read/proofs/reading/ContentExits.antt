@@ -1,6 +1,6 @@
 -- What a node's reading comes to under an enum, and under what its variants hold.
 use Rattle.std.proofs.Common.{◌≡◌, ℕ, ◌-◌, ◌<◌, Bool, true, false, List, [], Some, None, Option, Result, Ok, Err, refl}
-use Rattle.std.proofs.Common.{ap, ◌∙◌}
+use Rattle.std.proofs.Common.{ap, ◌∙◌, length}
 use Rattle.std.specs.Option.{is_some}
 use Rattle.yaml_base.specs.Position.{Position}
 use Rattle.yaml_base.specs.declared.error.Cause.{Cause}
@@ -9,27 +9,30 @@ use Rattle.yaml_shape.specs.PlainData.{any_data, variant_data}
 use Rattle.yaml_shape.specs.PlainShape.{PlainShape, any_shape, enum_shape, PlainVariant, content_shape}
 use Rattle.yaml_shape.specs.PlainShape.{struct_variant_shape}
 use Rattle.yaml_tree.specs.Tree.{sequence, tagged}
-use Rattle.yaml_tree.specs.Tree as tree
-use Rattle.yaml_load.specs.PlainDocEvent.{PlainDocEvent, alias_to, a_scalar, a_void}
-use Rattle.yaml_load.specs.PlainDocEvent.{sequence_begins, sequence_ends, mapping_begins, mapping_ends}
+use Rattle.yaml_load.specs.PlainDocEvent.{PlainDocEvent, alias_to, a_scalar, a_void, sequence_begins, sequence_ends}
+use Rattle.yaml_load.specs.PlainDocEvent.{mapping_begins, mapping_ends}
 use Rattle.yaml_load.specs.DocEventView.{doc_event_of}
 use Rattle.yaml_load.specs.declared.doc_event.DocEvent.{DocEvent}
-use Rattle.yaml_load.specs.declared.doc_event.DocEvent.TheVariants as event
 use Rattle.yaml_load.specs.declared.doc_event.DocStart.{DocStart}
 use Rattle.yaml_scalar.specs.Steps.{ending, wrap, with_shape}
 use Rattle.yaml_scalar.specs.Variants.{Variants, variant_named}
 use Rattle.yaml_read.specs.AnyData.{tree_in, trees_in, pairs_in}
 use Rattle.yaml_read.specs.Fields.{Fields}
-use Rattle.yaml_read.specs.Handing.{as_variant, is_filled_scalar}
+use Rattle.yaml_read.specs.Handing.{as_variant, is_filled_scalar, as_tagged}
 use Rattle.yaml_read.specs.NodeTags.{TakenBy, around_value, untaken_name}
-use Rattle.yaml_read.specs.Places.{Way, place, places}
+use Rattle.yaml_read.specs.Places.{Way}
 use Rattle.yaml_read.specs.TreeReader.{Spot, after}
-use Rattle.yaml_read.specs.inner.Reader.{Source, Reader, node_at, node_step, shape_step, event_at, other_answer, takes}
-use Rattle.yaml_read.specs.inner.Reader.{place_at, item_at, any_entry_at, sequence_parts, mapping_parts}
+use Rattle.yaml_read.specs.inner.Reader.{Source, Reader, event_at, other_answer, takes, item_at, any_entry_at}
+use Rattle.yaml_read.specs.inner.Reader.{sequence_parts, mapping_parts}
+use Rattle.yaml_read.specs.declared.de.node.source.Source.{Source as CodeSource}
+use Rattle.yaml_read.specs.declared.walk.Walk.{Walk}
+use Rattle.yaml_read.specs.inner.Questions.{Question, taken_as, by_node, by_shape, by_event}
+use Rattle.yaml_read.specs.inner.Walks.{source_of, reader_of, spot_of, seen}
+use Rattle.yaml_tree.specs.Tree as tree
+use Rattle.yaml_load.specs.declared.doc_event.DocEvent.TheVariants as event
+use Rattle.yaml_read.proofs.reading.Loops.{entered}
 use Rattle.yaml_read.proofs.reading.Exits.{step_event, step_handed}
-use Rattle.yaml_read.proofs.reading.PlaceLaws.{node_unfolds}
-use Rattle.yaml_read.proofs.reading.ValueExits.{variant_handed, enum_as_is, taken_as_is}
-use Rattle.yaml_read.proofs.reading.ValueExits.{any_as_is, step_tagged, step_any_list, step_any_mapping}
+use Rattle.yaml_read.proofs.reading.ValueExits.{variant_handed, enum_as_is, taken_as_is, any_as_is, any_tagged}
 
 -- what is made of an answer under a shape that was looked up
 with_wrap : {A B C : Type 0} (f : A → B) (o : Option PlainShape) (go : PlainShape → Result (A × C) Cause)
@@ -37,51 +40,33 @@ with_wrap : {A B C : Type 0} (f : A → B) (o : Option PlainShape) (go : PlainSh
 with_wrap f None go = refl
 with_wrap f (Some t) go = refl
 
-module _ (source : Source) (read : Way → Reader) (way : Way) (s : PlainShape) (nest : ℕ) (taken : Option TakenBy)
-    (at : Spot) where
+module _ (code : CodeSource) (fuel : ℕ) (q : Question) (walk : Walk) where
   -- what the variant holds that the tag names
   pub enum_content : (name : List ℕ) (variants : Variants) (e : PlainDocEvent) (m : Position) (tag : List ℕ)
-      (number : ℕ)
-      (content : PlainVariant) → s ≡ enum_shape name variants → taken ≡ None → Some (e, m) ≡ source.events at.place
+      (number : ℕ) (content : PlainVariant) → q.shape ≡ enum_shape name variants → q.taken ≡ None
+      → Some (e, m) ≡ seen code.events.now walk.place
       → untaken_name false e ≡ Some tag → variant_named variants tag ≡ Some (number, content)
-      → shape_step source read way s nest taken at (source.events at.place)
-      ≡ wrap (variant_data number) (with_shape (content_shape source.table name tag content)
-      (λ t. read way t nest (Some (record { name = name; variant = tag })) at))
-  enum_content name variants e m tag number content o k is h found = rw (o, k)
-      (step_handed source read way (enum_shape name variants) nest None at e m
-      (as_variant number (record { name = name; variant = tag }) content) is
-      (variant_handed name variants e tag number content h found)
-      ∙ with_wrap (variant_data number) (content_shape source.table name tag content)
-      (λ t. read way t nest (Some (record { name = name; variant = tag })) at))
+      → by_shape code fuel q walk
+      ≡ wrap (variant_data number) (with_shape (content_shape code.schema.now name tag content) (λ t. by_node code fuel
+      (taken_as q t (record { name = name; variant = tag })) walk))
+  enum_content name variants e m tag number content o k is h found =
+      step_handed code fuel q walk e m (as_variant number (record { name = name; variant = tag }) content) is
+      (rw (o, k) (variant_handed name variants e tag number content h found))
+      ∙ with_wrap (variant_data number) (content_shape code.schema.now name tag content) (λ t. by_node code fuel
+      (taken_as q t (record { name = name; variant = tag })) walk)
 
   -- a node without a tag of its own, and a text within what another's tag holds
   pub enum_plain : (name : List ℕ) (variants : Variants) (e : PlainDocEvent) (m : Position)
-      → s ≡ enum_shape name variants → taken ≡ None → Some (e, m) ≡ source.events at.place → untaken_name false e ≡ None
-      → shape_step source read way s nest taken at (source.events at.place)
-      ≡ event_at source read way s nest taken at e m
-  enum_plain name variants e m o k is h = rw (o, k)
-      (step_event source read way (enum_shape name variants) nest None at e m is (enum_as_is name variants e h))
+      → q.shape ≡ enum_shape name variants → q.taken ≡ None → Some (e, m) ≡ seen code.events.now walk.place
+      → untaken_name false e ≡ None → by_shape code fuel q walk ≡ by_event code fuel q walk e m
+  enum_plain name variants e m o k is h =
+      step_event code fuel q walk e m is (rw (o, k) (enum_as_is name variants e h))
 
   pub enum_taken : (name : List ℕ) (variants : Variants) (around : TakenBy) (e : PlainDocEvent) (m : Position)
-      → s ≡ enum_shape name variants → taken ≡ Some around → Some (e, m) ≡ source.events at.place
-      → is_filled_scalar e ≡ true
-      → shape_step source read way s nest taken at (source.events at.place)
-      ≡ event_at source read way s nest taken at e m
-  enum_taken name variants around e m o k is h = rw (o, k)
-      (step_event source read way (enum_shape name variants) nest (Some around) at e m is
-      (taken_as_is name variants e h))
-
--- a node whose fault is placed at it
-module _ (source : Source) (way : Way) (t : PlainShape) (nest : ℕ) (taken : Option TakenBy) (at : Spot) where
-  pub node_placed : (fuel : ℕ) (e : PlainDocEvent) (m : Position) → 0 < fuel → source.events at.place ≡ Some (e, m)
-      → places t (is_some taken) e ≡ true
-      → node_at source fuel way t nest taken at
-      ≡ place true m way (node_step source (node_at source (fuel - 1)) way t nest taken at)
-  node_placed fuel e m lt is here =
-      node_unfolds source way t nest taken at fuel lt
-      ∙ (ap
-      (λ o. place_at way t (is_some taken) o (node_step source (node_at source (fuel - 1)) way t nest taken at)) is
-      ∙ (rw here refl))
+      → q.shape ≡ enum_shape name variants → q.taken ≡ Some around → Some (e, m) ≡ seen code.events.now walk.place
+      → is_filled_scalar e ≡ true → by_shape code fuel q walk ≡ by_event code fuel q walk e m
+  enum_taken name variants around e m o k is h =
+      step_event code fuel q walk e m is (rw (o, k) (taken_as_is name variants e h))
 
 -- a node with a tag that is no collection of the variant's own
 module _ (source : Source) (read : Way → Reader) (way : Way) (nest : ℕ) (around : TakenBy) (at : Spot) where
@@ -116,46 +101,44 @@ pub only_untaken : (taken : Bool) (e : PlainDocEvent) (name : List ℕ) → unta
 only_untaken true e name h = absurd cc
 only_untaken false e name h = refl
 
-module _ (source : Source) (read : Way → Reader) (way : Way) (s : PlainShape) (nest : ℕ) (taken : Option TakenBy)
-    (at : Spot) where
+module _ (code : CodeSource) (fuel : ℕ) (q : Question) (walk : Walk) where
   -- under its tag
-  pub any_tagged_step : (name : List ℕ) (e : PlainDocEvent) (m : Position)
-      → s ≡ any_shape → Some (e, m) ≡ source.events at.place → untaken_name (is_some taken) e ≡ Some name
-      → shape_step source read way s nest taken at (source.events at.place)
-      ≡ wrap (λ v. any_data (tagged name (tree_in v))) (read way any_shape nest (Some around_value) at)
-  any_tagged_step name e m o is h = rw o (by_taken taken h)
-    where
-      by_taken : (k : Option TakenBy) → untaken_name (is_some k) e ≡ Some name
-          → shape_step source read way any_shape nest k at (source.events at.place)
-          ≡ wrap (λ v. any_data (tagged name (tree_in v))) (read way any_shape nest (Some around_value) at)
-      by_taken None h' = step_tagged source read way nest at name e m is h'
-      by_taken (Some around) h' = absurd cc
+  pub any_tagged_step : (name : List ℕ) (e : PlainDocEvent) (m : Position) → q.shape ≡ any_shape
+      → Some (e, m) ≡ seen code.events.now walk.place → untaken_name (is_some q.taken) e ≡ Some name
+      → by_shape code fuel q walk ≡ wrap (λ v. any_data (tagged name (tree_in v))) (by_node code fuel
+      (taken_as q any_shape around_value) walk)
+  any_tagged_step name e m o is h =
+      step_handed code fuel q walk e m (as_tagged name) is (rw o (any_tagged (is_some q.taken) e name h))
 
-  -- a sequence, a mapping, and all else
-  pub any_list_step : (e : PlainDocEvent) (tag : Option (List ℕ)) (m : Position)
-      → s ≡ any_shape → Some (e, m) ≡ source.events at.place → e ≡ sequence_begins tag
-      → untaken_name (is_some taken) e ≡ None → 0 < nest
-      → shape_step source read way s nest taken at (source.events at.place)
-      ≡ wrap (λ vs. any_data (sequence (trees_in (items_of vs))))
-      (sequence_parts source (item_at read way any_shape (nest - 1)) source.size [] (after at))
-  any_list_step e tag m o is start own some = rw o
-      (step_any_list source read way nest at taken tag m (rw start at own) (rw start at is) some)
+  -- all that is no tag, and of it a sequence and a mapping
+  pub any_plain_step : (e : PlainDocEvent) (m : Position) → q.shape ≡ any_shape
+      → Some (e, m) ≡ seen code.events.now walk.place → untaken_name (is_some q.taken) e ≡ None
+      → by_shape code fuel q walk ≡ by_event code fuel q walk e m
+  any_plain_step e m o is own = step_event code fuel q walk e m is (rw o (any_as_is (is_some q.taken) e own))
 
-  pub any_mapping_step : (e : PlainDocEvent) (tag : Option (List ℕ)) (m : Position)
-      → s ≡ any_shape → Some (e, m) ≡ source.events at.place → e ≡ mapping_begins tag
-      → untaken_name (is_some taken) e ≡ None → 0 < nest
-      → shape_step source read way s nest taken at (source.events at.place)
-      ≡ wrap (λ vs. any_data (tree.mapping (pairs_in (entries_of vs))))
-      (mapping_parts source (any_entry_at source read way (nest - 1)) source.size [] (after at))
-  any_mapping_step e tag m o is start own some = rw o
-      (step_any_mapping source read way nest at taken tag m (rw start at own) (rw start at is) some)
+  pub any_list_step : (e : PlainDocEvent) (tag : Option (List ℕ)) (m : Position) → q.shape ≡ any_shape
+      → Some (e, m) ≡ seen code.events.now walk.place → e ≡ sequence_begins tag
+      → untaken_name (is_some q.taken) e ≡ None → 0 < q.nest
+      → by_shape code fuel q walk ≡ wrap (λ vs. any_data (sequence (trees_in (items_of vs))))
+      (sequence_parts (source_of code) (item_at (reader_of fuel code) q.way any_shape (q.nest - 1))
+      (length code.events.now) [] (after (spot_of walk)))
+  any_list_step e tag m o is start own some =
+      any_plain_step e m o is own
+      ∙ rw (o, start) (entered m (λ n. wrap (λ vs. any_data (sequence (trees_in (items_of vs))))
+      (sequence_parts (source_of code) (item_at (reader_of fuel code) q.way any_shape n) (length code.events.now) []
+      (after (spot_of walk)))) q.nest some)
 
-  pub any_plain_step : (e : PlainDocEvent) (m : Position)
-      → s ≡ any_shape → Some (e, m) ≡ source.events at.place → untaken_name (is_some taken) e ≡ None
-      → shape_step source read way s nest taken at (source.events at.place)
-      ≡ event_at source read way s nest taken at e m
-  any_plain_step e m o is own = rw o
-      (step_event source read way any_shape nest taken at e m is (any_as_is (is_some taken) e own))
+  pub any_mapping_step : (e : PlainDocEvent) (tag : Option (List ℕ)) (m : Position) → q.shape ≡ any_shape
+      → Some (e, m) ≡ seen code.events.now walk.place → e ≡ mapping_begins tag
+      → untaken_name (is_some q.taken) e ≡ None → 0 < q.nest
+      → by_shape code fuel q walk ≡ wrap (λ vs. any_data (tree.mapping (pairs_in (entries_of vs))))
+      (mapping_parts (source_of code) (any_entry_at (source_of code) (reader_of fuel code) q.way (q.nest - 1))
+      (length code.events.now) [] (after (spot_of walk)))
+  any_mapping_step e tag m o is start own some =
+      any_plain_step e m o is own
+      ∙ rw (o, start) (entered m (λ n. wrap (λ vs. any_data (tree.mapping (pairs_in (entries_of vs))))
+      (mapping_parts (source_of code) (any_entry_at (source_of code) (reader_of fuel code) q.way n)
+      (length code.events.now) [] (after (spot_of walk)))) q.nest some)
 
 -- what is made of what was made of an answer
 pub wrap_onto_finds : {A B C D : Type 0} (f : A → B) (g : B → D) (r : Result (A × C) Cause) (v : B) (c : C)

@@ -13,16 +13,18 @@ use Rattle.yaml_shape.specs.declared.data.Entry.{Entry, the_lemmas}
 use Rattle.yaml_load.specs.DocEventView.{doc_event_of}
 use Rattle.yaml_load.specs.PlainDocEvent.{PlainDocEvent, sequence_begins, mapping_begins}
 use Rattle.yaml_load.specs.declared.doc_event.DocEvent.{DocEvent}
-use Rattle.yaml_load.specs.declared.doc_event.DocEvent.TheVariants as event
 use Rattle.yaml_scalar.specs.Steps.{ending, wrap, finish, with_shape}
 use Rattle.yaml_read.specs.Handing.{Handing, as_is, handed, early, is_content}
-use Rattle.yaml_read.specs.NodeTags.{TakenBy}
-use Rattle.yaml_read.specs.Places.{Way}
 use Rattle.yaml_read.specs.Rows.{row_of, row_data}
 use Rattle.yaml_read.specs.TreeReader.{Spot, after}
-use Rattle.yaml_read.specs.inner.Reader.{Source, Reader, is_sequence_end, is_mapping_end, row_shape, few_text}
-use Rattle.yaml_read.specs.inner.Reader.{owner_named, of_tuple, of_tuple_struct, item_at, entry_at, row_at}
-use Rattle.yaml_read.specs.inner.Reader.{sequence_parts, mapping_parts, event_at, handed_at, shape_step, node_step}
+use Rattle.yaml_read.specs.inner.Reader.{is_sequence_end, is_mapping_end, row_shape, few_text, owner_named, of_tuple}
+use Rattle.yaml_read.specs.inner.Reader.{of_tuple_struct, item_at, entry_at, row_at, sequence_parts, mapping_parts}
+use Rattle.yaml_read.specs.inner.Reader.{handed_at, shape_step}
+use Rattle.yaml_read.specs.declared.de.node.source.Source.{Source as CodeSource}
+use Rattle.yaml_read.specs.declared.walk.Walk.{Walk}
+use Rattle.yaml_read.specs.inner.Questions.{Question, by_step, by_shape, by_event}
+use Rattle.yaml_read.specs.inner.Walks.{source_of, reader_of, spot_of, seen}
+use Rattle.yaml_load.specs.declared.doc_event.DocEvent.TheVariants as event
 use Rattle.yaml_read.proofs.reading.Loops.{entered}
 
 -- spots with the same place and the same follows
@@ -64,90 +66,97 @@ pub row_as_is : (s : PlainShape) (name : Option (List ℕ)) (ids : List ℕ) (ta
 row_as_is s None ids taken e h = rw h
 row_as_is s (Some name) ids taken e h = rw h
 
-module _ (source : Source) (read : Way → Reader) (way : Way) (s : PlainShape) (nest : ℕ) (taken : Option TakenBy)
-    (at : Spot) where
+module _ (code : CodeSource) (fuel : ℕ) (q : Question) (walk : Walk) where
   -- no fault comes first
-  pub step_late : early s ≡ None → node_step source read way s nest taken at
-      ≡ shape_step source read way s nest taken at (source.events at.place)
+  pub step_late : early q.shape ≡ None → by_step code fuel q walk ≡ by_shape code fuel q walk
   step_late h = rw h
 
   -- the events end
-  pub step_ended : source.events at.place ≡ None → shape_step source read way s nest taken at (source.events at.place)
-      ≡ Err EndOfStream
+  pub step_ended : seen code.events.now walk.place ≡ None → by_shape code fuel q walk ≡ Err EndOfStream
   step_ended h = rw h
 
   -- a node is read as it is handed on
-  pub step_handed : (e : PlainDocEvent) (m : Position) (h : Handing) → Some (e, m) ≡ source.events at.place
-      → handed s (is_some taken) e ≡ h
-      → shape_step source read way s nest taken at (source.events at.place)
-      ≡ handed_at source h read way s nest taken at e m
+  pub step_handed : (e : PlainDocEvent) (m : Position) (h : Handing) → Some (e, m) ≡ seen code.events.now walk.place
+      → handed q.shape (is_some q.taken) e ≡ h
+      → by_shape code fuel q walk
+      ≡ handed_at (source_of code) h (reader_of fuel code) q.way q.shape q.nest q.taken (spot_of walk) e m
   step_handed e m h is to = rw (← is, to)
 
   -- a node that is not handed on is read by its first event
-  pub step_event : (e : PlainDocEvent) (m : Position) → Some (e, m) ≡ source.events at.place
-      → handed s (is_some taken) e ≡ as_is
-      → shape_step source read way s nest taken at (source.events at.place)
-      ≡ event_at source read way s nest taken at e m
+  pub step_event : (e : PlainDocEvent) (m : Position) → Some (e, m) ≡ seen code.events.now walk.place
+      → handed q.shape (is_some q.taken) e ≡ as_is → by_shape code fuel q walk ≡ by_event code fuel q walk e m
   step_event e m is to = rw (← is, to)
 
   -- an optional that is present
-  pub step_content : (c : ℕ) (t : PlainShape) (e : PlainDocEvent) (m : Position) → s ≡ option_shape c → Some (e, m)
-      ≡ source.events at.place
-      → is_content (is_some taken) e ≡ true → shape_at source.table c ≡ Some t
-      → shape_step source read way s nest taken at (source.events at.place) ≡ wrap some_data (read way t nest taken at)
+  pub step_content : (c : ℕ) (t : PlainShape) (e : PlainDocEvent) (m : Position) → q.shape ≡ option_shape c → Some
+      (e, m)
+      ≡ seen code.events.now walk.place
+      → is_content (is_some q.taken) e ≡ true → shape_at code.schema.now c ≡ Some t
+      → by_shape code fuel q walk ≡ wrap some_data (reader_of fuel code q.way t q.nest q.taken (spot_of walk))
   step_content c t e m o is here there = rw (← is, o, here, there)
 
-  pub option_as_is : (c : ℕ) (e : PlainDocEvent) → s ≡ option_shape c → is_content (is_some taken) e ≡ false
-      → handed s (is_some taken) e ≡ as_is
+  pub option_as_is : (c : ℕ) (e : PlainDocEvent) → q.shape ≡ option_shape c → is_content (is_some q.taken) e ≡ false
+      → handed q.shape (is_some q.taken) e ≡ as_is
   option_as_is c e o here = rw (o, here)
 
   -- a newtype
   pub step_newtype : (name : List ℕ) (c : ℕ) (t : PlainShape) (e : PlainDocEvent) (m : Position) → Some (e, m)
-      ≡ source.events at.place → 0 < nest
-      → shape_at source.table c ≡ Some t
-      → shape_step source read way (newtype_shape name c) nest taken at (source.events at.place)
-      ≡ wrap newtype_data (read way t (nest - 1) taken at)
+      ≡ seen code.events.now walk.place → 0 < q.nest
+      → shape_at code.schema.now c ≡ Some t
+      → shape_step (source_of code) (reader_of fuel code) q.way (newtype_shape name c) q.nest q.taken (spot_of walk)
+      (seen code.events.now walk.place)
+      ≡ wrap newtype_data (reader_of fuel code q.way t (q.nest - 1) q.taken (spot_of walk))
   step_newtype name c t e m is some there =
-      rw (← is) (entered m (λ n. with_shape (shape_at source.table c) (λ t. wrap newtype_data (read way t n taken at)))
-      nest some ∙ (rw there))
+      rw (← is) (entered m (λ n. with_shape (shape_at code.schema.now c)
+      (λ t. wrap newtype_data (reader_of fuel code q.way t n q.taken (spot_of walk))))
+      q.nest some ∙ (rw there))
 
   -- a sequence
-  pub step_seq : (e : ℕ) (t : PlainShape) (tag : Option (List ℕ)) (m : Position) → s ≡ seq_shape e
-      → Some (sequence_begins tag, m) ≡ source.events at.place → 0 < nest
-      → shape_at source.table e ≡ Some t
-      → shape_step source read way s nest taken at (source.events at.place)
-      ≡ wrap (λ vs. seq_data (items_of vs)) (sequence_parts source (item_at read way t (nest - 1)) source.size []
-      (after at))
+  pub step_seq : (e : ℕ) (t : PlainShape) (tag : Option (List ℕ)) (m : Position) → q.shape ≡ seq_shape e
+      → Some (sequence_begins tag, m) ≡ seen code.events.now walk.place → 0 < q.nest
+      → shape_at code.schema.now e ≡ Some t
+      → by_shape code fuel q walk
+      ≡ wrap (λ vs. seq_data (items_of vs))
+      (sequence_parts (source_of code) (item_at (reader_of fuel code) q.way t (q.nest - 1)) (length code.events.now) []
+      (after (spot_of walk)))
   step_seq e t tag m o is some there =
-      rw (← is, o) (entered m (λ n. with_shape (shape_at source.table e)
-      (λ s. wrap (λ vs. seq_data (items_of vs)) (sequence_parts source (item_at read way s n) source.size []
-      (after at)))) nest some ∙ (rw there))
+      rw (← is, o) (entered m (λ n. with_shape (shape_at code.schema.now e)
+      (λ s. wrap (λ vs. seq_data (items_of vs))
+      (sequence_parts (source_of code) (item_at (reader_of fuel code) q.way s n) (length code.events.now) []
+      (after (spot_of walk))))) q.nest some ∙ (rw there))
 
   -- a tuple
-  pub step_row : (name : Option (List ℕ)) (ids : List ℕ) (tag : Option (List ℕ)) (m : Position) → s ≡ row_shape name ids
-      → Some (sequence_begins tag, m) ≡ source.events at.place → 0 < nest
-      → shape_step source read way s nest taken at (source.events at.place)
+  pub step_row : (name : Option (List ℕ)) (ids : List ℕ) (tag : Option (List ℕ)) (m : Position) → q.shape ≡ row_shape
+      name ids
+      → Some (sequence_begins tag, m) ≡ seen code.events.now walk.place → 0 < q.nest
+      → by_shape code fuel q walk
       ≡ finish (row_data (few_text (owner_named name) (length ids)) (length ids))
-      (sequence_parts source (row_at source read way (nest - 1)) source.size (row_of ids) (after at))
+      (sequence_parts (source_of code) (row_at (source_of code) (reader_of fuel code) q.way (q.nest - 1))
+      (length code.events.now) (row_of ids) (after (spot_of walk)))
   step_row None ids tag m o is some =
       rw (← is, o) (entered m (λ n. finish (row_data (few_text of_tuple (length ids)) (length ids))
-      (sequence_parts source (row_at source read way n) source.size (row_of ids) (after at))) nest some)
+      (sequence_parts (source_of code) (row_at (source_of code) (reader_of fuel code) q.way n) (length code.events.now)
+      (row_of ids) (after (spot_of walk)))) q.nest some)
   step_row (Some name) ids tag m o is some =
       rw (← is, o) (entered m (λ n. finish (row_data (few_text (of_tuple_struct name) (length ids)) (length ids))
-      (sequence_parts source (row_at source read way n) source.size (row_of ids) (after at))) nest some)
+      (sequence_parts (source_of code) (row_at (source_of code) (reader_of fuel code) q.way n) (length code.events.now)
+      (row_of ids) (after (spot_of walk)))) q.nest some)
 
   -- a mapping
-  pub step_map : (a b : ℕ) (t u : PlainShape) (tag : Option (List ℕ)) (m : Position) → s ≡ map_shape a b
-      → Some (mapping_begins tag, m) ≡ source.events at.place → 0 < nest
-      → shape_at source.table a ≡ Some t → shape_at source.table b ≡ Some u
-      → shape_step source read way s nest taken at (source.events at.place)
-      ≡ wrap (λ vs. map_data (entries_of vs)) (mapping_parts source
-      (entry_at source read way t u (nest - 1)) source.size [] (after at))
+  pub step_map : (a b : ℕ) (t u : PlainShape) (tag : Option (List ℕ)) (m : Position) → q.shape ≡ map_shape a b
+      → Some (mapping_begins tag, m) ≡ seen code.events.now walk.place → 0 < q.nest
+      → shape_at code.schema.now a ≡ Some t → shape_at code.schema.now b ≡ Some u
+      → by_shape code fuel q walk
+      ≡ wrap (λ vs. map_data (entries_of vs)) (mapping_parts (source_of code)
+      (entry_at (source_of code) (reader_of fuel code) q.way t u (q.nest - 1)) (length code.events.now) []
+      (after (spot_of walk)))
   step_map a b t u tag m o is some there there' =
-      rw (← is, o) (entered m (λ n. with_shape (shape_at source.table a)
-      (λ s. with_shape (shape_at source.table b) (λ t.
-      wrap (λ vs. map_data (entries_of vs)) (mapping_parts source (entry_at source read way s t n) source.size []
-      (after at))))) nest some ∙ (rw (there, there')))
+      rw (← is, o) (entered m (λ n. with_shape (shape_at code.schema.now a)
+      (λ s. with_shape (shape_at code.schema.now b) (λ t.
+      wrap (λ vs. map_data (entries_of vs))
+      (mapping_parts (source_of code) (entry_at (source_of code) (reader_of fuel code) q.way s t n)
+      (length code.events.now) []
+      (after (spot_of walk)))))) q.nest some ∙ (rw (there, there')))
 
 pub finish_fails : {S A C : Type 0} (f : S → Result A Cause) (r : Result (S × C) Cause) (x : Cause) → r ≡ Err x
     → ◌≡◌ {A = Result (A × C) Cause} (finish f r) (Err x)

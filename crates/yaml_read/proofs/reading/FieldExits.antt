@@ -1,6 +1,6 @@
 -- What reading a struct comes to, and what reading one of its fields does.
-use Rattle.std.proofs.Common.{◌≡◌, ℕ, ◌-◌, ◌<◌, Bool, false, List, Some, None, Option, Result, Ok, Err, refl, ap}
-use Rattle.std.proofs.Common.{◌∙◌}
+use Rattle.std.proofs.Common.{◌≡◌, ℕ, ◌-◌, ◌<◌, Bool, false, List, Some, None, Option, Result, Ok, Err, refl, ap, ◌∙◌}
+use Rattle.std.proofs.Common.{length}
 use Rattle.std.specs.Prelude.{set}
 use Rattle.std.specs.Option.{is_some}
 use Rattle.yaml_base.specs.Answer.{Gives}
@@ -12,11 +12,14 @@ use Rattle.yaml_load.specs.PlainDocEvent.{PlainDocEvent, mapping_begins}
 use Rattle.yaml_scalar.specs.Steps.{◌>>=◌, wrap, finish}
 use Rattle.yaml_read.specs.Fields.{Fields, Slots, no_slots, name_in, field_named, struct_of}
 use Rattle.yaml_read.specs.Handing.{as_is, handed, is_bare}
-use Rattle.yaml_read.specs.NodeTags.{TakenBy}
 use Rattle.yaml_read.specs.Places.{Way, place}
 use Rattle.yaml_read.specs.TreeReader.{Spot, after, mark_or_first}
 use Rattle.yaml_read.specs.inner.Reader.{Source, Reading, Reader, value_way, text_at, fields_in, skip_at, mapping_parts}
-use Rattle.yaml_read.specs.inner.Reader.{shape_step, mapping_at, fields_at, field_at, field_key_at}
+use Rattle.yaml_read.specs.inner.Reader.{mapping_at, fields_at, field_at, field_key_at}
+use Rattle.yaml_read.specs.declared.de.node.source.Source.{Source as CodeSource}
+use Rattle.yaml_read.specs.declared.walk.Walk.{Walk}
+use Rattle.yaml_read.specs.inner.Questions.{Question, by_shape}
+use Rattle.yaml_read.specs.inner.Walks.{source_of, reader_of, spot_of, seen}
 use Rattle.yaml_read.proofs.reading.Loops.{entered}
 use Rattle.yaml_read.proofs.reading.Exits.{step_event}
 
@@ -40,20 +43,21 @@ module _ (source : Source) (read : Way → Reader) (way : Way) where
       ap (λ (f : Bool × Fields). fields_at source read way f.0 f.1 nest mark at) (pair_is h)
   fields_mapping _ strict fields nest mark at h = absurd cc
 
-  -- a struct
-  pub step_struct : (s : PlainShape) (strict : Bool) (fields : Fields) (nest : ℕ) (taken : Option TakenBy) (at : Spot)
-      (tag : Option (List ℕ)) (m : Position) → fields_in s ≡ Some (strict, fields)
-      → Some (mapping_begins tag, m) ≡ source.events at.place → 0 < nest
-      → shape_step source read way s nest taken at (source.events at.place)
-      ≡ finish (struct_of source.table fields) (mapping_parts source
-      (field_at source read way strict fields (nest - 1)) source.size (no_slots fields) (after at))
-  step_struct s strict fields nest taken at tag m o is some =
-      step_event source read way s nest taken at (mapping_begins tag) m is
-      (fields_as_is s (strict, fields) (is_some taken) (mapping_begins tag) o refl)
-      ∙ fields_mapping s strict fields nest m (after at) o
-      ∙ entered m (λ n. finish (struct_of source.table fields)
-      (mapping_parts source (field_at source read way strict fields n) source.size (no_slots fields) (after at))) nest
-      some
+-- a struct
+pub step_struct : (code : CodeSource) (fuel : ℕ) (q : Question) (walk : Walk) (strict : Bool) (fields : Fields)
+    (tag : Option (List ℕ)) (m : Position) → fields_in q.shape ≡ Some (strict, fields)
+    → Some (mapping_begins tag, m) ≡ seen code.events.now walk.place → 0 < q.nest
+    → by_shape code fuel q walk ≡ finish (struct_of code.schema.now fields) (mapping_parts (source_of code)
+    (field_at (source_of code) (reader_of fuel code) q.way strict fields (q.nest - 1)) (length code.events.now)
+    (no_slots fields) (after (spot_of walk)))
+step_struct code fuel q walk strict fields tag m o is some =
+    step_event code fuel q walk (mapping_begins tag) m is
+    (fields_as_is q.shape (strict, fields) (is_some q.taken) (mapping_begins tag) o refl)
+    ∙ fields_mapping (source_of code) (reader_of fuel code) q.way q.shape strict fields q.nest m (after (spot_of walk))
+    o
+    ∙ entered m (λ n. finish (struct_of code.schema.now fields) (mapping_parts (source_of code)
+    (field_at (source_of code) (reader_of fuel code) q.way strict fields n) (length code.events.now)
+    (no_slots fields) (after (spot_of walk)))) q.nest some
 
 -- what a name is looked up as, with the way to the value, and where the reading ended
 abbrev pub keyed : Way → Spot → Result (Option (ℕ × ℕ)) Cause → Reading (Option (ℕ × ℕ) × Way)

@@ -45,6 +45,44 @@ module _ {S : Type 0} (is_end : PlainDocEvent → Bool) (step : S → Spot → R
   each_more n s s' at next e is end r = each_going n s at e is end
       ∙ ap (λ y. y >>= λ x. each_at is_end step events n x.0 x.1) r
 
+-- so many turns of a loop lead from one state and spot to another
+abbrev pub Leads : {S : Type 0} → (PlainDocEvent → Bool) → (S → Spot → Reading S) → Events → ℕ → S → Spot → S → Spot
+    → Type 0
+Leads is_end step events gone s at s' next =
+    (n : ℕ) → each_at is_end step events (n + gone) s at ≡ each_at is_end step events n s' next
+
+module _ {S : Type 0} (is_end : PlainDocEvent → Bool) (step : S → Spot → Reading S) (events : Events) (gone : ℕ)
+    (s s' : S) (at next : Spot) (led : Leads is_end step events gone s at s' next) where
+  led_on : (turns : ℕ) → gone < turns → each_at is_end step events turns s at
+      ≡ each_at is_end step events (suc (turns - gone - 1)) s' next
+  led_on turns lt =
+      let split : turns ≡ suc (turns - gone - 1) + gone = omega (arith, lt) in
+      ap (λ (m : ℕ). each_at is_end step events m s at) split ∙ led (suc (turns - gone - 1))
+
+  -- the loop is at its end, the events end, or a part is refused
+  pub led_end : (turns : ℕ) (e : PlainDocEvent × Position) → gone < turns → events next.place ≡ Some e → is_end e.0 ≡
+      true
+      → each_at is_end step events turns s at ≡ Ok (s', after next)
+  led_end turns e lt is end = led_on turns lt ∙ each_end is_end step events (turns - gone - 1) s' next e is end
+
+  pub led_ended : (turns : ℕ) → gone < turns → events next.place ≡ None → each_at is_end step events turns s at
+      ≡ Err EndOfStream
+  led_ended turns lt is = led_on turns lt ∙ each_ended is_end step events (turns - gone - 1) s' next is
+
+  pub led_fails : (turns : ℕ) (e : PlainDocEvent × Position) (x : Cause) → gone < turns → events next.place ≡ Some e
+      → is_end e.0 ≡ false → step s' next ≡ Err x → each_at is_end step events turns s at ≡ Err x
+  led_fails turns e x lt is end r =
+      led_on turns lt ∙ each_fails is_end step events (turns - gone - 1) s' next e x is end r
+
+  -- a turn more, to a state and a number of turns that may be written otherwise
+  pub led_more : (e : PlainDocEvent × Position) (t t' : S) (there : Spot) (far : ℕ) → events next.place ≡ Some e
+      → is_end e.0 ≡ false → step s' next ≡ Ok (t, there) → t ≡ t' → far ≡ suc gone
+      → Leads is_end step events far s at t' there
+  led_more e t t' there far is end r same more = λ n.
+      let split : n + far ≡ suc n + gone = omega (arith, more) in
+      ap (λ (m : ℕ). each_at is_end step events m s at) split ∙ led (suc n)
+      ∙ each_more is_end step events n s' t next there e is end r ∙ ap (λ u. each_at is_end step events n u there) same
+
 pub wrap_fails : {A B C : Type 0} (f : A → B) (r : Result (A × C) Cause) (x : Cause) → r ≡ Err x
     → ◌≡◌ {A = Result (B × C) Cause} (wrap f r) (Err x)
 wrap_fails f r x h = rw h

@@ -14,6 +14,11 @@ use Rattle.yaml_read.specs.NodeTags.{TakenBy}
 use Rattle.yaml_read.specs.Places.{Way, placed, place, places}
 use Rattle.yaml_read.specs.TreeReader.{Answer, Spot}
 use Rattle.yaml_read.specs.inner.Reader.{Reading, Source, place_at, node_at, node_step}
+use Rattle.yaml_shape.specs.PlainData.{PlainData}
+use Rattle.yaml_read.specs.declared.de.node.source.Source.{Source as CodeSource}
+use Rattle.yaml_read.specs.declared.walk.Walk.{Walk}
+use Rattle.yaml_read.specs.inner.Questions.{Question, by_node, by_step}
+use Rattle.yaml_read.specs.inner.Walks.{source_of, spot_of, seen}
 use Rattle.yaml_read.proofs.reading.Loops.{enough}
 use Rattle.yaml_read.proofs.reading.Steps.{IfData}
 use Rattle.yaml_read.proofs.reading.TreeWalks.{landed}
@@ -72,3 +77,31 @@ module _ (way : Way) (s : PlainShape) (taken : Bool) where
       chosen : (b : Bool) → is_memory f ≡ is_memory (placed b e.1 way f)
       chosen true = sym (filled_memory f (record { mark = e.1; path = way.text }))
       chosen false = refl
+
+-- what the step of a node reads is what the node is read as
+pub node_read : (code : CodeSource) (q : Question) (walk : Walk) (fuel : ℕ) (x : PlainData × Spot) → 0 < fuel
+    → by_step code (fuel - 1) q walk ≡ Ok x → by_node code fuel q walk ≡ Ok x
+node_read code q walk fuel x some h =
+    node_unfolds (source_of code) q.way q.shape q.nest q.taken (spot_of walk) fuel some
+    ∙ ap (place_at q.way q.shape (is_some q.taken) (seen code.events.now walk.place)) h
+    ∙ place_ok q.way q.shape (is_some q.taken) (seen code.events.now walk.place) x
+
+-- and its fault is that of the node, once it is placed
+pub node_refused : (code : CodeSource) (q : Question) (walk : Walk) (fuel : ℕ) (f y : Cause) → 0 < fuel
+    → (is_memory f ≡ false → by_step code (fuel - 1) q walk ≡ Err f)
+    → place_at {A = Spot} q.way q.shape (is_some q.taken) (seen code.events.now walk.place) (Err f) ≡ Err y
+    → is_memory y ≡ false → by_node code fuel q walk ≡ Err y
+node_refused code q walk fuel f y some h told m =
+    node_unfolds (source_of code) q.way q.shape q.nest q.taken (spot_of walk) fuel some
+    ∙ ap (place_at q.way q.shape (is_some q.taken) (seen code.events.now walk.place))
+    (h (place_memory q.way q.shape (is_some q.taken) (seen code.events.now walk.place) f y told ∙ m))
+    ∙ place_moved q.way q.shape (is_some q.taken) (seen code.events.now walk.place) f y told
+
+pub node_refused_here : (code : CodeSource) (q : Question) (walk : Walk) (fuel : ℕ) (e : PlainDocEvent) (m : Position)
+    (f y : Cause) → 0 < fuel → seen code.events.now walk.place ≡ Some (e, m) → places q.shape (is_some q.taken) e ≡ true
+    → (is_memory f ≡ false → by_step code (fuel - 1) q walk ≡ Err f)
+    → (is_memory y ≡ false → y ≡ placed true m q.way f) → is_memory y ≡ false → by_node code fuel q walk ≡ Err y
+node_refused_here code q walk fuel e m f y some is here h told known =
+    node_refused code q walk fuel f y some h
+    (place_here q.way q.shape (is_some q.taken) (seen code.events.now walk.place) e m f is here
+    ∙ ap Err (sym (told known))) known

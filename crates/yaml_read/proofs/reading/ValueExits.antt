@@ -4,32 +4,31 @@ use Rattle.std.proofs.Common.{length, Ok, ◌∷◌, ◌++◌}
 use Rattle.std.specs.Option.{is_some}
 use Rattle.yaml_base.specs.Position.{Position}
 use Rattle.yaml_base.specs.declared.error.Cause.{Cause}
-use Rattle.yaml_shape.specs.DataView.{items_of, entries_of}
-use Rattle.yaml_shape.specs.PlainData.{PlainData, any_data}
-use Rattle.yaml_shape.specs.PlainShape.{PlainShape, any_shape, enum_shape}
-use Rattle.yaml_shape.specs.PlainShape.{PlainVariant}
-use Rattle.yaml_shape.specs.PlainShape.{tuple_shape, tuple_struct_shape, tuple_variant_shape}
-use Rattle.yaml_tree.specs.Tree.{sequence, tagged}
-use Rattle.yaml_tree.specs.Tree as tree
-use Rattle.yaml_load.specs.PlainDocEvent.{PlainDocEvent, sequence_begins, mapping_begins}
-use Rattle.yaml_scalar.specs.Steps.{wrap, finish}
+use Rattle.yaml_shape.specs.PlainData.{PlainData}
+use Rattle.yaml_shape.specs.PlainShape.{PlainShape, any_shape, enum_shape, PlainVariant, tuple_shape}
+use Rattle.yaml_shape.specs.PlainShape.{tuple_struct_shape, tuple_variant_shape}
+use Rattle.yaml_load.specs.PlainDocEvent.{PlainDocEvent, sequence_begins}
+use Rattle.yaml_scalar.specs.Steps.{finish}
 use Rattle.yaml_scalar.specs.Variants.{Variants, variant_named}
-use Rattle.yaml_read.specs.AnyData.{tree_in, trees_in, pairs_in, new_key}
+use Rattle.yaml_read.specs.AnyData.{new_key}
 use Rattle.yaml_read.specs.Handing.{as_is, as_variant, as_tagged, handed, is_filled_scalar}
-use Rattle.yaml_read.specs.NodeTags.{TakenBy, around_value, untaken_name}
+use Rattle.yaml_read.specs.NodeTags.{untaken_name}
 use Rattle.yaml_read.specs.Places.{Way}
 use Rattle.yaml_read.specs.Rows.{row_of, row_data}
 use Rattle.yaml_read.specs.TreeReader.{Spot, after}
-use Rattle.yaml_read.specs.inner.Reader.{Source, Reader, item_at, any_entry_at, row_at, rows_at, rows_in}
-use Rattle.yaml_read.specs.inner.Reader.{sequence_at, value_way}
-use Rattle.yaml_read.specs.inner.Reader.{sequence_parts, mapping_parts, shape_step}
-use Rattle.yaml_read.proofs.reading.Exits.{step_event, step_handed}
+use Rattle.yaml_read.specs.inner.Reader.{Source, Reader, any_entry_at, row_at, rows_at, rows_in, sequence_at, value_way}
+use Rattle.yaml_read.specs.inner.Reader.{sequence_parts}
+use Rattle.yaml_read.specs.declared.de.node.source.Source.{Source as CodeSource}
+use Rattle.yaml_read.specs.declared.walk.Walk.{Walk}
+use Rattle.yaml_read.specs.inner.Questions.{Question, by_shape}
+use Rattle.yaml_read.specs.inner.Walks.{source_of, reader_of, spot_of, seen}
+use Rattle.yaml_read.proofs.reading.Exits.{step_event}
 use Rattle.yaml_read.proofs.reading.Loops.{entered}
 
 -- ---- how enums and any values are handed on
-pub any_tagged : (e : PlainDocEvent) (name : List ℕ) → untaken_name false e ≡ Some name
-    → handed any_shape false e ≡ as_tagged name
-any_tagged e name h = rw h refl
+pub any_tagged : (taken : Bool) (e : PlainDocEvent) (name : List ℕ) → untaken_name taken e ≡ Some name
+    → handed any_shape taken e ≡ as_tagged name
+any_tagged taken e name h = rw h refl
 
 pub any_as_is : (taken : Bool) (e : PlainDocEvent) → untaken_name taken e ≡ None → handed any_shape taken e ≡ as_is
 any_as_is taken e h = rw h refl
@@ -61,41 +60,6 @@ row_is : {x y : List ℕ × List ℕ} → Some x ≡ Some y → x ≡ y
 row_is h = cc
 
 module _ (source : Source) (read : Way → Reader) (way : Way) (nest : ℕ) (at : Spot) where
-  -- any value under its tag
-  pub step_tagged : (name : List ℕ) (e : PlainDocEvent) (m : Position) → Some (e, m) ≡ source.events at.place
-      → untaken_name false e ≡ Some name
-      → shape_step source read way any_shape nest None at (source.events at.place)
-      ≡ wrap (λ v. any_data (tagged name (tree_in v))) (read way any_shape nest (Some around_value) at)
-  step_tagged name e m is h = step_handed source read way any_shape nest None at e m (as_tagged name) is
-      (any_tagged e name h)
-
-  -- any values
-  pub step_any_list : (taken : Option TakenBy) (tag : Option (List ℕ)) (m : Position)
-      → untaken_name (is_some taken) (sequence_begins tag) ≡ None
-      → Some (sequence_begins tag, m) ≡ source.events at.place → 0 < nest
-      → shape_step source read way any_shape nest taken at (source.events at.place)
-      ≡ wrap (λ vs. any_data (sequence (trees_in (items_of vs))))
-      (sequence_parts source (item_at read way any_shape (nest - 1)) source.size [] (after at))
-  step_any_list taken tag m own is some =
-      step_event source read way any_shape nest taken at (sequence_begins tag) m is
-      (any_as_is (is_some taken) (sequence_begins tag) own)
-      ∙ entered m
-      (λ n. wrap (λ vs. any_data (sequence (trees_in (items_of vs))))
-      (sequence_parts source (item_at read way any_shape n) source.size [] (after at))) nest some
-
-  pub step_any_mapping : (taken : Option TakenBy) (tag : Option (List ℕ)) (m : Position)
-      → untaken_name (is_some taken) (mapping_begins tag) ≡ None
-      → Some (mapping_begins tag, m) ≡ source.events at.place → 0 < nest
-      → shape_step source read way any_shape nest taken at (source.events at.place)
-      ≡ wrap (λ vs. any_data (tree.mapping (pairs_in (entries_of vs))))
-      (mapping_parts source (any_entry_at source read way (nest - 1)) source.size [] (after at))
-  step_any_mapping taken tag m own is some =
-      step_event source read way any_shape nest taken at (mapping_begins tag) m is
-      (any_as_is (is_some taken) (mapping_begins tag) own)
-      ∙ entered m
-      (λ n. wrap (λ vs. any_data (tree.mapping (pairs_in (entries_of vs))))
-      (mapping_parts source (any_entry_at source read way n) source.size [] (after at))) nest some
-
   -- a row, whatever its shape is called
   pub rows_sequence : (s : PlainShape) (few ids : List ℕ) (mark : Position) (at : Spot) → rows_in s ≡ Some (few, ids)
       → sequence_at source read way s nest mark at ≡ rows_at source read way few ids nest mark at
@@ -107,19 +71,22 @@ module _ (source : Source) (read : Way → Reader) (way : Way) (nest : ℕ) (at 
       ap (λ (r : List ℕ × List ℕ). rows_at source read way r.0 r.1 nest mark at) (row_is h)
   rows_sequence _ few ids mark at h = absurd cc
 
-  pub step_rows : (s : PlainShape) (few ids : List ℕ) (taken : Option TakenBy) (tag : Option (List ℕ)) (m : Position)
-      → rows_in s ≡ Some (few, ids)
-      → Some (sequence_begins tag, m) ≡ source.events at.place → 0 < nest
-      → shape_step source read way s nest taken at (source.events at.place)
-      ≡ finish (row_data few (length ids))
-      (sequence_parts source (row_at source read way (nest - 1)) source.size (row_of ids) (after at))
-  step_rows s few ids taken tag m o is some =
-      step_event source read way s nest taken at (sequence_begins tag) m is
-      (rows_as_is s (few, ids) (is_some taken) (sequence_begins tag) o)
-      ∙ rows_sequence s few ids m (after at) o
-      ∙ entered m
-      (λ n. finish (row_data few (length ids))
-      (sequence_parts source (row_at source read way n) source.size (row_of ids) (after at))) nest some
+-- a row is read to its end
+pub step_rows : (code : CodeSource) (fuel : ℕ) (q : Question) (walk : Walk) (few ids : List ℕ) (tag : Option (List ℕ))
+    (m : Position) → rows_in q.shape ≡ Some (few, ids)
+    → Some (sequence_begins tag, m) ≡ seen code.events.now walk.place → 0 < q.nest
+    → by_shape code fuel q walk ≡ finish (row_data few (length ids))
+    (sequence_parts (source_of code) (row_at (source_of code) (reader_of fuel code) q.way (q.nest - 1))
+    (length code.events.now) (row_of ids) (after (spot_of walk)))
+step_rows code fuel q walk few ids tag m o is some =
+    step_event code fuel q walk (sequence_begins tag) m is
+    (rows_as_is q.shape (few, ids) (is_some q.taken) (sequence_begins tag) o)
+    ∙ rows_sequence (source_of code) (reader_of fuel code) q.way q.nest (spot_of walk) q.shape few ids m
+    (after (spot_of walk)) o
+    ∙ entered m
+    (λ n. finish (row_data few (length ids))
+    (sequence_parts (source_of code) (row_at (source_of code) (reader_of fuel code) q.way n) (length code.events.now)
+    (row_of ids) (after (spot_of walk)))) q.nest some
 
 -- ---- the pairs of any values
 module _ (source : Source) (read : Way

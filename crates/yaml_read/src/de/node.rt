@@ -2,6 +2,7 @@
 
 mod any_node;
 mod any_parts;
+pub(crate) mod ask;
 mod collection_part;
 mod content_mismatch;
 mod enums;
@@ -17,24 +18,20 @@ mod structs;
 mod tuple;
 mod tuple_length;
 
-ghost use Rattle.std.specs.Prelude.{◌≡◌, ℕ, suc, ◌<◌, length, OnOk, true, false};
-ghost use Rattle.std.specs.Option.{is_some};
-ghost use Rattle.yaml_base.specs.Answer.{Gives, is_memory};
-ghost use Rattle.yaml_base.specs.Position.{Position};
+ghost use Rattle.std.specs.Prelude.{◌≡◌, ◌<◌, length, OnOk, true, false};
+ghost use Rattle.yaml_base.specs.Answer.{is_memory};
 ghost use Rattle.yaml_base.specs.declared.error.Cause.TheVariants.{BytesUnsupported};
 ghost use Rattle.yaml_base.specs.declared.error.Cause.TheVariants.{RecursionLimitExceeded, RepetitionLimitExceeded};
-ghost use Rattle.yaml_shape.specs.DataView.{data_of};
 ghost use Rattle.yaml_shape.specs.ShapeView.{shape_of};
-ghost use Rattle.yaml_shape.specs.Validity.{NamesWithin};
 ghost use Rattle.yaml_load.specs.DocEventView.{doc_event_of};
 ghost use Rattle.yaml_load.specs.Ends.{GoForward};
-ghost use Rattle.yaml_read.specs.Handing.{depth};
-ghost use Rattle.yaml_read.specs.Places.{way_of};
-ghost use Rattle.yaml_read.specs.inner.Reader.{event_at, node_step, takes, is_leaf};
-ghost use Rattle.yaml_read.specs.inner.Walks.{around_of, source_of, spot_of, reader_of, MovesOn, Costs};
+ghost use Rattle.yaml_read.specs.inner.Questions.{question_of, Named, GivesNode, GivesStep, GivesEvent};
+ghost use Rattle.yaml_read.specs.inner.Reader.{takes, is_leaf};
+ghost use Rattle.yaml_read.specs.inner.Walks.{MovesOn, Costs};
 
+use crate::de::node::ask::Ask;
 use crate::de::node::source::Source;
-use crate::de::taken_tag::{TakenBy, is_taken};
+use crate::de::taken_tag::is_taken;
 use crate::walk::Walk;
 use std::alloc::Global;
 use yaml_base::{Cause, Error, Mark, Path};
@@ -101,82 +98,52 @@ pub(super) fn is_leaf(shape: &Shape) -> bool
 impl<'s, 'de> Source<'s, 'de> {
     /// The node at the walk's place, under a shape, with so many nestings left.
     #[cycle(read)]
-    pub(super) fn read_node(
-        &self,
-        path: &Path<'_>,
-        shape: &Shape,
-        nest: u8,
-        taken: Option<&TakenBy<'_>>,
-        walk: &mut Walk,
-    ) -> Result<Data<'de>>
-        requires named { NamesWithin (length self.now.schema.now) (shape_of shape.now) }
+    pub(super) fn read_node(&self, ask: &Ask<'_, '_, '_>, walk: &mut Walk) -> Result<Data<'de>>
+        requires named { Named self.now (question_of ask.now) }
         requires forward { GoForward self.now.ends.now }
-        ensures gives { (fuel : ℕ) → depth self.now.schema.now (shape_of shape.now)
-            (is_some (around_of taken.entry)) nest walk.old.left < fuel
-            → Gives (λ x. (data_of x, spot_of walk.new)) result
-            (reader_of fuel self.now (way_of path.now) (shape_of shape.now) nest (around_of taken.entry)
-            (spot_of walk.old)) }
+        ensures gives { GivesNode self.now (question_of ask.now) walk.old walk.new result }
         ensures moves { OnOk result (MovesOn (length self.now.events.now) walk.old walk.new) }
         ensures cost { Costs (length self.now.events.now) walk.old walk.new }
     {
         let start = walk.place;
-        match self.read_unplaced(path, shape, nest, taken, walk) {
+        match self.read_unplaced(ask, walk) {
             Ok(data) => Ok(data),
-            Err(refusal) => Err(self.placed_fault(path, shape, taken, start, refusal)),
+            Err(refusal) => Err(self.placed_fault(ask, start, refusal)),
         }
     }
 
     /// The same, where a fault is not placed yet.
     #[cycle(read)]
     #[inline(never)]
-    pub(super) fn read_unplaced(
-        &self,
-        path: &Path<'_>,
-        shape: &Shape,
-        nest: u8,
-        taken: Option<&TakenBy<'_>>,
-        walk: &mut Walk,
-    ) -> Result<Data<'de>>
-        requires named { NamesWithin (length self.now.schema.now) (shape_of shape.now) }
+    pub(super) fn read_unplaced(&self, ask: &Ask<'_, '_, '_>, walk: &mut Walk) -> Result<Data<'de>>
+        requires named { Named self.now (question_of ask.now) }
         requires forward { GoForward self.now.ends.now }
-        ensures gives { (fuel : ℕ) → depth self.now.schema.now (shape_of shape.now)
-            (is_some (around_of taken.entry)) nest walk.old.left < suc fuel
-            → Gives (λ x. (data_of x, spot_of walk.new)) result
-            (node_step (source_of self.now) (reader_of fuel self.now) (way_of path.now) (shape_of shape.now) nest
-            (around_of taken.entry) (spot_of walk.old)) }
+        ensures gives { GivesStep self.now (question_of ask.now) walk.old walk.new result }
         ensures moves { OnOk result (MovesOn (length self.now.events.now) walk.old walk.new) }
         ensures cost { Costs (length self.now.events.now) walk.old walk.new }
     {
-        match shape {
-            Shape::Any => self.read_any(path, shape, nest, taken, walk),
-            Shape::Enum { name, variants } => {
-                self.read_enum(path, shape, name, variants, nest, taken, walk)
-            }
+        match ask.shape {
+            Shape::Any => self.read_any(ask, walk),
+            Shape::Enum { name, variants } => self.read_enum(ask, name, variants, walk),
             Shape::Bytes => Err(refused_bytes(self.alloc)),
-            Shape::Option(content) => self.read_option(path, shape, *content, nest, taken, walk),
-            Shape::Newtype { name: _, inner } => self.read_newtype(path, *inner, nest, taken, walk),
+            Shape::Option(content) => self.read_option(ask, *content, walk),
+            Shape::Newtype { name: _, inner } => self.read_newtype(ask, *inner, walk),
             Shape::Seq(element) => {
-                let Some((event, mark)) = self.event(walk.place) else {
+                let Some(event) = self.event(walk.place) else {
                     return Err(ended(self.alloc));
                 };
-                self.read_seq(path, shape, *element, event, *mark, nest, taken, walk)
+                self.read_seq(ask, *element, event, walk)
             }
-            Shape::Tuple(items) => self.read_tuple(path, shape, None, items, nest, taken, walk),
-            Shape::TupleStruct { name, items } => {
-                self.read_tuple(path, shape, Some(name), items, nest, taken, walk)
-            }
+            Shape::Tuple(items) => self.read_tuple(ask, None, items, walk),
+            Shape::TupleStruct { name, items } => self.read_tuple(ask, Some(name), items, walk),
             Shape::Map(key, value) => {
-                let Some((event, mark)) = self.event(walk.place) else {
+                let Some(event) = self.event(walk.place) else {
                     return Err(ended(self.alloc));
                 };
-                self.read_map(path, shape, *key, *value, event, *mark, nest, taken, walk)
+                self.read_map(ask, *key, *value, event, walk)
             }
-            Shape::Struct { name: _, fields } => {
-                self.read_struct(path, shape, fields, false, nest, taken, walk)
-            }
-            Shape::StrictStruct { name: _, fields } => {
-                self.read_struct(path, shape, fields, true, nest, taken, walk)
-            }
+            Shape::Struct { name: _, fields } => self.read_struct(ask, fields, false, walk),
+            Shape::StrictStruct { name: _, fields } => self.read_struct(ask, fields, true, walk),
             Shape::IgnoredAny => self.read_ignored(walk),
             Shape::Bool
             | Shape::Char
@@ -195,7 +162,7 @@ impl<'s, 'de> Source<'s, 'de> {
             | Shape::Str
             | Shape::Identifier
             | Shape::Unit
-            | Shape::UnitStruct { .. } => self.read_leaf(path, shape, nest, taken, walk),
+            | Shape::UnitStruct { .. } => self.read_leaf(ask, walk),
         }
     }
 
@@ -204,29 +171,26 @@ impl<'s, 'de> Source<'s, 'de> {
     #[cycle(read)]
     pub(super) fn read_simple(
         &self,
-        path: &Path<'_>,
-        shape: &Shape,
+        ask: &Ask<'_, '_, '_>,
         event: &DocEvent<'de>,
-        nest: u8,
-        taken: Option<&TakenBy<'_>>,
         walk: &mut Walk,
     ) -> Result<Data<'de>>
-        requires named { NamesWithin (length self.now.schema.now) (shape_of shape.now) }
+        requires named { Named self.now (question_of ask.now) }
         requires forward { GoForward self.now.ends.now }
         requires within { walk.old.place < length self.now.events.now }
-        requires other { takes (shape_of shape.now) (doc_event_of event.now) ≡ false }
-        ensures gives { (fuel : ℕ) (mark : Position) → depth self.now.schema.now (shape_of shape.now)
-            (is_some (around_of taken.entry)) nest walk.old.left < suc fuel
-            → Gives (λ x. (data_of x, spot_of walk.new)) result
-            (event_at (source_of self.now) (reader_of fuel self.now) (way_of path.now) (shape_of shape.now) nest
-            (around_of taken.entry)
-            (spot_of walk.old) (doc_event_of event.now) mark) }
+        requires other { takes (question_of ask.now).shape (doc_event_of event.now) ≡ false }
+        ensures gives { GivesEvent self.now (question_of ask.now) (doc_event_of event.now) walk.old walk.new result }
         ensures moves { OnOk result (MovesOn (length self.now.events.now) walk.old walk.new) }
         ensures cost { Costs (length self.now.events.now) walk.old walk.new }
     {
         walk.step();
         match event {
-            DocEvent::Scalar(scalar) => read_scalar(self.alloc, shape, is_taken(taken), scalar),
+            DocEvent::Scalar(scalar) => read_scalar(
+                self.alloc,
+                ask.shape,
+                is_taken(ask.taken),
+                scalar,
+            ),
             DocEvent::Alias(target) => {
                 if walk.left == 0 {
                     return Err(followed_too_often(self.alloc));
@@ -234,8 +198,14 @@ impl<'s, 'de> Source<'s, 'de> {
                 walk.left -= 1;
                 let back = walk.place;
                 walk.place = *target;
-                let inner = Path::Alias { parent: &*path };
-                match self.read_node(&inner, shape, nest, None, walk) {
+                let inner = Path::Alias { parent: &*ask.path };
+                let target = Ask {
+                    path: &inner,
+                    shape: ask.shape,
+                    nest: ask.nest,
+                    taken: None,
+                };
+                match self.read_node(&target, walk) {
                     Ok(data) => {
                         walk.place = back;
                         Ok(data)
@@ -243,37 +213,26 @@ impl<'s, 'de> Source<'s, 'de> {
                     Err(refusal) => Err(refusal),
                 }
             }
-            DocEvent::Void => read_void(self.alloc, shape),
-            DocEvent::SequenceStart(_) => Err(found_sequence(self.alloc, shape)),
-            DocEvent::MappingStart(_) => Err(found_mapping(self.alloc, shape)),
+            DocEvent::Void => read_void(self.alloc, ask.shape),
+            DocEvent::SequenceStart(_) => Err(found_sequence(self.alloc, ask.shape)),
+            DocEvent::MappingStart(_) => Err(found_mapping(self.alloc, ask.shape)),
             DocEvent::SequenceEnd | DocEvent::MappingEnd => Err(ended(self.alloc)),
         }
     }
 
     /// A node under a shape that reads scalars alone.
     #[cycle(read)]
-    pub(super) fn read_leaf(
-        &self,
-        path: &Path<'_>,
-        shape: &Shape,
-        nest: u8,
-        taken: Option<&TakenBy<'_>>,
-        walk: &mut Walk,
-    ) -> Result<Data<'de>>
-        requires leaf { is_leaf (shape_of shape.now) ≡ true }
-        requires named { NamesWithin (length self.now.schema.now) (shape_of shape.now) }
+    pub(super) fn read_leaf(&self, ask: &Ask<'_, '_, '_>, walk: &mut Walk) -> Result<Data<'de>>
+        requires leaf { is_leaf (question_of ask.now).shape ≡ true }
+        requires named { Named self.now (question_of ask.now) }
         requires forward { GoForward self.now.ends.now }
-        ensures gives { (fuel : ℕ) → depth self.now.schema.now (shape_of shape.now)
-            (is_some (around_of taken.entry)) nest walk.old.left < suc fuel
-            → Gives (λ x. (data_of x, spot_of walk.new)) result
-            (node_step (source_of self.now) (reader_of fuel self.now) (way_of path.now) (shape_of shape.now) nest
-            (around_of taken.entry) (spot_of walk.old)) }
+        ensures gives { GivesStep self.now (question_of ask.now) walk.old walk.new result }
         ensures moves { OnOk result (MovesOn (length self.now.events.now) walk.old walk.new) }
         ensures cost { Costs (length self.now.events.now) walk.old walk.new }
     {
         let Some((event, _)) = self.event(walk.place) else {
             return Err(ended(self.alloc));
         };
-        self.read_simple(path, shape, event, nest, taken, walk)
+        self.read_simple(ask, event, walk)
     }
 }

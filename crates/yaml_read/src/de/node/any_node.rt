@@ -1,7 +1,6 @@
 //! Any value: a scalar, a list, or a mapping, under its tag where it has one.
 
-ghost use Rattle.std.specs.Prelude.{◌≡◌, ℕ, suc, ◌+◌, ◌*◌, ◌<◌, ◌≤◌, [], length, IfOk, OnOk, Some, false};
-ghost use Rattle.std.specs.Option.{is_some};
+ghost use Rattle.std.specs.Prelude.{◌≡◌, ℕ, ◌+◌, ◌*◌, ◌<◌, ◌≤◌, [], length, OnOk, Some};
 ghost use Rattle.yaml_base.specs.Answer.{Gives};
 ghost use Rattle.yaml_shape.specs.DataView.{data_of, items_of, entries_of};
 ghost use Rattle.yaml_shape.specs.PlainData.{any_data};
@@ -13,15 +12,17 @@ ghost use Rattle.yaml_tree.specs.Valid.{pairs_of};
 ghost use Rattle.yaml_load.specs.Ends.{GoForward};
 ghost use Rattle.yaml_scalar.specs.Steps.{wrap};
 ghost use Rattle.yaml_read.specs.AnyData.{tree_in, trees_in, pairs_in};
-ghost use Rattle.yaml_read.specs.Handing.{depth, parts_depth, nesting_depth};
+ghost use Rattle.yaml_read.specs.Handing.{parts_depth, nesting_depth};
 ghost use Rattle.yaml_read.specs.NodeTags.{around_value};
 ghost use Rattle.yaml_read.specs.Places.{way_of};
-ghost use Rattle.yaml_read.specs.inner.Reader.{shape_step, item_at, sequence_parts, any_entry_at, mapping_parts};
-ghost use Rattle.yaml_read.specs.inner.Walks.{around_of, source_of, spot_of, reader_of, seen, MovesOn, Costs};
+ghost use Rattle.yaml_read.specs.inner.Questions.{question_of, taken_as, by_node, GivesShape};
+ghost use Rattle.yaml_read.specs.inner.Reader.{item_at, sequence_parts, any_entry_at, mapping_parts};
+ghost use Rattle.yaml_read.specs.inner.Walks.{source_of, spot_of, reader_of, MovesOn, Costs};
 
 use crate::de::node::any_parts::{
     any_list, any_tagged, duplicate_entry, has_key, put_pair, value_in,
 };
+use crate::de::node::ask::Ask;
 use crate::de::node::fault_place::value_path;
 use crate::de::node::source::Source;
 use crate::de::node::too_deep;
@@ -37,47 +38,35 @@ impl<'s, 'de> Source<'s, 'de> {
     /// Any value.
     #[cycle(read)]
     #[inline(never)]
-    pub(crate) fn read_any(
-        &self,
-        path: &Path<'_>,
-        shape: &Shape,
-        nest: u8,
-        taken: Option<&TakenBy<'_>>,
-        walk: &mut Walk,
-    ) -> Result<Data<'de>>
-        requires shape { shape_of shape.now ≡ any_shape }
+    pub(crate) fn read_any(&self, ask: &Ask<'_, '_, '_>, walk: &mut Walk) -> Result<Data<'de>>
+        requires shape { (question_of ask.now).shape ≡ any_shape }
         requires forward { GoForward self.now.ends.now }
-        ensures gives { (fuel : ℕ) → depth self.now.schema.now (shape_of shape.now)
-            (is_some (around_of taken.entry)) nest walk.old.left < suc fuel
-            → Gives (λ x. (data_of x, spot_of walk.new)) result
-            (shape_step (source_of self.now) (reader_of fuel self.now) (way_of path.now) (shape_of shape.now) nest
-            (around_of taken.entry)
-            (spot_of walk.old) (seen self.now.events.now walk.old.place)) }
+        ensures gives { GivesShape self.now (question_of ask.now) walk.old walk.new result }
         ensures moves { OnOk result (MovesOn (length self.now.events.now) walk.old walk.new) }
         ensures cost { Costs (length self.now.events.now) walk.old walk.new }
     {
         let Some((event, mark)) = self.event(walk.place) else {
             return Err(ended(self.alloc));
         };
-        if let Some(name) = untaken_name(event, is_taken(taken)) {
-            return self.read_any_tagged(path, shape, name, nest, walk);
+        if let Some(name) = untaken_name(event, is_taken(ask.taken)) {
+            return self.read_any_tagged(ask, name, walk);
         }
         match event {
             DocEvent::SequenceStart(_) => {
-                if nest == 0 {
+                if ask.nest == 0 {
                     return Err(too_deep(self.alloc, *mark));
                 }
                 walk.step();
-                self.read_any_items(path, shape, nest - 1, walk)
+                self.read_any_items(ask.path, ask.shape, ask.nest - 1, walk)
             }
             DocEvent::MappingStart(_) => {
-                if nest == 0 {
+                if ask.nest == 0 {
                     return Err(too_deep(self.alloc, *mark));
                 }
                 walk.step();
-                self.read_any_pairs(path, shape, nest - 1, walk)
+                self.read_any_pairs(ask.path, ask.shape, ask.nest - 1, walk)
             }
-            _ => self.read_simple(path, shape, event, nest, taken, walk),
+            _ => self.read_simple(ask, event, walk),
         }
     }
 
@@ -86,18 +75,16 @@ impl<'s, 'de> Source<'s, 'de> {
     #[inline(never)]
     pub(crate) fn read_any_tagged(
         &self,
-        path: &Path<'_>,
-        any: &Shape,
+        ask: &Ask<'_, '_, '_>,
         name: &str,
-        nest: u8,
         walk: &mut Walk,
     ) -> Result<Data<'de>>
-        requires shape { shape_of any.now ≡ any_shape }
+        requires shape { (question_of ask.now).shape ≡ any_shape }
         requires forward { GoForward self.now.ends.now }
-        ensures gives { (fuel : ℕ) → nesting_depth * (walk.old.left + nest) < fuel
+        ensures gives { (fuel : ℕ) → nesting_depth * (walk.old.left + ask.now.nest) < fuel
             → Gives (λ x. (data_of x, spot_of walk.new)) result
             (wrap (λ v. any_data (tagged name.now (tree_in v)))
-            (reader_of fuel self.now (way_of path.now) any_shape nest (Some around_value) (spot_of walk.old))) }
+            (by_node self.now fuel (taken_as (question_of ask.now) any_shape around_value) walk.old)) }
         ensures moves { OnOk result (MovesOn (length self.now.events.now) walk.old walk.new) }
         ensures cost { Costs (length self.now.events.now) walk.old walk.new }
     {
@@ -105,7 +92,13 @@ impl<'s, 'de> Source<'s, 'de> {
             name: "",
             variant: "",
         };
-        match self.read_node(path, any, nest, Some(&value), walk) {
+        let inner = Ask {
+            path: ask.path,
+            shape: ask.shape,
+            nest: ask.nest,
+            taken: Some(&value),
+        };
+        match self.read_node(&inner, walk) {
             Ok(data) => any_tagged(self.alloc, name, data),
             Err(refusal) => Err(refusal),
         }
@@ -197,7 +190,13 @@ impl<'s, 'de> Source<'s, 'de> {
                 walk.step();
                 return Ok(pairs);
             }
-            let key = match self.read_node(path, any, nest, None, walk) {
+            let key_ask = Ask {
+                path: &*path,
+                shape: any,
+                nest,
+                taken: None,
+            };
+            let key = match self.read_node(&key_ask, walk) {
                 Ok(key) => value_in(key),
                 Err(refusal) => return Err(refusal),
             };
@@ -205,7 +204,13 @@ impl<'s, 'de> Source<'s, 'de> {
                 return Err(duplicate_entry(self.alloc, &key));
             }
             let inner = value_path(&*path, &*event);
-            let value = match self.read_node(&inner, any, nest, None, walk) {
+            let value_ask = Ask {
+                path: &inner,
+                shape: any,
+                nest,
+                taken: None,
+            };
+            let value = match self.read_node(&value_ask, walk) {
                 Ok(value) => value_in(value),
                 Err(refusal) => return Err(refusal),
             };

@@ -9,9 +9,11 @@ ghost use Rattle.yaml_load.specs.DocEventView.{doc_event_of};
 ghost use Rattle.yaml_load.specs.Ends.{GoForward};
 ghost use Rattle.yaml_read.specs.Handing.{depth};
 ghost use Rattle.yaml_read.specs.Places.{value_under, way_of};
+ghost use Rattle.yaml_read.specs.inner.Questions.{question_of, Named, GivesNode};
 ghost use Rattle.yaml_read.specs.inner.Reader.{is_leaf};
 ghost use Rattle.yaml_read.specs.inner.Walks.{spot_of, reader_of, seen, MovesOn, Costs};
 
+use crate::de::node::ask::Ask;
 use crate::de::node::fault_place::{at_place, value_path};
 use crate::de::node::source::Source;
 use crate::walk::Walk;
@@ -30,13 +32,12 @@ impl<'s, 'de> Source<'s, 'de> {
         path: &Path<'_>,
         shape: &Shape,
         leaf: bool,
-        event: &DocEvent<'de>,
-        mark: Mark,
+        event: &(DocEvent<'de>, Mark),
         nest: u8,
         walk: &mut Walk,
     ) -> Result<Data<'de>>
         requires leaf { leaf ≡ is_leaf (shape_of shape.now) }
-        requires here { seen self.now.events.now walk.old.place ≡ Some (doc_event_of event.now, mark) }
+        requires here { seen self.now.events.now walk.old.place ≡ Some (doc_event_of event.now.0, event.now.1) }
         requires within { walk.old.place < length self.now.events.now }
         requires named { NamesWithin (length self.now.schema.now) (shape_of shape.now) }
         requires forward { GoForward self.now.ends.now }
@@ -47,70 +48,68 @@ impl<'s, 'de> Source<'s, 'de> {
         ensures cost { Costs (length self.now.events.now) walk.old walk.new }
     {
         if leaf {
-            if let DocEvent::Scalar(scalar) = event {
+            if let DocEvent::Scalar(scalar) = &event.0 {
                 walk.step();
                 return match read_scalar(self.alloc, shape, false, scalar) {
                     Ok(data) => Ok(data),
-                    Err(refusal) => Err(at_place(self.alloc, refusal, mark, path)),
+                    Err(refusal) => Err(at_place(self.alloc, refusal, event.1, path)),
                 };
             }
         }
-        self.read_further(path, shape, leaf, event, mark, nest, walk)
+        let part = Ask {
+            path: &*path,
+            shape,
+            nest,
+            taken: None,
+        };
+        self.read_further(&part, leaf, event, walk)
     }
 
     /// The same, where it is an alias, a collection, or a scalar under any other shape.
     #[cycle(read)]
     pub(crate) fn read_further(
         &self,
-        path: &Path<'_>,
-        shape: &Shape,
+        ask: &Ask<'_, '_, '_>,
         leaf: bool,
-        event: &DocEvent<'de>,
-        mark: Mark,
-        nest: u8,
+        event: &(DocEvent<'de>, Mark),
         walk: &mut Walk,
     ) -> Result<Data<'de>>
-        requires leaf { leaf ≡ is_leaf (shape_of shape.now) }
-        requires here { seen self.now.events.now walk.old.place ≡ Some (doc_event_of event.now, mark) }
+        requires leaf { leaf ≡ is_leaf (question_of ask.now).shape }
+        requires untaken { (question_of ask.now).taken ≡ None }
+        requires here { seen self.now.events.now walk.old.place ≡ Some (doc_event_of event.now.0, event.now.1) }
         requires within { walk.old.place < length self.now.events.now }
-        requires named { NamesWithin (length self.now.schema.now) (shape_of shape.now) }
+        requires named { Named self.now (question_of ask.now) }
         requires forward { GoForward self.now.ends.now }
-        ensures gives { (fuel : ℕ) → depth self.now.schema.now (shape_of shape.now) false nest walk.old.left < fuel
-            → Gives (λ x. (data_of x, spot_of walk.new)) result
-            (reader_of fuel self.now (way_of path.now) (shape_of shape.now) nest None (spot_of walk.old)) }
+        ensures gives { GivesNode self.now (question_of ask.now) walk.old walk.new result }
         ensures moves { OnOk result (MovesOn (length self.now.events.now) walk.old walk.new) }
         ensures cost { Costs (length self.now.events.now) walk.old walk.new }
     {
         if leaf {
-            if let DocEvent::Alias(target) = event {
+            if let DocEvent::Alias(target) = &event.0 {
                 if walk.left > 0 {
                     if let Some((scalar, there)) = self.scalar(*target) {
                         walk.follow();
-                        return match read_scalar(self.alloc, shape, false, scalar) {
+                        return match read_scalar(self.alloc, ask.shape, false, scalar) {
                             Ok(data) => Ok(data),
                             Err(refusal) => {
-                                let placed = at_place(self.alloc, refusal, *there, path);
-                                Err(at_place(self.alloc, placed, mark, path))
+                                let placed = at_place(self.alloc, refusal, *there, ask.path);
+                                Err(at_place(self.alloc, placed, event.1, ask.path))
                             }
                         };
                     }
                 }
             }
         }
-        match shape {
-            Shape::Seq(element) => {
-                match self.read_seq(path, shape, *element, event, mark, nest, None, walk) {
-                    Ok(data) => Ok(data),
-                    Err(refusal) => Err(at_place(self.alloc, refusal, mark, path)),
-                }
-            }
-            Shape::Map(key, value) => {
-                match self.read_map(path, shape, *key, *value, event, mark, nest, None, walk) {
-                    Ok(data) => Ok(data),
-                    Err(refusal) => Err(at_place(self.alloc, refusal, mark, path)),
-                }
-            }
-            _ => self.read_node(path, shape, nest, None, walk),
+        match ask.shape {
+            Shape::Seq(element) => match self.read_seq(ask, *element, event, walk) {
+                Ok(data) => Ok(data),
+                Err(refusal) => Err(at_place(self.alloc, refusal, event.1, ask.path)),
+            },
+            Shape::Map(key, value) => match self.read_map(ask, *key, *value, event, walk) {
+                Ok(data) => Ok(data),
+                Err(refusal) => Err(at_place(self.alloc, refusal, event.1, ask.path)),
+            },
+            _ => self.read_node(ask, walk),
         }
     }
 
@@ -149,8 +148,16 @@ impl<'s, 'de> Source<'s, 'de> {
         }
         let inner = value_path(&*path, &*key);
         match self.event(walk.place) {
-            Some((event, mark)) => self.read_part(&inner, shape, leaf, event, *mark, nest, walk),
-            None => self.read_node(&inner, shape, nest, None, walk),
+            Some(event) => self.read_part(&inner, shape, leaf, event, nest, walk),
+            None => {
+                let part = Ask {
+                    path: &inner,
+                    shape,
+                    nest,
+                    taken: None,
+                };
+                self.read_node(&part, walk)
+            }
         }
     }
 }

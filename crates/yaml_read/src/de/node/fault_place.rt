@@ -10,8 +10,9 @@ ghost use Rattle.yaml_read.specs.TreeReader.{Spot};
 ghost use Rattle.yaml_read.specs.inner.Reader.{place_at};
 ghost use Rattle.yaml_read.specs.inner.Walks.{around_of, seen};
 
+use crate::de::node::ask::Ask;
 use crate::de::node::source::Source;
-use crate::de::taken_tag::{TakenBy, is_taken, untaken_name};
+use crate::de::taken_tag::{is_taken, untaken_name};
 use std::alloc::Global;
 use yaml_base::{Mark, Path};
 use yaml_load::DocEvent;
@@ -45,21 +46,19 @@ impl<'s, 'de> Source<'s, 'de> {
     #[inline(never)]
     pub(crate) fn placed_fault(
         &self,
-        path: &Path<'_>,
-        shape: &Shape,
-        taken: Option<&TakenBy<'_>>,
+        ask: &Ask<'_, '_, '_>,
         place: usize,
         refusal: Refusal,
     ) -> Refusal
-        ensures { Fails result (place_at {A = Spot} (way_of path.now) (shape_of shape.now)
-            (is_some (around_of taken.entry))
+        ensures { Fails result (place_at {A = Spot} (way_of ask.now.path.now) (shape_of ask.now.shape.now)
+            (is_some (around_of ask.now.taken))
             (seen self.now.events.now place) (Err refusal)) }
     {
         let Some((event, mark)) = self.event(place) else {
             return refusal;
         };
-        if places(shape, is_taken(taken), event) {
-            return at_place(self.alloc, refusal, *mark, path);
+        if places(ask.shape, is_taken(ask.taken), event) {
+            return at_place(self.alloc, refusal, *mark, ask.path);
         }
         refusal
     }

@@ -24,6 +24,13 @@ pub(crate) struct FieldIndex<'s> {
     by_name: Option<HashMap<&'s str, (usize, ShapeId)>>,
 }
 
+/// What the names of keys are looked up among, and whether names of no field are refused.
+#[derive(Clone, Copy)]
+pub(crate) struct FieldNames<'a, 's> {
+    pub(crate) fields: &'a FieldIndex<'s>,
+    pub(crate) strict: bool,
+}
+
 impl<'s> Model for FieldIndex<'s> {
     ghost use Rattle.std.specs.Prelude.{◌≡◌, ℕ, List, String};
     ghost use Rattle.std.specs.Option.{ForSome};

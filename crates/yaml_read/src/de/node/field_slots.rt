@@ -11,7 +11,7 @@ ghost use Rattle.yaml_read.specs.Fields.{find, is_free, no_slots, field_named};
 ghost use Rattle.yaml_read.specs.inner.Walks.{slots_of, field_view, IsAmong};
 
 use crate::de::node::fault_place::at_place;
-use crate::de::node::field_index::FieldIndex;
+use crate::de::node::field_index::FieldNames;
 use std::alloc::{AllocError, Global};
 use yaml_base::{Cause, Error, Mark, Path, WordList, Words};
 use yaml_scalar::{Refusal, refuse};
@@ -124,17 +124,17 @@ pub(crate) fn missing_field(alloc: Global, name: &str) -> Refusal
 pub(crate) fn field_named(
     alloc: Global,
     path: &Path<'_>,
-    fields: &FieldIndex<'_>,
-    strict: bool,
+    names: &FieldNames<'_, '_>,
     slots: &[Option<Data<'_>>],
     name: &str,
     mark: Mark,
 ) -> Result<Option<(usize, ShapeId)>, Refusal>
-    ensures gives { Gives field_view result (field_named strict (fields_of fields.now) (slots_of slots.now) name.now
+    ensures gives { Gives field_view result (field_named names.now.strict (fields_of names.now.fields.now)
+        (slots_of slots.now) name.now
         (record { mark = mark; path = path_text path.now })) }
-    ensures found { IfOk result (λ key. IfSome key (IsAmong (fields_of fields.now))) }
+    ensures found { IfOk result (λ key. IfSome key (IsAmong (fields_of names.now.fields.now))) }
 {
-    match fields.find(name) {
+    match names.fields.find(name) {
         Some((place, id)) => {
             if is_free(slots, place) {
                 Ok(Some((place, id)))
@@ -143,10 +143,10 @@ pub(crate) fn field_named(
             }
         }
         None => {
-            if !strict {
+            if !names.strict {
                 return Ok(None);
             }
-            let fault = unknown_field(alloc, fields.fields(), name)?;
+            let fault = unknown_field(alloc, names.fields.fields(), name)?;
             Err(at_place(alloc, refuse(alloc, Error::new(fault)), mark, path))
         }
     }

@@ -1,22 +1,22 @@
 //! A mapping whose keys have one shape, and whose values have another.
 
-ghost use Rattle.std.specs.Prelude.{◌≡◌, ℕ, suc, ◌+◌, ◌<◌, ◌≤◌, [], length, map, OnOk, Some};
-ghost use Rattle.std.specs.Option.{is_some};
+ghost use Rattle.std.specs.Prelude.{◌≡◌, ℕ, ◌+◌, ◌<◌, ◌≤◌, [], length, map, OnOk, Some};
 ghost use Rattle.yaml_base.specs.Answer.{Gives};
-ghost use Rattle.yaml_shape.specs.DataView.{data_of, entry_of};
+ghost use Rattle.yaml_shape.specs.DataView.{entry_of};
 ghost use Rattle.yaml_shape.specs.PlainShape.{map_shape};
 ghost use Rattle.yaml_shape.specs.ShapeView.{shape_of};
 ghost use Rattle.yaml_shape.specs.Validity.{NamesWithin};
 ghost use Rattle.yaml_load.specs.DocEventView.{doc_event_of};
 ghost use Rattle.yaml_load.specs.Ends.{GoForward};
-ghost use Rattle.yaml_read.specs.Handing.{depth, reach, parts_depth};
+ghost use Rattle.yaml_read.specs.Handing.{reach, parts_depth};
 ghost use Rattle.yaml_read.specs.Places.{way_of};
-ghost use Rattle.yaml_read.specs.inner.Reader.{shape_step, entry_at, mapping_parts};
-ghost use Rattle.yaml_read.specs.inner.Walks.{around_of, source_of, spot_of, reader_of, seen, MovesOn, Costs};
+ghost use Rattle.yaml_read.specs.inner.Questions.{question_of, Named, GivesShape};
+ghost use Rattle.yaml_read.specs.inner.Reader.{entry_at, mapping_parts};
+ghost use Rattle.yaml_read.specs.inner.Walks.{source_of, spot_of, reader_of, seen, MovesOn, Costs};
 
+use crate::de::node::ask::Ask;
 use crate::de::node::source::Source;
 use crate::de::node::{is_leaf, too_deep};
-use crate::de::taken_tag::TakenBy;
 use crate::walk::Walk;
 use yaml_base::{Mark, Path};
 use yaml_load::DocEvent;
@@ -28,41 +28,32 @@ impl<'s, 'de> Source<'s, 'de> {
     #[cycle(read)]
     pub(crate) fn read_map(
         &self,
-        path: &Path<'_>,
-        shape: &Shape,
+        ask: &Ask<'_, '_, '_>,
         key: ShapeId,
         value: ShapeId,
-        event: &DocEvent<'de>,
-        mark: Mark,
-        nest: u8,
-        taken: Option<&TakenBy<'_>>,
+        event: &(DocEvent<'de>, Mark),
         walk: &mut Walk,
     ) -> Result<Data<'de>>
-        requires here { seen self.now.events.now walk.old.place ≡ Some (doc_event_of event.now, mark) }
+        requires here { seen self.now.events.now walk.old.place ≡ Some (doc_event_of event.now.0, event.now.1) }
         requires within { walk.old.place < length self.now.events.now }
-        requires mapping { shape_of shape.now ≡ map_shape key.0 value.0 }
-        requires named { NamesWithin (length self.now.schema.now) (shape_of shape.now) }
+        requires mapping { (question_of ask.now).shape ≡ map_shape key.0 value.0 }
+        requires named { Named self.now (question_of ask.now) }
         requires forward { GoForward self.now.ends.now }
-        ensures gives { (fuel : ℕ) → depth self.now.schema.now (shape_of shape.now)
-            (is_some (around_of taken.entry)) nest walk.old.left < suc fuel
-            → Gives (λ x. (data_of x, spot_of walk.new)) result
-            (shape_step (source_of self.now) (reader_of fuel self.now) (way_of path.now) (shape_of shape.now) nest
-            (around_of taken.entry)
-            (spot_of walk.old) (seen self.now.events.now walk.old.place)) }
+        ensures gives { GivesShape self.now (question_of ask.now) walk.old walk.new result }
         ensures moves { OnOk result (MovesOn (length self.now.events.now) walk.old walk.new) }
         ensures cost { Costs (length self.now.events.now) walk.old walk.new }
     {
-        let DocEvent::MappingStart(_) = event else {
-            return self.read_simple(path, shape, event, nest, taken, walk);
+        let DocEvent::MappingStart(_) = &event.0 else {
+            return self.read_simple(ask, &event.0, walk);
         };
-        if nest == 0 {
-            return Err(too_deep(self.alloc, mark));
+        if ask.nest == 0 {
+            return Err(too_deep(self.alloc, event.1));
         }
         let key = self.shape(key);
         let value = self.shape(value);
         let room = self.room(walk.place, is_leaf(key) && is_leaf(value)) / 2;
         walk.step();
-        match self.read_entries(path, key, value, room, nest - 1, walk) {
+        match self.read_entries(ask.path, key, value, room, ask.nest - 1, walk) {
             Ok(entries) => Ok(Data::Map(entries)),
             Err(refusal) => Err(refusal),
         }
@@ -99,18 +90,18 @@ impl<'s, 'de> Source<'s, 'de> {
         let value_leaf = is_leaf(value);
         let mut entries = Vec::with_capacity(self.alloc, room)?;
         loop {
-            let Some((event, mark)) = self.event(walk.place) else {
+            let Some(event) = self.event(walk.place) else {
                 return Err(ended(self.alloc));
             };
-            if let DocEvent::MappingEnd = event {
+            if let DocEvent::MappingEnd = &event.0 {
                 walk.step();
                 return Ok(entries);
             }
-            let name = match self.read_part(path, key, key_leaf, event, *mark, nest, walk) {
+            let name = match self.read_part(path, key, key_leaf, event, nest, walk) {
                 Ok(name) => name,
                 Err(refusal) => return Err(refusal),
             };
-            let content = match self.read_value(path, event, value, value_leaf, nest, walk) {
+            let content = match self.read_value(path, &event.0, value, value_leaf, nest, walk) {
                 Ok(content) => content,
                 Err(refusal) => return Err(refusal),
             };

@@ -5,18 +5,18 @@ ghost use Rattle.std.specs.Option.{is_some};
 ghost use Rattle.yaml_base.specs.Answer.{Gives};
 ghost use Rattle.yaml_shape.specs.DataView.{data_of};
 ghost use Rattle.yaml_shape.specs.PlainShape.{option_shape, newtype_shape};
-ghost use Rattle.yaml_shape.specs.ShapeView.{shape_of};
-ghost use Rattle.yaml_shape.specs.Validity.{NamesWithin};
 ghost use Rattle.yaml_load.specs.DocEventView.{doc_event_of};
 ghost use Rattle.yaml_load.specs.Ends.{GoForward};
-ghost use Rattle.yaml_read.specs.Handing.{depth, is_content, untaken_reach, nesting_depth};
+ghost use Rattle.yaml_read.specs.Handing.{is_content, untaken_reach, nesting_depth};
 ghost use Rattle.yaml_read.specs.Places.{way_of};
+ghost use Rattle.yaml_read.specs.inner.Questions.{question_of, Named, GivesShape};
 ghost use Rattle.yaml_read.specs.inner.Reader.{shape_step};
 ghost use Rattle.yaml_read.specs.inner.Walks.{around_of, source_of, spot_of, reader_of, seen, MovesOn, Costs};
 
+use crate::de::node::ask::Ask;
 use crate::de::node::source::Source;
 use crate::de::node::too_deep;
-use crate::de::taken_tag::{TakenBy, is_taken};
+use crate::de::taken_tag::is_taken;
 use crate::walk::Walk;
 use yaml_base::Path;
 use yaml_load::DocEvent;
@@ -40,32 +40,30 @@ impl<'s, 'de> Source<'s, 'de> {
     #[inline(never)]
     pub(crate) fn read_option(
         &self,
-        path: &Path<'_>,
-        shape: &Shape,
+        ask: &Ask<'_, '_, '_>,
         content: ShapeId,
-        nest: u8,
-        taken: Option<&TakenBy<'_>>,
         walk: &mut Walk,
     ) -> Result<Data<'de>>
-        requires option { shape_of shape.now ≡ option_shape content.0 }
-        requires named { NamesWithin (length self.now.schema.now) (shape_of shape.now) }
+        requires option { (question_of ask.now).shape ≡ option_shape content.0 }
+        requires named { Named self.now (question_of ask.now) }
         requires forward { GoForward self.now.ends.now }
-        ensures gives { (fuel : ℕ) → depth self.now.schema.now (shape_of shape.now)
-            (is_some (around_of taken.entry)) nest walk.old.left < suc fuel
-            → Gives (λ x. (data_of x, spot_of walk.new)) result
-            (shape_step (source_of self.now) (reader_of fuel self.now) (way_of path.now) (shape_of shape.now) nest
-            (around_of taken.entry)
-            (spot_of walk.old) (seen self.now.events.now walk.old.place)) }
+        ensures gives { GivesShape self.now (question_of ask.now) walk.old walk.new result }
         ensures moves { OnOk result (MovesOn (length self.now.events.now) walk.old walk.new) }
         ensures cost { Costs (length self.now.events.now) walk.old walk.new }
     {
         let Some((event, _)) = self.event(walk.place) else {
             return Err(ended(self.alloc));
         };
-        if !is_content(event, is_taken(taken)) {
-            return self.read_simple(path, shape, event, nest, taken, walk);
+        if !is_content(event, is_taken(ask.taken)) {
+            return self.read_simple(ask, event, walk);
         }
-        match self.read_node(path, self.shape(content), nest, taken, walk) {
+        let inner = Ask {
+            path: ask.path,
+            shape: self.shape(content),
+            nest: ask.nest,
+            taken: ask.taken,
+        };
+        match self.read_node(&inner, walk) {
             Ok(data) => Ok(Data::Some(Box::new(self.alloc, data)?)),
             Err(refusal) => Err(refusal),
         }
@@ -76,19 +74,17 @@ impl<'s, 'de> Source<'s, 'de> {
     #[inline(never)]
     pub(crate) fn read_newtype(
         &self,
-        path: &Path<'_>,
-        inner: ShapeId,
-        nest: u8,
-        taken: Option<&TakenBy<'_>>,
+        ask: &Ask<'_, '_, '_>,
+        content: ShapeId,
         walk: &mut Walk,
     ) -> Result<Data<'de>>
-        requires named { inner.0 < length self.now.schema.now }
+        requires named { content.0 < length self.now.schema.now }
         requires forward { GoForward self.now.ends.now }
-        ensures gives { (fuel : ℕ) (name : List ℕ) → nesting_depth * (walk.old.left + nest) + untaken_reach
-            (is_some (around_of taken.entry)) < suc fuel
+        ensures gives { (fuel : ℕ) (name : List ℕ) → nesting_depth * (walk.old.left + ask.now.nest) + untaken_reach
+            (is_some (around_of ask.now.taken)) < suc fuel
             → Gives (λ x. (data_of x, spot_of walk.new)) result
-            (shape_step (source_of self.now) (reader_of fuel self.now) (way_of path.now)
-            (newtype_shape name inner.0) nest (around_of taken.entry)
+            (shape_step (source_of self.now) (reader_of fuel self.now) (way_of ask.now.path.now)
+            (newtype_shape name content.0) ask.now.nest (around_of ask.now.taken)
             (spot_of walk.old) (seen self.now.events.now walk.old.place)) }
         ensures moves { OnOk result (MovesOn (length self.now.events.now) walk.old walk.new) }
         ensures cost { Costs (length self.now.events.now) walk.old walk.new }
@@ -96,10 +92,16 @@ impl<'s, 'de> Source<'s, 'de> {
         let Some((_, mark)) = self.event(walk.place) else {
             return Err(ended(self.alloc));
         };
-        if nest == 0 {
+        if ask.nest == 0 {
             return Err(too_deep(self.alloc, *mark));
         }
-        match self.read_node(path, self.shape(inner), nest - 1, taken, walk) {
+        let inner = Ask {
+            path: ask.path,
+            shape: self.shape(content),
+            nest: ask.nest - 1,
+            taken: ask.taken,
+        };
+        match self.read_node(&inner, walk) {
             Ok(data) => Ok(Data::Newtype(Box::new(self.alloc, data)?)),
             Err(refusal) => Err(refusal),
         }

@@ -1,7 +1,6 @@
 //! A sequence whose elements have one shape.
 
-ghost use Rattle.std.specs.Prelude.{◌≡◌, ℕ, suc, ◌+◌, ◌<◌, ◌≤◌, [], length, map, OnOk, Some, false};
-ghost use Rattle.std.specs.Option.{is_some};
+ghost use Rattle.std.specs.Prelude.{◌≡◌, ℕ, ◌+◌, ◌<◌, ◌≤◌, [], length, map, OnOk, Some};
 ghost use Rattle.yaml_base.specs.Answer.{Gives};
 ghost use Rattle.yaml_shape.specs.DataView.{data_of};
 ghost use Rattle.yaml_shape.specs.PlainShape.{seq_shape};
@@ -9,19 +8,19 @@ ghost use Rattle.yaml_shape.specs.ShapeView.{shape_of};
 ghost use Rattle.yaml_shape.specs.Validity.{NamesWithin};
 ghost use Rattle.yaml_load.specs.DocEventView.{doc_event_of};
 ghost use Rattle.yaml_load.specs.Ends.{GoForward};
-ghost use Rattle.yaml_read.specs.Handing.{depth, reach, parts_depth};
+ghost use Rattle.yaml_read.specs.Handing.{reach, parts_depth};
 ghost use Rattle.yaml_read.specs.Places.{way_of};
-ghost use Rattle.yaml_read.specs.inner.Reader.{shape_step, item_at, sequence_parts, is_leaf};
-ghost use Rattle.yaml_read.specs.inner.Walks.{around_of, source_of, spot_of, reader_of, seen, MovesOn, Costs};
+ghost use Rattle.yaml_read.specs.inner.Questions.{question_of, Named, GivesShape};
+ghost use Rattle.yaml_read.specs.inner.Reader.{item_at, sequence_parts, is_leaf};
+ghost use Rattle.yaml_read.specs.inner.Walks.{source_of, spot_of, reader_of, seen, MovesOn, Costs};
 
-use crate::de::node::fault_place::at_place;
+use crate::de::node::ask::Ask;
 use crate::de::node::source::Source;
 use crate::de::node::{is_leaf, too_deep};
-use crate::de::taken_tag::TakenBy;
 use crate::walk::Walk;
 use yaml_base::{Mark, Path};
 use yaml_load::DocEvent;
-use yaml_scalar::{Result, ended, read_scalar};
+use yaml_scalar::{Result, ended};
 use yaml_shape::{Data, Shape, ShapeId};
 
 impl<'s, 'de> Source<'s, 'de> {
@@ -29,39 +28,30 @@ impl<'s, 'de> Source<'s, 'de> {
     #[cycle(read)]
     pub(crate) fn read_seq(
         &self,
-        path: &Path<'_>,
-        shape: &Shape,
+        ask: &Ask<'_, '_, '_>,
         element: ShapeId,
-        event: &DocEvent<'de>,
-        mark: Mark,
-        nest: u8,
-        taken: Option<&TakenBy<'_>>,
+        event: &(DocEvent<'de>, Mark),
         walk: &mut Walk,
     ) -> Result<Data<'de>>
-        requires here { seen self.now.events.now walk.old.place ≡ Some (doc_event_of event.now, mark) }
+        requires here { seen self.now.events.now walk.old.place ≡ Some (doc_event_of event.now.0, event.now.1) }
         requires within { walk.old.place < length self.now.events.now }
-        requires seq { shape_of shape.now ≡ seq_shape element.0 }
-        requires named { NamesWithin (length self.now.schema.now) (shape_of shape.now) }
+        requires seq { (question_of ask.now).shape ≡ seq_shape element.0 }
+        requires named { Named self.now (question_of ask.now) }
         requires forward { GoForward self.now.ends.now }
-        ensures gives { (fuel : ℕ) → depth self.now.schema.now (shape_of shape.now)
-            (is_some (around_of taken.entry)) nest walk.old.left < suc fuel
-            → Gives (λ x. (data_of x, spot_of walk.new)) result
-            (shape_step (source_of self.now) (reader_of fuel self.now) (way_of path.now) (shape_of shape.now) nest
-            (around_of taken.entry)
-            (spot_of walk.old) (seen self.now.events.now walk.old.place)) }
+        ensures gives { GivesShape self.now (question_of ask.now) walk.old walk.new result }
         ensures moves { OnOk result (MovesOn (length self.now.events.now) walk.old walk.new) }
         ensures cost { Costs (length self.now.events.now) walk.old walk.new }
     {
-        let DocEvent::SequenceStart(_) = event else {
-            return self.read_simple(path, shape, event, nest, taken, walk);
+        let DocEvent::SequenceStart(_) = &event.0 else {
+            return self.read_simple(ask, &event.0, walk);
         };
-        if nest == 0 {
-            return Err(too_deep(self.alloc, mark));
+        if ask.nest == 0 {
+            return Err(too_deep(self.alloc, event.1));
         }
         let element = self.shape(element);
         let room = self.room(walk.place, is_leaf(element));
         walk.step();
-        match self.read_items(path, element, room, nest - 1, walk) {
+        match self.read_items(ask.path, element, room, ask.nest - 1, walk) {
             Ok(items) => Ok(Data::Seq(items)),
             Err(refusal) => Err(refusal),
         }
@@ -93,10 +83,10 @@ impl<'s, 'de> Source<'s, 'de> {
         let leaf = is_leaf(element);
         let mut items = Vec::with_capacity(self.alloc, room)?;
         loop {
-            let Some((event, mark)) = self.event(walk.place) else {
+            let Some(event) = self.event(walk.place) else {
                 return Err(ended(self.alloc));
             };
-            if let DocEvent::SequenceEnd = event {
+            if let DocEvent::SequenceEnd = &event.0 {
                 walk.step();
                 return Ok(items);
             }
@@ -105,7 +95,7 @@ impl<'s, 'de> Source<'s, 'de> {
                 parent: &*path,
                 index: count,
             };
-            match self.read_part(&inner, element, leaf, event, *mark, nest, walk) {
+            match self.read_part(&inner, element, leaf, event, nest, walk) {
                 Ok(item) => items.push(item)?,
                 Err(refusal) => return Err(refusal),
             }

@@ -1,28 +1,28 @@
 //! A struct: a mapping from names of fields to their values.
 
-ghost use Rattle.std.specs.Prelude.{◌≡◌, ℕ, suc, ◌+◌, ◌*◌, ◌<◌, ◌≤◌, length, All, OnOk, IfOk, IfSome, Some, Ok};
-ghost use Rattle.std.specs.Option.{is_some, option_map};
+ghost use Rattle.std.specs.Prelude.{◌≡◌, ℕ, ◌+◌, ◌*◌, ◌<◌, ◌≤◌, length, All, OnOk, IfOk, IfSome, Some, Ok};
+ghost use Rattle.std.specs.Option.{option_map};
 ghost use Rattle.yaml_base.specs.Answer.{Gives};
 ghost use Rattle.yaml_shape.specs.DataView.{data_of};
-ghost use Rattle.yaml_shape.specs.ShapeView.{shape_of, field_of, fields_of};
-ghost use Rattle.yaml_shape.specs.TextView.{text_bytes};
-ghost use Rattle.yaml_shape.specs.Validity.{NamesWithin, numbers_of};
+ghost use Rattle.yaml_shape.specs.ShapeView.{field_of, fields_of};
+ghost use Rattle.yaml_shape.specs.Validity.{numbers_of};
 ghost use Rattle.yaml_load.specs.DocEventView.{doc_event_of};
 ghost use Rattle.yaml_load.specs.Ends.{GoForward};
 ghost use Rattle.yaml_read.specs.Fields.{name_in, no_slots, struct_of, field_data};
-ghost use Rattle.yaml_read.specs.Handing.{depth, is_bare, nesting_depth, parts_depth, tag_depth};
+ghost use Rattle.yaml_read.specs.Handing.{is_bare, nesting_depth, parts_depth, tag_depth};
 ghost use Rattle.yaml_read.specs.Places.{way_of};
 ghost use Rattle.yaml_read.specs.TreeReader.{mark_or_first};
-ghost use Rattle.yaml_read.specs.inner.Reader.{shape_step, field_at, field_key_at, mapping_parts, value_way, text_at};
+ghost use Rattle.yaml_read.specs.inner.Reader.{field_at, field_key_at, mapping_parts, value_way, text_at};
+ghost use Rattle.yaml_read.specs.inner.Questions.{question_of, Named, GivesShape};
 ghost use Rattle.yaml_read.specs.inner.Reader.{fields_in};
-ghost use Rattle.yaml_read.specs.inner.Walks.{around_of, source_of, spot_of, reader_of, seen, slots_of, field_view};
+ghost use Rattle.yaml_read.specs.inner.Walks.{source_of, spot_of, reader_of, seen, slots_of, field_view};
 ghost use Rattle.yaml_read.specs.inner.Walks.{IsAmong, MovesOn, Costs};
 
-use crate::de::node::field_index::FieldIndex;
+use crate::de::node::ask::Ask;
+use crate::de::node::field_index::{FieldIndex, FieldNames};
 use crate::de::node::field_slots::{field_named, missing_field, no_slots, put};
 use crate::de::node::source::Source;
 use crate::de::node::{is_leaf, too_deep};
-use crate::de::taken_tag::TakenBy;
 use crate::walk::Walk;
 use yaml_base::{Mark, Path};
 use yaml_load::DocEvent;
@@ -55,24 +55,16 @@ impl<'s, 'de> Source<'s, 'de> {
     #[cycle(read)]
     pub(crate) fn read_struct(
         &self,
-        path: &Path<'_>,
-        shape: &Shape,
+        ask: &Ask<'_, '_, '_>,
         fields: &[(String, ShapeId)],
         strict: bool,
-        nest: u8,
-        taken: Option<&TakenBy<'_>>,
         walk: &mut Walk,
     ) -> Result<Data<'de>>
-        requires struct_of { fields_in (shape_of shape.now) ≡ Some (strict, fields_of fields.now) }
-        requires named { NamesWithin (length self.now.schema.now) (shape_of shape.now) }
+        requires struct_of { fields_in (question_of ask.now).shape ≡ Some (strict, fields_of fields.now) }
+        requires named { Named self.now (question_of ask.now) }
         requires named_fields { All (λ id. id < length self.now.schema.now) (numbers_of (fields_of fields.now)) }
         requires forward { GoForward self.now.ends.now }
-        ensures gives { (fuel : ℕ) → depth self.now.schema.now (shape_of shape.now)
-            (is_some (around_of taken.entry)) nest walk.old.left < suc fuel
-            → Gives (λ x. (data_of x, spot_of walk.new)) result
-            (shape_step (source_of self.now) (reader_of fuel self.now) (way_of path.now) (shape_of shape.now) nest
-            (around_of taken.entry)
-            (spot_of walk.old) (seen self.now.events.now walk.old.place)) }
+        ensures gives { GivesShape self.now (question_of ask.now) walk.old walk.new result }
         ensures moves { OnOk result (MovesOn (length self.now.events.now) walk.old walk.new) }
         ensures cost { Costs (length self.now.events.now) walk.old walk.new }
     {
@@ -84,14 +76,18 @@ impl<'s, 'de> Source<'s, 'de> {
             return self.bare_struct(fields);
         }
         let DocEvent::MappingStart(_) = event else {
-            return self.read_simple(path, shape, event, nest, taken, walk);
+            return self.read_simple(ask, event, walk);
         };
-        if nest == 0 {
+        if ask.nest == 0 {
             return Err(too_deep(self.alloc, *mark));
         }
         let index = FieldIndex::new(self.alloc, fields)?;
+        let names = FieldNames {
+            fields: &index,
+            strict,
+        };
         walk.step();
-        match self.read_fields(path, &index, strict, nest - 1, walk) {
+        match self.read_fields(ask.path, &names, ask.nest - 1, walk) {
             Ok(slots) => self.finish_struct(fields, slots),
             Err(refusal) => Err(refusal),
         }
@@ -102,34 +98,33 @@ impl<'s, 'de> Source<'s, 'de> {
     pub(crate) fn read_fields(
         &self,
         path: &Path<'_>,
-        fields: &FieldIndex<'_>,
-        strict: bool,
+        names: &FieldNames<'_, '_>,
         nest: u8,
         walk: &mut Walk,
     ) -> Result<Vec<Option<Data<'de>>>>
         requires within { walk.old.place ≤ length self.now.events.now }
-        requires named { All (λ id. id < length self.now.schema.now) (numbers_of (fields_of fields.now)) }
+        requires named { All (λ id. id < length self.now.schema.now) (numbers_of (fields_of names.now.fields.now)) }
         requires forward { GoForward self.now.ends.now }
         ensures gives { (fuel turns : ℕ) → parts_depth nest walk.old.left < fuel
             → length self.now.events.now < turns + walk.old.place
             → Gives (λ x. (slots_of x.items, spot_of walk.new)) result
             (mapping_parts (source_of self.now)
-            (field_at (source_of self.now) (reader_of fuel self.now) (way_of path.now) strict
-            (fields_of fields.now) nest)
-            turns (no_slots (fields_of fields.now)) (spot_of walk.old)) }
+            (field_at (source_of self.now) (reader_of fuel self.now) (way_of path.now) names.now.strict
+            (fields_of names.now.fields.now) nest)
+            turns (no_slots (fields_of names.now.fields.now)) (spot_of walk.old)) }
         ensures moves { OnOk result (MovesOn (length self.now.events.now) walk.old walk.new) }
         ensures cost { Costs (length self.now.events.now) walk.old walk.new }
     {
-        let mut slots = no_slots(self.alloc, fields.fields())?;
+        let mut slots = no_slots(self.alloc, names.fields.fields())?;
         loop {
-            let Some((event, mark)) = self.event(walk.place) else {
+            let Some(event) = self.event(walk.place) else {
                 return Err(ended(self.alloc));
             };
-            if let DocEvent::MappingEnd = event {
+            if let DocEvent::MappingEnd = &event.0 {
                 walk.step();
                 return Ok(slots);
             }
-            match self.read_field(path, fields, strict, &mut slots, event, *mark, nest, walk) {
+            match self.read_field(path, names, &mut slots, event, nest, walk) {
                 Ok(()) => {}
                 Err(refusal) => return Err(refusal),
             }
@@ -141,29 +136,27 @@ impl<'s, 'de> Source<'s, 'de> {
     pub(crate) fn read_field(
         &self,
         path: &Path<'_>,
-        fields: &FieldIndex<'_>,
-        strict: bool,
+        names: &FieldNames<'_, '_>,
         slots: &mut Vec<Option<Data<'de>>>,
-        event: &DocEvent<'de>,
-        mark: Mark,
+        event: &(DocEvent<'de>, Mark),
         nest: u8,
         walk: &mut Walk,
     ) -> Result<()>
-        requires here { seen self.now.events.now walk.old.place ≡ Some (doc_event_of event.now, mark) }
+        requires here { seen self.now.events.now walk.old.place ≡ Some (doc_event_of event.now.0, event.now.1) }
         requires within { walk.old.place < length self.now.events.now }
-        requires wide { length slots.old.items ≡ length fields.now }
-        requires named { All (λ id. id < length self.now.schema.now) (numbers_of (fields_of fields.now)) }
+        requires wide { length slots.old.items ≡ length names.now.fields.now }
+        requires named { All (λ id. id < length self.now.schema.now) (numbers_of (fields_of names.now.fields.now)) }
         requires forward { GoForward self.now.ends.now }
         ensures gives { (fuel : ℕ) → parts_depth nest walk.old.left < fuel
             → Gives (λ _. (slots_of slots.new.items, spot_of walk.new)) result
-            (field_at (source_of self.now) (reader_of fuel self.now) (way_of path.now) strict
-            (fields_of fields.now) nest
+            (field_at (source_of self.now) (reader_of fuel self.now) (way_of path.now) names.now.strict
+            (fields_of names.now.fields.now) nest
             (slots_of slots.old.items) (spot_of walk.old)) }
-        ensures wide { OnOk result (length slots.new.items ≡ length fields.now) }
+        ensures wide { OnOk result (length slots.new.items ≡ length names.now.fields.now) }
         ensures moves { OnOk result (MovesOn (length self.now.events.now) walk.old walk.new) }
         ensures cost { Costs (length self.now.events.now) walk.old walk.new }
     {
-        let key = match self.read_name(path, fields, strict, &*slots, event, mark, nest, walk) {
+        let key = match self.read_name(path, names, &*slots, event, nest, walk) {
             Ok(key) => key,
             Err(refusal) => return Err(refusal),
         };
@@ -171,7 +164,7 @@ impl<'s, 'de> Source<'s, 'de> {
             return self.pass_over(walk);
         };
         let shape = self.shape(id);
-        match self.read_value(path, event, shape, is_leaf(shape), nest, walk) {
+        match self.read_value(path, &event.0, shape, is_leaf(shape), nest, walk) {
             Ok(data) => {
                 put(slots, place, data);
                 Ok(())
@@ -185,15 +178,13 @@ impl<'s, 'de> Source<'s, 'de> {
     pub(crate) fn read_name(
         &self,
         path: &Path<'_>,
-        fields: &FieldIndex<'_>,
-        strict: bool,
+        names: &FieldNames<'_, '_>,
         slots: &[Option<Data<'de>>],
-        event: &DocEvent<'de>,
-        mark: Mark,
+        event: &(DocEvent<'de>, Mark),
         nest: u8,
         walk: &mut Walk,
     ) -> Result<Option<(usize, ShapeId)>>
-        requires here { seen self.now.events.now walk.old.place ≡ Some (doc_event_of event.now, mark) }
+        requires here { seen self.now.events.now walk.old.place ≡ Some (doc_event_of event.now.0, event.now.1) }
         requires within { walk.old.place < length self.now.events.now }
         requires forward { GoForward self.now.ends.now }
         ensures gives { (fuel : ℕ) → nesting_depth * (walk.old.left + nest) + tag_depth < fuel
@@ -201,25 +192,31 @@ impl<'s, 'de> Source<'s, 'de> {
               (field_view x, value_way (way_of path.now) (seen self.now.events.now walk.old.place)),
               spot_of walk.new,
             )) result
-            (field_key_at (source_of self.now) (reader_of fuel self.now) (way_of path.now) strict
-            (fields_of fields.now) nest
+            (field_key_at (source_of self.now) (reader_of fuel self.now) (way_of path.now) names.now.strict
+            (fields_of names.now.fields.now) nest
             (slots_of slots.now) (spot_of walk.old)) }
-        ensures found { IfOk result (λ key. IfSome key (IsAmong (fields_of fields.now))) }
+        ensures found { IfOk result (λ key. IfSome key (IsAmong (fields_of names.now.fields.now))) }
         ensures moves { OnOk result (MovesOn (length self.now.events.now) walk.old walk.new) }
         ensures cost { Costs (length self.now.events.now) walk.old walk.new }
     {
-        if let DocEvent::Scalar(scalar) = event {
+        if let DocEvent::Scalar(scalar) = &event.0 {
             if let Some(name) = text_of(scalar) {
                 walk.step();
-                return field_named(self.alloc, path, fields, strict, slots, name, mark);
+                return field_named(self.alloc, path, names, slots, name, event.1);
             }
         }
-        let key = match self.read_node(path, &Shape::Identifier, nest, None, walk) {
+        let ask = Ask {
+            path: &*path,
+            shape: &Shape::Identifier,
+            nest,
+            taken: None,
+        };
+        let key = match self.read_node(&ask, walk) {
             Ok(key) => key,
             Err(refusal) => return Err(refusal),
         };
-        let at = self.text_mark(event, mark);
-        field_named(self.alloc, path, fields, strict, slots, name_in(&key), at)
+        let at = self.text_mark(&event.0, event.1);
+        field_named(self.alloc, path, names, slots, name_in(&key), at)
     }
 
     // The mark of the scalar whose text a key is: an alias leads to its target.

@@ -1,50 +1,41 @@
 //! A tuple, or a tuple struct: as many elements as there are shapes.
 
-ghost use Rattle.std.specs.Prelude.{◌≡◌, ℕ, suc, ◌+◌, ◌<◌, ◌≤◌, length, All, OnOk, IfOk};
-ghost use Rattle.std.specs.Option.{is_some, option_copied};
+ghost use Rattle.std.specs.Prelude.{◌≡◌, ℕ, ◌+◌, ◌<◌, ◌≤◌, length, All, OnOk, IfOk};
+ghost use Rattle.std.specs.Option.{option_copied};
 ghost use Rattle.yaml_base.specs.Answer.{Gives};
-ghost use Rattle.yaml_shape.specs.DataView.{data_of};
-ghost use Rattle.yaml_shape.specs.ShapeView.{shape_of, ids_of};
-ghost use Rattle.yaml_shape.specs.Validity.{NamesWithin};
+ghost use Rattle.yaml_shape.specs.ShapeView.{ids_of};
 ghost use Rattle.yaml_load.specs.Ends.{GoForward};
-ghost use Rattle.yaml_read.specs.Handing.{depth, parts_depth};
+ghost use Rattle.yaml_read.specs.Handing.{parts_depth};
 ghost use Rattle.yaml_read.specs.Places.{way_of};
 ghost use Rattle.yaml_read.specs.Rows.{row_of};
-ghost use Rattle.yaml_read.specs.inner.Reader.{shape_step, row_at, sequence_parts, row_shape};
-ghost use Rattle.yaml_read.specs.inner.Walks.{around_of, source_of, spot_of, reader_of, seen, row_view, MovesOn, Costs};
+ghost use Rattle.yaml_read.specs.inner.Questions.{question_of, Named, GivesShape};
+ghost use Rattle.yaml_read.specs.inner.Reader.{row_at, sequence_parts, row_shape};
+ghost use Rattle.yaml_read.specs.inner.Walks.{source_of, spot_of, reader_of, row_view, MovesOn, Costs};
 
+use crate::de::node::ask::Ask;
 use crate::de::node::source::Source;
 use crate::de::node::too_deep;
 use crate::de::node::tuple_length::{Elements, Owner, finish, item_here};
-use crate::de::taken_tag::TakenBy;
 use crate::walk::Walk;
 use yaml_base::Path;
 use yaml_load::DocEvent;
 use yaml_scalar::{Result, ended};
-use yaml_shape::{Data, Shape, ShapeId};
+use yaml_shape::{Data, ShapeId};
 
 impl<'s, 'de> Source<'s, 'de> {
     /// A tuple, or the tuple struct of a name.
     #[cycle(read)]
     pub(crate) fn read_tuple(
         &self,
-        path: &Path<'_>,
-        shape: &Shape,
+        ask: &Ask<'_, '_, '_>,
         name: Option<&str>,
         items: &[ShapeId],
-        nest: u8,
-        taken: Option<&TakenBy<'_>>,
         walk: &mut Walk,
     ) -> Result<Data<'de>>
-        requires tuple { shape_of shape.now ≡ row_shape (option_copied name) (ids_of items.now) }
-        requires named { NamesWithin (length self.now.schema.now) (shape_of shape.now) }
+        requires tuple { (question_of ask.now).shape ≡ row_shape (option_copied name) (ids_of items.now) }
+        requires named { Named self.now (question_of ask.now) }
         requires forward { GoForward self.now.ends.now }
-        ensures gives { (fuel : ℕ) → depth self.now.schema.now (shape_of shape.now)
-            (is_some (around_of taken.entry)) nest walk.old.left < suc fuel
-            → Gives (λ x. (data_of x, spot_of walk.new)) result
-            (shape_step (source_of self.now) (reader_of fuel self.now) (way_of path.now) (shape_of shape.now) nest
-            (around_of taken.entry)
-            (spot_of walk.old) (seen self.now.events.now walk.old.place)) }
+        ensures gives { GivesShape self.now (question_of ask.now) walk.old walk.new result }
         ensures moves { OnOk result (MovesOn (length self.now.events.now) walk.old walk.new) }
         ensures cost { Costs (length self.now.events.now) walk.old walk.new }
     {
@@ -52,13 +43,13 @@ impl<'s, 'de> Source<'s, 'de> {
             return Err(ended(self.alloc));
         };
         let DocEvent::SequenceStart(_) = event else {
-            return self.read_simple(path, shape, event, nest, taken, walk);
+            return self.read_simple(ask, event, walk);
         };
-        if nest == 0 {
+        if ask.nest == 0 {
             return Err(too_deep(self.alloc, *mark));
         }
         walk.step();
-        match self.read_elements(path, items, nest - 1, walk) {
+        match self.read_elements(ask.path, items, ask.nest - 1, walk) {
             Ok(elements) => finish(self.alloc, Owner::named(name), items, elements),
             Err(refusal) => Err(refusal),
         }
@@ -109,7 +100,13 @@ impl<'s, 'de> Source<'s, 'de> {
                 parent: &*path,
                 index: count,
             };
-            match self.read_node(&inner, self.shape(id), nest, None, walk) {
+            let element = Ask {
+                path: &inner,
+                shape: self.shape(id),
+                nest,
+                taken: None,
+            };
+            match self.read_node(&element, walk) {
                 Ok(item) => read.push(item)?,
                 Err(refusal) => return Err(refusal),
             }

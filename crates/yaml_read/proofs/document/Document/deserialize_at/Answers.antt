@@ -27,7 +27,7 @@ returns-in-Ok-clause-read c = λ s there.
     (node_data c.args.schema.now (shape_of c.shape.result.now) c.args.self.now (way_of c.args.path.now) c.args.at.now
     c.optionals_end.ensures.small c.optionals_end.ensures.falls c.shape.ensures.small _ _ _
     (seen_node c.args.schema.now (shape_of c.shape.result.now) c.args.self.now (way_of c.args.path.now) c.args.at.now
-    c.events.result.now c.ends.result.now _ _ c.taker-taken.ensures c.shape.ensures.small c.events.ensures.shown
+    c.events.result.now c.ends.result.now _ _ c.taker.ensures c.shape.ensures.small c.events.ensures.shown
     c.ends.ensures c.in-Ok.ensures.gives) refl refl refl refl)
 
 pub returns-in-None-clause-read : goal.returns-in-None-clause-read
@@ -37,5 +37,5 @@ returns-in-None-clause-read c = λ s there. rw c.into_error.ensures (λ known.
     (node_fault c.args.schema.now (shape_of c.shape.result.now) c.args.self.now (way_of c.args.path.now) c.args.at.now
     c.optionals_end.ensures.small c.optionals_end.ensures.falls c.shape.ensures.small c.in-Err.refusal c.args.at.now
     (λ root is. seen_node c.args.schema.now (shape_of c.shape.result.now) c.args.self.now (way_of c.args.path.now)
-    c.args.at.now c.events.result.now c.ends.result.now _ _ c.taker-taken.ensures c.shape.ensures.small
+    c.args.at.now c.events.result.now c.ends.result.now _ _ c.taker.ensures c.shape.ensures.small
     c.events.ensures.shown c.ends.ensures (λ fuel lt. c.in-Err.ensures.gives fuel lt known))))

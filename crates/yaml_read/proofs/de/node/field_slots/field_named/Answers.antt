@@ -7,5 +7,5 @@ use Rattle.yaml_read.proofs.de.node.field_slots.field_named.Goals as goal
 
 pub returns-then-is_free-clause-found : goal.returns-then-is_free-clause-found
 returns-then-is_free-clause-found c =
-    find_within (fields_of c.args.fields.now) c.args.name.now c.in-Some.place c.in-Some.id.0
+    find_within (fields_of c.args.names.now.fields.now) c.args.name.now c.in-Some.place c.in-Some.id.0
     (sym c.find.ensures ∙ ap field_view c.in-Some.is)

@@ -254,11 +254,11 @@ read_any-read_any_tagged-requires = AnyValues.read_any-read_any_tagged-requires
 pub read_any-returns-in-Some-untaken_name-clause-gives : goal.read_any-returns-in-Some-untaken_name-clause-gives
 read_any-returns-in-Some-untaken_name-clause-gives = AnyValues.read_any-returns-in-Some-untaken_name-clause-gives
 
-pub read_any-returns-in-SequenceStart-clause-gives : goal.read_any-returns-in-SequenceStart-clause-gives
-read_any-returns-in-SequenceStart-clause-gives = AnyValues.read_any-returns-in-SequenceStart-clause-gives
+pub read_any-returns-else-ask-eq0-clause-gives : goal.read_any-returns-else-ask-eq0-clause-gives
+read_any-returns-else-ask-eq0-clause-gives = AnyValues.read_any-returns-else-ask-eq0-clause-gives
 
-pub read_any-returns-in-MappingStart-clause-gives : goal.read_any-returns-in-MappingStart-clause-gives
-read_any-returns-in-MappingStart-clause-gives = AnyValues.read_any-returns-in-MappingStart-clause-gives
+pub read_any-returns-else-ask-eq0-2-clause-gives : goal.read_any-returns-else-ask-eq0-2-clause-gives
+read_any-returns-else-ask-eq0-2-clause-gives = AnyValues.read_any-returns-else-ask-eq0-2-clause-gives
 
 pub read_any-returns-in_default-event : goal.read_any-returns-in_default-event
 read_any-returns-in_default-event = AnyValues.read_any-returns-in_default-event

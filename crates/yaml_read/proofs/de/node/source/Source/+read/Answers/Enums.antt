@@ -1,7 +1,6 @@
 -- What the reader gives at each exit: enums.
-use Rattle.std.proofs.Common.{Ok, Err, Some, ◌≡◌, ◌-◌, ◌<◌, length, true, false, sym, ap, ◌∙◌, arith, rules, refl}
+use Rattle.std.proofs.Common.{Ok, Some, ◌≡◌, ◌-◌, ◌<◌, length, true, false, sym, ap, ◌∙◌, arith, rules, refl}
 use Rattle.std.specs.Option.{is_some, option_copied}
-use Rattle.yaml_base.specs.Answer.{is_memory}
 use Rattle.yaml_shape.specs.DataView.{data_of}
 use Rattle.yaml_shape.specs.PlainData.{variant_data}
 use Rattle.yaml_shape.specs.PlainShape.{tuple_variant_shape, struct_variant_shape}
@@ -13,39 +12,37 @@ use Rattle.yaml_scalar.specs.Variants.{variant_named}
 use Rattle.yaml_scalar.proofs.VariantCode.{content_all}
 use Rattle.yaml_read.specs.Handing.{reach, untaken_reach, tag_depth}
 use Rattle.yaml_read.specs.NodeTags.{untaken_name}
-use Rattle.yaml_read.specs.Places.{way_of, place}
-use Rattle.yaml_read.specs.inner.Walks.{around_of, plain_around, source_of, spot_of, reader_of}
-use Rattle.yaml_read.proofs.reading.ContentExits.{enum_content, enum_plain, enum_taken, node_placed}
+use Rattle.yaml_read.specs.inner.Walks.{around_of, plain_around, spot_of}
+use Rattle.yaml_read.specs.inner.Questions.{question_of, taken_as}
+use Rattle.yaml_read.proofs.reading.ContentExits.{enum_content, enum_plain, enum_taken}
 use Rattle.yaml_read.proofs.reading.Loops.{wrap_fails, wrap_finds}
-use Rattle.yaml_read.proofs.reading.PlaceLaws.{filled_memory}
+use Rattle.yaml_read.proofs.reading.PlaceLaws.{node_read, node_refused_here}
 use Rattle.yaml_read.proofs.de.node.source.Source.+read.Goals as goal
 
 pub read_enum-returns-then-is_filled_scalar-clause-gives : goal.read_enum-returns-then-is_filled_scalar-clause-gives
 read_enum-returns-then-is_filled_scalar-clause-gives t c = λ fuel lt.
-    rw (enum_taken (source_of c.args.self.now) (reader_of fuel c.args.self.now) (way_of c.args.path.now)
-    (shape_of c.args.shape.now) c.args.nest (around_of c.args.taken) (spot_of c.args.walk.now) c.args.name.now
+    rw (enum_taken c.args.self.now fuel (question_of c.args.ask.now) c.args.walk.now c.args.name.now
     (variants_of c.args.variants.now) (plain_around c.in-Some-taken.around.now) _ _ c.requires.1.1.0
     (ap around_of c.in-Some-taken.is) c.in-Some.ensures.found
     (sym c.is_filled_scalar.ensures ∙ c.if-is_filled_scalar.true)) (c.read_simple.ensures.gives fuel _ lt)
 
 pub read_enum-returns-in_default-untaken_name-clause-gives : goal.read_enum-returns-in_default-untaken_name-clause-gives
 read_enum-returns-in_default-untaken_name-clause-gives t c = λ fuel lt.
-    rw (enum_plain (source_of c.args.self.now) (reader_of fuel c.args.self.now) (way_of c.args.path.now)
-    (shape_of c.args.shape.now) c.args.nest (around_of c.args.taken) (spot_of c.args.walk.now) c.args.name.now
+    rw (enum_plain c.args.self.now fuel (question_of c.args.ask.now) c.args.walk.now c.args.name.now
     (variants_of c.args.variants.now) _ _ c.requires.1.1.0 (ap around_of c.in_default-taken.is)
     c.in-Some.ensures.found (sym c.untaken_name.ensures ∙ ap option_copied c.in_default-untaken_name.is))
     (c.read_simple-in_default-untaken_name.ensures.gives fuel _ lt)
 
 pub read_enum-read_content-requires : goal.read_enum-read_content-requires
 read_enum-read_content-requires t c =
-    let tag : untaken_name false (doc_event_of c.in-Some.field-0.now.0) ≡ Some c.in-Some-untaken_name.tag.now =
+    let tag : untaken_name false (doc_event_of c.in-Some.event.now.0) ≡ Some c.in-Some-untaken_name.tag.now =
     sym c.untaken_name.ensures ∙ ap option_copied c.in-Some-untaken_name.is in
     let found : variant_named (variants_of c.args.variants.now) c.in-Some-untaken_name.tag.now
     ≡ Some (c.in-Some-variant_named.place, content_of c.in-Some-variant_named.content.now) =
     sym c.variant_named.ensures ∙ ap variant_view c.in-Some-variant_named.is in
-    let left : untaken_reach (is_some (around_of c.args.taken)) ≡ tag_depth =
+    let left : untaken_reach (is_some (around_of c.args.ask.now.taken)) ≡ tag_depth =
     ap (λ o. untaken_reach (is_some (around_of o))) c.in_default-taken.is in
-    let flat : reach c.args.self.now.schema.now (shape_of c.args.shape.now) ≡ 0 =
+    let flat : reach c.args.self.now.schema.now (shape_of c.args.ask.now.shape.now) ≡ 0 =
     ap (reach c.args.self.now.schema.now) c.requires.1.1.0 in (
       omega (arith, left, flat),
       (
@@ -67,20 +64,19 @@ read_enum-read_content-requires t c =
 
 pub read_enum-returns-in_ok-new-in-Ok-clause-gives : goal.read_enum-returns-in_ok-new-in-Ok-clause-gives
 read_enum-returns-in_ok-new-in-Ok-clause-gives t c = λ fuel lt.
-    let tag : untaken_name false (doc_event_of c.in-Some.field-0.now.0) ≡ Some c.in-Some-untaken_name.tag.now =
+    let tag : untaken_name false (doc_event_of c.in-Some.event.now.0) ≡ Some c.in-Some-untaken_name.tag.now =
     sym c.untaken_name.ensures ∙ ap option_copied c.in-Some-untaken_name.is in
     let found : variant_named (variants_of c.args.variants.now) c.in-Some-untaken_name.tag.now
     ≡ Some (c.in-Some-variant_named.place, content_of c.in-Some-variant_named.content.now) =
     sym c.variant_named.ensures ∙ ap variant_view c.in-Some-variant_named.is in
-    let left : untaken_reach (is_some (around_of c.args.taken)) ≡ tag_depth =
+    let left : untaken_reach (is_some (around_of c.args.ask.now.taken)) ≡ tag_depth =
     ap (λ o. untaken_reach (is_some (around_of o))) c.in_default-taken.is in
-    let flat : reach c.args.self.now.schema.now (shape_of c.args.shape.now) ≡ 0 =
+    let flat : reach c.args.self.now.schema.now (shape_of c.args.ask.now.shape.now) ≡ 0 =
     ap (reach c.args.self.now.schema.now) c.requires.1.1.0 in
     let seen_as : data_of (Variant c.in-Some-variant_named.place c.in_ok-new-in-Ok.field-0)
     ≡ variant_data c.in-Some-variant_named.place (data_of c.in_ok-new-in-Ok.field-0.value) =
     search (rules, the_lemmas) in
-    enum_content (source_of c.args.self.now) (reader_of fuel c.args.self.now) (way_of c.args.path.now)
-    (shape_of c.args.shape.now) c.args.nest (around_of c.args.taken) (spot_of c.args.walk.now) c.args.name.now
+    enum_content c.args.self.now fuel (question_of c.args.ask.now) c.args.walk.now c.args.name.now
     (variants_of c.args.variants.now) _ _ c.in-Some-untaken_name.tag.now c.in-Some-variant_named.place
     (content_of c.in-Some-variant_named.content.now) c.requires.1.1.0
     (ap around_of c.in_default-taken.is) c.in-Some.ensures.found tag found
@@ -91,17 +87,16 @@ read_enum-returns-in_ok-new-in-Ok-clause-gives t c = λ fuel lt.
 
 pub read_enum-returns-in-Err-clause-gives : goal.read_enum-returns-in-Err-clause-gives
 read_enum-returns-in-Err-clause-gives t c = λ fuel lt fault.
-    let tag : untaken_name false (doc_event_of c.in-Some.field-0.now.0) ≡ Some c.in-Some-untaken_name.tag.now =
+    let tag : untaken_name false (doc_event_of c.in-Some.event.now.0) ≡ Some c.in-Some-untaken_name.tag.now =
     sym c.untaken_name.ensures ∙ ap option_copied c.in-Some-untaken_name.is in
     let found : variant_named (variants_of c.args.variants.now) c.in-Some-untaken_name.tag.now
     ≡ Some (c.in-Some-variant_named.place, content_of c.in-Some-variant_named.content.now) =
     sym c.variant_named.ensures ∙ ap variant_view c.in-Some-variant_named.is in
-    let left : untaken_reach (is_some (around_of c.args.taken)) ≡ tag_depth =
+    let left : untaken_reach (is_some (around_of c.args.ask.now.taken)) ≡ tag_depth =
     ap (λ o. untaken_reach (is_some (around_of o))) c.in_default-taken.is in
-    let flat : reach c.args.self.now.schema.now (shape_of c.args.shape.now) ≡ 0 =
+    let flat : reach c.args.self.now.schema.now (shape_of c.args.ask.now.shape.now) ≡ 0 =
     ap (reach c.args.self.now.schema.now) c.requires.1.1.0 in
-    enum_content (source_of c.args.self.now) (reader_of fuel c.args.self.now) (way_of c.args.path.now)
-    (shape_of c.args.shape.now) c.args.nest (around_of c.args.taken) (spot_of c.args.walk.now) c.args.name.now
+    enum_content c.args.self.now fuel (question_of c.args.ask.now) c.args.walk.now c.args.name.now
     (variants_of c.args.variants.now) _ _ c.in-Some-untaken_name.tag.now c.in-Some-variant_named.place
     (content_of c.in-Some-variant_named.content.now) c.requires.1.1.0
     (ap around_of c.in_default-taken.is) c.in-Some.ensures.found tag found
@@ -119,69 +114,67 @@ read_content-returns-in-Newtype-clause-gives t c = λ fuel lt.
 
 pub read_content-returns-in-Ok-clause-gives : goal.read_content-returns-in-Ok-clause-gives
 read_content-returns-in-Ok-clause-gives t c = λ fuel lt.
-    rw (c.in-Tuple.is, ← c.deref.ensures.value) (node_placed (source_of c.args.self.now) (way_of c.args.path.now)
-    (tuple_variant_shape c.args.around.now.name.now c.args.around.now.variant.now (ids_of c.deref.result.now))
-    c.args.nest (Some (plain_around c.args.around.now)) (spot_of c.args.walk.now) fuel _ _
-    (omega (arith, lt)) c.requires.here refl
-    ∙ ap (place true c.args.mark (way_of c.args.path.now)) (c.in-Ok.ensures.gives (fuel - 1) (omega (arith, lt))))
+    rw (c.in-Tuple.is, ← c.deref.ensures.value)
+    (node_read c.args.self.now (taken_as (question_of c.args.ask.now) (tuple_variant_shape c.args.around.now.name.now
+    c.args.around.now.variant.now
+    (ids_of c.deref.result.now))
+    (plain_around c.args.around.now))
+    c.args.walk.now fuel _ (omega (arith, lt)) (c.in-Ok.ensures.gives (fuel - 1) (omega (arith, lt))))
 
 pub read_content-returns-in-Err-clause-gives : goal.read_content-returns-in-Err-clause-gives
-read_content-returns-in-Err-clause-gives t c = λ fuel lt fault.
-    let told = c.at_place.ensures fault in
-    rw (c.in-Tuple.is, ← c.deref.ensures.value) (node_placed (source_of c.args.self.now) (way_of c.args.path.now)
-    (tuple_variant_shape c.args.around.now.name.now c.args.around.now.variant.now (ids_of c.deref.result.now))
-    c.args.nest (Some (plain_around c.args.around.now)) (spot_of c.args.walk.now) fuel _ _
-    (omega (arith, lt)) c.requires.here refl
-    ∙ ap (place true c.args.mark (way_of c.args.path.now))
-    (c.in-Err.ensures.gives (fuel - 1) (omega (arith, lt)) (sym (filled_memory _ _) ∙ ap is_memory (sym told) ∙ fault))
-    ∙ ap Err (sym told))
+read_content-returns-in-Err-clause-gives t c = λ fuel lt.
+    rw (c.in-Tuple.is, ← c.deref.ensures.value)
+    (node_refused_here c.args.self.now
+    (taken_as (question_of c.args.ask.now) (tuple_variant_shape c.args.around.now.name.now c.args.around.now.variant.now
+    (ids_of c.deref.result.now))
+    (plain_around c.args.around.now))
+    c.args.walk.now fuel _ _ c.in-Err.refusal c.at_place.result (omega (arith, lt)) c.requires.here refl
+    (c.in-Err.ensures.gives (fuel - 1) (omega (arith, lt))) c.at_place.ensures)
 
 pub read_content-returns-in-Ok-read_variant_fields-clause-gives
     : goal.read_content-returns-in-Ok-read_variant_fields-clause-gives
 read_content-returns-in-Ok-read_variant_fields-clause-gives t c = λ fuel lt.
     rw (c.in-Struct.is, ← c.deref-in-Struct.ensures.value)
-    (node_placed (source_of c.args.self.now) (way_of c.args.path.now)
-    (struct_variant_shape false c.args.around.now.name.now c.args.around.now.variant.now
-    (fields_of c.deref-in-Struct.result.now)) c.args.nest (Some (plain_around c.args.around.now))
-    (spot_of c.args.walk.now) fuel _ _ (omega (arith, lt)) c.requires.here refl
-    ∙ ap (place true c.args.mark (way_of c.args.path.now))
+    (node_read c.args.self.now (taken_as (question_of c.args.ask.now)
+    (struct_variant_shape false c.args.around.now.name.now
+    c.args.around.now.variant.now (fields_of c.deref-in-Struct.result.now))
+    (plain_around c.args.around.now))
+    c.args.walk.now fuel _ (omega (arith, lt))
     (c.in-Ok-read_variant_fields.ensures.gives (fuel - 1) (omega (arith, lt))))
 
 pub read_content-returns-in-Err-read_variant_fields-clause-gives
     : goal.read_content-returns-in-Err-read_variant_fields-clause-gives
-read_content-returns-in-Err-read_variant_fields-clause-gives t c = λ fuel lt fault.
-    let told = c.at_place-in-Err-read_variant_fields.ensures fault in
+read_content-returns-in-Err-read_variant_fields-clause-gives t c = λ fuel lt.
     rw (c.in-Struct.is, ← c.deref-in-Struct.ensures.value)
-    (node_placed (source_of c.args.self.now) (way_of c.args.path.now)
-    (struct_variant_shape false c.args.around.now.name.now c.args.around.now.variant.now
-    (fields_of c.deref-in-Struct.result.now)) c.args.nest (Some (plain_around c.args.around.now))
-    (spot_of c.args.walk.now) fuel _ _ (omega (arith, lt)) c.requires.here refl
-    ∙ ap (place true c.args.mark (way_of c.args.path.now))
-    (c.in-Err-read_variant_fields.ensures.gives (fuel - 1) (omega (arith, lt))
-    (sym (filled_memory _ _) ∙ ap is_memory (sym told) ∙ fault))
-    ∙ ap Err (sym told))
+    (node_refused_here c.args.self.now
+    (taken_as (question_of c.args.ask.now) (struct_variant_shape false c.args.around.now.name.now
+    c.args.around.now.variant.now (fields_of c.deref-in-Struct.result.now))
+    (plain_around c.args.around.now))
+    c.args.walk.now fuel _ _ c.in-Err-read_variant_fields.refusal c.at_place-in-Err-read_variant_fields.result
+    (omega (arith, lt)) c.requires.here refl
+    (c.in-Err-read_variant_fields.ensures.gives (fuel - 1) (omega (arith, lt)))
+    c.at_place-in-Err-read_variant_fields.ensures)
 
 pub read_content-returns-in-Ok-read_variant_fields-2-clause-gives
     : goal.read_content-returns-in-Ok-read_variant_fields-2-clause-gives
 read_content-returns-in-Ok-read_variant_fields-2-clause-gives t c = λ fuel lt.
     rw (c.in-StrictStruct.is, ← c.deref-in-StrictStruct.ensures.value)
-    (node_placed (source_of c.args.self.now) (way_of c.args.path.now)
-    (struct_variant_shape true c.args.around.now.name.now c.args.around.now.variant.now
-    (fields_of c.deref-in-StrictStruct.result.now)) c.args.nest (Some (plain_around c.args.around.now))
-    (spot_of c.args.walk.now) fuel _ _ (omega (arith, lt)) c.requires.here refl
-    ∙ ap (place true c.args.mark (way_of c.args.path.now))
-    (c.in-Ok-read_variant_fields-2.ensures.gives (fuel - 1) (omega (arith, lt))))
+    (node_read c.args.self.now (taken_as (question_of c.args.ask.now)
+    (struct_variant_shape true c.args.around.now.name.now
+    c.args.around.now.variant.now (fields_of c.deref-in-StrictStruct.result.now))
+    (plain_around c.args.around.now))
+    c.args.walk.now fuel _ (omega (arith, lt)) (c.in-Ok-read_variant_fields-2.ensures.gives (fuel - 1)
+    (omega (arith, lt))))
 
 pub read_content-returns-in-Err-read_variant_fields-2-clause-gives
     : goal.read_content-returns-in-Err-read_variant_fields-2-clause-gives
-read_content-returns-in-Err-read_variant_fields-2-clause-gives t c = λ fuel lt fault.
-    let told = c.at_place-in-Err-read_variant_fields-2.ensures fault in
+read_content-returns-in-Err-read_variant_fields-2-clause-gives t c = λ fuel lt.
     rw (c.in-StrictStruct.is, ← c.deref-in-StrictStruct.ensures.value)
-    (node_placed (source_of c.args.self.now) (way_of c.args.path.now)
-    (struct_variant_shape true c.args.around.now.name.now c.args.around.now.variant.now
-    (fields_of c.deref-in-StrictStruct.result.now)) c.args.nest (Some (plain_around c.args.around.now))
-    (spot_of c.args.walk.now) fuel _ _ (omega (arith, lt)) c.requires.here refl
-    ∙ ap (place true c.args.mark (way_of c.args.path.now))
-    (c.in-Err-read_variant_fields-2.ensures.gives (fuel - 1) (omega (arith, lt))
-    (sym (filled_memory _ _) ∙ ap is_memory (sym told) ∙ fault))
-    ∙ ap Err (sym told))
+    (node_refused_here c.args.self.now
+    (taken_as (question_of c.args.ask.now) (struct_variant_shape true c.args.around.now.name.now
+    c.args.around.now.variant.now (fields_of c.deref-in-StrictStruct.result.now))
+    (plain_around c.args.around.now))
+    c.args.walk.now fuel _ _ c.in-Err-read_variant_fields-2.refusal c.at_place-in-Err-read_variant_fields-2.result
+    (omega (arith, lt)) c.requires.here refl
+    (c.in-Err-read_variant_fields-2.ensures.gives (fuel - 1) (omega (arith, lt)))
+    c.at_place-in-Err-read_variant_fields-2.ensures)

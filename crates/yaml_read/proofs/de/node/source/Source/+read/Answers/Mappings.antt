@@ -1,6 +1,6 @@
 -- What the reader gives at each exit: mappings.
-use Rattle.std.proofs.Common.{Ok, Err, Some, ◌≡◌, ℕ, suc, ◌+◌, ◌-◌, ◌<◌, [], ◌∷◌, ◌++◌, map, length, sym, ap, ◌∙◌}
-use Rattle.std.proofs.Common.{arith, rules, length-append}
+use Rattle.std.proofs.Common.{Ok, Err, Some, ◌≡◌, ◌+◌, ◌-◌, ◌<◌, [], ◌∷◌, ◌++◌, map, length, sym, ap, ◌∙◌, arith, rules}
+use Rattle.std.proofs.Common.{length-append}
 use Rattle.std.specs.Option.{is_some}
 use Rattle.std.proofs.lemmas.List.{map-append}
 use Rattle.yaml_shape.specs.DataView.{data_of, entry_of, entries_of}
@@ -12,19 +12,20 @@ use Rattle.yaml_load.specs.DocEventView.{doc_event_of}
 use Rattle.yaml_read.specs.Handing.{handed}
 use Rattle.yaml_read.specs.Places.{way_of, value_under}
 use Rattle.yaml_read.specs.TreeReader.{Spot, after}
-use Rattle.yaml_read.specs.inner.Reader.{is_mapping_end, value_way, entry_at, mapping_parts}
+use Rattle.yaml_read.specs.inner.Reader.{is_mapping_end, value_way, entry_at}
 use Rattle.yaml_read.specs.inner.Walks.{around_of, source_of, spot_of, seen, reader_of}
+use Rattle.yaml_read.specs.inner.Questions.{question_of}
 use Rattle.yaml_read.proofs.reading.Exits.{same_spot, not_mapping_end, entry_is, step_event, step_map}
 use Rattle.yaml_read.proofs.reading.PartExits.{no_key, no_value, one_entry}
-use Rattle.yaml_read.proofs.reading.Loops.{each_ended, each_end, each_fails, each_more, wrap_fails, wrap_finds}
+use Rattle.yaml_read.proofs.reading.Loops.{led_end, led_ended, led_fails, led_more, wrap_fails, wrap_finds}
 use Rattle.yaml_read.proofs.de.node.source.Source.+read.Goals as goal
 
 pub read_map-returns-in_default : goal.read_map-returns-in_default
 read_map-returns-in_default t c = record {
-  gives = λ fuel lt. rw (step_event (source_of c.args.self.now) (reader_of fuel c.args.self.now)
-      (way_of c.args.path.now) (shape_of c.args.shape.now) c.args.nest (around_of c.args.taken)
-      (spot_of c.args.walk.now) _ _ (sym c.requires.here)
-      (ap (λ s. handed s (is_some (around_of c.args.taken)) (doc_event_of c.args.event.now)) c.requires.mapping))
+  gives = λ fuel lt. rw (step_event c.args.self.now fuel (question_of c.args.ask.now) c.args.walk.now _ _
+      (sym c.requires.here)
+      (ap (λ s. handed s (is_some (around_of c.args.ask.now.taken)) (doc_event_of c.args.event.now.0))
+      c.requires.mapping))
       (c.read_simple.ensures.gives fuel _ lt);
   moves = c.read_simple.ensures.moves;
   cost = c.read_simple.ensures.cost;
@@ -32,14 +33,13 @@ read_map-returns-in_default t c = record {
 
 pub read_map-returns-in-Ok-clause-gives : goal.read_map-returns-in-Ok-clause-gives
 read_map-returns-in-Ok-clause-gives t c = λ fuel lt.
-    let some : 0 < c.args.nest = omega (arith, c.if-nest-eq0.false) in
+    let some : 0 < c.args.ask.now.nest = omega (arith, c.if-ask-eq0.false) in
     let left = c.step.ensures.left in
     let seen_as : data_of (Map c.in-Ok.entries) ≡ map_data (entries_of (map entry_of c.in-Ok.entries.items)) =
     search (rules, the_lemmas) in
-    step_map (source_of c.args.self.now) (reader_of fuel c.args.self.now) (way_of c.args.path.now)
-    (shape_of c.args.shape.now) c.args.nest (around_of c.args.taken)
-    (spot_of c.args.walk.now) c.args.key.0 c.args.value.0 _ _ _ _ c.requires.mapping
-    (sym (c.requires.here ∙ ap (λ e. Some (doc_event_of e, c.args.mark)) c.in-MappingStart.is)) some
+    step_map c.args.self.now fuel (question_of c.args.ask.now) c.args.walk.now c.args.key.0 c.args.value.0 _ _ _ _
+    c.requires.mapping
+    (sym (c.requires.here ∙ ap (λ e. Some (doc_event_of e, c.args.event.now.1)) c.in-MappingStart.is)) some
     c.shape-key.ensures.found c.shape-value.ensures.found
     ∙ wrap_finds (λ vs. map_data (entries_of vs)) _ _ _
     (rw (same_spot (spot_of c.step.new.self) (after (spot_of c.args.walk.now)) c.step.ensures.place c.step.ensures.left)
@@ -49,12 +49,11 @@ read_map-returns-in-Ok-clause-gives t c = λ fuel lt.
 
 pub read_map-returns-in-Err-clause-gives : goal.read_map-returns-in-Err-clause-gives
 read_map-returns-in-Err-clause-gives t c = λ fuel lt fault.
-    let some : 0 < c.args.nest = omega (arith, c.if-nest-eq0.false) in
+    let some : 0 < c.args.ask.now.nest = omega (arith, c.if-ask-eq0.false) in
     let left = c.step.ensures.left in
-    step_map (source_of c.args.self.now) (reader_of fuel c.args.self.now) (way_of c.args.path.now)
-    (shape_of c.args.shape.now) c.args.nest (around_of c.args.taken)
-    (spot_of c.args.walk.now) c.args.key.0 c.args.value.0 _ _ _ _ c.requires.mapping
-    (sym (c.requires.here ∙ ap (λ e. Some (doc_event_of e, c.args.mark)) c.in-MappingStart.is)) some
+    step_map c.args.self.now fuel (question_of c.args.ask.now) c.args.walk.now c.args.key.0 c.args.value.0 _ _ _ _
+    c.requires.mapping
+    (sym (c.requires.here ∙ ap (λ e. Some (doc_event_of e, c.args.event.now.1)) c.in-MappingStart.is)) some
     c.shape-key.ensures.found c.shape-value.ensures.found
     ∙ wrap_fails (λ vs. map_data (entries_of vs)) _ _
     (rw (same_spot (spot_of c.step.new.self) (after (spot_of c.args.walk.now)) c.step.ensures.place c.step.ensures.left)
@@ -64,30 +63,20 @@ read_map-returns-in-Err-clause-gives t c = λ fuel lt fault.
 pub read_entries-returns-in_default-clause-gives : goal.read_entries-returns-in_default-clause-gives
 read_entries-returns-in_default-clause-gives t c = λ fuel turns lt big fault.
     let l = c.loop-event in
-    let n = turns - length l.entries.items - 1 in
-    let split : turns ≡ suc n + length l.entries.items = omega (arith, l.invariant.turned, l.invariant.within) in
-    ap (λ (m : ℕ). mapping_parts (source_of c.args.self.now)
-    (entry_at (source_of c.args.self.now) (reader_of fuel c.args.self.now) (way_of c.args.path.now)
-    (shape_of c.args.key.now) (shape_of c.args.value.now) c.args.nest) m [] (spot_of c.args.walk.now)) split
-    ∙ l.invariant.rest fuel (suc n) lt
-    ∙ each_ended is_mapping_end (entry_at (source_of c.args.self.now) (reader_of fuel c.args.self.now)
+    led_ended is_mapping_end (entry_at (source_of c.args.self.now) (reader_of fuel c.args.self.now)
     (way_of c.args.path.now) (shape_of c.args.key.now) (shape_of c.args.value.now) c.args.nest)
-    (seen c.args.self.now.events.now) n _ (spot_of l.walk) (sym c.in_default.ensures.found)
-    ∙ ap Err (sym (c.ended.ensures fault))
+    (seen c.args.self.now.events.now) (length l.entries.items) _ _ _ _ (l.invariant.rest fuel lt) turns
+    (omega (arith, l.invariant.turned, l.invariant.within))
+    (sym c.in_default.ensures.found) ∙ ap Err (sym (c.ended.ensures fault))
 
 pub read_entries-returns-in-MappingEnd-clause-gives : goal.read_entries-returns-in-MappingEnd-clause-gives
 read_entries-returns-in-MappingEnd-clause-gives t c = λ fuel turns lt big.
     let l = c.loop-event in
-    let n = turns - length l.entries.items - 1 in
-    let split : turns ≡ suc n + length l.entries.items = omega (arith, l.invariant.turned, l.invariant.within) in
-    ap (λ (m : ℕ). mapping_parts (source_of c.args.self.now)
-    (entry_at (source_of c.args.self.now) (reader_of fuel c.args.self.now) (way_of c.args.path.now)
-    (shape_of c.args.key.now) (shape_of c.args.value.now) c.args.nest) m [] (spot_of c.args.walk.now)) split
-    ∙ l.invariant.rest fuel (suc n) lt
-    ∙ each_end is_mapping_end (entry_at (source_of c.args.self.now) (reader_of fuel c.args.self.now)
+    led_end is_mapping_end (entry_at (source_of c.args.self.now) (reader_of fuel c.args.self.now)
     (way_of c.args.path.now) (shape_of c.args.key.now) (shape_of c.args.value.now) c.args.nest)
-    (seen c.args.self.now.events.now) n _ (spot_of l.walk) _ (sym c.in-Some.ensures.found)
-    (ap (λ e. is_mapping_end (doc_event_of e)) c.in-MappingEnd.is)
+    (seen c.args.self.now.events.now) (length l.entries.items) _ _ _ _ (l.invariant.rest fuel lt) turns _
+    (omega (arith, l.invariant.turned, l.invariant.within))
+    (sym c.in-Some.ensures.found) (ap (λ e. is_mapping_end (doc_event_of e)) c.in-MappingEnd.is)
     ∙ ap (λ (s : Spot). Ok (map entry_of l.entries.items, s))
     (sym (same_spot (spot_of c.step.new.self) (after (spot_of l.walk)) c.step.ensures.place c.step.ensures.left))
 
@@ -95,18 +84,12 @@ pub read_entries-returns-in-Err : goal.read_entries-returns-in-Err
 read_entries-returns-in-Err t c =
     let l = c.loop-event in
     record {
-      gives = λ fuel turns lt big fault.
-          let n = turns - length l.entries.items - 1 in
-          let split : turns ≡ suc n + length l.entries.items =
-          omega (arith, l.invariant.turned, l.invariant.within, c.in-Some.ensures.within) in
-          ap (λ (m : ℕ). mapping_parts (source_of c.args.self.now)
-          (entry_at (source_of c.args.self.now) (reader_of fuel c.args.self.now) (way_of c.args.path.now)
-          (shape_of c.args.key.now) (shape_of c.args.value.now) c.args.nest) m [] (spot_of c.args.walk.now)) split
-          ∙ l.invariant.rest fuel (suc n) lt
-          ∙ each_fails is_mapping_end (entry_at (source_of c.args.self.now) (reader_of fuel c.args.self.now)
-          (way_of c.args.path.now) (shape_of c.args.key.now) (shape_of c.args.value.now) c.args.nest)
-          (seen c.args.self.now.events.now) n _ (spot_of l.walk) _ _ (sym c.in-Some.ensures.found)
-          (not_mapping_end _ c.in_default-event.not-MappingEnd)
+      gives = λ fuel turns lt big fault. led_fails is_mapping_end (entry_at (source_of c.args.self.now)
+          (reader_of fuel c.args.self.now) (way_of c.args.path.now) (shape_of c.args.key.now) (shape_of c.args.value.now)
+          c.args.nest) (seen c.args.self.now.events.now) (length l.entries.items) _ _ _ _ (l.invariant.rest fuel lt) turns _
+          _
+          (omega (arith, l.invariant.turned, l.invariant.within)) (sym c.in-Some.ensures.found)
+          (not_mapping_end _ c.in_default-0₀.not-MappingEnd)
           (no_key (source_of c.args.self.now) (reader_of fuel c.args.self.now) (way_of c.args.path.now)
           (shape_of c.args.key.now) (shape_of c.args.value.now) c.args.nest _ (spot_of l.walk) _
           (c.in-Err.ensures.gives fuel (omega (arith, l.invariant.left, c.requires.reach)) fault));
@@ -122,18 +105,12 @@ read_entries-returns-in-Err-read_value t c =
     ap (value_way (way_of c.args.path.now)) c.in-Some.ensures.found in
     let moves = c.in-Ok.ensures.moves in
     record {
-      gives = λ fuel turns lt big fault.
-          let n = turns - length l.entries.items - 1 in
-          let split : turns ≡ suc n + length l.entries.items =
-          omega (arith, l.invariant.turned, l.invariant.within, c.in-Some.ensures.within) in
-          ap (λ (m : ℕ). mapping_parts (source_of c.args.self.now)
-          (entry_at (source_of c.args.self.now) (reader_of fuel c.args.self.now) (way_of c.args.path.now)
-          (shape_of c.args.key.now) (shape_of c.args.value.now) c.args.nest) m [] (spot_of c.args.walk.now)) split
-          ∙ l.invariant.rest fuel (suc n) lt
-          ∙ each_fails is_mapping_end (entry_at (source_of c.args.self.now) (reader_of fuel c.args.self.now)
-          (way_of c.args.path.now) (shape_of c.args.key.now) (shape_of c.args.value.now) c.args.nest)
-          (seen c.args.self.now.events.now) n _ (spot_of l.walk) _ _ (sym c.in-Some.ensures.found)
-          (not_mapping_end _ c.in_default-event.not-MappingEnd)
+      gives = λ fuel turns lt big fault. led_fails is_mapping_end (entry_at (source_of c.args.self.now)
+          (reader_of fuel c.args.self.now) (way_of c.args.path.now) (shape_of c.args.key.now) (shape_of c.args.value.now)
+          c.args.nest) (seen c.args.self.now.events.now) (length l.entries.items) _ _ _ _ (l.invariant.rest fuel lt) turns _
+          _
+          (omega (arith, l.invariant.turned, l.invariant.within)) (sym c.in-Some.ensures.found)
+          (not_mapping_end _ c.in_default-0₀.not-MappingEnd)
           (no_value (source_of c.args.self.now) (reader_of fuel c.args.self.now) (way_of c.args.path.now)
           (shape_of c.args.key.now) (shape_of c.args.value.now) c.args.nest _ (spot_of l.walk) _ _ _
           (c.in-Ok.ensures.gives fuel (omega (arith, l.invariant.left, c.requires.reach)))
@@ -164,23 +141,15 @@ read_entries-loop-event-preserved t c =
       left = omega (arith, moves, moves', l.invariant.left);
       counted = omega (arith, moves, moves', l.invariant.counted);
       cost = omega (arith, moves, moves', l.invariant.cost);
-      rest = λ fuel n lt.
-          let split : n + length c.push.new.self.items ≡ suc n + length l.entries.items = omega (arith, longer) in
-          ap (λ (m : ℕ). mapping_parts (source_of c.args.self.now)
-          (entry_at (source_of c.args.self.now) (reader_of fuel c.args.self.now) (way_of c.args.path.now)
-          (shape_of c.args.key.now) (shape_of c.args.value.now) c.args.nest) m [] (spot_of c.args.walk.now)) split
-          ∙ l.invariant.rest fuel (suc n) lt
-          ∙ each_more is_mapping_end (entry_at (source_of c.args.self.now) (reader_of fuel c.args.self.now)
+      rest = λ fuel lt. led_more is_mapping_end (entry_at (source_of c.args.self.now) (reader_of fuel c.args.self.now)
           (way_of c.args.path.now) (shape_of c.args.key.now) (shape_of c.args.value.now) c.args.nest)
-          (seen c.args.self.now.events.now) n _ _ (spot_of l.walk) _ _ (sym c.in-Some.ensures.found)
-          (not_mapping_end _ c.in_default-event.not-MappingEnd)
+          (seen c.args.self.now.events.now) (length l.entries.items) _ _ _ _ (l.invariant.rest fuel lt) _ _ _ _ _
+          (sym c.in-Some.ensures.found)
+          (not_mapping_end _ c.in_default-0₀.not-MappingEnd)
           (one_entry (source_of c.args.self.now) (reader_of fuel c.args.self.now) (way_of c.args.path.now)
           (shape_of c.args.key.now) (shape_of c.args.value.now) c.args.nest _ (spot_of l.walk) _ _ _ _
           (c.in-Ok.ensures.gives fuel (omega (arith, l.invariant.left, c.requires.reach)))
           (rw there at (c.in-Ok-read_value.ensures.gives fuel
           (omega (arith, l.invariant.left, moves, c.requires.reach_value)))))
-          ∙ ap (λ vs. mapping_parts (source_of c.args.self.now)
-          (entry_at (source_of c.args.self.now) (reader_of fuel c.args.self.now) (way_of c.args.path.now)
-          (shape_of c.args.key.now) (shape_of c.args.value.now) c.args.nest) n vs (spot_of c.read_value.new.walk))
-          seen_as;
+          seen_as (omega (arith, longer));
     }

@@ -3,43 +3,38 @@ use Rattle.std.proofs.Common.{Ok, ◌≡◌, ◌+◌, ◌<◌, true, false, sym,
 use Rattle.std.specs.Option.{is_some}
 use Rattle.yaml_shape.specs.DataView.{data_of}
 use Rattle.yaml_shape.specs.PlainData.{some_data, newtype_data}
-use Rattle.yaml_shape.specs.PlainShape.{bool_shape}
 use Rattle.yaml_shape.specs.ShapeView.{shape_of}
 use Rattle.yaml_shape.specs.Walks.{rank}
 use Rattle.yaml_shape.specs.declared.data.Data.{Some as SomeData, Newtype, the_lemmas}
 use Rattle.yaml_load.specs.DocEventView.{doc_event_of}
 use Rattle.yaml_read.specs.Handing.{is_content, reach}
-use Rattle.yaml_read.specs.Places.{way_of}
-use Rattle.yaml_read.specs.inner.Walks.{around_of, source_of, spot_of, reader_of}
+use Rattle.yaml_read.specs.inner.Walks.{around_of, spot_of}
+use Rattle.yaml_read.specs.inner.Questions.{question_of}
 use Rattle.yaml_read.proofs.reading.Exits.{option_as_is, step_event, step_content, step_newtype}
 use Rattle.yaml_read.proofs.reading.Loops.{wrap_fails, wrap_finds}
 use Rattle.yaml_read.proofs.de.node.source.Source.+read.Goals as goal
 
 pub read_option-returns-then-not-is_content-clause-gives : goal.read_option-returns-then-not-is_content-clause-gives
 read_option-returns-then-not-is_content-clause-gives t c = λ fuel lt.
-    let absent : is_content (is_some (around_of c.args.taken)) (doc_event_of c.in-Some.field-0.now.0) ≡ false =
+    let absent : is_content (is_some (around_of c.args.ask.now.taken)) (doc_event_of c.in-Some.field-0.now.0) ≡ false =
     ap (λ b. is_content b (doc_event_of c.in-Some.field-0.now.0)) (sym c.is_taken.ensures)
     ∙ sym c.is_content.ensures ∙ c.if-not-is_content.true in
-    rw (step_event (source_of c.args.self.now) (reader_of fuel c.args.self.now) (way_of c.args.path.now)
-    (shape_of c.args.shape.now) c.args.nest (around_of c.args.taken)
-    (spot_of c.args.walk.now) _ _ c.in-Some.ensures.found
-    (option_as_is (source_of c.args.self.now) (reader_of fuel c.args.self.now) (way_of c.args.path.now)
-    (shape_of c.args.shape.now) c.args.nest (around_of c.args.taken)
-    (spot_of c.args.walk.now) c.args.content.0 _ c.requires.option absent)) (c.read_simple.ensures.gives fuel _ lt)
+    rw (step_event c.args.self.now fuel (question_of c.args.ask.now) c.args.walk.now _ _ c.in-Some.ensures.found
+    (option_as_is c.args.self.now fuel (question_of c.args.ask.now) c.args.walk.now c.args.content.0 _ c.requires.option
+    absent)) (c.read_simple.ensures.gives fuel _ lt)
 
 pub read_option-returns-in_ok-new-in-Ok-clause-gives : goal.read_option-returns-in_ok-new-in-Ok-clause-gives
 read_option-returns-in_ok-new-in-Ok-clause-gives t c = λ fuel lt.
     let seen_as : data_of (SomeData c.in_ok-new-in-Ok.field-0) ≡ some_data (data_of c.in_ok-new-in-Ok.field-0.value) =
     search (rules, the_lemmas) in
-    let present : is_content (is_some (around_of c.args.taken)) (doc_event_of c.in-Some.field-0.now.0) ≡ true =
+    let present : is_content (is_some (around_of c.args.ask.now.taken)) (doc_event_of c.in-Some.field-0.now.0) ≡ true =
     ap (λ b. is_content b (doc_event_of c.in-Some.field-0.now.0)) (sym c.is_taken.ensures)
     ∙ sym c.is_content.ensures ∙ c.if-not-is_content.false in
-    let option : reach c.args.self.now.schema.now (shape_of c.args.shape.now)
+    let option : reach c.args.self.now.schema.now (shape_of c.args.ask.now.shape.now)
     ≡ rank c.args.self.now.schema.now c.args.content.0 + 1 =
     ap (reach c.args.self.now.schema.now) c.requires.option in
-    step_content (source_of c.args.self.now) (reader_of fuel c.args.self.now) (way_of c.args.path.now)
-    (shape_of c.args.shape.now) c.args.nest (around_of c.args.taken)
-    (spot_of c.args.walk.now) c.args.content.0 _ _ _ c.requires.option c.in-Some.ensures.found present
+    step_content c.args.self.now fuel (question_of c.args.ask.now) c.args.walk.now c.args.content.0 _ _ _
+    c.requires.option c.in-Some.ensures.found present
     c.shape.ensures.found
     ∙ wrap_finds some_data _ _ _ (c.in-Ok.ensures.gives fuel (omega (arith, option, c.shape.ensures.reach)))
     ∙ ap (λ v. Ok (v, spot_of c.read_node.new.walk)) (ap some_data (ap data_of (sym c.in_ok-new-in-Ok.ensures.ok))
@@ -47,15 +42,14 @@ read_option-returns-in_ok-new-in-Ok-clause-gives t c = λ fuel lt.
 
 pub read_option-returns-in-Err-clause-gives : goal.read_option-returns-in-Err-clause-gives
 read_option-returns-in-Err-clause-gives t c = λ fuel lt fault.
-    let present : is_content (is_some (around_of c.args.taken)) (doc_event_of c.in-Some.field-0.now.0) ≡ true =
+    let present : is_content (is_some (around_of c.args.ask.now.taken)) (doc_event_of c.in-Some.field-0.now.0) ≡ true =
     ap (λ b. is_content b (doc_event_of c.in-Some.field-0.now.0)) (sym c.is_taken.ensures)
     ∙ sym c.is_content.ensures ∙ c.if-not-is_content.false in
-    let option : reach c.args.self.now.schema.now (shape_of c.args.shape.now)
+    let option : reach c.args.self.now.schema.now (shape_of c.args.ask.now.shape.now)
     ≡ rank c.args.self.now.schema.now c.args.content.0 + 1 =
     ap (reach c.args.self.now.schema.now) c.requires.option in
-    step_content (source_of c.args.self.now) (reader_of fuel c.args.self.now) (way_of c.args.path.now)
-    (shape_of c.args.shape.now) c.args.nest (around_of c.args.taken)
-    (spot_of c.args.walk.now) c.args.content.0 _ _ _ c.requires.option c.in-Some.ensures.found present
+    step_content c.args.self.now fuel (question_of c.args.ask.now) c.args.walk.now c.args.content.0 _ _ _
+    c.requires.option c.in-Some.ensures.found present
     c.shape.ensures.found
     ∙ wrap_fails some_data _ _ (c.in-Err.ensures.gives fuel (omega (arith, option, c.shape.ensures.reach)) fault)
 
@@ -63,18 +57,16 @@ pub read_newtype-returns-in_ok-new-in-Ok-clause-gives : goal.read_newtype-return
 read_newtype-returns-in_ok-new-in-Ok-clause-gives t c = λ fuel name lt.
     let seen_as : data_of (Newtype c.in_ok-new-in-Ok.field-0) ≡ newtype_data (data_of c.in_ok-new-in-Ok.field-0.value) =
     search (rules, the_lemmas) in
-    let some : 0 < c.args.nest = omega (arith, c.if-nest-eq0.false) in
-    step_newtype (source_of c.args.self.now) (reader_of fuel c.args.self.now)
-    (way_of c.args.path.now) bool_shape c.args.nest (around_of c.args.taken)
-    (spot_of c.args.walk.now) name c.args.inner.0 _ _ _ c.in-Some.ensures.found some c.shape.ensures.found
+    let some : 0 < c.args.ask.now.nest = omega (arith, c.if-ask-eq0.false) in
+    step_newtype c.args.self.now fuel (question_of c.args.ask.now) c.args.walk.now name c.args.content.0 _ _ _
+    c.in-Some.ensures.found some c.shape.ensures.found
     ∙ wrap_finds newtype_data _ _ _ (c.in-Ok.ensures.gives fuel (omega (arith, some, c.shape.ensures.small)))
     ∙ ap (λ v. Ok (v, spot_of c.read_node.new.walk)) (ap newtype_data (ap data_of (sym c.in_ok-new-in-Ok.ensures.ok))
     ∙ sym seen_as)
 
 pub read_newtype-returns-in-Err-clause-gives : goal.read_newtype-returns-in-Err-clause-gives
 read_newtype-returns-in-Err-clause-gives t c = λ fuel name lt fault.
-    let some : 0 < c.args.nest = omega (arith, c.if-nest-eq0.false) in
-    step_newtype (source_of c.args.self.now) (reader_of fuel c.args.self.now)
-    (way_of c.args.path.now) bool_shape c.args.nest (around_of c.args.taken)
-    (spot_of c.args.walk.now) name c.args.inner.0 _ _ _ c.in-Some.ensures.found some c.shape.ensures.found
+    let some : 0 < c.args.ask.now.nest = omega (arith, c.if-ask-eq0.false) in
+    step_newtype c.args.self.now fuel (question_of c.args.ask.now) c.args.walk.now name c.args.content.0 _ _ _
+    c.in-Some.ensures.found some c.shape.ensures.found
     ∙ wrap_fails newtype_data _ _ (c.in-Err.ensures.gives fuel (omega (arith, some, c.shape.ensures.small)) fault)

@@ -1,22 +1,21 @@
 -- What the reader gives at each exit: pairs of any mappings.
-use Rattle.std.proofs.Common.{Ok, Err, ◌≡◌, ℕ, suc, ◌+◌, ◌-◌, [], ◌∷◌, ◌++◌, length, false, sym, ap, ◌∙◌, arith}
+use Rattle.std.proofs.Common.{refl, Ok, Err, ◌≡◌, ◌+◌, ◌-◌, [], ◌∷◌, ◌++◌, length, false, sym, ap, ◌∙◌, arith}
 use Rattle.std.proofs.Common.{length-append}
 use Rattle.yaml_shape.specs.DataView.{data_of, entries_of}
 use Rattle.yaml_shape.specs.ShapeView.{shape_of}
 use Rattle.yaml_tree.specs.Mapping.{has_key}
 use Rattle.yaml_tree.specs.Valid.{pairs_of}
 use Rattle.yaml_load.specs.DocEventView.{doc_event_of}
-use Rattle.yaml_scalar.specs.Steps.{wrap}
 use Rattle.yaml_read.specs.AnyData.{tree_in, pairs_in, new_key}
 use Rattle.yaml_read.specs.Handing.{reach}
 use Rattle.yaml_read.specs.Places.{way_of, value_under}
 use Rattle.yaml_read.specs.TreeReader.{Spot, after}
-use Rattle.yaml_read.specs.inner.Reader.{is_mapping_end, value_way, any_entry_at, mapping_parts}
+use Rattle.yaml_read.specs.inner.Reader.{is_mapping_end, value_way, any_entry_at}
 use Rattle.yaml_read.specs.inner.Walks.{source_of, spot_of, seen, reader_of}
 use Rattle.yaml_read.proofs.AnyLaws.{new_is_key, pairs_grow, key_again}
 use Rattle.yaml_read.proofs.reading.ValueExits.{any_no_key, any_repeated, any_no_value, any_entry}
 use Rattle.yaml_read.proofs.reading.Exits.{same_spot, not_mapping_end}
-use Rattle.yaml_read.proofs.reading.Loops.{each_ended, each_end, each_fails, each_more, wrap_fails, wrap_finds}
+use Rattle.yaml_read.proofs.reading.Loops.{led_end, led_ended, led_fails, led_more, wrap_fails, wrap_finds}
 use Rattle.yaml_read.proofs.de.node.source.Source.+read.Goals as goal
 
 pub read_pairs-loop-event-init : goal.read_pairs-loop-event-init
@@ -29,45 +28,29 @@ read_pairs-loop-event-init t c = (
     left = omega arith;
     counted = omega arith;
     cost = omega arith;
-    rest = λ fuel n lt.
+    rest = λ fuel lt n.
         let none : n + 0 ≡ n = omega arith in
-        ap (λ (m : ℕ). mapping_parts (source_of c.args.self.now)
-        (any_entry_at (source_of c.args.self.now) (reader_of fuel c.args.self.now)
-        (way_of c.args.path.now) c.args.nest) m [] (spot_of c.args.walk.now)) none;
+        rw none;
   },
 )
 
 pub read_pairs-returns-in_default-clause-gives : goal.read_pairs-returns-in_default-clause-gives
 read_pairs-returns-in_default-clause-gives t c = λ fuel turns lt big fault.
-    let l = c.loop-event in
-    let vs = l.invariant.0 in
-    let v = l.invariant.1 in
-    let n = turns - length vs - 1 in
-    let split : turns ≡ suc n + length vs = omega (arith, v.turned, v.within) in
-    ap (λ (m : ℕ). wrap (λ vs. pairs_in (entries_of vs))
-    (mapping_parts (source_of c.args.self.now) (any_entry_at (source_of c.args.self.now)
-    (reader_of fuel c.args.self.now) (way_of c.args.path.now) c.args.nest) m [] (spot_of c.args.walk.now))) split
-    ∙ ap (wrap (λ vs. pairs_in (entries_of vs))) (v.rest fuel (suc n) lt)
-    ∙ wrap_fails (λ vs. pairs_in (entries_of vs)) _ _
-    (each_ended is_mapping_end (any_entry_at (source_of c.args.self.now) (reader_of fuel c.args.self.now)
-    (way_of c.args.path.now) c.args.nest) (seen c.args.self.now.events.now) n vs (spot_of l.walk)
-    (sym c.in_default.ensures.found))
-    ∙ ap Err (sym (c.ended.ensures fault))
+    let v = c.loop-event.invariant.1 in
+    wrap_fails (λ vs. pairs_in (entries_of vs)) _ _
+    (led_ended is_mapping_end (any_entry_at (source_of c.args.self.now) (reader_of fuel c.args.self.now)
+    (way_of c.args.path.now) c.args.nest) (seen c.args.self.now.events.now) (length c.loop-event.invariant.0) _ _ _ _
+    (v.rest fuel lt) turns (omega (arith, v.turned, v.within))
+    (sym c.in_default.ensures.found)) ∙ ap Err (sym (c.ended.ensures fault))
 
 pub read_pairs-returns-in-MappingEnd-clause-gives : goal.read_pairs-returns-in-MappingEnd-clause-gives
 read_pairs-returns-in-MappingEnd-clause-gives t c = λ fuel turns lt big.
     let l = c.loop-event in
-    let vs = l.invariant.0 in
     let v = l.invariant.1 in
-    let n = turns - length vs - 1 in
-    let split : turns ≡ suc n + length vs = omega (arith, v.turned, v.within) in
-    ap (λ (m : ℕ). wrap (λ vs. pairs_in (entries_of vs))
-    (mapping_parts (source_of c.args.self.now) (any_entry_at (source_of c.args.self.now)
-    (reader_of fuel c.args.self.now) (way_of c.args.path.now) c.args.nest) m [] (spot_of c.args.walk.now))) split
-    ∙ ap (wrap (λ vs. pairs_in (entries_of vs))) (v.rest fuel (suc n) lt)
-    ∙ wrap_finds (λ vs. pairs_in (entries_of vs)) _ _ _
-    (each_end is_mapping_end (any_entry_at (source_of c.args.self.now) (reader_of fuel c.args.self.now)
-    (way_of c.args.path.now) c.args.nest) (seen c.args.self.now.events.now) n vs (spot_of l.walk) _
+    wrap_finds (λ vs. pairs_in (entries_of vs)) _ _ _
+    (led_end is_mapping_end (any_entry_at (source_of c.args.self.now) (reader_of fuel c.args.self.now)
+    (way_of c.args.path.now) c.args.nest) (seen c.args.self.now.events.now) (length c.loop-event.invariant.0) _ _ _ _
+    (v.rest fuel lt) turns _ (omega (arith, v.turned, v.within))
     (sym c.in-Some.ensures.found) (ap (λ e. is_mapping_end (doc_event_of e)) c.in-MappingEnd.is))
     ∙ ap (λ ps. Ok (ps, after (spot_of l.walk))) v.same
     ∙ ap (λ (s : Spot). Ok (pairs_of l.pairs, s))
@@ -81,18 +64,12 @@ read_pairs-returns-in-Err t c =
     let flat : reach c.args.self.now.schema.now (shape_of c.args.any.now) ≡ 0 =
     ap (reach c.args.self.now.schema.now) c.requires.shape in
     record {
-      gives = λ fuel turns lt big fault.
-          let n = turns - length vs - 1 in
-          let split : turns ≡ suc n + length vs = omega (arith, v.turned, v.within, c.in-Some.ensures.within) in
-          ap (λ (m : ℕ). wrap (λ vs. pairs_in (entries_of vs))
-          (mapping_parts (source_of c.args.self.now) (any_entry_at (source_of c.args.self.now)
-          (reader_of fuel c.args.self.now) (way_of c.args.path.now) c.args.nest) m [] (spot_of c.args.walk.now)))
-          split
-          ∙ ap (wrap (λ vs. pairs_in (entries_of vs))) (v.rest fuel (suc n) lt)
-          ∙ wrap_fails (λ vs. pairs_in (entries_of vs)) _ _
-          (each_fails is_mapping_end (any_entry_at (source_of c.args.self.now) (reader_of fuel c.args.self.now)
-          (way_of c.args.path.now) c.args.nest) (seen c.args.self.now.events.now) n vs (spot_of l.walk) _ _
-          (sym c.in-Some.ensures.found) (not_mapping_end _ c.in_default-event.not-MappingEnd)
+      gives = λ fuel turns lt big fault. wrap_fails (λ vs. pairs_in (entries_of vs)) _ _
+          (led_fails is_mapping_end (any_entry_at (source_of c.args.self.now) (reader_of fuel c.args.self.now)
+          (way_of c.args.path.now) c.args.nest) (seen c.args.self.now.events.now) (length c.loop-event.invariant.0) _ _
+          _ _ (v.rest fuel lt) turns _ _
+          (omega (arith, v.turned, v.within)) (sym c.in-Some.ensures.found)
+          (not_mapping_end _ c.in_default-event.not-MappingEnd)
           (any_no_key (source_of c.args.self.now) (reader_of fuel c.args.self.now)
           (way_of c.args.path.now) c.args.nest vs (spot_of l.walk) _
           (rw c.requires.shape at (c.in-Err.ensures.gives fuel (omega (arith, v.left, lt, flat)) fault))));
@@ -108,18 +85,12 @@ read_pairs-returns-then-has_key t c =
     let flat : reach c.args.self.now.schema.now (shape_of c.args.any.now) ≡ 0 =
     ap (reach c.args.self.now.schema.now) c.requires.shape in
     record {
-      gives = λ fuel turns lt big fault.
-          let n = turns - length vs - 1 in
-          let split : turns ≡ suc n + length vs = omega (arith, v.turned, v.within, c.in-Some.ensures.within) in
-          ap (λ (m : ℕ). wrap (λ vs. pairs_in (entries_of vs))
-          (mapping_parts (source_of c.args.self.now) (any_entry_at (source_of c.args.self.now)
-          (reader_of fuel c.args.self.now) (way_of c.args.path.now) c.args.nest) m [] (spot_of c.args.walk.now)))
-          split
-          ∙ ap (wrap (λ vs. pairs_in (entries_of vs))) (v.rest fuel (suc n) lt)
-          ∙ wrap_fails (λ vs. pairs_in (entries_of vs)) _ _
-          (each_fails is_mapping_end (any_entry_at (source_of c.args.self.now) (reader_of fuel c.args.self.now)
-          (way_of c.args.path.now) c.args.nest) (seen c.args.self.now.events.now) n vs (spot_of l.walk) _ _
-          (sym c.in-Some.ensures.found) (not_mapping_end _ c.in_default-event.not-MappingEnd)
+      gives = λ fuel turns lt big fault. wrap_fails (λ vs. pairs_in (entries_of vs)) _ _
+          (led_fails is_mapping_end (any_entry_at (source_of c.args.self.now) (reader_of fuel c.args.self.now)
+          (way_of c.args.path.now) c.args.nest) (seen c.args.self.now.events.now) (length c.loop-event.invariant.0) _ _
+          _ _ (v.rest fuel lt) turns _ _
+          (omega (arith, v.turned, v.within)) (sym c.in-Some.ensures.found)
+          (not_mapping_end _ c.in_default-event.not-MappingEnd)
           (any_repeated (source_of c.args.self.now) (reader_of fuel c.args.self.now)
           (way_of c.args.path.now) c.args.nest vs (spot_of l.walk) _ _ _
           (rw c.requires.shape at (c.in-Ok.ensures.gives fuel (omega (arith, v.left, lt, flat))))
@@ -146,18 +117,12 @@ read_pairs-returns-in-Err-read_node t c =
     let new : new_key vs (data_of c.in-Ok.key) ≡ Ok (data_of c.in-Ok.key) =
     new_is_key vs (data_of c.in-Ok.key) (ap (has_key (tree_in (data_of c.in-Ok.key))) v.same ∙ absent) in
     record {
-      gives = λ fuel turns lt big fault.
-          let n = turns - length vs - 1 in
-          let split : turns ≡ suc n + length vs = omega (arith, v.turned, v.within, c.in-Some.ensures.within) in
-          ap (λ (m : ℕ). wrap (λ vs. pairs_in (entries_of vs))
-          (mapping_parts (source_of c.args.self.now) (any_entry_at (source_of c.args.self.now)
-          (reader_of fuel c.args.self.now) (way_of c.args.path.now) c.args.nest) m [] (spot_of c.args.walk.now)))
-          split
-          ∙ ap (wrap (λ vs. pairs_in (entries_of vs))) (v.rest fuel (suc n) lt)
-          ∙ wrap_fails (λ vs. pairs_in (entries_of vs)) _ _
-          (each_fails is_mapping_end (any_entry_at (source_of c.args.self.now) (reader_of fuel c.args.self.now)
-          (way_of c.args.path.now) c.args.nest) (seen c.args.self.now.events.now) n vs (spot_of l.walk) _ _
-          (sym c.in-Some.ensures.found) (not_mapping_end _ c.in_default-event.not-MappingEnd)
+      gives = λ fuel turns lt big fault. wrap_fails (λ vs. pairs_in (entries_of vs)) _ _
+          (led_fails is_mapping_end (any_entry_at (source_of c.args.self.now) (reader_of fuel c.args.self.now)
+          (way_of c.args.path.now) c.args.nest) (seen c.args.self.now.events.now) (length c.loop-event.invariant.0) _ _
+          _ _ (v.rest fuel lt) turns _ _
+          (omega (arith, v.turned, v.within)) (sym c.in-Some.ensures.found)
+          (not_mapping_end _ c.in_default-event.not-MappingEnd)
           (any_no_value (source_of c.args.self.now) (reader_of fuel c.args.self.now)
           (way_of c.args.path.now) c.args.nest vs (spot_of l.walk) _ _ _
           (rw c.requires.shape at (c.in-Ok.ensures.gives fuel (omega (arith, v.left, lt, flat)))) new
@@ -195,19 +160,15 @@ read_pairs-loop-event-preserved t c =
         left = omega (arith, moves, moves', v.left);
         counted = omega (arith, moves, moves', v.counted);
         cost = omega (arith, moves, moves', v.cost);
-        rest = λ fuel n lt.
-            let split : n + length (vs ++ (k, w) ∷ []) ≡ suc n + length vs = omega (arith, longer) in
-            ap (λ (m : ℕ). mapping_parts (source_of c.args.self.now)
-            (any_entry_at (source_of c.args.self.now) (reader_of fuel c.args.self.now)
-            (way_of c.args.path.now) c.args.nest) m [] (spot_of c.args.walk.now)) split
-            ∙ v.rest fuel (suc n) lt
-            ∙ each_more is_mapping_end (any_entry_at (source_of c.args.self.now) (reader_of fuel c.args.self.now)
-            (way_of c.args.path.now) c.args.nest) (seen c.args.self.now.events.now) n vs _ (spot_of l.walk) _ _
-            (sym c.in-Some.ensures.found) (not_mapping_end _ c.in_default-event.not-MappingEnd)
+        rest = λ fuel lt. led_more is_mapping_end
+            (any_entry_at (source_of c.args.self.now) (reader_of fuel c.args.self.now) (way_of c.args.path.now) c.args.nest)
+            (seen c.args.self.now.events.now) (length c.loop-event.invariant.0) _ _ _ _ (v.rest fuel lt) _ _ _ _ _
+            (sym c.in-Some.ensures.found)
+            (not_mapping_end _ c.in_default-event.not-MappingEnd)
             (any_entry (source_of c.args.self.now) (reader_of fuel c.args.self.now)
             (way_of c.args.path.now) c.args.nest vs (spot_of l.walk) _ _ _ _
             (rw c.requires.shape at (c.in-Ok.ensures.gives fuel (omega (arith, v.left, lt, flat)))) new
             (rw (c.value_path-inner.ensures, c.requires.shape, there) at (c.in-Ok-read_node.ensures.gives fuel
-            (omega (arith, v.left, lt, moves, flat)))));
+            (omega (arith, v.left, lt, moves, flat))))) refl (omega (arith, longer));
       },
     )

@@ -1,5 +1,5 @@
 -- What the reader gives at each exit: structs.
-use Rattle.std.proofs.Common.{Ok, Err, None, ◌≡◌, ℕ, suc, ◌+◌, ◌-◌, ◌<◌, length, false, sym, ap, ◌∙◌, arith}
+use Rattle.std.proofs.Common.{refl, Ok, Err, None, ◌≡◌, suc, ◌+◌, ◌-◌, ◌<◌, length, false, sym, ap, ◌∙◌, arith}
 use Rattle.std.specs.Option.{is_some, option_map}
 use Rattle.std.proofs.lemmas.List.{length-map}
 use Rattle.yaml_shape.specs.DataView.{data_of}
@@ -7,35 +7,35 @@ use Rattle.yaml_shape.specs.ShapeView.{shape_of, field_of, fields_of}
 use Rattle.yaml_load.specs.DocEventView.{doc_event_of}
 use Rattle.yaml_read.specs.Fields.{no_slots, struct_of}
 use Rattle.yaml_read.specs.Handing.{is_bare}
-use Rattle.yaml_read.specs.Places.{way_of}
 use Rattle.yaml_read.specs.TreeReader.{Spot, after}
-use Rattle.yaml_read.specs.inner.Reader.{is_mapping_end, field_at, mapping_parts}
-use Rattle.yaml_read.specs.inner.Walks.{around_of, source_of, spot_of, seen, reader_of, slots_of}
+use Rattle.yaml_read.specs.inner.Reader.{is_mapping_end, field_at}
+use Rattle.yaml_read.specs.inner.Walks.{around_of, spot_of, slots_of, source_of, seen, reader_of}
+use Rattle.yaml_read.specs.inner.Questions.{question_of}
+use Rattle.yaml_read.specs.Places.{way_of}
 use Rattle.yaml_read.proofs.reading.Exits.{same_spot, not_mapping_end, step_event, finish_fails, gives_finish}
 use Rattle.yaml_read.proofs.reading.FieldExits.{fields_as_is, step_struct}
-use Rattle.yaml_read.proofs.reading.Loops.{each_ended, each_end, each_fails, each_more}
+use Rattle.yaml_read.proofs.reading.Loops.{led_end, led_ended, led_fails, led_more}
 use Rattle.yaml_read.proofs.de.node.source.Source.+read.Goals as goal
 
 pub read_struct-returns-in_default-event : goal.read_struct-returns-in_default-event
 read_struct-returns-in_default-event t c =
     let bare : is_bare (doc_event_of c.in-Some.field-0.now.0) ≡ false = sym c.is_bare.ensures ∙ c.if-is_bare.false in
     record {
-      gives = λ fuel lt. rw (step_event (source_of c.args.self.now) (reader_of fuel c.args.self.now)
-          (way_of c.args.path.now) (shape_of c.args.shape.now) c.args.nest (around_of c.args.taken)
-          (spot_of c.args.walk.now) _ _ c.in-Some.ensures.found
-          (fields_as_is (shape_of c.args.shape.now) (c.args.strict, fields_of c.args.fields.now)
-          (is_some (around_of c.args.taken)) _ c.requires.struct_of bare)) (c.read_simple.ensures.gives fuel _ lt);
+      gives = λ fuel lt. rw (step_event c.args.self.now fuel (question_of c.args.ask.now) c.args.walk.now _ _
+          c.in-Some.ensures.found
+          (fields_as_is (shape_of c.args.ask.now.shape.now) (c.args.strict, fields_of c.args.fields.now)
+          (is_some (around_of c.args.ask.now.taken)) _ c.requires.struct_of bare))
+          (c.read_simple.ensures.gives fuel _ lt);
       moves = c.read_simple.ensures.moves;
       cost = c.read_simple.ensures.cost;
     }
 
 pub read_struct-returns-in-Ok-clause-gives : goal.read_struct-returns-in-Ok-clause-gives
 read_struct-returns-in-Ok-clause-gives t c = λ fuel lt.
-    let some : 0 < c.args.nest = omega (arith, c.if-nest-eq0.false) in
+    let some : 0 < c.args.ask.now.nest = omega (arith, c.if-ask-eq0.false) in
     let left = c.step-2.ensures.left in
-    rw (step_struct (source_of c.args.self.now) (reader_of fuel c.args.self.now) (way_of c.args.path.now)
-    (shape_of c.args.shape.now) c.args.strict (fields_of c.args.fields.now) c.args.nest (around_of c.args.taken)
-    (spot_of c.args.walk.now) _ _ c.requires.struct_of (rw c.in-MappingStart.is at c.in-Some.ensures.found) some)
+    rw (step_struct c.args.self.now fuel (question_of c.args.ask.now) c.args.walk.now c.args.strict
+    (fields_of c.args.fields.now) _ _ c.requires.struct_of (rw c.in-MappingStart.is at c.in-Some.ensures.found) some)
     (gives_finish data_of (struct_of c.args.self.now.schema.now (fields_of c.args.fields.now)) _ _ _ _
     (rw (
       c.in_ok-index.ensures,
@@ -47,11 +47,10 @@ read_struct-returns-in-Ok-clause-gives t c = λ fuel lt.
 
 pub read_struct-returns-clause-gives : goal.read_struct-returns-clause-gives
 read_struct-returns-clause-gives t c = λ fuel lt fault.
-    let some : 0 < c.args.nest = omega (arith, c.if-nest-eq0.false) in
+    let some : 0 < c.args.ask.now.nest = omega (arith, c.if-ask-eq0.false) in
     let left = c.step-2.ensures.left in
-    step_struct (source_of c.args.self.now) (reader_of fuel c.args.self.now) (way_of c.args.path.now)
-    (shape_of c.args.shape.now) c.args.strict (fields_of c.args.fields.now) c.args.nest (around_of c.args.taken)
-    (spot_of c.args.walk.now) _ _ c.requires.struct_of (rw c.in-MappingStart.is at c.in-Some.ensures.found) some
+    step_struct c.args.self.now fuel (question_of c.args.ask.now) c.args.walk.now c.args.strict
+    (fields_of c.args.fields.now) _ _ c.requires.struct_of (rw c.in-MappingStart.is at c.in-Some.ensures.found) some
     ∙ finish_fails (struct_of c.args.self.now.schema.now (fields_of c.args.fields.now)) _ _
     (rw (
       c.in_ok-index.ensures,
@@ -68,54 +67,35 @@ read_fields-loop-event-init t c = (
     within = c.requires.within;
     wide = sym (length-map c.in_ok-slots.slots.items (option_map data_of)) ∙ ap length c.in_ok-slots.ensures
         ∙ ap (λ f. length (no_slots (fields_of f))) c.fields.ensures
-        ∙ length-map (fields_of c.args.fields.now) (λ f. None) ∙ length-map c.args.fields.now field_of;
+        ∙ length-map (fields_of c.args.names.now.fields.now) (λ f. None) ∙ length-map c.args.names.now.fields.now
+        field_of;
     turned = omega arith;
     left = omega arith;
     counted = omega arith;
     cost = omega arith;
-    rest = λ fuel n lt.
+    rest = λ fuel lt n.
         let none : n + 0 ≡ n = omega arith in
-        ap (λ (m : ℕ). mapping_parts (source_of c.args.self.now)
-        (field_at (source_of c.args.self.now) (reader_of fuel c.args.self.now)
-        (way_of c.args.path.now) c.args.strict (fields_of c.args.fields.now) c.args.nest) m
-        (no_slots (fields_of c.args.fields.now)) (spot_of c.args.walk.now)) none
-        ∙ ap (λ slots. mapping_parts (source_of c.args.self.now)
-        (field_at (source_of c.args.self.now) (reader_of fuel c.args.self.now) (way_of c.args.path.now) c.args.strict
-        (fields_of c.args.fields.now) c.args.nest) n slots (spot_of c.args.walk.now))
-        (sym (c.in_ok-slots.ensures ∙ ap (λ f. no_slots (fields_of f)) c.fields.ensures));
+        rw (none, c.in_ok-slots.ensures, c.fields.ensures);
   },
 )
 
 pub read_fields-returns-in_default-clause-gives : goal.read_fields-returns-in_default-clause-gives
 read_fields-returns-in_default-clause-gives t c = λ fuel turns lt big fault.
-    let l = c.loop-event in
-    let v = l.invariant.1 in
-    let n = turns - l.invariant.0 - 1 in
-    let split : turns ≡ suc n + l.invariant.0 = omega (arith, v.turned, v.within) in
-    ap (λ (m : ℕ). mapping_parts (source_of c.args.self.now)
-    (field_at (source_of c.args.self.now) (reader_of fuel c.args.self.now) (way_of c.args.path.now) c.args.strict
-    (fields_of c.args.fields.now) c.args.nest) m (no_slots (fields_of c.args.fields.now)) (spot_of c.args.walk.now))
-    split
-    ∙ v.rest fuel (suc n) lt
-    ∙ each_ended is_mapping_end (field_at (source_of c.args.self.now) (reader_of fuel c.args.self.now)
-    (way_of c.args.path.now) c.args.strict (fields_of c.args.fields.now) c.args.nest)
-    (seen c.args.self.now.events.now) n _ (spot_of l.walk) (sym c.in_default.ensures.found)
-    ∙ ap Err (sym (c.ended.ensures fault))
+    let v = c.loop-event.invariant.1 in
+    led_ended is_mapping_end (field_at (source_of c.args.self.now) (reader_of fuel c.args.self.now)
+    (way_of c.args.path.now) c.args.names.now.strict (fields_of c.args.names.now.fields.now) c.args.nest)
+    (seen c.args.self.now.events.now) c.loop-event.invariant.0 _ _ _ _ (v.rest fuel lt) turns
+    (omega (arith, v.turned, v.within))
+    (sym c.in_default.ensures.found) ∙ ap Err (sym (c.ended.ensures fault))
 
 pub read_fields-returns-in-MappingEnd-clause-gives : goal.read_fields-returns-in-MappingEnd-clause-gives
 read_fields-returns-in-MappingEnd-clause-gives t c = λ fuel turns lt big.
     let l = c.loop-event in
     let v = l.invariant.1 in
-    let n = turns - l.invariant.0 - 1 in
-    let split : turns ≡ suc n + l.invariant.0 = omega (arith, v.turned, v.within) in
-    ap (λ (m : ℕ). mapping_parts (source_of c.args.self.now)
-    (field_at (source_of c.args.self.now) (reader_of fuel c.args.self.now) (way_of c.args.path.now) c.args.strict
-    (fields_of c.args.fields.now) c.args.nest) m (no_slots (fields_of c.args.fields.now)) (spot_of c.args.walk.now))
-    split
-    ∙ v.rest fuel (suc n) lt
-    ∙ each_end is_mapping_end (field_at (source_of c.args.self.now) (reader_of fuel c.args.self.now)
-    (way_of c.args.path.now) c.args.strict (fields_of c.args.fields.now) c.args.nest)
-    (seen c.args.self.now.events.now) n _ (spot_of l.walk) _ (sym c.in-Some.ensures.found)
+    led_end is_mapping_end (field_at (source_of c.args.self.now) (reader_of fuel c.args.self.now)
+    (way_of c.args.path.now) c.args.names.now.strict (fields_of c.args.names.now.fields.now) c.args.nest)
+    (seen c.args.self.now.events.now) c.loop-event.invariant.0 _ _ _ _ (v.rest fuel lt) turns _
+    (omega (arith, v.turned, v.within)) (sym c.in-Some.ensures.found)
     (ap (λ e. is_mapping_end (doc_event_of e)) c.in-MappingEnd.is)
     ∙ ap (λ (s : Spot). Ok (slots_of l.slots.items, s))
     (sym (same_spot (spot_of c.step.new.self) (after (spot_of l.walk)) c.step.ensures.place c.step.ensures.left))
@@ -125,18 +105,12 @@ read_fields-returns-in-Err t c =
     let l = c.loop-event in
     let v = l.invariant.1 in
     record {
-      gives = λ fuel turns lt big fault.
-          let n = turns - l.invariant.0 - 1 in
-          let split : turns ≡ suc n + l.invariant.0 = omega (arith, v.turned, v.within, c.in-Some.ensures.within) in
-          ap (λ (m : ℕ). mapping_parts (source_of c.args.self.now)
-          (field_at (source_of c.args.self.now) (reader_of fuel c.args.self.now)
-          (way_of c.args.path.now) c.args.strict (fields_of c.args.fields.now) c.args.nest) m
-          (no_slots (fields_of c.args.fields.now)) (spot_of c.args.walk.now)) split
-          ∙ v.rest fuel (suc n) lt
-          ∙ each_fails is_mapping_end (field_at (source_of c.args.self.now) (reader_of fuel c.args.self.now)
-          (way_of c.args.path.now) c.args.strict (fields_of c.args.fields.now) c.args.nest)
-          (seen c.args.self.now.events.now) n _ (spot_of l.walk) _ _ (sym c.in-Some.ensures.found)
-          (not_mapping_end _ c.in_default-event.not-MappingEnd)
+      gives = λ fuel turns lt big fault. led_fails is_mapping_end (field_at (source_of c.args.self.now)
+          (reader_of fuel c.args.self.now) (way_of c.args.path.now) c.args.names.now.strict
+          (fields_of c.args.names.now.fields.now) c.args.nest) (seen c.args.self.now.events.now) c.loop-event.invariant.0 _
+          _ _ _ (v.rest fuel lt) turns _ _
+          (omega (arith, v.turned, v.within)) (sym c.in-Some.ensures.found)
+          (not_mapping_end _ c.in_default-0₀.not-MappingEnd)
           (c.in-Err.ensures.gives fuel (omega (arith, v.left, lt)) fault);
       moves = tt;
       cost = omega (arith, v.cost, c.in-Err.ensures.cost);
@@ -155,17 +129,11 @@ read_fields-loop-event-preserved t c =
         left = omega (arith, moves, v.left);
         counted = omega (arith, moves, v.counted);
         cost = omega (arith, moves, v.cost);
-        rest = λ fuel n lt.
-            let split : n + suc l.invariant.0 ≡ suc n + l.invariant.0 = omega arith in
-            ap (λ (m : ℕ). mapping_parts (source_of c.args.self.now)
-            (field_at (source_of c.args.self.now) (reader_of fuel c.args.self.now)
-            (way_of c.args.path.now) c.args.strict (fields_of c.args.fields.now) c.args.nest) m
-            (no_slots (fields_of c.args.fields.now)) (spot_of c.args.walk.now)) split
-            ∙ v.rest fuel (suc n) lt
-            ∙ each_more is_mapping_end (field_at (source_of c.args.self.now) (reader_of fuel c.args.self.now)
-            (way_of c.args.path.now) c.args.strict (fields_of c.args.fields.now) c.args.nest)
-            (seen c.args.self.now.events.now) n _ _ (spot_of l.walk) _ _ (sym c.in-Some.ensures.found)
-            (not_mapping_end _ c.in_default-event.not-MappingEnd)
-            (c.in-Ok.ensures.gives fuel (omega (arith, v.left, lt)));
+        rest = λ fuel lt. led_more is_mapping_end (field_at (source_of c.args.self.now) (reader_of fuel c.args.self.now)
+            (way_of c.args.path.now) c.args.names.now.strict (fields_of c.args.names.now.fields.now) c.args.nest)
+            (seen c.args.self.now.events.now) c.loop-event.invariant.0 _ _ _ _ (v.rest fuel lt) _ _ _ _ _
+            (sym c.in-Some.ensures.found)
+            (not_mapping_end _ c.in_default-0₀.not-MappingEnd)
+            (c.in-Ok.ensures.gives fuel (omega (arith, v.left, lt))) refl refl;
       },
     )

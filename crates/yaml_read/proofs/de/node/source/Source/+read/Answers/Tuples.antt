@@ -1,6 +1,6 @@
 -- What the reader gives at each exit: tuples and tuple structs.
-use Rattle.std.proofs.Common.{Ok, Err, None, ◌≡◌, ℕ, suc, ◌+◌, ◌-◌, ◌<◌, [], ◌∷◌, ◌++◌, map, length, sym, ap, ◌∙◌}
-use Rattle.std.proofs.Common.{arith, rules, length-append}
+use Rattle.std.proofs.Common.{Ok, Err, None, ◌≡◌, suc, ◌+◌, ◌-◌, ◌<◌, [], ◌∷◌, ◌++◌, map, length, sym, ap, ◌∙◌, arith}
+use Rattle.std.proofs.Common.{rules, length-append}
 use Rattle.std.specs.Option.{is_some, option_copied}
 use Rattle.std.specs.Prelude.{drop}
 use Rattle.std.proofs.lemmas.List.{map-append, length-map}
@@ -10,33 +10,32 @@ use Rattle.yaml_shape.specs.ShapeView.{shape_of, ids_of}
 use Rattle.yaml_load.specs.DocEventView.{doc_event_of}
 use Rattle.yaml_scalar.specs.Steps.{with_shape}
 use Rattle.yaml_read.specs.Places.{way_of, element_under}
-use Rattle.yaml_read.specs.Rows.{row_of, row_data}
+use Rattle.yaml_read.specs.Rows.{row_data}
 use Rattle.yaml_read.specs.TreeReader.{Spot, after}
-use Rattle.yaml_read.specs.inner.Reader.{is_sequence_end, few_text, owner_named, row_at, skip_at, sequence_parts}
-use Rattle.yaml_read.specs.inner.Walks.{around_of, source_of, spot_of, seen, reader_of, row_view}
+use Rattle.yaml_read.specs.inner.Reader.{is_sequence_end, few_text, owner_named, skip_at, row_at}
+use Rattle.yaml_read.specs.inner.Walks.{around_of, source_of, spot_of, reader_of, row_view, seen}
+use Rattle.yaml_read.specs.inner.Questions.{question_of}
 use Rattle.yaml_read.proofs.reading.Exits.{same_spot, not_sequence_end, row_as_is, step_event, step_row, finish_fails}
 use Rattle.yaml_read.proofs.reading.Exits.{gives_finish}
 use Rattle.yaml_read.proofs.reading.PartExits.{all_at, row_skips, row_reads, drop_here, drop_none}
-use Rattle.yaml_read.proofs.reading.Loops.{each_ended, each_end, each_fails, each_more, wrap_fails, wrap_finds}
+use Rattle.yaml_read.proofs.reading.Loops.{led_end, led_ended, led_fails, led_more, wrap_fails, wrap_finds}
 use Rattle.yaml_read.proofs.de.node.source.Source.+read.Goals as goal
 
 pub read_tuple-returns-in_default-event : goal.read_tuple-returns-in_default-event
 read_tuple-returns-in_default-event t c = record {
-  gives = λ fuel lt. rw (step_event (source_of c.args.self.now) (reader_of fuel c.args.self.now)
-      (way_of c.args.path.now) (shape_of c.args.shape.now) c.args.nest (around_of c.args.taken)
-      (spot_of c.args.walk.now) _ _ c.in-Some.ensures.found
-      (row_as_is (shape_of c.args.shape.now) (option_copied c.args.name) (ids_of c.args.items.now)
-      (is_some (around_of c.args.taken)) _ c.requires.tuple)) (c.read_simple.ensures.gives fuel _ lt);
+  gives = λ fuel lt. rw (step_event c.args.self.now fuel (question_of c.args.ask.now) c.args.walk.now _ _
+      c.in-Some.ensures.found
+      (row_as_is (shape_of c.args.ask.now.shape.now) (option_copied c.args.name) (ids_of c.args.items.now)
+      (is_some (around_of c.args.ask.now.taken)) _ c.requires.tuple)) (c.read_simple.ensures.gives fuel _ lt);
   moves = c.read_simple.ensures.moves;
   cost = c.read_simple.ensures.cost;
 }
 
 pub read_tuple-returns-in-Ok-clause-gives : goal.read_tuple-returns-in-Ok-clause-gives
 read_tuple-returns-in-Ok-clause-gives t c = λ fuel lt.
-    let some : 0 < c.args.nest = omega (arith, c.if-nest-eq0.false) in
+    let some : 0 < c.args.ask.now.nest = omega (arith, c.if-ask-eq0.false) in
     let left = c.step.ensures.left in
-    rw (step_row (source_of c.args.self.now) (reader_of fuel c.args.self.now) (way_of c.args.path.now)
-    (shape_of c.args.shape.now) c.args.nest (around_of c.args.taken) (spot_of c.args.walk.now)
+    rw (step_row c.args.self.now fuel (question_of c.args.ask.now) c.args.walk.now
     (option_copied c.args.name) (ids_of c.args.items.now) _ _ c.requires.tuple
     (rw c.in-SequenceStart.is at c.in-Some.ensures.found) some)
     (gives_finish data_of (row_data (few_text (owner_named (option_copied c.args.name))
@@ -48,10 +47,9 @@ read_tuple-returns-in-Ok-clause-gives t c = λ fuel lt.
 
 pub read_tuple-returns-in-Err-clause-gives : goal.read_tuple-returns-in-Err-clause-gives
 read_tuple-returns-in-Err-clause-gives t c = λ fuel lt fault.
-    let some : 0 < c.args.nest = omega (arith, c.if-nest-eq0.false) in
+    let some : 0 < c.args.ask.now.nest = omega (arith, c.if-ask-eq0.false) in
     let left = c.step.ensures.left in
-    step_row (source_of c.args.self.now) (reader_of fuel c.args.self.now) (way_of c.args.path.now)
-    (shape_of c.args.shape.now) c.args.nest (around_of c.args.taken) (spot_of c.args.walk.now)
+    step_row c.args.self.now fuel (question_of c.args.ask.now) c.args.walk.now
     (option_copied c.args.name) (ids_of c.args.items.now) _ _ c.requires.tuple
     (rw c.in-SequenceStart.is at c.in-Some.ensures.found) some
     ∙ finish_fails (row_data (few_text (owner_named (option_copied c.args.name)) (length (ids_of c.args.items.now)))
@@ -63,30 +61,17 @@ read_tuple-returns-in-Err-clause-gives t c = λ fuel lt fault.
 pub read_elements-returns-in_default-clause-gives : goal.read_elements-returns-in_default-clause-gives
 read_elements-returns-in_default-clause-gives t c = λ fuel turns lt big fault.
     let l = c.loop-event in
-    let n = turns - (length l.read.items + l.extra) - 1 in
-    let split : turns ≡ suc n + (length l.read.items + l.extra) =
-    omega (arith, l.invariant.turned, l.invariant.within) in
-    ap (λ (m : ℕ). sequence_parts (source_of c.args.self.now)
-    (row_at (source_of c.args.self.now) (reader_of fuel c.args.self.now) (way_of c.args.path.now) c.args.nest) m
-    (row_of (ids_of c.args.items.now)) (spot_of c.args.walk.now)) split
-    ∙ l.invariant.rest fuel (suc n) lt
-    ∙ each_ended is_sequence_end (row_at (source_of c.args.self.now) (reader_of fuel c.args.self.now)
-    (way_of c.args.path.now) c.args.nest) (seen c.args.self.now.events.now) n _ (spot_of l.walk)
-    (sym c.in_default.ensures.found)
-    ∙ ap Err (sym (c.ended.ensures fault))
+    led_ended is_sequence_end (row_at (source_of c.args.self.now) (reader_of fuel c.args.self.now)
+    (way_of c.args.path.now) c.args.nest) (seen c.args.self.now.events.now) (length l.read.items + l.extra) _ _ _ _
+    (l.invariant.rest fuel lt) turns (omega (arith, l.invariant.turned, l.invariant.within))
+    (sym c.in_default.ensures.found) ∙ ap Err (sym (c.ended.ensures fault))
 
 pub read_elements-returns-in-SequenceEnd-clause-gives : goal.read_elements-returns-in-SequenceEnd-clause-gives
 read_elements-returns-in-SequenceEnd-clause-gives t c = λ fuel turns lt big.
     let l = c.loop-event in
-    let n = turns - (length l.read.items + l.extra) - 1 in
-    let split : turns ≡ suc n + (length l.read.items + l.extra) =
-    omega (arith, l.invariant.turned, l.invariant.within) in
-    ap (λ (m : ℕ). sequence_parts (source_of c.args.self.now)
-    (row_at (source_of c.args.self.now) (reader_of fuel c.args.self.now) (way_of c.args.path.now) c.args.nest) m
-    (row_of (ids_of c.args.items.now)) (spot_of c.args.walk.now)) split
-    ∙ l.invariant.rest fuel (suc n) lt
-    ∙ each_end is_sequence_end (row_at (source_of c.args.self.now) (reader_of fuel c.args.self.now)
-    (way_of c.args.path.now) c.args.nest) (seen c.args.self.now.events.now) n _ (spot_of l.walk) _
+    led_end is_sequence_end (row_at (source_of c.args.self.now) (reader_of fuel c.args.self.now)
+    (way_of c.args.path.now) c.args.nest) (seen c.args.self.now.events.now) (length l.read.items + l.extra) _ _ _ _
+    (l.invariant.rest fuel lt) turns _ (omega (arith, l.invariant.turned, l.invariant.within))
     (sym c.in-Some.ensures.found) (ap (λ e. is_sequence_end (doc_event_of e)) c.in-SequenceEnd.is)
     ∙ ap (λ (s : Spot). Ok (row_view (ids_of c.args.items.now) (record { read = l.read; extra = l.extra }), s))
     (sym (same_spot (spot_of c.step.new.self) (after (spot_of l.walk)) c.step.ensures.place c.step.ensures.left))
@@ -97,17 +82,11 @@ read_elements-returns-in-Err t c =
     let len : c.len-count.result ≡ length l.read.items = search rules in
     let idx : length l.read.items ≡ length (map data_of l.read.items) = sym (length-map l.read.items data_of) in
     record {
-      gives = λ fuel turns lt big fault.
-          let n = turns - (length l.read.items + l.extra) - 1 in
-          let split : turns ≡ suc n + (length l.read.items + l.extra) =
-          omega (arith, l.invariant.turned, l.invariant.within, c.in-Some.ensures.within) in
-          ap (λ (m : ℕ). sequence_parts (source_of c.args.self.now)
-          (row_at (source_of c.args.self.now) (reader_of fuel c.args.self.now) (way_of c.args.path.now) c.args.nest)
-          m (row_of (ids_of c.args.items.now)) (spot_of c.args.walk.now)) split
-          ∙ l.invariant.rest fuel (suc n) lt
-          ∙ each_fails is_sequence_end (row_at (source_of c.args.self.now) (reader_of fuel c.args.self.now)
-          (way_of c.args.path.now) c.args.nest) (seen c.args.self.now.events.now) n _ (spot_of l.walk) _ _
-          (sym c.in-Some.ensures.found) (not_sequence_end _ c.in_default-event.not-SequenceEnd)
+      gives = λ fuel turns lt big fault. led_fails is_sequence_end (row_at (source_of c.args.self.now)
+          (reader_of fuel c.args.self.now) (way_of c.args.path.now) c.args.nest) (seen c.args.self.now.events.now)
+          (length l.read.items + l.extra) _ _ _ _ (l.invariant.rest fuel lt) turns _ _
+          (omega (arith, l.invariant.turned, l.invariant.within)) (sym c.in-Some.ensures.found)
+          (not_sequence_end _ c.in_default-event.not-SequenceEnd)
           (row_skips (map data_of l.read.items) l.extra
           (λ id. with_shape (shape_at c.args.self.now.schema.now id)
           (λ s. (reader_of fuel c.args.self.now) (element_under (way_of c.args.path.now)
@@ -134,17 +113,11 @@ read_elements-returns-in-Err-read_node t c =
     let len : c.len-count.result ≡ length l.read.items = search rules in
     let idx : length l.read.items ≡ length (map data_of l.read.items) = sym (length-map l.read.items data_of) in
     record {
-      gives = λ fuel turns lt big fault.
-          let n = turns - (length l.read.items + l.extra) - 1 in
-          let split : turns ≡ suc n + (length l.read.items + l.extra) =
-          omega (arith, l.invariant.turned, l.invariant.within, c.in-Some.ensures.within) in
-          ap (λ (m : ℕ). sequence_parts (source_of c.args.self.now)
-          (row_at (source_of c.args.self.now) (reader_of fuel c.args.self.now) (way_of c.args.path.now) c.args.nest)
-          m (row_of (ids_of c.args.items.now)) (spot_of c.args.walk.now)) split
-          ∙ l.invariant.rest fuel (suc n) lt
-          ∙ each_fails is_sequence_end (row_at (source_of c.args.self.now) (reader_of fuel c.args.self.now)
-          (way_of c.args.path.now) c.args.nest) (seen c.args.self.now.events.now) n _ (spot_of l.walk) _ _
-          (sym c.in-Some.ensures.found) (not_sequence_end _ c.in_default-event.not-SequenceEnd)
+      gives = λ fuel turns lt big fault. led_fails is_sequence_end (row_at (source_of c.args.self.now)
+          (reader_of fuel c.args.self.now) (way_of c.args.path.now) c.args.nest) (seen c.args.self.now.events.now)
+          (length l.read.items + l.extra) _ _ _ _ (l.invariant.rest fuel lt) turns _ _
+          (omega (arith, l.invariant.turned, l.invariant.within)) (sym c.in-Some.ensures.found)
+          (not_sequence_end _ c.in_default-event.not-SequenceEnd)
           (row_reads (map data_of l.read.items) l.extra
           (λ id. with_shape (shape_at c.args.self.now.schema.now id)
           (λ s. (reader_of fuel c.args.self.now) (element_under (way_of c.args.path.now)
@@ -176,19 +149,12 @@ read_elements-loop-event-preserved-in_default-item_here t c =
       left = omega (arith, moves, l.invariant.left);
       counted = omega (arith, moves, l.invariant.counted);
       cost = omega (arith, moves, l.invariant.cost);
-      rest = λ fuel n lt.
+      rest = λ fuel lt.
           let none : drop (length l.read.items) (ids_of c.args.items.now) ≡ [] =
           drop_none (ids_of c.args.items.now) (length l.read.items) (rw len at c.in_default-item_here.ensures) in
-          let split : n + (length l.read.items + (l.extra + 1)) ≡ suc n + (length l.read.items + l.extra) =
-          omega arith in
-          ap (λ (m : ℕ). sequence_parts (source_of c.args.self.now)
-          (row_at (source_of c.args.self.now) (reader_of fuel c.args.self.now) (way_of c.args.path.now) c.args.nest)
-          m (row_of (ids_of c.args.items.now)) (spot_of c.args.walk.now)) split
-          ∙ l.invariant.rest fuel (suc n) lt
-          ∙ each_more is_sequence_end (row_at (source_of c.args.self.now) (reader_of fuel c.args.self.now)
-          (way_of c.args.path.now) c.args.nest) (seen c.args.self.now.events.now) n _
-          (record { left = []; read = map data_of l.read.items; extra = l.extra + 1 }) (spot_of l.walk)
-          (spot_of c.pass_over.new.walk) _ (sym c.in-Some.ensures.found)
+          led_more is_sequence_end (row_at (source_of c.args.self.now) (reader_of fuel c.args.self.now)
+          (way_of c.args.path.now) c.args.nest) (seen c.args.self.now.events.now) (length l.read.items + l.extra) _ _ _
+          _ (l.invariant.rest fuel lt) _ _ _ _ _ (sym c.in-Some.ensures.found)
           (not_sequence_end _ c.in_default-event.not-SequenceEnd)
           (row_skips (map data_of l.read.items) l.extra
           (λ id. with_shape (shape_at c.args.self.now.schema.now id)
@@ -196,10 +162,8 @@ read_elements-loop-event-preserved-in_default-item_here t c =
           (length (map data_of l.read.items))) s c.args.nest None (spot_of l.walk)))
           (skip_at (source_of c.args.self.now) (spot_of l.walk))
           (drop (length l.read.items) (ids_of c.args.items.now)) none ∙ wrap_finds _ _ _ _ c.in-Ok.ensures.gives)
-          ∙ ap (λ left. sequence_parts (source_of c.args.self.now)
-          (row_at (source_of c.args.self.now) (reader_of fuel c.args.self.now) (way_of c.args.path.now) c.args.nest) n
-          (record { left = left; read = map data_of l.read.items; extra = l.extra + 1 }) (spot_of c.pass_over.new.walk))
-          (sym none);
+          (ap (λ left. record { left = left; read = map data_of l.read.items; extra = l.extra + 1 }) (sym none))
+          (omega arith);
     }
 
 pub read_elements-loop-event-preserved : goal.read_elements-loop-event-preserved
@@ -219,21 +183,9 @@ read_elements-loop-event-preserved t c =
       left = omega (arith, moves, l.invariant.left);
       counted = omega (arith, moves, l.invariant.counted);
       cost = omega (arith, moves, l.invariant.cost);
-      rest = λ fuel n lt.
-          let split : n + (length c.push.new.self.items + l.extra) ≡ suc n + (length l.read.items + l.extra) =
-          omega (arith, longer) in
-          ap (λ (m : ℕ). sequence_parts (source_of c.args.self.now)
-          (row_at (source_of c.args.self.now) (reader_of fuel c.args.self.now) (way_of c.args.path.now) c.args.nest)
-          m (row_of (ids_of c.args.items.now)) (spot_of c.args.walk.now)) split
-          ∙ l.invariant.rest fuel (suc n) lt
-          ∙ each_more is_sequence_end (row_at (source_of c.args.self.now) (reader_of fuel c.args.self.now)
-          (way_of c.args.path.now) c.args.nest) (seen c.args.self.now.events.now) n _
-          (record {
-            left = drop (suc (length l.read.items)) (ids_of c.args.items.now);
-            read = map data_of l.read.items ++ data_of c.in-Ok-read_node.item ∷ [];
-            extra = l.extra;
-          }) (spot_of l.walk)
-          (spot_of c.read_node.new.walk) _ (sym c.in-Some.ensures.found)
+      rest = λ fuel lt. led_more is_sequence_end (row_at (source_of c.args.self.now) (reader_of fuel c.args.self.now)
+          (way_of c.args.path.now) c.args.nest) (seen c.args.self.now.events.now) (length l.read.items + l.extra) _ _ _ _
+          (l.invariant.rest fuel lt) _ _ _ _ _ (sym c.in-Some.ensures.found)
           (not_sequence_end _ c.in_default-event.not-SequenceEnd)
           (row_reads (map data_of l.read.items) l.extra
           (λ id. with_shape (shape_at c.args.self.now.schema.now id)
@@ -248,16 +200,5 @@ read_elements-loop-event-preserved t c =
           (element_under (way_of c.args.path.now) (length (map data_of l.read.items))) s c.args.nest None
           (spot_of l.walk))) c.shape.ensures.found ∙ rw (len, idx) at
           (c.in-Ok-read_node.ensures.gives fuel (omega (arith, l.invariant.left, c.shape.ensures.small)))))
-          ∙ ap (λ (m : ℕ). sequence_parts (source_of c.args.self.now)
-          (row_at (source_of c.args.self.now) (reader_of fuel c.args.self.now) (way_of c.args.path.now) c.args.nest) n
-          (record {
-            left = drop m (ids_of c.args.items.now);
-            read = map data_of l.read.items
-                ++ data_of c.in-Ok-read_node.item ∷ [];
-            extra = l.extra;
-          }) (spot_of c.read_node.new.walk)) (sym longer)
-          ∙ ap (λ vs. sequence_parts (source_of c.args.self.now)
-          (row_at (source_of c.args.self.now) (reader_of fuel c.args.self.now) (way_of c.args.path.now) c.args.nest) n
-          (record { left = drop (length c.push.new.self.items) (ids_of c.args.items.now); read = vs; extra = l.extra })
-          (spot_of c.read_node.new.walk)) seen_as;
+          (rw (longer, ← seen_as)) (omega (arith, longer));
     }

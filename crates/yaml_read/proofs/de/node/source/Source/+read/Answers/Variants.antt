@@ -12,6 +12,7 @@ use Rattle.yaml_read.specs.Places.{way_of}
 use Rattle.yaml_read.specs.Rows.{row_data}
 use Rattle.yaml_read.specs.TreeReader.{after}
 use Rattle.yaml_read.specs.inner.Walks.{plain_around, source_of, spot_of, reader_of}
+use Rattle.yaml_read.specs.inner.Questions.{question_of, taken_as}
 use Rattle.yaml_read.proofs.reading.ContentExits.{other_in_fields, no_mapping_starts}
 use Rattle.yaml_read.proofs.reading.ValueExits.{step_rows}
 use Rattle.yaml_read.proofs.reading.Exits.{same_spot, step_event, finish_fails, gives_finish}
@@ -20,13 +21,15 @@ use Rattle.yaml_read.proofs.de.node.source.Source.+read.Goals as goal
 
 pub read_variant_row-returns-in-Ok-clause-gives : goal.read_variant_row-returns-in-Ok-clause-gives
 read_variant_row-returns-in-Ok-clause-gives t c = λ fuel lt.
-    let some : 0 < c.args.nest = omega (arith, c.if-nest-eq0.false) in
+    let q = taken_as (question_of c.args.ask.now)
+    (tuple_variant_shape c.args.around.now.name.now c.args.around.now.variant.now (ids_of c.args.items.now))
+    (plain_around c.args.around.now) in
+    let some : 0 < c.args.ask.now.nest = omega (arith, c.if-ask-eq0.false) in
     let left = c.step-2.ensures.left in
-    rw (step_rows (source_of c.args.self.now) (reader_of fuel c.args.self.now) (way_of c.args.path.now) c.args.nest
-    (spot_of c.args.walk.now) (tuple_variant_shape c.args.around.now.name.now c.args.around.now.variant.now
-    (ids_of c.args.items.now)) (tuple_variant_with_text c.args.around.now.name.now c.args.around.now.variant.now
-    (length (ids_of c.args.items.now))) (ids_of c.args.items.now) (Some (plain_around c.args.around.now)) _ _ refl
-    (sym (c.requires.here ∙ ap (λ e. Some (doc_event_of e, c.args.mark)) c.in-SequenceStart.is)) some)
+    rw (step_rows c.args.self.now fuel q c.args.walk.now (tuple_variant_with_text c.args.around.now.name.now
+    c.args.around.now.variant.now
+    (length (ids_of c.args.items.now))) (ids_of c.args.items.now) _ _ refl
+    (sym (c.requires.here ∙ ap (λ e. Some (doc_event_of e, c.args.event.now.1)) c.in-SequenceStart.is)) some)
     (gives_finish data_of (row_data (tuple_variant_with_text c.args.around.now.name.now
     c.args.around.now.variant.now (length (ids_of c.args.items.now))) (length (ids_of c.args.items.now)))
     c.finish.result _ _ (spot_of c.read_elements.new.walk)
@@ -36,13 +39,15 @@ read_variant_row-returns-in-Ok-clause-gives t c = λ fuel lt.
 
 pub read_variant_row-returns-in-Err-clause-gives : goal.read_variant_row-returns-in-Err-clause-gives
 read_variant_row-returns-in-Err-clause-gives t c = λ fuel lt fault.
-    let some : 0 < c.args.nest = omega (arith, c.if-nest-eq0.false) in
+    let q = taken_as (question_of c.args.ask.now)
+    (tuple_variant_shape c.args.around.now.name.now c.args.around.now.variant.now (ids_of c.args.items.now))
+    (plain_around c.args.around.now) in
+    let some : 0 < c.args.ask.now.nest = omega (arith, c.if-ask-eq0.false) in
     let left = c.step-2.ensures.left in
-    step_rows (source_of c.args.self.now) (reader_of fuel c.args.self.now) (way_of c.args.path.now) c.args.nest
-    (spot_of c.args.walk.now) (tuple_variant_shape c.args.around.now.name.now c.args.around.now.variant.now
-    (ids_of c.args.items.now)) (tuple_variant_with_text c.args.around.now.name.now c.args.around.now.variant.now
-    (length (ids_of c.args.items.now))) (ids_of c.args.items.now) (Some (plain_around c.args.around.now)) _ _ refl
-    (sym (c.requires.here ∙ ap (λ e. Some (doc_event_of e, c.args.mark)) c.in-SequenceStart.is)) some
+    step_rows c.args.self.now fuel q c.args.walk.now (tuple_variant_with_text c.args.around.now.name.now
+    c.args.around.now.variant.now
+    (length (ids_of c.args.items.now))) (ids_of c.args.items.now) _ _ refl
+    (sym (c.requires.here ∙ ap (λ e. Some (doc_event_of e, c.args.event.now.1)) c.in-SequenceStart.is)) some
     ∙ finish_fails (row_data (tuple_variant_with_text c.args.around.now.name.now c.args.around.now.variant.now
     (length (ids_of c.args.items.now))) (length (ids_of c.args.items.now))) _ _
     (rw (same_spot (spot_of c.step-2.new.self) (after (spot_of c.args.walk.now)) c.step-2.ensures.place
@@ -51,21 +56,22 @@ read_variant_row-returns-in-Err-clause-gives t c = λ fuel lt fault.
 
 pub read_variant_fields-returns-in_default : goal.read_variant_fields-returns-in_default
 read_variant_fields-returns-in_default t c =
-    let bare : is_bare (doc_event_of c.args.event.now) ≡ false = sym c.is_bare.ensures ∙ c.if-is_bare.false in
+    let bare : is_bare (doc_event_of c.args.event.now.0) ≡ false = sym c.is_bare.ensures ∙ c.if-is_bare.false in
     record {
       gives = λ fuel lt fault.
-          step_event (source_of c.args.self.now) (reader_of fuel c.args.self.now) (way_of c.args.path.now)
-          (struct_variant_shape c.args.strict c.args.around.now.name.now c.args.around.now.variant.now
-          (fields_of c.args.fields.now)) c.args.nest (Some (plain_around c.args.around.now))
-          (spot_of c.args.walk.now) (doc_event_of c.args.event.now) c.args.mark (sym c.requires.here)
+          step_event c.args.self.now fuel
+          (taken_as (question_of c.args.ask.now) (struct_variant_shape c.args.strict c.args.around.now.name.now
+          c.args.around.now.variant.now (fields_of c.args.fields.now)) (plain_around c.args.around.now)) c.args.walk.now
+          (doc_event_of c.args.event.now.0) c.args.event.now.1 (sym c.requires.here)
           (fields_as_is (struct_variant_shape c.args.strict c.args.around.now.name.now c.args.around.now.variant.now
           (fields_of c.args.fields.now)) (c.args.strict, (fields_of c.args.fields.now)) true
-          (doc_event_of c.args.event.now) refl bare)
+          (doc_event_of c.args.event.now.0) refl bare)
           ∙ other_in_fields (source_of c.args.self.now) (reader_of fuel c.args.self.now)
-          (way_of c.args.path.now) c.args.nest (plain_around c.args.around.now)
+          (way_of c.args.ask.now.path.now) c.args.ask.now.nest (plain_around c.args.around.now)
           (spot_of c.args.walk.now) c.args.strict c.args.around.now.name.now c.args.around.now.variant.now
-          (fields_of c.args.fields.now) (doc_event_of c.args.event.now) c.args.mark c.args.around.now.variant.now
-          c.requires.tagged (no_mapping_starts c.args.event.now c.in_default.not-MappingStart c.args.strict
+          (fields_of c.args.fields.now) (doc_event_of c.args.event.now.0) c.args.event.now.1
+          c.args.around.now.variant.now
+          c.requires.tagged (no_mapping_starts c.args.event.now.0 c.in_default.not-MappingStart c.args.strict
           c.args.around.now.name.now c.args.around.now.variant.now (fields_of c.args.fields.now))
           ∙ ap (ending (after (spot_of c.args.walk.now)))
           (c.found_in_fields.ensures c.args.strict (fields_of c.args.fields.now) fault);
@@ -81,13 +87,12 @@ read_variant_fields-returns-in_default t c =
 
 pub read_variant_fields-returns-in-Ok-clause-gives : goal.read_variant_fields-returns-in-Ok-clause-gives
 read_variant_fields-returns-in-Ok-clause-gives t c = λ fuel lt.
-    let some : 0 < c.args.nest = omega (arith, c.if-nest-eq0.false) in
+    let q = taken_as (question_of c.args.ask.now) (struct_variant_shape c.args.strict c.args.around.now.name.now
+    c.args.around.now.variant.now (fields_of c.args.fields.now)) (plain_around c.args.around.now) in
+    let some : 0 < c.args.ask.now.nest = omega (arith, c.if-ask-eq0.false) in
     let left = c.step-2.ensures.left in
-    rw (step_struct (source_of c.args.self.now) (reader_of fuel c.args.self.now) (way_of c.args.path.now)
-    (struct_variant_shape c.args.strict c.args.around.now.name.now c.args.around.now.variant.now
-    (fields_of c.args.fields.now)) c.args.strict (fields_of c.args.fields.now) c.args.nest
-    (Some (plain_around c.args.around.now)) (spot_of c.args.walk.now) _ _ refl
-    (sym (c.requires.here ∙ ap (λ e. Some (doc_event_of e, c.args.mark)) c.in-MappingStart.is)) some)
+    rw (step_struct c.args.self.now fuel q c.args.walk.now c.args.strict (fields_of c.args.fields.now) _ _ refl
+    (sym (c.requires.here ∙ ap (λ e. Some (doc_event_of e, c.args.event.now.1)) c.in-MappingStart.is)) some)
     (gives_finish data_of (struct_of c.args.self.now.schema.now (fields_of c.args.fields.now)) _ _ _ _
     (rw (
       c.in_ok-index.ensures,
@@ -99,13 +104,12 @@ read_variant_fields-returns-in-Ok-clause-gives t c = λ fuel lt.
 
 pub read_variant_fields-returns-clause-gives : goal.read_variant_fields-returns-clause-gives
 read_variant_fields-returns-clause-gives t c = λ fuel lt fault.
-    let some : 0 < c.args.nest = omega (arith, c.if-nest-eq0.false) in
+    let q = taken_as (question_of c.args.ask.now) (struct_variant_shape c.args.strict c.args.around.now.name.now
+    c.args.around.now.variant.now (fields_of c.args.fields.now)) (plain_around c.args.around.now) in
+    let some : 0 < c.args.ask.now.nest = omega (arith, c.if-ask-eq0.false) in
     let left = c.step-2.ensures.left in
-    step_struct (source_of c.args.self.now) (reader_of fuel c.args.self.now) (way_of c.args.path.now)
-    (struct_variant_shape c.args.strict c.args.around.now.name.now c.args.around.now.variant.now
-    (fields_of c.args.fields.now)) c.args.strict (fields_of c.args.fields.now) c.args.nest
-    (Some (plain_around c.args.around.now)) (spot_of c.args.walk.now) _ _ refl
-    (sym (c.requires.here ∙ ap (λ e. Some (doc_event_of e, c.args.mark)) c.in-MappingStart.is)) some
+    step_struct c.args.self.now fuel q c.args.walk.now c.args.strict (fields_of c.args.fields.now) _ _ refl
+    (sym (c.requires.here ∙ ap (λ e. Some (doc_event_of e, c.args.event.now.1)) c.in-MappingStart.is)) some
     ∙ finish_fails (struct_of c.args.self.now.schema.now (fields_of c.args.fields.now)) _ _
     (rw (
       c.in_ok-index.ensures,
