@@ -9,6 +9,7 @@ ghost use Rattle.yaml_scalar.specs.ScalarSorts.{is_plain, is_literal, is_tag, is
 ghost use Rattle.yaml_scalar.specs.ScalarSorts.{sort_of};
 ghost use Rattle.yaml_scalar.specs.Expectations.{plain_sort};
 
+use simdutf8::basic::from_utf8;
 use yaml_base::{ScalarStyle, Tag};
 use yaml_load::DocScalar;
 
@@ -92,7 +93,7 @@ fn is_resolved(taken: bool, scalar: &DocScalar<'_>) -> bool
 pub(crate) fn utf8_text(bytes: &[u8]) -> Option<&str>
     ensures { option_copied result ≡ utf8_text bytes.now }
 {
-    match std::str::from_utf8(bytes) {
+    match from_utf8(bytes) {
         Ok(text) => Some(text),
         Err(_) => None,
     }

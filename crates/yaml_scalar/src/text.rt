@@ -14,6 +14,7 @@ ghost use Rattle.yaml_scalar.specs.ScalarShapes.{lent_text, text_of};
 use crate::mismatch::found_scalar;
 use crate::refusal::Result;
 use crate::sort::text_of;
+use simdutf8::basic::from_utf8;
 use std::alloc::Global;
 use yaml_base::borrowed_bytes;
 use yaml_load::DocScalar;
@@ -50,7 +51,7 @@ pub(crate) fn read_text<'de>(
         → is_ok result ≡ is_some (text_of (doc_scalar_of scalar.now)) }
 {
     if let Some(part) = shown_bytes(scalar) {
-        return match std::str::from_utf8(part) {
+        return match from_utf8(part) {
             Ok(text) => Ok(lent(text)),
             Err(_) => Err(found_scalar(alloc, shape, taken, scalar)),
         };

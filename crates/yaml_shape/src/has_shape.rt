@@ -5,6 +5,7 @@ ghost use Rattle.std.specs.Char.{IsScalar};
 ghost use Rattle.std.specs.Option.{option_map};
 ghost use Rattle.yaml_tree.specs.Valid.{is_value};
 ghost use Rattle.yaml_tree.specs.View.{tree_of};
+ghost use Rattle.yaml_shape.specs.PlainShape.{shape_at};
 ghost use Rattle.yaml_shape.specs.ShapeView.{ids_of, fields_of, content_of, variants_of, shape_of};
 ghost use Rattle.yaml_shape.specs.DataView.{data_of, items_view, entries_view, text_data_of};
 ghost use Rattle.yaml_shape.specs.Validity.{numbers_of};
@@ -94,7 +95,17 @@ pub(crate) fn has_shape(schema: &Schema, id: ShapeId, data: &Data) -> bool
     ensures exactly { result ≡ has_shape schema.now id.0 (data_of data.now) }
     ensures held { result ≡ true → IsHeld (data_of data.now) }
 {
-    let Some(shape) = schema.shape(id) else {
+    is_of(schema, id, schema.shape(id), data)
+}
+
+// The same, where the shape with this number was looked up.
+#[cycle(has_shape)]
+fn is_of(schema: &Schema, id: ShapeId, shape: Option<&Shape>, data: &Data) -> bool
+    requires { option_map (λ s. shape_of s.now) shape ≡ shape_at schema.now id.0 }
+    ensures exactly { result ≡ has_shape schema.now id.0 (data_of data.now) }
+    ensures held { result ≡ true → IsHeld (data_of data.now) }
+{
+    let Some(shape) = shape else {
         return false;
     };
     match data {
@@ -147,6 +158,25 @@ pub(crate) fn has_shape(schema: &Schema, id: ShapeId, data: &Data) -> bool
     }
 }
 
+// The same, by the shortest way for what lists hold most of.
+#[cycle(has_shape)]
+#[inline(always)]
+fn part_is_of(schema: &Schema, id: ShapeId, shape: Option<&Shape>, data: &Data) -> bool
+    requires { option_map (λ s. shape_of s.now) shape ≡ shape_at schema.now id.0 }
+    ensures exactly { result ≡ has_shape schema.now id.0 (data_of data.now) }
+    ensures held { result ≡ true → IsHeld (data_of data.now) }
+{
+    let Some(found) = shape else {
+        return false;
+    };
+    match data {
+        Data::Signed(n) => takes_signed(found, *n),
+        Data::Unsigned(n) => takes_unsigned(found, *n),
+        Data::Str(text) => takes_text(found, text),
+        _ => is_of(schema, id, shape, data),
+    }
+}
+
 // Whether the data is what a variant holds.
 #[cycle(has_shape)]
 fn has_content(schema: &Schema, content: &VariantShape, data: &Data) -> bool
@@ -177,8 +207,9 @@ fn all_have(schema: &Schema, id: ShapeId, items: &[Data]) -> bool
     ensures exactly { result ≡ all_have schema.now id.0 (items_view items.now) }
     ensures held { result ≡ true → AreHeld (items_view items.now) }
 {
+    let shape = schema.shape(id);
     for item in items {
-        if !has_shape(schema, id, item) {
+        if !part_is_of(schema, id, shape, item) {
             return false;
         }
     }

@@ -54,7 +54,8 @@ impl<'de> Draft<'de> {
         let place = self.place();
         self.anchors.name(anchor, place)?;
         self.ends.pass(place)?;
-        self.events.push((
+        self.events.reserve(1)?;
+        self.events.push_reserved((
             DocEvent::Scalar(DocScalar {
                 tag,
                 value,
@@ -62,7 +63,7 @@ impl<'de> Draft<'de> {
                 repr,
             }),
             mark,
-        ))?;
+        ));
         Ok(Some(after))
     }
 
@@ -84,7 +85,8 @@ impl<'de> Draft<'de> {
         let place = self.place();
         let target = self.anchors.refer(anchor, place)?;
         self.ends.pass(place)?;
-        self.events.push((DocEvent::Alias(target), mark))?;
+        self.events.reserve(1)?;
+        self.events.push_reserved((DocEvent::Alias(target), mark));
         Ok(Some(after))
     }
 
@@ -109,7 +111,8 @@ impl<'de> Draft<'de> {
         let place = self.place();
         self.anchors.name(start.anchor, place)?;
         self.ends.begin(place)?;
-        self.events.push((DocEvent::SequenceStart(DocStart { tag: start.tag }), mark))?;
+        self.events.reserve(1)?;
+        self.events.push_reserved((DocEvent::SequenceStart(DocStart { tag: start.tag }), mark));
         Ok(Some(after))
     }
 
@@ -134,7 +137,8 @@ impl<'de> Draft<'de> {
         let place = self.place();
         self.anchors.name(start.anchor, place)?;
         self.ends.begin(place)?;
-        self.events.push((DocEvent::MappingStart(DocStart { tag: start.tag }), mark))?;
+        self.events.reserve(1)?;
+        self.events.push_reserved((DocEvent::MappingStart(DocStart { tag: start.tag }), mark));
         Ok(Some(after))
     }
 
@@ -156,7 +160,8 @@ impl<'de> Draft<'de> {
         };
         let place = self.place();
         self.ends.end(place)?;
-        self.events.push((DocEvent::SequenceEnd, mark))?;
+        self.events.reserve(1)?;
+        self.events.push_reserved((DocEvent::SequenceEnd, mark));
         Ok(Some(after))
     }
 
@@ -178,7 +183,8 @@ impl<'de> Draft<'de> {
         };
         let place = self.place();
         self.ends.end(place)?;
-        self.events.push((DocEvent::MappingEnd, mark))?;
+        self.events.reserve(1)?;
+        self.events.push_reserved((DocEvent::MappingEnd, mark));
         Ok(Some(after))
     }
 

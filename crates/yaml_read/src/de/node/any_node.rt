@@ -1,18 +1,22 @@
 //! Any value: a scalar, a list, or a mapping, under its tag where it has one.
 
-ghost use Rattle.std.specs.Prelude.{◌≡◌, ℕ, suc, ◌+◌, ◌<◌, ◌≤◌, [], length, IfOk, OnOk, false};
+ghost use Rattle.std.specs.Prelude.{◌≡◌, ℕ, suc, ◌+◌, ◌*◌, ◌<◌, ◌≤◌, [], length, IfOk, OnOk, Some, false};
 ghost use Rattle.std.specs.Option.{is_some};
 ghost use Rattle.yaml_base.specs.Answer.{Gives};
-ghost use Rattle.yaml_shape.specs.DataView.{data_of, entries_of};
+ghost use Rattle.yaml_shape.specs.DataView.{data_of, items_of, entries_of};
+ghost use Rattle.yaml_shape.specs.PlainData.{any_data};
 ghost use Rattle.yaml_shape.specs.PlainShape.{any_shape};
 ghost use Rattle.yaml_shape.specs.ShapeView.{shape_of};
+ghost use Rattle.yaml_tree.specs.Tree.{sequence, tagged};
+ghost use Rattle.yaml_tree.specs.Tree as tree;
 ghost use Rattle.yaml_tree.specs.Valid.{pairs_of};
 ghost use Rattle.yaml_load.specs.Ends.{GoForward};
 ghost use Rattle.yaml_scalar.specs.Steps.{wrap};
-ghost use Rattle.yaml_read.specs.AnyData.{pairs_in};
-ghost use Rattle.yaml_read.specs.Handing.{depth, parts_depth};
+ghost use Rattle.yaml_read.specs.AnyData.{tree_in, trees_in, pairs_in};
+ghost use Rattle.yaml_read.specs.Handing.{depth, parts_depth, nesting_depth};
+ghost use Rattle.yaml_read.specs.NodeTags.{around_value};
 ghost use Rattle.yaml_read.specs.Places.{way_of};
-ghost use Rattle.yaml_read.specs.inner.Reader.{shape_step, any_entry_at, mapping_parts};
+ghost use Rattle.yaml_read.specs.inner.Reader.{shape_step, item_at, sequence_parts, any_entry_at, mapping_parts};
 ghost use Rattle.yaml_read.specs.inner.Walks.{around_of, source_of, spot_of, reader_of, seen, MovesOn, Costs};
 
 use crate::de::node::any_parts::{
@@ -56,14 +60,7 @@ impl<'s, 'de> Source<'s, 'de> {
             return Err(ended(self.alloc));
         };
         if let Some(name) = untaken_name(event, is_taken(taken)) {
-            let around = TakenBy {
-                name: "",
-                variant: "",
-            };
-            return match self.read_node(path, shape, nest, Some(&around), walk) {
-                Ok(data) => any_tagged(self.alloc, name, data),
-                Err(refusal) => Err(refusal),
-            };
+            return self.read_any_tagged(path, shape, name, nest, walk);
         }
         match event {
             DocEvent::SequenceStart(_) => {
@@ -71,28 +68,107 @@ impl<'s, 'de> Source<'s, 'de> {
                     return Err(too_deep(self.alloc, *mark));
                 }
                 walk.step();
-                match self.read_items(path, shape, 0, nest - 1, walk) {
-                    Ok(items) => any_list(self.alloc, items),
-                    Err(refusal) => Err(refusal),
-                }
+                self.read_any_items(path, shape, nest - 1, walk)
             }
             DocEvent::MappingStart(_) => {
                 if nest == 0 {
                     return Err(too_deep(self.alloc, *mark));
                 }
                 walk.step();
-                match self.read_pairs(path, shape, nest - 1, walk) {
-                    Ok(pairs) => Ok(Data::Any(Value::Mapping(pairs))),
-                    Err(refusal) => Err(refusal),
-                }
+                self.read_any_pairs(path, shape, nest - 1, walk)
             }
             _ => self.read_simple(path, shape, event, nest, taken, walk),
         }
     }
 
-    /// The pairs of a mapping of any values, to its end.
+    /// Any value under the tag of this name, which it takes.
     #[cycle(read)]
     #[inline(never)]
+    pub(crate) fn read_any_tagged(
+        &self,
+        path: &Path<'_>,
+        any: &Shape,
+        name: &str,
+        nest: u8,
+        walk: &mut Walk,
+    ) -> Result<Data<'de>>
+        requires shape { shape_of any.now ≡ any_shape }
+        requires forward { GoForward self.now.ends.now }
+        ensures gives { (fuel : ℕ) → nesting_depth * (walk.old.left + nest) < fuel
+            → Gives (λ x. (data_of x, spot_of walk.new)) result
+            (wrap (λ v. any_data (tagged name.now (tree_in v)))
+            (reader_of fuel self.now (way_of path.now) any_shape nest (Some around_value) (spot_of walk.old))) }
+        ensures moves { OnOk result (MovesOn (length self.now.events.now) walk.old walk.new) }
+        ensures cost { Costs (length self.now.events.now) walk.old walk.new }
+    {
+        let value = TakenBy {
+            name: "",
+            variant: "",
+        };
+        match self.read_node(path, any, nest, Some(&value), walk) {
+            Ok(data) => any_tagged(self.alloc, name, data),
+            Err(refusal) => Err(refusal),
+        }
+    }
+
+    /// A list of any values, from its first element to its end.
+    #[cycle(read)]
+    #[inline(never)]
+    pub(crate) fn read_any_items(
+        &self,
+        path: &Path<'_>,
+        any: &Shape,
+        nest: u8,
+        walk: &mut Walk,
+    ) -> Result<Data<'de>>
+        requires shape { shape_of any.now ≡ any_shape }
+        requires within { walk.old.place ≤ length self.now.events.now }
+        requires forward { GoForward self.now.ends.now }
+        ensures gives { (fuel turns : ℕ) → parts_depth nest walk.old.left < fuel
+            → length self.now.events.now < turns + walk.old.place
+            → Gives (λ x. (data_of x, spot_of walk.new)) result
+            (wrap (λ vs. any_data (sequence (trees_in (items_of vs)))) (sequence_parts (source_of self.now)
+            (item_at (reader_of fuel self.now) (way_of path.now) any_shape nest)
+            turns [] (spot_of walk.old))) }
+        ensures moves { OnOk result (MovesOn (length self.now.events.now) walk.old walk.new) }
+        ensures cost { Costs (length self.now.events.now) walk.old walk.new }
+    {
+        match self.read_items(path, any, 0, nest, walk) {
+            Ok(items) => any_list(self.alloc, items),
+            Err(refusal) => Err(refusal),
+        }
+    }
+
+    /// A mapping of any values, from its first key to its end.
+    #[cycle(read)]
+    #[inline(never)]
+    pub(crate) fn read_any_pairs(
+        &self,
+        path: &Path<'_>,
+        any: &Shape,
+        nest: u8,
+        walk: &mut Walk,
+    ) -> Result<Data<'de>>
+        requires shape { shape_of any.now ≡ any_shape }
+        requires within { walk.old.place ≤ length self.now.events.now }
+        requires forward { GoForward self.now.ends.now }
+        ensures gives { (fuel turns : ℕ) → parts_depth nest walk.old.left < fuel
+            → length self.now.events.now < turns + walk.old.place
+            → Gives (λ x. (data_of x, spot_of walk.new)) result
+            (wrap (λ vs. any_data (tree.mapping (pairs_in (entries_of vs)))) (mapping_parts (source_of self.now)
+            (any_entry_at (source_of self.now) (reader_of fuel self.now) (way_of path.now) nest)
+            turns [] (spot_of walk.old))) }
+        ensures moves { OnOk result (MovesOn (length self.now.events.now) walk.old walk.new) }
+        ensures cost { Costs (length self.now.events.now) walk.old walk.new }
+    {
+        match self.read_pairs(path, any, nest, walk) {
+            Ok(pairs) => Ok(Data::Any(Value::Mapping(pairs))),
+            Err(refusal) => Err(refusal),
+        }
+    }
+
+    /// The pairs of a mapping of any values, to its end.
+    #[cycle(read)]
     pub(crate) fn read_pairs(
         &self,
         path: &Path<'_>,

@@ -10,7 +10,7 @@ returns c =
     let e = mapping_start c.args.start.anchor c.args.start.tag in (
       rw c.in-Some.is at (c.in_ok-after.ensures.mapping refl c.args.start.anchor c.args.start.tag),
       takes e c.args.mark c.args.self.now _ _ c.place-place.result refl c.place-place.ensures refl refl
-          c.in_ok-push.ensures.items c.in_ok-name.ensures.named
+          (rw c.in_ok-reserve.ensures.items at c.push_reserved.ensures.items) c.in_ok-name.ensures.named
           (λ seen named at. ([], (refl, refl), c.in_ok-name.ensures.aliases ∙ sym (append-nil _)))
           (λ front seen h at. c.in_ok-begin.ensures.numbers front seen (drafted e) h at refl),
     )

@@ -11,7 +11,7 @@ returns c =
     λ outer clean. (
       c.in-Some.ensures.scalar outer (scalar_of c.args.scalar) clean,
       takes e c.args.mark c.args.self.now _ _ c.place-place.result refl c.place-place.ensures refl refl
-          c.in_ok-push.ensures.items c.in_ok-name.ensures.named
+          (rw c.in_ok-reserve.ensures.items at c.push_reserved.ensures.items) c.in_ok-name.ensures.named
           (λ seen named at. ([], (refl, refl), c.in_ok-name.ensures.aliases ∙ sym (append-nil _)))
           (λ front seen h at. c.in_ok-pass.ensures.numbers front seen (drafted e) h at refl refl),
     )

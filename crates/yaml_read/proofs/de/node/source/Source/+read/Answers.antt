@@ -248,26 +248,38 @@ pub read_name-returns-clause-gives : goal.read_name-returns-clause-gives
 read_name-returns-clause-gives = Fields.read_name-returns-clause-gives
 
 -- any values
-pub read_any-returns-in-Ok-clause-gives : goal.read_any-returns-in-Ok-clause-gives
-read_any-returns-in-Ok-clause-gives = AnyValues.read_any-returns-in-Ok-clause-gives
+pub read_any-read_any_tagged-requires : goal.read_any-read_any_tagged-requires
+read_any-read_any_tagged-requires = AnyValues.read_any-read_any_tagged-requires
 
-pub read_any-returns-in-Err-clause-gives : goal.read_any-returns-in-Err-clause-gives
-read_any-returns-in-Err-clause-gives = AnyValues.read_any-returns-in-Err-clause-gives
+pub read_any-returns-in-Some-untaken_name-clause-gives : goal.read_any-returns-in-Some-untaken_name-clause-gives
+read_any-returns-in-Some-untaken_name-clause-gives = AnyValues.read_any-returns-in-Some-untaken_name-clause-gives
 
-pub read_any-returns-in-Ok-read_items-clause-gives : goal.read_any-returns-in-Ok-read_items-clause-gives
-read_any-returns-in-Ok-read_items-clause-gives = AnyValues.read_any-returns-in-Ok-read_items-clause-gives
+pub read_any-returns-in-SequenceStart-clause-gives : goal.read_any-returns-in-SequenceStart-clause-gives
+read_any-returns-in-SequenceStart-clause-gives = AnyValues.read_any-returns-in-SequenceStart-clause-gives
 
-pub read_any-returns-in-Err-read_items-clause-gives : goal.read_any-returns-in-Err-read_items-clause-gives
-read_any-returns-in-Err-read_items-clause-gives = AnyValues.read_any-returns-in-Err-read_items-clause-gives
-
-pub read_any-returns-in-Ok-read_pairs-clause-gives : goal.read_any-returns-in-Ok-read_pairs-clause-gives
-read_any-returns-in-Ok-read_pairs-clause-gives = AnyValues.read_any-returns-in-Ok-read_pairs-clause-gives
-
-pub read_any-returns-in-Err-read_pairs-clause-gives : goal.read_any-returns-in-Err-read_pairs-clause-gives
-read_any-returns-in-Err-read_pairs-clause-gives = AnyValues.read_any-returns-in-Err-read_pairs-clause-gives
+pub read_any-returns-in-MappingStart-clause-gives : goal.read_any-returns-in-MappingStart-clause-gives
+read_any-returns-in-MappingStart-clause-gives = AnyValues.read_any-returns-in-MappingStart-clause-gives
 
 pub read_any-returns-in_default-event : goal.read_any-returns-in_default-event
 read_any-returns-in_default-event = AnyValues.read_any-returns-in_default-event
+
+pub read_any_tagged-returns-in-Ok-clause-gives : goal.read_any_tagged-returns-in-Ok-clause-gives
+read_any_tagged-returns-in-Ok-clause-gives = AnyValues.read_any_tagged-returns-in-Ok-clause-gives
+
+pub read_any_tagged-returns-in-Err-clause-gives : goal.read_any_tagged-returns-in-Err-clause-gives
+read_any_tagged-returns-in-Err-clause-gives = AnyValues.read_any_tagged-returns-in-Err-clause-gives
+
+pub read_any_items-returns-in-Ok-clause-gives : goal.read_any_items-returns-in-Ok-clause-gives
+read_any_items-returns-in-Ok-clause-gives = AnyValues.read_any_items-returns-in-Ok-clause-gives
+
+pub read_any_items-returns-in-Err-clause-gives : goal.read_any_items-returns-in-Err-clause-gives
+read_any_items-returns-in-Err-clause-gives = AnyValues.read_any_items-returns-in-Err-clause-gives
+
+pub read_any_pairs-returns-in-Ok-clause-gives : goal.read_any_pairs-returns-in-Ok-clause-gives
+read_any_pairs-returns-in-Ok-clause-gives = AnyValues.read_any_pairs-returns-in-Ok-clause-gives
+
+pub read_any_pairs-returns-in-Err-clause-gives : goal.read_any_pairs-returns-in-Err-clause-gives
+read_any_pairs-returns-in-Err-clause-gives = AnyValues.read_any_pairs-returns-in-Err-clause-gives
 
 -- pairs of any mappings
 pub read_pairs-loop-event-init : goal.read_pairs-loop-event-init

@@ -202,6 +202,15 @@ abbrev pub decreases-read_any : goal.decreases-read_any
 decreases-read_any l = of_node l.self.now.schema.now (shape_of l.shape.now) (is_some (around_of l.taken)) l.nest
     l.walk.now.left 3
 
+abbrev pub decreases-read_any_tagged : goal.decreases-read_any_tagged
+decreases-read_any_tagged l = turns (l.walk.now.left + l.nest) tag_depth 0 2
+
+abbrev pub decreases-read_any_items : goal.decreases-read_any_items
+decreases-read_any_items l = of_parts l.nest l.walk.now.left 13
+
+abbrev pub decreases-read_any_pairs : goal.decreases-read_any_pairs
+decreases-read_any_pairs l = of_parts l.nest l.walk.now.left 13
+
 abbrev pub decreases-read_pairs : goal.decreases-read_pairs
 decreases-read_pairs l = of_parts l.nest l.walk.now.left 12
 

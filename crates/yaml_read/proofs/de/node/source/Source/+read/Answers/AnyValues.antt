@@ -22,8 +22,8 @@ use Rattle.yaml_read.proofs.reading.Exits.{gives_ending_at, same_spot}
 use Rattle.yaml_read.proofs.reading.Loops.{wrap_fails, wrap_finds}
 use Rattle.yaml_read.proofs.de.node.source.Source.+read.Goals as goal
 
-pub read_any-returns-in-Ok-clause-gives : goal.read_any-returns-in-Ok-clause-gives
-read_any-returns-in-Ok-clause-gives t c = λ fuel lt.
+pub read_any-read_any_tagged-requires : goal.read_any-read_any_tagged-requires
+read_any-read_any_tagged-requires t c =
     let name = sym c.untaken_name.ensures ∙ ap option_copied c.in-Some-untaken_name.is in
     let own : untaken_name (is_some (around_of c.args.taken)) (doc_event_of c.in-Some.field-0.now.0)
     ≡ Some c.in-Some-untaken_name.name.now = ap (λ b. untaken_name b (doc_event_of c.in-Some.field-0.now.0))
@@ -34,121 +34,54 @@ read_any-returns-in-Ok-clause-gives t c = λ fuel lt.
     let left : untaken_reach (is_some (around_of c.args.taken)) ≡ tag_depth = ap untaken_reach free in
     let flat : reach c.args.self.now.schema.now (shape_of c.args.shape.now) ≡ 0 =
     ap (reach c.args.self.now.schema.now) c.requires.shape in
+    (omega (arith, left, flat), (c.requires.shape, c.requires.forward))
+
+pub read_any-returns-in-Some-untaken_name-clause-gives : goal.read_any-returns-in-Some-untaken_name-clause-gives
+read_any-returns-in-Some-untaken_name-clause-gives t c = λ fuel lt.
+    let name = sym c.untaken_name.ensures ∙ ap option_copied c.in-Some-untaken_name.is in
+    let own : untaken_name (is_some (around_of c.args.taken)) (doc_event_of c.in-Some.field-0.now.0)
+    ≡ Some c.in-Some-untaken_name.name.now = ap (λ b. untaken_name b (doc_event_of c.in-Some.field-0.now.0))
+    (sym c.is_taken.ensures) ∙ name in
+    let free : is_some (around_of c.args.taken) ≡ false =
+    only_untaken (is_some (around_of c.args.taken)) (doc_event_of c.in-Some.field-0.now.0)
+    c.in-Some-untaken_name.name.now own in
+    let left : untaken_reach (is_some (around_of c.args.taken)) ≡ tag_depth = ap untaken_reach free in
     rw (any_tagged_step (source_of c.args.self.now) (reader_of fuel c.args.self.now) (way_of c.args.path.now)
     (shape_of c.args.shape.now) c.args.nest (around_of c.args.taken)
-    (spot_of c.args.walk.now) c.in-Some-untaken_name.name.now _ _ c.requires.shape c.in-Some.ensures.found own
-    ∙ wrap_finds (λ v. any_data (tagged c.in-Some-untaken_name.name.now (tree_in v))) _ (data_of c.in-Ok.data)
-    (spot_of c.read_node.new.walk) (rw c.requires.shape at
-    (c.in-Ok.ensures.gives fuel (omega (arith, lt, left, flat)))))
-    (gives_ending_at data_of (spot_of c.read_node.new.walk) (spot_of c.read_node.new.walk) c.any_tagged.result
-    (Ok (any_data (tagged c.in-Some-untaken_name.name.now (tree_in (data_of c.in-Ok.data))))) refl
-    c.any_tagged.ensures)
+    (spot_of c.args.walk.now) c.in-Some-untaken_name.name.now _ _ c.requires.shape c.in-Some.ensures.found own)
+    (c.read_any_tagged.ensures.gives fuel (omega (arith, lt, left)))
 
-pub read_any-returns-in-Err-clause-gives : goal.read_any-returns-in-Err-clause-gives
-read_any-returns-in-Err-clause-gives t c = λ fuel lt fault.
-    let name = sym c.untaken_name.ensures ∙ ap option_copied c.in-Some-untaken_name.is in
-    let own : untaken_name (is_some (around_of c.args.taken)) (doc_event_of c.in-Some.field-0.now.0)
-    ≡ Some c.in-Some-untaken_name.name.now = ap (λ b. untaken_name b (doc_event_of c.in-Some.field-0.now.0))
-    (sym c.is_taken.ensures) ∙ name in
-    let free : is_some (around_of c.args.taken) ≡ false =
-    only_untaken (is_some (around_of c.args.taken)) (doc_event_of c.in-Some.field-0.now.0)
-    c.in-Some-untaken_name.name.now own in
-    let left : untaken_reach (is_some (around_of c.args.taken)) ≡ tag_depth = ap untaken_reach free in
-    let flat : reach c.args.self.now.schema.now (shape_of c.args.shape.now) ≡ 0 =
-    ap (reach c.args.self.now.schema.now) c.requires.shape in
-    any_tagged_step (source_of c.args.self.now) (reader_of fuel c.args.self.now) (way_of c.args.path.now)
-    (shape_of c.args.shape.now) c.args.nest (around_of c.args.taken)
-    (spot_of c.args.walk.now) c.in-Some-untaken_name.name.now _ _ c.requires.shape c.in-Some.ensures.found own
-    ∙ wrap_fails (λ v. any_data (tagged c.in-Some-untaken_name.name.now (tree_in v))) _ _
-    (rw c.requires.shape at (c.in-Err.ensures.gives fuel (omega (arith, lt, left, flat)) fault))
-
-pub read_any-returns-in-Ok-read_items-clause-gives : goal.read_any-returns-in-Ok-read_items-clause-gives
-read_any-returns-in-Ok-read_items-clause-gives t c = λ fuel lt.
+pub read_any-returns-in-SequenceStart-clause-gives : goal.read_any-returns-in-SequenceStart-clause-gives
+read_any-returns-in-SequenceStart-clause-gives t c = λ fuel lt.
     let none : untaken_name (is_some (around_of c.args.taken)) (doc_event_of c.in-Some.field-0.now.0) ≡ None =
     ap (λ b. untaken_name b (doc_event_of c.in-Some.field-0.now.0)) (sym c.is_taken.ensures)
     ∙ sym c.untaken_name.ensures ∙ ap option_copied c.in_default-untaken_name.is in
-    let flat : reach c.args.self.now.schema.now (shape_of c.args.shape.now) ≡ 0 =
-    ap (reach c.args.self.now.schema.now) c.requires.shape in
     let some : 0 < c.args.nest = omega (arith, c.if-nest-eq0.false) in
     let left = c.step.ensures.left in
     rw (any_list_step (source_of c.args.self.now) (reader_of fuel c.args.self.now) (way_of c.args.path.now)
     (shape_of c.args.shape.now) c.args.nest (around_of c.args.taken)
     (spot_of c.args.walk.now) _ c.in-SequenceStart.field-0.tag _ c.requires.shape c.in-Some.ensures.found
-    (ap doc_event_of c.in-SequenceStart.is) none some
-    ∙ wrap_finds (λ vs. any_data (sequence (trees_in (items_of vs)))) _ _ (spot_of c.read_items.new.walk)
-    (rw (
-      c.requires.shape,
-      (same_spot (spot_of c.step.new.self)
-          (after (spot_of c.args.walk.now)) c.step.ensures.place c.step.ensures.left),
-    ) at
-    (c.in-Ok-read_items.ensures.gives fuel (length c.args.self.now.events.now) (omega (arith, lt, some, left))
-    (omega (arith, c.step.ensures.place)))))
-    (gives_ending_at data_of (spot_of c.read_items.new.walk) (spot_of c.read_items.new.walk) c.any_list.result
-    (Ok (any_data (sequence (trees_in (items_of (map data_of c.in-Ok-read_items.items.items)))))) refl
-    c.any_list.ensures)
+    (ap doc_event_of c.in-SequenceStart.is) none some)
+    (rw (same_spot (spot_of c.step.new.self) (after (spot_of c.args.walk.now)) c.step.ensures.place
+    c.step.ensures.left) at
+    (c.read_any_items.ensures.gives fuel (length c.args.self.now.events.now) (omega (arith, lt, some, left))
+    (omega (arith, c.step.ensures.place))))
 
-pub read_any-returns-in-Err-read_items-clause-gives : goal.read_any-returns-in-Err-read_items-clause-gives
-read_any-returns-in-Err-read_items-clause-gives t c = λ fuel lt fault.
+pub read_any-returns-in-MappingStart-clause-gives : goal.read_any-returns-in-MappingStart-clause-gives
+read_any-returns-in-MappingStart-clause-gives t c = λ fuel lt.
     let none : untaken_name (is_some (around_of c.args.taken)) (doc_event_of c.in-Some.field-0.now.0) ≡ None =
     ap (λ b. untaken_name b (doc_event_of c.in-Some.field-0.now.0)) (sym c.is_taken.ensures)
     ∙ sym c.untaken_name.ensures ∙ ap option_copied c.in_default-untaken_name.is in
-    let flat : reach c.args.self.now.schema.now (shape_of c.args.shape.now) ≡ 0 =
-    ap (reach c.args.self.now.schema.now) c.requires.shape in
-    let some : 0 < c.args.nest = omega (arith, c.if-nest-eq0.false) in
-    let left = c.step.ensures.left in
-    any_list_step (source_of c.args.self.now) (reader_of fuel c.args.self.now) (way_of c.args.path.now)
-    (shape_of c.args.shape.now) c.args.nest (around_of c.args.taken)
-    (spot_of c.args.walk.now) _ c.in-SequenceStart.field-0.tag _ c.requires.shape c.in-Some.ensures.found
-    (ap doc_event_of c.in-SequenceStart.is) none some
-    ∙ wrap_fails (λ vs. any_data (sequence (trees_in (items_of vs)))) _ _
-    (rw (
-      c.requires.shape,
-      (same_spot (spot_of c.step.new.self)
-          (after (spot_of c.args.walk.now)) c.step.ensures.place c.step.ensures.left),
-    ) at
-    (c.in-Err-read_items.ensures.gives fuel (length c.args.self.now.events.now) (omega (arith, lt, some, left))
-    (omega (arith, c.step.ensures.place)) fault))
-
-pub read_any-returns-in-Ok-read_pairs-clause-gives : goal.read_any-returns-in-Ok-read_pairs-clause-gives
-read_any-returns-in-Ok-read_pairs-clause-gives t c = λ fuel lt.
-    let none : untaken_name (is_some (around_of c.args.taken)) (doc_event_of c.in-Some.field-0.now.0) ≡ None =
-    ap (λ b. untaken_name b (doc_event_of c.in-Some.field-0.now.0)) (sym c.is_taken.ensures)
-    ∙ sym c.untaken_name.ensures ∙ ap option_copied c.in_default-untaken_name.is in
-    let flat : reach c.args.self.now.schema.now (shape_of c.args.shape.now) ≡ 0 =
-    ap (reach c.args.self.now.schema.now) c.requires.shape in
-    let seen_as : data_of (AnyValue (value.Mapping c.in-Ok-read_pairs.pairs))
-    ≡ any_data (tree.mapping (pairs_of c.in-Ok-read_pairs.pairs)) = search (rules, the_lemmas) in
     let some : 0 < c.args.nest = omega (arith, c.if-nest-eq0-2.false) in
     let left = c.step-in-MappingStart.ensures.left in
-    any_mapping_step (source_of c.args.self.now) (reader_of fuel c.args.self.now) (way_of c.args.path.now)
+    rw (any_mapping_step (source_of c.args.self.now) (reader_of fuel c.args.self.now) (way_of c.args.path.now)
     (shape_of c.args.shape.now) c.args.nest (around_of c.args.taken)
     (spot_of c.args.walk.now) _ c.in-MappingStart.field-0.tag _ c.requires.shape c.in-Some.ensures.found
-    (ap doc_event_of c.in-MappingStart.is) none some
-    ∙ wrap_onto_finds (λ vs. pairs_in (entries_of vs)) (λ ps. any_data (tree.mapping ps)) _ _ _
-    (rw (same_spot (spot_of c.step-in-MappingStart.new.self)
-    (after (spot_of c.args.walk.now)) c.step-in-MappingStart.ensures.place c.step-in-MappingStart.ensures.left) at
-    (c.in-Ok-read_pairs.ensures.gives fuel (length c.args.self.now.events.now) (omega (arith, lt, some, left))
+    (ap doc_event_of c.in-MappingStart.is) none some)
+    (rw (same_spot (spot_of c.step-in-MappingStart.new.self) (after (spot_of c.args.walk.now))
+    c.step-in-MappingStart.ensures.place c.step-in-MappingStart.ensures.left) at
+    (c.read_any_pairs.ensures.gives fuel (length c.args.self.now.events.now) (omega (arith, lt, some, left))
     (omega (arith, c.step-in-MappingStart.ensures.place))))
-    ∙ ap (λ v. Ok (v, spot_of c.read_pairs.new.walk)) (sym seen_as)
-
-pub read_any-returns-in-Err-read_pairs-clause-gives : goal.read_any-returns-in-Err-read_pairs-clause-gives
-read_any-returns-in-Err-read_pairs-clause-gives t c = λ fuel lt fault.
-    let none : untaken_name (is_some (around_of c.args.taken)) (doc_event_of c.in-Some.field-0.now.0) ≡ None =
-    ap (λ b. untaken_name b (doc_event_of c.in-Some.field-0.now.0)) (sym c.is_taken.ensures)
-    ∙ sym c.untaken_name.ensures ∙ ap option_copied c.in_default-untaken_name.is in
-    let flat : reach c.args.self.now.schema.now (shape_of c.args.shape.now) ≡ 0 =
-    ap (reach c.args.self.now.schema.now) c.requires.shape in
-    let some : 0 < c.args.nest = omega (arith, c.if-nest-eq0-2.false) in
-    let left = c.step-in-MappingStart.ensures.left in
-    any_mapping_step (source_of c.args.self.now) (reader_of fuel c.args.self.now) (way_of c.args.path.now)
-    (shape_of c.args.shape.now) c.args.nest (around_of c.args.taken)
-    (spot_of c.args.walk.now) _ c.in-MappingStart.field-0.tag _ c.requires.shape c.in-Some.ensures.found
-    (ap doc_event_of c.in-MappingStart.is) none some
-    ∙ wrap_onto_fails (λ vs. pairs_in (entries_of vs)) (λ ps. any_data (tree.mapping ps)) _ _
-    (rw (same_spot (spot_of c.step-in-MappingStart.new.self)
-    (after (spot_of c.args.walk.now)) c.step-in-MappingStart.ensures.place c.step-in-MappingStart.ensures.left) at
-    (c.in-Err-read_pairs.ensures.gives fuel (length c.args.self.now.events.now) (omega (arith, lt, some, left))
-    (omega (arith, c.step-in-MappingStart.ensures.place)) fault))
 
 pub read_any-returns-in_default-event : goal.read_any-returns-in_default-event
 read_any-returns-in_default-event t c =
@@ -165,3 +98,44 @@ read_any-returns-in_default-event t c =
       moves = c.read_simple.ensures.moves;
       cost = c.read_simple.ensures.cost;
     }
+
+pub read_any_tagged-returns-in-Ok-clause-gives : goal.read_any_tagged-returns-in-Ok-clause-gives
+read_any_tagged-returns-in-Ok-clause-gives t c = λ fuel lt.
+    let flat : reach c.args.self.now.schema.now (shape_of c.args.any.now) ≡ 0 =
+    ap (reach c.args.self.now.schema.now) c.requires.shape in
+    rw (wrap_finds (λ v. any_data (tagged c.args.name.now (tree_in v))) _ (data_of c.in-Ok.data)
+    (spot_of c.read_node.new.walk) (rw c.requires.shape at (c.in-Ok.ensures.gives fuel (omega (arith, lt, flat)))))
+    (gives_ending_at data_of (spot_of c.read_node.new.walk) (spot_of c.read_node.new.walk) c.any_tagged.result
+    (Ok (any_data (tagged c.args.name.now (tree_in (data_of c.in-Ok.data))))) refl c.any_tagged.ensures)
+
+pub read_any_tagged-returns-in-Err-clause-gives : goal.read_any_tagged-returns-in-Err-clause-gives
+read_any_tagged-returns-in-Err-clause-gives t c = λ fuel lt fault.
+    let flat : reach c.args.self.now.schema.now (shape_of c.args.any.now) ≡ 0 =
+    ap (reach c.args.self.now.schema.now) c.requires.shape in
+    wrap_fails (λ v. any_data (tagged c.args.name.now (tree_in v))) _ _
+    (rw c.requires.shape at (c.in-Err.ensures.gives fuel (omega (arith, lt, flat)) fault))
+
+pub read_any_items-returns-in-Ok-clause-gives : goal.read_any_items-returns-in-Ok-clause-gives
+read_any_items-returns-in-Ok-clause-gives t c = λ fuel turns lt more.
+    rw (wrap_finds (λ vs. any_data (sequence (trees_in (items_of vs)))) _ _ (spot_of c.read_items.new.walk)
+    (rw c.requires.shape at (c.in-Ok.ensures.gives fuel turns lt more)))
+    (gives_ending_at data_of (spot_of c.read_items.new.walk) (spot_of c.read_items.new.walk) c.any_list.result
+    (Ok (any_data (sequence (trees_in (items_of (map data_of c.in-Ok.items.items)))))) refl c.any_list.ensures)
+
+pub read_any_items-returns-in-Err-clause-gives : goal.read_any_items-returns-in-Err-clause-gives
+read_any_items-returns-in-Err-clause-gives t c = λ fuel turns lt more fault.
+    wrap_fails (λ vs. any_data (sequence (trees_in (items_of vs)))) _ _
+    (rw c.requires.shape at (c.in-Err.ensures.gives fuel turns lt more fault))
+
+pub read_any_pairs-returns-in-Ok-clause-gives : goal.read_any_pairs-returns-in-Ok-clause-gives
+read_any_pairs-returns-in-Ok-clause-gives t c = λ fuel turns lt more.
+    let seen_as : data_of (AnyValue (value.Mapping c.in-Ok.pairs)) ≡ any_data (tree.mapping (pairs_of c.in-Ok.pairs)) =
+    search (rules, the_lemmas) in
+    wrap_onto_finds (λ vs. pairs_in (entries_of vs)) (λ ps. any_data (tree.mapping ps)) _ _ _
+    (c.in-Ok.ensures.gives fuel turns lt more)
+    ∙ ap (λ v. Ok (v, spot_of c.read_pairs.new.walk)) (sym seen_as)
+
+pub read_any_pairs-returns-in-Err-clause-gives : goal.read_any_pairs-returns-in-Err-clause-gives
+read_any_pairs-returns-in-Err-clause-gives t c = λ fuel turns lt more fault.
+    wrap_onto_fails (λ vs. pairs_in (entries_of vs)) (λ ps. any_data (tree.mapping ps)) _ _
+    (c.in-Err.ensures.gives fuel turns lt more fault)
