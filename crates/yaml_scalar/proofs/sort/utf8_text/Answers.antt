@@ -5,8 +5,8 @@ use Rattle.yaml_scalar.proofs.sort.utf8_text.Goals as goal
 
 pub returns-in-Ok : goal.returns-in-Ok
 returns-in-Ok c =
-    let cases = c.in-Ok.ensures.cases in
+    let cases = c.in-Ok.ensures in
     ap Some cases.0 ∙ bytes-there c.args.bytes.now cases.1
 
 pub returns-in-Err : goal.returns-in-Err
-returns-in-Err c = bytes-missing c.args.bytes.now c.in-Err.ensures.cases.0
+returns-in-Err c = bytes-missing c.args.bytes.now c.in-Err.ensures

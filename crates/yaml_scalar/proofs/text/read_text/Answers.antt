@@ -6,20 +6,20 @@ use Rattle.yaml_scalar.proofs.text.read_text.Goals as goal
 
 pub returns-in-Ok-clause-gives : goal.returns-in-Ok-clause-gives
 returns-in-Ok-clause-gives c =
-    let cases = c.in-Ok.ensures.cases in
+    let cases = c.in-Ok.ensures in
     lent-shown (doc_scalar_of c.args.scalar.now) _ _ _ _ c.in-Some.ensures.equal cases.0
     cases.1 (sym c.in-Some.ensures.test) c.lent.ensures
 
 pub returns-in-Err-clause-gives : goal.returns-in-Err-clause-gives
 returns-in-Err-clause-gives c = λ told.
-    unlent-shown (doc_scalar_of c.args.scalar.now) _ _ c.in-Some.ensures.equal c.in-Err.ensures.cases.0
+    unlent-shown (doc_scalar_of c.args.scalar.now) _ _ c.in-Some.ensures.equal c.in-Err.ensures
     ∙ ap Err (sym (c.found_scalar.ensures told))
 
 pub returns-in-Ok-clause-free : goal.returns-in-Ok-clause-free
 returns-in-Ok-clause-free c = λ shown.
-    sym (ap is_some (text-shown (doc_scalar_of c.args.scalar.now) _ c.in-Some.ensures.equal c.in-Ok.ensures.cases.1))
+    sym (ap is_some (text-shown (doc_scalar_of c.args.scalar.now) _ c.in-Some.ensures.equal c.in-Ok.ensures.1))
 
 pub returns-in-Err-clause-free : goal.returns-in-Err-clause-free
 returns-in-Err-clause-free c = λ shown.
     sym (ap is_some
-    (text-unshown (doc_scalar_of c.args.scalar.now) _ c.in-Some.ensures.equal c.in-Err.ensures.cases.0))
+    (text-unshown (doc_scalar_of c.args.scalar.now) _ c.in-Some.ensures.equal c.in-Err.ensures))
