@@ -22,7 +22,8 @@ pub fn load<'de>(alloc: Global, text: &'de [u8]) -> Result<Loader<'de>>
 {
     let mut events = Events::new(alloc, text)?;
     let mut builder = LoaderBuilder::with_capacity(alloc, 0)?;
-    'events: while let Some((event, mark)) = events.next_event()? {
+    'events: while events.has_next()? {
+        let (event, mark) = events.take_next();
         events.has_events();
         if let Err(fault) = builder.push(event, mark) {
             return Err(fault);

@@ -1,6 +1,7 @@
 //! Tokens to events.
 
-ghost use Rattle.std.specs.Prelude.{◌≡◌, ◌≢◌, ◌++◌, [], IfNone, IfOk, IfSome, Some, is_some, option_to_list, true};
+ghost use Rattle.std.specs.Prelude.{◌≡◌, ◌≢◌, ◌<◌, ◌∷◌, ◌++◌, [], IfNone, IfOk, IfSome, Some, false, is_some};
+ghost use Rattle.std.specs.Prelude.{option_to_list, true};
 ghost use Rattle.std.specs.Option.{ForSome};
 ghost use Rattle.std.proofs.Props.{props};
 ghost use Rattle.yaml_base.specs.MarkedEvents.{plain_events};
@@ -102,7 +103,31 @@ impl<'a> Parser<'a> {
         ensures made { made self.new ≡ made self.old }
         ensures none { IfNone result (handed self.new ≡ made self.new) }
     {
-        self.machine.stream.pop()
+        if self.has_waiting() {
+            Some(self.take_waiting())
+        } else {
+            None
+        }
+    }
+
+    /// Whether an event was made of the tokens and not handed out.
+    #[inline(always)]
+    pub fn has_waiting(&self) -> bool
+        ensures waits { result ≡ true → 0 < waiting self.now }
+        ensures none { result ≡ false → handed self.now ≡ made self.now }
+    {
+        self.machine.stream.has_waiting()
+    }
+
+    /// Hands out the next event that waits, as `next_event`. There has to be one.
+    #[inline(always)]
+    pub fn take_waiting(&mut self) -> (Event<'a>, Mark)
+        requires { 0 < waiting self.old }
+        ensures text { self.new.text.now ≡ self.old.text.now }
+        ensures handed { handed self.new ≡ handed self.old ++ result ∷ [] }
+        ensures made { made self.new ≡ made self.old }
+    {
+        self.machine.stream.take()
     }
 
     /// How many events were made of the tokens and not handed out.

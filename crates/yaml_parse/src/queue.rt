@@ -1,6 +1,6 @@
 //! The events that were made, of which the first were handed out.
 
-ghost use Rattle.std.specs.Prelude.{◌≡◌, ◌++◌, ◌∷◌, ◌-◌, ◌<◌, [], IfNone, OnOk, option_to_list};
+ghost use Rattle.std.specs.Prelude.{◌≡◌, ◌++◌, ◌∷◌, ◌<◌, [], OnOk, false, true};
 ghost use Rattle.std.specs.VecDeque.{deque_len, deque_capacity};
 ghost use Rattle.std.proofs.Props.{props};
 
@@ -62,20 +62,28 @@ impl<'a> Queue<'a> {
         self.waiting.push_back_reserved(event);
     }
 
-    // Hands out the first of the events that wait.
+    // Whether an event waits.
     #[inline(always)]
-    pub(crate) fn pop(&mut self) -> Option<(Event<'a>, Mark)>
+    pub(crate) fn has_waiting(&self) -> bool
+        ensures waits { result ≡ true → 0 < deque_len self.now.waiting }
+        ensures none { result ≡ false → self.now.handed.items ≡ self.now.made.items }
+    {
+        !self.waiting.is_empty()
+    }
+
+    // Hands out the first of the events that wait, of which there is one.
+    #[inline(always)]
+    pub(crate) fn take(&mut self) -> (Event<'a>, Mark)
+        requires { 0 < deque_len self.old.waiting }
         ensures made { self.new.made.items ≡ self.old.made.items }
-        ensures handed { self.new.handed.items ≡ self.old.handed.items ++ option_to_list result }
-        ensures none { IfNone result (self.new.handed.items ≡ self.new.made.items) }
-        ensures fewer { deque_len self.new.waiting ≡ deque_len self.old.waiting - 1 }
+        ensures handed { self.new.handed.items ≡ self.old.handed.items ++ result ∷ [] }
     {
         match self.waiting.pop_front() {
             Some(event) => {
                 self.handed = History::with(&self.handed, &event);
-                Some(event)
+                event
             }
-            None => None,
+            None => unreachable!(),
         }
     }
 

@@ -2,7 +2,7 @@
 use Rattle.std.specs.Prelude.{◌≡◌, ℕ, List, []}
 use Rattle.yaml_base.specs.Position.{Position}
 use Rattle.yaml_base.specs.declared.event.Event.{Event}
-use Rattle.yaml_parse.specs.Handed.{handed, made}
+use Rattle.yaml_parse.specs.Handed.{handed, made, waiting}
 use Rattle.yaml_scan.specs.AllowedText.{IsAllowed, IsOfReader}
 use Rattle.yaml_text.specs.declared.events.Source.{Source}
 use Rattle.yaml_text.specs.declared.events.Source.TheVariants.{Text, Unread}
@@ -16,6 +16,11 @@ IsSourceOf text (Unread fault) = IsOfReader text fault.kind fault.offset
 abbrev pub given_by : Source → List (Event × Position)
 given_by (Text reading) = handed reading.parser
 given_by (Unread fault) = []
+
+-- how many events wait
+abbrev pub waiting_in : Source → ℕ
+waiting_in (Text reading) = waiting reading.parser
+waiting_in (Unread fault) = 0
 
 -- no event waits
 abbrev pub IsSpent : Source → Type 0

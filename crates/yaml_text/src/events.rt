@@ -1,6 +1,7 @@
 //! The events of a text, one after another.
 
-ghost use Rattle.std.specs.Prelude.{◌≡◌, ◌++◌, [], IfErr, IfNone, IfOk, IsSomeAnd, false, is_some, option_to_list, true};
+ghost use Rattle.std.specs.Prelude.{◌≡◌, ◌<◌, ◌∷◌, ◌++◌, [], IfErr, IfNone, IfOk, IsSomeAnd, false, is_some};
+ghost use Rattle.std.specs.Prelude.{option_to_list, true};
 ghost use Rattle.yaml_base.specs.MarkedEvents.{plain_events};
 ghost use Rattle.yaml_base.specs.Stream.{IsBeginning, IsWellFormed};
 ghost use Rattle.yaml_parse.specs.Faults.{IsNotReaders};
@@ -40,9 +41,14 @@ impl<'a> Model for Events<'a> {
     ghost Value = { PlainReading };
 
     ghost use Rattle.std.specs.Prelude.{◌≡◌, true};
-    ghost use Rattle.yaml_text.specs.Sources.{IsSourceOf, IsSpent, given_by};
+    ghost use Rattle.yaml_text.specs.Sources.{IsSourceOf, IsSpent, given_by, waiting_in};
 
-    ghost view = { λ e. record { text = e.text.now; given = given_by e.source; over = e.over } };
+    ghost view = { λ e. record {
+      text = e.text.now;
+      given = given_by e.source;
+      waiting = waiting_in e.source;
+      over = e.over;
+    } };
 
     ghost invariant = { λ e. IsSourceOf e.text.now e.source × (e.over ≡ true → IsSpent e.source) };
 }
@@ -75,17 +81,48 @@ impl<'a> Events<'a> {
         ensures kept { IfErr result (λ _. self.new.given ≡ self.old.given) }
         ensures over { IfOk result (λ found. IfNone found (self.new.over ≡ true)) }
     {
+        if self.has_next()? {
+            Ok(Some(self.take_next()))
+        } else {
+            Ok(None)
+        }
+    }
+
+    /// Whether another event comes, which is then read and waits to be taken; if not, none does for good. The only error
+    /// is want of memory.
+    #[inline(always)]
+    pub fn has_next(&mut self) -> Result<bool, AllocError>
+        ensures text { self.new.text ≡ self.old.text }
+        ensures given { self.new.given ≡ self.old.given }
+        ensures waits { IfOk result (λ more. more ≡ true → 0 < self.new.waiting) }
+        ensures over { IfOk result (λ more. more ≡ false → self.new.over ≡ true) }
+    {
         self.over = false;
         match &mut self.source {
             Source::Text(reading) => {
-                let found = reading.next_event()?;
-                self.over = found.is_none();
-                Ok(found)
+                let more = reading.has_next()?;
+                self.over = !more;
+                Ok(more)
             }
             Source::Unread(_) => {
                 self.over = true;
-                Ok(None)
+                Ok(false)
             }
+        }
+    }
+
+    /// The event that `has_next` told of, as `next_event` gives it. It goes to where the caller puts it in one move, where
+    /// one behind an `Option` and a `Result` is moved more than once.
+    #[inline(always)]
+    pub fn take_next(&mut self) -> (Event<'a>, Mark)
+        requires { 0 < self.old.waiting }
+        ensures text { self.new.text ≡ self.old.text }
+        ensures given { self.new.given ≡ self.old.given ++ result ∷ [] }
+    {
+        self.over = false;
+        match &mut self.source {
+            Source::Text(reading) => reading.take_next(),
+            Source::Unread(_) => unreachable!(),
         }
     }
 

@@ -1,9 +1,9 @@
 //! Tokens to events, step by step.
 
-ghost use Rattle.std.specs.Prelude.{◌≡◌, ◌<◌, ◌++◌, IfErr, IfNone, IfOk, option_to_list};
+ghost use Rattle.std.specs.Prelude.{◌≡◌, ◌<◌, ◌∷◌, ◌++◌, [], IfOk, false, true};
 ghost use Rattle.std.specs.Option.{ForSome};
 ghost use Rattle.yaml_base.specs.declared.fault.FaultKind.TheVariants as kind;
-ghost use Rattle.yaml_parse.specs.Handed.{handed, made};
+ghost use Rattle.yaml_parse.specs.Handed.{handed, made, waiting};
 
 use std::alloc::AllocError;
 use yaml_base::{Event, Mark};
@@ -108,18 +108,27 @@ impl<'a> Reading<'a> {
         &self.parser
     }
 
-    // Hands out the next event, or `None` where the tokens have ended.
+    // Reads on where no event waits, and tells whether one does then: none where the tokens have ended.
     #[inline(always)]
-    pub(crate) fn next_event(&mut self) -> Result<Option<(Event<'a>, Mark)>, AllocError>
+    pub(crate) fn has_next(&mut self) -> Result<bool, AllocError>
         ensures text { self.new.parser.text.now ≡ self.old.parser.text.now }
-        ensures handed { IfOk result (λ found.
-            handed self.new.parser ≡ handed self.old.parser ++ option_to_list found) }
-        ensures kept { IfErr result (λ _. handed self.new.parser ≡ handed self.old.parser) }
-        ensures none { IfOk result (λ found. IfNone found (handed self.new.parser ≡ made self.new.parser)) }
+        ensures handed { handed self.new.parser ≡ handed self.old.parser }
+        ensures waits { IfOk result (λ more. more ≡ true → 0 < waiting self.new.parser) }
+        ensures none { IfOk result (λ more. more ≡ false → handed self.new.parser ≡ made self.new.parser) }
     {
-        if self.parser.waiting() == 0 {
+        if !self.parser.has_waiting() {
             self.refill()?;
         }
-        Ok(self.parser.next_event())
+        Ok(self.parser.has_waiting())
+    }
+
+    // Hands out the next of the events that wait, of which there is one.
+    #[inline(always)]
+    pub(crate) fn take_next(&mut self) -> (Event<'a>, Mark)
+        requires { 0 < waiting self.old.parser }
+        ensures text { self.new.parser.text.now ≡ self.old.parser.text.now }
+        ensures handed { handed self.new.parser ≡ handed self.old.parser ++ result ∷ [] }
+    {
+        self.parser.take_waiting()
     }
 }

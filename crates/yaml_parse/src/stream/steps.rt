@@ -1,7 +1,7 @@
 //! How the events of a stream go on.
 
-ghost use Rattle.std.specs.Prelude.{◌≡◌, ◌≤◌, ◌∷◌, ◌++◌, [], All, IfNone, IfOk, IsSomeAnd, OnOk, Some, false, length};
-ghost use Rattle.std.specs.Prelude.{option_to_list, true};
+ghost use Rattle.std.specs.Prelude.{◌≡◌, ◌<◌, ◌≤◌, ◌∷◌, ◌++◌, [], All, IfOk, IsSomeAnd, OnOk, Some, false, length};
+ghost use Rattle.std.specs.Prelude.{true};
 ghost use Rattle.std.specs.Option.{option_map};
 ghost use Rattle.std.specs.VecDeque.{deque_len};
 ghost use Rattle.std.proofs.Props.{props};
@@ -79,15 +79,24 @@ impl<'a> Stream<'a> {
         self.events.len()
     }
 
-    // Hands out the next event, if one waits.
+    // Whether an event waits.
     #[inline(always)]
-    pub(crate) fn pop(&mut self) -> Option<(Event<'a>, Mark)>
+    pub(crate) fn has_waiting(&self) -> bool
+        ensures waits { result ≡ true → 0 < deque_len self.now.events.waiting }
+        ensures none { result ≡ false → self.now.events.handed.items ≡ self.now.events.made.items }
+    {
+        self.events.has_waiting()
+    }
+
+    // Hands out the next of the events that wait, of which there is one.
+    #[inline(always)]
+    pub(crate) fn take(&mut self) -> (Event<'a>, Mark)
+        requires { 0 < deque_len self.old.events.waiting }
         ensures text { self.new.text.now ≡ self.old.text.now }
         ensures made { self.new.events.made.items ≡ self.old.events.made.items }
-        ensures handed { self.new.events.handed.items ≡ self.old.events.handed.items ++ option_to_list result }
-        ensures none { IfNone result (self.new.events.handed.items ≡ self.new.events.made.items) }
+        ensures handed { self.new.events.handed.items ≡ self.old.events.handed.items ++ result ∷ [] }
     {
-        self.events.pop()
+        self.events.take()
     }
 
     // The events that were not handed out, in a list.
