@@ -78,6 +78,14 @@ fn next<'a>(events: &mut Events<'a>) -> Result<Option<(Event<'a>, Mark)>, AllocE
     events.next_event()
 }
 
+// The next event, where one is asked for twice before it is taken, likewise.
+fn taken<'a>(events: &mut Events<'a>) -> Result<Option<(Event<'a>, Mark)>, AllocError> {
+    if events.has_next()? && events.has_next()? {
+        return Ok(Some(events.take_next()));
+    }
+    Ok(None)
+}
+
 // Why no more events come, likewise.
 fn finish(alloc: Global, events: Events<'_>) -> Result<Ending, AllocError> {
     events.finish(alloc)
@@ -118,6 +126,24 @@ fn events_come_one_by_one(rt: HostRuntime) -> Result<(), Fail> {
         assert!(rt; over, "{text}");
         let mut more = String::new(alloc);
         assert!(rt; write_words(&mut left, 1, &mut more)?, "{text}");
+        assert_eq!(rt; finish(alloc, left)?.fault.is_some(), *fails, "{text}");
+    }
+    Ok(())
+}
+
+#[test]
+fn an_event_that_comes_is_taken(rt: HostRuntime) -> Result<(), Fail> {
+    let alloc = rt.alloc();
+    for (text, words, fails) in EVENTS {
+        let mut left = events(alloc, text.as_bytes())?;
+        let mut told = String::new(alloc);
+        for _ in 0..16 {
+            match taken(&mut left)? {
+                Some((event, _)) => write_word(&event, &mut told)?,
+                None => break,
+            }
+        }
+        assert_eq!(rt; told.as_str(), *words, "{text}");
         assert_eq!(rt; finish(alloc, left)?.fault.is_some(), *fails, "{text}");
     }
     Ok(())
