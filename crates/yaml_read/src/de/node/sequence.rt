@@ -16,7 +16,7 @@ ghost use Rattle.yaml_read.specs.inner.Walks.{around_of, source_of, spot_of, rea
 
 use crate::de::node::fault_place::at_place;
 use crate::de::node::source::Source;
-use crate::de::node::{is_leaf, too_deep};
+use crate::de::node::too_deep;
 use crate::de::taken_tag::TakenBy;
 use crate::walk::Walk;
 use yaml_base::{Mark, Path};
@@ -59,7 +59,7 @@ impl<'s, 'de> Source<'s, 'de> {
             return Err(too_deep(self.alloc, mark));
         }
         let element = self.shape(element);
-        let room = self.room(walk.place, is_leaf(element));
+        let room = self.room(walk.place, element.is_leaf());
         walk.step();
         match self.read_items(path, element, room, nest - 1, walk) {
             Ok(items) => Ok(Data::Seq(items)),
@@ -90,7 +90,7 @@ impl<'s, 'de> Source<'s, 'de> {
         ensures moves { OnOk result (MovesOn (length self.now.events.now) walk.old walk.new) }
         ensures cost { Costs (length self.now.events.now) walk.old walk.new }
     {
-        let leaf = is_leaf(element);
+        let leaf = element.is_leaf();
         let mut items = Vec::with_capacity(self.alloc, room)?;
         loop {
             let Some((event, mark)) = self.event(walk.place) else {

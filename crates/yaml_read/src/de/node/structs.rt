@@ -21,7 +21,7 @@ ghost use Rattle.yaml_read.specs.inner.Walks.{IsAmong, MovesOn, Costs};
 use crate::de::node::field_index::FieldIndex;
 use crate::de::node::field_slots::{field_named, missing_field, no_slots, put};
 use crate::de::node::source::Source;
-use crate::de::node::{is_leaf, too_deep};
+use crate::de::node::too_deep;
 use crate::de::taken_tag::TakenBy;
 use crate::walk::Walk;
 use yaml_base::{Mark, Path};
@@ -171,7 +171,7 @@ impl<'s, 'de> Source<'s, 'de> {
             return self.pass_over(walk);
         };
         let shape = self.shape(id);
-        match self.read_value(path, event, shape, is_leaf(shape), nest, walk) {
+        match self.read_value(path, event, shape, shape.is_leaf(), nest, walk) {
             Ok(data) => {
                 put(slots, place, data);
                 Ok(())
