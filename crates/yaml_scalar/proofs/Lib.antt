@@ -1,6 +1,7 @@
 -- Lemmas of this crate.
 pub mod CharacterLaws
 pub mod FoundLaws
+pub mod IntegerLaws
 pub mod OfShape
 pub mod ScalarShapeLaws
 pub mod SmallNumbers

@@ -1,18 +1,19 @@
 //! The integer that a scalar writes.
 
-ghost use Rattle.std.specs.Prelude.{◌≡◌, ◌<◌, ◌^◌, Some, IfSome, option_and_then};
+ghost use Rattle.std.specs.Prelude.{◌≡◌, ◌<◌, ◌≤ℤ◌, ◌^◌, neg_ℤ, pos, true, false, Some, IfSome, option_and_then};
 ghost use Rattle.std.specs.Str.{IsUtf8};
 ghost use Rattle.std.specs.Str.Parse.{AllDigits};
-ghost use Rattle.yaml_base.specs.Integers.{number_in, decimal};
+ghost use Rattle.yaml_base.specs.Integers.{number_in, decimal, integer_of, unsigned_of};
 ghost use Rattle.yaml_load.specs.DocEventView.{doc_scalar_of};
-ghost use Rattle.yaml_scalar.specs.ScalarShapes.{plain_text, signed_text, unsigned_text, utf8_text};
+ghost use Rattle.yaml_scalar.specs.ScalarShapes.{plain_text, signed_text, unsigned_text, utf8_text, widest};
 ghost use Rattle.yaml_scalar.specs.CoreTags.{int_tag};
-ghost use Rattle.yaml_shape.specs.PlainShape.{i64 as long, i128 as longest, u64 as unsigned_long};
-ghost use Rattle.yaml_shape.specs.PlainShape.{u128 as unsigned_longest};
+ghost use Rattle.yaml_shape.specs.IntegerTypes.{has_sign};
+ghost use Rattle.yaml_shape.specs.IntegerView.{integer_type_of};
 
-use crate::sort::{is_plain_or_tagged_literal, text_of, utf8_text};
+use crate::sort::{is_plain_or_tagged_literal, utf8_text};
 use yaml_base::{Tag, parse_signed_int, parse_unsigned_int};
 use yaml_load::DocScalar;
+use yaml_shape::{IntegerRange, IntegerType};
 
 // So many decimal digits write a number of 64 bits.
 const DIGITS: usize = 18;
@@ -39,7 +40,9 @@ fn small_number(digits: &[u8]) -> Option<u64>
 // The integer that a few decimal digits write, behind a minus or without a sign.
 fn small_signed(text: &[u8]) -> Option<i64>
     ensures text { IfSome result (λ z. IsUtf8 text.now) }
-    ensures value { IfSome result (λ z. signed_text long text.now ≡ Some z) }
+    ensures value { IfSome result (λ z. integer_of text.now ≡ Some z) }
+    ensures low { IfSome result (λ z. neg_ℤ (pos (10 ^ 18)) ≤ℤ z) }
+    ensures high { IfSome result (λ z. z ≤ℤ pos (10 ^ 18)) }
 {
     match text.split_first() {
         Some((sign, digits)) if *sign == b'-' => {
@@ -56,7 +59,8 @@ fn small_signed(text: &[u8]) -> Option<i64>
 // The integer that a few decimal digits write.
 fn small_unsigned(text: &[u8]) -> Option<u64>
     ensures text { IfSome result (λ n. IsUtf8 text.now) }
-    ensures value { IfSome result (λ n. unsigned_text unsigned_long text.now ≡ Some n) }
+    ensures value { IfSome result (λ n. unsigned_of text.now ≡ Some n) }
+    ensures small { IfSome result (λ n. n < 10 ^ 18) }
 {
     match small_number(text) {
         Some(number) => Some(number),
@@ -64,68 +68,72 @@ fn small_unsigned(text: &[u8]) -> Option<u64>
     }
 }
 
-// The integer of 64 bits with a sign that bytes write.
-fn signed_of(bytes: &[u8]) -> Option<i128>
-    ensures { result ≡ option_and_then (signed_text long) (utf8_text bytes.now) }
+// The type as which an integer is read, before it is known to be one of its own type.
+fn widest(integer: IntegerType) -> IntegerType
+    ensures { integer_type_of result ≡ widest (integer_type_of integer) }
+{
+    match integer {
+        IntegerType::I128 | IntegerType::U128 => integer,
+        _ if integer.has_sign() => IntegerType::I64,
+        _ => IntegerType::U64,
+    }
+}
+
+// The integer that bytes write, of a type with a sign or past it.
+fn signed_of(integer: IntegerType, bytes: &[u8]) -> Option<i128>
+    requires { has_sign (integer_type_of integer) ≡ true }
+    ensures { result ≡ option_and_then (signed_text (integer_type_of integer)) (utf8_text bytes.now) }
 {
     match small_signed(bytes) {
-        Some(integer) => Some(integer as i128),
-        None => parse_signed_int(utf8_text(bytes)?, i64::MIN as i128, i64::MAX as i128),
+        Some(value) => Some(value as i128),
+        None => match widest(integer).range() {
+            IntegerRange::Signed { least, greatest } => {
+                parse_signed_int(utf8_text(bytes)?, least, greatest)
+            }
+            IntegerRange::Unsigned { greatest: _ } => unreachable!(),
+        },
     }
 }
 
-// The integer of 64 bits without a sign that bytes write.
-fn unsigned_of(bytes: &[u8]) -> Option<u128>
-    ensures { result ≡ option_and_then (unsigned_text unsigned_long) (utf8_text bytes.now) }
+// The integer that bytes write, of a type without a sign or past it.
+fn unsigned_of(integer: IntegerType, bytes: &[u8]) -> Option<u128>
+    requires { has_sign (integer_type_of integer) ≡ false }
+    ensures { result ≡ option_and_then (unsigned_text (integer_type_of integer)) (utf8_text bytes.now) }
 {
     match small_unsigned(bytes) {
-        Some(integer) => Some(integer as u128),
-        None => parse_unsigned_int(utf8_text(bytes)?, u64::MAX as u128),
+        Some(value) => Some(value as u128),
+        None => match widest(integer).range() {
+            IntegerRange::Unsigned { greatest } => parse_unsigned_int(utf8_text(bytes)?, greatest),
+            IntegerRange::Signed {
+                least: _,
+                greatest: _,
+            } => unreachable!(),
+        },
     }
 }
 
-/// The integer of 64 bits with a sign that a scalar writes.
+/// The integer that a scalar writes, of a type with a sign, or past it in the bits that are read.
 #[tactic(auto, unfolding(crate::specs::CoreTags::int_tag))]
-pub(crate) fn signed_64(taken: bool, scalar: &DocScalar<'_>) -> Option<i128>
-    ensures { result ≡ option_and_then (signed_text long) (plain_text int_tag taken (doc_scalar_of scalar.now)) }
-{
-    if !is_plain_or_tagged_literal(Tag::INT, taken, scalar) {
-        return None;
-    }
-    signed_of(&scalar.value)
-}
-
-/// The integer of 128 bits with a sign that a scalar writes.
-#[tactic(auto, unfolding(crate::specs::CoreTags::int_tag))]
-pub(crate) fn signed_128(taken: bool, scalar: &DocScalar<'_>) -> Option<i128>
-    ensures { result ≡ option_and_then (signed_text longest) (plain_text int_tag taken (doc_scalar_of scalar.now)) }
-{
-    if !is_plain_or_tagged_literal(Tag::INT, taken, scalar) {
-        return None;
-    }
-    parse_signed_int(text_of(scalar)?, i128::MIN, i128::MAX)
-}
-
-/// The integer of 64 bits without a sign that a scalar writes.
-#[tactic(auto, unfolding(crate::specs::CoreTags::int_tag))]
-pub(crate) fn unsigned_64(taken: bool, scalar: &DocScalar<'_>) -> Option<u128>
-    ensures { result ≡ option_and_then (unsigned_text unsigned_long)
+pub(crate) fn signed_in(integer: IntegerType, taken: bool, scalar: &DocScalar<'_>) -> Option<i128>
+    requires { has_sign (integer_type_of integer) ≡ true }
+    ensures { result ≡ option_and_then (signed_text (integer_type_of integer))
         (plain_text int_tag taken (doc_scalar_of scalar.now)) }
 {
     if !is_plain_or_tagged_literal(Tag::INT, taken, scalar) {
         return None;
     }
-    unsigned_of(&scalar.value)
+    signed_of(integer, &scalar.value)
 }
 
-/// The integer of 128 bits without a sign that a scalar writes.
+/// The integer that a scalar writes, of a type without a sign, or past it in the bits that are read.
 #[tactic(auto, unfolding(crate::specs::CoreTags::int_tag))]
-pub(crate) fn unsigned_128(taken: bool, scalar: &DocScalar<'_>) -> Option<u128>
-    ensures { result ≡ option_and_then (unsigned_text unsigned_longest)
+pub(crate) fn unsigned_in(integer: IntegerType, taken: bool, scalar: &DocScalar<'_>) -> Option<u128>
+    requires { has_sign (integer_type_of integer) ≡ false }
+    ensures { result ≡ option_and_then (unsigned_text (integer_type_of integer))
         (plain_text int_tag taken (doc_scalar_of scalar.now)) }
 {
     if !is_plain_or_tagged_literal(Tag::INT, taken, scalar) {
         return None;
     }
-    parse_unsigned_int(text_of(scalar)?, u128::MAX)
+    unsigned_of(integer, &scalar.value)
 }

@@ -17,11 +17,7 @@ ghost use Rattle.yaml_scalar.specs.ScalarShapes.{takes_no_memory, void_answer};
 
 use crate::any_value::any_scalar;
 use crate::character::read_char;
-use crate::integer_range::{read_signed_128, read_unsigned_128};
-use crate::integer_types::{
-    read_signed_8, read_signed_16, read_signed_32, read_signed_64, read_unsigned_8,
-    read_unsigned_16, read_unsigned_32, read_unsigned_64,
-};
+use crate::integer::read_integer;
 use crate::mismatch::{found_no_elements, found_no_null, found_scalar};
 use crate::presence::{is_absent, is_empty_plain};
 use crate::refusal::{Result, ended, refuse};
@@ -133,16 +129,6 @@ pub fn read_scalar<'de>(
     match shape {
         Shape::Any => read_any(alloc, taken, scalar),
         Shape::Bool => read_bool(alloc, shape, taken, scalar),
-        Shape::I8 => read_signed_8(alloc, shape, taken, scalar),
-        Shape::I16 => read_signed_16(alloc, shape, taken, scalar),
-        Shape::I32 => read_signed_32(alloc, shape, taken, scalar),
-        Shape::I64 | Shape::Isize => read_signed_64(alloc, shape, taken, scalar),
-        Shape::I128 => read_signed_128(alloc, shape, taken, scalar),
-        Shape::U8 => read_unsigned_8(alloc, shape, taken, scalar),
-        Shape::U16 => read_unsigned_16(alloc, shape, taken, scalar),
-        Shape::U32 => read_unsigned_32(alloc, shape, taken, scalar),
-        Shape::U64 | Shape::Usize => read_unsigned_64(alloc, shape, taken, scalar),
-        Shape::U128 => read_unsigned_128(alloc, shape, taken, scalar),
         Shape::Char => read_char(alloc, shape, taken, scalar),
         Shape::Str => read_text(alloc, shape, taken, scalar),
         Shape::Identifier => read_text(alloc, shape, taken, scalar),
@@ -156,14 +142,10 @@ pub fn read_scalar<'de>(
         }
         Shape::Map(_, _) if is_empty_plain(scalar) => Ok(Data::Map(Vec::new(alloc))),
         Shape::Enum { name: _, variants } => read_variant_name(alloc, variants, scalar),
-        Shape::Newtype { name: _, inner: _ }
-        | Shape::Seq(_)
-        | Shape::Tuple(_)
-        | Shape::TupleStruct { name: _, items: _ }
-        | Shape::Map(_, _)
-        | Shape::Struct { name: _, fields: _ }
-        | Shape::StrictStruct { name: _, fields: _ }
-        | Shape::IgnoredAny => Err(found_scalar(alloc, shape, taken, scalar)),
+        _ => match shape.integer() {
+            Some(integer) => read_integer(alloc, shape, integer, taken, scalar),
+            None => Err(found_scalar(alloc, shape, taken, scalar)),
+        },
     }
 }
 

@@ -24,14 +24,9 @@ use yaml_tree::Value;
 fn takes_signed(shape: &Shape, n: i128) -> bool
     ensures { result ≡ takes_signed n (shape_of shape.now) }
 {
-    match shape {
-        Shape::I8 => -0x80 <= n && n < 0x80,
-        Shape::I16 => -0x8000 <= n && n < 0x8000,
-        Shape::I32 => -0x8000_0000 <= n && n < 0x8000_0000,
-        Shape::I64 => -0x8000_0000_0000_0000 <= n && n < 0x8000_0000_0000_0000,
-        Shape::Isize => -0x8000_0000_0000_0000 <= n && n < 0x8000_0000_0000_0000,
-        Shape::I128 => true,
-        _ => false,
+    match shape.integer() {
+        Some(integer) => integer.takes_signed(n),
+        None => false,
     }
 }
 
@@ -39,14 +34,9 @@ fn takes_signed(shape: &Shape, n: i128) -> bool
 fn takes_unsigned(shape: &Shape, n: u128) -> bool
     ensures { result ≡ takes_unsigned n (shape_of shape.now) }
 {
-    match shape {
-        Shape::U8 => n < 0x100,
-        Shape::U16 => n < 0x1_0000,
-        Shape::U32 => n < 0x1_0000_0000,
-        Shape::U64 => n < 0x1_0000_0000_0000_0000,
-        Shape::Usize => n < 0x1_0000_0000_0000_0000,
-        Shape::U128 => true,
-        _ => false,
+    match shape.integer() {
+        Some(integer) => integer.takes_unsigned(n),
+        None => false,
     }
 }
 

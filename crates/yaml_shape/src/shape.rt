@@ -1,5 +1,14 @@
 //! What a node may be read as.
 
+ghost use Rattle.std.specs.Prelude.{◌≡◌, IfSome};
+ghost use Rattle.std.specs.Option.{option_map};
+ghost use Rattle.yaml_shape.specs.IntegerView.{integer_type_of};
+ghost use Rattle.yaml_shape.specs.Leaves.{integer_in, is_leaf};
+ghost use Rattle.yaml_shape.specs.PlainShape.{integer_shape};
+ghost use Rattle.yaml_shape.specs.ShapeView.{shape_of};
+
+use crate::integer_type::IntegerType;
+
 /// The number of a shape: its place in the table of its schema.
 #[derive(Clone, Copy, PartialEq, Eq)]
 pub struct ShapeId(pub u32);
@@ -110,4 +119,45 @@ pub enum VariantShape {
     Struct(Vec<(String, ShapeId)>),
     /// Fields with names. A field that it doesn't have is a fault.
     StrictStruct(Vec<(String, ShapeId)>),
+}
+
+impl Shape {
+    /// The type of the integers that the shape asks for, where it asks for any.
+    #[inline(always)]
+    pub fn integer(&self) -> Option<IntegerType>
+        ensures exactly { option_map integer_type_of result ≡ integer_in (shape_of self.now) }
+        ensures asked { IfSome result (λ i. shape_of self.now ≡ integer_shape (integer_type_of i)) }
+    {
+        match self {
+            Shape::I8 => Some(IntegerType::I8),
+            Shape::I16 => Some(IntegerType::I16),
+            Shape::I32 => Some(IntegerType::I32),
+            Shape::I64 => Some(IntegerType::I64),
+            Shape::I128 => Some(IntegerType::I128),
+            Shape::Isize => Some(IntegerType::Isize),
+            Shape::U8 => Some(IntegerType::U8),
+            Shape::U16 => Some(IntegerType::U16),
+            Shape::U32 => Some(IntegerType::U32),
+            Shape::U64 => Some(IntegerType::U64),
+            Shape::U128 => Some(IntegerType::U128),
+            Shape::Usize => Some(IntegerType::Usize),
+            _ => None,
+        }
+    }
+
+    /// Whether the shape reads scalars alone.
+    #[inline(always)]
+    pub fn is_leaf(&self) -> bool
+        ensures { result ≡ is_leaf (shape_of self.now) }
+    {
+        match self {
+            Shape::Bool
+            | Shape::Char
+            | Shape::Str
+            | Shape::Identifier
+            | Shape::Unit
+            | Shape::UnitStruct { name: _ } => true,
+            _ => self.integer().is_some(),
+        }
+    }
 }

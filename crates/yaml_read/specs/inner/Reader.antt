@@ -29,7 +29,8 @@ use Rattle.yaml_read.specs.NodeTags.{TakenBy, around_value}
 use Rattle.yaml_read.specs.Places.{Way, element_under, value_under, places, place, text_place}
 use Rattle.yaml_read.specs.Rows.{Row, row_of, one_more, row_data}
 use Rattle.yaml_read.specs.TreeReader.{Spot, after, mark_or_first}
-pub use Rattle.yaml_read.specs.inner.Takes.{takes_sequence, takes_mapping, takes, is_leaf, other_answer, fields_in}
+pub use Rattle.yaml_shape.specs.Leaves.{is_leaf}
+pub use Rattle.yaml_read.specs.inner.Takes.{takes_sequence, takes_mapping, takes, other_answer, fields_in}
 pub use Rattle.yaml_read.specs.inner.Takes.{rows_in}
 pub use Rattle.yaml_read.specs.inner.Takes.{row_shape, Owner, of_tuple, of_tuple_struct, of_tuple_variant, owner_named}
 pub use Rattle.yaml_read.specs.inner.Takes.{few_text}

@@ -35,17 +35,6 @@ takes s (sequence_begins tag) = takes_sequence s
 takes s (mapping_begins tag) = takes_mapping s
 takes s _ = false
 
--- the shape reads scalars alone
-abbrev pub is_leaf : PlainShape → Bool
-is_leaf bool_shape = true
-is_leaf char_shape = true
-is_leaf (integer_shape i) = true
-is_leaf str_shape = true
-is_leaf identifier_shape = true
-is_leaf unit_shape = true
-is_leaf (unit_struct_shape name) = true
-is_leaf _ = false
-
 -- what a node whose tag is taken gives under a shape, where it is no collection that the shape reads
 abbrev pub other_answer : PlainShape → PlainDocEvent → Result PlainData Cause
 other_answer s (a_scalar w) = scalar_answer s true w

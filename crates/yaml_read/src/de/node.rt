@@ -68,33 +68,6 @@ fn refused_bytes(alloc: Global) -> Refusal
     refuse(alloc, Error::new(Cause::BytesUnsupported))
 }
 
-/// Whether the shape reads scalars alone.
-pub(super) fn is_leaf(shape: &Shape) -> bool
-    ensures { result ≡ is_leaf (shape_of shape.now) }
-{
-    match shape {
-        Shape::Bool
-        | Shape::Char
-        | Shape::I8
-        | Shape::I16
-        | Shape::I32
-        | Shape::I64
-        | Shape::I128
-        | Shape::Isize
-        | Shape::U8
-        | Shape::U16
-        | Shape::U32
-        | Shape::U64
-        | Shape::U128
-        | Shape::Usize
-        | Shape::Str
-        | Shape::Identifier
-        | Shape::Unit
-        | Shape::UnitStruct { .. } => true,
-        _ => false,
-    }
-}
-
 impl<'s, 'de> Source<'s, 'de> {
     /// The node at the walk's place, under a shape, with so many nestings left.
     #[cycle(read)]
@@ -145,24 +118,7 @@ impl<'s, 'de> Source<'s, 'de> {
             Shape::Struct { name: _, fields } => self.read_struct(ask, fields, false, walk),
             Shape::StrictStruct { name: _, fields } => self.read_struct(ask, fields, true, walk),
             Shape::IgnoredAny => self.read_ignored(walk),
-            Shape::Bool
-            | Shape::Char
-            | Shape::I8
-            | Shape::I16
-            | Shape::I32
-            | Shape::I64
-            | Shape::I128
-            | Shape::Isize
-            | Shape::U8
-            | Shape::U16
-            | Shape::U32
-            | Shape::U64
-            | Shape::U128
-            | Shape::Usize
-            | Shape::Str
-            | Shape::Identifier
-            | Shape::Unit
-            | Shape::UnitStruct { .. } => self.read_leaf(ask, walk),
+            _ => self.read_leaf(ask, walk),
         }
     }
 

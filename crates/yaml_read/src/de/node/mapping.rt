@@ -16,7 +16,7 @@ ghost use Rattle.yaml_read.specs.inner.Walks.{source_of, spot_of, reader_of, see
 
 use crate::de::node::ask::Ask;
 use crate::de::node::source::Source;
-use crate::de::node::{is_leaf, too_deep};
+use crate::de::node::too_deep;
 use crate::walk::Walk;
 use yaml_base::{Mark, Path};
 use yaml_load::DocEvent;
@@ -51,7 +51,7 @@ impl<'s, 'de> Source<'s, 'de> {
         }
         let key = self.shape(key);
         let value = self.shape(value);
-        let room = self.room(walk.place, is_leaf(key) && is_leaf(value)) / 2;
+        let room = self.room(walk.place, key.is_leaf() && value.is_leaf()) / 2;
         walk.step();
         match self.read_entries(ask.path, key, value, room, ask.nest - 1, walk) {
             Ok(entries) => Ok(Data::Map(entries)),
@@ -86,8 +86,8 @@ impl<'s, 'de> Source<'s, 'de> {
         ensures moves { OnOk result (MovesOn (length self.now.events.now) walk.old walk.new) }
         ensures cost { Costs (length self.now.events.now) walk.old walk.new }
     {
-        let key_leaf = is_leaf(key);
-        let value_leaf = is_leaf(value);
+        let key_leaf = key.is_leaf();
+        let value_leaf = value.is_leaf();
         let mut entries = Vec::with_capacity(self.alloc, room)?;
         loop {
             let Some(event) = self.event(walk.place) else {

@@ -16,7 +16,7 @@ ghost use Rattle.yaml_read.specs.inner.Walks.{source_of, spot_of, reader_of, see
 
 use crate::de::node::ask::Ask;
 use crate::de::node::source::Source;
-use crate::de::node::{is_leaf, too_deep};
+use crate::de::node::too_deep;
 use crate::walk::Walk;
 use yaml_base::{Mark, Path};
 use yaml_load::DocEvent;
@@ -49,7 +49,7 @@ impl<'s, 'de> Source<'s, 'de> {
             return Err(too_deep(self.alloc, event.1));
         }
         let element = self.shape(element);
-        let room = self.room(walk.place, is_leaf(element));
+        let room = self.room(walk.place, element.is_leaf());
         walk.step();
         match self.read_items(ask.path, element, room, ask.nest - 1, walk) {
             Ok(items) => Ok(Data::Seq(items)),
@@ -80,7 +80,7 @@ impl<'s, 'de> Source<'s, 'de> {
         ensures moves { OnOk result (MovesOn (length self.now.events.now) walk.old walk.new) }
         ensures cost { Costs (length self.now.events.now) walk.old walk.new }
     {
-        let leaf = is_leaf(element);
+        let leaf = element.is_leaf();
         let mut items = Vec::with_capacity(self.alloc, room)?;
         loop {
             let Some(event) = self.event(walk.place) else {

@@ -22,7 +22,7 @@ use crate::de::node::ask::Ask;
 use crate::de::node::field_index::{FieldIndex, FieldNames};
 use crate::de::node::field_slots::{field_named, missing_field, no_slots, put};
 use crate::de::node::source::Source;
-use crate::de::node::{is_leaf, too_deep};
+use crate::de::node::too_deep;
 use crate::walk::Walk;
 use yaml_base::{Mark, Path};
 use yaml_load::DocEvent;
@@ -164,7 +164,7 @@ impl<'s, 'de> Source<'s, 'de> {
             return self.pass_over(walk);
         };
         let shape = self.shape(id);
-        match self.read_value(path, &event.0, shape, is_leaf(shape), nest, walk) {
+        match self.read_value(path, &event.0, shape, shape.is_leaf(), nest, walk) {
             Ok(data) => {
                 put(slots, place, data);
                 Ok(())

@@ -1,0 +1,82 @@
+//! A scalar under the shape of an integer.
+
+ghost use Rattle.std.specs.Prelude.{◌≡◌, true, false, is_ok};
+ghost use Rattle.yaml_base.specs.Answer.{Gives};
+ghost use Rattle.yaml_shape.specs.DataView.{data_of};
+ghost use Rattle.yaml_shape.specs.IntegerTypes.{has_sign};
+ghost use Rattle.yaml_shape.specs.IntegerView.{integer_type_of};
+ghost use Rattle.yaml_shape.specs.PlainShape.{integer_shape};
+ghost use Rattle.yaml_shape.specs.ShapeView.{shape_of};
+ghost use Rattle.yaml_load.specs.DocEventView.{doc_scalar_of};
+ghost use Rattle.yaml_scalar.specs.ScalarShapes.{scalar_answer};
+ghost use Rattle.yaml_scalar.specs.inner.Numbers.{signed_number, unsigned_number};
+
+use crate::integer_text::{signed_in, unsigned_in};
+use crate::mismatch::{found_integer_outside, found_scalar};
+use crate::refusal::Result;
+use std::alloc::Global;
+use yaml_base::Found;
+use yaml_load::DocScalar;
+use yaml_shape::{Data, IntegerType, Shape};
+
+// An integer of a type with a sign.
+fn read_signed<'de>(
+    alloc: Global,
+    shape: &Shape,
+    integer: IntegerType,
+    taken: bool,
+    scalar: &DocScalar<'de>,
+) -> Result<Data<'de>>
+    requires { has_sign (integer_type_of integer) ≡ true }
+    ensures gives { Gives data_of result
+        (signed_number (integer_type_of integer) (shape_of shape.now) taken (doc_scalar_of scalar.now)) }
+    ensures free { is_ok result ≡ is_ok
+        (signed_number (integer_type_of integer) (shape_of shape.now) taken (doc_scalar_of scalar.now)) }
+{
+    match signed_in(integer, taken, scalar) {
+        Some(value) if integer.takes_signed(value) => Ok(Data::Signed(value)),
+        Some(value) => Err(found_integer_outside(alloc, Found::Signed(value), shape)),
+        None => Err(found_scalar(alloc, shape, taken, scalar)),
+    }
+}
+
+// An integer of a type without a sign.
+fn read_unsigned<'de>(
+    alloc: Global,
+    shape: &Shape,
+    integer: IntegerType,
+    taken: bool,
+    scalar: &DocScalar<'de>,
+) -> Result<Data<'de>>
+    requires { has_sign (integer_type_of integer) ≡ false }
+    ensures gives { Gives data_of result
+        (unsigned_number (integer_type_of integer) (shape_of shape.now) taken (doc_scalar_of scalar.now)) }
+    ensures free { is_ok result ≡ is_ok
+        (unsigned_number (integer_type_of integer) (shape_of shape.now) taken (doc_scalar_of scalar.now)) }
+{
+    match unsigned_in(integer, taken, scalar) {
+        Some(value) if integer.takes_unsigned(value) => Ok(Data::Unsigned(value)),
+        Some(value) => Err(found_integer_outside(alloc, Found::Unsigned(value), shape)),
+        None => Err(found_scalar(alloc, shape, taken, scalar)),
+    }
+}
+
+/// An integer of the type that the shape asks for.
+pub(crate) fn read_integer<'de>(
+    alloc: Global,
+    shape: &Shape,
+    integer: IntegerType,
+    taken: bool,
+    scalar: &DocScalar<'de>,
+) -> Result<Data<'de>>
+    requires { shape_of shape.now ≡ integer_shape (integer_type_of integer) }
+    ensures gives { Gives data_of result (scalar_answer (shape_of shape.now) taken (doc_scalar_of scalar.now)) }
+    ensures free { is_ok result ≡ is_ok
+        (scalar_answer (shape_of shape.now) taken (doc_scalar_of scalar.now)) }
+{
+    if integer.has_sign() {
+        read_signed(alloc, shape, integer, taken, scalar)
+    } else {
+        read_unsigned(alloc, shape, integer, taken, scalar)
+    }
+}
