@@ -8,7 +8,8 @@ use Rattle.yaml_base.specs.declared.error.Cause.{Cause}
 use Rattle.yaml_base.specs.declared.error.Cause.TheVariants.{EndOfStream}
 use Rattle.yaml_shape.specs.DataView.{data_of, entry_of, items_of, entries_of}
 use Rattle.yaml_shape.specs.PlainData.{PlainData, seq_data, map_data, some_data, newtype_data}
-use Rattle.yaml_shape.specs.PlainShape.{PlainShape, option_shape, newtype_shape, seq_shape, map_shape, shape_at}
+use Rattle.yaml_shape.specs.PlainShape.{PlainShape, option_shape, newtype_shape, seq_shape, row_shape, map_shape, Owner}
+use Rattle.yaml_shape.specs.PlainShape.{shape_at}
 use Rattle.yaml_shape.specs.declared.data.Entry.{Entry, the_lemmas}
 use Rattle.yaml_load.specs.DocEventView.{doc_event_of}
 use Rattle.yaml_load.specs.PlainDocEvent.{PlainDocEvent, sequence_begins, mapping_begins}
@@ -20,8 +21,7 @@ use Rattle.yaml_read.specs.NodeTags.{TakenBy}
 use Rattle.yaml_read.specs.Places.{Way}
 use Rattle.yaml_read.specs.Rows.{row_of, row_data}
 use Rattle.yaml_read.specs.TreeReader.{Spot, after}
-use Rattle.yaml_read.specs.inner.Reader.{Source, Reader, is_sequence_end, is_mapping_end, row_shape, few_text}
-use Rattle.yaml_read.specs.inner.Reader.{owner_named, of_tuple, of_tuple_struct, item_at, entry_at, row_at}
+use Rattle.yaml_read.specs.inner.Reader.{Source, Reader, is_sequence_end, is_mapping_end, item_at, entry_at, row_at}
 use Rattle.yaml_read.specs.inner.Reader.{sequence_parts, mapping_parts, event_at, handed_at, shape_step, node_step}
 use Rattle.yaml_read.proofs.reading.Loops.{entered}
 
@@ -58,11 +58,10 @@ not_mapping_end event.Void h = refl
 pub entry_is : (e : Entry) → entry_of e ≡ (data_of e.key, data_of e.value)
 entry_is e = search (rules, the_lemmas)
 
--- a tuple hands nothing on
-pub row_as_is : (s : PlainShape) (name : Option (List ℕ)) (ids : List ℕ) (taken : Bool) (e : PlainDocEvent) → s
-    ≡ row_shape name ids → handed s taken e ≡ as_is
-row_as_is s None ids taken e h = rw h
-row_as_is s (Some name) ids taken e h = rw h
+-- a row hands nothing on
+pub row_as_is : (s : PlainShape) (owner : Owner) (ids : List ℕ) (taken : Bool) (e : PlainDocEvent)
+    → s ≡ row_shape owner ids → handed s taken e ≡ as_is
+row_as_is s owner ids taken e h = rw h
 
 module _ (source : Source) (read : Way → Reader) (way : Way) (s : PlainShape) (nest : ℕ) (taken : Option TakenBy)
     (at : Spot) where
@@ -123,17 +122,14 @@ module _ (source : Source) (read : Way → Reader) (way : Way) (s : PlainShape) 
       (λ s. wrap (λ vs. seq_data (items_of vs)) (sequence_parts source (item_at read way s n) source.size []
       (after at)))) nest some ∙ (rw there))
 
-  -- a tuple
-  pub step_row : (name : Option (List ℕ)) (ids : List ℕ) (tag : Option (List ℕ)) (m : Position) → s ≡ row_shape name ids
+  -- a row
+  pub step_row : (owner : Owner) (ids : List ℕ) (tag : Option (List ℕ)) (m : Position) → s ≡ row_shape owner ids
       → Some (sequence_begins tag, m) ≡ source.events at.place → 0 < nest
       → shape_step source read way s nest taken at (source.events at.place)
-      ≡ finish (row_data (few_text (owner_named name) (length ids)) (length ids))
+      ≡ finish (row_data owner (length ids))
       (sequence_parts source (row_at source read way (nest - 1)) source.size (row_of ids) (after at))
-  step_row None ids tag m o is some =
-      rw (← is, o) (entered m (λ n. finish (row_data (few_text of_tuple (length ids)) (length ids))
-      (sequence_parts source (row_at source read way n) source.size (row_of ids) (after at))) nest some)
-  step_row (Some name) ids tag m o is some =
-      rw (← is, o) (entered m (λ n. finish (row_data (few_text (of_tuple_struct name) (length ids)) (length ids))
+  step_row owner ids tag m o is some =
+      rw (← is, o) (entered m (λ n. finish (row_data owner (length ids))
       (sequence_parts source (row_at source read way n) source.size (row_of ids) (after at))) nest some)
 
   -- a mapping

@@ -1,28 +1,24 @@
--- What a node's reading comes to under the shapes of any value, of enums, and of what variants hold.
-use Rattle.std.proofs.Common.{◌≡◌, ℕ, ◌-◌, ◌<◌, Bool, true, false, List, [], Some, None, Option, Err, refl, ap, ◌∙◌}
-use Rattle.std.proofs.Common.{length, Ok, ◌∷◌, ◌++◌}
+-- What a node's reading comes to under the shapes of any value and of enums.
+use Rattle.std.proofs.Common.{◌≡◌, ℕ, ◌-◌, ◌<◌, Bool, true, false, List, [], Some, None, Option, Err, refl, ◌∙◌}
+use Rattle.std.proofs.Common.{Ok, ◌∷◌, ◌++◌}
 use Rattle.std.specs.Option.{is_some}
 use Rattle.yaml_base.specs.Position.{Position}
 use Rattle.yaml_base.specs.declared.error.Cause.{Cause}
 use Rattle.yaml_shape.specs.DataView.{items_of, entries_of}
 use Rattle.yaml_shape.specs.PlainData.{PlainData, any_data}
-use Rattle.yaml_shape.specs.PlainShape.{PlainShape, any_shape, enum_shape}
-use Rattle.yaml_shape.specs.PlainShape.{PlainVariant}
-use Rattle.yaml_shape.specs.PlainShape.{tuple_shape, tuple_struct_shape, tuple_variant_shape}
+use Rattle.yaml_shape.specs.PlainShape.{any_shape, enum_shape, PlainVariant}
 use Rattle.yaml_tree.specs.Tree.{sequence, tagged}
 use Rattle.yaml_tree.specs.Tree as tree
 use Rattle.yaml_load.specs.PlainDocEvent.{PlainDocEvent, sequence_begins, mapping_begins}
-use Rattle.yaml_scalar.specs.Steps.{wrap, finish}
+use Rattle.yaml_scalar.specs.Steps.{wrap}
 use Rattle.yaml_scalar.specs.Variants.{Variants, variant_named}
 use Rattle.yaml_read.specs.AnyData.{tree_in, trees_in, pairs_in, new_key}
 use Rattle.yaml_read.specs.Handing.{as_is, as_variant, as_tagged, handed, is_filled_scalar}
 use Rattle.yaml_read.specs.NodeTags.{TakenBy, around_value, untaken_name}
 use Rattle.yaml_read.specs.Places.{Way}
-use Rattle.yaml_read.specs.Rows.{row_of, row_data}
 use Rattle.yaml_read.specs.TreeReader.{Spot, after}
-use Rattle.yaml_read.specs.inner.Reader.{Source, Reader, item_at, any_entry_at, row_at, rows_at, rows_in}
-use Rattle.yaml_read.specs.inner.Reader.{sequence_at, value_way}
-use Rattle.yaml_read.specs.inner.Reader.{sequence_parts, mapping_parts, shape_step}
+use Rattle.yaml_read.specs.inner.Reader.{Source, Reader, item_at, any_entry_at, value_way, sequence_parts}
+use Rattle.yaml_read.specs.inner.Reader.{mapping_parts, shape_step}
 use Rattle.yaml_read.proofs.reading.Exits.{step_event, step_handed}
 use Rattle.yaml_read.proofs.reading.Loops.{entered}
 
@@ -48,18 +44,7 @@ pub taken_as_is : (name : List ℕ) (variants : Variants) (e : PlainDocEvent) �
     → handed (enum_shape name variants) true e ≡ as_is
 taken_as_is name variants e h = rw h refl
 
--- a row hands nothing on
-pub rows_as_is : (s : PlainShape) (r : List ℕ × List ℕ) (taken : Bool) (e : PlainDocEvent) → rows_in s ≡ Some r
-    → handed s taken e ≡ as_is
-rows_as_is (tuple_shape ids) r taken e h = refl
-rows_as_is (tuple_struct_shape name ids) r taken e h = refl
-rows_as_is (tuple_variant_shape name variant ids) r taken e h = refl
-rows_as_is _ r taken e h = absurd cc
-
 -- ---- the steps
-row_is : {x y : List ℕ × List ℕ} → Some x ≡ Some y → x ≡ y
-row_is h = cc
-
 module _ (source : Source) (read : Way → Reader) (way : Way) (nest : ℕ) (at : Spot) where
   -- any value under its tag
   pub step_tagged : (name : List ℕ) (e : PlainDocEvent) (m : Position) → Some (e, m) ≡ source.events at.place
@@ -95,31 +80,6 @@ module _ (source : Source) (read : Way → Reader) (way : Way) (nest : ℕ) (at 
       ∙ entered m
       (λ n. wrap (λ vs. any_data (tree.mapping (pairs_in (entries_of vs))))
       (mapping_parts source (any_entry_at source read way n) source.size [] (after at))) nest some
-
-  -- a row, whatever its shape is called
-  pub rows_sequence : (s : PlainShape) (few ids : List ℕ) (mark : Position) (at : Spot) → rows_in s ≡ Some (few, ids)
-      → sequence_at source read way s nest mark at ≡ rows_at source read way few ids nest mark at
-  rows_sequence (tuple_shape ids') few ids mark at h = ap
-      (λ (r : List ℕ × List ℕ). rows_at source read way r.0 r.1 nest mark at) (row_is h)
-  rows_sequence (tuple_struct_shape name ids') few ids mark at h = ap
-      (λ (r : List ℕ × List ℕ). rows_at source read way r.0 r.1 nest mark at) (row_is h)
-  rows_sequence (tuple_variant_shape name variant ids') few ids mark at h =
-      ap (λ (r : List ℕ × List ℕ). rows_at source read way r.0 r.1 nest mark at) (row_is h)
-  rows_sequence _ few ids mark at h = absurd cc
-
-  pub step_rows : (s : PlainShape) (few ids : List ℕ) (taken : Option TakenBy) (tag : Option (List ℕ)) (m : Position)
-      → rows_in s ≡ Some (few, ids)
-      → Some (sequence_begins tag, m) ≡ source.events at.place → 0 < nest
-      → shape_step source read way s nest taken at (source.events at.place)
-      ≡ finish (row_data few (length ids))
-      (sequence_parts source (row_at source read way (nest - 1)) source.size (row_of ids) (after at))
-  step_rows s few ids taken tag m o is some =
-      step_event source read way s nest taken at (sequence_begins tag) m is
-      (rows_as_is s (few, ids) (is_some taken) (sequence_begins tag) o)
-      ∙ rows_sequence s few ids m (after at) o
-      ∙ entered m
-      (λ n. finish (row_data few (length ids))
-      (sequence_parts source (row_at source read way n) source.size (row_of ids) (after at))) nest some
 
 -- ---- the pairs of any values
 module _ (source : Source) (read : Way

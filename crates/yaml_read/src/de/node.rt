@@ -34,6 +34,7 @@ ghost use Rattle.yaml_read.specs.inner.Reader.{event_at, node_step, takes, is_le
 ghost use Rattle.yaml_read.specs.inner.Walks.{around_of, source_of, spot_of, reader_of, MovesOn, Costs};
 
 use crate::de::node::source::Source;
+use crate::de::node::tuple_length::Owner;
 use crate::de::taken_tag::{TakenBy, is_taken};
 use crate::walk::Walk;
 use std::alloc::Global;
@@ -161,9 +162,19 @@ impl<'s, 'de> Source<'s, 'de> {
                 };
                 self.read_seq(path, shape, *element, event, *mark, nest, taken, walk)
             }
-            Shape::Tuple(items) => self.read_tuple(path, shape, None, items, nest, taken, walk),
+            Shape::Tuple(items) => {
+                self.read_tuple(path, shape, Owner::Tuple, items, nest, taken, walk)
+            }
             Shape::TupleStruct { name, items } => {
-                self.read_tuple(path, shape, Some(name), items, nest, taken, walk)
+                self.read_tuple(
+                    path,
+                    shape,
+                    Owner::TupleStruct(name),
+                    items,
+                    nest,
+                    taken,
+                    walk,
+                )
             }
             Shape::Map(key, value) => {
                 let Some((event, mark)) = self.event(walk.place) else {

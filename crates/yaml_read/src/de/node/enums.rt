@@ -4,7 +4,7 @@ ghost use Rattle.std.specs.Prelude.{◌≡◌, ℕ, suc, ◌+◌, ◌*◌, ◌<�
 ghost use Rattle.std.specs.Option.{is_some};
 ghost use Rattle.yaml_base.specs.Answer.{Gives};
 ghost use Rattle.yaml_shape.specs.DataView.{data_of};
-ghost use Rattle.yaml_shape.specs.PlainShape.{content_shape, enum_shape, struct_variant_shape, tuple_variant_shape};
+ghost use Rattle.yaml_shape.specs.PlainShape.{row_shape, fields_shape, enum_shape, of_variant, content_shape};
 ghost use Rattle.yaml_shape.specs.ShapeView.{shape_of, content_of, fields_of, ids_of, variants_of};
 ghost use Rattle.yaml_shape.specs.Validity.{NamesWithin, named_in, numbers_of};
 ghost use Rattle.yaml_load.specs.DocEventView.{doc_event_of};
@@ -168,7 +168,7 @@ impl<'s, 'de> Source<'s, 'de> {
         ensures gives { (fuel : ℕ) → nesting_depth * (walk.old.left + nest) < suc fuel
             → Gives (λ x. (data_of x, spot_of walk.new)) result
             (node_step (source_of self.now) (reader_of fuel self.now) (way_of path.now)
-            (tuple_variant_shape around.now.name.now around.now.variant.now (ids_of items.now)) nest
+            (row_shape (of_variant around.now.name.now around.now.variant.now) (ids_of items.now)) nest
             (Some (plain_around around.now)) (spot_of walk.old)) }
         ensures moves { OnOk result (MovesOn (length self.now.events.now) walk.old walk.new) }
         ensures cost { Costs (length self.now.events.now) walk.old walk.new }
@@ -214,7 +214,7 @@ impl<'s, 'de> Source<'s, 'de> {
         ensures gives { (fuel : ℕ) → nesting_depth * (walk.old.left + nest) < suc fuel
             → Gives (λ x. (data_of x, spot_of walk.new)) result
             (node_step (source_of self.now) (reader_of fuel self.now) (way_of path.now)
-            (struct_variant_shape strict around.now.name.now around.now.variant.now (fields_of fields.now)) nest
+            (fields_shape strict (of_variant around.now.name.now around.now.variant.now) (fields_of fields.now)) nest
             (Some (plain_around around.now)) (spot_of walk.old)) }
         ensures moves { OnOk result (MovesOn (length self.now.events.now) walk.old walk.new) }
         ensures cost { Costs (length self.now.events.now) walk.old walk.new }

@@ -1,17 +1,19 @@
 //! A tuple, or a tuple struct: as many elements as there are shapes.
 
 ghost use Rattle.std.specs.Prelude.{◌≡◌, ℕ, suc, ◌+◌, ◌<◌, ◌≤◌, length, All, OnOk, IfOk};
-ghost use Rattle.std.specs.Option.{is_some, option_copied};
+ghost use Rattle.std.specs.Option.{is_some};
 ghost use Rattle.yaml_base.specs.Answer.{Gives};
 ghost use Rattle.yaml_shape.specs.DataView.{data_of};
+ghost use Rattle.yaml_shape.specs.PlainShape.{row_shape};
 ghost use Rattle.yaml_shape.specs.ShapeView.{shape_of, ids_of};
 ghost use Rattle.yaml_shape.specs.Validity.{NamesWithin};
 ghost use Rattle.yaml_load.specs.Ends.{GoForward};
 ghost use Rattle.yaml_read.specs.Handing.{depth, parts_depth};
 ghost use Rattle.yaml_read.specs.Places.{way_of};
 ghost use Rattle.yaml_read.specs.Rows.{row_of};
-ghost use Rattle.yaml_read.specs.inner.Reader.{shape_step, row_at, sequence_parts, row_shape};
-ghost use Rattle.yaml_read.specs.inner.Walks.{around_of, source_of, spot_of, reader_of, seen, row_view, MovesOn, Costs};
+ghost use Rattle.yaml_read.specs.inner.Reader.{shape_step, row_at, sequence_parts};
+ghost use Rattle.yaml_read.specs.inner.Walks.{around_of, owner_of, source_of, spot_of, reader_of, seen, row_view};
+ghost use Rattle.yaml_read.specs.inner.Walks.{MovesOn, Costs};
 
 use crate::de::node::source::Source;
 use crate::de::node::too_deep;
@@ -24,19 +26,19 @@ use yaml_scalar::{Result, ended};
 use yaml_shape::{Data, Shape, ShapeId};
 
 impl<'s, 'de> Source<'s, 'de> {
-    /// A tuple, or the tuple struct of a name.
+    /// The elements of a tuple, or of a tuple struct.
     #[cycle(read)]
     pub(crate) fn read_tuple(
         &self,
         path: &Path<'_>,
         shape: &Shape,
-        name: Option<&str>,
+        owner: Owner<'_>,
         items: &[ShapeId],
         nest: u8,
         taken: Option<&TakenBy<'_>>,
         walk: &mut Walk,
     ) -> Result<Data<'de>>
-        requires tuple { shape_of shape.now ≡ row_shape (option_copied name) (ids_of items.now) }
+        requires tuple { shape_of shape.now ≡ row_shape (owner_of owner) (ids_of items.now) }
         requires named { NamesWithin (length self.now.schema.now) (shape_of shape.now) }
         requires forward { GoForward self.now.ends.now }
         ensures gives { (fuel : ℕ) → depth self.now.schema.now (shape_of shape.now)
@@ -59,7 +61,7 @@ impl<'s, 'de> Source<'s, 'de> {
         }
         walk.step();
         match self.read_elements(path, items, nest - 1, walk) {
-            Ok(elements) => finish(self.alloc, Owner::named(name), items, elements),
+            Ok(elements) => finish(self.alloc, owner, items, elements),
             Err(refusal) => Err(refusal),
         }
     }

@@ -4,7 +4,7 @@ use Rattle.std.specs.Option.{is_some, option_copied}
 use Rattle.yaml_base.specs.Answer.{is_memory}
 use Rattle.yaml_shape.specs.DataView.{data_of}
 use Rattle.yaml_shape.specs.PlainData.{variant_data}
-use Rattle.yaml_shape.specs.PlainShape.{tuple_variant_shape, struct_variant_shape}
+use Rattle.yaml_shape.specs.PlainShape.{row_shape, fields_shape, of_variant}
 use Rattle.yaml_shape.specs.ShapeView.{shape_of, content_of, ids_of, fields_of, variants_of}
 use Rattle.yaml_shape.specs.declared.data.Data.{Variant, the_lemmas}
 use Rattle.yaml_load.specs.DocEventView.{doc_event_of}
@@ -120,7 +120,7 @@ read_content-returns-in-Newtype-clause-gives t c = λ fuel lt.
 pub read_content-returns-in-Ok-clause-gives : goal.read_content-returns-in-Ok-clause-gives
 read_content-returns-in-Ok-clause-gives t c = λ fuel lt.
     rw (c.in-Tuple.is, ← c.deref.ensures.value) (node_placed (source_of c.args.self.now) (way_of c.args.path.now)
-    (tuple_variant_shape c.args.around.now.name.now c.args.around.now.variant.now (ids_of c.deref.result.now))
+    (row_shape (of_variant c.args.around.now.name.now c.args.around.now.variant.now) (ids_of c.deref.result.now))
     c.args.nest (Some (plain_around c.args.around.now)) (spot_of c.args.walk.now) fuel _ _
     (omega (arith, lt)) c.requires.here refl
     ∙ ap (place true c.args.mark (way_of c.args.path.now)) (c.in-Ok.ensures.gives (fuel - 1) (omega (arith, lt))))
@@ -129,7 +129,7 @@ pub read_content-returns-in-Err-clause-gives : goal.read_content-returns-in-Err-
 read_content-returns-in-Err-clause-gives t c = λ fuel lt fault.
     let told = c.at_place.ensures fault in
     rw (c.in-Tuple.is, ← c.deref.ensures.value) (node_placed (source_of c.args.self.now) (way_of c.args.path.now)
-    (tuple_variant_shape c.args.around.now.name.now c.args.around.now.variant.now (ids_of c.deref.result.now))
+    (row_shape (of_variant c.args.around.now.name.now c.args.around.now.variant.now) (ids_of c.deref.result.now))
     c.args.nest (Some (plain_around c.args.around.now)) (spot_of c.args.walk.now) fuel _ _
     (omega (arith, lt)) c.requires.here refl
     ∙ ap (place true c.args.mark (way_of c.args.path.now))
@@ -141,7 +141,7 @@ pub read_content-returns-in-Ok-read_variant_fields-clause-gives
 read_content-returns-in-Ok-read_variant_fields-clause-gives t c = λ fuel lt.
     rw (c.in-Struct.is, ← c.deref-in-Struct.ensures.value)
     (node_placed (source_of c.args.self.now) (way_of c.args.path.now)
-    (struct_variant_shape false c.args.around.now.name.now c.args.around.now.variant.now
+    (fields_shape false (of_variant c.args.around.now.name.now c.args.around.now.variant.now)
     (fields_of c.deref-in-Struct.result.now)) c.args.nest (Some (plain_around c.args.around.now))
     (spot_of c.args.walk.now) fuel _ _ (omega (arith, lt)) c.requires.here refl
     ∙ ap (place true c.args.mark (way_of c.args.path.now))
@@ -153,7 +153,7 @@ read_content-returns-in-Err-read_variant_fields-clause-gives t c = λ fuel lt fa
     let told = c.at_place-in-Err-read_variant_fields.ensures fault in
     rw (c.in-Struct.is, ← c.deref-in-Struct.ensures.value)
     (node_placed (source_of c.args.self.now) (way_of c.args.path.now)
-    (struct_variant_shape false c.args.around.now.name.now c.args.around.now.variant.now
+    (fields_shape false (of_variant c.args.around.now.name.now c.args.around.now.variant.now)
     (fields_of c.deref-in-Struct.result.now)) c.args.nest (Some (plain_around c.args.around.now))
     (spot_of c.args.walk.now) fuel _ _ (omega (arith, lt)) c.requires.here refl
     ∙ ap (place true c.args.mark (way_of c.args.path.now))
@@ -166,7 +166,7 @@ pub read_content-returns-in-Ok-read_variant_fields-2-clause-gives
 read_content-returns-in-Ok-read_variant_fields-2-clause-gives t c = λ fuel lt.
     rw (c.in-StrictStruct.is, ← c.deref-in-StrictStruct.ensures.value)
     (node_placed (source_of c.args.self.now) (way_of c.args.path.now)
-    (struct_variant_shape true c.args.around.now.name.now c.args.around.now.variant.now
+    (fields_shape true (of_variant c.args.around.now.name.now c.args.around.now.variant.now)
     (fields_of c.deref-in-StrictStruct.result.now)) c.args.nest (Some (plain_around c.args.around.now))
     (spot_of c.args.walk.now) fuel _ _ (omega (arith, lt)) c.requires.here refl
     ∙ ap (place true c.args.mark (way_of c.args.path.now))
@@ -178,7 +178,7 @@ read_content-returns-in-Err-read_variant_fields-2-clause-gives t c = λ fuel lt 
     let told = c.at_place-in-Err-read_variant_fields-2.ensures fault in
     rw (c.in-StrictStruct.is, ← c.deref-in-StrictStruct.ensures.value)
     (node_placed (source_of c.args.self.now) (way_of c.args.path.now)
-    (struct_variant_shape true c.args.around.now.name.now c.args.around.now.variant.now
+    (fields_shape true (of_variant c.args.around.now.name.now c.args.around.now.variant.now)
     (fields_of c.deref-in-StrictStruct.result.now)) c.args.nest (Some (plain_around c.args.around.now))
     (spot_of c.args.walk.now) fuel _ _ (omega (arith, lt)) c.requires.here refl
     ∙ ap (place true c.args.mark (way_of c.args.path.now))
