@@ -3,9 +3,8 @@ use Rattle.std.proofs.Common.{◌≡◌, ◌∙◌, ℕ, suc, List, Some, None, 
 use Rattle.yaml_shape.specs.PlainData.{PlainData}
 use Rattle.yaml_shape.specs.PlainShape.{PlainShape, any_shape, bool_shape, char_shape, integer_shape, str_shape}
 use Rattle.yaml_shape.specs.PlainShape.{identifier_shape, bytes_shape, option_shape, unit_shape, unit_struct_shape}
-use Rattle.yaml_shape.specs.PlainShape.{newtype_shape, seq_shape, tuple_shape, tuple_struct_shape, map_shape}
-use Rattle.yaml_shape.specs.PlainShape.{struct_shape, enum_shape, ignored_shape, tuple_variant_shape}
-use Rattle.yaml_shape.specs.PlainShape.{struct_variant_shape}
+use Rattle.yaml_shape.specs.PlainShape.{newtype_shape, seq_shape, row_shape, map_shape, fields_shape, enum_shape}
+use Rattle.yaml_shape.specs.PlainShape.{ignored_shape}
 use Rattle.yaml_load.specs.DocTree.{DocNode, reference, node_of, first_event}
 use Rattle.yaml_read.specs.Following.{follows_aliases}
 use Rattle.yaml_read.specs.Handing.{Handing, as_is, handed, early}
@@ -24,13 +23,10 @@ handed_on (option_shape content) j h = (refl, refl)
 handed_on unit_shape j h = (refl, refl)
 handed_on (unit_struct_shape name) j h = (refl, refl)
 handed_on (seq_shape element) j h = (refl, refl)
-handed_on (tuple_shape items) j h = (refl, refl)
-handed_on (tuple_struct_shape name items) j h = (refl, refl)
+handed_on (row_shape owner items) j h = (refl, refl)
 handed_on (map_shape key value) j h = (refl, refl)
-handed_on (struct_shape strict name fields) j h = (refl, refl)
+handed_on (fields_shape strict owner fields) j h = (refl, refl)
 handed_on (enum_shape name variants) j h = (refl, refl)
-handed_on (tuple_variant_shape name variant items) j h = (refl, refl)
-handed_on (struct_variant_shape strict name variant fields) j h = (refl, refl)
 handed_on bytes_shape j h = absurd cc
 handed_on (newtype_shape name inner) j h = absurd cc
 handed_on ignored_shape j h = absurd cc

@@ -7,14 +7,13 @@ use Rattle.yaml_base.specs.declared.error.Place.{Place}
 use Rattle.yaml_shape.specs.DataView.{items_of}
 use Rattle.yaml_shape.specs.HasShape.{has_shape, each_has, passes, on_option}
 use Rattle.yaml_shape.specs.PlainData.{PlainData, struct_data, none_data}
-use Rattle.yaml_shape.specs.PlainShape.{PlainShape, struct_shape, struct_variant_shape, option_shape, shape_at}
+use Rattle.yaml_shape.specs.PlainShape.{PlainShape, option_shape, fields_shape, Owner, shape_at}
 use Rattle.yaml_shape.specs.Validity.{numbers_of}
 use Rattle.yaml_scalar.specs.Steps.{◌>>=◌}
 use Rattle.yaml_scalar.proofs.OfShape.{is_of}
 use Rattle.yaml_read.specs.Kinds.{is_option}
 use Rattle.yaml_read.specs.Fields.{Fields, Slots, no_slots, find, is_free, known_field, field_named}
 use Rattle.yaml_read.specs.Fields.{field_data, all_fields, struct_of}
-use Rattle.yaml_read.specs.inner.Reader.{fields_in}
 
 -- answers are the same only where their data is
 ok_is : {A : Type 0} {x y : A} → ◌≡◌ {A = Result A Cause} (Ok x) (Ok y) → x ≡ y
@@ -98,11 +97,6 @@ found_later None place id e = absurd cc
 found_later (Some x) place id e =
     (x.0, ap (λ j. Some (x.0, j)) (same_number (suc x.0) x.1 place id e), same_place (suc x.0) x.1 place id e)
 
--- fields that are there are the same only where they are
-fields_are : (strict other : Bool) (fields others : Fields)
-    → ◌≡◌ {A = Option (Bool × Fields)} (Some (strict, fields)) (Some (other, others)) → fields ≡ others
-fields_are strict other fields others h = ap (λ (x : Bool × Fields). x.1) (some_is h)
-
 module _ (table : List PlainShape) where
   -- what was read of each field is data of its shape
   abbrev pub Fit : Fields → Slots → Type 0
@@ -183,21 +177,14 @@ module _ (table : List PlainShape) where
       (both (has_shape table f.1 a.0) (each_has table (numbers_of fs) (items_of a.1)) (data_has f s a.0 fit.0 a.2)
       (all_have fs slots a.1 fit.1 a.3))
 
-  -- a struct of what fits its fields is data of its shape
-  pub struct_has_shape : (s : PlainShape) (strict : Bool) (fields : Fields) (slots : Slots) (v : PlainData)
-      → fields_in s ≡ Some (strict, fields) → Fit fields slots → struct_of table fields slots ≡ Ok v
-      → is_of table s v ≡ true
-  struct_has_shape s strict fields slots v is fit h = made (all_fields table fields slots) refl h
+  -- fields that are filled by what fits them are data of their shape
+  pub struct_has_shape : (strict : Bool) (owner : Owner) (fields : Fields) (slots : Slots) (v : PlainData)
+      → Fit fields slots → struct_of table fields slots ≡ Ok v → is_of table (fields_shape strict owner fields) v ≡ true
+  struct_has_shape strict owner fields slots v fit h = made (all_fields table fields slots) refl h
     where
-      of_fields : (s : PlainShape) (vs : List PlainData) → fields_in s ≡ Some (strict, fields)
-          → each_has table (numbers_of fields) (items_of vs) ≡ true → is_of table s (struct_data (items_of vs)) ≡ true
-      of_fields (struct_shape strict' name fields') vs is h = rw (fields_are strict' strict fields' fields is) h
-      of_fields (struct_variant_shape strict' name variant fields') vs is h = rw
-          (fields_are strict' strict fields' fields is) h
-      of_fields _ vs is h = absurd cc
-
       made : (r : Result (List PlainData) Cause) → all_fields table fields slots ≡ r
-          → (r >>= λ vs. Ok (struct_data (items_of vs))) ≡ Ok v → is_of table s v ≡ true
-      made (Ok vs) e h = subst (λ v. is_of table s v ≡ true) (ok_is h)
-          (of_fields s vs is (all_have fields slots vs fit e))
+          → (r >>= λ vs. Ok (struct_data (items_of vs))) ≡ Ok v
+          → is_of table (fields_shape strict owner fields) v ≡ true
+      made (Ok vs) e h = subst (λ v. is_of table (fields_shape strict owner fields) v ≡ true) (ok_is h)
+          (all_have fields slots vs fit e)
       made (Err y) e h = absurd cc

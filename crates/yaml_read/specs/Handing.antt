@@ -3,8 +3,8 @@ use Rattle.std.specs.Prelude.{ℕ, ◌+◌, ◌*◌, List, [], Option, Some, Non
 use Rattle.std.specs.Prelude.{unwrap_or}
 use Rattle.yaml_base.specs.declared.error.Cause.{Cause}
 use Rattle.yaml_base.specs.declared.error.Cause.TheVariants.{BytesUnsupported, NestedEnum}
-use Rattle.yaml_shape.specs.PlainShape.{PlainShape, any_shape, bytes_shape, option_shape, newtype_shape, ignored_shape}
-use Rattle.yaml_shape.specs.PlainShape.{struct_shape, struct_variant_shape, enum_shape, PlainVariant}
+use Rattle.yaml_shape.specs.PlainShape.{PlainShape, any_shape, bytes_shape, option_shape, newtype_shape, fields_shape}
+use Rattle.yaml_shape.specs.PlainShape.{enum_shape, ignored_shape, PlainVariant}
 use Rattle.yaml_shape.specs.Walks.{rank}
 use Rattle.yaml_load.specs.PlainDocEvent.{PlainDocEvent, a_scalar, a_void, sequence_begins, mapping_begins}
 use Rattle.yaml_scalar.specs.Presence.{is_present, is_empty_plain, is_empty}
@@ -75,8 +75,7 @@ abbrev pub handed : PlainShape → (taken : Bool) → PlainDocEvent → Handing
 handed (option_shape content) taken e = if is_content taken e then as_some content else as_is
 handed (newtype_shape name inner) taken e = as_newtype inner
 handed ignored_shape taken e = as_ignored
-handed (struct_shape strict name fields) taken e = if is_bare e then as_bare fields else as_is
-handed (struct_variant_shape strict name variant fields) taken e = if is_bare e then as_bare fields else as_is
+handed (fields_shape strict owner fields) taken e = if is_bare e then as_bare fields else as_is
 handed any_shape taken e = any_by (untaken_name taken e)
 handed (enum_shape name variants) true e = if is_filled_scalar e then as_is else as_refused
 handed (enum_shape name variants) false e = enum_by name variants (untaken_name false e)

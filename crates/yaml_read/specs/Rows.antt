@@ -1,11 +1,12 @@
--- What is read of a tuple: exactly its number of elements.
+-- What is read of a row: exactly its number of elements.
 use Rattle.std.specs.Prelude.{ℕ, ◌+◌, List, [], ◌∷◌, ◌++◌, length, Result, Ok, Err, ◌==◌, if◌then◌else◌}
 use Rattle.yaml_base.specs.declared.error.Cause.{Cause}
 use Rattle.yaml_base.specs.declared.error.Cause.TheVariants.{InvalidLength}
 use Rattle.std.specs.Prelude.{None}
 use Rattle.yaml_shape.specs.DataView.{items_of}
-use Rattle.yaml_shape.specs.Expected.{sequence_text}
+use Rattle.yaml_shape.specs.Expected.{sequence_text, few_text}
 use Rattle.yaml_shape.specs.PlainData.{PlainData, tuple_data}
+use Rattle.yaml_shape.specs.PlainShape.{Owner}
 use Rattle.yaml_scalar.specs.Steps.{wrap}
 
 -- the shapes of the elements to come, the elements that were read, and how many more there are
@@ -29,12 +30,12 @@ abbrev pub one_more : {C : Type 0} → (ℕ → Result (PlainData × C) Cause) �
     → Result (Row × C) Cause
 one_more read skip row = row_step row.left row.read row.extra read skip
 
--- the tuple of so many elements, where it has just these; what too few of them are told to lack is handed in
-abbrev pub row_end : (few : List ℕ) → (count : ℕ) → List ℕ → List PlainData → ℕ → Result PlainData Cause
-row_end few count [] vs extra =
+-- the elements of the owner's row of so many, where there are just these
+abbrev pub row_end : Owner → (count : ℕ) → List ℕ → List PlainData → ℕ → Result PlainData Cause
+row_end owner count [] vs extra =
     if extra == 0 then Ok (tuple_data (items_of vs)) else Err
     (InvalidLength (length vs + extra) (sequence_text count) None)
-row_end few count (id ∷ ids) vs extra = Err (InvalidLength (length vs) few None)
+row_end owner count (id ∷ ids) vs extra = Err (InvalidLength (length vs) (few_text owner count) None)
 
-abbrev pub row_data : (few : List ℕ) → (count : ℕ) → Row → Result PlainData Cause
-row_data few count row = row_end few count row.left row.read row.extra
+abbrev pub row_data : Owner → (count : ℕ) → Row → Result PlainData Cause
+row_data owner count row = row_end owner count row.left row.read row.extra

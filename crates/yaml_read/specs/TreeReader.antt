@@ -6,13 +6,10 @@ use Rattle.yaml_base.specs.Position.{Position}
 use Rattle.yaml_base.specs.declared.error.Cause.{Cause}
 use Rattle.yaml_base.specs.declared.error.Cause.TheVariants.{Memory, EndOfStream}
 use Rattle.yaml_shape.specs.DataView.{items_of, entries_of}
-use Rattle.yaml_shape.specs.Expected.{tuple_text, tuple_struct_text, tuple_variant_with_text}
 use Rattle.yaml_shape.specs.PlainData.{PlainData, any_data, variant_data, seq_data, map_data, ignored_data, some_data}
 use Rattle.yaml_shape.specs.PlainData.{newtype_data}
-use Rattle.yaml_shape.specs.PlainShape.{PlainShape, seq_shape, tuple_shape, tuple_struct_shape, map_shape, struct_shape}
-use Rattle.yaml_shape.specs.PlainShape.{shape_at}
-use Rattle.yaml_shape.specs.PlainShape.{identifier_shape, any_shape, tuple_variant_shape, struct_variant_shape}
-use Rattle.yaml_shape.specs.PlainShape.{content_shape}
+use Rattle.yaml_shape.specs.PlainShape.{PlainShape, any_shape, identifier_shape, seq_shape, row_shape, map_shape}
+use Rattle.yaml_shape.specs.PlainShape.{fields_shape, Owner, shape_at, content_shape}
 use Rattle.yaml_tree.specs.Tree.{sequence, tagged}
 use Rattle.yaml_tree.specs.Tree as tree
 use Rattle.yaml_load.specs.DocTree.{DocNode, DocNodes, DocPairs, nothing, reference, word, list, mapping}
@@ -104,16 +101,17 @@ target_of read s nest None j left = Err EndOfStream
 target_of read s nest (Some n) j left = read s nest None n (record { place = j; left = left })
 
 module _ (table : List PlainShape) where
-  -- one more element of a tuple
+  -- one more element of a row
   abbrev pub row_part : (Way → TreeReader) → Way → (nest : ℕ) → Row → DocNode → Spot → Answer Row
   row_part read way nest row n at =
       one_more (λ id. with_shape (shape_at table id) (λ s. read (element_under way (length row.read)) s nest None n at))
       (Ok (ignored_data, at.left)) row
 
-  -- the elements of a tuple
-  abbrev pub row_by : (Way → TreeReader) → Way → (few ids : List ℕ) → ℕ → Position → DocNodes → Spot → Answer PlainData
-  row_by read way few ids nest mark ns at =
-      enter nest mark (λ n. finish (row_data few (length ids)) (each_node (row_part read way n) (row_of ids) ns at))
+  -- the elements of a row
+  abbrev pub row_by : (Way → TreeReader) → Way → Owner → (ids : List ℕ) → ℕ → Position → DocNodes → Spot
+      → Answer PlainData
+  row_by read way owner ids nest mark ns at =
+      enter nest mark (λ n. finish (row_data owner (length ids)) (each_node (row_part read way n) (row_of ids) ns at))
 
   -- the value behind the key of a field
   abbrev pub field_value : (Way → TreeReader) → (nest : ℕ) → Slots → Option (ℕ × ℕ) × Way → DocNode → Spot
@@ -122,7 +120,7 @@ module _ (table : List PlainShape) where
       field_step slots k.0 (λ id. with_shape (shape_at table id) (λ s. read k.1 s nest None n at))
       (Ok (ignored_data, at.left))
 
-  -- the fields of a struct
+  -- fields
   abbrev pub fields_by : (Way → TreeReader) → (marks : ℕ → Position) → Way → (strict : Bool) → Fields → ℕ → Position
       → DocPairs → Spot
       → Answer PlainData
@@ -135,11 +133,7 @@ module _ (table : List PlainShape) where
   sequence_of read way (seq_shape e) nest mark ns at =
       enter nest mark (λ n. with_shape (shape_at table e) (λ s.
       wrap (λ vs. seq_data (items_of vs)) (each_node (item_of read way s n) [] ns at)))
-  sequence_of read way (tuple_shape ids) nest mark ns at = row_by read way (tuple_text (length ids)) ids nest mark ns at
-  sequence_of read way (tuple_struct_shape name ids) nest mark ns at =
-      row_by read way (tuple_struct_text name (length ids)) ids nest mark ns at
-  sequence_of read way (tuple_variant_shape name variant ids) nest mark ns at =
-      row_by read way (tuple_variant_with_text name variant (length ids)) ids nest mark ns at
+  sequence_of read way (row_shape owner ids) nest mark ns at = row_by read way owner ids nest mark ns at
   sequence_of read way any_shape nest mark ns at =
       enter nest mark (λ n.
       wrap (λ vs. any_data (sequence (trees_in (items_of vs)))) (each_node (item_of read way any_shape n) [] ns at))
@@ -151,9 +145,7 @@ module _ (table : List PlainShape) where
   mapping_of read marks way (map_shape a b) nest mark ps at =
       enter nest mark (λ n. with_shape (shape_at table a) (λ s. with_shape (shape_at table b) (λ t.
       wrap (λ vs. map_data (entries_of vs)) (each_pair (key_of read way s n) (value_of read t n) [] ps at))))
-  mapping_of read marks way (struct_shape strict name fields) nest mark ps at =
-      fields_by read marks way strict fields nest mark ps at
-  mapping_of read marks way (struct_variant_shape strict name variant fields) nest mark ps at =
+  mapping_of read marks way (fields_shape strict owner fields) nest mark ps at =
       fields_by read marks way strict fields nest mark ps at
   mapping_of read marks way any_shape nest mark ps at =
       enter nest mark (λ n. wrap (λ vs. any_data (tree.mapping (pairs_in (entries_of vs))))

@@ -9,9 +9,9 @@ use Rattle.yaml_shape.specs.PlainData.{PlainData, any_data, bool_data, char_data
 use Rattle.yaml_shape.specs.PlainData.{unsigned_data, text_data, bytes_data, none_data, some_data, unit_data}
 use Rattle.yaml_shape.specs.PlainData.{newtype_data, seq_data, tuple_data, map_data, struct_data, variant_data}
 use Rattle.yaml_shape.specs.PlainData.{ignored_data}
-use Rattle.yaml_shape.specs.PlainShape.{PlainShape, PlainVariant, unit_variant, newtype_variant, tuple_variant}
-use Rattle.yaml_shape.specs.PlainShape.{struct_variant, shape_at}
-use Rattle.yaml_shape.specs.PlainShape.{content_shape, unit_shape, tuple_variant_shape, struct_variant_shape}
+use Rattle.yaml_shape.specs.PlainShape.{PlainShape, unit_shape, row_shape, fields_shape, of_variant, shape_at}
+use Rattle.yaml_shape.specs.PlainShape.{content_shape, PlainVariant, unit_variant, newtype_variant, tuple_variant}
+use Rattle.yaml_shape.specs.PlainShape.{struct_variant}
 use Rattle.yaml_shape.specs.Validity.{numbers_of}
 
 -- shapes that are there are the same only where they are
@@ -70,16 +70,16 @@ module _ (table : List PlainShape) where
       unit_has _ h = absurd cc
   content_has name variant (newtype_variant inner) s v is h = of_shape inner s v is h
   content_has name variant (tuple_variant items) s v is h = row_has v
-      (rw (← shape_is (tuple_variant_shape name variant items) s is) at h)
+      (rw (← shape_is (row_shape (of_variant name variant) items) s is) at h)
     where
-      row_has : (v : PlainData) → is_of (tuple_variant_shape name variant items) v ≡ true
+      row_has : (v : PlainData) → is_of (row_shape (of_variant name variant) items) v ≡ true
           → tuple_has table items v ≡ true
       row_has (tuple_data ds) h = h
       row_has _ h = absurd cc
   content_has name variant (struct_variant strict fields) s v is h =
-      named_has v (rw (← shape_is (struct_variant_shape strict name variant fields) s is) at h)
+      named_has v (rw (← shape_is (fields_shape strict (of_variant name variant) fields) s is) at h)
     where
-      named_has : (v : PlainData) → is_of (struct_variant_shape strict name variant fields) v ≡ true
+      named_has : (v : PlainData) → is_of (fields_shape strict (of_variant name variant) fields) v ≡ true
           → struct_has table (numbers_of fields) v ≡ true
       named_has (struct_data ds) h = h
       named_has _ h = absurd cc

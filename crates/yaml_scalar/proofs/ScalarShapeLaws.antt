@@ -16,9 +16,8 @@ use Rattle.yaml_shape.specs.PlainData.{unit_data}
 use Rattle.yaml_shape.specs.PlainData.{seq_data, tuple_data, map_data, no_items, no_entries}
 use Rattle.yaml_shape.specs.PlainShape.{IntegerType, i8, i16, i32, i64, i128, isize, u8, u16, u32, u64, u128, usize}
 use Rattle.yaml_shape.specs.PlainShape.{PlainShape, any_shape, bool_shape, char_shape, integer_shape, str_shape}
-use Rattle.yaml_shape.specs.PlainShape.{identifier_shape, option_shape, unit_shape, unit_struct_shape}
-use Rattle.yaml_shape.specs.PlainShape.{seq_shape, tuple_shape, tuple_struct_shape, map_shape}
-use Rattle.yaml_shape.specs.PlainShape.{enum_shape, tuple_variant_shape}
+use Rattle.yaml_shape.specs.PlainShape.{identifier_shape, option_shape, unit_shape, unit_struct_shape, seq_shape}
+use Rattle.yaml_shape.specs.PlainShape.{row_shape, map_shape, enum_shape, Owner}
 use Rattle.yaml_tree.specs.Tree.{Tree, null}
 use Rattle.yaml_scalar.specs.CoreTags.{bool_tag, int_tag}
 use Rattle.yaml_scalar.specs.Presence.{is_absent, is_empty_plain}
@@ -107,17 +106,17 @@ module _ (schema : List PlainShape) where
       let a = answered _ (only_one (chars text)) _ v h in
       moved char_shape (char_data a.0) v (ok_is a.2) refl
 
-  -- a tuple without elements
-  empty-has : (b : Bool) (ids : List ℕ) (s : PlainShape) (fault : Cause) (v : PlainData)
-      → (no_elements ids s ≡ Ok v → is_of schema s v ≡ true)
-      → (if b then no_elements ids s else Err fault) ≡ Ok v → is_of schema s v ≡ true
-  empty-has true ids s fault v has h = has h
-  empty-has false ids s fault v has h = absurd cc
+  -- a row without elements
+  nothing-has : (owner : Owner) (ids : List ℕ) (v : PlainData) → no_elements ids (row_shape owner ids) ≡ Ok v
+      → is_of schema (row_shape owner ids) v ≡ true
+  nothing-has owner [] v h = moved (row_shape owner []) (tuple_data no_items) v (ok_is h) refl
+  nothing-has owner (j ∷ ids) v h = absurd cc
 
-  nothing-has : (ids : List ℕ) (s : PlainShape) (v : PlainData)
-      → (ids ≡ [] → is_of schema s (tuple_data no_items) ≡ true) → no_elements ids s ≡ Ok v → is_of schema s v ≡ true
-  nothing-has [] s v has h = moved s (tuple_data no_items) v (ok_is h) (has refl)
-  nothing-has (j ∷ ids) s v has h = absurd cc
+  empty-has : (b : Bool) (owner : Owner) (ids : List ℕ) (fault : Cause) (v : PlainData)
+      → (if b then no_elements ids (row_shape owner ids) else Err fault) ≡ Ok v
+      → is_of schema (row_shape owner ids) v ≡ true
+  empty-has true owner ids fault v h = nothing-has owner ids v h
+  empty-has false owner ids fault v h = absurd cc
 
   -- what a scalar gives
   pub scalar-has : (s : PlainShape) (taken : Bool) (w : PlainScalar) (v : PlainData)
@@ -141,15 +140,7 @@ module _ (schema : List PlainShape) where
       moved (unit_struct_shape name) unit_data v (tested (is_absent taken w) unit_data v _ h).1 refl
   scalar-has (seq_shape element) taken w v h =
       moved (seq_shape element) (seq_data no_items) v (tested (is_empty_plain w) (seq_data no_items) v _ h).1 refl
-  scalar-has (tuple_shape ids) taken w v h =
-      empty-has (is_empty_plain w) ids (tuple_shape ids) _ v
-      (nothing-has ids (tuple_shape ids) v (λ none. rw none refl)) h
-  scalar-has (tuple_struct_shape name ids) taken w v h =
-      empty-has (is_empty_plain w) ids (tuple_struct_shape name ids) _ v
-      (nothing-has ids (tuple_struct_shape name ids) v (λ none. rw none refl)) h
-  scalar-has (tuple_variant_shape name variant ids) taken w v h =
-      empty-has (is_empty_plain w) ids (tuple_variant_shape name variant ids) _ v
-      (nothing-has ids (tuple_variant_shape name variant ids) v (λ none. rw none refl)) h
+  scalar-has (row_shape owner ids) taken w v h = empty-has (is_empty_plain w) owner ids _ v h
   scalar-has (map_shape key value) taken w v h =
       moved (map_shape key value) (map_data no_entries) v (tested (is_empty_plain w) (map_data no_entries) v _ h).1 refl
   scalar-has (enum_shape name variants) taken w v h =
@@ -163,9 +154,6 @@ module _ (schema : List PlainShape) where
   void-has unit_shape v h = moved unit_shape unit_data v (ok_is h) refl
   void-has (unit_struct_shape name) v h = moved (unit_struct_shape name) unit_data v (ok_is h) refl
   void-has (seq_shape element) v h = moved (seq_shape element) (seq_data no_items) v (ok_is h) refl
-  void-has (tuple_shape ids) v h = nothing-has ids (tuple_shape ids) v (λ none. rw none refl) h
-  void-has (tuple_struct_shape name ids) v h = nothing-has ids (tuple_struct_shape name ids) v (λ none. rw none refl) h
-  void-has (tuple_variant_shape name variant ids) v h =
-      nothing-has ids (tuple_variant_shape name variant ids) v (λ none. rw none refl) h
+  void-has (row_shape owner ids) v h = nothing-has owner ids v h
   void-has (map_shape key value) v h = moved (map_shape key value) (map_data no_entries) v (ok_is h) refl
   void-has _ v h = absurd cc

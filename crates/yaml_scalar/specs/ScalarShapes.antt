@@ -10,17 +10,15 @@ use Rattle.yaml_base.specs.PlainWords.{boolean_of}
 use Rattle.yaml_base.specs.declared.error.Cause.{Cause}
 use Rattle.yaml_base.specs.declared.error.Cause.TheVariants.{BytesUnsupported, InvalidLength}
 use Rattle.yaml_base.specs.declared.found.Found.TheVariants.{Signed, Unsigned, Str, Bytes}
-use Rattle.yaml_shape.specs.Expected.{expected_text, integer_text, tuple_struct_text, tuple_variant_with_text}
+use Rattle.yaml_shape.specs.Expected.{expected_text, integer_text, few_text}
 use Rattle.yaml_shape.specs.IntegerTypes.{bits_of, has_sign, least, greatest}
 use Rattle.yaml_shape.specs.PlainData.{PlainData, any_data, bool_data, char_data, signed_data, unsigned_data, text_data}
 use Rattle.yaml_shape.specs.PlainData.{none_data}
 use Rattle.yaml_shape.specs.PlainData.{unit_data, seq_data, tuple_data, map_data, no_items, no_entries}
 use Rattle.yaml_shape.specs.PlainShape.{IntegerType, i64, i128, u64, u128, PlainShape, any_shape, bool_shape}
-use Rattle.yaml_shape.specs.PlainShape.{char_shape}
-use Rattle.yaml_shape.specs.PlainShape.{integer_shape, str_shape, identifier_shape, bytes_shape, option_shape}
-use Rattle.yaml_shape.specs.PlainShape.{unit_shape}
-use Rattle.yaml_shape.specs.PlainShape.{unit_struct_shape, seq_shape, tuple_shape, tuple_struct_shape}
-use Rattle.yaml_shape.specs.PlainShape.{map_shape, enum_shape, tuple_variant_shape}
+use Rattle.yaml_shape.specs.PlainShape.{char_shape, integer_shape, str_shape, identifier_shape, bytes_shape}
+use Rattle.yaml_shape.specs.PlainShape.{option_shape, unit_shape, unit_struct_shape, seq_shape, row_shape, map_shape}
+use Rattle.yaml_shape.specs.PlainShape.{enum_shape}
 use Rattle.yaml_tree.specs.Tree.{null}
 use Rattle.yaml_scalar.specs.CoreTags.{bool_tag, int_tag}
 use Rattle.yaml_scalar.specs.Presence.{is_absent, is_empty_plain, null_fault}
@@ -94,10 +92,9 @@ one_character text = option_map_or (λ c. Ok (char_data c)) (only_one (chars tex
 abbrev pub lent_text : PlainScalar → List ℕ → PlainData
 lent_text s text = text_data (is_borrowable text s.source s.style) text
 
--- what is expected where a node has fewer elements than its tuple, tuple struct or tuple variant
+-- what is expected where a node has fewer elements than its row
 abbrev pub too_few_text : PlainShape → List ℕ
-too_few_text (tuple_struct_shape name ids) = tuple_struct_text name (length ids)
-too_few_text (tuple_variant_shape name variant ids) = tuple_variant_with_text name variant (length ids)
+too_few_text (row_shape owner ids) = few_text owner (length ids)
 too_few_text shape = expected_text shape
 
 -- no elements, where none are asked for
@@ -127,19 +124,12 @@ scalar_answer unit_shape taken s = if is_absent taken s then Ok unit_data else E
 scalar_answer (unit_struct_shape name) taken s = if is_absent taken s then Ok unit_data else Err (null_fault s)
 scalar_answer (seq_shape element) taken s =
     if is_empty_plain s then Ok (seq_data no_items) else Err (scalar_fault (seq_shape element) taken s)
-scalar_answer (tuple_shape ids) taken s =
-    if is_empty_plain s then no_elements ids (tuple_shape ids)
-    else Err (scalar_fault (tuple_shape ids) taken s)
-scalar_answer (tuple_struct_shape name ids) taken s =
-    if is_empty_plain s then no_elements ids (tuple_struct_shape name ids)
-    else Err (scalar_fault (tuple_struct_shape name ids) taken s)
+scalar_answer (row_shape owner ids) taken s =
+    if is_empty_plain s then no_elements ids (row_shape owner ids) else Err (scalar_fault (row_shape owner ids) taken s)
 scalar_answer (map_shape key value) taken s =
     if is_empty_plain s then Ok (map_data no_entries) else Err (scalar_fault (map_shape key value) taken s)
 scalar_answer (enum_shape name variants) taken s =
     option_map_or (named_variant variants) (text_of s) (Err (wrong_type Bytes (codes "variant identifier")))
-scalar_answer (tuple_variant_shape name variant ids) taken s =
-    if is_empty_plain s then no_elements ids (tuple_variant_shape name variant ids)
-    else Err (scalar_fault (tuple_variant_shape name variant ids) taken s)
 scalar_answer shape taken s = Err (scalar_fault shape taken s)
 
 -- what the node of an empty stream gives under a shape
@@ -150,10 +140,8 @@ void_answer (option_shape content) = Ok none_data
 void_answer unit_shape = Ok unit_data
 void_answer (unit_struct_shape name) = Ok unit_data
 void_answer (seq_shape element) = Ok (seq_data no_items)
-void_answer (tuple_shape ids) = no_elements ids (tuple_shape ids)
-void_answer (tuple_struct_shape name ids) = no_elements ids (tuple_struct_shape name ids)
+void_answer (row_shape owner ids) = no_elements ids (row_shape owner ids)
 void_answer (map_shape key value) = Ok (map_data no_entries)
-void_answer (tuple_variant_shape name variant ids) = no_elements ids (tuple_variant_shape name variant ids)
 void_answer _ = Err void_fault
 
 -- the data of the scalar under the shape takes no memory: a boolean, an integer, a character, a unit, an optional that

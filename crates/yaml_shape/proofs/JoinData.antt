@@ -5,12 +5,9 @@ use Rattle.std.specs.Prelude.{slice_get, option_map}
 use Rattle.std.proofs.lemmas.List.Elements.{All-head, All-tail}
 use Rattle.std.proofs.lemmas.Option.{slice_get-map, slice_get_within, get_or_from_slice_get}
 use Rattle.yaml_shape.specs.PlainShape.{PlainShape, any_shape, bool_shape, char_shape, integer_shape, str_shape}
-use Rattle.yaml_shape.specs.PlainShape.{bytes_shape, option_shape, unit_shape}
-use Rattle.yaml_shape.specs.PlainShape.{newtype_shape, seq_shape, tuple_shape, tuple_struct_shape, map_shape}
-use Rattle.yaml_shape.specs.PlainShape.{struct_shape}
-use Rattle.yaml_shape.specs.PlainShape.{enum_shape, ignored_shape, shape_at}
-use Rattle.yaml_shape.specs.PlainShape.{PlainVariant, unit_variant, newtype_variant, tuple_variant, struct_variant}
-use Rattle.yaml_shape.specs.PlainShape.{tuple_variant_shape, struct_variant_shape}
+use Rattle.yaml_shape.specs.PlainShape.{bytes_shape, option_shape, unit_shape, newtype_shape, seq_shape, row_shape}
+use Rattle.yaml_shape.specs.PlainShape.{map_shape, fields_shape, enum_shape, ignored_shape, shape_at, PlainVariant}
+use Rattle.yaml_shape.specs.PlainShape.{unit_variant, newtype_variant, tuple_variant, struct_variant}
 use Rattle.yaml_shape.specs.PlainData.{PlainData, PlainItems, PlainEntries, any_data, bool_data, char_data, signed_data}
 use Rattle.yaml_shape.specs.PlainData.{unsigned_data, text_data, bytes_data, none_data, some_data, unit_data}
 use Rattle.yaml_shape.specs.PlainData.{newtype_data}
@@ -95,17 +92,13 @@ map-raised by size f g _ within agree = refl
 tuple-raised : (by size : ℕ) (f g : List ℕ → Bool) (s : PlainShape) → NamesWithin size s
     → ((ids : List ℕ) → All (λ id. id < size) ids → f (raised_ids by ids) ≡ g ids)
     → on_tuple f (raised by s) ≡ on_tuple g s
-tuple-raised by size f g (tuple_shape items) within agree = agree items within
-tuple-raised by size f g (tuple_struct_shape name items) within agree = agree items within
-tuple-raised by size f g (tuple_variant_shape name variant items) within agree = agree items within
+tuple-raised by size f g (row_shape owner items) within agree = agree items within
 tuple-raised by size f g _ within agree = refl
 
 struct-raised : (by size : ℕ) (f g : List ℕ → Bool) (s : PlainShape) → NamesWithin size s
     → ((ids : List ℕ) → All (λ id. id < size) ids → f (raised_ids by ids) ≡ g ids)
     → on_struct f (raised by s) ≡ on_struct g s
-struct-raised by size f g (struct_shape strict name fields) within
-    agree = ap f (numbers-raised by fields) ∙ agree (numbers_of fields) within
-struct-raised by size f g (struct_variant_shape strict name variant fields) within
+struct-raised by size f g (fields_shape strict owner fields) within
     agree = ap f (numbers-raised by fields) ∙ agree (numbers_of fields) within
 struct-raised by size f g _ within agree = refl
 

@@ -7,13 +7,8 @@ use Rattle.std.specs.Option.{option_and_then}
 use Rattle.std.proofs.lemmas.List.{map-append}
 use Rattle.std.proofs.lemmas.List.Elements.{All-map, All-weaker}
 use Rattle.std.proofs.lemmas.Option.{slice_get_within, get_or_from_slice_get}
-use Rattle.yaml_shape.specs.PlainShape.{PlainShape, any_shape, bool_shape, char_shape, integer_shape, str_shape}
-use Rattle.yaml_shape.specs.PlainShape.{identifier_shape, bytes_shape, option_shape, unit_shape, unit_struct_shape}
-use Rattle.yaml_shape.specs.PlainShape.{newtype_shape, seq_shape, tuple_shape, tuple_struct_shape, map_shape}
-use Rattle.yaml_shape.specs.PlainShape.{struct_shape}
-use Rattle.yaml_shape.specs.PlainShape.{enum_shape, ignored_shape, shape_at}
-use Rattle.yaml_shape.specs.PlainShape.{PlainVariant, unit_variant, newtype_variant, tuple_variant, struct_variant}
-use Rattle.yaml_shape.specs.PlainShape.{tuple_variant_shape, struct_variant_shape}
+use Rattle.yaml_shape.specs.PlainShape.{PlainShape, option_shape, fields_shape, enum_shape, shape_at, PlainVariant}
+use Rattle.yaml_shape.specs.PlainShape.{unit_variant, newtype_variant, tuple_variant, struct_variant}
 use Rattle.yaml_shape.specs.Validity.{names_of, numbers_of, named_in, named, NamesWithin, AllNameWithin, AreDistinct}
 use Rattle.yaml_shape.specs.Validity.{IsDistinctInside, HasDistinctNames}
 use Rattle.yaml_shape.specs.Validity.{optional_content, step_from}
@@ -66,26 +61,9 @@ named_each-raised by (v ∷ vs) =
 
 -- the numbers that a raised shape names are those of the shape, raised
 pub named-raised : (by : ℕ) (shape : PlainShape) → named (raised by shape) ≡ raised_ids by (named shape)
-named-raised by any_shape = refl
-named-raised by bool_shape = refl
-named-raised by char_shape = refl
-named-raised by (integer_shape i) = refl
-named-raised by str_shape = refl
-named-raised by identifier_shape = refl
-named-raised by bytes_shape = refl
-named-raised by (option_shape content) = refl
-named-raised by unit_shape = refl
-named-raised by (unit_struct_shape name) = refl
-named-raised by (newtype_shape name inner) = refl
-named-raised by (seq_shape element) = refl
-named-raised by (tuple_shape items) = refl
-named-raised by (tuple_struct_shape name items) = refl
-named-raised by (map_shape key value) = refl
-named-raised by (struct_shape strict name fields) = numbers-raised by fields
+named-raised by (fields_shape strict owner fields) = numbers-raised by fields
 named-raised by (enum_shape name variants) = named_each-raised by variants
-named-raised by ignored_shape = refl
-named-raised by (tuple_variant_shape name variant items) = refl
-named-raised by (struct_variant_shape strict name variant fields) = numbers-raised by fields
+named-raised by _ = refl
 
 distinct_inside-raised : (by : ℕ) (content : PlainVariant) → IsDistinctInside content
     → IsDistinctInside (raised_content by content)
@@ -96,32 +74,14 @@ distinct_inside-raised by (struct_variant strict fields) h = subst AreDistinct (
 
 -- a raised shape has distinct names where the shape has
 pub distinct-raised : (by : ℕ) (shape : PlainShape) → HasDistinctNames shape → HasDistinctNames (raised by shape)
-distinct-raised by any_shape h = tt
-distinct-raised by bool_shape h = tt
-distinct-raised by char_shape h = tt
-distinct-raised by (integer_shape i) h = tt
-distinct-raised by str_shape h = tt
-distinct-raised by identifier_shape h = tt
-distinct-raised by bytes_shape h = tt
-distinct-raised by (option_shape content) h = tt
-distinct-raised by unit_shape h = tt
-distinct-raised by (unit_struct_shape name) h = tt
-distinct-raised by (newtype_shape name inner) h = tt
-distinct-raised by (seq_shape element) h = tt
-distinct-raised by (tuple_shape items) h = tt
-distinct-raised by (tuple_struct_shape name items) h = tt
-distinct-raised by (map_shape key value) h = tt
-distinct-raised by (struct_shape strict name fields) h = subst AreDistinct (sym (names-raised by fields)) h
+distinct-raised by (fields_shape strict owner fields) h = subst AreDistinct (sym (names-raised by fields)) h
 distinct-raised by (enum_shape name variants) h = (
   subst AreDistinct (sym (variants-raised by variants)) h.0,
   All-map (λ v. IsDistinctInside v.1) (λ v. (v.0, raised_content by v.1)) variants
       (All-weaker (λ v. IsDistinctInside v.1) (λ v. IsDistinctInside (raised_content by v.1))
       (λ v d. distinct_inside-raised by v.1 d) variants h.1),
 )
-distinct-raised by ignored_shape h = tt
-distinct-raised by (tuple_variant_shape name variant items) h = tt
-distinct-raised by (struct_variant_shape strict name variant fields) h =
-    subst AreDistinct (sym (names-raised by fields)) h
+distinct-raised by _ h = tt
 
 -- a shape of a table names only its numbers
 pub names_at : (size : ℕ) (shapes : List PlainShape) (id : ℕ) (shape : PlainShape) → AllNameWithin

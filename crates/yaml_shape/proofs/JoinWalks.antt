@@ -7,12 +7,7 @@ use Rattle.std.proofs.lemmas.List.{length-map}
 use Rattle.std.proofs.lemmas.List.Elements.{All-map, All-append, All-weaker, All-push}
 use Rattle.std.proofs.lemmas.Bool.Decides.{nat_tests}
 use Rattle.std.proofs.lemmas.Option.{slice_get-map}
-use Rattle.yaml_shape.specs.PlainShape.{PlainShape, any_shape, bool_shape, char_shape, integer_shape, str_shape}
-use Rattle.yaml_shape.specs.PlainShape.{identifier_shape, bytes_shape, option_shape, unit_shape, unit_struct_shape}
-use Rattle.yaml_shape.specs.PlainShape.{newtype_shape, seq_shape, tuple_shape, tuple_struct_shape, map_shape}
-use Rattle.yaml_shape.specs.PlainShape.{struct_shape}
-use Rattle.yaml_shape.specs.PlainShape.{enum_shape, ignored_shape, shape_at}
-use Rattle.yaml_shape.specs.PlainShape.{tuple_variant_shape, struct_variant_shape}
+use Rattle.yaml_shape.specs.PlainShape.{PlainShape, option_shape, shape_at}
 use Rattle.yaml_shape.specs.Validity.{named, NamesWithin, AllNameWithin, HasDistinctNames}
 use Rattle.yaml_shape.specs.Validity.{optional_content, step_from, walk, IsCycle, IsValidSchema}
 use Rattle.yaml_shape.specs.Join.{raised, joined}
@@ -44,26 +39,8 @@ walk_inside shapes closed (suc n) id end within h =
 
 content-raised : (by : ℕ) (shape : PlainShape)
     → optional_content (raised by shape) ≡ option_map (λ id. by + id) (optional_content shape)
-content-raised by any_shape = refl
-content-raised by bool_shape = refl
-content-raised by char_shape = refl
-content-raised by (integer_shape i) = refl
-content-raised by str_shape = refl
-content-raised by identifier_shape = refl
-content-raised by bytes_shape = refl
 content-raised by (option_shape content) = refl
-content-raised by unit_shape = refl
-content-raised by (unit_struct_shape name) = refl
-content-raised by (newtype_shape name inner) = refl
-content-raised by (seq_shape element) = refl
-content-raised by (tuple_shape items) = refl
-content-raised by (tuple_struct_shape name items) = refl
-content-raised by (map_shape key value) = refl
-content-raised by (struct_shape strict name fields) = refl
-content-raised by (enum_shape name variants) = refl
-content-raised by ignored_shape = refl
-content-raised by (tuple_variant_shape name variant items) = refl
-content-raised by (struct_variant_shape strict name variant fields) = refl
+content-raised by _ = refl
 
 -- the shape of the second table in the join
 pub at_joined : (first second : List PlainShape) (id : ℕ)

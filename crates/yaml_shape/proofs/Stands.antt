@@ -4,13 +4,9 @@ use Rattle.std.proofs.Common.{◌∙◌, ap, subst, All, arith, append_assoc, ap
 use Rattle.std.specs.Prelude.{slice_get, option_map}
 use Rattle.std.proofs.lemmas.List.Elements.{All-head, All-tail}
 use Rattle.std.proofs.lemmas.Option.{slice_get_within, slice_get-get_or}
-use Rattle.yaml_shape.specs.PlainShape.{PlainShape}
-use Rattle.yaml_shape.specs.PlainShape.{option_shape}
-use Rattle.yaml_shape.specs.PlainShape.{newtype_shape, seq_shape, tuple_shape, tuple_struct_shape, map_shape}
-use Rattle.yaml_shape.specs.PlainShape.{struct_shape}
-use Rattle.yaml_shape.specs.PlainShape.{enum_shape, shape_at}
-use Rattle.yaml_shape.specs.PlainShape.{tuple_variant_shape, struct_variant_shape}
-use Rattle.yaml_shape.specs.PlainShape.{PlainVariant, unit_variant, newtype_variant, tuple_variant, struct_variant}
+use Rattle.yaml_shape.specs.PlainShape.{PlainShape, option_shape, newtype_shape, seq_shape, row_shape, map_shape}
+use Rattle.yaml_shape.specs.PlainShape.{fields_shape, enum_shape, shape_at, PlainVariant, unit_variant, newtype_variant}
+use Rattle.yaml_shape.specs.PlainShape.{tuple_variant, struct_variant}
 use Rattle.yaml_shape.specs.Validity.{AllNameWithin, IsValidSchema}
 use Rattle.yaml_shape.specs.Join.{raised_ids, raised_fields, raised_content, raised_variants, raised, joined}
 use Rattle.yaml_shape.specs.Join.{joined_all}
@@ -47,15 +43,11 @@ raised_zero : (s : PlainShape) → raised 0 s ≡ s
 raised_zero (option_shape content) = ap option_shape (same_sum content)
 raised_zero (newtype_shape name inner) = ap (newtype_shape name) (same_sum inner)
 raised_zero (seq_shape element) = ap seq_shape (same_sum element)
-raised_zero (tuple_shape items) = ap tuple_shape (ids_zero items)
-raised_zero (tuple_struct_shape name items) = ap (tuple_struct_shape name) (ids_zero items)
+raised_zero (row_shape owner items) = ap (row_shape owner) (ids_zero items)
 raised_zero (map_shape key value) = ap (λ k. map_shape k (0 + value)) (same_sum key)
     ∙ ap (map_shape key) (same_sum value)
-raised_zero (struct_shape strict name fields) = ap (struct_shape strict name) (fields_zero fields)
+raised_zero (fields_shape strict owner fields) = ap (fields_shape strict owner) (fields_zero fields)
 raised_zero (enum_shape name variants) = ap (enum_shape name) (variants_zero variants)
-raised_zero (tuple_variant_shape name variant items) = ap (tuple_variant_shape name variant) (ids_zero items)
-raised_zero (struct_variant_shape strict name variant fields) =
-    ap (struct_variant_shape strict name variant) (fields_zero fields)
 raised_zero _ = refl
 
 option_zero : (o : Option PlainShape) → option_map (raised 0) o ≡ o

@@ -3,10 +3,8 @@ use Rattle.std.specs.Prelude.{ℕ, List, length, ◌++◌, ◌==◌, if◌then�
 use Rattle.yaml_shape.specs.PlainShape.{IntegerType, i8, i16, i32, i64, i128, isize, u8, u16, u32, u64, u128, usize}
 use Rattle.yaml_shape.specs.PlainShape.{PlainShape, any_shape, bool_shape, char_shape, integer_shape, str_shape}
 use Rattle.yaml_shape.specs.PlainShape.{identifier_shape, bytes_shape, option_shape, unit_shape, unit_struct_shape}
-use Rattle.yaml_shape.specs.PlainShape.{newtype_shape, seq_shape, tuple_shape, tuple_struct_shape, map_shape}
-use Rattle.yaml_shape.specs.PlainShape.{struct_shape}
-use Rattle.yaml_shape.specs.PlainShape.{enum_shape, ignored_shape}
-use Rattle.yaml_shape.specs.PlainShape.{tuple_variant_shape, struct_variant_shape}
+use Rattle.yaml_shape.specs.PlainShape.{newtype_shape, seq_shape, row_shape, map_shape, fields_shape, enum_shape}
+use Rattle.yaml_shape.specs.PlainShape.{ignored_shape, Owner, unnamed, of_struct, of_variant}
 
 -- an integer type's name
 abbrev pub integer_text : IntegerType → List ℕ
@@ -35,6 +33,18 @@ tuple_variant_text name variant = codes "tuple variant " ++ (name ++ (codes "::"
 abbrev pub struct_variant_text : List ℕ → List ℕ → List ℕ
 struct_variant_text name variant = codes "struct variant " ++ (name ++ (codes "::" ++ variant))
 
+-- elements in a row, of so many shapes
+abbrev pub row_text : Owner → ℕ → List ℕ
+row_text unnamed count = tuple_text count
+row_text (of_struct name) count = codes "tuple struct " ++ name
+row_text (of_variant name variant) count = tuple_variant_text name variant
+
+-- fields with names
+abbrev pub fields_text : Owner → List ℕ
+fields_text unnamed = codes "struct"
+fields_text (of_struct name) = codes "struct " ++ name
+fields_text (of_variant name variant) = struct_variant_text name variant
+
 -- what data of a shape is expected to be
 abbrev pub expected_text : PlainShape → List ℕ
 expected_text any_shape = codes "any YAML value"
@@ -49,14 +59,11 @@ expected_text unit_shape = codes "unit"
 expected_text (unit_struct_shape name) = codes "unit struct " ++ name
 expected_text (newtype_shape name inner) = codes "tuple struct " ++ name
 expected_text (seq_shape element) = codes "a sequence"
-expected_text (tuple_shape items) = tuple_text (length items)
-expected_text (tuple_struct_shape name items) = codes "tuple struct " ++ name
+expected_text (row_shape owner items) = row_text owner (length items)
 expected_text (map_shape key value) = codes "a map"
-expected_text (struct_shape strict name fields) = codes "struct " ++ name
+expected_text (fields_shape strict owner fields) = fields_text owner
 expected_text (enum_shape name variants) = codes "enum " ++ name
 expected_text ignored_shape = codes "anything at all"
-expected_text (tuple_variant_shape name variant items) = tuple_variant_text name variant
-expected_text (struct_variant_shape strict name variant fields) = struct_variant_text name variant
 
 -- so many elements
 abbrev pub elements_text : ℕ → List ℕ
@@ -74,3 +81,9 @@ tuple_struct_text name count = codes "tuple struct " ++ (name ++ (codes " with "
 abbrev pub tuple_variant_with_text : List ℕ → List ℕ → ℕ → List ℕ
 tuple_variant_with_text name variant count =
     codes "tuple variant " ++ (name ++ (codes "::" ++ (variant ++ (codes " with " ++ elements_text count))))
+
+-- where a node has fewer elements than the so many of its row
+abbrev pub few_text : Owner → ℕ → List ℕ
+few_text unnamed count = tuple_text count
+few_text (of_struct name) count = tuple_struct_text name count
+few_text (of_variant name variant) count = tuple_variant_with_text name variant count

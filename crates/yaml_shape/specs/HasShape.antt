@@ -4,11 +4,9 @@ use Rattle.std.specs.Prelude.{Option, Some, None, slice_get}
 use Rattle.yaml_shape.specs.IntegerTypes.{has_sign, is_of_type}
 use Rattle.yaml_shape.specs.PlainShape.{PlainShape, any_shape, bool_shape, char_shape, integer_shape, str_shape}
 use Rattle.yaml_shape.specs.PlainShape.{identifier_shape, bytes_shape, option_shape, unit_shape, unit_struct_shape}
-use Rattle.yaml_shape.specs.PlainShape.{newtype_shape, seq_shape, tuple_shape, tuple_struct_shape, map_shape}
-use Rattle.yaml_shape.specs.PlainShape.{struct_shape}
-use Rattle.yaml_shape.specs.PlainShape.{enum_shape, ignored_shape, shape_at}
-use Rattle.yaml_shape.specs.PlainShape.{tuple_variant_shape, struct_variant_shape}
-use Rattle.yaml_shape.specs.PlainShape.{PlainVariant, unit_variant, newtype_variant, tuple_variant, struct_variant}
+use Rattle.yaml_shape.specs.PlainShape.{newtype_shape, seq_shape, row_shape, map_shape, fields_shape, enum_shape}
+use Rattle.yaml_shape.specs.PlainShape.{ignored_shape, shape_at, PlainVariant, unit_variant, newtype_variant}
+use Rattle.yaml_shape.specs.PlainShape.{tuple_variant, struct_variant}
 use Rattle.yaml_shape.specs.PlainData.{PlainData, PlainItems, PlainEntries, any_data, bool_data, char_data, signed_data}
 use Rattle.yaml_shape.specs.PlainData.{unsigned_data, text_data, bytes_data, none_data, some_data, unit_data}
 use Rattle.yaml_shape.specs.PlainData.{newtype_data}
@@ -80,9 +78,7 @@ on_seq test _ = false
 
 -- the shape is a tuple, a tuple struct or a tuple variant, whose shapes pass the test
 abbrev pub on_tuple : (List ℕ → Bool) → PlainShape → Bool
-on_tuple test (tuple_shape items) = test items
-on_tuple test (tuple_struct_shape name items) = test items
-on_tuple test (tuple_variant_shape name variant items) = test items
+on_tuple test (row_shape owner items) = test items
 on_tuple test _ = false
 
 -- the shape is a mapping, whose keys and values pass the test
@@ -92,8 +88,7 @@ on_map test _ = false
 
 -- the shape is a struct or a struct variant, the shapes of whose fields pass the test
 abbrev pub on_struct : (List ℕ → Bool) → PlainShape → Bool
-on_struct test (struct_shape strict name fields) = test (numbers_of fields)
-on_struct test (struct_variant_shape strict name variant fields) = test (numbers_of fields)
+on_struct test (fields_shape strict owner fields) = test (numbers_of fields)
 on_struct test _ = false
 
 -- the shape is an enum, whose variant at this place has a content that passes the test

@@ -8,8 +8,8 @@ use Rattle.yaml_tree.specs.Valid.{is_value}
 use Rattle.yaml_shape.specs.PlainData.{PlainData, any_data, char_data, text_data, some_data, newtype_data, seq_data}
 use Rattle.yaml_shape.specs.PlainData.{tuple_data, map_data, struct_data, variant_data}
 use Rattle.yaml_shape.specs.PlainData.{PlainItems, no_items, item, PlainEntries, no_entries, entry}
-use Rattle.yaml_shape.specs.PlainShape.{PlainShape, PlainVariant, struct_shape, enum_shape, struct_variant}
-use Rattle.yaml_shape.specs.PlainShape.{tuple_variant_shape, struct_variant_shape}
+use Rattle.yaml_shape.specs.PlainShape.{PlainShape, row_shape, fields_shape, enum_shape, of_struct, of_variant}
+use Rattle.yaml_shape.specs.PlainShape.{PlainVariant, struct_variant}
 use Rattle.yaml_shape.specs.Validity.{names_of}
 
 abbrev mutual
@@ -44,13 +44,14 @@ abbrev pub is_named_content : PlainVariant → Bool
 is_named_content (struct_variant strict fields) = are_texts (names_of fields)
 is_named_content _ = true
 
--- The names in the shape are texts, and it is one of a table: not the content of a variant, as it is read.
+-- The names in the shape are texts, and it is one of a table: not the content of a variant, as it is read, nor fields
+-- that are nobody's by name.
 abbrev pub is_table_shape : PlainShape → Bool
-is_table_shape (struct_shape strict name fields) = are_texts (names_of fields)
+is_table_shape (fields_shape strict (of_struct name) fields) = are_texts (names_of fields)
 is_table_shape (enum_shape name variants) =
     are_texts (names_of variants) && list_all (λ v. is_named_content v.1) variants
-is_table_shape (tuple_variant_shape name variant items) = false
-is_table_shape (struct_variant_shape strict name variant fields) = false
+is_table_shape (fields_shape strict owner fields) = false
+is_table_shape (row_shape (of_variant name variant) items) = false
 is_table_shape _ = true
 
 -- the table is one of shapes that are held

@@ -3,11 +3,9 @@ use Rattle.std.specs.Prelude.{ℕ, ◌≡◌, ◌+◌, ◌<◌, List, [], ◌∷
 use Rattle.std.specs.List.{zip}
 use Rattle.yaml_shape.specs.PlainShape.{PlainShape, any_shape, bool_shape, char_shape, integer_shape, str_shape}
 use Rattle.yaml_shape.specs.PlainShape.{identifier_shape, bytes_shape, option_shape, unit_shape, unit_struct_shape}
-use Rattle.yaml_shape.specs.PlainShape.{newtype_shape, seq_shape, tuple_shape, tuple_struct_shape, map_shape}
-use Rattle.yaml_shape.specs.PlainShape.{struct_shape}
-use Rattle.yaml_shape.specs.PlainShape.{enum_shape, ignored_shape}
-use Rattle.yaml_shape.specs.PlainShape.{tuple_variant_shape, struct_variant_shape}
-use Rattle.yaml_shape.specs.PlainShape.{PlainVariant, unit_variant, newtype_variant, tuple_variant, struct_variant}
+use Rattle.yaml_shape.specs.PlainShape.{newtype_shape, seq_shape, row_shape, map_shape, fields_shape, enum_shape}
+use Rattle.yaml_shape.specs.PlainShape.{ignored_shape, PlainVariant, unit_variant, newtype_variant, tuple_variant}
+use Rattle.yaml_shape.specs.PlainShape.{struct_variant}
 use Rattle.yaml_shape.specs.ShapeView.{ids_of}
 use Rattle.yaml_shape.specs.Validity.{HasDistinctNames}
 use Rattle.yaml_shape.specs.declared.shape.ShapeId.{ShapeId}
@@ -47,15 +45,11 @@ raised by unit_shape = unit_shape
 raised by (unit_struct_shape name) = unit_struct_shape name
 raised by (newtype_shape name inner) = newtype_shape name (by + inner)
 raised by (seq_shape element) = seq_shape (by + element)
-raised by (tuple_shape items) = tuple_shape (raised_ids by items)
-raised by (tuple_struct_shape name items) = tuple_struct_shape name (raised_ids by items)
+raised by (row_shape owner items) = row_shape owner (raised_ids by items)
 raised by (map_shape key value) = map_shape (by + key) (by + value)
-raised by (struct_shape strict name fields) = struct_shape strict name (raised_fields by fields)
+raised by (fields_shape strict owner fields) = fields_shape strict owner (raised_fields by fields)
 raised by (enum_shape name variants) = enum_shape name (raised_variants by variants)
 raised by ignored_shape = ignored_shape
-raised by (tuple_variant_shape name variant items) = tuple_variant_shape name variant (raised_ids by items)
-raised by (struct_variant_shape strict name variant fields) =
-    struct_variant_shape strict name variant (raised_fields by fields)
 
 -- the second table behind the first, with the numbers in it raised past the first
 abbrev pub joined : List PlainShape → List PlainShape → List PlainShape

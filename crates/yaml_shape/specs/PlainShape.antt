@@ -23,8 +23,15 @@ pub data PlainVariant : Type 0 where
   tuple_variant : (items : List ℕ) → PlainVariant
   struct_variant : (strict : Bool) → (fields : List (List ℕ × ℕ)) → PlainVariant
 
--- A shape, which names others by their places in the table; a name is its bytes. The last two are the contents of
--- variants as they are read, with the name of the enum and then that of the variant; no table has them.
+-- whose elements or fields they are: nobody's by name, those of a struct, or those of a variant of an enum
+pub data Owner : Type 0 where
+  unnamed : Owner
+  of_struct : (name : List ℕ) → Owner
+  of_variant : (name : List ℕ) → (variant : List ℕ) → Owner
+
+-- A shape, which names others by their places in the table; a name is its bytes. Elements in a row are those of a
+-- tuple, where they are nobody's by name. Those of a variant, and its fields, are its content as it is read: no table
+-- has them, and none has fields that are nobody's.
 pub data PlainShape : Type 0 where
   any_shape : PlainShape
   bool_shape : PlainShape
@@ -38,15 +45,11 @@ pub data PlainShape : Type 0 where
   unit_struct_shape : (name : List ℕ) → PlainShape
   newtype_shape : (name : List ℕ) → (inner : ℕ) → PlainShape
   seq_shape : (element : ℕ) → PlainShape
-  tuple_shape : (items : List ℕ) → PlainShape
-  tuple_struct_shape : (name : List ℕ) → (items : List ℕ) → PlainShape
+  row_shape : Owner → (items : List ℕ) → PlainShape
   map_shape : (key : ℕ) → (value : ℕ) → PlainShape
-  struct_shape : (strict : Bool) → (name : List ℕ) → (fields : List (List ℕ × ℕ)) → PlainShape
+  fields_shape : (strict : Bool) → Owner → (fields : List (List ℕ × ℕ)) → PlainShape
   enum_shape : (name : List ℕ) → (variants : List (List ℕ × PlainVariant)) → PlainShape
   ignored_shape : PlainShape
-  tuple_variant_shape : (name : List ℕ) → (variant : List ℕ) → (items : List ℕ) → PlainShape
-  struct_variant_shape : (strict : Bool) → (name : List ℕ) → (variant : List ℕ) → (fields : List (List ℕ × ℕ))
-      → PlainShape
 
 -- the shape with a number
 abbrev pub shape_at : List PlainShape → ℕ → Option PlainShape
@@ -56,6 +59,6 @@ shape_at shapes id = slice_get shapes id
 abbrev pub content_shape : List PlainShape → (name : List ℕ) → (variant : List ℕ) → PlainVariant → Option PlainShape
 content_shape shapes name variant unit_variant = Some unit_shape
 content_shape shapes name variant (newtype_variant inner) = shape_at shapes inner
-content_shape shapes name variant (tuple_variant items) = Some (tuple_variant_shape name variant items)
+content_shape shapes name variant (tuple_variant items) = Some (row_shape (of_variant name variant) items)
 content_shape shapes name variant (struct_variant strict fields) =
-    Some (struct_variant_shape strict name variant fields)
+    Some (fields_shape strict (of_variant name variant) fields)

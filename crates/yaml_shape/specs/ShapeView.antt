@@ -1,13 +1,12 @@
 -- The plain shape of a shape.
 use Rattle.std.specs.Prelude.{ℕ, List, map, true, false, String, string_bytes}
 use Rattle.std.specs.declared.alloc.Global.{Global}
-use Rattle.yaml_shape.specs.PlainShape.{PlainShape, any_shape, bool_shape, char_shape, integer_shape, str_shape}
-use Rattle.yaml_shape.specs.PlainShape.{identifier_shape, bytes_shape, option_shape, unit_shape, unit_struct_shape}
-use Rattle.yaml_shape.specs.PlainShape.{newtype_shape, seq_shape, tuple_shape, tuple_struct_shape, map_shape}
-use Rattle.yaml_shape.specs.PlainShape.{struct_shape}
-use Rattle.yaml_shape.specs.PlainShape.{enum_shape, ignored_shape}
-use Rattle.yaml_shape.specs.PlainShape.{PlainVariant, unit_variant, newtype_variant, tuple_variant, struct_variant}
-use Rattle.yaml_shape.specs.PlainShape.{i8, i16, i32, i64, i128, isize, u8, u16, u32, u64, u128, usize}
+use Rattle.yaml_shape.specs.PlainShape.{i8, i16, i32, i64, i128, isize, u8, u16, u32, u64, u128, usize, PlainShape}
+use Rattle.yaml_shape.specs.PlainShape.{any_shape, bool_shape, char_shape, integer_shape, str_shape, identifier_shape}
+use Rattle.yaml_shape.specs.PlainShape.{bytes_shape, option_shape, unit_shape, unit_struct_shape, newtype_shape}
+use Rattle.yaml_shape.specs.PlainShape.{seq_shape, row_shape, map_shape, fields_shape, enum_shape, ignored_shape}
+use Rattle.yaml_shape.specs.PlainShape.{unnamed, of_struct, PlainVariant, unit_variant, newtype_variant, tuple_variant}
+use Rattle.yaml_shape.specs.PlainShape.{struct_variant}
 use Rattle.yaml_shape.specs.declared.shape.ShapeId.{ShapeId}
 use Rattle.yaml_shape.specs.declared.shape.Shape.{Shape}
 use Rattle.yaml_shape.specs.declared.shape.Shape.TheVariants as shape
@@ -67,10 +66,10 @@ shape_of shape.Unit = unit_shape
 shape_of (shape.UnitStruct name) = unit_struct_shape (string_bytes name)
 shape_of (shape.Newtype name inner) = newtype_shape (string_bytes name) inner.0
 shape_of (shape.Seq element) = seq_shape element.0
-shape_of (shape.Tuple items) = tuple_shape (ids_of items.items)
-shape_of (shape.TupleStruct name items) = tuple_struct_shape (string_bytes name) (ids_of items.items)
+shape_of (shape.Tuple items) = row_shape unnamed (ids_of items.items)
+shape_of (shape.TupleStruct name items) = row_shape (of_struct (string_bytes name)) (ids_of items.items)
 shape_of (shape.Map key value) = map_shape key.0 value.0
-shape_of (shape.Struct name fields) = struct_shape false (string_bytes name) (fields_of fields.items)
-shape_of (shape.StrictStruct name fields) = struct_shape true (string_bytes name) (fields_of fields.items)
+shape_of (shape.Struct name fields) = fields_shape false (of_struct (string_bytes name)) (fields_of fields.items)
+shape_of (shape.StrictStruct name fields) = fields_shape true (of_struct (string_bytes name)) (fields_of fields.items)
 shape_of (shape.Enum name variants) = enum_shape (string_bytes name) (variants_of variants.items)
 shape_of shape.IgnoredAny = ignored_shape

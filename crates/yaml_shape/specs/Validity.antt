@@ -5,11 +5,9 @@ use Rattle.std.specs.List.{flat_map}
 use Rattle.std.specs.Option.{option_and_then}
 use Rattle.yaml_shape.specs.PlainShape.{PlainShape, any_shape, bool_shape, char_shape, integer_shape, str_shape}
 use Rattle.yaml_shape.specs.PlainShape.{identifier_shape, bytes_shape, option_shape, unit_shape, unit_struct_shape}
-use Rattle.yaml_shape.specs.PlainShape.{newtype_shape, seq_shape, tuple_shape, tuple_struct_shape, map_shape}
-use Rattle.yaml_shape.specs.PlainShape.{struct_shape}
-use Rattle.yaml_shape.specs.PlainShape.{enum_shape, ignored_shape, shape_at}
-use Rattle.yaml_shape.specs.PlainShape.{tuple_variant_shape, struct_variant_shape}
-use Rattle.yaml_shape.specs.PlainShape.{PlainVariant, unit_variant, newtype_variant, tuple_variant, struct_variant}
+use Rattle.yaml_shape.specs.PlainShape.{newtype_shape, seq_shape, row_shape, map_shape, fields_shape, enum_shape}
+use Rattle.yaml_shape.specs.PlainShape.{ignored_shape, shape_at, PlainVariant, unit_variant, newtype_variant}
+use Rattle.yaml_shape.specs.PlainShape.{tuple_variant, struct_variant}
 
 -- the names of fields or variants
 abbrev pub names_of : {A : Type 0} → List (List ℕ × A) → List (List ℕ)
@@ -40,14 +38,11 @@ named unit_shape = []
 named (unit_struct_shape name) = []
 named (newtype_shape name inner) = inner ∷ []
 named (seq_shape element) = element ∷ []
-named (tuple_shape items) = items
-named (tuple_struct_shape name items) = items
+named (row_shape owner items) = items
 named (map_shape key value) = key ∷ value ∷ []
-named (struct_shape strict name fields) = numbers_of fields
+named (fields_shape strict owner fields) = numbers_of fields
 named (enum_shape name variants) = flat_map (λ v. named_in v.1) variants
 named ignored_shape = []
-named (tuple_variant_shape name variant items) = items
-named (struct_variant_shape strict name variant fields) = numbers_of fields
 
 -- each number that the shape names is below the size
 abbrev pub NamesWithin : ℕ → PlainShape → Type 0
@@ -70,9 +65,8 @@ IsDistinctInside (struct_variant strict fields) = AreDistinct (names_of fields)
 
 -- a struct's fields have distinct names; so have an enum's variants, and the fields of each
 abbrev pub HasDistinctNames : PlainShape → Type 0
-HasDistinctNames (struct_shape strict name fields) = AreDistinct (names_of fields)
+HasDistinctNames (fields_shape strict owner fields) = AreDistinct (names_of fields)
 HasDistinctNames (enum_shape name variants) = AreDistinct (names_of variants) × All (λ v. IsDistinctInside v.1) variants
-HasDistinctNames (struct_variant_shape strict name variant fields) = AreDistinct (names_of fields)
 HasDistinctNames _ = Unit {0}
 
 -- where an optional leads: the number of its content

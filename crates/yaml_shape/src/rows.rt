@@ -2,7 +2,7 @@
 
 ghost use Rattle.std.specs.Prelude.{◌≡◌, ◌+◌, [], map, length, true, false, string_bytes, All, IfOk, IfErr};
 ghost use Rattle.std.specs.List.{zip};
-ghost use Rattle.yaml_shape.specs.PlainShape.{tuple_shape, tuple_struct_shape, struct_shape};
+ghost use Rattle.yaml_shape.specs.PlainShape.{row_shape, fields_shape, unnamed, of_struct};
 ghost use Rattle.yaml_shape.specs.ShapeView.{ids_of, fields_of};
 ghost use Rattle.yaml_shape.specs.Validity.{AllNameWithin};
 ghost use Rattle.yaml_shape.specs.Kept.{KeepsShapes, KeepsAllShapes};
@@ -89,7 +89,7 @@ pub fn tuple_of(
 ) -> Result<(Schema, ShapeId), SchemaFault>
     requires { All StartsWithin (parts_of parts.items) }
     ensures ok { IfOk result (IsWith (joined_all [] (parts_of parts.items))
-        (tuple_shape (starts_behind 0 (parts_of parts.items)))) }
+        (row_shape unnamed (starts_behind 0 (parts_of parts.items)))) }
     ensures kept { IfOk result (λ r. KeepsAllShapes 0 (parts_of parts.items) r.0) }
     ensures refused { IfErr result (IsTooLarge (length (joined_all [] (parts_of parts.items)) + 1)) }
 {
@@ -109,7 +109,7 @@ pub fn tuple_struct_of(
 ) -> Result<(Schema, ShapeId), SchemaFault>
     requires { All StartsWithin (parts_of parts.items) }
     ensures ok { IfOk result (IsWith (joined_all [] (parts_of parts.items))
-        (tuple_struct_shape (string_bytes name) (starts_behind 0 (parts_of parts.items)))) }
+        (row_shape (of_struct (string_bytes name)) (starts_behind 0 (parts_of parts.items)))) }
     ensures kept { IfOk result (λ r. KeepsAllShapes 0 (parts_of parts.items) r.0) }
     ensures refused { IfErr result (IsTooLarge (length (joined_all [] (parts_of parts.items)) + 1)) }
 {
@@ -154,11 +154,12 @@ pub fn struct_of(
 ) -> Result<(Schema, ShapeId), SchemaFault>
     requires within { All StartsWithin (parts_of parts.items) }
     requires same { length fields.items ≡ length parts.items }
-    ensures ok { IfOk result (IsWith (joined_all [] (parts_of parts.items)) (struct_shape false (string_bytes name)
+    ensures ok { IfOk result (IsWith (joined_all [] (parts_of parts.items))
+        (fields_shape false (of_struct (string_bytes name))
         (named_behind 0 (map string_bytes fields.items) (parts_of parts.items)))) }
     ensures kept { IfOk result (λ r. KeepsAllShapes 0 (parts_of parts.items) r.0) }
     ensures refused { IfErr result (IsNotAdded (length (joined_all [] (parts_of parts.items)))
-        (struct_shape false (string_bytes name)
+        (fields_shape false (of_struct (string_bytes name))
         (named_behind 0 (map string_bytes fields.items) (parts_of parts.items)))) }
 {
     match join_fields(alloc, fields, parts) {
@@ -176,11 +177,12 @@ pub fn strict_struct_of(
 ) -> Result<(Schema, ShapeId), SchemaFault>
     requires within { All StartsWithin (parts_of parts.items) }
     requires same { length fields.items ≡ length parts.items }
-    ensures ok { IfOk result (IsWith (joined_all [] (parts_of parts.items)) (struct_shape true (string_bytes name)
+    ensures ok { IfOk result (IsWith (joined_all [] (parts_of parts.items))
+        (fields_shape true (of_struct (string_bytes name))
         (named_behind 0 (map string_bytes fields.items) (parts_of parts.items)))) }
     ensures kept { IfOk result (λ r. KeepsAllShapes 0 (parts_of parts.items) r.0) }
     ensures refused { IfErr result (IsNotAdded (length (joined_all [] (parts_of parts.items)))
-        (struct_shape true (string_bytes name)
+        (fields_shape true (of_struct (string_bytes name))
         (named_behind 0 (map string_bytes fields.items) (parts_of parts.items)))) }
 {
     match join_fields(alloc, fields, parts) {

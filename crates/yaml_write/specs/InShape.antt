@@ -1,8 +1,7 @@
 -- What a shape says of the parts of its data. Of data that hasn't the shape nothing is said that matters.
 use Rattle.std.specs.Prelude.{ℕ, List, [], Option, Some}
-use Rattle.yaml_shape.specs.PlainShape.{PlainShape, option_shape, newtype_shape, seq_shape, tuple_shape}
-use Rattle.yaml_shape.specs.PlainShape.{tuple_struct_shape, map_shape, struct_shape, enum_shape}
-use Rattle.yaml_shape.specs.PlainShape.{PlainVariant}
+use Rattle.yaml_shape.specs.PlainShape.{PlainShape, option_shape, newtype_shape, seq_shape, row_shape, map_shape}
+use Rattle.yaml_shape.specs.PlainShape.{fields_shape, enum_shape, PlainVariant}
 
 -- the shape of the content of an optional or of a struct around one
 abbrev pub inner_shape : Option PlainShape → ℕ
@@ -15,10 +14,9 @@ abbrev pub element_shape : Option PlainShape → ℕ
 element_shape (Some (seq_shape element)) = element
 element_shape _ = 0
 
--- the shapes of the items of a tuple or of a tuple struct
+-- the shapes of elements in a row
 abbrev pub item_shapes : Option PlainShape → List ℕ
-item_shapes (Some (tuple_shape items)) = items
-item_shapes (Some (tuple_struct_shape name items)) = items
+item_shapes (Some (row_shape owner items)) = items
 item_shapes _ = []
 
 -- the shape of the keys of a mapping
@@ -31,9 +29,9 @@ abbrev pub value_shape : Option PlainShape → ℕ
 value_shape (Some (map_shape key value)) = value
 value_shape _ = 0
 
--- the names of the fields of a struct, each with its shape
+-- the names of fields, each with its shape
 abbrev pub named_fields : Option PlainShape → List (List ℕ × ℕ)
-named_fields (Some (struct_shape strict name fields)) = fields
+named_fields (Some (fields_shape strict owner fields)) = fields
 named_fields _ = []
 
 -- the variants of an enum, each with its name

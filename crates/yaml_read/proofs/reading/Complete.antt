@@ -4,7 +4,6 @@ use Rattle.std.proofs.Common.{Bool, true, refl, sym, ap, subst, ◌∙◌, arith
 use Rattle.std.specs.Option.{is_some}
 use Rattle.yaml_base.specs.Position.{Position}
 use Rattle.yaml_shape.specs.DataView.{items_of, entries_of}
-use Rattle.yaml_shape.specs.Expected.{tuple_text, tuple_struct_text, tuple_variant_with_text}
 use Rattle.yaml_shape.specs.PlainData.{PlainData, PlainItems, PlainEntries, any_data, variant_data, seq_data, map_data}
 use Rattle.yaml_shape.specs.PlainData.{some_data, newtype_data, ignored_data}
 use Rattle.yaml_shape.specs.PlainShape.{PlainShape, any_shape, option_shape, shape_at, content_shape}
@@ -21,10 +20,9 @@ use Rattle.yaml_read.specs.Handing.{Handing, handed, early, reach, untaken_reach
 use Rattle.yaml_read.specs.Handing.{nesting_depth}
 use Rattle.yaml_read.specs.NodeTags.{TakenBy, around_value}
 use Rattle.yaml_read.specs.Meaning.{Means, means_node, MeansAs, means_some, means_newtype, means_ignored, means_target}
-use Rattle.yaml_read.specs.Meaning.{means_void, means_scalar, means_list, means_mapping, means_bare, means_struct}
+use Rattle.yaml_read.specs.Meaning.{means_void, means_scalar, means_list, means_mapping, means_bare, means_fields}
 use Rattle.yaml_read.specs.Meaning.{MeanFields, means_no_fields, means_field, means_unknown, means_variant}
-use Rattle.yaml_read.specs.Meaning.{means_tagged, means_tuple_variant, means_any_list, means_struct_variant}
-use Rattle.yaml_read.specs.Meaning.{means_any_mapping, MeansList, means_seq, means_tuple, means_tuple_struct}
+use Rattle.yaml_read.specs.Meaning.{means_tagged, means_any_list, means_any_mapping, MeansList, means_seq, means_row}
 use Rattle.yaml_read.specs.Meaning.{MeansPairs, means_map, MeanEach, means_none, means_more, MeanRow, means_no_elements}
 use Rattle.yaml_read.specs.Meaning.{means_element, MeanPairs, means_no_pairs, means_pair}
 use Rattle.yaml_read.specs.Places.{Way, element_under, value_under, places, place}
@@ -125,15 +123,8 @@ module _ (table : List PlainShape) (root : DocNode) (marks : ℕ → Position) (
         (seq_data ws) n at.left d k) (items_listed vs)
         (wrapped (λ vs. seq_data (items_of vs)) _ (list_of vs) n at.left d k
         (each_outcome m way fuel n [] (after at) (low table small falls e s there) (omega arith)))))
-    list_outcome (means_tuple {ids} {ns} {vs} {d} {k} m) way fuel nest at mark lt =
-        row_outcome table marks (reader fuel) way (tuple_text (length ids)) ids ns vs nest at mark d k
-        (λ n is. elements_outcome m way fuel n [] (after at) (omega (arith, is, lt)))
-    list_outcome (means_tuple_struct {name} {ids} {ns} {vs} {d} {k} m) way fuel nest at mark lt =
-        row_outcome table marks (reader fuel) way (tuple_struct_text name (length ids)) ids ns vs nest at mark d k
-        (λ n is. elements_outcome m way fuel n [] (after at) (omega (arith, is, lt)))
-    list_outcome (means_tuple_variant {name} {variant} {ids} {ns} {vs} {d} {k} m) way fuel nest at mark lt =
-        row_outcome table marks (reader fuel) way (tuple_variant_with_text name variant (length ids)) ids ns vs
-        nest at mark d k
+    list_outcome (means_row {owner} {ids} {ns} {vs} {d} {k} m) way fuel nest at mark lt =
+        row_outcome table marks (reader fuel) way owner ids ns vs nest at mark d k
         (λ n is. elements_outcome m way fuel n [] (after at) (omega (arith, is, lt)))
     list_outcome (means_any_list {ns} {vs} {d} {k} m) way fuel nest at mark lt =
         entered _ (any_data (sequence (trees_in vs))) mark nest at.left d k (λ n is.
@@ -159,11 +150,7 @@ module _ (table : List PlainShape) (root : DocNode) (marks : ℕ → Position) (
         (wrapped (λ vs. map_data (entries_of vs)) _ (entry_list_of vs) n at.left d k
         (pairs_outcome m way fuel n [] (after at) (low table small falls a s there) (low table small falls b t there')
         (omega arith))))))
-    mapping_outcome (means_struct {strict} {name} {fields} {ps} {slots} {v} {d} {k} m made) way fuel nest at mark lt =
-        struct_outcome table marks (reader fuel) way strict fields ps slots v nest at mark d k made
-        (λ n is. fields_outcome m way fuel n (after at) (omega (arith, is, lt)))
-    mapping_outcome (means_struct_variant {strict} {name} {variant} {fields} {ps} {slots} {v} {d} {k} m made) way fuel
-        nest at mark lt =
+    mapping_outcome (means_fields {strict} {fields} {ps} {slots} {v} {d} {k} m made) way fuel nest at mark lt =
         struct_outcome table marks (reader fuel) way strict fields ps slots v nest at mark d k made
         (λ n is. fields_outcome m way fuel n (after at) (omega (arith, is, lt)))
     mapping_outcome (means_any_mapping {ps} {vs} {d} {k} m apart) way fuel nest at mark lt =

@@ -6,8 +6,8 @@ use Rattle.yaml_base.specs.Position.{Position}
 use Rattle.yaml_base.specs.declared.error.Cause.{Cause}
 use Rattle.yaml_shape.specs.DataView.{items_of, entries_of}
 use Rattle.yaml_shape.specs.PlainData.{any_data, variant_data}
-use Rattle.yaml_shape.specs.PlainShape.{PlainShape, any_shape, enum_shape, PlainVariant, content_shape}
-use Rattle.yaml_shape.specs.PlainShape.{struct_variant_shape}
+use Rattle.yaml_shape.specs.PlainShape.{PlainShape, any_shape, fields_shape, enum_shape, Owner, content_shape}
+use Rattle.yaml_shape.specs.PlainShape.{PlainVariant}
 use Rattle.yaml_tree.specs.Tree.{sequence, tagged}
 use Rattle.yaml_load.specs.PlainDocEvent.{PlainDocEvent, alias_to, a_scalar, a_void, sequence_begins, sequence_ends}
 use Rattle.yaml_load.specs.PlainDocEvent.{mapping_begins, mapping_ends}
@@ -70,30 +70,30 @@ module _ (code : CodeSource) (fuel : ℕ) (q : Question) (walk : Walk) where
 
 -- a node with a tag that is no collection of the variant's own
 module _ (source : Source) (read : Way → Reader) (way : Way) (nest : ℕ) (around : TakenBy) (at : Spot) where
-  pub other_in_fields : (strict : Bool) (name variant : List ℕ) (fields : Fields) (e : PlainDocEvent) (m : Position)
+  pub other_in_fields : (strict : Bool) (owner : Owner) (fields : Fields) (e : PlainDocEvent) (m : Position)
       (tag : List ℕ)
-      → untaken_name false e ≡ Some tag → takes (struct_variant_shape strict name variant fields) e ≡ false
-      → event_at source read way (struct_variant_shape strict name variant fields) nest (Some around) at e m
-      ≡ ending (after at) (other_answer (struct_variant_shape strict name variant fields) e)
-  other_in_fields strict name variant fields (alias_to j) m tag h other = absurd cc
-  other_in_fields strict name variant fields (a_scalar w) m tag h other = refl
-  other_in_fields strict name variant fields (sequence_begins own) m tag h other = refl
-  other_in_fields strict name variant fields sequence_ends m tag h other = absurd cc
-  other_in_fields strict name variant fields (mapping_begins own) m tag h other = absurd cc
-  other_in_fields strict name variant fields mapping_ends m tag h other = absurd cc
-  other_in_fields strict name variant fields a_void m tag h other = absurd cc
+      → untaken_name false e ≡ Some tag → takes (fields_shape strict owner fields) e ≡ false
+      → event_at source read way (fields_shape strict owner fields) nest (Some around) at e m
+      ≡ ending (after at) (other_answer (fields_shape strict owner fields) e)
+  other_in_fields strict owner fields (alias_to j) m tag h other = absurd cc
+  other_in_fields strict owner fields (a_scalar w) m tag h other = refl
+  other_in_fields strict owner fields (sequence_begins own) m tag h other = refl
+  other_in_fields strict owner fields sequence_ends m tag h other = absurd cc
+  other_in_fields strict owner fields (mapping_begins own) m tag h other = absurd cc
+  other_in_fields strict owner fields mapping_ends m tag h other = absurd cc
+  other_in_fields strict owner fields a_void m tag h other = absurd cc
 
 -- an event that is no start of a mapping is no collection of a variant's fields, and none of a sequence of its elements
 pub no_mapping_starts : (e : DocEvent) → ((s : DocStart) → e ≡ event.MappingStart s → ⊥)
-    → (strict : Bool) (name variant : List ℕ) (fields : Fields)
-    → takes (struct_variant_shape strict name variant fields) (doc_event_of e) ≡ false
-no_mapping_starts (event.Alias j) h strict name variant fields = refl
-no_mapping_starts (event.Scalar w) h strict name variant fields = refl
-no_mapping_starts (event.SequenceStart s) h strict name variant fields = refl
-no_mapping_starts event.SequenceEnd h strict name variant fields = refl
-no_mapping_starts (event.MappingStart s) h strict name variant fields = absurd (h s refl)
-no_mapping_starts event.MappingEnd h strict name variant fields = refl
-no_mapping_starts event.Void h strict name variant fields = refl
+    → (strict : Bool) (owner : Owner) (fields : Fields)
+    → takes (fields_shape strict owner fields) (doc_event_of e) ≡ false
+no_mapping_starts (event.Alias j) h strict owner fields = refl
+no_mapping_starts (event.Scalar w) h strict owner fields = refl
+no_mapping_starts (event.SequenceStart s) h strict owner fields = refl
+no_mapping_starts event.SequenceEnd h strict owner fields = refl
+no_mapping_starts (event.MappingStart s) h strict owner fields = absurd (h s refl)
+no_mapping_starts event.MappingEnd h strict owner fields = refl
+no_mapping_starts event.Void h strict owner fields = refl
 
 -- ---- any values
 -- a tag whose name is told is not taken

@@ -8,7 +8,8 @@ use Rattle.yaml_base.specs.declared.error.Cause.{Cause}
 use Rattle.yaml_base.specs.declared.error.Cause.TheVariants.{EndOfStream}
 use Rattle.yaml_shape.specs.DataView.{data_of, entry_of, items_of, entries_of}
 use Rattle.yaml_shape.specs.PlainData.{PlainData, seq_data, map_data, some_data, newtype_data}
-use Rattle.yaml_shape.specs.PlainShape.{PlainShape, option_shape, newtype_shape, seq_shape, map_shape, shape_at}
+use Rattle.yaml_shape.specs.PlainShape.{PlainShape, option_shape, newtype_shape, seq_shape, row_shape, map_shape, Owner}
+use Rattle.yaml_shape.specs.PlainShape.{shape_at}
 use Rattle.yaml_shape.specs.declared.data.Entry.{Entry, the_lemmas}
 use Rattle.yaml_load.specs.DocEventView.{doc_event_of}
 use Rattle.yaml_load.specs.PlainDocEvent.{PlainDocEvent, sequence_begins, mapping_begins}
@@ -17,9 +18,8 @@ use Rattle.yaml_scalar.specs.Steps.{ending, wrap, finish, with_shape}
 use Rattle.yaml_read.specs.Handing.{Handing, as_is, handed, early, is_content}
 use Rattle.yaml_read.specs.Rows.{row_of, row_data}
 use Rattle.yaml_read.specs.TreeReader.{Spot, after}
-use Rattle.yaml_read.specs.inner.Reader.{is_sequence_end, is_mapping_end, row_shape, few_text, owner_named, of_tuple}
-use Rattle.yaml_read.specs.inner.Reader.{of_tuple_struct, item_at, entry_at, row_at, sequence_parts, mapping_parts}
-use Rattle.yaml_read.specs.inner.Reader.{handed_at, shape_step}
+use Rattle.yaml_read.specs.inner.Reader.{is_sequence_end, is_mapping_end, item_at, entry_at, row_at, sequence_parts}
+use Rattle.yaml_read.specs.inner.Reader.{mapping_parts, handed_at, shape_step}
 use Rattle.yaml_read.specs.declared.de.node.source.Source.{Source as CodeSource}
 use Rattle.yaml_read.specs.declared.walk.Walk.{Walk}
 use Rattle.yaml_read.specs.inner.Questions.{Question, by_step, by_shape, by_event}
@@ -60,11 +60,10 @@ not_mapping_end event.Void h = refl
 pub entry_is : (e : Entry) → entry_of e ≡ (data_of e.key, data_of e.value)
 entry_is e = search (rules, the_lemmas)
 
--- a tuple hands nothing on
-pub row_as_is : (s : PlainShape) (name : Option (List ℕ)) (ids : List ℕ) (taken : Bool) (e : PlainDocEvent) → s
-    ≡ row_shape name ids → handed s taken e ≡ as_is
-row_as_is s None ids taken e h = rw h
-row_as_is s (Some name) ids taken e h = rw h
+-- a row hands nothing on
+pub row_as_is : (s : PlainShape) (owner : Owner) (ids : List ℕ) (taken : Bool) (e : PlainDocEvent)
+    → s ≡ row_shape owner ids → handed s taken e ≡ as_is
+row_as_is s owner ids taken e h = rw h
 
 module _ (code : CodeSource) (fuel : ℕ) (q : Question) (walk : Walk) where
   -- no fault comes first
@@ -125,20 +124,15 @@ module _ (code : CodeSource) (fuel : ℕ) (q : Question) (walk : Walk) where
       (sequence_parts (source_of code) (item_at (reader_of fuel code) q.way s n) (length code.events.now) []
       (after (spot_of walk))))) q.nest some ∙ (rw there))
 
-  -- a tuple
-  pub step_row : (name : Option (List ℕ)) (ids : List ℕ) (tag : Option (List ℕ)) (m : Position) → q.shape ≡ row_shape
-      name ids
+  -- a row
+  pub step_row : (owner : Owner) (ids : List ℕ) (tag : Option (List ℕ)) (m : Position) → q.shape ≡ row_shape owner ids
       → Some (sequence_begins tag, m) ≡ seen code.events.now walk.place → 0 < q.nest
       → by_shape code fuel q walk
-      ≡ finish (row_data (few_text (owner_named name) (length ids)) (length ids))
+      ≡ finish (row_data owner (length ids))
       (sequence_parts (source_of code) (row_at (source_of code) (reader_of fuel code) q.way (q.nest - 1))
       (length code.events.now) (row_of ids) (after (spot_of walk)))
-  step_row None ids tag m o is some =
-      rw (← is, o) (entered m (λ n. finish (row_data (few_text of_tuple (length ids)) (length ids))
-      (sequence_parts (source_of code) (row_at (source_of code) (reader_of fuel code) q.way n) (length code.events.now)
-      (row_of ids) (after (spot_of walk)))) q.nest some)
-  step_row (Some name) ids tag m o is some =
-      rw (← is, o) (entered m (λ n. finish (row_data (few_text (of_tuple_struct name) (length ids)) (length ids))
+  step_row owner ids tag m o is some =
+      rw (← is, o) (entered m (λ n. finish (row_data owner (length ids))
       (sequence_parts (source_of code) (row_at (source_of code) (reader_of fuel code) q.way n) (length code.events.now)
       (row_of ids) (after (spot_of walk)))) q.nest some)
 

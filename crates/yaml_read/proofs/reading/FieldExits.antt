@@ -7,7 +7,7 @@ use Rattle.yaml_base.specs.Answer.{Gives}
 use Rattle.yaml_base.specs.Position.{Position}
 use Rattle.yaml_base.specs.declared.error.Cause.{Cause}
 use Rattle.yaml_shape.specs.PlainData.{PlainData}
-use Rattle.yaml_shape.specs.PlainShape.{PlainShape, identifier_shape, struct_shape, struct_variant_shape, shape_at}
+use Rattle.yaml_shape.specs.PlainShape.{PlainShape, identifier_shape, fields_shape, shape_at}
 use Rattle.yaml_load.specs.PlainDocEvent.{PlainDocEvent, mapping_begins}
 use Rattle.yaml_scalar.specs.Steps.{◌>>=◌, wrap, finish}
 use Rattle.yaml_read.specs.Fields.{Fields, Slots, no_slots, name_in, field_named, struct_of}
@@ -23,11 +23,10 @@ use Rattle.yaml_read.specs.inner.Walks.{source_of, reader_of, spot_of, seen}
 use Rattle.yaml_read.proofs.reading.Loops.{entered}
 use Rattle.yaml_read.proofs.reading.Exits.{step_event}
 
--- a struct hands nothing on but what is bare
+-- fields hand nothing on but what is bare
 pub fields_as_is : (s : PlainShape) (f : Bool × Fields) (taken : Bool) (e : PlainDocEvent) → fields_in s ≡ Some f
     → is_bare e ≡ false → handed s taken e ≡ as_is
-fields_as_is (struct_shape strict name fields) f taken e h b = rw b refl
-fields_as_is (struct_variant_shape strict name variant fields) f taken e h b = rw b refl
+fields_as_is (fields_shape strict owner fields) f taken e h b = rw b refl
 fields_as_is _ f taken e h b = absurd cc
 
 pair_is : {x y : Bool × Fields} → Some x ≡ Some y → x ≡ y
@@ -37,13 +36,11 @@ module _ (source : Source) (read : Way → Reader) (way : Way) where
   pub fields_mapping : (s : PlainShape) (strict : Bool) (fields : Fields) (nest : ℕ) (mark : Position) (at : Spot)
       → fields_in s ≡ Some (strict, fields)
       → mapping_at source read way s nest mark at ≡ fields_at source read way strict fields nest mark at
-  fields_mapping (struct_shape strict' name fields') strict fields nest mark at h =
-      ap (λ (f : Bool × Fields). fields_at source read way f.0 f.1 nest mark at) (pair_is h)
-  fields_mapping (struct_variant_shape strict' name variant fields') strict fields nest mark at h =
+  fields_mapping (fields_shape strict' owner fields') strict fields nest mark at h =
       ap (λ (f : Bool × Fields). fields_at source read way f.0 f.1 nest mark at) (pair_is h)
   fields_mapping _ strict fields nest mark at h = absurd cc
 
--- a struct
+-- fields
 pub step_struct : (code : CodeSource) (fuel : ℕ) (q : Question) (walk : Walk) (strict : Bool) (fields : Fields)
     (tag : Option (List ℕ)) (m : Position) → fields_in q.shape ≡ Some (strict, fields)
     → Some (mapping_begins tag, m) ≡ seen code.events.now walk.place → 0 < q.nest

@@ -161,10 +161,10 @@ module _ (table : List PlainShape) (events all : Events) (ends all_ends : ℕ �
         (λ k e. grows_field slots k.0.0 _ _ _ _
         (λ id. grows_with (shape_at table id) _ _ (λ s. grows k.0.1 s nest None k.1)) (grows_skip k.1))
 
-    grows_rows : (way : Way) (few ids : List ℕ) (nest : ℕ) (mark : Position) (at : Spot)
-        → Grows (rows_at front read way few ids nest mark at) (rows_at full other way few ids nest mark at)
-    grows_rows way few ids nest mark at =
-        grows_enter nest mark _ _ (λ n. grows_finish (row_data few (length ids)) _ _
+    grows_rows : (way : Way) (owner : shape.Owner) (ids : List ℕ) (nest : ℕ) (mark : Position) (at : Spot)
+        → Grows (rows_at front read way owner ids nest mark at) (rows_at full other way owner ids nest mark at)
+    grows_rows way owner ids nest mark at =
+        grows_enter nest mark _ _ (λ n. grows_finish (row_data owner (length ids)) _ _
         (grows_each is_sequence_end (row_at front read way n) (row_at full other way n) (grows_row_part way n)
         size whole (row_of ids) at larger))
 
@@ -183,9 +183,7 @@ module _ (table : List PlainShape) (events all : Events) (ends all_ends : ℕ �
         grows_wrap (λ vs. seq_data (items_of vs)) _ _
         (grows_each is_sequence_end (item_at read way s n) (item_at other way s n) (grows_item way s n) size whole []
         at larger)))
-    grows_sequence way (shape.tuple_shape ids) nest mark at = grows_rows way _ ids nest mark at
-    grows_sequence way (shape.tuple_struct_shape name ids) nest mark at = grows_rows way _ ids nest mark at
-    grows_sequence way (shape.tuple_variant_shape name variant ids) nest mark at = grows_rows way _ ids nest mark at
+    grows_sequence way (shape.row_shape owner ids) nest mark at = grows_rows way owner ids nest mark at
     grows_sequence way shape.any_shape nest mark at =
         grows_enter nest mark _ _ (λ n. grows_wrap (λ vs. any_data (sequence (trees_in (items_of vs)))) _ _
         (grows_each is_sequence_end (item_at read way shape.any_shape n) (item_at other way shape.any_shape n)
@@ -199,9 +197,7 @@ module _ (table : List PlainShape) (events all : Events) (ends all_ends : ℕ �
         grows_wrap (λ vs. map_data (entries_of vs)) _ _
         (grows_each is_mapping_end (entry_at front read way s t n) (entry_at full other way s t n)
         (grows_entry way s t n) size whole [] at larger))))
-    grows_mapping way (shape.struct_shape strict name fields) nest mark at =
-        grows_fields way strict fields nest mark at
-    grows_mapping way (shape.struct_variant_shape strict name variant fields) nest mark at =
+    grows_mapping way (shape.fields_shape strict owner fields) nest mark at =
         grows_fields way strict fields nest mark at
     grows_mapping way shape.any_shape nest mark at =
         grows_enter nest mark _ _ (λ n. grows_wrap (λ vs. any_data (tree.mapping (pairs_in (entries_of vs)))) _ _

@@ -1,14 +1,13 @@
 -- Which shapes hand a node on, and as what.
 use Rattle.std.proofs.Common.{◌≡◌, ℕ, List, Option, Some, None, Bool, true, false, refl, subst, if◌then◌else◌}
-use Rattle.yaml_shape.specs.PlainShape.{PlainShape, any_shape, option_shape, newtype_shape, ignored_shape, struct_shape}
-use Rattle.yaml_shape.specs.PlainShape.{struct_variant_shape, enum_shape, PlainVariant}
+use Rattle.yaml_shape.specs.PlainShape.{PlainShape, any_shape, option_shape, newtype_shape, fields_shape, enum_shape}
+use Rattle.yaml_shape.specs.PlainShape.{ignored_shape, Owner, PlainVariant}
 use Rattle.yaml_load.specs.PlainDocEvent.{PlainDocEvent}
 use Rattle.yaml_scalar.specs.Variants.{Variants, variant_named}
 use Rattle.yaml_read.specs.Handing.{Handing, as_is, as_some, as_newtype, as_ignored, as_bare, as_variant, as_tagged}
 use Rattle.yaml_read.specs.Handing.{as_refused}
 use Rattle.yaml_read.specs.Handing.{handed, is_content, is_bare, is_filled_scalar, any_by, enum_by, variant_by}
 use Rattle.yaml_read.specs.NodeTags.{untaken_name}
-use Rattle.yaml_read.specs.inner.Reader.{fields_in}
 
 -- what is handed on as something is handed on by a shape that has it, from an event that has it
 abbrev pub From : PlainShape → (taken : Bool) → PlainDocEvent → Handing → Type 0
@@ -16,7 +15,8 @@ From s taken e as_is = Unit {0}
 From s taken e (as_some c) = s ≡ option_shape c
 From s taken e (as_newtype c) = (name : List ℕ) × (s ≡ newtype_shape name c)
 From s taken e as_ignored = s ≡ ignored_shape
-From s taken e (as_bare fields) = (strict : Bool) × (fields_in s ≡ Some (strict, fields)) × (is_bare e ≡ true)
+From s taken e (as_bare fields) =
+    (strict : Bool) × (owner : Owner) × (s ≡ fields_shape strict owner fields) × (is_bare e ≡ true)
 From s taken e (as_variant place around content) =
     (variants : Variants) × (s ≡ enum_shape around.name variants)
     × (variant_named variants around.variant ≡ Some (place, content)) × (taken ≡ false)
@@ -32,17 +32,11 @@ handed_from (option_shape c) taken e = chosen (is_content taken e)
     chosen false = tt
 handed_from (newtype_shape name inner) taken e = (name, refl)
 handed_from ignored_shape taken e = refl
-handed_from (struct_shape strict name fields) taken e = chosen (is_bare e) refl
+handed_from (fields_shape strict owner fields) taken e = chosen (is_bare e) refl
   where
     chosen : (b : Bool) → is_bare e ≡ b
-        → From (struct_shape strict name fields) taken e (if b then as_bare fields else as_is)
-    chosen true is = (strict, refl, is)
-    chosen false is = tt
-handed_from (struct_variant_shape strict name variant fields) taken e = chosen (is_bare e) refl
-  where
-    chosen : (b : Bool) → is_bare e ≡ b
-        → From (struct_variant_shape strict name variant fields) taken e (if b then as_bare fields else as_is)
-    chosen true is = (strict, refl, is)
+        → From (fields_shape strict owner fields) taken e (if b then as_bare fields else as_is)
+    chosen true is = (strict, owner, refl, is)
     chosen false is = tt
 handed_from any_shape true e = tt
 handed_from any_shape false e = by_name (untaken_name false e)

@@ -2,7 +2,7 @@
 use Rattle.std.proofs.Common.{◌≡◌, ℕ, List, Some, Bool, true, refl, ◌&&◌}
 use Rattle.yaml_shape.specs.HasShape.{has_shape, all_have, entries_have, each_has}
 use Rattle.yaml_shape.specs.PlainData.{PlainData, PlainItems, PlainEntries}
-use Rattle.yaml_shape.specs.PlainShape.{PlainShape, struct_shape, struct_variant_shape, shape_at}
+use Rattle.yaml_shape.specs.PlainShape.{PlainShape, shape_at}
 use Rattle.yaml_load.specs.DocTree.{DocNode, DocNodes, DocPairs, first_event}
 use Rattle.yaml_load.specs.PlainDocEvent.{PlainDocEvent}
 use Rattle.yaml_scalar.proofs.OfShape.{is_of, of_shape, content_has}
@@ -12,10 +12,9 @@ use Rattle.yaml_read.specs.Fields.{Fields, Slots, no_slots, name_in}
 use Rattle.yaml_read.specs.Handing.{Handing}
 use Rattle.yaml_read.specs.Meaning.{Means, means_node, MeansAs, means_some, means_newtype, means_ignored, means_target}
 use Rattle.yaml_read.specs.Meaning.{means_void, means_scalar, means_list, means_mapping}
-use Rattle.yaml_read.specs.Meaning.{means_bare, means_struct, MeanFields, means_no_fields, means_field, means_unknown}
-use Rattle.yaml_read.specs.Meaning.{means_variant, means_tagged, means_tuple_variant, means_any_list}
-use Rattle.yaml_read.specs.Meaning.{means_struct_variant, means_any_mapping}
-use Rattle.yaml_read.specs.Meaning.{MeansList, means_seq, means_tuple, means_tuple_struct, MeansPairs, means_map}
+use Rattle.yaml_read.specs.Meaning.{means_bare, means_fields, MeanFields, means_no_fields, means_field, means_unknown}
+use Rattle.yaml_read.specs.Meaning.{means_variant, means_tagged, means_any_list, means_any_mapping}
+use Rattle.yaml_read.specs.Meaning.{MeansList, means_seq, means_row, MeansPairs, means_map}
 use Rattle.yaml_read.specs.Meaning.{MeanEach, means_none, means_more, MeanRow, means_no_elements, means_element}
 use Rattle.yaml_read.specs.Meaning.{MeanPairs, means_no_pairs, means_pair}
 use Rattle.yaml_read.proofs.FieldLaws.{Fit, none_fit, set_fit, struct_has_shape}
@@ -43,7 +42,7 @@ module _ (table : List PlainShape) where
           rw (from.1) (of_shape table c t v there (meaning_of m))
       as_has (means_ignored {s} {n} {taken}) e from = rw from refl
       as_has (means_bare {fields} {s} {n} {taken} {v} made) e from =
-          struct_has_shape table s from.0 fields (no_slots fields) v from.1 (none_fit table fields) made
+          rw from.2 (struct_has_shape table from.0 from.1 fields (no_slots fields) v (none_fit table fields) made)
       as_has (means_variant {place} {around} {content} {s} {t} {n} {taken} {v} there m) e from =
           rw (from.1) (variant_has table around.name from.0 around.variant (place, content) v from.2
           (content_has table around.name around.variant content t v there (meaning_of m)))
@@ -57,20 +56,14 @@ module _ (table : List PlainShape) where
       list_has : {s : PlainShape} {ns : DocNodes} {v : PlainData} {d k : ℕ} → MeansList table root s ns v d k
           → is_of table s v ≡ true
       list_has (means_seq {e} there m) = each_has_shape m e there
-      list_has (means_tuple m) = row_has m
-      list_has (means_tuple_struct m) = row_has m
-      list_has (means_tuple_variant m) = row_has m
+      list_has (means_row m) = row_has m
       list_has (means_any_list m) = refl
 
       mapping_has : {s : PlainShape} {ps : DocPairs} {v : PlainData} {d k : ℕ} → MeansPairs table root s ps v d k
           → is_of table s v ≡ true
       mapping_has (means_map {a} {b} there there' m) = pairs_have m a b there there'
-      mapping_has (means_struct {strict} {name} {fields} {slots} {v} m made) =
-          struct_has_shape table (struct_shape strict name fields) strict fields slots v refl
-          (fields_fit m (none_fit table fields)) made
-      mapping_has (means_struct_variant {strict} {name} {variant} {fields} {slots} {v} m made) =
-          struct_has_shape table (struct_variant_shape strict name variant fields) strict fields slots v refl
-          (fields_fit m (none_fit table fields)) made
+      mapping_has (means_fields {strict} {owner} {fields} {slots} {v} m made) =
+          struct_has_shape table strict owner fields slots v (fields_fit m (none_fit table fields)) made
       mapping_has (means_any_mapping m apart) = refl
 
       each_has_shape : {s : PlainShape} {ns : DocNodes} {vs : PlainItems} {d k : ℕ} → MeanEach table root s ns vs d k

@@ -13,10 +13,9 @@ use Rattle.yaml_read.specs.Fields.{Fields, Slots, find, name_in, struct_of}
 use Rattle.yaml_read.specs.Handing.{Handing, as_ignored}
 use Rattle.yaml_read.specs.Meaning.{Means, means_node, MeansAs, means_some, means_newtype, means_ignored, means_target}
 use Rattle.yaml_read.specs.Meaning.{means_void, means_scalar, means_list, means_mapping}
-use Rattle.yaml_read.specs.Meaning.{means_bare, means_struct, MeanFields, means_no_fields, means_field, means_unknown}
-use Rattle.yaml_read.specs.Meaning.{means_variant, means_tagged, means_tuple_variant, means_any_list}
-use Rattle.yaml_read.specs.Meaning.{means_struct_variant, means_any_mapping}
-use Rattle.yaml_read.specs.Meaning.{MeansList, means_seq, means_tuple, means_tuple_struct, MeansPairs, means_map}
+use Rattle.yaml_read.specs.Meaning.{means_bare, means_fields, MeanFields, means_no_fields, means_field, means_unknown}
+use Rattle.yaml_read.specs.Meaning.{means_variant, means_tagged, means_any_list, means_any_mapping}
+use Rattle.yaml_read.specs.Meaning.{MeansList, means_seq, means_row, MeansPairs, means_map}
 use Rattle.yaml_read.specs.Meaning.{MeanEach, means_none, means_more, MeanRow, means_no_elements, means_element}
 use Rattle.yaml_read.specs.Meaning.{MeanPairs, means_no_pairs, means_pair}
 use Rattle.yaml_read.proofs.FieldLaws.{same_place, same_number}
@@ -83,13 +82,7 @@ module _ (table : List PlainShape) (root : DocNode) where
         let same : s ≡ s' = cc in
         let r = each_means_one m (rw (← same) at m') in
         record { data_is = ap seq_data r.data_is; nestings = r.nestings; follows = r.follows }
-    one_list (means_tuple m) (means_tuple m') =
-        let r = row_means_one m m' in
-        record { data_is = ap tuple_data r.data_is; nestings = r.nestings; follows = r.follows }
-    one_list (means_tuple_struct m) (means_tuple_struct m') =
-        let r = row_means_one m m' in
-        record { data_is = ap tuple_data r.data_is; nestings = r.nestings; follows = r.follows }
-    one_list (means_tuple_variant m) (means_tuple_variant m') =
+    one_list (means_row m) (means_row m') =
         let r = row_means_one m m' in
         record { data_is = ap tuple_data r.data_is; nestings = r.nestings; follows = r.follows }
     one_list (means_any_list m) (means_any_list m') =
@@ -107,11 +100,7 @@ module _ (table : List PlainShape) (root : DocNode) where
         let same' : t ≡ t' = cc in
         let r = pairs_mean_one m (rw (← same, ← same') at m') in
         record { data_is = ap map_data r.data_is; nestings = r.nestings; follows = r.follows }
-    one_mapping (means_struct {fields} m e) (means_struct m' e') =
-        let r = fields_mean_one m m' in
-        let made = sym e ∙ ap (struct_of table fields) r.data_is ∙ e' in
-        record { data_is = ok_is made; nestings = r.nestings; follows = r.follows }
-    one_mapping (means_struct_variant {fields} m e) (means_struct_variant m' e') =
+    one_mapping (means_fields {fields} m e) (means_fields m' e') =
         let r = fields_mean_one m m' in
         let made = sym e ∙ ap (struct_of table fields) r.data_is ∙ e' in
         record { data_is = ok_is made; nestings = r.nestings; follows = r.follows }

@@ -5,7 +5,7 @@ use Rattle.std.specs.Prelude.{max, set}
 use Rattle.yaml_base.specs.Position.{Position}
 use Rattle.yaml_base.specs.declared.error.Place.{Place}
 use Rattle.yaml_shape.specs.PlainData.{PlainData, PlainItems, PlainEntries, tuple_data}
-use Rattle.yaml_shape.specs.PlainShape.{PlainShape, any_shape, shape_at, identifier_shape}
+use Rattle.yaml_shape.specs.PlainShape.{PlainShape, any_shape, identifier_shape, Owner, shape_at}
 use Rattle.yaml_tree.specs.Mapping.{keys_distinct}
 use Rattle.yaml_load.specs.DocTree.{DocNode, DocNodes, DocPairs, node, pair, first_event}
 use Rattle.yaml_scalar.specs.Steps.{◌>>=◌}
@@ -20,15 +20,15 @@ use Rattle.yaml_read.proofs.reading.Outcomes.{Outcome, entered, wrapped, finishe
 use Rattle.yaml_read.proofs.reading.Outcomes.{items_listed, entry_list_of}
 
 module _ (table : List PlainShape) (marks : ℕ → Position) (read : Way → TreeReader) (way : Way) where
-  -- a tuple, from its elements
-  pub row_outcome : (few ids : List ℕ) (ns : DocNodes) (vs : PlainItems) (nest : ℕ) (at : Spot) (mark : Position)
-      (d k : ℕ)
+  -- a row, from its elements
+  pub row_outcome : (owner : Owner) (ids : List ℕ) (ns : DocNodes) (vs : PlainItems) (nest : ℕ) (at : Spot)
+      (mark : Position) (d k : ℕ)
       → ((n : ℕ) → nest ≡ suc n → Outcome (each_node (row_part table read way n) (row_of ids) ns (after at))
       (record { left = []; read = list_of vs; extra = 0 }) n at.left d k)
-      → Outcome (row_by table read way few ids nest mark ns (after at)) (tuple_data vs) nest at.left (suc d) k
-  row_outcome few ids ns vs nest at mark d k h =
+      → Outcome (row_by table read way owner ids nest mark ns (after at)) (tuple_data vs) nest at.left (suc d) k
+  row_outcome owner ids ns vs nest at mark d k h =
       entered _ (tuple_data vs) mark nest at.left d k (λ n is.
-      finished (row_data few (length ids)) _ (record { left = []; read = list_of vs; extra = 0 })
+      finished (row_data owner (length ids)) _ (record { left = []; read = list_of vs; extra = 0 })
       (tuple_data vs) n at.left d k (h n is) (ap (λ ws. Ok (tuple_data ws)) (items_listed vs)))
 
   -- the fields of a struct, from its pairs

@@ -17,7 +17,7 @@ use Rattle.yaml_shape.specs.HasShape.{passes}
 use Rattle.yaml_shape.specs.IntegerTypes.{has_sign, least, greatest, bits_of}
 use Rattle.yaml_shape.specs.Expected.{integer_text}
 use Rattle.yaml_shape.specs.PlainData.{PlainData, bool_data, char_data, none_data}
-use Rattle.yaml_shape.specs.PlainShape.{PlainShape, PlainVariant, IntegerType, shape_at}
+use Rattle.yaml_shape.specs.PlainShape.{IntegerType, PlainShape, shape_at, PlainVariant}
 use Rattle.yaml_shape.specs.PlainShape as shape
 use Rattle.yaml_tree.specs.Integer.{is_number}
 use Rattle.yaml_tree.specs.Mapping.{has_key}
@@ -155,14 +155,11 @@ module _ {m : Bool} where
   own_scalar shape.unit_shape taken w = own_absent (is_absent taken w) _ w
   own_scalar (shape.unit_struct_shape n) taken w = own_absent (is_absent taken w) _ w
   own_scalar (shape.seq_shape e) taken w = own_empty _ (shape.seq_shape e) taken w (own_value _)
-  own_scalar (shape.tuple_shape ids) taken w = own_empty _ (shape.tuple_shape ids) taken w (own_elements ids _)
-  own_scalar (shape.tuple_struct_shape n ids) taken w =
-      own_empty _ (shape.tuple_struct_shape n ids) taken w (own_elements ids _)
+  own_scalar (shape.row_shape owner ids) taken w =
+      own_empty _ (shape.row_shape owner ids) taken w (own_elements ids _)
   own_scalar (shape.map_shape k v) taken w = own_empty _ (shape.map_shape k v) taken w (own_value _)
   own_scalar (shape.enum_shape n vs) taken w =
       own_option (named_variant vs) (text_of w) _ (own_named_variant vs) (own_fault _ tt)
-  own_scalar (shape.tuple_variant_shape n v ids) taken w =
-      own_empty _ (shape.tuple_variant_shape n v ids) taken w (own_elements ids _)
   own_scalar other taken w = own_scalar_fault other taken w
 
   pub own_void : (s : PlainShape) → OwnIf m (void_answer s)
@@ -172,10 +169,8 @@ module _ {m : Bool} where
   own_void shape.unit_shape = own_value _
   own_void (shape.unit_struct_shape n) = own_value _
   own_void (shape.seq_shape e) = own_value _
-  own_void (shape.tuple_shape ids) = own_elements ids _
-  own_void (shape.tuple_struct_shape n ids) = own_elements ids _
+  own_void (shape.row_shape owner ids) = own_elements ids _
   own_void (shape.map_shape k v) = own_value _
-  own_void (shape.tuple_variant_shape n v ids) = own_elements ids _
   own_void _ = own_fault _ tt
 
   -- ---- parts
@@ -218,13 +213,13 @@ module _ {m : Bool} where
       (row : Row) → ((id : ℕ) → OwnIf m (read id)) → OwnIf m skip → OwnIf m (one_more read skip row)
   own_one_more read skip row h k = own_row_step row.left row.read row.extra read skip h k
 
-  own_row_end : (few : List ℕ) (count : ℕ) (ids : List ℕ) (vs : List PlainData) (extra : ℕ)
-      → OwnIf m (row_end few count ids vs extra)
-  own_row_end few count [] vs extra = own_if (extra == 0) _ _ (own_value _) (own_fault _ tt)
-  own_row_end few count (id ∷ ids) vs extra = own_fault _ tt
+  own_row_end : (owner : shape.Owner) (count : ℕ) (ids : List ℕ) (vs : List PlainData) (extra : ℕ)
+      → OwnIf m (row_end owner count ids vs extra)
+  own_row_end owner count [] vs extra = own_if (extra == 0) _ _ (own_value _) (own_fault _ tt)
+  own_row_end owner count (id ∷ ids) vs extra = own_fault _ tt
 
-  pub own_row : (few : List ℕ) (count : ℕ) (row : Row) → OwnIf m (row_data few count row)
-  own_row few count row = own_row_end few count row.left row.read row.extra
+  pub own_row : (owner : shape.Owner) (count : ℕ) (row : Row) → OwnIf m (row_data owner count row)
+  own_row owner count row = own_row_end owner count row.left row.read row.extra
 
   pub own_new_key : (before : List (PlainData × PlainData)) (k : PlainData) → OwnIf m (new_key before k)
   own_new_key before k =

@@ -95,13 +95,13 @@ module _ (source : Source) (read : Way → Reader)
       (λ k. own_bind _ _ (own_named strict fields slots _ _) (λ f. own_value _)))
       (λ k. own_field_step slots k.0.0 _ _ (λ id. own_with_shape _ _ (λ s. own k.0.1 s nest None k.1)) (own_skip k.1))
 
-  own_rows : (way : Way) (few ids : List ℕ) (nest : ℕ) (mark : Position) (at : Spot)
-      → Own (rows_at source read way few ids nest mark at)
-  own_rows way few ids nest mark at =
+  own_rows : (way : Way) (owner : shape.Owner) (ids : List ℕ) (nest : ℕ) (mark : Position) (at : Spot)
+      → Own (rows_at source read way owner ids nest mark at)
+  own_rows way owner ids nest mark at =
       own_enter nest mark _ (λ n. own_finish _ _
       (own_each is_sequence_end (row_at source read way n) (own_row_part way n) source.events source.size
       (row_of ids) at)
-      (own_row few (length ids)))
+      (own_row owner (length ids)))
 
   own_fields_of : (way : Way) (strict : Bool) (fields : Fields) (nest : ℕ) (mark : Position) (at : Spot)
       → Own (fields_at source read way strict fields nest mark at)
@@ -117,9 +117,7 @@ module _ (source : Source) (read : Way → Reader)
       own_enter nest mark _ (λ n. own_with_shape _ _ (λ s. own_wrap _ _
       (own_each is_sequence_end (item_at read way s n) (λ vs at. own_wrap _ _ (own _ s n None at)) source.events
       source.size [] at)))
-  own_sequence way (shape.tuple_shape ids) nest mark at = own_rows way _ ids nest mark at
-  own_sequence way (shape.tuple_struct_shape name ids) nest mark at = own_rows way _ ids nest mark at
-  own_sequence way (shape.tuple_variant_shape name variant ids) nest mark at = own_rows way _ ids nest mark at
+  own_sequence way (shape.row_shape owner ids) nest mark at = own_rows way owner ids nest mark at
   own_sequence way shape.any_shape nest mark at =
       own_enter nest mark _ (λ n. own_wrap _ _
       (own_each is_sequence_end (item_at read way shape.any_shape n)
@@ -134,9 +132,7 @@ module _ (source : Source) (read : Way → Reader)
       (λ t. own_wrap (λ vs. map_data (entries_of vs)) _
       (own_each is_mapping_end (entry_at source read way s t n) (own_entry way s t n) source.events source.size
       [] at))))
-  own_mapping way (shape.struct_shape strict name fields) nest mark at = own_fields_of way strict fields nest mark at
-  own_mapping way (shape.struct_variant_shape strict name variant fields) nest mark at =
-      own_fields_of way strict fields nest mark at
+  own_mapping way (shape.fields_shape strict owner fields) nest mark at = own_fields_of way strict fields nest mark at
   own_mapping way shape.any_shape nest mark at =
       own_enter nest mark _ (λ n. own_wrap _ _
       (own_each is_mapping_end (any_entry_at source read way n) (own_any_entry way n) source.events source.size [] at))

@@ -1,8 +1,8 @@
 -- How many optionals may follow one another from a shape.
 use Rattle.std.proofs.Common.{◌≡◌, ℕ, ◌<◌, ◌≤◌, List, Option, Some, ap, arith}
-use Rattle.yaml_shape.specs.PlainShape.{PlainShape, PlainVariant, unit_variant, newtype_variant, tuple_variant}
-use Rattle.yaml_shape.specs.PlainShape.{struct_variant, unit_shape, tuple_variant_shape, struct_variant_shape}
-use Rattle.yaml_shape.specs.PlainShape.{option_shape, shape_at, content_shape}
+use Rattle.yaml_shape.specs.PlainShape.{PlainShape, option_shape, unit_shape, row_shape, fields_shape, of_variant}
+use Rattle.yaml_shape.specs.PlainShape.{shape_at, content_shape, PlainVariant, unit_variant, newtype_variant}
+use Rattle.yaml_shape.specs.PlainShape.{tuple_variant, struct_variant}
 use Rattle.yaml_shape.specs.Walks.{rank}
 use Rattle.yaml_read.specs.Handing.{reach}
 
@@ -30,6 +30,7 @@ module _ (table : List PlainShape) (small : (id : ℕ) → rank table id ≤ 409
   low_content name variant unit_variant s is = let e = ap (reach table) (shape_is unit_shape s is) in omega (arith, e)
   low_content name variant (newtype_variant inner) s is = low inner s is
   low_content name variant (tuple_variant items) s is = let e =
-      ap (reach table) (shape_is (tuple_variant_shape name variant items) s is) in omega (arith, e)
+      ap (reach table) (shape_is (row_shape (of_variant name variant) items) s is) in omega (arith, e)
   low_content name variant (struct_variant strict fields) s is =
-      let e = ap (reach table) (shape_is (struct_variant_shape strict name variant fields) s is) in omega (arith, e)
+      let e = ap (reach table) (shape_is (fields_shape strict (of_variant name variant) fields) s is) in
+      omega (arith, e)

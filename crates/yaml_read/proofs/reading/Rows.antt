@@ -1,4 +1,4 @@
--- What becomes of a tuple's elements, by how many there are.
+-- What becomes of a row's elements, by how many there are.
 use Rattle.std.proofs.Common.{◌≡◌, ℕ, zero, suc, ◌+◌, ◌<◌, ◌≤◌, Bool, true, false, List, [], ◌∷◌, length, None, Result}
 use Rattle.std.proofs.Common.{Ok, Err, refl, arith, ◌==◌}
 use Rattle.std.specs.Prelude.{if◌then◌else◌, drop}
@@ -6,19 +6,20 @@ use Rattle.std.proofs.lemmas.Bool.{eqb-true}
 use Rattle.yaml_base.specs.declared.error.Cause.{Cause}
 use Rattle.yaml_base.specs.declared.error.Cause.TheVariants.{InvalidLength}
 use Rattle.yaml_shape.specs.DataView.{items_of}
-use Rattle.yaml_shape.specs.Expected.{sequence_text}
+use Rattle.yaml_shape.specs.Expected.{sequence_text, few_text}
 use Rattle.yaml_shape.specs.PlainData.{PlainData, tuple_data}
+use Rattle.yaml_shape.specs.PlainShape.{Owner}
 use Rattle.yaml_read.specs.Rows.{row_end}
 
 -- too few
-pub row_short : (few : List ℕ) (count : ℕ) (ids : List ℕ) (vs : List PlainData) (extra i : ℕ) → i < length ids
-    → row_end few count (drop i ids) vs extra ≡ Err (InvalidLength (length vs) few None)
-row_short few count [] vs extra i lt = absurd (below_none i lt)
+pub row_short : (owner : Owner) (count : ℕ) (ids : List ℕ) (vs : List PlainData) (extra i : ℕ) → i < length ids
+    → row_end owner count (drop i ids) vs extra ≡ Err (InvalidLength (length vs) (few_text owner count) None)
+row_short owner count [] vs extra i lt = absurd (below_none i lt)
   where
     below_none : (i : ℕ) → i < 0 → ⊥
     below_none i lt = omega arith
-row_short few count (x ∷ xs) vs extra zero lt = refl
-row_short few count (x ∷ xs) vs extra (suc i) lt = row_short few count xs vs extra i (omega arith)
+row_short owner count (x ∷ xs) vs extra zero lt = refl
+row_short owner count (x ∷ xs) vs extra (suc i) lt = row_short owner count xs vs extra i (omega arith)
 
 pub drop_all : (xs : List ℕ) (i : ℕ) → length xs ≤ i → drop i xs ≡ []
 drop_all [] zero le = refl
@@ -27,14 +28,14 @@ drop_all (x ∷ xs) zero le = absurd (omega arith)
 drop_all (x ∷ xs) (suc i) le = drop_all xs i (omega arith)
 
 -- exactly as many as are asked for
-pub row_whole : (few : List ℕ) (count : ℕ) (ids : List ℕ) (vs : List PlainData) (extra : ℕ) → ids ≡ [] → extra ≡ 0
-    → row_end few count ids vs extra ≡ Ok (tuple_data (items_of vs))
-row_whole few count ids vs extra e z = rw (e, z)
+pub row_whole : (owner : Owner) (count : ℕ) (ids : List ℕ) (vs : List PlainData) (extra : ℕ) → ids ≡ [] → extra ≡ 0
+    → row_end owner count ids vs extra ≡ Ok (tuple_data (items_of vs))
+row_whole owner count ids vs extra e z = rw (e, z)
 
 -- too many
-pub row_long : (few : List ℕ) (count : ℕ) (ids : List ℕ) (vs : List PlainData) (extra : ℕ) → ids ≡ [] → (extra ≡ 0 → ⊥)
-    → row_end few count ids vs extra ≡ Err (InvalidLength (length vs + extra) (sequence_text count) None)
-row_long few count ids vs extra e some = rw e (chosen (extra == 0) refl)
+pub row_long : (owner : Owner) (count : ℕ) (ids : List ℕ) (vs : List PlainData) (extra : ℕ) → ids ≡ [] → (extra ≡ 0 → ⊥)
+    → row_end owner count ids vs extra ≡ Err (InvalidLength (length vs + extra) (sequence_text count) None)
+row_long owner count ids vs extra e some = rw e (chosen (extra == 0) refl)
   where
     chosen : (b : Bool) → (extra == 0) ≡ b
         → ◌≡◌ {A = Result PlainData Cause} (if b then Ok (tuple_data (items_of vs)) else Err

@@ -5,8 +5,7 @@ use Rattle.yaml_base.specs.Position.{Position}
 use Rattle.yaml_base.specs.declared.error.Cause.TheVariants.{Memory, EndOfStream}
 use Rattle.yaml_shape.specs.DataView.{entries_of}
 use Rattle.yaml_shape.specs.PlainData.{any_data, variant_data, map_data, some_data, newtype_data, ignored_data}
-use Rattle.yaml_shape.specs.PlainShape.{PlainShape, map_shape, struct_shape, any_shape, struct_variant_shape, shape_at}
-use Rattle.yaml_shape.specs.PlainShape.{content_shape}
+use Rattle.yaml_shape.specs.PlainShape.{PlainShape, any_shape, map_shape, fields_shape, shape_at, content_shape}
 use Rattle.yaml_tree.specs.Mapping.{keys_distinct}
 use Rattle.yaml_tree.specs.Tree.{tagged}
 use Rattle.yaml_tree.specs.Tree as tree_of
@@ -20,8 +19,8 @@ use Rattle.yaml_read.specs.Handing.{Handing, as_is, as_some, as_newtype, as_igno
 use Rattle.yaml_read.specs.Handing.{as_refused, handed, early, refusal}
 use Rattle.yaml_read.specs.NodeTags.{TakenBy, around_value}
 use Rattle.yaml_read.specs.Meaning.{Means, means_node, MeansAs, means_some, means_newtype, means_ignored, means_target}
-use Rattle.yaml_read.specs.Meaning.{means_void, means_scalar, means_mapping, means_bare, means_struct, means_variant}
-use Rattle.yaml_read.specs.Meaning.{means_tagged, means_struct_variant, means_any_mapping, means_map}
+use Rattle.yaml_read.specs.Meaning.{means_void, means_scalar, means_mapping, means_bare, means_variant, means_tagged}
+use Rattle.yaml_read.specs.Meaning.{means_any_mapping, means_map}
 use Rattle.yaml_read.specs.Places.{Way, places}
 use Rattle.yaml_read.specs.TreeReader.{any_key_of, Spot, after, each_pair, TreeReader, key_of, value_of, mapping_of}
 use Rattle.yaml_read.specs.TreeReader.{target_of, node_by, handed_by, read_tree}
@@ -54,14 +53,8 @@ module _ (table : List PlainShape) (root : DocNode) (marks : ℕ → Position) w
           nested = omega (arith, g.found.nested, nested);
           followed = g.found.followed;
         }))))
-    mapping_sound (struct_shape strict name fields) nest taken tag ps mark at =
-        struct_sound table root marks read sound way strict fields (struct_shape strict name fields) nest taken tag ps
-        mark at
-        (λ slots v d k m made. means_struct m made)
-    mapping_sound (struct_variant_shape strict name variant fields) nest taken tag ps mark at =
-        struct_sound table root marks read sound way strict fields (struct_variant_shape strict name variant fields)
-        nest taken tag ps mark at
-        (λ slots v d k m made. means_struct_variant m made)
+    mapping_sound (fields_shape strict owner fields) nest taken tag ps mark at =
+        struct_sound table root marks read sound way strict owner fields nest taken tag ps mark at
     mapping_sound any_shape nest taken tag ps mark at =
         data_enter _ nest mark _ (λ n nested. data_wrap _ (λ vs. any_data (tree_of.mapping (pairs_of vs)))
         (each_pair (any_key_of read way n) (value_of read any_shape n) [] ps at) (λ x is'.

@@ -4,13 +4,13 @@ use Rattle.std.specs.Prelude.{max, set}
 use Rattle.yaml_base.specs.Position.{Position}
 use Rattle.yaml_base.specs.declared.error.Place.{Place}
 use Rattle.yaml_shape.specs.PlainData.{PlainData}
-use Rattle.yaml_shape.specs.PlainShape.{PlainShape, identifier_shape, shape_at}
+use Rattle.yaml_shape.specs.PlainShape.{PlainShape, identifier_shape, fields_shape, Owner, shape_at}
 use Rattle.yaml_load.specs.DocTree.{DocNode, DocPairs, mapping, no_pairs, pair, first_event}
 use Rattle.yaml_scalar.specs.Steps.{◌>>=◌, with_shape}
 use Rattle.yaml_read.specs.Fields.{Fields, Slots, no_slots, name_in, field_named, struct_of}
 use Rattle.yaml_read.specs.Handing.{as_is}
-use Rattle.yaml_read.specs.Meaning.{MeansAs, means_mapping, MeanFields, means_no_fields, means_field, means_unknown}
-use Rattle.yaml_read.specs.Meaning.{MeansPairs}
+use Rattle.yaml_read.specs.Meaning.{MeansAs, means_mapping, means_fields, MeanFields, means_no_fields, means_field}
+use Rattle.yaml_read.specs.Meaning.{means_unknown}
 use Rattle.yaml_read.specs.Places.{Way, value_under, text_place}
 use Rattle.yaml_read.specs.TreeReader.{field_key, field_value, fields_by, Spot, behind, each_pair, TreeReader}
 use Rattle.yaml_read.proofs.FieldLaws.{named_found, named_unknown}
@@ -80,22 +80,19 @@ module _ (table : List PlainShape) (root : DocNode) (marks : ℕ → Position) (
       (field_sound strict fields nest m n ps slots at (λ after at. fields_sound strict fields nest ps after at)
       k is key o is'))))
 
-  -- the fields of a struct, whatever its shape is called
-  pub struct_sound : (strict : Bool) (fields : Fields) (s : PlainShape) (nest : ℕ) (taken : Bool)
+  -- fields, whosever they are
+  pub struct_sound : (strict : Bool) (owner : Owner) (fields : Fields) (nest : ℕ) (taken : Bool)
       (tag : Option (List ℕ)) (ps : DocPairs) (mark : Position) (at : Spot)
-      → ((slots : Slots) (v : PlainData) (d k : ℕ) → MeanFields table root strict fields
-      (no_slots fields) ps slots d k → struct_of table fields slots ≡ Ok v
-      → MeansPairs table root s ps v d k)
-      → IfData (λ x. Found (MeansAs table root as_is s (mapping tag ps) taken x.0) nest at.left x.1)
-      (fields_by table read marks way strict fields nest mark ps at)
-  struct_sound strict fields s nest taken tag ps mark at as_pairs =
+      → IfData (λ x. Found (MeansAs table root as_is (fields_shape strict owner fields) (mapping tag ps) taken x.0)
+      nest at.left x.1) (fields_by table read marks way strict fields nest mark ps at)
+  struct_sound strict owner fields nest taken tag ps mark at =
       data_enter _ nest mark _ (λ n nested. data_finish _ (struct_of table fields)
       (each_pair (field_key read marks way strict fields n) (field_value table read n) (no_slots fields) ps at)
       (λ x is v made. let f = fields_sound strict fields n ps (no_slots fields) at x is in
       record {
         d = suc f.d;
         k = f.k;
-        meaning = means_mapping (as_pairs x.0 v f.d f.k f.meaning made);
+        meaning = means_mapping (means_fields f.meaning made);
         nested = omega (arith, f.nested, nested);
         followed = f.followed;
       }))

@@ -7,21 +7,20 @@ use Rattle.yaml_base.specs.Position.{Position}
 use Rattle.yaml_base.specs.declared.error.Cause.{Cause}
 use Rattle.yaml_base.specs.declared.error.Cause.TheVariants.{InvalidLength}
 use Rattle.yaml_shape.specs.DataView.{items_of}
-use Rattle.yaml_shape.specs.Expected.{sequence_text, tuple_text, tuple_struct_text, tuple_variant_with_text}
-use Rattle.yaml_shape.specs.PlainData.{PlainData, PlainItems, any_data, seq_data, tuple_data}
-use Rattle.yaml_shape.specs.PlainShape.{PlainShape, seq_shape, tuple_shape, tuple_struct_shape, any_shape}
-use Rattle.yaml_shape.specs.PlainShape.{tuple_variant_shape, shape_at}
+use Rattle.yaml_shape.specs.Expected.{sequence_text}
+use Rattle.yaml_shape.specs.PlainData.{PlainData, any_data, seq_data, tuple_data}
+use Rattle.yaml_shape.specs.PlainShape.{PlainShape, any_shape, seq_shape, row_shape, Owner, shape_at}
 use Rattle.yaml_tree.specs.Tree.{sequence}
 use Rattle.yaml_load.specs.DocTree.{DocNode, DocNodes, list, no_nodes, node}
 use Rattle.yaml_scalar.specs.ScalarFound.{sequence_fault}
 use Rattle.yaml_scalar.specs.Steps.{with_shape}
 use Rattle.yaml_read.specs.AnyData.{trees_in}
 use Rattle.yaml_read.specs.Handing.{as_is}
-use Rattle.yaml_read.specs.Meaning.{MeansAs, means_list, means_tuple_variant, means_any_list, MeansList, means_seq}
-use Rattle.yaml_read.specs.Meaning.{means_tuple, means_tuple_struct, MeanRow, means_no_elements, means_element}
+use Rattle.yaml_read.specs.Meaning.{MeansAs, means_list, means_row, means_any_list, means_seq}
+use Rattle.yaml_read.specs.Meaning.{MeanRow, means_no_elements, means_element}
 use Rattle.yaml_read.specs.Places.{Way, element_under}
 use Rattle.yaml_read.specs.Rows.{row_of, row_end, row_data}
-use Rattle.yaml_read.specs.TreeReader.{Spot, behind, each_node, TreeReader, item_of, row_part, row_by, sequence_of}
+use Rattle.yaml_read.specs.TreeReader.{Spot, behind, each_node, TreeReader, item_of, row_part, sequence_of}
 use Rattle.yaml_read.proofs.reading.Steps.{IfData, data_ok, data_err, data_then, data_wrap, data_enter, data_with}
 use Rattle.yaml_read.proofs.reading.Steps.{data_finish}
 use Rattle.yaml_read.proofs.reading.SoundParts.{Found, Gathered, IsSound, nodes_sound}
@@ -80,10 +79,10 @@ module _ (table : List PlainShape) (root : DocNode) (read : Way → TreeReader)
         },
       ))))
 
-  row_ok : (few : List ℕ) (count : ℕ) (ids : List ℕ) (vs : List PlainData) (extra : ℕ) (v : PlainData)
-      → row_end few count ids vs extra ≡ Ok v → (ids ≡ []) × (extra ≡ 0) × (tuple_data (items_of vs) ≡ v)
-  row_ok few count (id ∷ ids) vs extra v h = absurd cc
-  row_ok few count [] vs extra v h = chosen (extra == 0) refl h
+  row_ok : (owner : Owner) (count : ℕ) (ids : List ℕ) (vs : List PlainData) (extra : ℕ) (v : PlainData)
+      → row_end owner count ids vs extra ≡ Ok v → (ids ≡ []) × (extra ≡ 0) × (tuple_data (items_of vs) ≡ v)
+  row_ok owner count (id ∷ ids) vs extra v h = absurd cc
+  row_ok owner count [] vs extra v h = chosen (extra == 0) refl h
     where
       chosen : (b : Bool) → (extra == 0) ≡ b → ◌≡◌ {A = Result PlainData Cause}
           (if b then Ok (tuple_data (items_of vs)) else Err
@@ -91,28 +90,6 @@ module _ (table : List PlainShape) (root : DocNode) (read : Way → TreeReader)
           → (◌≡◌ {A = List ℕ} [] []) × (extra ≡ 0) × (tuple_data (items_of vs) ≡ v)
       chosen true e h = (refl, eqb-true extra 0 e, ok_is h)
       chosen false e h = absurd cc
-
-  -- the elements of a tuple, whatever its shape is called
-  row_sound : (few ids : List ℕ) (s : PlainShape) (nest : ℕ) (taken : Bool) (tag : Option (List ℕ)) (ns : DocNodes)
-      (mark : Position) (at : Spot)
-      → ((vs : PlainItems) (d k : ℕ) → MeanRow table root ids ns vs d k
-      → MeansList table root s ns (tuple_data vs) d k)
-      → IfData (λ x. Found (MeansAs table root as_is s (list tag ns) taken x.0) nest at.left x.1)
-      (row_by table read way few ids nest mark ns at)
-  row_sound few ids s nest taken tag ns mark at as_list =
-      data_enter _ nest mark _ (λ n nested. data_finish _ (row_data few (length ids))
-      (each_node (row_part table read way n) (row_of ids) ns at) (λ x is' v is''.
-      let whole = row_ok few (length ids) x.0.left x.0.read x.0.extra v is'' in
-      let g = (rows_sound n ns ids [] 0 at x is' whole.0 whole.1).1 in
-      record {
-        d = suc g.found.d;
-        k = g.found.k;
-        meaning = subst (λ w. MeansAs table root as_is s (list tag ns) taken w (suc g.found.d) g.found.k)
-            (ap (λ ws. tuple_data (items_of ws)) (sym g.all_are) ∙ whole.2)
-            (means_list (as_list (items_of g.more) g.found.d g.found.k g.found.meaning));
-        nested = omega (arith, g.found.nested, nested);
-        followed = g.found.followed;
-      }))
 
   pub sequence_sound : (s : PlainShape) (nest : ℕ) (taken : Bool) (tag : Option (List ℕ)) (ns : DocNodes)
       (mark : Position) (at : Spot)
@@ -130,15 +107,20 @@ module _ (table : List PlainShape) (root : DocNode) (read : Way → TreeReader)
         nested = omega (arith, g.found.nested, nested);
         followed = g.found.followed;
       })))
-  sequence_sound (tuple_shape ids) nest taken tag ns mark at =
-      row_sound (tuple_text (length ids)) ids (tuple_shape ids) nest taken tag ns mark at (λ vs d k m. means_tuple m)
-  sequence_sound (tuple_struct_shape name ids) nest taken tag ns mark at =
-      row_sound (tuple_struct_text name (length ids)) ids (tuple_struct_shape name ids) nest taken tag ns mark at
-      (λ vs d k m. means_tuple_struct m)
-  sequence_sound (tuple_variant_shape name variant ids) nest taken tag ns mark at =
-      row_sound (tuple_variant_with_text name variant (length ids)) ids
-      (tuple_variant_shape name variant ids) nest taken tag ns mark at
-      (λ vs d k m. means_tuple_variant m)
+  sequence_sound (row_shape owner ids) nest taken tag ns mark at =
+      data_enter _ nest mark _ (λ n nested. data_finish _ (row_data owner (length ids))
+      (each_node (row_part table read way n) (row_of ids) ns at) (λ x is' v is''.
+      let whole = row_ok owner (length ids) x.0.left x.0.read x.0.extra v is'' in
+      let g = (rows_sound n ns ids [] 0 at x is' whole.0 whole.1).1 in
+      record {
+        d = suc g.found.d;
+        k = g.found.k;
+        meaning = subst (λ w. MeansAs table root as_is (row_shape owner ids) (list tag ns) taken w (suc g.found.d)
+            g.found.k) (ap (λ ws. tuple_data (items_of ws)) (sym g.all_are) ∙ whole.2)
+            (means_list (means_row g.found.meaning));
+        nested = omega (arith, g.found.nested, nested);
+        followed = g.found.followed;
+      }))
   sequence_sound any_shape nest taken tag ns mark at =
       data_enter _ nest mark _ (λ n nested.
       data_wrap _ (λ vs. any_data (sequence (trees_in (items_of vs))))

@@ -6,7 +6,6 @@ use Rattle.std.proofs.lemmas.List.Elements.{All-head, All-tail, All-nil}
 use Rattle.yaml_base.specs.Position.{Position}
 use Rattle.yaml_base.specs.declared.error.Place.{Place}
 use Rattle.yaml_shape.specs.DataView.{items_of, entries_of}
-use Rattle.yaml_shape.specs.Expected.{tuple_text, tuple_struct_text, tuple_variant_with_text}
 use Rattle.yaml_shape.specs.PlainData.{PlainData, any_data, variant_data, seq_data, map_data, some_data, newtype_data}
 use Rattle.yaml_shape.specs.PlainData.{ignored_data}
 use Rattle.yaml_shape.specs.PlainShape.{PlainShape, shape_at, content_shape}
@@ -92,15 +91,15 @@ module _ (table : List PlainShape) (root : DocNode) (marks : ℕ → Position) (
         (part_ends (element_under way (length row.read)) id nest most n at lt enough few))
         (ends_value ignored_data at.left (omega arith) tt)
 
-    row_ends : (few ids : List ℕ) (nest : ℕ) (mark : Position) (ns : DocNodes) (at : Spot) → All IsIn ids
-        → 8200 * (at.left + nest) < suc fuel → Ends Any at.left (row_by table read way few ids nest mark ns at)
-    row_ends few ids nest mark ns at a lt =
+    row_ends : (owner : shape.Owner) (ids : List ℕ) (nest : ℕ) (mark : Position) (ns : DocNodes) (at : Spot)
+        → All IsIn ids → 8200 * (at.left + nest) < suc fuel → Ends Any at.left (row_by table read way owner ids nest mark ns at)
+    row_ends owner ids nest mark ns at a lt =
         ends_enter Any at.left nest mark _ (λ n is.
-        ends_finish RowIn Any at.left (row_data few (length ids))
+        ends_finish RowIn Any at.left (row_data owner (length ids))
         (each_node (row_part table read way n) (row_of ids) ns at)
         (ends_nodes RowIn at.left (row_part table read way n)
         (row_part_ends n at.left (omega (arith, lt, is))) (row_of ids) ns at (omega arith) a)
-        (own_row few (length ids)) (λ s x e. tt))
+        (own_row owner (length ids)) (λ s x e. tt))
 
     -- ---- fields
     abbrev KeyIn : Option (ℕ × ℕ) × Way → Type 0
@@ -170,12 +169,8 @@ module _ (table : List PlainShape) (root : DocNode) (marks : ℕ → Position) (
         (λ vs m to few ok. item_ends way t.0 n vs m to
         (part_ends (element_under way (length vs)) e n at.left m to within (omega (arith, lt, is)) few))
         [] ns at (omega arith) tt) (λ x p. tt)))
-    sequence_ends (shape.tuple_shape ids) nest mark ns at names lt =
-        row_ends (tuple_text (length ids)) ids nest mark ns at names lt
-    sequence_ends (shape.tuple_struct_shape name ids) nest mark ns at names lt =
-        row_ends (tuple_struct_text name (length ids)) ids nest mark ns at names lt
-    sequence_ends (shape.tuple_variant_shape name variant ids) nest mark ns at names lt =
-        row_ends (tuple_variant_with_text name variant (length ids)) ids nest mark ns at names lt
+    sequence_ends (shape.row_shape owner ids) nest mark ns at names lt =
+        row_ends owner ids nest mark ns at names lt
     sequence_ends shape.any_shape nest mark ns at names lt =
         ends_enter Any at.left nest mark _ (λ n is.
         ends_wrap Any Any at.left (λ vs. any_data (sequence (trees_in (items_of vs)))) _
@@ -204,9 +199,7 @@ module _ (table : List PlainShape) (root : DocNode) (marks : ℕ → Position) (
         (λ vs k m to few ok p. ends_wrap Any Any to.left (λ v. vs ++ (k.1, v) ∷ []) _
         (part_ends k.0 b n at.left m to value (omega (arith, lt, is)) few) (λ x p. tt))
         [] ps at (omega arith) tt) (λ x p. tt))))
-    mapping_ends (shape.struct_shape strict name fields) nest mark ps at names lt =
-        fields_ends strict fields nest mark ps at names lt
-    mapping_ends (shape.struct_variant_shape strict name variant fields) nest mark ps at names lt =
+    mapping_ends (shape.fields_shape strict owner fields) nest mark ps at names lt =
         fields_ends strict fields nest mark ps at names lt
     mapping_ends shape.any_shape nest mark ps at names lt =
         ends_enter Any at.left nest mark _ (λ n is.

@@ -122,7 +122,7 @@ module _ (source : Source) (within : (p : ℕ) (e : PlainDocEvent × Position) �
         (λ t is. landed_wrap _ newtype_data _ _ (tied way t m taken n at sh))))
     handed_tied as_ignored s nest taken n at mark to here sh = skip_tied source within stepped n at sh
     handed_tied (as_bare fields) s nest taken n at mark to here sh =
-        bare_tied fields n at (from_handing s (is_some taken) (first_event n) (as_bare fields) to).2
+        bare_tied fields n at (from_handing s (is_some taken) (first_event n) (as_bare fields) to).3
     handed_tied (as_variant place around content) s nest taken n at mark to here sh =
         landed_with _ (content_shape source.table around.name around.variant content) _ _ (λ t is.
         landed_wrap _ (variant_data place) _ _ (tied way t nest (Some around) n at sh))

@@ -5,10 +5,8 @@ use Rattle.std.specs.Prelude.{nat_lt}
 use Rattle.std.proofs.lemmas.Bool.{lt-ltb}
 use Rattle.yaml_base.specs.Position.{Position}
 use Rattle.yaml_shape.specs.DataView.{items_of}
-use Rattle.yaml_shape.specs.Expected.{tuple_text, tuple_struct_text, tuple_variant_with_text}
 use Rattle.yaml_shape.specs.PlainData.{PlainData, any_data, seq_data, ignored_data}
-use Rattle.yaml_shape.specs.PlainShape.{PlainShape, seq_shape, tuple_shape, tuple_struct_shape, any_shape}
-use Rattle.yaml_shape.specs.PlainShape.{tuple_variant_shape, shape_at}
+use Rattle.yaml_shape.specs.PlainShape.{PlainShape, any_shape, seq_shape, row_shape, Owner, shape_at}
 use Rattle.yaml_tree.specs.Tree.{sequence}
 use Rattle.yaml_load.specs.DocTree.{DocNode, DocNodes, nothing, reference, word, list, mapping, events_of}
 use Rattle.yaml_load.specs.DocTree.{events_of_nodes, events_of_pairs}
@@ -62,14 +60,14 @@ module _ (source : Source) (within : (p : ℕ) (e : PlainDocEvent × Position) �
 
   module _ (read : Way → Reader) (tree : Way → TreeReader) (tied : (w : Way) → AreTied source (read w) (tree w))
       (way : Way) where
-    -- the elements of a tuple
-    rows_tied : (few ids : List ℕ) (nest : ℕ) (mark : Position) (ns : DocNodes) (at : Spot)
+    -- the elements of a row
+    rows_tied : (owner : Owner) (ids : List ℕ) (nest : ℕ) (mark : Position) (ns : DocNodes) (at : Spot)
         → Shows source.events at.place (events_of_nodes ns ++ sequence_ends ∷ []) → 0 < at.place
-        → rows_at source read way few ids nest mark at
+        → rows_at source read way owner ids nest mark at
         ≡ landed (at.place + length (events_of_nodes ns ++ sequence_ends ∷ []))
-        (row_by source.table tree way few ids nest mark ns at)
-    rows_tied few ids nest mark ns at sh lt =
-        landed_enter _ nest mark _ _ (λ n. landed_finish _ (row_data few (length ids)) _ _
+        (row_by source.table tree way owner ids nest mark ns at)
+    rows_tied owner ids nest mark ns at sh lt =
+        landed_enter _ nest mark _ _ (λ n. landed_finish _ (row_data owner (length ids)) _ _
         (nodes_tied source.events source.size within (row_at source read way n) (row_part source.table tree way n)
         (λ row m a h. row_tied (element_under way (length row.read)) row.left row.read row.extra n m a h) source.size
         (row_of ids) ns at sh (omega arith)))
@@ -102,12 +100,7 @@ module _ (source : Source) (within : (p : ℕ) (e : PlainDocEvent × Position) �
         (nodes_tied source.events source.size within (item_at read way s n) (item_of tree way s n)
         (λ vs m a h. landed_wrap _ (λ v. vs ++ v ∷ []) _ _ (tied (element_under way (length vs)) s n None m a h))
         source.size [] ns at sh (omega arith))))
-    sequence_tied (tuple_shape ids) nest mark ns at sh lt =
-        rows_tied (tuple_text (length ids)) ids nest mark ns at sh lt
-    sequence_tied (tuple_struct_shape name ids) nest mark ns at sh lt =
-        rows_tied (tuple_struct_text name (length ids)) ids nest mark ns at sh lt
-    sequence_tied (tuple_variant_shape name variant ids) nest mark ns at sh lt =
-        rows_tied (tuple_variant_with_text name variant (length ids)) ids nest mark ns at sh lt
+    sequence_tied (row_shape owner ids) nest mark ns at sh lt = rows_tied owner ids nest mark ns at sh lt
     sequence_tied any_shape nest mark ns at sh lt =
         landed_enter _ nest mark _ _ (λ n. landed_wrap _ (λ vs. any_data (sequence (trees_in (items_of vs)))) _ _
         (nodes_tied source.events source.size within (item_at read way any_shape n) (item_of tree way any_shape n)

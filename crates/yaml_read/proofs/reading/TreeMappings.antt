@@ -5,8 +5,7 @@ use Rattle.yaml_base.specs.Position.{Position}
 use Rattle.yaml_base.specs.declared.error.Cause.{Cause}
 use Rattle.yaml_shape.specs.DataView.{entries_of}
 use Rattle.yaml_shape.specs.PlainData.{PlainData, any_data, map_data, ignored_data}
-use Rattle.yaml_shape.specs.PlainShape.{PlainShape, map_shape, struct_shape, identifier_shape, any_shape}
-use Rattle.yaml_shape.specs.PlainShape.{struct_variant_shape, shape_at}
+use Rattle.yaml_shape.specs.PlainShape.{PlainShape, any_shape, identifier_shape, map_shape, fields_shape, shape_at}
 use Rattle.yaml_tree.specs.Tree as tree_of
 use Rattle.yaml_load.specs.DocTree.{DocNode, DocPairs, events_of, events_of_pairs, first_event}
 use Rattle.yaml_load.specs.PlainDocEvent.{PlainDocEvent, mapping_ends}
@@ -125,9 +124,7 @@ module _ (source : Source) (within : (p : ℕ) (e : PlainDocEvent × Position) �
       (λ vs k q. wrap (λ v. vs ++ (k.1, v) ∷ []) (read k.0 t n None q)) (key_of tree way s n) (value_of tree t n)
       (λ vs m q h. key_tied s n m q h) (λ vs k m q h. landed_wrap _ (λ v. vs ++ (k.1, v) ∷ []) _ _
       (tied k.0 t n None m q h)) source.size [] ps at sh (omega arith)))))
-  mapping_tied (struct_shape strict name fields) nest mark ps at sh lt =
-      fields_tied strict fields nest mark ps at sh lt
-  mapping_tied (struct_variant_shape strict name variant fields) nest mark ps at sh lt =
+  mapping_tied (fields_shape strict owner fields) nest mark ps at sh lt =
       fields_tied strict fields nest mark ps at sh lt
   mapping_tied any_shape nest mark ps at sh lt =
       landed_enter _ nest mark _ _ (λ n. landed_wrap _ (λ vs. any_data (tree_of.mapping (pairs_in (entries_of vs)))) _

@@ -6,7 +6,7 @@ use Rattle.std.specs.Option.{option_map}
 use Rattle.std.proofs.lemmas.List.Elements.{All-head, All-tail, All-nil, All-get_or}
 use Rattle.std.proofs.lemmas.Option.{slice_get-get_or}
 use Rattle.yaml_base.specs.declared.error.Cause.{Cause}
-use Rattle.yaml_shape.specs.PlainShape.{PlainShape, PlainVariant, shape_at, content_shape}
+use Rattle.yaml_shape.specs.PlainShape.{PlainShape, shape_at, content_shape, PlainVariant}
 use Rattle.yaml_shape.specs.PlainShape as shape
 use Rattle.yaml_shape.specs.Validity.{AllNameWithin, NamesWithin, named_in, numbers_of}
 use Rattle.yaml_shape.specs.Walks.{rank}
@@ -68,6 +68,6 @@ module _ (table : List PlainShape) (small : (id : ℕ) → rank table id ≤ 409
   content_there name variant shape.unit_variant a = (shape.unit_shape, refl, All-nil IsIn, omega arith)
   content_there name variant (shape.newtype_variant inner) a = there inner (All-head IsIn inner [] a)
   content_there name variant (shape.tuple_variant items) a =
-      (shape.tuple_variant_shape name variant items, refl, a, omega arith)
+      (shape.row_shape (shape.of_variant name variant) items, refl, a, omega arith)
   content_there name variant (shape.struct_variant strict fields) a =
-      (shape.struct_variant_shape strict name variant fields, refl, a, omega arith)
+      (shape.fields_shape strict (shape.of_variant name variant) fields, refl, a, omega arith)

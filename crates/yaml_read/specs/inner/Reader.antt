@@ -6,12 +6,10 @@ use Rattle.yaml_base.specs.Position.{Position}
 use Rattle.yaml_base.specs.declared.error.Cause.{Cause}
 use Rattle.yaml_base.specs.declared.error.Cause.TheVariants.{Memory, EndOfStream}
 use Rattle.yaml_shape.specs.DataView.{items_of, entries_of}
-use Rattle.yaml_shape.specs.Expected.{tuple_text, tuple_struct_text, tuple_variant_with_text}
 use Rattle.yaml_shape.specs.PlainData.{PlainData, any_data, variant_data, seq_data, map_data, ignored_data, some_data}
 use Rattle.yaml_shape.specs.PlainData.{newtype_data}
-use Rattle.yaml_shape.specs.PlainShape.{PlainShape, identifier_shape}
-use Rattle.yaml_shape.specs.PlainShape.{seq_shape, tuple_shape, tuple_struct_shape, map_shape, struct_shape}
-use Rattle.yaml_shape.specs.PlainShape.{any_shape, tuple_variant_shape, struct_variant_shape, shape_at, content_shape}
+use Rattle.yaml_shape.specs.PlainShape.{PlainShape, any_shape, identifier_shape, seq_shape, row_shape, map_shape}
+use Rattle.yaml_shape.specs.PlainShape.{fields_shape, Owner, shape_at, content_shape}
 use Rattle.yaml_tree.specs.Tree.{sequence, tagged}
 use Rattle.yaml_tree.specs.Tree as tree
 use Rattle.yaml_load.specs.Ends.{is_closing}
@@ -31,9 +29,6 @@ use Rattle.yaml_read.specs.Rows.{Row, row_of, one_more, row_data}
 use Rattle.yaml_read.specs.TreeReader.{Spot, after, mark_or_first}
 pub use Rattle.yaml_shape.specs.Leaves.{is_leaf}
 pub use Rattle.yaml_read.specs.inner.Takes.{takes_sequence, takes_mapping, takes, other_answer, fields_in}
-pub use Rattle.yaml_read.specs.inner.Takes.{rows_in}
-pub use Rattle.yaml_read.specs.inner.Takes.{row_shape, Owner, of_tuple, of_tuple_struct, of_tuple_variant, owner_named}
-pub use Rattle.yaml_read.specs.inner.Takes.{few_text}
 
 -- what reading answers: a value and where it ended, or a fault
 abbrev pub Reading : Type 0 → Type 0
@@ -136,7 +131,7 @@ module _ (source : Source) where
   abbrev pub skip_at : Spot → Reading PlainData
   skip_at at = skip_event at (source.events at.place)
 
-  -- one more element of a tuple
+  -- one more element of a row
   abbrev pub row_at : (Way → Reader) → Way → (nest : ℕ) → Row → Spot → Reading Row
   row_at read way nest row at =
       one_more (λ id. with_shape (shape_at source.table id)
@@ -166,13 +161,13 @@ module _ (source : Source) where
   abbrev pub mapping_parts : {S : Type 0} → (S → Spot → Reading S) → (turns : ℕ) → S → Spot → Reading S
   mapping_parts step = each_at is_mapping_end step source.events
 
-  -- the elements of a tuple
-  abbrev pub rows_at : (Way → Reader) → Way → (few ids : List ℕ) → ℕ → Position → Spot → Reading PlainData
-  rows_at read way few ids nest mark at =
-      enter nest mark (λ n. finish (row_data few (length ids))
+  -- the elements of a row
+  abbrev pub rows_at : (Way → Reader) → Way → Owner → (ids : List ℕ) → ℕ → Position → Spot → Reading PlainData
+  rows_at read way owner ids nest mark at =
+      enter nest mark (λ n. finish (row_data owner (length ids))
       (sequence_parts (row_at read way n) source.size (row_of ids) at))
 
-  -- the fields of a struct
+  -- fields
   abbrev pub fields_at : (Way → Reader) → Way → (strict : Bool) → Fields → ℕ → Position → Spot → Reading PlainData
   fields_at read way strict fields nest mark at =
       enter nest mark (λ n. finish (struct_of source.table fields)
@@ -183,11 +178,7 @@ module _ (source : Source) where
   sequence_at read way (seq_shape e) nest mark at =
       enter nest mark (λ n. with_shape (shape_at source.table e) (λ s.
       wrap (λ vs. seq_data (items_of vs)) (sequence_parts (item_at read way s n) source.size [] at)))
-  sequence_at read way (tuple_shape ids) nest mark at = rows_at read way (tuple_text (length ids)) ids nest mark at
-  sequence_at read way (tuple_struct_shape name ids) nest mark at =
-      rows_at read way (tuple_struct_text name (length ids)) ids nest mark at
-  sequence_at read way (tuple_variant_shape name variant ids) nest mark at =
-      rows_at read way (tuple_variant_with_text name variant (length ids)) ids nest mark at
+  sequence_at read way (row_shape owner ids) nest mark at = rows_at read way owner ids nest mark at
   sequence_at read way any_shape nest mark at =
       enter nest mark (λ n. wrap (λ vs. any_data (sequence (trees_in (items_of vs))))
       (sequence_parts (item_at read way any_shape n) source.size [] at))
@@ -198,9 +189,7 @@ module _ (source : Source) where
   mapping_at read way (map_shape a b) nest mark at =
       enter nest mark (λ n. with_shape (shape_at source.table a) (λ s. with_shape (shape_at source.table b) (λ t.
       wrap (λ vs. map_data (entries_of vs)) (mapping_parts (entry_at read way s t n) source.size [] at))))
-  mapping_at read way (struct_shape strict name fields) nest mark at = fields_at read way strict fields nest mark at
-  mapping_at read way (struct_variant_shape strict name variant fields) nest mark at =
-      fields_at read way strict fields nest mark at
+  mapping_at read way (fields_shape strict owner fields) nest mark at = fields_at read way strict fields nest mark at
   mapping_at read way any_shape nest mark at =
       enter nest mark (λ n. wrap (λ vs. any_data (tree.mapping (pairs_in (entries_of vs))))
       (mapping_parts (any_entry_at read way n) source.size [] at))

@@ -5,6 +5,7 @@ use Rattle.std.specs.Option.{option_map}
 use denote.Ref.{Bor}
 use Rattle.yaml_base.specs.Position.{Position}
 use Rattle.yaml_shape.specs.DataView.{data_of}
+use Rattle.yaml_shape.specs.PlainShape.{Owner, unnamed, of_struct, of_variant}
 use Rattle.yaml_shape.specs.Validity.{numbers_of}
 use Rattle.yaml_shape.specs.declared.data.Data.{Data}
 use Rattle.yaml_shape.specs.declared.shape.ShapeId.{ShapeId}
@@ -20,8 +21,7 @@ use Rattle.yaml_read.specs.declared.de.node.tuple_length.Elements.{Elements}
 use Rattle.yaml_read.specs.declared.de.node.tuple_length.Owner.{Owner as CodeOwner}
 use Rattle.yaml_read.specs.declared.de.node.tuple_length.Owner.TheVariants as owner
 use Rattle.yaml_read.specs.declared.de.node.source.Source.{Source as CodeSource}
-use Rattle.yaml_read.specs.inner.Reader.{Source, Events, Reader, node_at, Owner, of_tuple, of_tuple_struct}
-use Rattle.yaml_read.specs.inner.Reader.{of_tuple_variant}
+use Rattle.yaml_read.specs.inner.Reader.{Source, Events, Reader, node_at}
 use Rattle.yaml_read.specs.Places.{Way}
 
 -- the event at each place
@@ -62,9 +62,9 @@ row_view ids row = record {
 
 -- whose elements are read
 abbrev pub owner_of : CodeOwner → Owner
-owner_of owner.Tuple = of_tuple
-owner_of (owner.TupleStruct name) = of_tuple_struct name.now
-owner_of (owner.TupleVariant name variant) = of_tuple_variant name.now variant.now
+owner_of owner.Tuple = unnamed
+owner_of (owner.TupleStruct name) = of_struct name.now
+owner_of (owner.TupleVariant name variant) = of_variant name.now variant.now
 
 -- what was read of the fields of a struct
 abbrev pub slots_of : List (Option Data) → Slots

@@ -31,6 +31,7 @@ ghost use Rattle.yaml_read.specs.inner.Walks.{MovesOn, Costs};
 
 use crate::de::node::ask::Ask;
 use crate::de::node::source::Source;
+use crate::de::node::tuple_length::Owner;
 use crate::de::taken_tag::is_taken;
 use crate::walk::Walk;
 use std::alloc::Global;
@@ -107,8 +108,10 @@ impl<'s, 'de> Source<'s, 'de> {
                 };
                 self.read_seq(ask, *element, event, walk)
             }
-            Shape::Tuple(items) => self.read_tuple(ask, None, items, walk),
-            Shape::TupleStruct { name, items } => self.read_tuple(ask, Some(name), items, walk),
+            Shape::Tuple(items) => self.read_tuple(ask, Owner::Tuple, items, walk),
+            Shape::TupleStruct { name, items } => {
+                self.read_tuple(ask, Owner::TupleStruct(name), items, walk)
+            }
             Shape::Map(key, value) => {
                 let Some(event) = self.event(walk.place) else {
                     return Err(ended(self.alloc));

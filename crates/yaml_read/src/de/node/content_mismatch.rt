@@ -3,7 +3,7 @@
 ghost use Rattle.std.specs.Prelude.{◌≡◌, Bool, Err, false, true};
 ghost use Rattle.yaml_base.specs.Answer.{Gives, is_memory};
 ghost use Rattle.yaml_shape.specs.DataView.{data_of};
-ghost use Rattle.yaml_shape.specs.PlainShape.{struct_variant_shape, tuple_variant_shape};
+ghost use Rattle.yaml_shape.specs.PlainShape.{row_shape, fields_shape, of_variant};
 ghost use Rattle.yaml_shape.specs.ShapeView.{ids_of};
 ghost use Rattle.yaml_load.specs.DocEventView.{doc_event_of, doc_scalar_of};
 ghost use Rattle.yaml_scalar.specs.ScalarShapes.{scalar_answer};
@@ -27,7 +27,7 @@ fn scalar_in_row<'de>(
     scalar: &DocScalar<'_>,
 ) -> Result<Data<'de>>
     ensures { Gives data_of result (scalar_answer
-        (tuple_variant_shape around.now.name.now around.now.variant.now (ids_of items.now)) true
+        (row_shape (of_variant around.now.name.now around.now.variant.now) (ids_of items.now)) true
         (doc_scalar_of scalar.now)) }
 {
     let name = around.name;
@@ -50,7 +50,7 @@ pub(crate) fn found_in_row<'de>(
     event: &DocEvent<'_>,
 ) -> Result<Data<'de>>
     ensures { Gives data_of result (other_answer
-        (tuple_variant_shape around.now.name.now around.now.variant.now (ids_of items.now))
+        (row_shape (of_variant around.now.name.now around.now.variant.now) (ids_of items.now))
         (doc_event_of event.now)) }
 {
     let expected = Expected::TupleVariant {
@@ -68,7 +68,7 @@ pub(crate) fn found_in_row<'de>(
 /// The fault of a node whose tag is taken, and that is no mapping, in place of a variant's fields; or want of memory.
 pub(crate) fn found_in_fields(alloc: Global, around: &TakenBy<'_>, event: &DocEvent<'_>) -> Refusal
     ensures { (strict : Bool) (fields : Fields) → is_memory result ≡ false
-        → other_answer (struct_variant_shape strict around.now.name.now around.now.variant.now fields)
+        → other_answer (fields_shape strict (of_variant around.now.name.now around.now.variant.now) fields)
         (doc_event_of event.now) ≡ Err result }
 {
     let expected = Expected::StructVariant {

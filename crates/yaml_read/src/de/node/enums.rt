@@ -3,7 +3,7 @@
 ghost use Rattle.std.specs.Prelude.{◌≡◌, ℕ, suc, ◌+◌, ◌*◌, ◌<◌, length, All, OnOk, Some, false};
 ghost use Rattle.yaml_base.specs.Answer.{Gives};
 ghost use Rattle.yaml_shape.specs.DataView.{data_of};
-ghost use Rattle.yaml_shape.specs.PlainShape.{content_shape, enum_shape, struct_variant_shape, tuple_variant_shape};
+ghost use Rattle.yaml_shape.specs.PlainShape.{row_shape, fields_shape, enum_shape, of_variant, content_shape};
 ghost use Rattle.yaml_shape.specs.ShapeView.{content_of, fields_of, ids_of, variants_of};
 ghost use Rattle.yaml_shape.specs.Validity.{named_in, numbers_of};
 ghost use Rattle.yaml_load.specs.DocEventView.{doc_event_of};
@@ -163,7 +163,7 @@ impl<'s, 'de> Source<'s, 'de> {
         requires named { All (λ id. id < length self.now.schema.now) (ids_of items.now) }
         requires forward { GoForward self.now.ends.now }
         ensures gives { GivesStep self.now (taken_as (question_of ask.now)
-            (tuple_variant_shape around.now.name.now around.now.variant.now (ids_of items.now))
+            (row_shape (of_variant around.now.name.now around.now.variant.now) (ids_of items.now))
             (plain_around around.now)) walk.old walk.new result }
         ensures moves { OnOk result (MovesOn (length self.now.events.now) walk.old walk.new) }
         ensures cost { Costs (length self.now.events.now) walk.old walk.new }
@@ -205,7 +205,7 @@ impl<'s, 'de> Source<'s, 'de> {
         requires named { All (λ id. id < length self.now.schema.now) (numbers_of (fields_of fields.now)) }
         requires forward { GoForward self.now.ends.now }
         ensures gives { GivesStep self.now (taken_as (question_of ask.now)
-            (struct_variant_shape strict around.now.name.now around.now.variant.now (fields_of fields.now))
+            (fields_shape strict (of_variant around.now.name.now around.now.variant.now) (fields_of fields.now))
             (plain_around around.now)) walk.old walk.new result }
         ensures moves { OnOk result (MovesOn (length self.now.events.now) walk.old walk.new) }
         ensures cost { Costs (length self.now.events.now) walk.old walk.new }

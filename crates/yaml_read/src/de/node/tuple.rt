@@ -1,16 +1,16 @@
 //! A tuple, or a tuple struct: as many elements as there are shapes.
 
 ghost use Rattle.std.specs.Prelude.{◌≡◌, ℕ, ◌+◌, ◌<◌, ◌≤◌, length, All, OnOk, IfOk};
-ghost use Rattle.std.specs.Option.{option_copied};
 ghost use Rattle.yaml_base.specs.Answer.{Gives};
+ghost use Rattle.yaml_shape.specs.PlainShape.{row_shape};
 ghost use Rattle.yaml_shape.specs.ShapeView.{ids_of};
 ghost use Rattle.yaml_load.specs.Ends.{GoForward};
 ghost use Rattle.yaml_read.specs.Handing.{parts_depth};
 ghost use Rattle.yaml_read.specs.Places.{way_of};
 ghost use Rattle.yaml_read.specs.Rows.{row_of};
 ghost use Rattle.yaml_read.specs.inner.Questions.{question_of, Named, GivesShape};
-ghost use Rattle.yaml_read.specs.inner.Reader.{row_at, sequence_parts, row_shape};
-ghost use Rattle.yaml_read.specs.inner.Walks.{source_of, spot_of, reader_of, row_view, MovesOn, Costs};
+ghost use Rattle.yaml_read.specs.inner.Reader.{row_at, sequence_parts};
+ghost use Rattle.yaml_read.specs.inner.Walks.{owner_of, source_of, spot_of, reader_of, row_view, MovesOn, Costs};
 
 use crate::de::node::ask::Ask;
 use crate::de::node::source::Source;
@@ -23,16 +23,16 @@ use yaml_scalar::{Result, ended};
 use yaml_shape::{Data, ShapeId};
 
 impl<'s, 'de> Source<'s, 'de> {
-    /// A tuple, or the tuple struct of a name.
+    /// The elements of a tuple, or of a tuple struct.
     #[cycle(read)]
     pub(crate) fn read_tuple(
         &self,
         ask: &Ask<'_, '_, '_>,
-        name: Option<&str>,
+        owner: Owner<'_>,
         items: &[ShapeId],
         walk: &mut Walk,
     ) -> Result<Data<'de>>
-        requires tuple { (question_of ask.now).shape ≡ row_shape (option_copied name) (ids_of items.now) }
+        requires tuple { (question_of ask.now).shape ≡ row_shape (owner_of owner) (ids_of items.now) }
         requires named { Named self.now (question_of ask.now) }
         requires forward { GoForward self.now.ends.now }
         ensures gives { GivesShape self.now (question_of ask.now) walk.old walk.new result }
@@ -50,7 +50,7 @@ impl<'s, 'de> Source<'s, 'de> {
         }
         walk.step();
         match self.read_elements(ask.path, items, ask.nest - 1, walk) {
-            Ok(elements) => finish(self.alloc, Owner::named(name), items, elements),
+            Ok(elements) => finish(self.alloc, owner, items, elements),
             Err(refusal) => Err(refusal),
         }
     }

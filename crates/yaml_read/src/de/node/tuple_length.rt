@@ -1,13 +1,13 @@
 //! The elements of a tuple.
 
 ghost use Rattle.std.specs.Prelude.{◌≡◌, slice_get, ◌+◌, ◌<◌, ◌^◌, length, None, Ok, string_bytes};
-ghost use Rattle.std.specs.Option.{option_map, option_copied};
+ghost use Rattle.std.specs.Option.{option_map};
 ghost use Rattle.yaml_base.specs.Answer.{Gives};
 ghost use Rattle.yaml_base.specs.declared.error.Cause.TheVariants.{InvalidLength};
 ghost use Rattle.yaml_shape.specs.DataView.{data_of};
+ghost use Rattle.yaml_shape.specs.Expected.{few_text};
 ghost use Rattle.yaml_shape.specs.ShapeView.{ids_of};
 ghost use Rattle.yaml_read.specs.Rows.{row_data};
-ghost use Rattle.yaml_read.specs.inner.Reader.{few_text, owner_named};
 ghost use Rattle.yaml_read.specs.inner.Walks.{owner_of, row_view};
 
 use std::alloc::Global;
@@ -31,18 +31,6 @@ pub(crate) enum Owner<'a> {
     TupleStruct(&'a str),
     /// Those of a variant: the names of its enum and of itself.
     TupleVariant { name: &'a str, variant: &'a str },
-}
-
-impl<'a> Owner<'a> {
-    /// A tuple, or the tuple struct of a name.
-    pub(crate) fn named(name: Option<&'a str>) -> Owner<'a>
-        ensures { owner_of result ≡ owner_named (option_copied name.entry) }
-    {
-        match name {
-            None => Owner::Tuple,
-            Some(name) => Owner::TupleStruct(name),
-        }
-    }
 }
 
 /// The shape of an element.
@@ -79,8 +67,8 @@ pub(crate) fn finish<'de>(
     elements: Elements<'de>,
 ) -> Result<Data<'de>>
     requires few { length elements.read.items + elements.extra < 2 ^ 64 }
-    ensures { Gives data_of result (row_data (few_text (owner_of owner.entry) (length (ids_of items.now)))
-        (length (ids_of items.now)) (row_view (ids_of items.now) elements.entry)) }
+    ensures { Gives data_of result (row_data (owner_of owner.entry) (length (ids_of items.now))
+        (row_view (ids_of items.now) elements.entry)) }
 {
     let count = items.len();
     let length = elements.read.len();

@@ -5,7 +5,6 @@ use Rattle.yaml_shape.specs.ShapeView.{shape_of, ids_of}
 use Rattle.yaml_shape.specs.Join.{starts_behind, parts_of}
 use Rattle.yaml_shape.proofs.PartLaws.{AreJoined, AreSeen, one_joined, starts_inside, too_large, all_joined}
 use Rattle.yaml_shape.proofs.PartLaws.{next_within, empty, one_seen, all_seen}
-use Rattle.yaml_shape.specs.PlainShape.{tuple_shape}
 use Rattle.yaml_shape.specs.Kept.{KeepsAllShapes}
 use Rattle.yaml_shape.proofs.JoinCode.{answered}
 use Rattle.yaml_shape.proofs.Stands.{keeps_all}

@@ -1,6 +1,6 @@
 -- The shapes of the fields are in the join, and each part of it keeps its data.
 use Rattle.std.proofs.Common.{map, length, false, string_bytes}
-use Rattle.yaml_shape.specs.PlainShape.{struct_shape}
+use Rattle.yaml_shape.specs.PlainShape.{fields_shape, of_struct}
 use Rattle.yaml_shape.specs.ShapeView.{fields_of}
 use Rattle.yaml_shape.specs.Join.{joined_all, named_behind, parts_of}
 use Rattle.yaml_shape.specs.Kept.{KeepsAllShapes}
@@ -16,13 +16,13 @@ add_named-requires c =
 pub returns-in-Ok-clause-kept : goal.returns-in-Ok-clause-kept
 returns-in-Ok-clause-kept c =
     answered c.add_named.result c.in-Ok.all
-    (struct_shape false (string_bytes c.args.name) (fields_of c.in-Ok.fields.items))
+    (fields_shape false (of_struct (string_bytes c.args.name)) (fields_of c.in-Ok.fields.items))
     (KeepsAllShapes 0 (parts_of c.args.parts.items))
     (joined_keeps (parts_of c.args.parts.items) c.in-Ok.all _ c.in-Ok.ensures.table c.in-Ok.ensures.closed)
     c.add_named.ensures.ok
 
 pub returns-in-Err-clause-refused : goal.returns-in-Err-clause-refused
 returns-in-Err-clause-refused c =
-    not_added _ (struct_shape false (string_bytes c.args.name)
+    not_added _ (fields_shape false (of_struct (string_bytes c.args.name))
     (named_behind 0 (map string_bytes c.args.fields.items) (parts_of c.args.parts.items))) c.in-Err.fault
     c.in-Err.ensures.refused

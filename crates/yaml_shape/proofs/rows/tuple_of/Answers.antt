@@ -1,5 +1,5 @@
 -- The row is closed, and each part of it keeps its data.
-use Rattle.yaml_shape.specs.PlainShape.{tuple_shape}
+use Rattle.yaml_shape.specs.PlainShape.{row_shape, unnamed}
 use Rattle.yaml_shape.specs.ShapeView.{ids_of}
 use Rattle.yaml_shape.specs.Join.{parts_of}
 use Rattle.yaml_shape.specs.Kept.{KeepsAllShapes}
@@ -14,8 +14,8 @@ add-requires-clause-within c =
 
 pub returns-in-Ok-clause-kept : goal.returns-in-Ok-clause-kept
 returns-in-Ok-clause-kept c =
-    answered c.add.result c.in-Ok.all (tuple_shape (ids_of c.in-Ok.starts.items))
+    answered c.add.result c.in-Ok.all (row_shape unnamed (ids_of c.in-Ok.starts.items))
     (KeepsAllShapes 0 (parts_of c.args.parts.items))
     (row_keeps c.empty.result (parts_of c.args.parts.items) c.in-Ok.all c.in-Ok.starts.items
-    (tuple_shape (ids_of c.in-Ok.starts.items)) c.empty.ensures c.in-Ok.ensures.closed c.in-Ok.ensures.ok)
+    (row_shape unnamed (ids_of c.in-Ok.starts.items)) c.empty.ensures c.in-Ok.ensures.closed c.in-Ok.ensures.ok)
     c.add.ensures.ok

@@ -1,6 +1,6 @@
 -- The row is closed, and each part of it keeps its data.
 use Rattle.std.proofs.Common.{string_bytes}
-use Rattle.yaml_shape.specs.PlainShape.{tuple_struct_shape}
+use Rattle.yaml_shape.specs.PlainShape.{row_shape, of_struct}
 use Rattle.yaml_shape.specs.ShapeView.{ids_of}
 use Rattle.yaml_shape.specs.Join.{parts_of}
 use Rattle.yaml_shape.specs.Kept.{KeepsAllShapes}
@@ -15,8 +15,9 @@ add-requires-clause-within c =
 
 pub returns-in-Ok-clause-kept : goal.returns-in-Ok-clause-kept
 returns-in-Ok-clause-kept c =
-    answered c.add.result c.in-Ok.all (tuple_struct_shape (string_bytes c.args.name) (ids_of c.in-Ok.items.items))
+    answered c.add.result c.in-Ok.all (row_shape (of_struct (string_bytes c.args.name)) (ids_of c.in-Ok.items.items))
     (KeepsAllShapes 0 (parts_of c.args.parts.items))
     (row_keeps c.empty.result (parts_of c.args.parts.items) c.in-Ok.all c.in-Ok.items.items
-    (tuple_struct_shape (string_bytes c.args.name) (ids_of c.in-Ok.items.items)) c.empty.ensures c.in-Ok.ensures.closed c.in-Ok.ensures.ok)
+    (row_shape (of_struct (string_bytes c.args.name)) (ids_of c.in-Ok.items.items)) c.empty.ensures
+    c.in-Ok.ensures.closed c.in-Ok.ensures.ok)
     c.add.ensures.ok

@@ -1,15 +1,14 @@
--- What becomes of a tuple's elements.
+-- What becomes of a row's elements.
 use Rattle.std.proofs.Common.{ℕ, List, Result, ◌≡◌, ◌+◌, length, map, None, Ok, Err, rules, sym, ap, ap₂, ◌∙◌, arith}
 use Rattle.std.proofs.lemmas.List.{length-map}
 use Rattle.yaml_base.specs.declared.error.Cause.{Cause}
 use Rattle.yaml_base.specs.declared.error.Cause.TheVariants.{InvalidLength}
 use Rattle.yaml_shape.specs.DataView.{data_of, items_of}
-use Rattle.yaml_shape.specs.Expected.{sequence_text}
+use Rattle.yaml_shape.specs.Expected.{sequence_text, few_text}
 use Rattle.yaml_shape.specs.PlainData.{tuple_data}
 use Rattle.yaml_shape.specs.ShapeView.{ids_of}
 use Rattle.yaml_shape.specs.declared.data.Data.{Tuple, the_lemmas}
 use Rattle.yaml_shape.specs.declared.shape.ShapeId.{ShapeId}
-use Rattle.yaml_read.specs.inner.Reader.{few_text}
 use Rattle.yaml_read.specs.inner.Walks.{owner_of}
 use Rattle.yaml_read.proofs.reading.Rows.{row_short, drop_all, row_whole, row_long}
 use Rattle.yaml_read.proofs.de.node.tuple_length.finish.Goals as goal
@@ -24,7 +23,7 @@ returns-then-length-count c = λ m.
     let count : length ids ≡ length c.args.items.now = length-map c.args.items.now (λ (id : ShapeId). id.0) in
     let len : c.len-length.result ≡ length c.args.elements.read.items = search rules in
     let read : length vs ≡ length c.args.elements.read.items = length-map c.args.elements.read.items data_of in
-    row_short (few_text (owner_of c.args.owner) (length ids)) (length ids) ids vs c.args.elements.extra
+    row_short (owner_of c.args.owner) (length ids) ids vs c.args.elements.extra
     (length c.args.elements.read.items) (omega (arith, count, c.len-length.ensures, c.if-length-count.true))
     ∙ ap Err (sym (c.refuse.ensures m ∙ c.wrong_length.ensures
     ∙ ap₂ (λ a b. InvalidLength a b None) (len ∙ sym read)
@@ -36,7 +35,7 @@ returns-then-elements-eq0 c =
     let vs = map data_of c.args.elements.read.items in
     let count : length ids ≡ length c.args.items.now = length-map c.args.items.now (λ (id : ShapeId). id.0) in
     let seen_as : data_of (Tuple c.args.elements.read) ≡ tuple_data (items_of vs) = search (rules, the_lemmas) in
-    row_whole (few_text (owner_of c.args.owner) (length ids)) (length ids) _ vs c.args.elements.extra
+    row_whole (owner_of c.args.owner) (length ids) _ vs c.args.elements.extra
     (drop_all ids (length c.args.elements.read.items)
     (omega (arith, count, c.len-length.ensures, c.if-length-count.false))) c.if-elements-eq0.true
     ∙ ap (λ v. Ok v) (sym seen_as)
@@ -48,7 +47,7 @@ returns c = λ m.
     let count : length ids ≡ length c.args.items.now = length-map c.args.items.now (λ (id : ShapeId). id.0) in
     let len : c.len-length.result ≡ length c.args.elements.read.items = search rules in
     let read : length vs ≡ length c.args.elements.read.items = length-map c.args.elements.read.items data_of in
-    row_long (few_text (owner_of c.args.owner) (length ids)) (length ids) _ vs c.args.elements.extra
+    row_long (owner_of c.args.owner) (length ids) _ vs c.args.elements.extra
     (drop_all ids (length c.args.elements.read.items)
     (omega (arith, count, c.len-length.ensures, c.if-length-count.false))) c.if-elements-eq0.false
     ∙ ap Err (sym (c.refuse-2.ensures m ∙ c.wrong_length-2.ensures

@@ -3,7 +3,7 @@ use Rattle.std.proofs.Common.{Ok, Some, ◌≡◌, ◌-◌, ◌<◌, length, tru
 use Rattle.std.specs.Option.{is_some, option_copied}
 use Rattle.yaml_shape.specs.DataView.{data_of}
 use Rattle.yaml_shape.specs.PlainData.{variant_data}
-use Rattle.yaml_shape.specs.PlainShape.{tuple_variant_shape, struct_variant_shape}
+use Rattle.yaml_shape.specs.PlainShape.{row_shape, fields_shape, of_variant}
 use Rattle.yaml_shape.specs.ShapeView.{shape_of, content_of, ids_of, fields_of, variants_of}
 use Rattle.yaml_shape.specs.declared.data.Data.{Variant, the_lemmas}
 use Rattle.yaml_load.specs.DocEventView.{doc_event_of}
@@ -115,9 +115,8 @@ read_content-returns-in-Newtype-clause-gives t c = λ fuel lt.
 pub read_content-returns-in-Ok-clause-gives : goal.read_content-returns-in-Ok-clause-gives
 read_content-returns-in-Ok-clause-gives t c = λ fuel lt.
     rw (c.in-Tuple.is, ← c.deref.ensures.value)
-    (node_read c.args.self.now (taken_as (question_of c.args.ask.now) (tuple_variant_shape c.args.around.now.name.now
-    c.args.around.now.variant.now
-    (ids_of c.deref.result.now))
+    (node_read c.args.self.now (taken_as (question_of c.args.ask.now) (row_shape
+    (of_variant c.args.around.now.name.now c.args.around.now.variant.now) (ids_of c.deref.result.now))
     (plain_around c.args.around.now))
     c.args.walk.now fuel _ (omega (arith, lt)) (c.in-Ok.ensures.gives (fuel - 1) (omega (arith, lt))))
 
@@ -125,8 +124,8 @@ pub read_content-returns-in-Err-clause-gives : goal.read_content-returns-in-Err-
 read_content-returns-in-Err-clause-gives t c = λ fuel lt.
     rw (c.in-Tuple.is, ← c.deref.ensures.value)
     (node_refused_here c.args.self.now
-    (taken_as (question_of c.args.ask.now) (tuple_variant_shape c.args.around.now.name.now c.args.around.now.variant.now
-    (ids_of c.deref.result.now))
+    (taken_as (question_of c.args.ask.now) (row_shape
+    (of_variant c.args.around.now.name.now c.args.around.now.variant.now) (ids_of c.deref.result.now))
     (plain_around c.args.around.now))
     c.args.walk.now fuel _ _ c.in-Err.refusal c.at_place.result (omega (arith, lt)) c.requires.here refl
     (c.in-Err.ensures.gives (fuel - 1) (omega (arith, lt))) c.at_place.ensures)
@@ -136,8 +135,8 @@ pub read_content-returns-in-Ok-read_variant_fields-clause-gives
 read_content-returns-in-Ok-read_variant_fields-clause-gives t c = λ fuel lt.
     rw (c.in-Struct.is, ← c.deref-in-Struct.ensures.value)
     (node_read c.args.self.now (taken_as (question_of c.args.ask.now)
-    (struct_variant_shape false c.args.around.now.name.now
-    c.args.around.now.variant.now (fields_of c.deref-in-Struct.result.now))
+    (fields_shape false
+    (of_variant c.args.around.now.name.now c.args.around.now.variant.now) (fields_of c.deref-in-Struct.result.now))
     (plain_around c.args.around.now))
     c.args.walk.now fuel _ (omega (arith, lt))
     (c.in-Ok-read_variant_fields.ensures.gives (fuel - 1) (omega (arith, lt))))
@@ -147,8 +146,8 @@ pub read_content-returns-in-Err-read_variant_fields-clause-gives
 read_content-returns-in-Err-read_variant_fields-clause-gives t c = λ fuel lt.
     rw (c.in-Struct.is, ← c.deref-in-Struct.ensures.value)
     (node_refused_here c.args.self.now
-    (taken_as (question_of c.args.ask.now) (struct_variant_shape false c.args.around.now.name.now
-    c.args.around.now.variant.now (fields_of c.deref-in-Struct.result.now))
+    (taken_as (question_of c.args.ask.now) (fields_shape false
+    (of_variant c.args.around.now.name.now c.args.around.now.variant.now) (fields_of c.deref-in-Struct.result.now))
     (plain_around c.args.around.now))
     c.args.walk.now fuel _ _ c.in-Err-read_variant_fields.refusal c.at_place-in-Err-read_variant_fields.result
     (omega (arith, lt)) c.requires.here refl
@@ -160,8 +159,8 @@ pub read_content-returns-in-Ok-read_variant_fields-2-clause-gives
 read_content-returns-in-Ok-read_variant_fields-2-clause-gives t c = λ fuel lt.
     rw (c.in-StrictStruct.is, ← c.deref-in-StrictStruct.ensures.value)
     (node_read c.args.self.now (taken_as (question_of c.args.ask.now)
-    (struct_variant_shape true c.args.around.now.name.now
-    c.args.around.now.variant.now (fields_of c.deref-in-StrictStruct.result.now))
+    (fields_shape true
+    (of_variant c.args.around.now.name.now c.args.around.now.variant.now) (fields_of c.deref-in-StrictStruct.result.now))
     (plain_around c.args.around.now))
     c.args.walk.now fuel _ (omega (arith, lt)) (c.in-Ok-read_variant_fields-2.ensures.gives (fuel - 1)
     (omega (arith, lt))))
@@ -171,8 +170,8 @@ pub read_content-returns-in-Err-read_variant_fields-2-clause-gives
 read_content-returns-in-Err-read_variant_fields-2-clause-gives t c = λ fuel lt.
     rw (c.in-StrictStruct.is, ← c.deref-in-StrictStruct.ensures.value)
     (node_refused_here c.args.self.now
-    (taken_as (question_of c.args.ask.now) (struct_variant_shape true c.args.around.now.name.now
-    c.args.around.now.variant.now (fields_of c.deref-in-StrictStruct.result.now))
+    (taken_as (question_of c.args.ask.now) (fields_shape true
+    (of_variant c.args.around.now.name.now c.args.around.now.variant.now) (fields_of c.deref-in-StrictStruct.result.now))
     (plain_around c.args.around.now))
     c.args.walk.now fuel _ _ c.in-Err-read_variant_fields-2.refusal c.at_place-in-Err-read_variant_fields-2.result
     (omega (arith, lt)) c.requires.here refl

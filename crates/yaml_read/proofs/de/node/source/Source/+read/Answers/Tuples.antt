@@ -1,7 +1,7 @@
 -- What the reader gives at each exit: tuples and tuple structs.
 use Rattle.std.proofs.Common.{Ok, Err, None, ◌≡◌, suc, ◌+◌, ◌-◌, ◌<◌, [], ◌∷◌, ◌++◌, map, length, sym, ap, ◌∙◌, arith}
 use Rattle.std.proofs.Common.{rules, length-append}
-use Rattle.std.specs.Option.{is_some, option_copied}
+use Rattle.std.specs.Option.{is_some}
 use Rattle.std.specs.Prelude.{drop}
 use Rattle.std.proofs.lemmas.List.{map-append, length-map}
 use Rattle.yaml_shape.specs.DataView.{data_of}
@@ -12,8 +12,8 @@ use Rattle.yaml_scalar.specs.Steps.{with_shape}
 use Rattle.yaml_read.specs.Places.{way_of, element_under}
 use Rattle.yaml_read.specs.Rows.{row_data}
 use Rattle.yaml_read.specs.TreeReader.{Spot, after}
-use Rattle.yaml_read.specs.inner.Reader.{is_sequence_end, few_text, owner_named, skip_at, row_at}
-use Rattle.yaml_read.specs.inner.Walks.{around_of, source_of, spot_of, reader_of, row_view, seen}
+use Rattle.yaml_read.specs.inner.Reader.{is_sequence_end, skip_at, row_at}
+use Rattle.yaml_read.specs.inner.Walks.{around_of, owner_of, source_of, spot_of, reader_of, row_view, seen}
 use Rattle.yaml_read.specs.inner.Questions.{question_of}
 use Rattle.yaml_read.proofs.reading.Exits.{same_spot, not_sequence_end, row_as_is, step_event, step_row, finish_fails}
 use Rattle.yaml_read.proofs.reading.Exits.{gives_finish}
@@ -25,7 +25,7 @@ pub read_tuple-returns-in_default-event : goal.read_tuple-returns-in_default-eve
 read_tuple-returns-in_default-event t c = record {
   gives = λ fuel lt. rw (step_event c.args.self.now fuel (question_of c.args.ask.now) c.args.walk.now _ _
       c.in-Some.ensures.found
-      (row_as_is (shape_of c.args.ask.now.shape.now) (option_copied c.args.name) (ids_of c.args.items.now)
+      (row_as_is (shape_of c.args.ask.now.shape.now) (owner_of c.args.owner) (ids_of c.args.items.now)
       (is_some (around_of c.args.ask.now.taken)) _ c.requires.tuple)) (c.read_simple.ensures.gives fuel _ lt);
   moves = c.read_simple.ensures.moves;
   cost = c.read_simple.ensures.cost;
@@ -36,24 +36,22 @@ read_tuple-returns-in-Ok-clause-gives t c = λ fuel lt.
     let some : 0 < c.args.ask.now.nest = omega (arith, c.if-ask-eq0.false) in
     let left = c.step.ensures.left in
     rw (step_row c.args.self.now fuel (question_of c.args.ask.now) c.args.walk.now
-    (option_copied c.args.name) (ids_of c.args.items.now) _ _ c.requires.tuple
+    (owner_of c.args.owner) (ids_of c.args.items.now) _ _ c.requires.tuple
     (rw c.in-SequenceStart.is at c.in-Some.ensures.found) some)
-    (gives_finish data_of (row_data (few_text (owner_named (option_copied c.args.name))
-    (length (ids_of c.args.items.now))) (length (ids_of c.args.items.now))) c.finish.result _ _
+    (gives_finish data_of (row_data (owner_of c.args.owner) (length (ids_of c.args.items.now))) c.finish.result _ _
     (spot_of c.read_elements.new.walk)
     (rw (same_spot (spot_of c.step.new.self) (after (spot_of c.args.walk.now)) c.step.ensures.place
     c.step.ensures.left) at (c.in-Ok.ensures.gives fuel (length c.args.self.now.events.now)
-    (omega (arith, some, left)) (omega (arith, c.step.ensures.place)))) (rw c.named.ensures at c.finish.ensures))
+    (omega (arith, some, left)) (omega (arith, c.step.ensures.place)))) c.finish.ensures)
 
 pub read_tuple-returns-in-Err-clause-gives : goal.read_tuple-returns-in-Err-clause-gives
 read_tuple-returns-in-Err-clause-gives t c = λ fuel lt fault.
     let some : 0 < c.args.ask.now.nest = omega (arith, c.if-ask-eq0.false) in
     let left = c.step.ensures.left in
     step_row c.args.self.now fuel (question_of c.args.ask.now) c.args.walk.now
-    (option_copied c.args.name) (ids_of c.args.items.now) _ _ c.requires.tuple
+    (owner_of c.args.owner) (ids_of c.args.items.now) _ _ c.requires.tuple
     (rw c.in-SequenceStart.is at c.in-Some.ensures.found) some
-    ∙ finish_fails (row_data (few_text (owner_named (option_copied c.args.name)) (length (ids_of c.args.items.now)))
-    (length (ids_of c.args.items.now))) _ _
+    ∙ finish_fails (row_data (owner_of c.args.owner) (length (ids_of c.args.items.now))) _ _
     (rw (same_spot (spot_of c.step.new.self) (after (spot_of c.args.walk.now)) c.step.ensures.place c.step.ensures.left)
     at (c.in-Err.ensures.gives fuel (length c.args.self.now.events.now) (omega (arith, some, left))
     (omega (arith, c.step.ensures.place)) fault))

@@ -1,8 +1,7 @@
 -- What the reader gives at each exit: contents of variants.
 use Rattle.std.proofs.Common.{Some, ◌≡◌, ◌<◌, length, true, false, sym, ap, ◌∙◌, arith, refl}
 use Rattle.yaml_shape.specs.DataView.{data_of}
-use Rattle.yaml_shape.specs.Expected.{tuple_variant_with_text}
-use Rattle.yaml_shape.specs.PlainShape.{tuple_variant_shape, struct_variant_shape}
+use Rattle.yaml_shape.specs.PlainShape.{row_shape, fields_shape, of_variant}
 use Rattle.yaml_shape.specs.ShapeView.{ids_of, fields_of}
 use Rattle.yaml_load.specs.DocEventView.{doc_event_of}
 use Rattle.yaml_scalar.specs.Steps.{ending}
@@ -14,24 +13,20 @@ use Rattle.yaml_read.specs.TreeReader.{after}
 use Rattle.yaml_read.specs.inner.Walks.{plain_around, source_of, spot_of, reader_of}
 use Rattle.yaml_read.specs.inner.Questions.{question_of, taken_as}
 use Rattle.yaml_read.proofs.reading.ContentExits.{other_in_fields, no_mapping_starts}
-use Rattle.yaml_read.proofs.reading.ValueExits.{step_rows}
-use Rattle.yaml_read.proofs.reading.Exits.{same_spot, step_event, finish_fails, gives_finish}
+use Rattle.yaml_read.proofs.reading.Exits.{same_spot, step_event, step_row, finish_fails, gives_finish}
 use Rattle.yaml_read.proofs.reading.FieldExits.{fields_as_is, step_struct}
 use Rattle.yaml_read.proofs.de.node.source.Source.+read.Goals as goal
 
 pub read_variant_row-returns-in-Ok-clause-gives : goal.read_variant_row-returns-in-Ok-clause-gives
 read_variant_row-returns-in-Ok-clause-gives t c = λ fuel lt.
-    let q = taken_as (question_of c.args.ask.now)
-    (tuple_variant_shape c.args.around.now.name.now c.args.around.now.variant.now (ids_of c.args.items.now))
+    let owner = of_variant c.args.around.now.name.now c.args.around.now.variant.now in
+    let q = taken_as (question_of c.args.ask.now) (row_shape owner (ids_of c.args.items.now))
     (plain_around c.args.around.now) in
     let some : 0 < c.args.ask.now.nest = omega (arith, c.if-ask-eq0.false) in
     let left = c.step-2.ensures.left in
-    rw (step_rows c.args.self.now fuel q c.args.walk.now (tuple_variant_with_text c.args.around.now.name.now
-    c.args.around.now.variant.now
-    (length (ids_of c.args.items.now))) (ids_of c.args.items.now) _ _ refl
+    rw (step_row c.args.self.now fuel q c.args.walk.now owner (ids_of c.args.items.now) _ _ refl
     (sym (c.requires.here ∙ ap (λ e. Some (doc_event_of e, c.args.event.now.1)) c.in-SequenceStart.is)) some)
-    (gives_finish data_of (row_data (tuple_variant_with_text c.args.around.now.name.now
-    c.args.around.now.variant.now (length (ids_of c.args.items.now))) (length (ids_of c.args.items.now)))
+    (gives_finish data_of (row_data owner (length (ids_of c.args.items.now)))
     c.finish.result _ _ (spot_of c.read_elements.new.walk)
     (rw (same_spot (spot_of c.step-2.new.self) (after (spot_of c.args.walk.now)) c.step-2.ensures.place
     c.step-2.ensures.left) at (c.in-Ok.ensures.gives fuel (length c.args.self.now.events.now)
@@ -39,17 +34,14 @@ read_variant_row-returns-in-Ok-clause-gives t c = λ fuel lt.
 
 pub read_variant_row-returns-in-Err-clause-gives : goal.read_variant_row-returns-in-Err-clause-gives
 read_variant_row-returns-in-Err-clause-gives t c = λ fuel lt fault.
-    let q = taken_as (question_of c.args.ask.now)
-    (tuple_variant_shape c.args.around.now.name.now c.args.around.now.variant.now (ids_of c.args.items.now))
+    let owner = of_variant c.args.around.now.name.now c.args.around.now.variant.now in
+    let q = taken_as (question_of c.args.ask.now) (row_shape owner (ids_of c.args.items.now))
     (plain_around c.args.around.now) in
     let some : 0 < c.args.ask.now.nest = omega (arith, c.if-ask-eq0.false) in
     let left = c.step-2.ensures.left in
-    step_rows c.args.self.now fuel q c.args.walk.now (tuple_variant_with_text c.args.around.now.name.now
-    c.args.around.now.variant.now
-    (length (ids_of c.args.items.now))) (ids_of c.args.items.now) _ _ refl
+    step_row c.args.self.now fuel q c.args.walk.now owner (ids_of c.args.items.now) _ _ refl
     (sym (c.requires.here ∙ ap (λ e. Some (doc_event_of e, c.args.event.now.1)) c.in-SequenceStart.is)) some
-    ∙ finish_fails (row_data (tuple_variant_with_text c.args.around.now.name.now c.args.around.now.variant.now
-    (length (ids_of c.args.items.now))) (length (ids_of c.args.items.now))) _ _
+    ∙ finish_fails (row_data owner (length (ids_of c.args.items.now))) _ _
     (rw (same_spot (spot_of c.step-2.new.self) (after (spot_of c.args.walk.now)) c.step-2.ensures.place
     c.step-2.ensures.left) at (c.in-Err.ensures.gives fuel (length c.args.self.now.events.now)
     (omega (arith, lt, some, left)) (omega (arith, c.step-2.ensures.place)) fault))
@@ -57,24 +49,23 @@ read_variant_row-returns-in-Err-clause-gives t c = λ fuel lt fault.
 pub read_variant_fields-returns-in_default : goal.read_variant_fields-returns-in_default
 read_variant_fields-returns-in_default t c =
     let bare : is_bare (doc_event_of c.args.event.now.0) ≡ false = sym c.is_bare.ensures ∙ c.if-is_bare.false in
+    let owner = of_variant c.args.around.now.name.now c.args.around.now.variant.now in
+    let fields = fields_of c.args.fields.now in
     record {
       gives = λ fuel lt fault.
           step_event c.args.self.now fuel
-          (taken_as (question_of c.args.ask.now) (struct_variant_shape c.args.strict c.args.around.now.name.now
-          c.args.around.now.variant.now (fields_of c.args.fields.now)) (plain_around c.args.around.now)) c.args.walk.now
+          (taken_as (question_of c.args.ask.now) (fields_shape c.args.strict owner fields)
+          (plain_around c.args.around.now)) c.args.walk.now
           (doc_event_of c.args.event.now.0) c.args.event.now.1 (sym c.requires.here)
-          (fields_as_is (struct_variant_shape c.args.strict c.args.around.now.name.now c.args.around.now.variant.now
-          (fields_of c.args.fields.now)) (c.args.strict, (fields_of c.args.fields.now)) true
+          (fields_as_is (fields_shape c.args.strict owner fields) (c.args.strict, fields) true
           (doc_event_of c.args.event.now.0) refl bare)
           ∙ other_in_fields (source_of c.args.self.now) (reader_of fuel c.args.self.now)
           (way_of c.args.ask.now.path.now) c.args.ask.now.nest (plain_around c.args.around.now)
-          (spot_of c.args.walk.now) c.args.strict c.args.around.now.name.now c.args.around.now.variant.now
-          (fields_of c.args.fields.now) (doc_event_of c.args.event.now.0) c.args.event.now.1
-          c.args.around.now.variant.now
-          c.requires.tagged (no_mapping_starts c.args.event.now.0 c.in_default.not-MappingStart c.args.strict
-          c.args.around.now.name.now c.args.around.now.variant.now (fields_of c.args.fields.now))
+          (spot_of c.args.walk.now) c.args.strict owner fields (doc_event_of c.args.event.now.0) c.args.event.now.1
+          c.args.around.now.variant.now c.requires.tagged
+          (no_mapping_starts c.args.event.now.0 c.in_default.not-MappingStart c.args.strict owner fields)
           ∙ ap (ending (after (spot_of c.args.walk.now)))
-          (c.found_in_fields.ensures c.args.strict (fields_of c.args.fields.now) fault);
+          (c.found_in_fields.ensures c.args.strict fields fault);
       moves = tt;
       cost = omega (
         arith,
@@ -87,8 +78,9 @@ read_variant_fields-returns-in_default t c =
 
 pub read_variant_fields-returns-in-Ok-clause-gives : goal.read_variant_fields-returns-in-Ok-clause-gives
 read_variant_fields-returns-in-Ok-clause-gives t c = λ fuel lt.
-    let q = taken_as (question_of c.args.ask.now) (struct_variant_shape c.args.strict c.args.around.now.name.now
-    c.args.around.now.variant.now (fields_of c.args.fields.now)) (plain_around c.args.around.now) in
+    let owner = of_variant c.args.around.now.name.now c.args.around.now.variant.now in
+    let q = taken_as (question_of c.args.ask.now) (fields_shape c.args.strict owner (fields_of c.args.fields.now))
+    (plain_around c.args.around.now) in
     let some : 0 < c.args.ask.now.nest = omega (arith, c.if-ask-eq0.false) in
     let left = c.step-2.ensures.left in
     rw (step_struct c.args.self.now fuel q c.args.walk.now c.args.strict (fields_of c.args.fields.now) _ _ refl
@@ -104,8 +96,9 @@ read_variant_fields-returns-in-Ok-clause-gives t c = λ fuel lt.
 
 pub read_variant_fields-returns-clause-gives : goal.read_variant_fields-returns-clause-gives
 read_variant_fields-returns-clause-gives t c = λ fuel lt fault.
-    let q = taken_as (question_of c.args.ask.now) (struct_variant_shape c.args.strict c.args.around.now.name.now
-    c.args.around.now.variant.now (fields_of c.args.fields.now)) (plain_around c.args.around.now) in
+    let owner = of_variant c.args.around.now.name.now c.args.around.now.variant.now in
+    let q = taken_as (question_of c.args.ask.now) (fields_shape c.args.strict owner (fields_of c.args.fields.now))
+    (plain_around c.args.around.now) in
     let some : 0 < c.args.ask.now.nest = omega (arith, c.if-ask-eq0.false) in
     let left = c.step-2.ensures.left in
     step_struct c.args.self.now fuel q c.args.walk.now c.args.strict (fields_of c.args.fields.now) _ _ refl
