@@ -1,5 +1,5 @@
 -- What the reader gives at each exit: pairs of any mappings.
-use Rattle.std.proofs.Common.{refl, Ok, Err, ◌≡◌, ◌+◌, ◌-◌, [], ◌∷◌, ◌++◌, length, false, sym, ap, ◌∙◌, arith}
+use Rattle.std.proofs.Common.{refl, Ok, Err, ◌≡◌, ◌+◌, [], ◌∷◌, ◌++◌, length, false, sym, ap, ◌∙◌, arith}
 use Rattle.std.proofs.Common.{length-append}
 use Rattle.yaml_shape.specs.DataView.{data_of, entries_of}
 use Rattle.yaml_shape.specs.ShapeView.{shape_of}

@@ -1,5 +1,5 @@
 -- What the reader gives at each exit: sequences.
-use Rattle.std.proofs.Common.{Ok, Err, Some, ◌≡◌, ◌+◌, ◌-◌, ◌<◌, [], ◌∷◌, ◌++◌, map, length, sym, ap, ◌∙◌, arith, rules}
+use Rattle.std.proofs.Common.{Ok, Err, Some, ◌≡◌, ◌+◌, ◌<◌, [], ◌∷◌, ◌++◌, map, length, sym, ap, ◌∙◌, arith, rules}
 use Rattle.std.proofs.Common.{length-append}
 use Rattle.std.specs.Option.{is_some}
 use Rattle.std.proofs.lemmas.List.{map-append, length-map}

@@ -1,5 +1,5 @@
 -- What the reader gives at each exit: structs.
-use Rattle.std.proofs.Common.{refl, Ok, Err, None, ◌≡◌, suc, ◌+◌, ◌-◌, ◌<◌, length, false, sym, ap, ◌∙◌, arith}
+use Rattle.std.proofs.Common.{refl, Ok, Err, None, ◌≡◌, suc, ◌+◌, ◌<◌, length, false, sym, ap, ◌∙◌, arith}
 use Rattle.std.specs.Option.{is_some, option_map}
 use Rattle.std.proofs.lemmas.List.{length-map}
 use Rattle.yaml_shape.specs.DataView.{data_of}

@@ -1,5 +1,5 @@
 -- What the reader gives at each exit: tuples and tuple structs.
-use Rattle.std.proofs.Common.{Ok, Err, None, ◌≡◌, suc, ◌+◌, ◌-◌, ◌<◌, [], ◌∷◌, ◌++◌, map, length, sym, ap, ◌∙◌, arith}
+use Rattle.std.proofs.Common.{Ok, Err, None, ◌≡◌, suc, ◌+◌, ◌<◌, [], ◌∷◌, ◌++◌, map, length, sym, ap, ◌∙◌, arith}
 use Rattle.std.proofs.Common.{rules, length-append}
 use Rattle.std.specs.Option.{is_some, option_copied}
 use Rattle.std.specs.Prelude.{drop}
