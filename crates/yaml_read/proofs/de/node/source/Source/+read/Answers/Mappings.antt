@@ -1,20 +1,20 @@
 -- What the reader gives at each exit: mappings.
-use Rattle.std.proofs.Common.{Ok, Err, Some, ◌≡◌, ◌+◌, ◌-◌, ◌<◌, [], ◌∷◌, ◌++◌, map, length, sym, ap, ◌∙◌, arith, rules}
+use Rattle.std.proofs.Common.{Ok, Err, Some, ◌≡◌, ◌+◌, ◌<◌, [], ◌∷◌, ◌++◌, map, length, sym, ap, ◌∙◌, arith, rules}
 use Rattle.std.proofs.Common.{length-append}
 use Rattle.std.specs.Option.{is_some}
 use Rattle.std.proofs.lemmas.List.{map-append}
 use Rattle.yaml_shape.specs.DataView.{data_of, entry_of, entries_of}
 use Rattle.yaml_shape.specs.PlainData.{map_data}
-use Rattle.yaml_shape.specs.ShapeView.{shape_of}
 use Rattle.yaml_shape.specs.declared.data.Data.{Map, the_lemmas}
 use Rattle.yaml_shape.specs.declared.data.Entry.{Entry}
 use Rattle.yaml_load.specs.DocEventView.{doc_event_of}
 use Rattle.yaml_read.specs.Handing.{handed}
 use Rattle.yaml_read.specs.Places.{way_of, value_under}
 use Rattle.yaml_read.specs.TreeReader.{Spot, after}
-use Rattle.yaml_read.specs.inner.Reader.{is_mapping_end, value_way, entry_at}
-use Rattle.yaml_read.specs.inner.Walks.{around_of, source_of, spot_of, seen, reader_of}
+use Rattle.yaml_read.specs.inner.Reader.{is_mapping_end, value_way}
+use Rattle.yaml_read.specs.inner.Walks.{around_of, spot_of, seen, source_of, reader_of}
 use Rattle.yaml_read.specs.inner.Questions.{question_of}
+use Rattle.yaml_shape.specs.ShapeView.{shape_of}
 use Rattle.yaml_read.proofs.reading.Exits.{same_spot, not_mapping_end, entry_is, step_event, step_map}
 use Rattle.yaml_read.proofs.reading.PartExits.{no_key, no_value, one_entry}
 use Rattle.yaml_read.proofs.reading.Loops.{led_end, led_ended, led_fails, led_more, wrap_fails, wrap_finds}
@@ -63,18 +63,14 @@ read_map-returns-in-Err-clause-gives t c = λ fuel lt fault.
 pub read_entries-returns-in_default-clause-gives : goal.read_entries-returns-in_default-clause-gives
 read_entries-returns-in_default-clause-gives t c = λ fuel turns lt big fault.
     let l = c.loop-event in
-    led_ended is_mapping_end (entry_at (source_of c.args.self.now) (reader_of fuel c.args.self.now)
-    (way_of c.args.path.now) (shape_of c.args.key.now) (shape_of c.args.value.now) c.args.nest)
-    (seen c.args.self.now.events.now) (length l.entries.items) _ _ _ _ (l.invariant.rest fuel lt) turns
+    led_ended _ _ _ _ _ _ _ _ (l.invariant.rest fuel lt) turns
     (omega (arith, l.invariant.turned, l.invariant.within))
     (sym c.in_default.ensures.found) ∙ ap Err (sym (c.ended.ensures fault))
 
 pub read_entries-returns-in-MappingEnd-clause-gives : goal.read_entries-returns-in-MappingEnd-clause-gives
 read_entries-returns-in-MappingEnd-clause-gives t c = λ fuel turns lt big.
     let l = c.loop-event in
-    led_end is_mapping_end (entry_at (source_of c.args.self.now) (reader_of fuel c.args.self.now)
-    (way_of c.args.path.now) (shape_of c.args.key.now) (shape_of c.args.value.now) c.args.nest)
-    (seen c.args.self.now.events.now) (length l.entries.items) _ _ _ _ (l.invariant.rest fuel lt) turns _
+    led_end _ _ _ _ _ _ _ _ (l.invariant.rest fuel lt) turns _
     (omega (arith, l.invariant.turned, l.invariant.within))
     (sym c.in-Some.ensures.found) (ap (λ e. is_mapping_end (doc_event_of e)) c.in-MappingEnd.is)
     ∙ ap (λ (s : Spot). Ok (map entry_of l.entries.items, s))
@@ -84,10 +80,7 @@ pub read_entries-returns-in-Err : goal.read_entries-returns-in-Err
 read_entries-returns-in-Err t c =
     let l = c.loop-event in
     record {
-      gives = λ fuel turns lt big fault. led_fails is_mapping_end (entry_at (source_of c.args.self.now)
-          (reader_of fuel c.args.self.now) (way_of c.args.path.now) (shape_of c.args.key.now) (shape_of c.args.value.now)
-          c.args.nest) (seen c.args.self.now.events.now) (length l.entries.items) _ _ _ _ (l.invariant.rest fuel lt) turns _
-          _
+      gives = λ fuel turns lt big fault. led_fails _ _ _ _ _ _ _ _ (l.invariant.rest fuel lt) turns _ _
           (omega (arith, l.invariant.turned, l.invariant.within)) (sym c.in-Some.ensures.found)
           (not_mapping_end _ c.in_default-0₀.not-MappingEnd)
           (no_key (source_of c.args.self.now) (reader_of fuel c.args.self.now) (way_of c.args.path.now)
@@ -105,10 +98,7 @@ read_entries-returns-in-Err-read_value t c =
     ap (value_way (way_of c.args.path.now)) c.in-Some.ensures.found in
     let moves = c.in-Ok.ensures.moves in
     record {
-      gives = λ fuel turns lt big fault. led_fails is_mapping_end (entry_at (source_of c.args.self.now)
-          (reader_of fuel c.args.self.now) (way_of c.args.path.now) (shape_of c.args.key.now) (shape_of c.args.value.now)
-          c.args.nest) (seen c.args.self.now.events.now) (length l.entries.items) _ _ _ _ (l.invariant.rest fuel lt) turns _
-          _
+      gives = λ fuel turns lt big fault. led_fails _ _ _ _ _ _ _ _ (l.invariant.rest fuel lt) turns _ _
           (omega (arith, l.invariant.turned, l.invariant.within)) (sym c.in-Some.ensures.found)
           (not_mapping_end _ c.in_default-0₀.not-MappingEnd)
           (no_value (source_of c.args.self.now) (reader_of fuel c.args.self.now) (way_of c.args.path.now)
@@ -141,9 +131,7 @@ read_entries-loop-event-preserved t c =
       left = omega (arith, moves, moves', l.invariant.left);
       counted = omega (arith, moves, moves', l.invariant.counted);
       cost = omega (arith, moves, moves', l.invariant.cost);
-      rest = λ fuel lt. led_more is_mapping_end (entry_at (source_of c.args.self.now) (reader_of fuel c.args.self.now)
-          (way_of c.args.path.now) (shape_of c.args.key.now) (shape_of c.args.value.now) c.args.nest)
-          (seen c.args.self.now.events.now) (length l.entries.items) _ _ _ _ (l.invariant.rest fuel lt) _ _ _ _ _
+      rest = λ fuel lt. led_more _ _ _ _ _ _ _ _ (l.invariant.rest fuel lt) _ _ _ _ _
           (sym c.in-Some.ensures.found)
           (not_mapping_end _ c.in_default-0₀.not-MappingEnd)
           (one_entry (source_of c.args.self.now) (reader_of fuel c.args.self.now) (way_of c.args.path.now)

@@ -1,5 +1,5 @@
 -- What the reader gives at each exit: pairs of any mappings.
-use Rattle.std.proofs.Common.{refl, Ok, Err, ◌≡◌, ◌+◌, ◌-◌, [], ◌∷◌, ◌++◌, length, false, sym, ap, ◌∙◌, arith}
+use Rattle.std.proofs.Common.{refl, Ok, Err, ◌≡◌, ◌+◌, [], ◌∷◌, ◌++◌, length, false, sym, ap, ◌∙◌, arith}
 use Rattle.std.proofs.Common.{length-append}
 use Rattle.yaml_shape.specs.DataView.{data_of, entries_of}
 use Rattle.yaml_shape.specs.ShapeView.{shape_of}
@@ -10,7 +10,7 @@ use Rattle.yaml_read.specs.AnyData.{tree_in, pairs_in, new_key}
 use Rattle.yaml_read.specs.Handing.{reach}
 use Rattle.yaml_read.specs.Places.{way_of, value_under}
 use Rattle.yaml_read.specs.TreeReader.{Spot, after}
-use Rattle.yaml_read.specs.inner.Reader.{is_mapping_end, value_way, any_entry_at}
+use Rattle.yaml_read.specs.inner.Reader.{is_mapping_end, value_way}
 use Rattle.yaml_read.specs.inner.Walks.{source_of, spot_of, seen, reader_of}
 use Rattle.yaml_read.proofs.AnyLaws.{new_is_key, pairs_grow, key_again}
 use Rattle.yaml_read.proofs.reading.ValueExits.{any_no_key, any_repeated, any_no_value, any_entry}
@@ -38,9 +38,7 @@ pub read_pairs-returns-in_default-clause-gives : goal.read_pairs-returns-in_defa
 read_pairs-returns-in_default-clause-gives t c = λ fuel turns lt big fault.
     let v = c.loop-event.invariant.1 in
     wrap_fails (λ vs. pairs_in (entries_of vs)) _ _
-    (led_ended is_mapping_end (any_entry_at (source_of c.args.self.now) (reader_of fuel c.args.self.now)
-    (way_of c.args.path.now) c.args.nest) (seen c.args.self.now.events.now) (length c.loop-event.invariant.0) _ _ _ _
-    (v.rest fuel lt) turns (omega (arith, v.turned, v.within))
+    (led_ended _ _ _ _ _ _ _ _ (v.rest fuel lt) turns (omega (arith, v.turned, v.within))
     (sym c.in_default.ensures.found)) ∙ ap Err (sym (c.ended.ensures fault))
 
 pub read_pairs-returns-in-MappingEnd-clause-gives : goal.read_pairs-returns-in-MappingEnd-clause-gives
@@ -48,9 +46,7 @@ read_pairs-returns-in-MappingEnd-clause-gives t c = λ fuel turns lt big.
     let l = c.loop-event in
     let v = l.invariant.1 in
     wrap_finds (λ vs. pairs_in (entries_of vs)) _ _ _
-    (led_end is_mapping_end (any_entry_at (source_of c.args.self.now) (reader_of fuel c.args.self.now)
-    (way_of c.args.path.now) c.args.nest) (seen c.args.self.now.events.now) (length c.loop-event.invariant.0) _ _ _ _
-    (v.rest fuel lt) turns _ (omega (arith, v.turned, v.within))
+    (led_end _ _ _ _ _ _ _ _ (v.rest fuel lt) turns _ (omega (arith, v.turned, v.within))
     (sym c.in-Some.ensures.found) (ap (λ e. is_mapping_end (doc_event_of e)) c.in-MappingEnd.is))
     ∙ ap (λ ps. Ok (ps, after (spot_of l.walk))) v.same
     ∙ ap (λ (s : Spot). Ok (pairs_of l.pairs, s))
@@ -65,9 +61,7 @@ read_pairs-returns-in-Err t c =
     ap (reach c.args.self.now.schema.now) c.requires.shape in
     record {
       gives = λ fuel turns lt big fault. wrap_fails (λ vs. pairs_in (entries_of vs)) _ _
-          (led_fails is_mapping_end (any_entry_at (source_of c.args.self.now) (reader_of fuel c.args.self.now)
-          (way_of c.args.path.now) c.args.nest) (seen c.args.self.now.events.now) (length c.loop-event.invariant.0) _ _
-          _ _ (v.rest fuel lt) turns _ _
+          (led_fails _ _ _ _ _ _ _ _ (v.rest fuel lt) turns _ _
           (omega (arith, v.turned, v.within)) (sym c.in-Some.ensures.found)
           (not_mapping_end _ c.in_default-event.not-MappingEnd)
           (any_no_key (source_of c.args.self.now) (reader_of fuel c.args.self.now)
@@ -86,9 +80,7 @@ read_pairs-returns-then-has_key t c =
     ap (reach c.args.self.now.schema.now) c.requires.shape in
     record {
       gives = λ fuel turns lt big fault. wrap_fails (λ vs. pairs_in (entries_of vs)) _ _
-          (led_fails is_mapping_end (any_entry_at (source_of c.args.self.now) (reader_of fuel c.args.self.now)
-          (way_of c.args.path.now) c.args.nest) (seen c.args.self.now.events.now) (length c.loop-event.invariant.0) _ _
-          _ _ (v.rest fuel lt) turns _ _
+          (led_fails _ _ _ _ _ _ _ _ (v.rest fuel lt) turns _ _
           (omega (arith, v.turned, v.within)) (sym c.in-Some.ensures.found)
           (not_mapping_end _ c.in_default-event.not-MappingEnd)
           (any_repeated (source_of c.args.self.now) (reader_of fuel c.args.self.now)
@@ -118,9 +110,7 @@ read_pairs-returns-in-Err-read_node t c =
     new_is_key vs (data_of c.in-Ok.key) (ap (has_key (tree_in (data_of c.in-Ok.key))) v.same ∙ absent) in
     record {
       gives = λ fuel turns lt big fault. wrap_fails (λ vs. pairs_in (entries_of vs)) _ _
-          (led_fails is_mapping_end (any_entry_at (source_of c.args.self.now) (reader_of fuel c.args.self.now)
-          (way_of c.args.path.now) c.args.nest) (seen c.args.self.now.events.now) (length c.loop-event.invariant.0) _ _
-          _ _ (v.rest fuel lt) turns _ _
+          (led_fails _ _ _ _ _ _ _ _ (v.rest fuel lt) turns _ _
           (omega (arith, v.turned, v.within)) (sym c.in-Some.ensures.found)
           (not_mapping_end _ c.in_default-event.not-MappingEnd)
           (any_no_value (source_of c.args.self.now) (reader_of fuel c.args.self.now)
@@ -160,9 +150,7 @@ read_pairs-loop-event-preserved t c =
         left = omega (arith, moves, moves', v.left);
         counted = omega (arith, moves, moves', v.counted);
         cost = omega (arith, moves, moves', v.cost);
-        rest = λ fuel lt. led_more is_mapping_end
-            (any_entry_at (source_of c.args.self.now) (reader_of fuel c.args.self.now) (way_of c.args.path.now) c.args.nest)
-            (seen c.args.self.now.events.now) (length c.loop-event.invariant.0) _ _ _ _ (v.rest fuel lt) _ _ _ _ _
+        rest = λ fuel lt. led_more _ _ _ _ _ _ _ _ (v.rest fuel lt) _ _ _ _ _
             (sym c.in-Some.ensures.found)
             (not_mapping_end _ c.in_default-event.not-MappingEnd)
             (any_entry (source_of c.args.self.now) (reader_of fuel c.args.self.now)

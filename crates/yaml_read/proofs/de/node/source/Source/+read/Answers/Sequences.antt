@@ -1,5 +1,5 @@
 -- What the reader gives at each exit: sequences.
-use Rattle.std.proofs.Common.{Ok, Err, Some, ◌≡◌, ◌+◌, ◌-◌, ◌<◌, [], ◌∷◌, ◌++◌, map, length, sym, ap, ◌∙◌, arith, rules}
+use Rattle.std.proofs.Common.{Ok, Err, Some, ◌≡◌, ◌+◌, ◌<◌, [], ◌∷◌, ◌++◌, map, length, sym, ap, ◌∙◌, arith, rules}
 use Rattle.std.proofs.Common.{length-append}
 use Rattle.std.specs.Option.{is_some}
 use Rattle.std.proofs.lemmas.List.{map-append, length-map}
@@ -9,11 +9,9 @@ use Rattle.yaml_shape.specs.declared.data.Data.{Seq, the_lemmas}
 use Rattle.yaml_load.specs.DocEventView.{doc_event_of}
 use Rattle.yaml_read.specs.Handing.{handed}
 use Rattle.yaml_read.specs.TreeReader.{Spot, after}
-use Rattle.yaml_read.specs.inner.Reader.{is_sequence_end, item_at}
-use Rattle.yaml_read.specs.inner.Walks.{around_of, spot_of, seen, reader_of}
+use Rattle.yaml_read.specs.inner.Reader.{is_sequence_end}
+use Rattle.yaml_read.specs.inner.Walks.{around_of, spot_of}
 use Rattle.yaml_read.specs.inner.Questions.{question_of}
-use Rattle.yaml_shape.specs.ShapeView.{shape_of}
-use Rattle.yaml_read.specs.Places.{way_of}
 use Rattle.yaml_read.proofs.reading.Exits.{same_spot, not_sequence_end, step_event, step_seq}
 use Rattle.yaml_read.proofs.reading.Loops.{led_end, led_ended, led_fails, led_more, wrap_fails, wrap_finds}
 use Rattle.yaml_read.proofs.de.node.source.Source.+read.Goals as goal
@@ -58,17 +56,13 @@ read_seq-returns-in-Err-clause-gives t c = λ fuel lt fault.
 pub read_items-returns-in_default-clause-gives : goal.read_items-returns-in_default-clause-gives
 read_items-returns-in_default-clause-gives t c = λ fuel turns lt big fault.
     let l = c.loop-event in
-    led_ended is_sequence_end (item_at (reader_of fuel c.args.self.now) (way_of c.args.path.now)
-    (shape_of c.args.element.now) c.args.nest) (seen c.args.self.now.events.now) (length l.items.items) _ _ _ _
-    (l.invariant.rest fuel lt) turns (omega (arith, l.invariant.turned, l.invariant.within))
+    led_ended _ _ _ _ _ _ _ _ (l.invariant.rest fuel lt) turns (omega (arith, l.invariant.turned, l.invariant.within))
     (sym c.in_default.ensures.found) ∙ ap Err (sym (c.ended.ensures fault))
 
 pub read_items-returns-in-SequenceEnd-clause-gives : goal.read_items-returns-in-SequenceEnd-clause-gives
 read_items-returns-in-SequenceEnd-clause-gives t c = λ fuel turns lt big.
     let l = c.loop-event in
-    led_end is_sequence_end (item_at (reader_of fuel c.args.self.now) (way_of c.args.path.now)
-    (shape_of c.args.element.now) c.args.nest) (seen c.args.self.now.events.now) (length l.items.items) _ _ _ _
-    (l.invariant.rest fuel lt) turns _ (omega (arith, l.invariant.turned, l.invariant.within))
+    led_end _ _ _ _ _ _ _ _ (l.invariant.rest fuel lt) turns _ (omega (arith, l.invariant.turned, l.invariant.within))
     (sym c.in-Some.ensures.found) (ap (λ e. is_sequence_end (doc_event_of e)) c.in-SequenceEnd.is)
     ∙ ap (λ (s : Spot). Ok (map data_of l.items.items, s))
     (sym (same_spot (spot_of c.step.new.self) (after (spot_of l.walk)) c.step.ensures.place c.step.ensures.left))
@@ -79,9 +73,7 @@ read_items-returns-in-Err t c =
     let len : c.len-count.result ≡ length l.items.items = search rules in
     let idx : c.len-count.result ≡ length (map data_of l.items.items) = len ∙ sym (length-map l.items.items data_of) in
     record {
-      gives = λ fuel turns lt big fault. led_fails is_sequence_end (item_at (reader_of fuel c.args.self.now)
-          (way_of c.args.path.now) (shape_of c.args.element.now) c.args.nest) (seen c.args.self.now.events.now)
-          (length l.items.items) _ _ _ _ (l.invariant.rest fuel lt) turns _ _
+      gives = λ fuel turns lt big fault. led_fails _ _ _ _ _ _ _ _ (l.invariant.rest fuel lt) turns _ _
           (omega (arith, l.invariant.turned, l.invariant.within)) (sym c.in-Some.ensures.found)
           (not_sequence_end _ c.in_default-0₀.not-SequenceEnd)
           (wrap_fails _ _ _ (rw idx at (c.in-Err.ensures.gives fuel
@@ -107,9 +99,7 @@ read_items-loop-event-preserved t c =
       left = omega (arith, moves, l.invariant.left);
       counted = omega (arith, moves, l.invariant.counted);
       cost = omega (arith, moves, l.invariant.cost);
-      rest = λ fuel lt. led_more is_sequence_end (item_at (reader_of fuel c.args.self.now) (way_of c.args.path.now)
-          (shape_of c.args.element.now) c.args.nest) (seen c.args.self.now.events.now) (length l.items.items) _ _ _ _
-          (l.invariant.rest fuel lt) _ _ _ _ _ (sym c.in-Some.ensures.found)
+      rest = λ fuel lt. led_more _ _ _ _ _ _ _ _ (l.invariant.rest fuel lt) _ _ _ _ _ (sym c.in-Some.ensures.found)
           (not_sequence_end _ c.in_default-0₀.not-SequenceEnd)
           (wrap_finds _ _ _ _ (rw idx at (c.in-Ok.ensures.gives fuel
           (omega (arith, l.invariant.left, c.requires.reach))))) seen_as (omega (arith, longer));

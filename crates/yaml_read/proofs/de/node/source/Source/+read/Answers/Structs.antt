@@ -1,5 +1,5 @@
 -- What the reader gives at each exit: structs.
-use Rattle.std.proofs.Common.{refl, Ok, Err, None, ◌≡◌, suc, ◌+◌, ◌-◌, ◌<◌, length, false, sym, ap, ◌∙◌, arith}
+use Rattle.std.proofs.Common.{refl, Ok, Err, None, ◌≡◌, suc, ◌+◌, ◌<◌, length, false, sym, ap, ◌∙◌, arith}
 use Rattle.std.specs.Option.{is_some, option_map}
 use Rattle.std.proofs.lemmas.List.{length-map}
 use Rattle.yaml_shape.specs.DataView.{data_of}
@@ -8,10 +8,9 @@ use Rattle.yaml_load.specs.DocEventView.{doc_event_of}
 use Rattle.yaml_read.specs.Fields.{no_slots, struct_of}
 use Rattle.yaml_read.specs.Handing.{is_bare}
 use Rattle.yaml_read.specs.TreeReader.{Spot, after}
-use Rattle.yaml_read.specs.inner.Reader.{is_mapping_end, field_at}
-use Rattle.yaml_read.specs.inner.Walks.{around_of, spot_of, slots_of, source_of, seen, reader_of}
+use Rattle.yaml_read.specs.inner.Reader.{is_mapping_end}
+use Rattle.yaml_read.specs.inner.Walks.{around_of, spot_of, slots_of}
 use Rattle.yaml_read.specs.inner.Questions.{question_of}
-use Rattle.yaml_read.specs.Places.{way_of}
 use Rattle.yaml_read.proofs.reading.Exits.{same_spot, not_mapping_end, step_event, finish_fails, gives_finish}
 use Rattle.yaml_read.proofs.reading.FieldExits.{fields_as_is, step_struct}
 use Rattle.yaml_read.proofs.reading.Loops.{led_end, led_ended, led_fails, led_more}
@@ -82,9 +81,7 @@ read_fields-loop-event-init t c = (
 pub read_fields-returns-in_default-clause-gives : goal.read_fields-returns-in_default-clause-gives
 read_fields-returns-in_default-clause-gives t c = λ fuel turns lt big fault.
     let v = c.loop-event.invariant.1 in
-    led_ended is_mapping_end (field_at (source_of c.args.self.now) (reader_of fuel c.args.self.now)
-    (way_of c.args.path.now) c.args.names.now.strict (fields_of c.args.names.now.fields.now) c.args.nest)
-    (seen c.args.self.now.events.now) c.loop-event.invariant.0 _ _ _ _ (v.rest fuel lt) turns
+    led_ended _ _ _ _ _ _ _ _ (v.rest fuel lt) turns
     (omega (arith, v.turned, v.within))
     (sym c.in_default.ensures.found) ∙ ap Err (sym (c.ended.ensures fault))
 
@@ -92,9 +89,7 @@ pub read_fields-returns-in-MappingEnd-clause-gives : goal.read_fields-returns-in
 read_fields-returns-in-MappingEnd-clause-gives t c = λ fuel turns lt big.
     let l = c.loop-event in
     let v = l.invariant.1 in
-    led_end is_mapping_end (field_at (source_of c.args.self.now) (reader_of fuel c.args.self.now)
-    (way_of c.args.path.now) c.args.names.now.strict (fields_of c.args.names.now.fields.now) c.args.nest)
-    (seen c.args.self.now.events.now) c.loop-event.invariant.0 _ _ _ _ (v.rest fuel lt) turns _
+    led_end _ _ _ _ _ _ _ _ (v.rest fuel lt) turns _
     (omega (arith, v.turned, v.within)) (sym c.in-Some.ensures.found)
     (ap (λ e. is_mapping_end (doc_event_of e)) c.in-MappingEnd.is)
     ∙ ap (λ (s : Spot). Ok (slots_of l.slots.items, s))
@@ -105,10 +100,7 @@ read_fields-returns-in-Err t c =
     let l = c.loop-event in
     let v = l.invariant.1 in
     record {
-      gives = λ fuel turns lt big fault. led_fails is_mapping_end (field_at (source_of c.args.self.now)
-          (reader_of fuel c.args.self.now) (way_of c.args.path.now) c.args.names.now.strict
-          (fields_of c.args.names.now.fields.now) c.args.nest) (seen c.args.self.now.events.now) c.loop-event.invariant.0 _
-          _ _ _ (v.rest fuel lt) turns _ _
+      gives = λ fuel turns lt big fault. led_fails _ _ _ _ _ _ _ _ (v.rest fuel lt) turns _ _
           (omega (arith, v.turned, v.within)) (sym c.in-Some.ensures.found)
           (not_mapping_end _ c.in_default-0₀.not-MappingEnd)
           (c.in-Err.ensures.gives fuel (omega (arith, v.left, lt)) fault);
@@ -129,9 +121,7 @@ read_fields-loop-event-preserved t c =
         left = omega (arith, moves, v.left);
         counted = omega (arith, moves, v.counted);
         cost = omega (arith, moves, v.cost);
-        rest = λ fuel lt. led_more is_mapping_end (field_at (source_of c.args.self.now) (reader_of fuel c.args.self.now)
-            (way_of c.args.path.now) c.args.names.now.strict (fields_of c.args.names.now.fields.now) c.args.nest)
-            (seen c.args.self.now.events.now) c.loop-event.invariant.0 _ _ _ _ (v.rest fuel lt) _ _ _ _ _
+        rest = λ fuel lt. led_more _ _ _ _ _ _ _ _ (v.rest fuel lt) _ _ _ _ _
             (sym c.in-Some.ensures.found)
             (not_mapping_end _ c.in_default-0₀.not-MappingEnd)
             (c.in-Ok.ensures.gives fuel (omega (arith, v.left, lt))) refl refl;

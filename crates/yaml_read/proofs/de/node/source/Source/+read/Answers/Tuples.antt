@@ -1,5 +1,5 @@
 -- What the reader gives at each exit: tuples and tuple structs.
-use Rattle.std.proofs.Common.{Ok, Err, None, ◌≡◌, suc, ◌+◌, ◌-◌, ◌<◌, [], ◌∷◌, ◌++◌, map, length, sym, ap, ◌∙◌, arith}
+use Rattle.std.proofs.Common.{Ok, Err, None, ◌≡◌, suc, ◌+◌, ◌<◌, [], ◌∷◌, ◌++◌, map, length, sym, ap, ◌∙◌, arith}
 use Rattle.std.proofs.Common.{rules, length-append}
 use Rattle.std.specs.Option.{is_some}
 use Rattle.std.specs.Prelude.{drop}
@@ -12,8 +12,8 @@ use Rattle.yaml_scalar.specs.Steps.{with_shape}
 use Rattle.yaml_read.specs.Places.{way_of, element_under}
 use Rattle.yaml_read.specs.Rows.{row_data}
 use Rattle.yaml_read.specs.TreeReader.{Spot, after}
-use Rattle.yaml_read.specs.inner.Reader.{is_sequence_end, skip_at, row_at}
-use Rattle.yaml_read.specs.inner.Walks.{around_of, owner_of, source_of, spot_of, reader_of, row_view, seen}
+use Rattle.yaml_read.specs.inner.Reader.{is_sequence_end, skip_at}
+use Rattle.yaml_read.specs.inner.Walks.{around_of, owner_of, source_of, spot_of, reader_of, row_view}
 use Rattle.yaml_read.specs.inner.Questions.{question_of}
 use Rattle.yaml_read.proofs.reading.Exits.{same_spot, not_sequence_end, row_as_is, step_event, step_row, finish_fails}
 use Rattle.yaml_read.proofs.reading.Exits.{gives_finish}
@@ -59,17 +59,13 @@ read_tuple-returns-in-Err-clause-gives t c = λ fuel lt fault.
 pub read_elements-returns-in_default-clause-gives : goal.read_elements-returns-in_default-clause-gives
 read_elements-returns-in_default-clause-gives t c = λ fuel turns lt big fault.
     let l = c.loop-event in
-    led_ended is_sequence_end (row_at (source_of c.args.self.now) (reader_of fuel c.args.self.now)
-    (way_of c.args.path.now) c.args.nest) (seen c.args.self.now.events.now) (length l.read.items + l.extra) _ _ _ _
-    (l.invariant.rest fuel lt) turns (omega (arith, l.invariant.turned, l.invariant.within))
+    led_ended _ _ _ _ _ _ _ _ (l.invariant.rest fuel lt) turns (omega (arith, l.invariant.turned, l.invariant.within))
     (sym c.in_default.ensures.found) ∙ ap Err (sym (c.ended.ensures fault))
 
 pub read_elements-returns-in-SequenceEnd-clause-gives : goal.read_elements-returns-in-SequenceEnd-clause-gives
 read_elements-returns-in-SequenceEnd-clause-gives t c = λ fuel turns lt big.
     let l = c.loop-event in
-    led_end is_sequence_end (row_at (source_of c.args.self.now) (reader_of fuel c.args.self.now)
-    (way_of c.args.path.now) c.args.nest) (seen c.args.self.now.events.now) (length l.read.items + l.extra) _ _ _ _
-    (l.invariant.rest fuel lt) turns _ (omega (arith, l.invariant.turned, l.invariant.within))
+    led_end _ _ _ _ _ _ _ _ (l.invariant.rest fuel lt) turns _ (omega (arith, l.invariant.turned, l.invariant.within))
     (sym c.in-Some.ensures.found) (ap (λ e. is_sequence_end (doc_event_of e)) c.in-SequenceEnd.is)
     ∙ ap (λ (s : Spot). Ok (row_view (ids_of c.args.items.now) (record { read = l.read; extra = l.extra }), s))
     (sym (same_spot (spot_of c.step.new.self) (after (spot_of l.walk)) c.step.ensures.place c.step.ensures.left))
@@ -80,9 +76,7 @@ read_elements-returns-in-Err t c =
     let len : c.len-count.result ≡ length l.read.items = search rules in
     let idx : length l.read.items ≡ length (map data_of l.read.items) = sym (length-map l.read.items data_of) in
     record {
-      gives = λ fuel turns lt big fault. led_fails is_sequence_end (row_at (source_of c.args.self.now)
-          (reader_of fuel c.args.self.now) (way_of c.args.path.now) c.args.nest) (seen c.args.self.now.events.now)
-          (length l.read.items + l.extra) _ _ _ _ (l.invariant.rest fuel lt) turns _ _
+      gives = λ fuel turns lt big fault. led_fails _ _ _ _ _ _ _ _ (l.invariant.rest fuel lt) turns _ _
           (omega (arith, l.invariant.turned, l.invariant.within)) (sym c.in-Some.ensures.found)
           (not_sequence_end _ c.in_default-event.not-SequenceEnd)
           (row_skips (map data_of l.read.items) l.extra
@@ -111,9 +105,7 @@ read_elements-returns-in-Err-read_node t c =
     let len : c.len-count.result ≡ length l.read.items = search rules in
     let idx : length l.read.items ≡ length (map data_of l.read.items) = sym (length-map l.read.items data_of) in
     record {
-      gives = λ fuel turns lt big fault. led_fails is_sequence_end (row_at (source_of c.args.self.now)
-          (reader_of fuel c.args.self.now) (way_of c.args.path.now) c.args.nest) (seen c.args.self.now.events.now)
-          (length l.read.items + l.extra) _ _ _ _ (l.invariant.rest fuel lt) turns _ _
+      gives = λ fuel turns lt big fault. led_fails _ _ _ _ _ _ _ _ (l.invariant.rest fuel lt) turns _ _
           (omega (arith, l.invariant.turned, l.invariant.within)) (sym c.in-Some.ensures.found)
           (not_sequence_end _ c.in_default-event.not-SequenceEnd)
           (row_reads (map data_of l.read.items) l.extra
@@ -150,9 +142,7 @@ read_elements-loop-event-preserved-in_default-item_here t c =
       rest = λ fuel lt.
           let none : drop (length l.read.items) (ids_of c.args.items.now) ≡ [] =
           drop_none (ids_of c.args.items.now) (length l.read.items) (rw len at c.in_default-item_here.ensures) in
-          led_more is_sequence_end (row_at (source_of c.args.self.now) (reader_of fuel c.args.self.now)
-          (way_of c.args.path.now) c.args.nest) (seen c.args.self.now.events.now) (length l.read.items + l.extra) _ _ _
-          _ (l.invariant.rest fuel lt) _ _ _ _ _ (sym c.in-Some.ensures.found)
+          led_more _ _ _ _ _ _ _ _ (l.invariant.rest fuel lt) _ _ _ _ _ (sym c.in-Some.ensures.found)
           (not_sequence_end _ c.in_default-event.not-SequenceEnd)
           (row_skips (map data_of l.read.items) l.extra
           (λ id. with_shape (shape_at c.args.self.now.schema.now id)
@@ -181,9 +171,7 @@ read_elements-loop-event-preserved t c =
       left = omega (arith, moves, l.invariant.left);
       counted = omega (arith, moves, l.invariant.counted);
       cost = omega (arith, moves, l.invariant.cost);
-      rest = λ fuel lt. led_more is_sequence_end (row_at (source_of c.args.self.now) (reader_of fuel c.args.self.now)
-          (way_of c.args.path.now) c.args.nest) (seen c.args.self.now.events.now) (length l.read.items + l.extra) _ _ _ _
-          (l.invariant.rest fuel lt) _ _ _ _ _ (sym c.in-Some.ensures.found)
+      rest = λ fuel lt. led_more _ _ _ _ _ _ _ _ (l.invariant.rest fuel lt) _ _ _ _ _ (sym c.in-Some.ensures.found)
           (not_sequence_end _ c.in_default-event.not-SequenceEnd)
           (row_reads (map data_of l.read.items) l.extra
           (λ id. with_shape (shape_at c.args.self.now.schema.now id)
