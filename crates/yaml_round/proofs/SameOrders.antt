@@ -1,5 +1,5 @@
 -- What is equal in one order is equal.
-use Rattle.std.specs.Prelude.{Bool, true, false, ◌&&◌, not, nat_eq}
+use Rattle.std.specs.Prelude.{Bool, true, false, ◌&&◌, not}
 use Rattle.std.proofs.Common.{◌≡◌, refl, sym, ◌∙◌}
 use Rattle.yaml_tree.specs.Equal.{tree_eq, trees_eq, pairs_eq}
 use Rattle.yaml_tree.specs.EqualLaws.{tree_eq-symm, tree_eq-congr}
@@ -7,12 +7,10 @@ use Rattle.yaml_tree.specs.Mapping.{has_key, keys_distinct}
 use Rattle.yaml_tree.specs.Tag.{tag_eq}
 use Rattle.yaml_tree.specs.Tree.{Tree, null, boolean, number, string, sequence, mapping, tagged, Trees, no_trees, tree}
 use Rattle.yaml_tree.specs.Tree.{Pairs, no_pairs, pair}
-use Rattle.yaml_shape.specs.EqualData.{data_eq, items_eq, entries_eq}
-use Rattle.yaml_shape.specs.PlainData.{PlainData, PlainItems, PlainEntries, any_data, bool_data, char_data, signed_data}
-use Rattle.yaml_shape.specs.PlainData.{unsigned_data, text_data, bytes_data, none_data, some_data, unit_data}
-use Rattle.yaml_shape.specs.PlainData.{newtype_data, seq_data, tuple_data, map_data, struct_data, variant_data}
-use Rattle.yaml_shape.specs.PlainData.{ignored_data, no_items, item, no_entries, entry}
-use Rattle.yaml_round.specs.SameOrder.{same_tree, same_trees, same_pairs, same_data, same_items, same_entries}
+use Rattle.yaml_shape.proofs.EqualDataLaws.{data_eq-stronger}
+use Rattle.yaml_shape.specs.EqualData.{data_eq}
+use Rattle.yaml_shape.specs.PlainData.{PlainData}
+use Rattle.yaml_round.specs.SameOrder.{same_tree, same_trees, same_pairs, same_data}
 
 -- both tests pass
 pub both : (a b : Bool) → a ≡ true → b ≡ true → (a && b) ≡ true
@@ -83,43 +81,6 @@ distinct_again (pair k v xs) (pair l w ys) h d =
     (distinct_again xs ys rest (second (not (has_key k xs)) (keys_distinct xs) d))
 distinct_again _ _ h d = absurd cc
 
-mutual
-  -- data
-  pub data_equal : (a b : PlainData) → same_data a b ≡ true → data_eq a b ≡ true
-  data_equal (any_data a) (any_data b) h = tree_equal a b h
-  data_equal (bool_data a) (bool_data b) h = h
-  data_equal (char_data a) (char_data b) h = h
-  data_equal (signed_data a) (signed_data b) h = h
-  data_equal (unsigned_data a) (unsigned_data b) h = h
-  data_equal (text_data lent a) (text_data other b) h = h
-  data_equal (bytes_data a) (bytes_data b) h = h
-  data_equal none_data none_data h = refl
-  data_equal (some_data a) (some_data b) h = data_equal a b h
-  data_equal unit_data unit_data h = refl
-  data_equal (newtype_data a) (newtype_data b) h = data_equal a b h
-  data_equal (seq_data xs) (seq_data ys) h = items_equal xs ys h
-  data_equal (tuple_data xs) (tuple_data ys) h = items_equal xs ys h
-  data_equal (map_data xs) (map_data ys) h = entries_equal xs ys h
-  data_equal (struct_data xs) (struct_data ys) h = items_equal xs ys h
-  data_equal (variant_data i a) (variant_data j b) h =
-      both (nat_eq i j) (data_eq a b) (first (nat_eq i j) (same_data a b) h)
-      (data_equal a b (second (nat_eq i j) (same_data a b) h))
-  data_equal ignored_data ignored_data h = refl
-  data_equal _ _ h = absurd cc
-
-  items_equal : (xs ys : PlainItems) → same_items xs ys ≡ true → items_eq xs ys ≡ true
-  items_equal no_items no_items h = refl
-  items_equal (item a xs) (item b ys) h =
-      both (data_eq a b) (items_eq xs ys) (data_equal a b (first (same_data a b) (same_items xs ys) h))
-      (items_equal xs ys (second (same_data a b) (same_items xs ys) h))
-  items_equal _ _ h = absurd cc
-
-  entries_equal : (xs ys : PlainEntries) → same_entries xs ys ≡ true → entries_eq xs ys ≡ true
-  entries_equal no_entries no_entries h = refl
-  entries_equal (entry k v xs) (entry l w ys) h =
-      let more = second (same_data k l) (same_data v w && same_entries xs ys) h in
-      both (data_eq k l) (data_eq v w && entries_eq xs ys)
-      (data_equal k l (first (same_data k l) (same_data v w && same_entries xs ys) h))
-      (both (data_eq v w) (entries_eq xs ys) (data_equal v w (first (same_data v w) (same_entries xs ys) more))
-      (entries_equal xs ys (second (same_data v w) (same_entries xs ys) more)))
-  entries_equal _ _ h = absurd cc
+-- data
+pub data_equal : (a b : PlainData) → same_data a b ≡ true → data_eq a b ≡ true
+data_equal = data_eq-stronger same_tree tree_eq tree_equal
