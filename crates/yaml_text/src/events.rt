@@ -88,8 +88,8 @@ impl<'a> Events<'a> {
         }
     }
 
-    /// Whether another event comes, which is then read and waits to be taken; if not, none does for good. The only error
-    /// is want of memory.
+    /// Whether another event comes, which is then read and waits to be taken; if not, none does for good. The only
+    /// error is want of memory.
     #[inline(always)]
     pub fn has_next(&mut self) -> Result<bool, AllocError>
         ensures text { self.new.text ≡ self.old.text }
@@ -111,8 +111,8 @@ impl<'a> Events<'a> {
         }
     }
 
-    /// The event that `has_next` told of, as `next_event` gives it. It goes to where the caller puts it in one move, where
-    /// one behind an `Option` and a `Result` is moved more than once.
+    /// The event that `has_next` told of, as `next_event` gives it. It goes to where the caller puts it in one move,
+    /// where one behind an `Option` and a `Result` is moved more than once.
     #[inline(always)]
     pub fn take_next(&mut self) -> (Event<'a>, Mark)
         requires { 0 < self.old.waiting }
