@@ -5,7 +5,7 @@ use Rattle.std.proofs.lemmas.List.Elements.{All-nil, All-cons}
 use Rattle.yaml_shape.specs.DataView.{items_of}
 use Rattle.yaml_shape.specs.HasShape.{HasShape, has_shape, all_have}
 use Rattle.yaml_shape.specs.PlainData.{PlainData}
-use Rattle.yaml_shape.specs.PlainShape.{PlainShape, str_shape, seq_shape, struct_shape}
+use Rattle.yaml_shape.specs.PlainShape.{PlainShape, str_shape, seq_shape, fields_shape, of_struct}
 use Rattle.yaml_shape.specs.Validity.{NamesWithin}
 use Rattle.yaml_types.specs.Start.{IsClosed}
 use Rattle.uses.specs.Folders.{folder_start, folder_level, folder_data}
@@ -13,7 +13,7 @@ use Rattle.uses.specs.declared.folder.Folder.{Folder}
 use Rattle.uses.specs.declared.folder.Folder.TheFolds.{fold-roll-Folder, ind-Folder}
 
 abbrev folder_shape : PlainShape
-folder_shape = struct_shape false (codes "Folder") ((codes "name", 0) ∷ (codes "folders", 1) ∷ [])
+folder_shape = fields_shape false (of_struct (codes "Folder")) ((codes "name", 0) ∷ (codes "folders", 1) ∷ [])
 
 abbrev IsInside : ℕ → Type 0
 IsInside id = id < 3

@@ -3,7 +3,7 @@ use Rattle.std.specs.Prelude.{◌≡◌, List, map, [], ◌∷◌, true, false, 
 use Rattle.yaml_shape.specs.DataView.{items_of}
 use Rattle.yaml_shape.specs.EqualData.{EqualData, items_eq}
 use Rattle.yaml_shape.specs.PlainData.{PlainData, PlainItems, text_data, seq_data, struct_data, no_items, item}
-use Rattle.yaml_shape.specs.PlainShape.{str_shape, seq_shape, struct_shape}
+use Rattle.yaml_shape.specs.PlainShape.{str_shape, seq_shape, fields_shape, of_struct}
 use Rattle.yaml_types.specs.Start.{Start}
 use Rattle.uses.specs.declared.folder.Folder.{Folder}
 use Rattle.uses.specs.declared.folder.Folder.TheOpen.{Folder-F}
@@ -12,7 +12,8 @@ use Rattle.uses.specs.declared.folder.Folder.TheFolds.{fold-Folder}
 -- the table of a name, of the folders in a folder, and of a folder, which is the shape of these too
 abbrev pub folder_start : Start
 folder_start = (
-  str_shape ∷ seq_shape 2 ∷ struct_shape false (codes "Folder") ((codes "name", 0) ∷ (codes "folders", 1) ∷ []) ∷ [],
+  str_shape ∷ seq_shape 2
+      ∷ fields_shape false (of_struct (codes "Folder")) ((codes "name", 0) ∷ (codes "folders", 1) ∷ []) ∷ [],
   2,
 )
 

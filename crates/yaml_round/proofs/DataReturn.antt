@@ -3,54 +3,49 @@ use Rattle.std.specs.Prelude.{Bool, true, not, slice_get}
 use Rattle.std.specs.List.{list_all}
 use Rattle.std.specs.Option.{is_some}
 use Rattle.std.specs.Str.{is_utf8}
-use Rattle.std.proofs.Common.{◌≡◌, ℕ, List, [], length, Option, Some, None, Ok}
+use Rattle.std.proofs.Common.{◌≡◌, ℕ, List, length, Option, Some, None, Ok}
 use Rattle.std.proofs.Common.{refl, sym, ap, ◌∙◌, subst, arith}
 use Rattle.yaml_base.specs.EmitTree.{EmitNode, emit_sequence_node}
 use Rattle.yaml_base.specs.EmitTree.{emit_mapping_node}
-use Rattle.yaml_shape.specs.DataView.{items_of}
 use Rattle.yaml_shape.specs.HasShape.{has_shape, all_have, each_has, entries_have, has_content}
 use Rattle.yaml_shape.specs.PlainData.{PlainData, PlainItems, PlainEntries, any_data, bool_data, char_data, signed_data}
 use Rattle.yaml_shape.specs.PlainData.{unsigned_data, text_data, bytes_data, none_data, some_data, unit_data}
 use Rattle.yaml_shape.specs.PlainData.{newtype_data, seq_data, tuple_data, map_data, struct_data, variant_data}
 use Rattle.yaml_shape.specs.PlainData.{ignored_data, no_items, item, no_entries, entry}
-use Rattle.yaml_shape.specs.PlainShape.{PlainShape}
-use Rattle.yaml_shape.specs.PlainShape.{shape_at}
-use Rattle.yaml_shape.specs.PlainShape.{option_shape}
-use Rattle.yaml_shape.specs.PlainShape.{newtype_shape, seq_shape}
-use Rattle.yaml_shape.specs.PlainShape.{map_shape, struct_shape, enum_shape, ignored_shape}
+use Rattle.yaml_shape.specs.PlainShape.{PlainShape, option_shape, newtype_shape, seq_shape, row_shape, map_shape}
+use Rattle.yaml_shape.specs.PlainShape.{fields_shape, enum_shape, ignored_shape, of_struct, shape_at}
 use Rattle.yaml_shape.specs.Validity.{IsValidSchema, HasDistinctNames, NamesWithin, IsDistinctInside}
 use Rattle.yaml_shape.specs.Validity.{names_of, numbers_of}
 use Rattle.yaml_read.specs.DocTree.{DocNode, list}
 use Rattle.yaml_read.specs.Meaning.{Means, means_node, means_some, means_newtype, means_ignored}
 use Rattle.yaml_read.specs.Meaning.{means_list, means_mapping, means_seq}
-use Rattle.yaml_read.specs.Meaning.{means_map, means_struct}
+use Rattle.yaml_read.specs.Meaning.{means_map}
 use Rattle.yaml_write.specs.InShape.{item_shapes, named_fields, named_variants}
-use Rattle.yaml_write.specs.Written.{written, written_tuple, written_struct, written_elements, written_items}
-use Rattle.yaml_write.specs.Written.{written_entries, written_fields}
+use Rattle.yaml_write.specs.Written.{written, written_tuple, written_struct, written_elements}
+use Rattle.yaml_write.specs.Written.{written_entries}
 use Rattle.yaml_write.specs.Written as writing
 use Rattle.yaml_write.specs.WrittenParts.{written_content}
 use Rattle.yaml_round.specs.Fits.{data_fits, each_fits, parts_fit, is_written_null}
 use Rattle.yaml_round.specs.Fits.{variant_passes}
 use Rattle.yaml_shape.specs.Held.{IsHeld, AreHeld, EntriesAreHeld, is_table, is_table_shape, is_named_content}
 use Rattle.yaml_shape.specs.Held.{are_texts}
-use Rattle.yaml_round.specs.Nestings.{nestings, items_nestings}
+use Rattle.yaml_round.specs.Nestings.{nestings}
 use Rattle.yaml_round.proofs.ByPlace.{all_at, each_at, within, variant_at, name_at}
 use Rattle.yaml_round.proofs.Contents.{data_stands}
-use Rattle.yaml_round.proofs.FieldsInOrder.{struct_read}
 use Rattle.yaml_round.proofs.Outcomes.{made_ok}
 use Rattle.yaml_round.proofs.RenderedTrees.{IsRendered}
 use Rattle.yaml_round.proofs.SameOrders.{first, second}
 use Rattle.yaml_round.proofs.ShapesOfData.{shape_there, passes_there}
-use Rattle.yaml_round.proofs.ShapesOfData.{option_is, newtype_is, seq_is, tuple_is, map_is, struct_is}
+use Rattle.yaml_round.proofs.ShapesOfData.{option_is, newtype_is, seq_is, row_is, map_is, struct_is}
 use Rattle.yaml_round.proofs.ShapesOfData.{variant_is, ignored_is}
 use Rattle.yaml_round.proofs.ValuesReturn.{opposite}
 use Rattle.yaml_round.proofs.DataFound.{DataReturns, shaped}
 use Rattle.yaml_round.proofs.LeavesReturn.{any_returns, bool_returns, char_returns, signed_returns, unsigned_returns}
 use Rattle.yaml_round.proofs.LeavesReturn.{text_returns, none_returns, unit_returns}
-use Rattle.yaml_round.proofs.PartsReturn.{tuple_shapes, tuple_means, means_same}
+use Rattle.yaml_round.proofs.PartsReturn.{means_same}
 use Rattle.yaml_round.proofs.VariantsReturn.{variant_returns}
-use Rattle.yaml_round.proofs.ListsReturn.{EachReturns, PairsReturn, PartsReturnOf, items_return, row_returns}
-use Rattle.yaml_round.proofs.ListsReturn.{entries_return, fields_return, tuple_returns, struct_returns}
+use Rattle.yaml_round.proofs.ListsReturn.{EachReturns, PairsReturn, PartsReturnOf, items_return}
+use Rattle.yaml_round.proofs.ListsReturn.{entries_return, tuple_returns, struct_returns}
 
 module _ (table : List PlainShape) (root : DocNode) where
   abbrev Returns : PlainShape → DocNode → (taken : Bool) → PlainData → Type 0
@@ -131,19 +126,11 @@ module _ (table : List PlainShape) (root : DocNode) where
             same = all.same;
           })
       data_returns (tuple_data ds) id s tag e n is has held fits h r =
-          let o = tuple_is (λ ids. each_has table ids ds) s (of_table id s is) (rw is at has) in
-          let here : item_shapes (shape_at table id) ≡ o.0 = ap item_shapes is ∙ tuple_shapes o.0 s o.1 in
-          let m = made_ok (emit_sequence_node tag) (written_items table o.0 ds) e (rw here at h) in
-          let r : IsRendered (emit_sequence_node tag m.0) n = subst (λ e. IsRendered e n) m.2 r in
-          let fits : each_fits table o.0 ds ≡ true = subst (λ ids. each_fits table ids ds ≡ true) here fits in
-          let all = row_returns table root ds o.0 m.0 r.0 o.2 (each_returns ds held) fits m.1 r.2 in
-          record {
-            found = tuple_data all.found;
-            means = subst (λ n. Means table root s n (is_some tag) (tuple_data all.found) (nestings (tuple_data ds)) 0)
-                (sym r.1) (tuple_means table root o.0 s tag (is_some tag) r.0 all.found
-                (items_nestings ds) o.1 all.means);
-            same = all.same;
-          }
+          let o = row_is (λ ids. each_has table ids ds) s (rw is at has) in
+          let here : shape_at table id ≡ Some (row_shape o.0 o.1) = is ∙ ap (λ s. Some s) o.2 in
+          shaped table root s (row_shape o.0 o.1) n (is_some tag) (tuple_data ds) o.2
+          (tuple_returns table root (tuple_data ds) o.0 o.1 tag e n o.3 (each_returns ds held)
+          (subst (λ o. each_fits table (item_shapes o) ds ≡ true) here fits) (rw here at h) r)
       data_returns (map_data es) id s tag e n is has held fits h r =
           let o = map_is (λ key value. entries_have table key value es) s (rw is at has) in
           let here : shape_at table id ≡ Some (map_shape o.0 o.1) = is ∙ ap (λ s. Some s) o.2 in
@@ -164,22 +151,12 @@ module _ (table : List PlainShape) (root : DocNode) where
           })
       data_returns (struct_data ds) id s tag e n is has held fits h r =
           let o = struct_is (λ ids. each_has table ids ds) s (of_table id s is) (rw is at has) in
-          let here : shape_at table id ≡ Some (struct_shape o.0 o.1 o.2) = is ∙ ap (λ s. Some s) o.3 in
-          let m = made_ok (emit_mapping_node tag) (written_fields table o.2 ds) e (rw here at h) in
-          let r : IsRendered (emit_mapping_node tag m.0) n = subst (λ e. IsRendered e n) m.2 r in
-          let all = fields_return table root ds o.0 o.2 [] o.2 [] m.0 r.0 refl refl
-          (distinct_in id (struct_shape o.0 o.1 o.2) here) (of_table id (struct_shape o.0 o.1 o.2) here)
-          o.4 (each_returns ds held)
-          (subst (λ o. each_fits table (numbers_of (named_fields o)) ds ≡ true) here fits) m.1 r.2 in
-          shaped table root s (struct_shape o.0 o.1 o.2) n (is_some tag) (struct_data ds) o.3
-          (record {
-            found = struct_data (items_of all.found);
-            means = subst (λ n. Means table root (struct_shape o.0 o.1 o.2) n (is_some tag)
-                (struct_data (items_of all.found)) (nestings (struct_data ds)) 0)
-                (sym r.1) (means_node refl refl
-                (means_mapping (means_struct all.means (struct_read table o.2 all.found all.size))));
-            same = all.same;
-          })
+          let here : shape_at table id ≡ Some (fields_shape o.0 (of_struct o.1) o.2) = is ∙ ap (λ s. Some s) o.3 in
+          let shape = fields_shape o.0 (of_struct o.1) o.2 in
+          shaped table root s shape n (is_some tag) (struct_data ds) o.3
+          (struct_returns table root (struct_data ds) o.0 (of_struct o.1) o.2 tag e n (distinct_in id shape here)
+          (of_table id shape here) o.4 (each_returns ds held)
+          (subst (λ o. each_fits table (numbers_of (named_fields o)) ds ≡ true) here fits) (rw here at h) r)
       data_returns (variant_data place d) id s tag e n is has held fits h r =
           let v = variant_is place (has_content table d) s (rw is at has) in
           let here : shape_at table id ≡ Some (enum_shape v.0 v.1) = is ∙ ap (λ s. Some s) v.2 in
@@ -197,10 +174,10 @@ module _ (table : List PlainShape) (root : DocNode) where
           shaped table root s (enum_shape v.0 v.1) n (is_some tag) (variant_data place d) v.2
           (variant_returns table root d v.0 v.1 place x.0.0 x.0.1 tag e n
           (λ id s tag e n is has fits h r. data_returns d id s tag e n is has held fits h r)
-          (λ ename name ids tag e n has fits h r.
-          tuple_returns table root d ename name ids tag e n has (parts_return d held) fits h r)
-          (λ ename name strict fields tag e n apart texts has fits h r.
-          struct_returns table root d ename name strict fields tag e n apart texts has (parts_return d held) fits h r)
+          (λ owner ids tag e n has fits h r.
+          tuple_returns table root d owner ids tag e n has (parts_return d held) fits h r)
+          (λ strict owner fields tag e n apart texts has fits h r.
+          struct_returns table root d strict owner fields tag e n apart texts has (parts_return d held) fits h r)
           (variant_at v.1 place x.0 apart.0 x.1) utf8 inside distinct x.2
           (subst (λ o. variant_passes (λ inner. data_fits table inner d) (λ ids. parts_fit table ids d) o ≡ true)
           there fits) (subst (λ o. writing.variant_by o tag (written_content table d) ≡ Ok e) there h) r)

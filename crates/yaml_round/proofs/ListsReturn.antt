@@ -12,10 +12,7 @@ use Rattle.yaml_shape.specs.HasShape.{has_shape, all_have, each_has, entries_hav
 use Rattle.yaml_shape.specs.PlainData.{PlainData, PlainItems, PlainEntries}
 use Rattle.yaml_shape.specs.PlainData.{tuple_data, struct_data}
 use Rattle.yaml_shape.specs.PlainData.{no_items, item, no_entries, entry}
-use Rattle.yaml_shape.specs.PlainShape.{PlainShape}
-use Rattle.yaml_shape.specs.PlainShape.{shape_at}
-use Rattle.yaml_shape.specs.PlainShape.{tuple_variant_shape}
-use Rattle.yaml_shape.specs.PlainShape.{struct_variant_shape}
+use Rattle.yaml_shape.specs.PlainShape.{PlainShape, row_shape, fields_shape, Owner, shape_at}
 use Rattle.yaml_shape.specs.Validity.{AreDistinct}
 use Rattle.yaml_shape.specs.Validity.{names_of, numbers_of}
 use Rattle.yaml_read.specs.DocTree.{DocNode, DocNodes, DocPairs, word, list, mapping, first_event}
@@ -23,7 +20,7 @@ use Rattle.yaml_read.specs.DocTree as doc
 use Rattle.yaml_read.specs.Fields.{Fields, Slots}
 use Rattle.yaml_read.specs.Meaning.{Means, means_node}
 use Rattle.yaml_read.specs.Meaning.{means_list, means_mapping}
-use Rattle.yaml_read.specs.Meaning.{means_tuple_variant, means_struct_variant}
+use Rattle.yaml_read.specs.Meaning.{means_row, means_fields}
 use Rattle.yaml_read.specs.Meaning.{MeanEach, means_none, means_more, MeanRow, means_no_elements, means_element}
 use Rattle.yaml_read.specs.Meaning.{MeanPairs, means_no_pairs, means_pair, MeanFields, means_no_fields}
 use Rattle.yaml_write.specs.Outcomes.{made, joined, string_node}
@@ -190,40 +187,39 @@ module _ (table : List PlainShape) (root : DocNode) where
       field_returns table root strict all done rest f front at.0 d ds r.0 r.1 r.2 ns split size apart
       (first (is_utf8 f.0) (are_texts (names_of rest)) texts) r.4 r.3 at.1 one later
 
-  -- the content of a variant whose fields have no names
-  pub tuple_returns : (d : PlainData) (ename name : List ℕ) (ids : List ℕ) (tag : Option (List ℕ)) (e : EmitNode)
+  -- a row, whosever its elements are
+  pub tuple_returns : (d : PlainData) (owner : Owner) (ids : List ℕ) (tag : Option (List ℕ)) (e : EmitNode)
       (n : DocNode) → tuple_has table ids d ≡ true → PartsReturnOf d → parts_fit table ids d ≡ true
-      → written_tuple table ids tag d ≡ Ok e → IsRendered e n
-      → Returns (tuple_variant_shape ename name ids) n (is_some tag) d
-  tuple_returns (tuple_data ds) ename name ids tag e n has each fits h r =
+      → written_tuple table ids tag d ≡ Ok e → IsRendered e n → Returns (row_shape owner ids) n (is_some tag) d
+  tuple_returns (tuple_data ds) owner ids tag e n has each fits h r =
       let m = made_ok (emit_sequence_node tag) (written_items table ids ds) e h in
       let r : IsRendered (emit_sequence_node tag m.0) n = subst (λ e. IsRendered e n) m.2 r in
       let all = row_returns ds ids m.0 r.0 has each fits m.1 r.2 in
       record {
         found = tuple_data all.found;
-        means = subst (λ n. Means table root (tuple_variant_shape ename name ids) n (is_some tag)
+        means = subst (λ n. Means table root (row_shape owner ids) n (is_some tag)
             (tuple_data all.found) (nestings (tuple_data ds)) 0)
-            (sym r.1) (means_node refl refl (means_list (means_tuple_variant all.means)));
+            (sym r.1) (means_node refl refl (means_list (means_row all.means)));
         same = all.same;
       }
-  tuple_returns _ ename name ids tag e n has each fits h r = absurd cc
+  tuple_returns _ owner ids tag e n has each fits h r = absurd cc
 
-  -- the content of a variant whose fields have names
-  pub struct_returns : (d : PlainData) (ename name : List ℕ) (strict : Bool) (fields : Fields)
+  -- fields, whosever they are
+  pub struct_returns : (d : PlainData) (strict : Bool) (owner : Owner) (fields : Fields)
       (tag : Option (List ℕ)) (e : EmitNode) (n : DocNode) → AreDistinct (names_of fields)
       → are_texts (names_of fields) ≡ true → struct_has table (numbers_of fields) d ≡ true → PartsReturnOf d
       → parts_fit table (numbers_of fields) d ≡ true → written_struct table fields tag d ≡ Ok e → IsRendered e n
-      → Returns (struct_variant_shape strict ename name fields) n (is_some tag) d
-  struct_returns (struct_data ds) ename name strict fields tag e n apart texts has each fits h r =
+      → Returns (fields_shape strict owner fields) n (is_some tag) d
+  struct_returns (struct_data ds) strict owner fields tag e n apart texts has each fits h r =
       let m = made_ok (emit_mapping_node tag) (written_fields table fields ds) e h in
       let r : IsRendered (emit_mapping_node tag m.0) n = subst (λ e. IsRendered e n) m.2 r in
       let all = fields_return ds strict fields [] fields [] m.0 r.0 refl refl apart texts has each fits m.1 r.2 in
       record {
         found = struct_data (items_of all.found);
-        means = subst (λ n. Means table root (struct_variant_shape strict ename name fields) n (is_some tag)
+        means = subst (λ n. Means table root (fields_shape strict owner fields) n (is_some tag)
             (struct_data (items_of all.found)) (nestings (struct_data ds)) 0)
             (sym r.1) (means_node refl refl
-            (means_mapping (means_struct_variant all.means (struct_read table fields all.found all.size))));
+            (means_mapping (means_fields all.means (struct_read table fields all.found all.size))));
         same = all.same;
       }
-  struct_returns _ ename name strict fields tag e n apart texts has each fits h r = absurd cc
+  struct_returns _ strict owner fields tag e n apart texts has each fits h r = absurd cc

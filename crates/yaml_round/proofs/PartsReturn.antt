@@ -1,30 +1,22 @@
 -- The parts of collections mean themselves where each does: the elements of tuples, and the fields of structs.
 use Rattle.std.specs.Prelude.{Bool, true, false, max, map, slice_get, set}
-use Rattle.std.specs.Prelude.{◌⊎◌}
 use Rattle.std.specs.Str.{is_utf8}
-use Rattle.std.proofs.Common.{◌≡◌, ℕ, suc, List, [], ◌∷◌, ◌++◌, length, Option, Some, None}
-use Rattle.std.proofs.Common.{refl, sym, ap, subst, arith, inl, inr}
+use Rattle.std.proofs.Common.{◌≡◌, ℕ, suc, List, [], ◌∷◌, ◌++◌, length, Some, None}
+use Rattle.std.proofs.Common.{refl, sym, ap, subst, arith}
 use Rattle.std.proofs.lemmas.List.{append_assoc}
 use Rattle.yaml_base.specs.AskedStyles.{asked_style}
 use Rattle.yaml_shape.specs.DataView.{items_of}
 use Rattle.yaml_shape.specs.PlainData.{PlainData, PlainItems}
-use Rattle.yaml_shape.specs.PlainData.{tuple_data}
 use Rattle.yaml_shape.specs.PlainData.{item}
-use Rattle.yaml_shape.specs.PlainShape.{PlainShape}
-use Rattle.yaml_shape.specs.PlainShape.{shape_at}
-use Rattle.yaml_shape.specs.PlainShape.{identifier_shape}
-use Rattle.yaml_shape.specs.PlainShape.{tuple_shape, tuple_struct_shape}
+use Rattle.yaml_shape.specs.PlainShape.{PlainShape, identifier_shape, shape_at}
 use Rattle.yaml_shape.specs.Validity.{AreDistinct}
 use Rattle.yaml_shape.specs.Validity.{names_of}
-use Rattle.yaml_read.specs.DocTree.{DocNode, DocNodes, DocPairs, word, list, mapping, first_event}
+use Rattle.yaml_read.specs.DocTree.{DocNode, DocPairs, word, mapping, first_event}
 use Rattle.yaml_read.specs.DocTree as doc
 use Rattle.yaml_read.specs.Fields.{Fields, Slots, no_slots}
-use Rattle.yaml_read.specs.Meaning.{Means, means_node}
-use Rattle.yaml_read.specs.Meaning.{means_list, means_tuple, means_tuple_struct}
-use Rattle.yaml_read.specs.Meaning.{MeanRow}
+use Rattle.yaml_read.specs.Meaning.{Means}
 use Rattle.yaml_read.specs.Meaning.{MeanFields, means_field}
 use Rattle.yaml_read.specs.ScalarShapes.{lent_text}
-use Rattle.yaml_write.specs.InShape.{item_shapes}
 use Rattle.yaml_write.specs.Outcomes.{string_node}
 use Rattle.yaml_round.specs.Nestings.{items_nestings}
 use Rattle.yaml_round.specs.SameOrder.{same_data, same_items}
@@ -40,26 +32,9 @@ use Rattle.yaml_round.proofs.DataFound.{DataReturns, FieldsReturn}
 pub above_none : (n : ℕ) → max 0 n ≡ n
 above_none n = omega arith
 
--- the shapes of the elements of a tuple or a tuple struct
-pub tuple_shapes : (ids : List ℕ) (s : PlainShape)
-    → (s ≡ tuple_shape ids) ⊎ ((name : List ℕ) × (s ≡ tuple_struct_shape name ids)) → item_shapes (Some s) ≡ ids
-tuple_shapes ids s (inl eq) = ap (λ s. item_shapes (Some s)) eq
-tuple_shapes ids s (inr (name, eq)) = ap (λ s. item_shapes (Some s)) eq
-
 module _ (table : List PlainShape) (root : DocNode) where
   abbrev Returns : PlainShape → DocNode → (taken : Bool) → PlainData → Type 0
   Returns = DataReturns table root
-
-  -- the elements of a tuple, and of a tuple struct
-  pub tuple_means : (ids : List ℕ) (s : PlainShape) (tag : Option (List ℕ)) (taken : Bool) (ns : DocNodes)
-      (vs : PlainItems) (d : ℕ) → (s ≡ tuple_shape ids) ⊎ ((name : List ℕ) × (s ≡ tuple_struct_shape name ids))
-      → MeanRow table root ids ns vs d 0 → Means table root s (list tag ns) taken (tuple_data vs) (suc d) 0
-  tuple_means ids s tag taken ns vs d (inl eq) m =
-      subst (λ s. Means table root s (list tag ns) taken (tuple_data vs) (suc d) 0) (sym eq)
-      (means_node refl refl (means_list (means_tuple m)))
-  tuple_means ids s tag taken ns vs d (inr (name, eq)) m =
-      subst (λ s. Means table root s (list tag ns) taken (tuple_data vs) (suc d) 0) (sym eq)
-      (means_node refl refl (means_list (means_tuple_struct m)))
 
   -- what a node means that is the same
   pub means_same : (s : PlainShape) (taken : Bool) (m n : DocNode) (v : PlainData) (d : ℕ) → n ≡ m

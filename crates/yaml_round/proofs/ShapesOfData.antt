@@ -8,11 +8,10 @@ use Rattle.yaml_shape.specs.HasShape.{on_variant, is_ignored, is_unit_data}
 use Rattle.yaml_shape.specs.PlainData.{PlainData, any_data, bool_data, char_data, signed_data, unsigned_data, text_data}
 use Rattle.yaml_shape.specs.PlainData.{bytes_data, none_data, some_data, unit_data, newtype_data, seq_data, tuple_data}
 use Rattle.yaml_shape.specs.PlainData.{map_data, struct_data, variant_data, ignored_data}
-use Rattle.yaml_shape.specs.PlainShape.{IntegerType, PlainShape, PlainVariant, any_shape, bool_shape, char_shape}
-use Rattle.yaml_shape.specs.PlainShape.{integer_shape, str_shape, identifier_shape, option_shape, unit_shape}
-use Rattle.yaml_shape.specs.PlainShape.{unit_struct_shape, newtype_shape, seq_shape, tuple_shape, tuple_struct_shape}
-use Rattle.yaml_shape.specs.PlainShape.{map_shape, struct_shape, enum_shape, ignored_shape, tuple_variant_shape}
-use Rattle.yaml_shape.specs.PlainShape.{struct_variant_shape, shape_at}
+use Rattle.yaml_shape.specs.PlainShape.{IntegerType, PlainShape, any_shape, bool_shape, char_shape, integer_shape}
+use Rattle.yaml_shape.specs.PlainShape.{str_shape, identifier_shape, option_shape, unit_shape, unit_struct_shape}
+use Rattle.yaml_shape.specs.PlainShape.{newtype_shape, seq_shape, row_shape, map_shape, fields_shape, enum_shape}
+use Rattle.yaml_shape.specs.PlainShape.{ignored_shape, Owner, of_struct, shape_at, PlainVariant}
 use Rattle.yaml_shape.specs.Validity.{numbers_of}
 use Rattle.yaml_shape.specs.Held.{is_table_shape}
 
@@ -99,25 +98,22 @@ pub seq_is : (test : ℕ → Bool) (s : PlainShape) → on_seq test s ≡ true
 seq_is test (seq_shape c) h = (c, refl, h)
 seq_is test _ h = absurd cc
 
--- the shape of a tuple in a table is no variant's content
-pub tuple_is : (test : List ℕ → Bool) (s : PlainShape) → is_table_shape s ≡ true → on_tuple test s ≡ true
-    → (ids : List ℕ) × ((s ≡ tuple_shape ids) ⊎ ((name : List ℕ) × (s ≡ tuple_struct_shape name ids)))
-    × (test ids ≡ true)
-tuple_is test (tuple_shape ids) k h = (ids, inl refl, h)
-tuple_is test (tuple_struct_shape name ids) k h = (ids, inr (name, refl), h)
-tuple_is test (tuple_variant_shape name variant ids) k h = absurd cc
-tuple_is test _ k h = absurd cc
+pub row_is : (test : List ℕ → Bool) (s : PlainShape) → on_tuple test s ≡ true
+    → (owner : Owner) × (ids : List ℕ) × (s ≡ row_shape owner ids) × (test ids ≡ true)
+row_is test (row_shape owner ids) h = (owner, ids, refl, h)
+row_is test _ h = absurd cc
 
 pub map_is : (test : ℕ → ℕ → Bool) (s : PlainShape) → on_map test s ≡ true
     → (key : ℕ) × (value : ℕ) × (s ≡ map_shape key value) × (test key value ≡ true)
 map_is test (map_shape key value) h = (key, value, refl, h)
 map_is test _ h = absurd cc
 
+-- the shape of fields in a table is that of a struct
 pub struct_is : (test : List ℕ → Bool) (s : PlainShape) → is_table_shape s ≡ true → on_struct test s ≡ true
-    → (strict : Bool) × (name : List ℕ) × (fields : List (List ℕ × ℕ)) × (s ≡ struct_shape strict name fields)
-    × (test (numbers_of fields) ≡ true)
-struct_is test (struct_shape strict name fields) k h = (strict, name, fields, refl, h)
-struct_is test (struct_variant_shape strict name variant fields) k h = absurd cc
+    → (strict : Bool) × (name : List ℕ) × (fields : List (List ℕ × ℕ))
+    × (s ≡ fields_shape strict (of_struct name) fields) × (test (numbers_of fields) ≡ true)
+struct_is test (fields_shape strict (of_struct name) fields) k h = (strict, name, fields, refl, h)
+struct_is test (fields_shape strict owner fields) k h = absurd cc
 struct_is test _ k h = absurd cc
 
 pub variant_is : (place : ℕ) (test : PlainVariant → Bool) (s : PlainShape) → on_variant place test s ≡ true

@@ -11,10 +11,9 @@ use Rattle.yaml_shape.specs.HasShape.{tuple_has, struct_has, has_content}
 use Rattle.yaml_shape.specs.PlainData.{PlainData}
 use Rattle.yaml_shape.specs.PlainData.{unit_data}
 use Rattle.yaml_shape.specs.PlainData.{variant_data}
-use Rattle.yaml_shape.specs.PlainShape.{PlainShape, PlainVariant, unit_variant, newtype_variant, tuple_variant}
-use Rattle.yaml_shape.specs.PlainShape.{struct_variant, content_shape}
-use Rattle.yaml_shape.specs.PlainShape.{enum_shape, tuple_variant_shape}
-use Rattle.yaml_shape.specs.PlainShape.{struct_variant_shape}
+use Rattle.yaml_shape.specs.PlainShape.{PlainShape, row_shape, fields_shape, enum_shape, Owner, of_variant}
+use Rattle.yaml_shape.specs.PlainShape.{content_shape, PlainVariant, unit_variant, newtype_variant, tuple_variant}
+use Rattle.yaml_shape.specs.PlainShape.{struct_variant}
 use Rattle.yaml_shape.specs.Validity.{IsDistinctInside, AreDistinct}
 use Rattle.yaml_shape.specs.Validity.{names_of, numbers_of}
 use Rattle.yaml_read.specs.DocTree.{DocNode}
@@ -63,18 +62,18 @@ module _ (table : List PlainShape) (root : DocNode) where
         same = both (nat_eq place place) (same_data d one.found) (same_number place) one.same;
       }
 
-  -- what is known of the content of a variant: of a tuple, and of a struct
+  -- what is known of the content of a variant: of a row, and of fields
   abbrev pub TupleReturns : PlainData → Type 0
-  TupleReturns d = (ename name : List ℕ) (ids : List ℕ) (tag : Option (List ℕ)) (e : EmitNode) (n : DocNode)
+  TupleReturns d = (owner : Owner) (ids : List ℕ) (tag : Option (List ℕ)) (e : EmitNode) (n : DocNode)
       → tuple_has table ids d ≡ true → parts_fit table ids d ≡ true → written_tuple table ids tag d ≡ Ok e
-      → IsRendered e n → Returns (tuple_variant_shape ename name ids) n (is_some tag) d
+      → IsRendered e n → Returns (row_shape owner ids) n (is_some tag) d
 
   abbrev pub StructReturns : PlainData → Type 0
-  StructReturns d = (ename name : List ℕ) (strict : Bool) (fields : Fields) (tag : Option (List ℕ)) (e : EmitNode)
+  StructReturns d = (strict : Bool) (owner : Owner) (fields : Fields) (tag : Option (List ℕ)) (e : EmitNode)
       (n : DocNode) → AreDistinct (names_of fields) → are_texts (names_of fields) ≡ true
       → struct_has table (numbers_of fields) d ≡ true → parts_fit table (numbers_of fields) d ≡ true
       → written_struct table fields tag d ≡ Ok e → IsRendered e n
-      → Returns (struct_variant_shape strict ename name fields) n (is_some tag) d
+      → Returns (fields_shape strict owner fields) n (is_some tag) d
 
   -- a variant
   pub variant_returns : (d : PlainData) (ename : List ℕ) (variants : Variants) (place : ℕ) (name : List ℕ)
@@ -109,17 +108,17 @@ module _ (table : List PlainShape) (root : DocNode) where
       (data_has_tag table d inner (local_tag name) e h) r one
   variant_returns d ename variants place name (tuple_variant ids) None e n inner_of tuple_of struct_of found utf8
       inside apart has fits h r =
-      let one = tuple_of ename name ids (Some (local_tag name)) e n has
+      let one = tuple_of (of_variant ename name) ids (Some (local_tag name)) e n has
       (second (is_variant_name name) (parts_fit table ids d) fits) h r in
-      content_returns ename variants place name (tuple_variant ids) (tuple_variant_shape ename name ids) e n d found
+      content_returns ename variants place name (tuple_variant ids) (row_shape (of_variant ename name) ids) e n d found
       utf8 (first (is_variant_name name) (parts_fit table ids d) fits) refl
       (tuple_has_tag table d ids (local_tag name) e h) r one
   variant_returns d ename variants place name (struct_variant strict fields) None e n inner_of tuple_of struct_of
       found utf8 inside apart has fits h r =
-      let one = struct_of ename name strict fields (Some (local_tag name)) e n apart inside has
+      let one = struct_of strict (of_variant ename name) fields (Some (local_tag name)) e n apart inside has
       (second (is_variant_name name) (parts_fit table (numbers_of fields) d) fits) h r in
       content_returns ename variants place name (struct_variant strict fields)
-      (struct_variant_shape strict ename name fields) e n d found utf8
+      (fields_shape strict (of_variant ename name) fields) e n d found utf8
       (first (is_variant_name name) (parts_fit table (numbers_of fields) d) fits) refl
       (struct_has_tag table d fields (local_tag name) e h) r one
   variant_returns d ename variants place name (newtype_variant inner) (Some own) e n inner_of tuple_of struct_of

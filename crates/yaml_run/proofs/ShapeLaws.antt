@@ -8,8 +8,8 @@ use Rattle.std.proofs.Math.Dec.{ltb}
 use Rattle.std.proofs.lemmas.Bool.{ltb-true}
 use Rattle.std.proofs.lemmas.List.Kept.{AllPairs-cons}
 use Rattle.std.proofs.lemmas.List.Sums.{AllPass-from_list_all}
-use Rattle.yaml_shape.specs.PlainShape.{PlainShape, shape_at, i64, u64, usize, any_shape, bool_shape, integer_shape}
-use Rattle.yaml_shape.specs.PlainShape.{str_shape, option_shape, seq_shape, tuple_shape, map_shape, ignored_shape}
+use Rattle.yaml_shape.specs.PlainShape.{i64, u64, usize, PlainShape, any_shape, bool_shape, integer_shape, str_shape}
+use Rattle.yaml_shape.specs.PlainShape.{option_shape, seq_shape, row_shape, map_shape, ignored_shape, unnamed, shape_at}
 use Rattle.yaml_shape.specs.PlainShape.{unit_variant, newtype_variant}
 use Rattle.yaml_shape.specs.SchemaRefusal.{IsRefused}
 use Rattle.yaml_shape.specs.Validity.{NamesWithin, AllNameWithin, AreDistinct, IsDistinctInside, HasDistinctNames}
@@ -118,7 +118,7 @@ distinct shape.Any = single any_shape tt
 distinct shape.Ignored = single ignored_shape tt
 distinct shape.U64 = single (integer_shape u64) tt
 distinct shape.Option = double (option_shape 1) (integer_shape i64) tt tt
-distinct shape.Pair = double (tuple_shape (1 ∷ 1 ∷ [])) (integer_shape i64) tt tt
+distinct shape.Pair = double (row_shape unnamed (1 ∷ 1 ∷ [])) (integer_shape i64) tt tt
 distinct shape.Basic = double (basic_shape false) bool_shape (distinct_basic false) tt
 distinct shape.Strict = double (basic_shape true) bool_shape (distinct_basic true) tt
 distinct shape.Outer =

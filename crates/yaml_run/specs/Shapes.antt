@@ -1,8 +1,8 @@
 -- The shapes with a name, and the table that each stands for.
 use Rattle.std.specs.Prelude.{ℕ, ◌≢◌, List, [], ◌∷◌, codes, Bool, true, false}
-use Rattle.yaml_shape.specs.PlainShape.{PlainShape, i64, u64, usize, any_shape, bool_shape, integer_shape, str_shape}
-use Rattle.yaml_shape.specs.PlainShape.{option_shape, seq_shape, tuple_shape, map_shape, struct_shape, enum_shape}
-use Rattle.yaml_shape.specs.PlainShape.{ignored_shape, unit_variant, newtype_variant}
+use Rattle.yaml_shape.specs.PlainShape.{i64, u64, usize, PlainShape, any_shape, bool_shape, integer_shape, str_shape}
+use Rattle.yaml_shape.specs.PlainShape.{option_shape, seq_shape, row_shape, map_shape, fields_shape, enum_shape}
+use Rattle.yaml_shape.specs.PlainShape.{ignored_shape, unnamed, of_struct, unit_variant, newtype_variant}
 use Rattle.yaml_run.specs.declared.shapes.Named.{Named}
 use Rattle.yaml_run.specs.declared.shapes.Named.TheVariants as named
 
@@ -32,7 +32,7 @@ fields_of_basic = (codes "v", 1) ∷ (codes "w", 1) ∷ []
 
 -- Basic, in which other fields may stand or may not
 abbrev pub basic_shape : Bool → PlainShape
-basic_shape strict = struct_shape strict (codes "Basic") fields_of_basic
+basic_shape strict = fields_shape strict (of_struct (codes "Basic")) fields_of_basic
 
 -- Outer, whose variant holds Inner
 abbrev pub outer_shape : PlainShape
@@ -53,7 +53,7 @@ first_shape named.Any = any_shape
 first_shape named.Ignored = ignored_shape
 first_shape named.U64 = integer_shape u64
 first_shape named.Option = option_shape 1
-first_shape named.Pair = tuple_shape (1 ∷ 1 ∷ [])
+first_shape named.Pair = row_shape unnamed (1 ∷ 1 ∷ [])
 first_shape named.Basic = basic_shape false
 first_shape named.Strict = basic_shape true
 first_shape named.Outer = outer_shape
@@ -69,7 +69,7 @@ table_of named.Any = any_shape ∷ []
 table_of named.Ignored = ignored_shape ∷ []
 table_of named.U64 = integer_shape u64 ∷ []
 table_of named.Option = option_shape 1 ∷ integer_shape i64 ∷ []
-table_of named.Pair = tuple_shape (1 ∷ 1 ∷ []) ∷ integer_shape i64 ∷ []
+table_of named.Pair = row_shape unnamed (1 ∷ 1 ∷ []) ∷ integer_shape i64 ∷ []
 table_of named.Basic = basic_shape false ∷ bool_shape ∷ []
 table_of named.Strict = basic_shape true ∷ bool_shape ∷ []
 table_of named.Outer = outer_shape ∷ inner_shape ∷ seq_shape 3 ∷ integer_shape usize ∷ []
