@@ -1,6 +1,7 @@
 //! Any value: a scalar, a list, or a mapping, under its tag where it has one.
 
-ghost use Rattle.std.specs.Prelude.{◌≡◌, ℕ, ◌+◌, ◌*◌, ◌<◌, ◌≤◌, [], length, OnOk, Some};
+ghost use Rattle.std.specs.Prelude.{◌≡◌, ℕ, ◌+◌, ◌*◌, ◌<◌, ◌≤◌, [], length, None, OnOk, Some};
+ghost use Rattle.std.specs.Option.{is_some};
 ghost use Rattle.yaml_base.specs.Answer.{Gives};
 ghost use Rattle.yaml_shape.specs.DataView.{data_of, items_of, entries_of};
 ghost use Rattle.yaml_shape.specs.PlainData.{any_data};
@@ -9,15 +10,16 @@ ghost use Rattle.yaml_shape.specs.ShapeView.{shape_of};
 ghost use Rattle.yaml_tree.specs.Tree.{sequence, tagged};
 ghost use Rattle.yaml_tree.specs.Tree as tree;
 ghost use Rattle.yaml_tree.specs.Valid.{pairs_of};
+ghost use Rattle.yaml_load.specs.DocEventView.{doc_event_of};
 ghost use Rattle.yaml_load.specs.Ends.{GoForward};
 ghost use Rattle.yaml_scalar.specs.Steps.{wrap};
 ghost use Rattle.yaml_read.specs.AnyData.{tree_in, trees_in, pairs_in};
 ghost use Rattle.yaml_read.specs.Handing.{parts_depth, nesting_depth};
-ghost use Rattle.yaml_read.specs.NodeTags.{around_value};
+ghost use Rattle.yaml_read.specs.NodeTags.{around_value, untaken_name};
 ghost use Rattle.yaml_read.specs.Places.{way_of};
 ghost use Rattle.yaml_read.specs.inner.Questions.{question_of, taken_as, by_node, GivesShape};
 ghost use Rattle.yaml_read.specs.inner.Reader.{item_at, sequence_parts, any_entry_at, mapping_parts};
-ghost use Rattle.yaml_read.specs.inner.Walks.{source_of, spot_of, reader_of, MovesOn, Costs};
+ghost use Rattle.yaml_read.specs.inner.Walks.{source_of, spot_of, reader_of, seen, MovesOn, Costs};
 
 use crate::de::node::any_parts::{
     any_list, any_tagged, duplicate_entry, has_key, put_pair, value_in,
@@ -28,7 +30,7 @@ use crate::de::node::source::Source;
 use crate::de::node::too_deep;
 use crate::de::taken_tag::{TakenBy, is_taken, untaken_name};
 use crate::walk::Walk;
-use yaml_base::Path;
+use yaml_base::{Mark, Path};
 use yaml_load::DocEvent;
 use yaml_scalar::{Result, ended};
 use yaml_shape::{Data, Shape};
@@ -45,41 +47,28 @@ impl<'s, 'de> Source<'s, 'de> {
         ensures moves { OnOk result (MovesOn (length self.now.events.now) walk.old walk.new) }
         ensures cost { Costs (length self.now.events.now) walk.old walk.new }
     {
-        let Some((event, mark)) = self.event(walk.place) else {
+        let Some(event) = self.event(walk.place) else {
             return Err(ended(self.alloc));
         };
-        if let Some(name) = untaken_name(event, is_taken(ask.taken)) {
-            return self.read_any_tagged(ask, name, walk);
-        }
-        match event {
-            DocEvent::SequenceStart(_) => {
-                if ask.nest == 0 {
-                    return Err(too_deep(self.alloc, *mark));
-                }
-                walk.step();
-                self.read_any_items(ask.path, ask.shape, ask.nest - 1, walk)
-            }
-            DocEvent::MappingStart(_) => {
-                if ask.nest == 0 {
-                    return Err(too_deep(self.alloc, *mark));
-                }
-                walk.step();
-                self.read_any_pairs(ask.path, ask.shape, ask.nest - 1, walk)
-            }
-            _ => self.read_simple(ask, event, walk),
+        match untaken_name(&event.0, is_taken(ask.taken)) {
+            Some(name) => self.read_any_tagged(ask, name, event, walk),
+            None => self.read_any_content(ask, event, walk),
         }
     }
 
-    /// Any value under the tag of this name, which it takes.
+    /// Any value that begins with the event, under its tag of this name, which it takes.
     #[cycle(read)]
     #[inline(never)]
     pub(crate) fn read_any_tagged(
         &self,
         ask: &Ask<'_, '_, '_>,
         name: &str,
+        event: &(DocEvent<'de>, Mark),
         walk: &mut Walk,
     ) -> Result<Data<'de>>
         requires shape { (question_of ask.now).shape ≡ any_shape }
+        requires here { seen self.now.events.now walk.old.place ≡ Some (doc_event_of event.now.0, event.now.1) }
+        requires within { walk.old.place < length self.now.events.now }
         requires forward { GoForward self.now.ends.now }
         ensures gives { (fuel : ℕ) → nesting_depth * (walk.old.left + ask.now.nest) < fuel
             → Gives (λ x. (data_of x, spot_of walk.new)) result
@@ -98,9 +87,47 @@ impl<'s, 'de> Source<'s, 'de> {
             nest: ask.nest,
             taken: Some(&value),
         };
-        match self.read_node(&inner, walk) {
+        let start = walk.place;
+        match self.read_any_content(&inner, event, walk) {
             Ok(data) => any_tagged(self.alloc, name, data),
-            Err(refusal) => Err(refusal),
+            Err(refusal) => Err(self.placed_fault(&inner, start, refusal)),
+        }
+    }
+
+    /// Any value that begins with the event, which has no tag that is not taken.
+    #[cycle(read)]
+    #[inline(never)]
+    pub(crate) fn read_any_content(
+        &self,
+        ask: &Ask<'_, '_, '_>,
+        event: &(DocEvent<'de>, Mark),
+        walk: &mut Walk,
+    ) -> Result<Data<'de>>
+        requires shape { (question_of ask.now).shape ≡ any_shape }
+        requires here { seen self.now.events.now walk.old.place ≡ Some (doc_event_of event.now.0, event.now.1) }
+        requires untagged { untaken_name (is_some (question_of ask.now).taken) (doc_event_of event.now.0) ≡ None }
+        requires within { walk.old.place < length self.now.events.now }
+        requires forward { GoForward self.now.ends.now }
+        ensures gives { GivesShape self.now (question_of ask.now) walk.old walk.new result }
+        ensures moves { OnOk result (MovesOn (length self.now.events.now) walk.old walk.new) }
+        ensures cost { Costs (length self.now.events.now) walk.old walk.new }
+    {
+        match &event.0 {
+            DocEvent::SequenceStart(_) => {
+                if ask.nest == 0 {
+                    return Err(too_deep(self.alloc, event.1));
+                }
+                walk.step();
+                self.read_any_items(ask.path, ask.shape, ask.nest - 1, walk)
+            }
+            DocEvent::MappingStart(_) => {
+                if ask.nest == 0 {
+                    return Err(too_deep(self.alloc, event.1));
+                }
+                walk.step();
+                self.read_any_pairs(ask.path, ask.shape, ask.nest - 1, walk)
+            }
+            _ => self.read_simple(ask, &event.0, walk),
         }
     }
 

@@ -62,7 +62,10 @@ impl<'s, 'de> Source<'s, 'de> {
             nest,
             taken: None,
         };
-        self.read_further(&part, leaf, event, walk)
+        match shape {
+            Shape::Any => self.read_node(&part, walk),
+            _ => self.read_further(&part, leaf, event, walk),
+        }
     }
 
     /// The same, where it is an alias, a collection, or a scalar under any other shape.

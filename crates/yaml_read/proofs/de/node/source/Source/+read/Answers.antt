@@ -254,20 +254,23 @@ read_any-read_any_tagged-requires = AnyValues.read_any-read_any_tagged-requires
 pub read_any-returns-in-Some-untaken_name-clause-gives : goal.read_any-returns-in-Some-untaken_name-clause-gives
 read_any-returns-in-Some-untaken_name-clause-gives = AnyValues.read_any-returns-in-Some-untaken_name-clause-gives
 
-pub read_any-returns-else-ask-eq0-clause-gives : goal.read_any-returns-else-ask-eq0-clause-gives
-read_any-returns-else-ask-eq0-clause-gives = AnyValues.read_any-returns-else-ask-eq0-clause-gives
-
-pub read_any-returns-else-ask-eq0-2-clause-gives : goal.read_any-returns-else-ask-eq0-2-clause-gives
-read_any-returns-else-ask-eq0-2-clause-gives = AnyValues.read_any-returns-else-ask-eq0-2-clause-gives
-
-pub read_any-returns-in_default-event : goal.read_any-returns-in_default-event
-read_any-returns-in_default-event = AnyValues.read_any-returns-in_default-event
+pub read_any-read_any_content-requires : goal.read_any-read_any_content-requires
+read_any-read_any_content-requires = AnyValues.read_any-read_any_content-requires
 
 pub read_any_tagged-returns-in-Ok-clause-gives : goal.read_any_tagged-returns-in-Ok-clause-gives
 read_any_tagged-returns-in-Ok-clause-gives = AnyValues.read_any_tagged-returns-in-Ok-clause-gives
 
 pub read_any_tagged-returns-in-Err-clause-gives : goal.read_any_tagged-returns-in-Err-clause-gives
 read_any_tagged-returns-in-Err-clause-gives = AnyValues.read_any_tagged-returns-in-Err-clause-gives
+
+pub read_any_content-returns-else-ask-eq0-clause-gives : goal.read_any_content-returns-else-ask-eq0-clause-gives
+read_any_content-returns-else-ask-eq0-clause-gives = AnyValues.read_any_content-returns-else-ask-eq0-clause-gives
+
+pub read_any_content-returns-else-ask-eq0-2-clause-gives : goal.read_any_content-returns-else-ask-eq0-2-clause-gives
+read_any_content-returns-else-ask-eq0-2-clause-gives = AnyValues.read_any_content-returns-else-ask-eq0-2-clause-gives
+
+pub read_any_content-returns-in_default : goal.read_any_content-returns-in_default
+read_any_content-returns-in_default = AnyValues.read_any_content-returns-in_default
 
 pub read_any_items-returns-in-Ok-clause-gives : goal.read_any_items-returns-in-Ok-clause-gives
 read_any_items-returns-in-Ok-clause-gives = AnyValues.read_any_items-returns-in-Ok-clause-gives

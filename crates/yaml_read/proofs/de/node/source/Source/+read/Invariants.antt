@@ -90,7 +90,7 @@ abbrev pub decreases-read_name : goal.decreases-read_name
 decreases-read_name l = turns (l.walk.now.left + l.nest) tag_depth 0 6
 
 abbrev pub decreases-read_simple : goal.decreases-read_simple
-decreases-read_simple l = of_question l.self.now (question_of l.ask.now) l.walk.now.left 2
+decreases-read_simple l = of_question l.self.now (question_of l.ask.now) l.walk.now.left 1
 
 abbrev pub decreases-read_part : goal.decreases-read_part
 decreases-read_part l = of_node l.self.now.schema.now (shape_of l.shape.now) false l.nest l.walk.now.left 7
@@ -196,6 +196,9 @@ decreases-read_any l = of_question l.self.now (question_of l.ask.now) l.walk.now
 
 abbrev pub decreases-read_any_tagged : goal.decreases-read_any_tagged
 decreases-read_any_tagged l = turns (l.walk.now.left + l.ask.now.nest) tag_depth 0 2
+
+abbrev pub decreases-read_any_content : goal.decreases-read_any_content
+decreases-read_any_content l = of_question l.self.now (question_of l.ask.now) l.walk.now.left 2
 
 abbrev pub decreases-read_any_items : goal.decreases-read_any_items
 decreases-read_any_items l = of_parts l.nest l.walk.now.left 13
