@@ -3,7 +3,7 @@ use Rattle.std.proofs.Common.{◌≡◌, ◌≢◌, ℕ, List, [], ◌∷◌, �
 use Rattle.std.proofs.Common.{sym, ◌∙◌, ap, All}
 use Rattle.std.specs.Prelude.{Box, Vec, IsTrue}
 use Rattle.std.specs.declared.alloc.Global.{Global}
-use Rattle.yaml_shape.specs.PlainShape.{PlainShape, shape_at, option_shape, seq_shape, tuple_shape, map_shape}
+use Rattle.yaml_shape.specs.PlainShape.{PlainShape, option_shape, seq_shape, row_shape, map_shape, unnamed, shape_at}
 use Rattle.yaml_shape.specs.PlainData.{PlainData, none_data, some_data, seq_data, tuple_data, map_data}
 use Rattle.yaml_shape.specs.HasShape.{HasShape, has_shape, all_have}
 use Rattle.yaml_shape.specs.DataView.{data_of, items_view, entries_view}
@@ -90,7 +90,7 @@ is_tuple (tuple_data ds) = true
 is_tuple _ = false
 
 found_tuple : (shapes : List PlainShape) (ids : List ℕ) (d : PlainData)
-    → HasShape (shapes ++ tuple_shape ids ∷ []) (length shapes) d → IsTrue (is_tuple d)
+    → HasShape (shapes ++ row_shape unnamed ids ∷ []) (length shapes) d → IsTrue (is_tuple d)
 found_tuple shapes ids (tuple_data ds) h = refl
 found_tuple shapes ids _ h = let e = rw last_shape at h in cc
 
@@ -100,7 +100,7 @@ by_tuple found h other = search (rules, the_lemmas)
 
 -- a tuple is one
 pub not_tuple : (shapes : List PlainShape) (ids : List ℕ) (found : Data)
-    → HasShape (shapes ++ tuple_shape ids ∷ []) (length shapes) (data_of found)
+    → HasShape (shapes ++ row_shape unnamed ids ∷ []) (length shapes) (data_of found)
     → ((items : Vec Data Global) → found ≢ code.Tuple items) → ⊥
 not_tuple shapes ids found h other = by_tuple found (found_tuple shapes ids (data_of found) h) other
 

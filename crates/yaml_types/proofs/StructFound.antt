@@ -3,7 +3,7 @@ use Rattle.std.proofs.Common.{◌≡◌, ◌≢◌, ◌+◌, ℕ, List, [], ◌�
 use Rattle.std.proofs.Common.{sym, ◌∙◌, ap, All, arith, length-append}
 use Rattle.std.specs.Prelude.{Vec, IsTrue, Result, Ok, Err, IfErr}
 use Rattle.std.specs.declared.alloc.Global.{Global}
-use Rattle.yaml_shape.specs.PlainShape.{PlainShape, shape_at, struct_shape, tuple_shape}
+use Rattle.yaml_shape.specs.PlainShape.{PlainShape, row_shape, fields_shape, unnamed, of_struct, shape_at}
 use Rattle.yaml_shape.specs.PlainData.{PlainData, struct_data}
 use Rattle.yaml_shape.specs.HasShape.{HasShape, has_shape}
 use Rattle.yaml_shape.specs.Validity.{HasDistinctNames}
@@ -34,7 +34,7 @@ is_struct (struct_data ds) = true
 is_struct _ = false
 
 found_struct : (shapes : List PlainShape) (strict : Bool) (name : List ℕ) (fields : List (List ℕ × ℕ)) (d : PlainData)
-    → HasShape (shapes ++ struct_shape strict name fields ∷ []) (length shapes) d → IsTrue (is_struct d)
+    → HasShape (shapes ++ fields_shape strict (of_struct name) fields ∷ []) (length shapes) d → IsTrue (is_struct d)
 found_struct shapes strict name fields (struct_data ds) h = refl
 found_struct shapes strict name fields _ h = let e = rw last_shape at h in cc
 
@@ -44,7 +44,8 @@ by_struct found h other = search (rules, the_lemmas)
 
 -- a struct is one
 pub not_struct : (shapes : List PlainShape) (strict : Bool) (name : List ℕ) (fields : List (List ℕ × ℕ))
-    (found : Data) → HasShape (shapes ++ struct_shape strict name fields ∷ []) (length shapes) (data_of found)
+    (found : Data)
+    → HasShape (shapes ++ fields_shape strict (of_struct name) fields ∷ []) (length shapes) (data_of found)
     → ((fields : Vec Data Global) → found ≢ code.Struct fields) → ⊥
 not_struct shapes strict name fields found h other =
     by_struct found (found_struct shapes strict name fields (data_of found) h) other
@@ -75,13 +76,14 @@ one_refused S5 size more shape e distinct h = tt
 -- a struct with distinct names is refused only for its size
 pub struct_refused : (r : Result Part SchemaFault) (strict : Bool) (name : List ℕ) (names : List (List ℕ))
     (parts : List Start) → length names ≡ length parts → all_distinct names ≡ true
-    → IfErr r (IsNotAdded (length (joined_all [] parts)) (struct_shape strict name (named_behind 0 names parts)))
+    → IfErr r (IsNotAdded (length (joined_all [] parts))
+    (fields_shape strict (of_struct name) (named_behind 0 names parts)))
     → IfErr r (IsTooLarge (length (struct_start strict name names parts).0))
 struct_refused (Ok a) strict name names parts same e h = tt
 struct_refused (Err fault) strict name names parts same e h =
     one_refused fault (length (joined_all [] parts)) (length (struct_start strict name names parts).0)
-    (struct_shape strict name (named_behind 0 names parts))
-    (length-append (joined_all [] parts) (struct_shape strict name (named_behind 0 names parts) ∷ []))
+    (fields_shape strict (of_struct name) (named_behind 0 names parts))
+    (length-append (joined_all [] parts) (fields_shape strict (of_struct name) (named_behind 0 names parts) ∷ []))
     (distinct_struct strict name names parts same e) h
 
 -- where one type of a row is too large, the struct is
@@ -89,7 +91,7 @@ pub row_too_large : (fault : SchemaFault) (strict : Bool) (name : List ℕ) (nam
     → IsTooLarge (total parts) fault → IsTooLarge (length (struct_start strict name names parts).0) fault
 row_too_large fault strict name names parts h =
     let size : length (struct_start strict name names parts).0 ≡ length (joined_all [] parts) + 1 =
-    length-append (joined_all [] parts) (struct_shape strict name (named_behind 0 names parts) ∷ []) in
+    length-append (joined_all [] parts) (fields_shape strict (of_struct name) (named_behind 0 names parts) ∷ []) in
     let row : length (joined_all [] parts) ≡ 0 + total parts = length-row [] parts in
     larger fault (total parts) (length (struct_start strict name names parts).0) (omega (arith, size, row)) h
 
@@ -98,6 +100,6 @@ pub tuple_too_large : (fault : SchemaFault) (parts : List Start) → IsTooLarge 
     → IsTooLarge (length (tuple_start parts).0) fault
 tuple_too_large fault parts h =
     let size : length (tuple_start parts).0 ≡ length (joined_all [] parts) + 1 =
-    length-append (joined_all [] parts) (tuple_shape (starts_behind 0 parts) ∷ []) in
+    length-append (joined_all [] parts) (row_shape unnamed (starts_behind 0 parts) ∷ []) in
     let row : length (joined_all [] parts) ≡ 0 + total parts = length-row [] parts in
     larger fault (total parts) (length (tuple_start parts).0) (omega (arith, size, row)) h

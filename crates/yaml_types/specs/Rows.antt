@@ -1,6 +1,6 @@
 -- Rows of types, and the structs that are made of them.
 use Rattle.std.specs.Prelude.{ℕ, ◌≡◌, ◌+◌, List, [], ◌∷◌, Bool, true, not, ◌&&◌, ◌⊎◌, bytes_eq, length}
-use Rattle.yaml_shape.specs.PlainShape.{struct_shape}
+use Rattle.yaml_shape.specs.PlainShape.{fields_shape, of_struct}
 use Rattle.yaml_shape.specs.PlainData.{PlainData, PlainItems, no_items, item, struct_data, tuple_data}
 use Rattle.yaml_shape.specs.Join.{joined_all, named_behind}
 use Rattle.yaml_types.specs.BuiltParts.{IsBuilt}
@@ -14,7 +14,7 @@ total (s ∷ ss) = length s.0 + total ss
 -- structs of this name, whose fields have these names and are of these types, their tables in a row
 abbrev pub struct_start : (strict : Bool) → (name : List ℕ) → (names : List (List ℕ)) → List Start → Start
 struct_start strict name names parts =
-    with_shape (joined_all [] parts) (struct_shape strict name (named_behind 0 names parts))
+    with_shape (joined_all [] parts) (fields_shape strict (of_struct name) (named_behind 0 names parts))
 
 -- the name is none of these
 abbrev pub is_apart : List ℕ → List (List ℕ) → Bool

@@ -2,7 +2,7 @@
 use Rattle.std.proofs.Common.{◌≡◌, ◌<◌, ◌+◌, ℕ, List, [], ◌∷◌, ◌++◌, map, length, Bool, true, ◌&&◌, refl, ◌∙◌}
 use Rattle.std.proofs.Common.{ap, arith, All, append_assoc}
 use Rattle.std.proofs.lemmas.List.Elements.{All-nil, All-cons, All-head, All-tail, All-weaker}
-use Rattle.yaml_shape.specs.PlainShape.{PlainShape, option_shape, seq_shape, map_shape, tuple_shape, shape_at}
+use Rattle.yaml_shape.specs.PlainShape.{PlainShape, option_shape, seq_shape, row_shape, map_shape, unnamed, shape_at}
 use Rattle.yaml_shape.specs.PlainData.{PlainData, PlainItems, PlainEntries, none_data, some_data, seq_data, tuple_data}
 use Rattle.yaml_shape.specs.PlainData.{map_data, no_items, item, no_entries, entry}
 use Rattle.yaml_shape.specs.Validity.{AllNameWithin}
@@ -67,10 +67,10 @@ parts_have by (p ∷ ps) whole w k (item d ds) =
 pub tuple_has : (parts : List Start) → All IsClosed parts → (ds : PlainItems)
     → has_shape (tuple_start parts).0 (tuple_start parts).1 (tuple_data ds) ≡ items_match parts ds
 tuple_has parts c ds =
-    at_last (joined_all [] parts) (tuple_shape (starts_behind 0 parts))
+    at_last (joined_all [] parts) (row_shape unnamed (starts_behind 0 parts))
     (on_tuple (λ ids. each_has (tuple_start parts).0 ids ds))
     ∙ parts_have 0 parts (tuple_start parts).0 (all_within parts c)
-    (keeps_all [] parts (tuple_shape (starts_behind 0 parts) ∷ [])
+    (keeps_all [] parts (row_shape unnamed (starts_behind 0 parts) ∷ [])
     (All-weaker IsClosed (λ p. AllNameWithin (length p.0) p.0) (λ p h. h.closed) parts c)) ds
 
 -- the tables of keys and values in a row, with a shape behind them

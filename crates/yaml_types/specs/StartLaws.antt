@@ -4,7 +4,7 @@ use Rattle.std.proofs.Common.{length-append}
 use Rattle.std.proofs.lemmas.List.Elements.{All-nil, All-cons, All-head, All-tail, All-weaker, All-append, All-map}
 use Rattle.std.proofs.lemmas.List.Elements.{All-push}
 use Rattle.yaml_shape.specs.PlainShape.{PlainShape, any_shape, bool_shape, char_shape, integer_shape, str_shape}
-use Rattle.yaml_shape.specs.PlainShape.{unit_shape, option_shape, seq_shape, map_shape, tuple_shape}
+use Rattle.yaml_shape.specs.PlainShape.{option_shape, unit_shape, seq_shape, row_shape, map_shape, unnamed}
 use Rattle.yaml_shape.specs.Validity.{named, NamesWithin, AllNameWithin}
 use Rattle.yaml_shape.specs.Join.{raised, joined, joined_all, starts_behind, StartsWithin}
 use Rattle.yaml_shape.proofs.JoinLaws.{named-raised}
@@ -99,6 +99,6 @@ all_within parts c = All-weaker IsClosed StartsWithin (λ p h. h.within) parts c
 -- tuples of types
 pub closed_tuple : (parts : List Start) → All IsClosed parts → IsClosed (tuple_start parts)
 closed_tuple parts c =
-    closed_with (joined_all [] parts) (tuple_shape (starts_behind 0 parts))
+    closed_with (joined_all [] parts) (row_shape unnamed (starts_behind 0 parts))
     (closed_all [] parts (All-nil (NamesWithin 0)) c)
     (starts_inside [] parts (all_within parts c))

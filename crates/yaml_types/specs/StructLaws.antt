@@ -7,7 +7,7 @@ use Rattle.std.proofs.lemmas.List.Kept.{AllPairs-cons}
 use Rattle.std.proofs.lemmas.Slice.Eq.{bytes_eq-Decides}
 use Rattle.std.proofs.lemmas.Slice.Zip.{firsts-zip, seconds-zip}
 use Rattle.yaml_tree.specs.TakeOut.{from_false, and_left, and_right}
-use Rattle.yaml_shape.specs.PlainShape.{PlainShape, struct_shape}
+use Rattle.yaml_shape.specs.PlainShape.{PlainShape, fields_shape, of_struct}
 use Rattle.yaml_shape.specs.PlainData.{PlainItems, struct_data, tuple_data}
 use Rattle.yaml_shape.specs.Validity.{numbers_of, NamesWithin, AllNameWithin, AreDistinct, HasDistinctNames}
 use Rattle.yaml_shape.specs.HasShape.{on_struct, has_shape, each_has}
@@ -33,7 +33,7 @@ row_closed s ss h hs = All-cons IsClosed s ss h hs
 pub closed_struct : (strict : Bool) (name : List ℕ) (names : List (List ℕ)) (parts : List Start) → All IsClosed parts
     → IsClosed (struct_start strict name names parts)
 closed_struct strict name names parts c =
-    closed_with (joined_all [] parts) (struct_shape strict name (named_behind 0 names parts))
+    closed_with (joined_all [] parts) (fields_shape strict (of_struct name) (named_behind 0 names parts))
     (closed_all [] parts (All-nil (NamesWithin 0)) c)
     (numbers_inside (λ id. id < length (joined_all [] parts)) names (starts_behind 0 parts)
     (starts_inside [] parts (all_within parts c)))
@@ -50,11 +50,11 @@ pub struct_has : (strict : Bool) (name : List ℕ) (names : List (List ℕ)) (pa
     → has_shape (struct_start strict name names parts).0 (struct_start strict name names parts).1 (struct_data ds)
     ≡ items_match parts ds
 struct_has strict name names parts same c ds =
-    at_last (joined_all [] parts) (struct_shape strict name (named_behind 0 names parts))
+    at_last (joined_all [] parts) (fields_shape strict (of_struct name) (named_behind 0 names parts))
     (on_struct (λ ids. each_has (struct_start strict name names parts).0 ids ds))
     ∙ (ap (λ ids. each_has (struct_start strict name names parts).0 ids ds) (numbers_named names parts same)
     ∙ parts_have 0 parts (struct_start strict name names parts).0 (all_within parts c)
-    (keeps_all [] parts (struct_shape strict name (named_behind 0 names parts) ∷ [])
+    (keeps_all [] parts (fields_shape strict (of_struct name) (named_behind 0 names parts) ∷ [])
     (All-weaker IsClosed (λ p. AllNameWithin (length p.0) p.0) (λ p h. h.closed) parts c)) ds)
 
 others_apart : (name : List ℕ) (names : List (List ℕ)) → is_apart name names ≡ true → All (λ n. name ≢ n) names
@@ -74,7 +74,7 @@ distinct_names (name ∷ names) e =
 -- a struct with such names
 pub distinct_struct : (strict : Bool) (name : List ℕ) (names : List (List ℕ)) (parts : List Start)
     → length names ≡ length parts → all_distinct names ≡ true
-    → HasDistinctNames (struct_shape strict name (named_behind 0 names parts))
+    → HasDistinctNames (fields_shape strict (of_struct name) (named_behind 0 names parts))
 distinct_struct strict name names parts same e =
     subst AreDistinct (sym (firsts-zip names (starts_behind 0 parts) (length-starts 0 parts ∙ sym same)))
     (distinct_names names e)
