@@ -1,4 +1,2 @@
 -- What contracts of this crate cite.
-pub mod CaseReadings
 pub mod Printed
-pub mod TextAnswers

@@ -1,8 +1,8 @@
 -- What a run prints of its reply, and how it ends.
 use Rattle.std.specs.Prelude.{ℕ, ◌≡◌, ◌≢◌, Bool, true, false, List, Option}
 use Rattle.std.specs.Io.KnownBytes.{Appends}
-use Rattle.yaml_probe.specs.declared.reply.Unanswered.{Unanswered}
-use Rattle.yaml_probe.specs.declared.reply.Unanswered.TheVariants as reply
+use Rattle.yaml_run.specs.declared.input.Unanswered.{Unanswered}
+use Rattle.yaml_run.specs.declared.input.Unanswered.TheVariants as reply
 use Rattle.yaml_probe.specs.declared.status.Status.{Status}
 use Rattle.yaml_probe.specs.declared.status.Status.TheVariants as status
 

@@ -1,7 +1,6 @@
 //! The answer to a case.
 
 mod events;
-mod reading;
 mod text;
 mod turns;
 mod writing;
@@ -9,48 +8,17 @@ mod writing;
 use crate::case::{Case, Task};
 use crate::table::Table;
 use crate::text::quote;
-use reading::read;
 use std::alloc::{AllocError, Global};
 use text::{read_text, read_text_in_turn};
 use turns::read_in_turn;
 use writing::write;
+use yaml_run::{Status, Told, read_events};
 use yaml_shape::Schema;
 
-/// How a case ended.
-#[derive(Clone, Copy, PartialEq, Eq, Debug)]
-pub enum Ending {
-    /// It gave what was asked.
-    Done,
-    /// It ended in a fault.
-    Fault,
-    /// Its lines say nothing of the kind that was asked.
-    Refused,
-}
-
-impl Ending {
-    // The status that stands for it.
-    fn status(self) -> u8 {
-        match self {
-            Ending::Done => 0,
-            Ending::Fault => 1,
-            Ending::Refused => 2,
-        }
-    }
-}
-
-/// How a case ended, and what is told of it.
-#[derive(Drop)]
-pub struct Answer {
-    /// How it ended.
-    pub ending: Ending,
-    /// What is told.
-    pub text: String,
-}
-
 // An answer that refuses the lines by this text.
-fn refused(alloc: Global, text: &str) -> Result<Answer, AllocError> {
-    Ok(Answer {
-        ending: Ending::Refused,
+fn refused(alloc: Global, text: &str) -> Result<Told, AllocError> {
+    Ok(Told {
+        ended: Status::Refused,
         text: String::from_str(alloc, text)?,
     })
 }
@@ -61,9 +29,9 @@ fn asked(
     schema: &Schema,
     case: &Case<'_>,
     lines: &[u8],
-) -> Result<Answer, AllocError> {
+) -> Result<Told, AllocError> {
     match case.task {
-        Task::Read(id) if schema.has(id) => read(alloc, schema, id, case.limits, lines),
+        Task::Read(id) if schema.has(id) => read_events(alloc, schema, id, case.limits, lines),
         Task::ReadInTurn(id) if schema.has(id) => {
             read_in_turn(alloc, schema, id, case.limits, lines)
         }
@@ -90,15 +58,15 @@ fn answer_of(
     table: &Table,
     case: &Case<'_>,
     lines: &[u8],
-) -> Result<Answer, AllocError> {
+) -> Result<Told, AllocError> {
     match table {
         Table::Schema(schema) => asked(alloc, schema, case, kept(case, lines)),
-        Table::BadLine(number) => Ok(Answer {
-            ending: Ending::Refused,
+        Table::BadLine(number) => Ok(Told {
+            ended: Status::Refused,
             text: format!(in alloc; "schema: bad line {number}")?,
         }),
-        Table::Refused(fault) => Ok(Answer {
-            ending: Ending::Fault,
+        Table::Refused(fault) => Ok(Told {
+            ended: Status::Fault,
             text: format!(in alloc; "schema: {fault}")?,
         }),
     }
@@ -116,10 +84,10 @@ pub fn append_answer(
     let Some(case) = Case::parse(header) else {
         return out.push_str("?\t2\t\"bad case\"\n");
     };
-    let answer = answer_of(alloc, table, &case, lines)?;
-    let status = answer.ending.status();
+    let told = answer_of(alloc, table, &case, lines)?;
+    let status = told.ended.code();
     out.push_str(case.id)?;
     write!(out, "\t{status}\t")?;
-    quote(out, answer.text.as_str())?;
+    quote(out, told.text.as_str())?;
     out.push('\n')
 }

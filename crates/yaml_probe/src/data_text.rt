@@ -62,17 +62,15 @@ fn scalar(
             word(source, b"false", Data::Bool(false))
         }
         Shape::Char => character(alloc, source),
-        Shape::I8 | Shape::I16 | Shape::I32 | Shape::I64 | Shape::I128 | Shape::Isize => {
-            signed(source)
-        }
-        Shape::U8 | Shape::U16 | Shape::U32 | Shape::U64 | Shape::U128 | Shape::Usize => {
-            unsigned(source)
-        }
         Shape::Str | Shape::Identifier => Ok(Data::Str(Text::Owned(source.text(alloc)?))),
         Shape::Bytes => Ok(Data::Bytes(source.bytes(alloc)?)),
         Shape::Unit | Shape::UnitStruct { .. } => word(source, b"()", Data::Unit),
         Shape::IgnoredAny => word(source, b"ignored", Data::Ignored),
-        _ => Err(LineFault::Bad),
+        _ => match shape.integer() {
+            Some(integer) if integer.has_sign() => signed(source),
+            Some(_) => unsigned(source),
+            None => Err(LineFault::Bad),
+        },
     }
 }
 

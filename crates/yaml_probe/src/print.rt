@@ -3,9 +3,10 @@
 ghost use Rattle.std.specs.Prelude.{◌≡◌, IfOk, IfErr, string_bytes};
 ghost use Rattle.yaml_probe.specs.Printed.{Prints, status_of, status_without};
 
-use crate::reply::{Answers, Unanswered};
+use crate::reply::Answers;
 use crate::status::Status;
 use std::io::Write;
+use yaml_run::Unanswered;
 
 /// Writes the lines of a reply. The run ends with the reply's status, unless the writer fails.
 pub fn print<W: Write>(writer: &mut W, reply: &Answers) -> Status

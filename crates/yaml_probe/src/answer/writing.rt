@@ -3,11 +3,12 @@
 ghost use Rattle.std.specs.Prelude.{◌≡◌, []};
 
 use super::events::show_events;
-use super::{Answer, Ending, refused};
+use super::refused;
 use crate::data_text::data;
 use std::alloc::{AllocError, Global};
 use yaml_base::Result;
 use yaml_lines::{LineFault, first_line};
+use yaml_run::{Status, Told};
 use yaml_shape::{Data, Schema, ShapeId, Typed};
 use yaml_write::Serializer;
 
@@ -50,13 +51,13 @@ fn shown(
     alloc: Global,
     out: Serializer,
     written: Result<()>,
-) -> std::result::Result<Answer, AllocError>
+) -> std::result::Result<Told, AllocError>
     requires { out.opened ≡ [] }
 {
-    let (ending, mut text) = match written {
-        Ok(()) => (Ending::Done, String::new(alloc)),
+    let (ended, mut text) = match written {
+        Ok(()) => (Status::Read, String::new(alloc)),
         Err(fault) => (
-            Ending::Fault,
+            Status::Fault,
             format!(in alloc; "fault: {fault}\n-- events by then:\n")?,
         ),
     };
@@ -64,7 +65,7 @@ fn shown(
         Ok(events) => show_events(&mut text, events.as_slice())?,
         Err(_) => return Err(AllocError),
     }
-    Ok(Answer { ending, text })
+    Ok(Told { ended, text })
 }
 
 /// What lines of data are written as.
@@ -73,7 +74,7 @@ pub fn write(
     schema: &Schema,
     id: ShapeId,
     lines: &[u8],
-) -> std::result::Result<Answer, AllocError> {
+) -> std::result::Result<Told, AllocError> {
     let all = match all_data(alloc, schema, id, lines) {
         Ok(all) => all,
         Err(LineFault::Bad) => return refused(alloc, "bad data"),
