@@ -7,7 +7,7 @@ use Rattle.yaml_shape.specs.PlainShape.{newtype_shape, seq_shape, row_shape, map
 use Rattle.yaml_shape.specs.PlainShape.{ignored_shape}
 use Rattle.yaml_load.specs.DocTree.{DocNode, reference, node_of, first_event}
 use Rattle.yaml_read.specs.Following.{follows_aliases}
-use Rattle.yaml_read.specs.Handing.{Handing, as_is, handed, early}
+use Rattle.yaml_read.specs.Handing.{as_is, handed, early}
 use Rattle.yaml_read.specs.Meaning.{Means, MeansAs, means_node, means_target}
 
 -- the shape hands an alias on as what it is by its kind

@@ -1,6 +1,6 @@
 -- What is read of a struct: fields that are found by their names, each at most once.
 use Rattle.std.specs.Prelude.{ℕ, zero, suc, List, [], ◌∷◌, map, set, Option, Some, None, Result, Ok, Err, Bool, true}
-use Rattle.std.specs.Prelude.{false, bytes_eq}
+use Rattle.std.specs.Prelude.{bytes_eq}
 use Rattle.std.specs.Prelude.{if◌then◌else◌}
 use Rattle.std.specs.Option.{is_none, option_map}
 use Rattle.yaml_base.specs.declared.error.Cause.{Cause}

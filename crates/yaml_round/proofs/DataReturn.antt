@@ -21,7 +21,7 @@ use Rattle.yaml_read.specs.Meaning.{Means, means_node, means_some, means_newtype
 use Rattle.yaml_read.specs.Meaning.{means_list, means_mapping, means_seq}
 use Rattle.yaml_read.specs.Meaning.{means_map}
 use Rattle.yaml_write.specs.InShape.{item_shapes, named_fields, named_variants}
-use Rattle.yaml_write.specs.Written.{written, written_tuple, written_struct, written_elements}
+use Rattle.yaml_write.specs.Written.{written, written_elements}
 use Rattle.yaml_write.specs.Written.{written_entries}
 use Rattle.yaml_write.specs.Written as writing
 use Rattle.yaml_write.specs.WrittenParts.{written_content}

@@ -15,7 +15,7 @@ use Rattle.yaml_shape.specs.PlainData.{no_items, item, no_entries, entry}
 use Rattle.yaml_shape.specs.PlainShape.{PlainShape, row_shape, fields_shape, Owner, shape_at}
 use Rattle.yaml_shape.specs.Validity.{AreDistinct}
 use Rattle.yaml_shape.specs.Validity.{names_of, numbers_of}
-use Rattle.yaml_read.specs.DocTree.{DocNode, DocNodes, DocPairs, word, list, mapping, first_event}
+use Rattle.yaml_read.specs.DocTree.{DocNode, DocNodes, DocPairs}
 use Rattle.yaml_read.specs.DocTree as doc
 use Rattle.yaml_read.specs.Fields.{Fields, Slots}
 use Rattle.yaml_read.specs.Meaning.{Means, means_node}

@@ -11,7 +11,7 @@ use Rattle.yaml_shape.specs.PlainData.{item}
 use Rattle.yaml_shape.specs.PlainShape.{PlainShape, identifier_shape, shape_at}
 use Rattle.yaml_shape.specs.Validity.{AreDistinct}
 use Rattle.yaml_shape.specs.Validity.{names_of}
-use Rattle.yaml_read.specs.DocTree.{DocNode, DocPairs, word, mapping, first_event}
+use Rattle.yaml_read.specs.DocTree.{DocNode, DocPairs}
 use Rattle.yaml_read.specs.DocTree as doc
 use Rattle.yaml_read.specs.Fields.{Fields, Slots, no_slots}
 use Rattle.yaml_read.specs.Meaning.{Means}

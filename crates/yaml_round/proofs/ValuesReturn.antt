@@ -17,7 +17,7 @@ use Rattle.yaml_tree.specs.Tree.{Tree, null, boolean, number, string, sequence, 
 use Rattle.yaml_tree.specs.Tree.{Pairs, no_pairs, pair}
 use Rattle.yaml_tree.specs.Valid.{is_value, are_values, are_pairs}
 use Rattle.yaml_read.specs.AnyData.{trees_in, pairs_in}
-use Rattle.yaml_read.specs.DocTree.{DocNode, DocNodes, DocPairs, word, first_event}
+use Rattle.yaml_read.specs.DocTree.{DocNode, DocNodes, DocPairs, word}
 use Rattle.yaml_read.specs.DocTree as doc
 use Rattle.yaml_read.specs.Handing.{as_is, any_by, handed, early}
 use Rattle.yaml_read.specs.Meaning.{Means, means_node, means_tagged, means_scalar, means_list, means_mapping}

@@ -22,8 +22,7 @@ use Rattle.yaml_read.specs.Handing.{variant_by, enum_by}
 use Rattle.yaml_read.specs.Meaning.{means_node, means_variant}
 use Rattle.yaml_read.specs.Variants.{Variants, variant_named}
 use Rattle.yaml_write.specs.LocalTags.{local_tag}
-use Rattle.yaml_write.specs.Written.{written, written_tuple, written_struct, written_elements, written_items}
-use Rattle.yaml_write.specs.Written.{written_entries, written_fields}
+use Rattle.yaml_write.specs.Written.{written_tuple, written_struct}
 use Rattle.yaml_write.specs.Written as writing
 use Rattle.yaml_write.specs.WrittenParts.{written_content}
 use Rattle.yaml_round.specs.Fits.{data_fits, parts_fit}

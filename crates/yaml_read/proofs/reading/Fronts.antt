@@ -1,6 +1,6 @@
 -- The fault of the first events of a document is the first fault of each document that begins with them.
 use Rattle.std.proofs.Common.{◌≡◌, ℕ, zero, suc, ◌+◌, ◌*◌, ◌<◌, List, [], ◌∷◌, ◌++◌, map, length, Some, None}
-use Rattle.std.proofs.Common.{Result, Ok, Err, Bool, true, false, refl, sym, ap, subst, ◌∙◌, arith, ◌&&◌, ◌==◌}
+use Rattle.std.proofs.Common.{Result, Err, Bool, true, false, refl, sym, ap, subst, ◌∙◌, arith, ◌&&◌, ◌==◌}
 use Rattle.std.proofs.Common.{if◌then◌else◌, length-append}
 use Rattle.std.specs.Prelude.{◌≢◌, slice_get}
 use Rattle.std.proofs.lemmas.List.{length-map}

@@ -1,5 +1,5 @@
 -- What a single node gives, from what its reading by places gives.
-use Rattle.std.proofs.Common.{◌≡◌, ℕ, ◌+◌, ◌*◌, ◌<◌, ◌≤◌, List, map, length, Option, Some, None, Result, Ok, Err, Bool}
+use Rattle.std.proofs.Common.{◌≡◌, ℕ, ◌+◌, ◌*◌, ◌<◌, ◌≤◌, List, map, length, Option, Some, Ok, Err, Bool}
 use Rattle.std.proofs.Common.{true, false, refl, sym, ap, subst, ◌∙◌, arith}
 use Rattle.std.specs.Prelude.{slice_get}
 use Rattle.std.specs.Option.{is_some}
@@ -27,12 +27,12 @@ use Rattle.yaml_read.specs.declared.node_place.NodePlace.{NodePlace}
 use Rattle.yaml_read.specs.inner.Reader.{Reading, node_at}
 use Rattle.yaml_read.proofs.reading.Complete.{tree_outcome}
 use Rattle.yaml_read.proofs.reading.EndLaws.{node_ends}
-use Rattle.yaml_read.proofs.reading.Outcomes.{Outcome, reads, deep, many}
+use Rattle.yaml_read.proofs.reading.Outcomes.{reads, deep, many}
 use Rattle.yaml_read.proofs.reading.Shown.{Shows, target_shown}
 use Rattle.yaml_read.proofs.reading.Sound.{tree_sound}
 use Rattle.yaml_read.proofs.reading.TreeLaws.{reader_tied}
 use Rattle.yaml_read.proofs.reading.TreeWalks.{landed}
-use Rattle.yaml_read.proofs.reading.WholeReadings.{shows_list, whole_source, same_ok, landed_ok, landed_err, answer_ok}
+use Rattle.yaml_read.proofs.reading.WholeReadings.{shows_list, whole_source, same_ok, landed_ok, landed_err}
 
 is_taken : (taken : Bool) → is_some (taker taken) ≡ taken
 is_taken true = refl

@@ -1,6 +1,6 @@
 -- What the steps of a reading of trees answer where its fuel is enough: data, with no more follows left than before, or
 -- a fault of reading, never want of memory.
-use Rattle.std.proofs.Common.{◌≡◌, ℕ, zero, suc, ◌≤◌, Option, Some, None, Result, Ok, Err, Bool, true, false, refl}
+use Rattle.std.proofs.Common.{◌≡◌, ℕ, zero, suc, ◌≤◌, Option, Some, Result, Ok, Err, Bool, false, refl}
 use Rattle.std.proofs.Common.{arith}
 use Rattle.yaml_base.specs.Position.{Position}
 use Rattle.yaml_base.specs.declared.error.Cause.{Cause}

@@ -1,8 +1,6 @@
 -- What a node's reading comes to under the shapes of any value and of enums.
-use Rattle.std.proofs.Common.{◌≡◌, ℕ, ◌-◌, ◌<◌, Bool, true, false, List, [], Some, None, Option, Err, refl, ◌∙◌}
+use Rattle.std.proofs.Common.{◌≡◌, ℕ, ◌-◌, ◌<◌, Bool, true, false, List, [], Some, None, Err, refl, ◌∙◌}
 use Rattle.std.proofs.Common.{Ok, ◌∷◌, ◌++◌}
-use Rattle.std.specs.Option.{is_some}
-use Rattle.yaml_base.specs.Position.{Position}
 use Rattle.yaml_base.specs.declared.error.Cause.{Cause}
 use Rattle.yaml_shape.specs.PlainData.{PlainData}
 use Rattle.yaml_shape.specs.PlainShape.{any_shape, enum_shape, PlainVariant}
@@ -12,9 +10,8 @@ use Rattle.yaml_read.specs.AnyData.{new_key}
 use Rattle.yaml_read.specs.Handing.{as_is, as_variant, as_tagged, handed, is_filled_scalar}
 use Rattle.yaml_read.specs.NodeTags.{untaken_name}
 use Rattle.yaml_read.specs.Places.{Way}
-use Rattle.yaml_read.specs.TreeReader.{Spot, after}
+use Rattle.yaml_read.specs.TreeReader.{Spot}
 use Rattle.yaml_read.specs.inner.Reader.{Source, Reader, any_entry_at, value_way}
-use Rattle.yaml_read.proofs.reading.Loops.{entered}
 
 -- ---- how enums and any values are handed on
 pub any_tagged : (taken : Bool) (e : PlainDocEvent) (name : List ℕ) → untaken_name taken e ≡ Some name

@@ -31,7 +31,7 @@ use Rattle.yaml_read.proofs.reading.Sound.{tree_sound}
 use Rattle.yaml_read.proofs.reading.TreeLaws.{reader_tied}
 use Rattle.yaml_read.proofs.reading.TreeWalks.{landed}
 use Rattle.yaml_read.proofs.reading.Fronts.{first_fault}
-use Rattle.yaml_read.proofs.reading.WholeReadings.{shows_list, same_ok, err_is, landed_ok, landed_err, answer_ok}
+use Rattle.yaml_read.proofs.reading.WholeReadings.{shows_list, err_is, landed_ok, landed_err, answer_ok}
 use Rattle.yaml_read.proofs.reading.WholeReadings.{answer_err, reading_err}
 pub use Rattle.yaml_read.proofs.reading.WholeReadings.{whole_source, whole_reading, seen_whole}
 

@@ -3,8 +3,8 @@ use Rattle.std.specs.Prelude.{Option, Some, None, Result, Err, Bool, true, false
 use Rattle.yaml_base.specs.declared.error.Cause.{Cause}
 use Rattle.yaml_base.specs.declared.error.Cause.TheVariants.{EndOfStream}
 use Rattle.yaml_shape.specs.PlainData.{PlainData}
-use Rattle.yaml_shape.specs.PlainShape.{PlainShape, any_shape, bool_shape, char_shape, integer_shape, str_shape}
-use Rattle.yaml_shape.specs.PlainShape.{identifier_shape, unit_shape, unit_struct_shape, seq_shape, row_shape}
+use Rattle.yaml_shape.specs.PlainShape.{PlainShape, any_shape}
+use Rattle.yaml_shape.specs.PlainShape.{seq_shape, row_shape}
 use Rattle.yaml_shape.specs.PlainShape.{map_shape, fields_shape}
 use Rattle.yaml_load.specs.PlainDocEvent.{PlainDocEvent, a_scalar, sequence_begins, mapping_begins}
 use Rattle.yaml_scalar.specs.ScalarFound.{sequence_fault, mapping_fault}

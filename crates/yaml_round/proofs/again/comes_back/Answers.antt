@@ -1,5 +1,5 @@
 -- A value that fits is written, and read as an equal one.
-use Rattle.std.proofs.Common.{◌≡◌, map, true, false, None, Ok, Err, refl, sym, ◌∙◌, subst}
+use Rattle.std.proofs.Common.{◌≡◌, map, true, false, Ok, Err, refl, sym, ◌∙◌, subst}
 use Rattle.yaml_base.specs.EmitEvents.{emit_of}
 use Rattle.yaml_base.specs.MarkedEvents.{events_in, plain_marked}
 use Rattle.yaml_base.specs.Renders.{Renders}

@@ -1,13 +1,9 @@
 -- The joining of tables in a row.
-use Rattle.std.proofs.Common.{◌≡◌, ◌<◌, [], ◌∷◌, ◌++◌, map, length, All, subst, ap, sym, arith}
+use Rattle.std.proofs.Common.{◌≡◌, ◌<◌, [], ◌∷◌, ◌++◌, map, length, subst, ap, arith}
 use Rattle.std.proofs.lemmas.List.{length-map}
-use Rattle.yaml_shape.specs.ShapeView.{shape_of, ids_of}
-use Rattle.yaml_shape.specs.Join.{starts_behind, parts_of}
-use Rattle.yaml_shape.proofs.PartLaws.{AreJoined, AreSeen, one_joined, starts_inside, too_large, all_joined}
+use Rattle.yaml_shape.specs.ShapeView.{shape_of}
+use Rattle.yaml_shape.proofs.PartLaws.{AreJoined, AreSeen, one_joined, too_large, all_joined}
 use Rattle.yaml_shape.proofs.PartLaws.{next_within, empty, one_seen, all_seen}
-use Rattle.yaml_shape.specs.Kept.{KeepsAllShapes}
-use Rattle.yaml_shape.proofs.JoinCode.{answered}
-use Rattle.yaml_shape.proofs.Stands.{keeps_all}
 use Rattle.yaml_shape.proofs.rows.join_row.Goals as goal
 
 pub overflow_add-behind : goal.overflow_add-behind

@@ -1,8 +1,8 @@
 -- The shapes of the fields are in the join, and each part of it keeps its data.
-use Rattle.std.proofs.Common.{map, length, true, string_bytes}
+use Rattle.std.proofs.Common.{map, true, string_bytes}
 use Rattle.yaml_shape.specs.PlainShape.{fields_shape, of_struct}
 use Rattle.yaml_shape.specs.ShapeView.{fields_of}
-use Rattle.yaml_shape.specs.Join.{joined_all, named_behind, parts_of}
+use Rattle.yaml_shape.specs.Join.{named_behind, parts_of}
 use Rattle.yaml_shape.specs.Kept.{KeepsAllShapes}
 use Rattle.yaml_shape.proofs.JoinCode.{answered}
 use Rattle.yaml_shape.proofs.RowShapes.{fields_within, joined_keeps, not_added}
