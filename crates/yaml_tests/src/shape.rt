@@ -1,5 +1,6 @@
 //! Schemas, texts, data and joins by example.
 
+mod integers;
 mod joins;
 mod large;
 mod makers;
