@@ -3,14 +3,13 @@ use Rattle.std.proofs.Common.{◌≡◌, List, [], ◌∷◌, ◌++◌, Result, 
 use Rattle.std.proofs.Common.{refl, sym, ◌∙◌, ap, Some, None}
 use Rattle.std.specs.Option.{is_some}
 use Rattle.std.specs.Prelude.{if◌then◌else◌}
-use Rattle.yaml_base.specs.declared.error.Cause.{Cause}
-use Rattle.yaml_base.specs.declared.error.Cause.TheVariants.{DuplicateEntry}
 use Rattle.yaml_shape.specs.DataView.{entries_of}
 use Rattle.yaml_shape.specs.PlainData.{PlainData}
 use Rattle.yaml_tree.specs.Equal.{tree_eq}
 use Rattle.yaml_tree.specs.EqualLaws.{tree_eq-symm}
 use Rattle.yaml_tree.specs.Mapping.{has_key, keys_distinct, value_at, with_pair}
 use Rattle.yaml_tree.specs.Tree.{Tree, Pairs, no_pairs, pair, with_last}
+use Rattle.yaml_scalar.specs.ReadFault.{ReadFault, at_node, duplicate_entry}
 use Rattle.yaml_read.specs.AnyData.{tree_in, pairs_in, entry_key, new_key}
 
 -- the pairs that a list of keys with values is
@@ -74,7 +73,7 @@ pub key_is_new : (before : List (PlainData × PlainData)) (k u : PlainData) → 
     → (has_key (tree_in k) (pairs_of before) ≡ false) × (k ≡ u)
 key_is_new before k u h = chosen (has_key (tree_in k) (pairs_of before)) _ h
   where
-    chosen : (b : Bool) (y : Cause) → ◌≡◌ {A = Result PlainData Cause} (if b then Err y else Ok k) (Ok u)
+    chosen : (b : Bool) (y : ReadFault) → ◌≡◌ {A = Result PlainData ReadFault} (if b then Err y else Ok k) (Ok u)
         → (b ≡ false) × (k ≡ u)
     chosen true y e = absurd cc
     chosen false y e = (refl, cc)
@@ -117,5 +116,5 @@ pairs_grow vs k v ps same new =
 
 -- a key that is there already is refused
 pub key_again : (vs : List (PlainData × PlainData)) (k : PlainData) (ps : Pairs) → pairs_of vs ≡ ps
-    → has_key (tree_in k) ps ≡ true → new_key vs k ≡ Err (DuplicateEntry (entry_key (tree_in k)) None)
+    → has_key (tree_in k) ps ≡ true → new_key vs k ≡ Err (at_node (duplicate_entry (entry_key (tree_in k))) None)
 key_again vs k ps same there = rw (same, there) refl

@@ -2,13 +2,13 @@
 use Rattle.std.proofs.Common.{◌≡◌, ℕ, zero, suc, List, [], ◌∷◌, set, Option, Some, None, Result, Ok, Err}
 use Rattle.std.proofs.Common.{Bool, true, false, ◌&&◌, bytes_eq, refl, ap, subst, if◌then◌else◌}
 use Rattle.std.specs.Option.{option_map}
-use Rattle.yaml_base.specs.declared.error.Cause.{Cause}
 use Rattle.yaml_base.specs.declared.error.Place.{Place}
 use Rattle.yaml_shape.specs.DataView.{items_of}
 use Rattle.yaml_shape.specs.HasShape.{has_shape, each_has, passes, on_option}
 use Rattle.yaml_shape.specs.PlainData.{PlainData, struct_data, none_data}
 use Rattle.yaml_shape.specs.PlainShape.{PlainShape, option_shape, fields_shape, Owner, shape_at}
 use Rattle.yaml_shape.specs.Validity.{numbers_of}
+use Rattle.yaml_scalar.specs.ReadFault.{ReadFault}
 use Rattle.yaml_scalar.specs.Steps.{◌>>=◌}
 use Rattle.yaml_scalar.proofs.OfShape.{is_of}
 use Rattle.yaml_read.specs.Kinds.{is_option}
@@ -16,11 +16,11 @@ use Rattle.yaml_read.specs.Fields.{Fields, Slots, no_slots, find, is_free, known
 use Rattle.yaml_read.specs.Fields.{field_data, all_fields, struct_of}
 
 -- answers are the same only where their data is
-ok_is : {A : Type 0} {x y : A} → ◌≡◌ {A = Result A Cause} (Ok x) (Ok y) → x ≡ y
+ok_is : {A : Type 0} {x y : A} → ◌≡◌ {A = Result A ReadFault} (Ok x) (Ok y) → x ≡ y
 ok_is h = cc
 
 -- two answers to where a name is looked up are the same
-abbrev Looked : (answer other : Result (Option (ℕ × ℕ)) Cause) → Type 0
+abbrev Looked : (answer other : Result (Option (ℕ × ℕ)) ReadFault) → Type 0
 Looked answer other = answer ≡ other
 
 -- a name that is looked up as a field is that of a field of which nothing was read
@@ -28,12 +28,12 @@ pub named_found : (strict : Bool) (fields : Fields) (slots : Slots) (name : List
     → field_named strict fields slots name key ≡ Ok (Some f) → (find fields name ≡ Some f) × (is_free slots f.0 ≡ true)
 named_found strict fields slots name key f h = known (find fields name) h
   where
-    chosen : (b : Bool) (g : ℕ × ℕ) (y : Cause) → Looked (if b then Ok (Some g) else Err y) (Ok (Some f))
+    chosen : (b : Bool) (g : ℕ × ℕ) (y : ReadFault) → Looked (if b then Ok (Some g) else Err y) (Ok (Some f))
         → (g ≡ f) × (b ≡ true)
     chosen true g y e = let same : Some g ≡ Some f = ok_is e in (cc, refl)
     chosen false g y e = absurd cc
 
-    other : (b : Bool) (y : Cause) → Looked (if b then Err y else Ok None) (Ok (Some f)) → ⊥
+    other : (b : Bool) (y : ReadFault) → Looked (if b then Err y else Ok None) (Ok (Some f)) → ⊥
     other true y e = cc
     other false y e = let same : None ≡ Some f = ok_is e in cc
 
@@ -49,11 +49,11 @@ pub named_unknown : (strict : Bool) (fields : Fields) (slots : Slots) (name : Li
     → field_named strict fields slots name key ≡ Ok None → (find fields name ≡ None) × (strict ≡ false)
 named_unknown strict fields slots name key h = known (find fields name) h
   where
-    chosen : (b : Bool) (g : ℕ × ℕ) (y : Cause) → Looked (if b then Ok (Some g) else Err y) (Ok None) → ⊥
+    chosen : (b : Bool) (g : ℕ × ℕ) (y : ReadFault) → Looked (if b then Ok (Some g) else Err y) (Ok None) → ⊥
     chosen true g y e = let same : Some g ≡ None = ok_is e in cc
     chosen false g y e = cc
 
-    other : (b : Bool) (y : Cause) → Looked (if b then Err y else Ok None) (Ok None) → b ≡ false
+    other : (b : Bool) (y : ReadFault) → Looked (if b then Err y else Ok None) (Ok None) → b ≡ false
     other true y e = absurd cc
     other false y e = refl
 
@@ -142,13 +142,13 @@ module _ (table : List PlainShape) where
       absent (Some (option_shape content)) e = refl
       absent (Some _) e = absurd cc
 
-      chosen : (b : Bool) (y : Cause) → passes (shape_at table f.1) is_option ≡ b
-          → ◌≡◌ {A = Result PlainData Cause} (if b then Ok none_data else Err y) (Ok v) → has_shape table f.1 v ≡ true
+      chosen : (b : Bool) (y : ReadFault) → passes (shape_at table f.1) is_option ≡ b
+          → ◌≡◌ {A = Result PlainData ReadFault} (if b then Ok none_data else Err y) (Ok v) → has_shape table f.1 v ≡ true
       chosen true y is e = subst (λ x. has_shape table f.1 x ≡ true) (ok_is e) (absent (shape_at table f.1) is)
       chosen false y is e = absurd cc
 
   -- one field and then the others
-  apart : (r : Result PlainData Cause) (rs : Result (List PlainData) Cause) (vs : List PlainData)
+  apart : (r : Result PlainData ReadFault) (rs : Result (List PlainData) ReadFault) (vs : List PlainData)
       → (r >>= λ v. rs >>= λ ws. Ok (v ∷ ws)) ≡ Ok vs
       → (v : PlainData) × (ws : List PlainData) × (r ≡ Ok v) × (rs ≡ Ok ws) × (v ∷ ws ≡ vs)
   apart (Ok v) (Ok ws) vs h = (v, ws, refl, refl, ok_is h)
@@ -182,7 +182,7 @@ module _ (table : List PlainShape) where
       → Fit fields slots → struct_of table fields slots ≡ Ok v → is_of table (fields_shape strict owner fields) v ≡ true
   struct_has_shape strict owner fields slots v fit h = made (all_fields table fields slots) refl h
     where
-      made : (r : Result (List PlainData) Cause) → all_fields table fields slots ≡ r
+      made : (r : Result (List PlainData) ReadFault) → all_fields table fields slots ≡ r
           → (r >>= λ vs. Ok (struct_data (items_of vs))) ≡ Ok v
           → is_of table (fields_shape strict owner fields) v ≡ true
       made (Ok vs) e h = subst (λ v. is_of table (fields_shape strict owner fields) v ≡ true) (ok_is h)

@@ -6,7 +6,6 @@ use Rattle.std.specs.Option.{is_some, option_copied}
 use denote.Ref.{Bor}
 use Rattle.yaml_base.specs.PlainEvent.{PlainScalar}
 use Rattle.yaml_base.specs.Position.{Position}
-use Rattle.yaml_base.specs.declared.error.Cause.{Cause}
 use Rattle.yaml_shape.specs.DataView.{data_of}
 use Rattle.yaml_shape.specs.PlainData.{PlainData, none_data, ignored_data}
 use Rattle.yaml_shape.specs.declared.data.Data.{the_lemmas}
@@ -17,6 +16,7 @@ use Rattle.yaml_load.specs.DocTree.{DocNode, word}
 use Rattle.yaml_load.specs.PlainDocEvent.{PlainDocEvent, a_scalar}
 use Rattle.yaml_load.specs.PlainDocument.{PlainDocument}
 use Rattle.yaml_scalar.specs.Presence.{is_absent, is_false_null, null_fault}
+use Rattle.yaml_scalar.specs.ReadFault.{ReadFault}
 use Rattle.yaml_scalar.specs.ScalarShapes.{scalar_answer}
 use Rattle.yaml_scalar.specs.Steps.{ending}
 use Rattle.yaml_read.specs.Handing.{Handing, as_is, as_some, handed, early, reach}
@@ -41,7 +41,7 @@ scalar_answered s document w mark v leaf whole first is = record {
       (leaf_scalar (whole_source table document) root_way s limits.nesting None
       (record { place = 0; left = limits.follows * length document.events })
       (whole_fuel limits (length document.events)) w mark (omega arith) leaf first
-      ∙ ap (λ (r : Result PlainData Cause). place true mark root_way
+      ∙ ap (λ (r : Result PlainData ReadFault). place true mark root_way
       (ending (record { place = 1; left = limits.follows * length document.events }) r)) is) root tree;
 }
 
@@ -105,7 +105,7 @@ absent_as_is : (a b : Bool) (x y : Handing) → a ≡ true → (if not (a || b) 
 absent_as_is true b x y h = refl
 absent_as_is false b x y h = absurd cc
 
-absent_gives : (a : Bool) (v : PlainData) (y : Cause) → a ≡ true → (if a then Ok v else Err y) ≡ Ok v
+absent_gives : (a : Bool) (v : PlainData) (y : ReadFault) → a ≡ true → (if a then Ok v else Err y) ≡ Ok v
 absent_gives true v y h = refl
 absent_gives false v y h = absurd cc
 

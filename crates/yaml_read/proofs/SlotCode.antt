@@ -7,15 +7,16 @@ use Rattle.std.specs.Option.{option_map, option_flatten, option_to_list, is_some
 use Rattle.std.specs.declared.alloc.Global.{Global}
 use Rattle.std.proofs.lemmas.List.{map-append}
 use Rattle.std.specs.Result.{IsErrAnd}
-use Rattle.yaml_base.specs.Answer.{Gives, is_memory}
-use Rattle.yaml_base.specs.declared.error.Cause.{Cause}
 use Rattle.yaml_shape.specs.DataView.{data_of}
 use Rattle.yaml_shape.specs.PlainData.{PlainData}
 use Rattle.yaml_shape.specs.PlainShape.{PlainShape}
 use Rattle.yaml_shape.specs.ShapeView.{field_of, fields_of}
 use Rattle.yaml_shape.specs.declared.data.Data.{Data}
 use Rattle.yaml_shape.specs.declared.shape.ShapeId.{ShapeId}
+use Rattle.yaml_scalar.specs.ReadFault.{ReadFault, PlainRefusal, ran_out}
+use Rattle.yaml_scalar.specs.ReadingGives.{Yields, lift}
 use Rattle.yaml_scalar.specs.Steps.{◌>>=◌}
+use Rattle.yaml_scalar.proofs.LiftLaws.{lifted, lifted_fails}
 use Rattle.yaml_read.specs.Fields.{Fields, Slots, is_free, no_slots, field_data, all_fields}
 use Rattle.yaml_read.specs.inner.Walks.{slots_of}
 use Rattle.yaml_read.proofs.FieldCode.{Declared, same_some}
@@ -108,7 +109,7 @@ drop_past (g ∷ fs) (suc place) h = drop_past fs place (omega arith)
 
 module _ (table : List PlainShape) where
   -- the data of the fields that are left, behind the data before them
-  abbrev pub behind_these : List PlainData → Fields → Slots → Result (List PlainData) Cause
+  abbrev pub behind_these : List PlainData → Fields → Slots → Result (List PlainData) ReadFault
   behind_these before fields slots = all_fields table fields slots >>= λ vs. Ok (before ++ vs)
 
   one_field : (f : List ℕ × ℕ) (fs : Fields) (slots : Slots) → all_fields table (f ∷ fs) slots
@@ -123,22 +124,22 @@ module _ (table : List PlainShape) where
   gathered_one before f fs slots v h =
       rw (one_field f fs slots, h) (moved (all_fields table fs (slots_rest slots)))
     where
-      moved : (r : Result (List PlainData) Cause)
+      moved : (r : Result (List PlainData) ReadFault)
           → ((r >>= λ vs. Ok (v ∷ vs)) >>= λ vs. Ok (before ++ vs)) ≡ (r >>= λ vs. Ok ((before ++ v ∷ []) ++ vs))
       moved (Ok vs) = ap Ok (sym (append_assoc before (v ∷ []) vs))
       moved (Err y) = refl
 
   -- one that is missing
-  gathered_fails : (before : List PlainData) (f : List ℕ × ℕ) (fs : Fields) (slots : Slots) (y : Cause)
-      → field_data table f (slot_first slots) ≡ Err y → behind_these before (f ∷ fs) slots ≡ Err y
-  gathered_fails before f fs slots y h = rw (one_field f fs slots, h) refl
+  gathered_fails : (before : List PlainData) (f : List ℕ × ℕ) (fs : Fields) (slots : Slots) (y : PlainRefusal)
+      → lift (field_data table f (slot_first slots)) ≡ Err y → lift (behind_these before (f ∷ fs) slots) ≡ Err y
+  gathered_fails before f fs slots y h = rw (one_field f fs slots) (lifted_fails _ _ y (lifted_fails _ _ y h))
 
   -- the step of the code over one field: it takes a slot, and reads the field's data from it
   pub gathered_next : (before : List Data) (fields : Declared) (place : ℕ) (f : String Global × ShapeId)
       (old new : CodeSlots) (r : Option (Option Data)) (count : ℕ) (v : Data)
-      (whole : Result (List PlainData) Cause)
+      (whole : Result (List PlainData) ReadFault)
       → slice_get fields place ≡ Some f → Taken old r new count
-      → field_data table (field_of f) (option_map data_of (option_flatten r)) ≡ Ok (data_of v)
+      → lift (field_data table (field_of f) (option_map data_of (option_flatten r))) ≡ Ok (data_of v)
       → behind_these (map data_of before) (drop place (fields_of fields)) (slots_of old) ≡ whole
       → behind_these (map data_of (before ++ v ∷ [])) (drop (place + 1) (fields_of fields)) (slots_of new) ≡ whole
   gathered_next before fields place f old new r count v whole here t read left =
@@ -146,23 +147,23 @@ module _ (table : List PlainShape) where
       ap (λ vs. behind_these vs next (slots_of new)) (map-append data_of before (v ∷ []))
       ∙ (ap (behind_these (map data_of before ++ data_of v ∷ []) next) (sym t.rest)
       ∙ (sym (gathered_one (map data_of before) (field_of f) next (slots_of old) (data_of v)
-      (ap (field_data table (field_of f)) t.first ∙ read))
+      (ap (field_data table (field_of f)) t.first ∙ lifted _ read))
       ∙ (ap (λ fs. behind_these (map data_of before) fs (slots_of old)) (sym (drop_seen fields place f here)) ∙ left)))
 
   pub gathered_ends : (before : List Data) (fields : Declared) (place : ℕ) (f : String Global × ShapeId)
-      (old new : CodeSlots) (r : Option (Option Data)) (count : ℕ) (y : Cause)
-      (whole : Result (List PlainData) Cause)
+      (old new : CodeSlots) (r : Option (Option Data)) (count : ℕ) (y : PlainRefusal)
+      (whole : Result (List PlainData) ReadFault)
       → slice_get fields place ≡ Some f → Taken old r new count
-      → field_data table (field_of f) (option_map data_of (option_flatten r)) ≡ Err y
+      → lift (field_data table (field_of f) (option_map data_of (option_flatten r))) ≡ Err y
       → behind_these (map data_of before) (drop place (fields_of fields)) (slots_of old) ≡ whole
-      → whole ≡ Err y
+      → lift whole ≡ Err y
   gathered_ends before fields place f old new r count y whole here t read left =
-      sym left ∙ (ap (λ fs. behind_these (map data_of before) fs (slots_of old)) (drop_seen fields place f here)
+      ap lift (sym left ∙ ap (λ fs. behind_these (map data_of before) fs (slots_of old)) (drop_seen fields place f here))
       ∙ gathered_fails (map data_of before) (field_of f) (drop (place + 1) (fields_of fields)) (slots_of old) y
-      (ap (field_data table (field_of f)) t.first ∙ read))
+      (ap (λ o. lift (field_data table (field_of f) o)) t.first ∙ read)
 
   pub gathered_all : (before : List Data) (fields : Declared) (place : ℕ) (slots : Slots)
-      (whole : Result (List PlainData) Cause) → length fields ≤ place
+      (whole : Result (List PlainData) ReadFault) → length fields ≤ place
       → behind_these (map data_of before) (drop place (fields_of fields)) slots ≡ whole
       → whole ≡ Ok (map data_of before)
   gathered_all before fields place slots whole past left =
@@ -170,7 +171,7 @@ module _ (table : List PlainShape) where
       ∙ ap Ok (append-nil (map data_of before)))
 
 -- what a `?` hands on
-pub handed_on : {T Y : Type 0} (view : T → Y) (r : Result T Cause) (y : Cause) (given : Result Y Cause)
-    → IsErrAnd r (λ e. e ≡ y) → (is_memory y ≡ false → given ≡ Err y) → Gives view r given
+pub handed_on : {T Y : Type 0} (view : T → Y) (r : Result T PlainRefusal) (y : PlainRefusal) (given : Result Y ReadFault)
+    → IsErrAnd r (λ e. e ≡ y) → (ran_out y ≡ false → lift given ≡ Err y) → Yields view r given
 handed_on view (Ok x) y given e h = absurd e
-handed_on view (Err x) y given e h = λ small. h (ap is_memory (sym e) ∙ small) ∙ ap Err (sym e)
+handed_on view (Err x) y given e h = λ small. h (ap ran_out (sym e) ∙ small) ∙ ap Err (sym e)

@@ -5,7 +5,6 @@ use Rattle.std.specs.Prelude.{slice_get}
 use Rattle.std.proofs.lemmas.List.{length-map}
 use Rattle.std.proofs.lemmas.Option.{slice_get_within}
 use Rattle.yaml_base.specs.Position.{Position}
-use Rattle.yaml_base.specs.declared.error.Cause.{Cause}
 use Rattle.yaml_shape.specs.PlainData.{PlainData}
 use Rattle.yaml_shape.specs.PlainShape.{PlainShape}
 use Rattle.yaml_load.specs.DocEventView.{marked_events_of}
@@ -27,6 +26,7 @@ use Rattle.yaml_read.proofs.reading.Shown.{Shows}
 use Rattle.yaml_read.proofs.reading.TreeLaws.{reader_tied}
 use Rattle.yaml_read.proofs.reading.TreeWalks.{landed}
 use Rattle.yaml_read.proofs.reading.Whole.{whole_source, whole_reading, seen_whole}
+use Rattle.yaml_read.proofs.reading.WholeReadings.{same_ok, shows_list}
 
 -- the same of a walk that starts with as many nestings and follows as the limits tell
 pub seen_within : (limits : PlainLimits) (table : List PlainShape) (s : PlainShape) → reach table s ≤ 4096
@@ -61,17 +61,6 @@ seen_within limits table s small document es ends r nest left n l seen numbers g
       size = length es;
     }) fuel root_way s x None
     (record { place = 0; left = left }) ≡ r) (sym n) (gives fuel)))
-
-shift : (f : Events) (p : ℕ) (es : List PlainDocEvent) → Shows (λ q. f (suc q)) p es → Shows f (suc p) es
-shift f p [] s = tt
-shift f p (e ∷ es) s = (s.0, shift f (suc p) es s.1)
-
-shows_list : (es : List (PlainDocEvent × Position)) → Shows (slice_get es) 0 (map (λ e. e.0) es)
-shows_list [] = tt
-shows_list (e ∷ es) = ((e.1, refl), shift (slice_get (e ∷ es)) 0 _ (shows_list es))
-
-same_ok : {A : Type 0} (x y : A) → ◌≡◌ {A = Result A Cause} (Ok x) (Ok y) → x ≡ y
-same_ok x y h = cc
 
 landed_at : (p : ℕ) (r : Answer PlainData) (v : PlainData) (next : Spot) → landed p r ≡ Ok (v, next) → p ≡ next.place
 landed_at p (Ok x) v next h = ap (λ (y : PlainData × Spot). y.1.place) (same_ok _ _ h)

@@ -14,12 +14,10 @@ pub mod MeaningShapes
 pub mod Meanings
 pub mod OutcomeSteps
 pub mod Outcomes
-pub mod OwnAnswers
-pub mod OwnFaults
-pub mod OwnReadings
 pub mod PartExits
 pub mod PlaceLaws
 pub mod Reaches
+pub mod ReadingCauses
 pub mod Rows
 pub mod Shown
 pub mod SingleNodes

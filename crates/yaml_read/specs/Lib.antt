@@ -31,6 +31,7 @@ pub use Rattle.yaml_load.specs.StreamPhases
 pub use Rattle.yaml_load.specs.WrongPlace
 pub use Rattle.yaml_scalar.specs.CoreTags
 pub use Rattle.yaml_scalar.specs.Presence
+pub use Rattle.yaml_scalar.specs.ReadFault
 pub use Rattle.yaml_scalar.specs.ScalarAny
 pub use Rattle.yaml_scalar.specs.ScalarFound
 pub use Rattle.yaml_scalar.specs.ScalarShapes

@@ -4,9 +4,9 @@ use Rattle.std.specs.Prelude.{if◌then◌else◌}
 use Rattle.std.specs.Option.{option_map_or}
 use Rattle.yaml_base.specs.Floats.{is_float}
 use Rattle.yaml_base.specs.PlainWords.{boolean_of, is_null_word}
-use Rattle.yaml_base.specs.declared.error.Cause.{Cause}
 use Rattle.yaml_base.specs.declared.found.Found.{Found}
 use Rattle.yaml_base.specs.declared.found.Found.TheVariants as found
+use Rattle.yaml_scalar.specs.ReadFault.{ReadFault}
 use Rattle.yaml_scalar.specs.ScalarAny.{any_found, any_in}
 use Rattle.yaml_scalar.specs.ScalarFound.{wrong_type, found_integer, fault_in}
 use Rattle.yaml_scalar.specs.ScalarSorts.{PlainSort, without_text, tagged_bool, tagged_int, tagged_float, tagged_null}
@@ -14,12 +14,12 @@ use Rattle.yaml_scalar.specs.ScalarSorts.{by_its_text, as_string}
 use Rattle.yaml_scalar.specs.Steps.{◌>>=◌}
 use Rattle.yaml_scalar.specs.Expectations.{found_in, fault_by}
 
-fault_some : {A : Type 0} (f : A → Found) (o : Option A) (e : Cause) (expected : List ℕ)
+fault_some : {A : Type 0} (f : A → Found) (o : Option A) (e : ReadFault) (expected : List ℕ)
     → option_map_or (λ x. wrong_type (f x) expected) o e ≡ fault_by expected (option_map_or (λ x. Ok (f x)) o (Err e))
 fault_some f None e expected = refl
 fault_some f (Some x) e expected = refl
 
-fault_if : (b : Bool) (f : Found) (e : Cause) (expected : List ℕ)
+fault_if : (b : Bool) (f : Found) (e : ReadFault) (expected : List ℕ)
     → (if b then wrong_type f expected else e) ≡ fault_by expected (if b then Ok f else Err e)
 fault_if true f e expected = refl
 fault_if false f e expected = refl
@@ -35,12 +35,12 @@ fault_found tagged_null text expected = fault_if (is_null_word text) _ _ expecte
 fault_found by_its_text text expected = refl
 fault_found as_string text expected = refl
 
-any_some : {A : Type 0} (f : A → Found) (o : Option A) (e : Cause)
+any_some : {A : Type 0} (f : A → Found) (o : Option A) (e : ReadFault)
     → option_map_or (λ x. any_found (f x)) o (Err e) ≡ (option_map_or (λ x. Ok (f x)) o (Err e) >>= any_found)
 any_some f None e = refl
 any_some f (Some x) e = refl
 
-any_if : (b : Bool) (f : Found) (e : Cause)
+any_if : (b : Bool) (f : Found) (e : ReadFault)
     → (if b then any_found f else Err e) ≡ ((if b then Ok f else Err e) >>= any_found)
 any_if true f e = refl
 any_if false f e = refl

@@ -2,6 +2,7 @@
 pub mod CharacterLaws
 pub mod FoundLaws
 pub mod IntegerLaws
+pub mod LiftLaws
 pub mod OfShape
 pub mod ScalarShapeLaws
 pub mod SmallNumbers

@@ -7,7 +7,6 @@ use Rattle.std.specs.Option.{option_map_or}
 use Rattle.std.specs.Str.{chars}
 use Rattle.yaml_base.specs.PlainEvent.{PlainScalar}
 use Rattle.yaml_base.specs.PlainWords.{boolean_of}
-use Rattle.yaml_base.specs.declared.error.Cause.{Cause}
 use Rattle.yaml_base.specs.declared.found.Found.TheVariants.{Signed, Unsigned}
 use Rattle.yaml_shape.specs.Expected.{integer_text}
 use Rattle.yaml_shape.specs.IntegerTypes.{bits_of, has_sign, least, greatest, is_of_type}
@@ -19,6 +18,7 @@ use Rattle.yaml_shape.specs.PlainShape.{PlainShape, any_shape, bool_shape, char_
 use Rattle.yaml_shape.specs.PlainShape.{identifier_shape, option_shape, unit_shape, unit_struct_shape, seq_shape}
 use Rattle.yaml_shape.specs.PlainShape.{row_shape, map_shape, enum_shape, Owner}
 use Rattle.yaml_tree.specs.Tree.{Tree, null}
+use Rattle.yaml_scalar.specs.ReadFault.{ReadFault}
 use Rattle.yaml_scalar.specs.CoreTags.{bool_tag, int_tag}
 use Rattle.yaml_scalar.specs.Presence.{is_absent, is_empty_plain}
 use Rattle.yaml_scalar.specs.ScalarAny.{any_scalar}
@@ -32,16 +32,16 @@ use Rattle.yaml_scalar.proofs.OfShape.{is_of}
 use Rattle.yaml_scalar.proofs.VariantLaws.{named_has}
 
 -- what is answered to what is there
-answered : {A : Type 0} (f : A → Result PlainData Cause) (o : Option A) (fault : Cause) (v : PlainData)
+answered : {A : Type 0} (f : A → Result PlainData ReadFault) (o : Option A) (fault : ReadFault) (v : PlainData)
     → option_map_or f o (Err fault) ≡ Ok v → (x : A) × (o ≡ Some x) × (f x ≡ Ok v)
 answered f None fault v h = absurd cc
 answered f (Some x) fault v h = (x, refl, h)
 
-ok_is : {x y : PlainData} → ◌≡◌ {A = Result PlainData Cause} (Ok x) (Ok y) → x ≡ y
+ok_is : {x y : PlainData} → ◌≡◌ {A = Result PlainData ReadFault} (Ok x) (Ok y) → x ≡ y
 ok_is h = cc
 
 -- data that is given under a test
-tested : (b : Bool) (x v : PlainData) (fault : Cause) → (if b then Ok x else Err fault) ≡ Ok v → (b ≡ true) × (x ≡ v)
+tested : (b : Bool) (x v : PlainData) (fault : ReadFault) → (if b then Ok x else Err fault) ≡ Ok v → (b ≡ true) × (x ≡ v)
 tested true x v fault h = (refl, cc)
 tested false x v fault h = absurd cc
 
@@ -52,7 +52,7 @@ from-zero : (n most : ℕ) → nat_le n most ≡ true → (int_le (pos 0) (pos n
 from-zero n most h = both (int_le (pos 0) (pos n)) (nat_le n most) (grind arith) h
 
 -- the value that was answered
-tree_answered : (r : Result Tree Cause) (v : PlainData) → (r >>= λ t. Ok (any_data t)) ≡ Ok v
+tree_answered : (r : Result Tree ReadFault) (v : PlainData) → (r >>= λ t. Ok (any_data t)) ≡ Ok v
     → (t : Tree) × (any_data t ≡ v)
 tree_answered (Ok t) v h = (t, ok_is h)
 tree_answered (Err e) v h = absurd cc
@@ -63,7 +63,7 @@ module _ (schema : List PlainShape) where
   moved s x v same h = subst (λ d. is_of schema s d ≡ true) same h
 
   signed-has : (i : IntegerType) → has_sign i ≡ true → (text : Option (List ℕ))
-      (fault : Cause) (v : PlainData)
+      (fault : ReadFault) (v : PlainData)
       → option_map_or (signed_between (least i) (greatest i) (integer_text i)) (option_and_then (signed_text i) text)
       (Err fault) ≡ Ok v
       → is_of schema (integer_shape i) v ≡ true
@@ -75,7 +75,7 @@ module _ (schema : List PlainShape) where
 
   unsigned-has : (i : IntegerType) → (text : Option (List ℕ))
       → ((n : ℕ) → nat_le n (2 ^ bits_of i - 1) ≡ true → (not (has_sign i) && is_of_type i (pos n)) ≡ true)
-      → (fault : Cause) (v : PlainData)
+      → (fault : ReadFault) (v : PlainData)
       → option_map_or (unsigned_up_to (2 ^ bits_of i - 1) (integer_text i)) (option_and_then (unsigned_text i) text)
       (Err fault) ≡ Ok v
       → is_of schema (integer_shape i) v ≡ true
@@ -86,7 +86,7 @@ module _ (schema : List PlainShape) where
       (wrong_value (Unsigned a.0) (integer_text i)) a.2 in
       moved (integer_shape i) (unsigned_data a.0) v t.1 (fits a.0 t.0)
 
-  integer-has : (i : IntegerType) (text : Option (List ℕ)) (fault : Cause)
+  integer-has : (i : IntegerType) (text : Option (List ℕ)) (fault : ReadFault)
       (v : PlainData) → integer_answer i text fault ≡ Ok v → is_of schema (integer_shape i) v ≡ true
   integer-has i8 text fault v h = signed-has i8 refl text fault v h
   integer-has i16 text fault v h = signed-has i16 refl text fault v h
@@ -112,7 +112,7 @@ module _ (schema : List PlainShape) where
   nothing-has owner [] v h = moved (row_shape owner []) (tuple_data no_items) v (ok_is h) refl
   nothing-has owner (j ∷ ids) v h = absurd cc
 
-  empty-has : (b : Bool) (owner : Owner) (ids : List ℕ) (fault : Cause) (v : PlainData)
+  empty-has : (b : Bool) (owner : Owner) (ids : List ℕ) (fault : ReadFault) (v : PlainData)
       → (if b then no_elements ids (row_shape owner ids) else Err fault) ≡ Ok v
       → is_of schema (row_shape owner ids) v ≡ true
   empty-has true owner ids fault v h = nothing-has owner ids v h

@@ -6,8 +6,8 @@ use Rattle.std.specs.Str.{IsUtf8, is_utf8}
 use Rattle.std.proofs.lemmas.Str.{is_utf8-from_IsUtf8, IsUtf8-from_is_utf8}
 use Rattle.yaml_base.specs.Borrowable.{is_borrowable}
 use Rattle.yaml_base.specs.PlainEvent.{PlainScalar}
-use Rattle.yaml_base.specs.declared.error.Cause.{Cause}
 use Rattle.yaml_shape.specs.PlainData.{PlainData, text_data}
+use Rattle.yaml_scalar.specs.ReadFault.{ReadFault}
 use Rattle.yaml_scalar.specs.ScalarShapes.{lent_text, text_of, utf8_text}
 
 -- bytes that are UTF-8 are a text
@@ -30,13 +30,13 @@ pub text-unshown : (s : PlainScalar) (part : List ℕ) → part ≡ s.text → (
 text-unshown s part same bad = sym (bytes-missing s.text (λ utf8. bad (subst IsUtf8 (sym same) utf8)))
 
 -- what the source shows is lent, where it is UTF-8
-pub lent-shown : (s : PlainScalar) (fault : Cause) (part text : List ℕ) (d : PlainData) → part ≡ s.text → text ≡ part
+pub lent-shown : (s : PlainScalar) (fault : ReadFault) (part text : List ℕ) (d : PlainData) → part ≡ s.text → text ≡ part
     → IsUtf8 part → is_borrowable s.text s.source s.style ≡ true → d ≡ text_data true text
     → option_map_or (λ t. Ok (lent_text s t)) (text_of s) (Err fault) ≡ Ok d
 lent-shown s fault part text d same is utf8 shown seen =
     rw (text-shown s part same utf8, shown, seen, is, same) refl
 
 -- what the source shows is a fault, where it is not UTF-8
-pub unlent-shown : (s : PlainScalar) (fault : Cause) (part : List ℕ) → part ≡ s.text → (IsUtf8 part → ⊥)
+pub unlent-shown : (s : PlainScalar) (fault : ReadFault) (part : List ℕ) → part ≡ s.text → (IsUtf8 part → ⊥)
     → option_map_or (λ t. Ok (lent_text s t)) (text_of s) (Err fault) ≡ Err fault
 unlent-shown s fault part same bad = rw (text-unshown s part same bad) refl

@@ -3,16 +3,16 @@ use Rattle.std.proofs.Common.{◌≡◌, ℕ, zero, suc, List, [], ◌∷◌, Op
 use Rattle.std.proofs.Common.{bytes_eq, refl, subst, if◌then◌else◌}
 use Rattle.std.specs.Option.{option_map, option_map_or}
 use Rattle.std.specs.Prelude.{slice_get}
-use Rattle.yaml_base.specs.declared.error.Cause.{Cause}
 use Rattle.yaml_shape.specs.HasShape.{has_content, passes}
 use Rattle.yaml_shape.specs.PlainData.{PlainData, unit_data, variant_data}
 use Rattle.yaml_shape.specs.PlainShape.{PlainShape, enum_shape, PlainVariant, unit_variant, newtype_variant}
 use Rattle.yaml_shape.specs.PlainShape.{tuple_variant, struct_variant}
+use Rattle.yaml_scalar.specs.ReadFault.{ReadFault}
 use Rattle.yaml_scalar.specs.Variants.{Variants, variant_named, unknown_variant, bare_variant, named_variant}
 use Rattle.yaml_scalar.proofs.OfShape.{is_of}
 
 -- what is answered is the same only where it is
-ok_is : {x y : PlainData} → ◌≡◌ {A = Result PlainData Cause} (Ok x) (Ok y) → x ≡ y
+ok_is : {x y : PlainData} → ◌≡◌ {A = Result PlainData ReadFault} (Ok x) (Ok y) → x ≡ y
 ok_is h = cc
 
 some_is : {A : Type 0} {x y : A} → Some x ≡ Some y → x ≡ y

@@ -1,4 +1,4 @@
--- The cause that a refusal stands for.
+-- The cause in a box.
 use Rattle.std.specs.Prelude.{Option, Some, None}
 use Rattle.std.specs.Global.{Box}
 use Rattle.yaml_base.specs.declared.error.Cause.{Cause}

@@ -4,11 +4,11 @@ use Rattle.std.specs.Option.{option_map_or}
 use Rattle.yaml_base.specs.Floats.{is_float}
 use Rattle.yaml_base.specs.Kinds.{kind_of}
 use Rattle.yaml_base.specs.PlainWords.{boolean_of, is_null_word}
-use Rattle.yaml_base.specs.declared.error.Cause.{Cause}
 use Rattle.yaml_base.specs.declared.found.Found.{Found}
 use Rattle.yaml_base.specs.declared.found.Found.TheVariants as found
 use Rattle.yaml_shape.specs.Expected.{expected_text, tuple_variant_text, struct_variant_text}
 use Rattle.yaml_shape.specs.ShapeView.{shape_of}
+use Rattle.yaml_scalar.specs.ReadFault.{ReadFault}
 use Rattle.yaml_scalar.specs.ScalarFound.{wrong_type, wrong_value, found_kind, found_integer, wanted_text}
 use Rattle.yaml_scalar.specs.declared.expected.Expected.{Expected}
 use Rattle.yaml_scalar.specs.declared.expected.Expected.TheVariants as expect
@@ -41,7 +41,7 @@ plain_sort Resolved = by_its_text
 plain_sort String = as_string
 
 -- what a scalar in a row is found to be, with this text; a tag that its text does not bear out is a fault
-abbrev pub found_in : PlainSort → (text : List ℕ) → Result Found Cause
+abbrev pub found_in : PlainSort → (text : List ℕ) → Result Found ReadFault
 found_in without_text text = Ok found.Bytes
 found_in tagged_bool text =
     option_map_or (λ b. Ok (found.Bool b)) (boolean_of text) (Err (wrong_value (found.Str text) (codes "a boolean")))
@@ -55,6 +55,6 @@ found_in by_its_text text = Ok (found_kind text (kind_of text))
 found_in as_string text = Ok (found.Str text)
 
 -- the fault of what was found where something else is expected
-abbrev pub fault_by : (expected : List ℕ) → Result Found Cause → Cause
+abbrev pub fault_by : (expected : List ℕ) → Result Found ReadFault → ReadFault
 fault_by expected (Ok f) = wrong_type f expected
 fault_by expected (Err e) = e

@@ -3,6 +3,8 @@ pub mod BoxedFault
 pub mod CoreTags
 pub mod Expectations
 pub mod Presence
+pub mod ReadFault
+pub mod ReadingGives
 pub mod ScalarAny
 pub mod ScalarFound
 pub mod ScalarShapes

@@ -4,8 +4,8 @@ use Rattle.std.specs.Option.{is_none}
 use Rattle.yaml_base.specs.Kinds.{is_null_text}
 use Rattle.yaml_base.specs.PlainEvent.{PlainScalar}
 use Rattle.yaml_base.specs.PlainWords.{is_null_word}
-use Rattle.yaml_base.specs.declared.error.Cause.{Cause}
 use Rattle.yaml_scalar.specs.CoreTags.{null_tag}
+use Rattle.yaml_scalar.specs.ReadFault.{ReadFault}
 use Rattle.yaml_scalar.specs.ScalarFound.{string_found, wrong_value}
 use Rattle.yaml_scalar.specs.ScalarSorts.{is_plain, has_untaken}
 
@@ -30,7 +30,7 @@ abbrev pub is_present : (taken : Bool) → PlainScalar → Bool
 is_present taken s = not (is_absent taken s || is_false_null taken s)
 
 -- the fault of a scalar that should stand for nothing
-abbrev pub null_fault : PlainScalar → Cause
+abbrev pub null_fault : PlainScalar → ReadFault
 null_fault s = wrong_value (string_found s.text) (codes "null")
 
 -- the list is empty

@@ -5,34 +5,33 @@ use Rattle.yaml_base.specs.Floats.{is_float}
 use Rattle.yaml_base.specs.Kinds.{kind_of}
 use Rattle.yaml_base.specs.PlainEvent.{PlainScalar}
 use Rattle.yaml_base.specs.PlainWords.{boolean_of, is_null_word}
-use Rattle.yaml_base.specs.declared.error.Cause.{Cause}
-use Rattle.yaml_base.specs.declared.error.Cause.TheVariants.{FloatUnsupported}
 use Rattle.yaml_base.specs.declared.found.Found.{Found}
 use Rattle.yaml_base.specs.declared.found.Found.TheVariants as found
 use Rattle.yaml_shape.specs.Expected.{expected_text}
 use Rattle.yaml_shape.specs.PlainShape.{any_shape}
 use Rattle.yaml_tree.specs.Integer.{is_number}
 use Rattle.yaml_tree.specs.Tree.{Tree, null, boolean, number, string}
+use Rattle.yaml_scalar.specs.ReadFault.{ReadFault, at_node, float_unsupported}
 use Rattle.yaml_scalar.specs.ScalarFound.{wrong_type, wrong_value, found_kind, found_integer}
 use Rattle.yaml_scalar.specs.ScalarSorts.{PlainSort, without_text, tagged_bool, tagged_int, tagged_float, tagged_null}
 use Rattle.yaml_scalar.specs.ScalarSorts.{by_its_text, as_string, sort_of}
 
 -- an integer is a number where it has 64 bits, with a sign only below 0
-abbrev pub any_integer : Found → ℤ → Result Tree Cause
+abbrev pub any_integer : Found → ℤ → Result Tree ReadFault
 any_integer integer z = if is_number z then Ok (number z) else Err (wrong_type integer (expected_text any_shape))
 
 -- the value that was found
-abbrev pub any_found : Found → Result Tree Cause
+abbrev pub any_found : Found → Result Tree ReadFault
 any_found found.Unit = Ok null
 any_found (found.Bool b) = Ok (boolean b)
 any_found (found.Unsigned n) = any_integer (found.Unsigned n) (pos n)
 any_found (found.Signed z) = any_integer (found.Signed z) z
-any_found (found.Float text) = Err (FloatUnsupported text None)
+any_found (found.Float text) = Err (at_node (float_unsupported text) None)
 any_found (found.Str text) = Ok (string text)
 any_found something = Err (wrong_type something (expected_text any_shape))
 
 -- what a scalar in a row is, with this text
-abbrev pub any_in : PlainSort → (text : List ℕ) → Result Tree Cause
+abbrev pub any_in : PlainSort → (text : List ℕ) → Result Tree ReadFault
 any_in without_text text = any_found found.Bytes
 any_in tagged_bool text =
     option_map_or (λ b. any_found (found.Bool b)) (boolean_of text)
@@ -47,5 +46,5 @@ any_in by_its_text text = any_found (found_kind text (kind_of text))
 any_in as_string text = any_found (found.Str text)
 
 -- what a scalar is
-abbrev pub any_scalar : (taken : Bool) → PlainScalar → Result Tree Cause
+abbrev pub any_scalar : (taken : Bool) → PlainScalar → Result Tree ReadFault
 any_scalar taken s = any_in (sort_of taken s) s.text

@@ -7,24 +7,27 @@ use Rattle.yaml_base.specs.Integers.{integer_of, unsigned_of, in_range, up_to}
 use Rattle.yaml_base.specs.Kinds.{kind_of}
 use Rattle.yaml_base.specs.PlainEvent.{PlainScalar}
 use Rattle.yaml_base.specs.PlainWords.{boolean_of, is_null_word}
-use Rattle.yaml_base.specs.declared.error.Cause.{Cause}
-use Rattle.yaml_base.specs.declared.error.Cause.TheVariants.{InvalidType, InvalidValue, EndOfStream}
 use Rattle.yaml_base.specs.declared.found.Found.{Found}
 use Rattle.yaml_base.specs.declared.found.Found.TheVariants as found
 use Rattle.yaml_base.specs.declared.resolver.kind.Kind.{Kind}
 use Rattle.yaml_base.specs.declared.resolver.kind.Kind.TheVariants as kind
 use Rattle.yaml_shape.specs.Expected.{expected_text}
 use Rattle.yaml_shape.specs.PlainShape.{PlainShape, enum_shape}
+use Rattle.yaml_scalar.specs.ReadFault.{ReadFault, end_of_stream, at_node, invalid_type, invalid_value, invalid_length}
 use Rattle.yaml_scalar.specs.ScalarSorts.{PlainSort, without_text, tagged_bool, tagged_int, tagged_float, tagged_null}
 use Rattle.yaml_scalar.specs.ScalarSorts.{by_its_text, as_string, sort_of}
 
 -- a node of another type than was expected; where it stands is not known yet
-abbrev pub wrong_type : Found → (expected : List ℕ) → Cause
-wrong_type something expected = InvalidType something expected None
+abbrev pub wrong_type : Found → (expected : List ℕ) → ReadFault
+wrong_type something expected = at_node (invalid_type something expected) None
 
 -- a node of the right type with another value than was expected
-abbrev pub wrong_value : Found → (expected : List ℕ) → Cause
-wrong_value something expected = InvalidValue something expected None
+abbrev pub wrong_value : Found → (expected : List ℕ) → ReadFault
+wrong_value something expected = at_node (invalid_value something expected) None
+
+-- a row that was found to have another length than was expected
+abbrev pub wrong_length : (length : ℕ) → (expected : List ℕ) → ReadFault
+wrong_length length expected = at_node (invalid_length length expected) None
 
 -- what a plain text of a kind is
 abbrev pub found_kind : (text : List ℕ) → Kind → Found
@@ -45,7 +48,7 @@ abbrev pub string_found : (text : List ℕ) → Found
 string_found text = if is_utf8 text then found.Str text else found.Bytes
 
 -- the fault of a scalar in a row, with this text, where something else is expected
-abbrev pub fault_in : PlainSort → (text expected : List ℕ) → Cause
+abbrev pub fault_in : PlainSort → (text expected : List ℕ) → ReadFault
 fault_in without_text text expected = wrong_type found.Bytes expected
 fault_in tagged_bool text expected = option_map_or (λ b. wrong_type (found.Bool b) expected) (boolean_of text)
     (wrong_value (found.Str text) (codes "a boolean"))
@@ -59,12 +62,12 @@ fault_in by_its_text text expected = wrong_type (found_kind text (kind_of text))
 fault_in as_string text expected = wrong_type (found.Str text) expected
 
 -- the fault of a scalar that its shape has no meaning for
-abbrev pub scalar_fault : PlainShape → (taken : Bool) → PlainScalar → Cause
+abbrev pub scalar_fault : PlainShape → (taken : Bool) → PlainScalar → ReadFault
 scalar_fault shape taken s = fault_in (sort_of taken s) s.text (expected_text shape)
 
 -- the fault of the node of an empty stream that its shape has no meaning for
-abbrev pub void_fault : Cause
-void_fault = EndOfStream
+abbrev pub void_fault : ReadFault
+void_fault = end_of_stream
 
 -- what is expected where a collection stands: under an enum a tag
 abbrev pub wanted_text : PlainShape → List ℕ
@@ -72,9 +75,9 @@ wanted_text (enum_shape name variants) = codes "a YAML tag starting with '!'"
 wanted_text shape = expected_text shape
 
 -- the fault of a sequence that its shape has no meaning for
-abbrev pub sequence_fault : PlainShape → Cause
+abbrev pub sequence_fault : PlainShape → ReadFault
 sequence_fault shape = wrong_type found.Seq (wanted_text shape)
 
 -- the fault of a mapping that its shape has no meaning for
-abbrev pub mapping_fault : PlainShape → Cause
+abbrev pub mapping_fault : PlainShape → ReadFault
 mapping_fault shape = wrong_type found.Map (wanted_text shape)

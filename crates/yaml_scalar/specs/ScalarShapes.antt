@@ -7,8 +7,6 @@ use Rattle.yaml_base.specs.Borrowable.{is_borrowable}
 use Rattle.yaml_base.specs.Integers.{integer_of, unsigned_of, in_range, up_to}
 use Rattle.yaml_base.specs.PlainEvent.{PlainScalar}
 use Rattle.yaml_base.specs.PlainWords.{boolean_of}
-use Rattle.yaml_base.specs.declared.error.Cause.{Cause}
-use Rattle.yaml_base.specs.declared.error.Cause.TheVariants.{BytesUnsupported, InvalidLength}
 use Rattle.yaml_base.specs.declared.found.Found.TheVariants.{Signed, Unsigned, Str, Bytes}
 use Rattle.yaml_shape.specs.Expected.{expected_text, integer_text, few_text}
 use Rattle.yaml_shape.specs.IntegerTypes.{bits_of, has_sign, least, greatest}
@@ -22,8 +20,9 @@ use Rattle.yaml_shape.specs.PlainShape.{enum_shape}
 use Rattle.yaml_tree.specs.Tree.{null}
 use Rattle.yaml_scalar.specs.CoreTags.{bool_tag, int_tag}
 use Rattle.yaml_scalar.specs.Presence.{is_absent, is_empty_plain, null_fault}
+use Rattle.yaml_scalar.specs.ReadFault.{ReadFault, bytes_unsupported}
 use Rattle.yaml_scalar.specs.ScalarAny.{any_scalar}
-use Rattle.yaml_scalar.specs.ScalarFound.{wrong_type, wrong_value, scalar_fault, void_fault}
+use Rattle.yaml_scalar.specs.ScalarFound.{wrong_type, wrong_value, wrong_length, scalar_fault, void_fault}
 use Rattle.yaml_scalar.specs.ScalarSorts.{is_plain, is_literal, has_untaken}
 use Rattle.yaml_scalar.specs.Steps.{◌>>=◌}
 use Rattle.yaml_scalar.specs.Variants.{named_variant}
@@ -60,17 +59,17 @@ abbrev pub unsigned_text : IntegerType → List ℕ → Option ℕ
 unsigned_text i text = up_to (2 ^ bits_of (widest i) - 1) (unsigned_of text)
 
 -- the integer with a sign, where it lies in the range
-abbrev pub signed_between : (low high : ℤ) → (expected : List ℕ) → ℤ → Result PlainData Cause
+abbrev pub signed_between : (low high : ℤ) → (expected : List ℕ) → ℤ → Result PlainData ReadFault
 signed_between low high expected z =
     if int_le low z && int_le z high then Ok (signed_data z) else Err (wrong_value (Signed z) expected)
 
 -- the integer without a sign, where it is not above the most
-abbrev pub unsigned_up_to : (most : ℕ) → (expected : List ℕ) → ℕ → Result PlainData Cause
+abbrev pub unsigned_up_to : (most : ℕ) → (expected : List ℕ) → ℕ → Result PlainData ReadFault
 unsigned_up_to most expected n =
     if nat_le n most then Ok (unsigned_data n) else Err (wrong_value (Unsigned n) expected)
 
 -- the integer of the type that a text writes; one past the type's range is a fault of its own
-abbrev pub integer_answer : IntegerType → (text : Option (List ℕ)) → (fault : Cause) → Result PlainData Cause
+abbrev pub integer_answer : IntegerType → (text : Option (List ℕ)) → (fault : ReadFault) → Result PlainData ReadFault
 integer_answer i text fault =
     if has_sign i
     then option_map_or (signed_between (least i) (greatest i) (integer_text i)) (option_and_then (signed_text i) text)
@@ -84,7 +83,7 @@ only_one (c ∷ []) = Some c
 only_one _ = None
 
 -- the one character of a text; a text of none or several is a fault of its own
-abbrev pub one_character : (text : List ℕ) → Result PlainData Cause
+abbrev pub one_character : (text : List ℕ) → Result PlainData ReadFault
 one_character text = option_map_or (λ c. Ok (char_data c)) (only_one (chars text))
     (Err (wrong_value (Str text) (expected_text char_shape)))
 
@@ -98,14 +97,14 @@ too_few_text (row_shape owner ids) = few_text owner (length ids)
 too_few_text shape = expected_text shape
 
 -- no elements, where none are asked for
-abbrev pub no_elements : (asked : List ℕ) → PlainShape → Result PlainData Cause
+abbrev pub no_elements : (asked : List ℕ) → PlainShape → Result PlainData ReadFault
 no_elements [] shape = Ok (tuple_data no_items)
-no_elements (id ∷ ids) shape = Err (InvalidLength 0 (too_few_text shape) None)
+no_elements (id ∷ ids) shape = Err (wrong_length 0 (too_few_text shape))
 
 -- ---- the rows
 -- What a scalar gives under a shape; the flag says whether its tag is taken. Under an optional it is asked only of a
 -- scalar that is not the optional's content, and under a newtype, or where nodes are stepped over, of none.
-abbrev pub scalar_answer : PlainShape → (taken : Bool) → PlainScalar → Result PlainData Cause
+abbrev pub scalar_answer : PlainShape → (taken : Bool) → PlainScalar → Result PlainData ReadFault
 scalar_answer any_shape taken s = any_scalar taken s >>= λ t. Ok (any_data t)
 scalar_answer bool_shape taken s =
     option_map_or (λ b. Ok (bool_data b)) (option_and_then boolean_of (plain_text bool_tag taken s))
@@ -118,7 +117,7 @@ scalar_answer identifier_shape taken s =
     option_map_or (λ text. Ok (lent_text s text)) (text_of s) (Err (scalar_fault identifier_shape taken s))
 scalar_answer char_shape taken s =
     option_map_or one_character (text_of s) (Err (scalar_fault char_shape taken s))
-scalar_answer bytes_shape taken s = Err BytesUnsupported
+scalar_answer bytes_shape taken s = Err bytes_unsupported
 scalar_answer (option_shape content) taken s = if is_absent taken s then Ok none_data else Err (null_fault s)
 scalar_answer unit_shape taken s = if is_absent taken s then Ok unit_data else Err (null_fault s)
 scalar_answer (unit_struct_shape name) taken s = if is_absent taken s then Ok unit_data else Err (null_fault s)
@@ -133,9 +132,9 @@ scalar_answer (enum_shape name variants) taken s =
 scalar_answer shape taken s = Err (scalar_fault shape taken s)
 
 -- what the node of an empty stream gives under a shape
-abbrev pub void_answer : PlainShape → Result PlainData Cause
+abbrev pub void_answer : PlainShape → Result PlainData ReadFault
 void_answer any_shape = Ok (any_data null)
-void_answer bytes_shape = Err BytesUnsupported
+void_answer bytes_shape = Err bytes_unsupported
 void_answer (option_shape content) = Ok none_data
 void_answer unit_shape = Ok unit_data
 void_answer (unit_struct_shape name) = Ok unit_data

@@ -1,12 +1,12 @@
 //! A scalar under the shape of any value.
 
-ghost use Rattle.std.specs.Prelude.{◌≡◌, false, pos};
-ghost use Rattle.yaml_base.specs.Answer.{Gives, is_memory};
+ghost use Rattle.std.specs.Prelude.{pos};
 ghost use Rattle.yaml_base.specs.declared.found.Found.TheVariants.{Signed, Unsigned};
 ghost use Rattle.yaml_shape.specs.Expected.{expected_text};
 ghost use Rattle.yaml_shape.specs.PlainShape.{any_shape};
 ghost use Rattle.yaml_tree.specs.View.{tree_of};
 ghost use Rattle.yaml_load.specs.DocEventView.{doc_scalar_of};
+ghost use Rattle.yaml_scalar.specs.ReadingGives.{IsRefusedBy, Yields};
 ghost use Rattle.yaml_scalar.specs.ScalarAny.{any_found, any_integer, any_scalar};
 ghost use Rattle.yaml_scalar.specs.ScalarFound.{wrong_type};
 
@@ -22,14 +22,14 @@ use yaml_tree::{Number, Value};
 
 // The fault of what is no value, or want of memory.
 fn no_value(alloc: Global, found: Found) -> Refusal
-    ensures { is_memory result ≡ false → result ≡ wrong_type found (expected_text any_shape) }
+    ensures { IsRefusedBy result (wrong_type found (expected_text any_shape)) }
 {
     found_other(alloc, found, &Expected::Shape(&Shape::Any))
 }
 
 // The integer, where it is a number.
 fn any_unsigned(alloc: Global, integer: u128) -> Result<Value>
-    ensures { Gives tree_of result (any_integer (Unsigned integer) (pos integer)) }
+    ensures { Yields tree_of result (any_integer (Unsigned integer) (pos integer)) }
 {
     if integer <= u64::MAX as u128 {
         Ok(Value::Number(Number::from_u64(integer as u64)))
@@ -40,7 +40,7 @@ fn any_unsigned(alloc: Global, integer: u128) -> Result<Value>
 
 // The integer, where it is a number.
 fn any_signed(alloc: Global, integer: i128) -> Result<Value>
-    ensures { Gives tree_of result (any_integer (Signed integer) integer) }
+    ensures { Yields tree_of result (any_integer (Signed integer) integer) }
 {
     if integer >= 0 {
         if integer <= u64::MAX as i128 {
@@ -54,7 +54,7 @@ fn any_signed(alloc: Global, integer: i128) -> Result<Value>
 
 // The value that was found.
 fn any_found(alloc: Global, found: Found) -> Result<Value>
-    ensures { Gives tree_of result (any_found found) }
+    ensures { Yields tree_of result (any_found found) }
 {
     match found {
         Found::Unit => Ok(Value::Null),
@@ -75,7 +75,7 @@ fn any_found(alloc: Global, found: Found) -> Result<Value>
 
 /// The value that a scalar is. The flag says whether its tag is taken.
 pub(crate) fn any_scalar(alloc: Global, taken: bool, scalar: &DocScalar<'_>) -> Result<Value>
-    ensures { Gives tree_of result (any_scalar taken (doc_scalar_of scalar.now)) }
+    ensures { Yields tree_of result (any_scalar taken (doc_scalar_of scalar.now)) }
 {
     match found_in(alloc, taken, scalar) {
         Ok(found) => any_found(alloc, found),

@@ -3,11 +3,11 @@
 ghost use Rattle.std.specs.Prelude.{◌≡◌, Err, is_ok};
 ghost use Rattle.std.specs.Option.{option_map_or};
 ghost use Rattle.std.specs.Str.{chars};
-ghost use Rattle.yaml_base.specs.Answer.{Gives};
 ghost use Rattle.yaml_shape.specs.DataView.{data_of};
 ghost use Rattle.yaml_shape.specs.PlainShape.{char_shape};
 ghost use Rattle.yaml_shape.specs.ShapeView.{shape_of};
 ghost use Rattle.yaml_load.specs.DocEventView.{doc_scalar_of};
+ghost use Rattle.yaml_scalar.specs.ReadingGives.{Yields};
 ghost use Rattle.yaml_scalar.specs.ScalarFound.{scalar_fault};
 ghost use Rattle.yaml_scalar.specs.ScalarShapes.{one_character, only_one, text_of};
 
@@ -33,7 +33,7 @@ fn only_char(text: &str) -> Option<char>
 // A text of one character.
 fn one_character<'de>(alloc: Global, shape: &Shape, text: &str) -> Result<Data<'de>>
     requires char { shape_of shape.now ≡ char_shape }
-    ensures gives { Gives data_of result (one_character text.now) }
+    ensures gives { Yields data_of result (one_character text.now) }
     ensures free { is_ok result ≡ is_ok (one_character text.now) }
 {
     match only_char(text) {
@@ -50,7 +50,7 @@ pub(crate) fn read_char<'de>(
     scalar: &DocScalar<'de>,
 ) -> Result<Data<'de>>
     requires char { shape_of shape.now ≡ char_shape }
-    ensures gives { Gives data_of result
+    ensures gives { Yields data_of result
         (option_map_or one_character (text_of (doc_scalar_of scalar.now))
         (Err (scalar_fault char_shape taken (doc_scalar_of scalar.now)))) }
     ensures free { is_ok result ≡ is_ok

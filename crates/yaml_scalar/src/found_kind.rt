@@ -1,10 +1,11 @@
 //! What a scalar is found to be, by its text.
 
-ghost use Rattle.std.specs.Prelude.{◌≡◌, false, IfOk, MatchResult};
-ghost use Rattle.yaml_base.specs.Answer.{Gives, is_memory};
+ghost use Rattle.std.specs.Prelude.{◌≡◌, IfOk, MatchResult};
 ghost use Rattle.yaml_base.specs.declared.found.Found.{Found};
 ghost use Rattle.yaml_base.specs.declared.found.Found.TheVariants.{Float, Str};
 ghost use Rattle.yaml_load.specs.DocEventView.{doc_scalar_of};
+ghost use Rattle.yaml_scalar.specs.ReadingGives.{IsRefusedBy, Yields};
+ghost use Rattle.yaml_scalar.specs.ReadFault.{out_of_memory};
 ghost use Rattle.yaml_scalar.specs.ScalarFound.{wrong_value, found_kind, found_integer, string_found};
 ghost use Rattle.yaml_scalar.specs.ScalarSorts.{sort_of};
 ghost use Rattle.yaml_scalar.specs.Expectations.{found_in, plain_sort};
@@ -68,44 +69,47 @@ pub(crate) fn found_text(alloc: Global, scalar: &DocScalar<'_>) -> Result<Found,
     }
 }
 
-/// The fault of a node that has another value than is expected.
-pub(crate) fn wrong_value(found: Found, expected: Words) -> Cause
-    ensures { result ≡ wrong_value found expected }
+/// The refusal of a node that has another value than is expected, or want of memory.
+pub(crate) fn wrong_value(alloc: Global, found: Found, expected: Words) -> Refusal
+    ensures { IsRefusedBy result (wrong_value found expected) }
 {
-    Cause::InvalidValue {
-        found,
-        expected,
-        place: None,
-    }
+    refuse(
+        alloc,
+        Error::new(Cause::InvalidValue {
+            found,
+            expected,
+            place: None,
+        }),
+    )
 }
 
-// The fault of a string that is none of those that are expected.
-fn wrong_string(alloc: Global, text: &str, expected: &str) -> Result<Cause, AllocError>
-    ensures { IfOk result (λ cause. cause ≡ wrong_value (Str text.now) expected.now) }
+// The refusal of a string that is none of those that are expected.
+fn wrong_string(alloc: Global, text: &str, expected: &str) -> Result<Refusal, AllocError>
+    ensures { IfOk result (λ refusal. IsRefusedBy refusal (wrong_value (Str text.now) expected.now)) }
 {
-    Ok(wrong_value(found_string(alloc, text)?, words(alloc, expected)?))
+    Ok(wrong_value(alloc, found_string(alloc, text)?, words(alloc, expected)?))
 }
 
 // The refusal of a string that is none of those that are expected, or want of memory.
 fn not_such(alloc: Global, text: &str, expected: &str) -> Refusal
-    ensures { is_memory result ≡ false → result ≡ wrong_value (Str text.now) expected.now }
+    ensures { IsRefusedBy result (wrong_value (Str text.now) expected.now) }
 {
-    refusal_of(alloc, wrong_string(alloc, text, expected))
+    refusal_of(wrong_string(alloc, text, expected))
 }
 
-/// The refusal by this fault, or want of memory.
-pub(crate) fn refusal_of(alloc: Global, cause: Result<Cause, AllocError>) -> Refusal
-    ensures { is_memory result ≡ false → MatchResult cause (λ c. result ≡ c) (λ _. ⊥) }
+/// The refusal, or want of memory where there was none for its texts.
+pub(crate) fn refusal_of(refusal: Result<Refusal, AllocError>) -> Refusal
+    ensures { MatchResult refusal (λ r. result ≡ r) (λ _. result ≡ out_of_memory) }
 {
-    match cause {
-        Ok(cause) => refuse(alloc, Error::new(cause)),
+    match refusal {
+        Ok(refusal) => refusal,
         Err(_) => Refusal::memory(),
     }
 }
 
 // What a text in a row is found to be.
 fn found_as(alloc: Global, sort: ScalarSort, text: &str) -> Result<Found, Refusal>
-    ensures { Gives (λ (f : Found). f) result (found_in (plain_sort sort) text.now) }
+    ensures { Yields (λ (f : Found). f) result (found_in (plain_sort sort) text.now) }
 {
     match sort {
         ScalarSort::NoText => Ok(Found::Bytes),
@@ -138,7 +142,7 @@ fn found_as(alloc: Global, sort: ScalarSort, text: &str) -> Result<Found, Refusa
 
 /// What a scalar is found to be. A tag that its text does not bear out is a fault.
 pub(crate) fn found_in(alloc: Global, taken: bool, scalar: &DocScalar<'_>) -> Result<Found, Refusal>
-    ensures { Gives (λ (f : Found). f) result
+    ensures { Yields (λ (f : Found). f) result
         (found_in (sort_of taken (doc_scalar_of scalar.now)) scalar.now.value.items) }
 {
     match text_of(scalar) {

@@ -1,13 +1,13 @@
 //! A scalar under the shape of an integer.
 
 ghost use Rattle.std.specs.Prelude.{◌≡◌, true, false, is_ok};
-ghost use Rattle.yaml_base.specs.Answer.{Gives};
 ghost use Rattle.yaml_shape.specs.DataView.{data_of};
 ghost use Rattle.yaml_shape.specs.IntegerTypes.{has_sign};
 ghost use Rattle.yaml_shape.specs.IntegerView.{integer_type_of};
 ghost use Rattle.yaml_shape.specs.PlainShape.{integer_shape};
 ghost use Rattle.yaml_shape.specs.ShapeView.{shape_of};
 ghost use Rattle.yaml_load.specs.DocEventView.{doc_scalar_of};
+ghost use Rattle.yaml_scalar.specs.ReadingGives.{Yields};
 ghost use Rattle.yaml_scalar.specs.ScalarShapes.{scalar_answer};
 ghost use Rattle.yaml_scalar.specs.inner.Numbers.{signed_number, unsigned_number};
 
@@ -28,7 +28,7 @@ fn read_signed<'de>(
     scalar: &DocScalar<'de>,
 ) -> Result<Data<'de>>
     requires { has_sign (integer_type_of integer) ≡ true }
-    ensures gives { Gives data_of result
+    ensures gives { Yields data_of result
         (signed_number (integer_type_of integer) (shape_of shape.now) taken (doc_scalar_of scalar.now)) }
     ensures free { is_ok result ≡ is_ok
         (signed_number (integer_type_of integer) (shape_of shape.now) taken (doc_scalar_of scalar.now)) }
@@ -49,7 +49,7 @@ fn read_unsigned<'de>(
     scalar: &DocScalar<'de>,
 ) -> Result<Data<'de>>
     requires { has_sign (integer_type_of integer) ≡ false }
-    ensures gives { Gives data_of result
+    ensures gives { Yields data_of result
         (unsigned_number (integer_type_of integer) (shape_of shape.now) taken (doc_scalar_of scalar.now)) }
     ensures free { is_ok result ≡ is_ok
         (unsigned_number (integer_type_of integer) (shape_of shape.now) taken (doc_scalar_of scalar.now)) }
@@ -70,7 +70,7 @@ pub(crate) fn read_integer<'de>(
     scalar: &DocScalar<'de>,
 ) -> Result<Data<'de>>
     requires { shape_of shape.now ≡ integer_shape (integer_type_of integer) }
-    ensures gives { Gives data_of result (scalar_answer (shape_of shape.now) taken (doc_scalar_of scalar.now)) }
+    ensures gives { Yields data_of result (scalar_answer (shape_of shape.now) taken (doc_scalar_of scalar.now)) }
     ensures free { is_ok result ≡ is_ok
         (scalar_answer (shape_of shape.now) taken (doc_scalar_of scalar.now)) }
 {

@@ -18,7 +18,7 @@ mod variant_names;
 pub use expected::{Expected, words};
 pub use mismatch::{
     found_mapping, found_mapping_for, found_no_variant_elements, found_scalar_for, found_sequence,
-    found_sequence_for,
+    found_sequence_for, wrong_length,
 };
 pub use presence::{is_absent, is_empty_plain, is_present};
 pub use refusal::{Refusal, Result, ended, refuse};

@@ -1,14 +1,13 @@
 //! The fault of a node that its shape has no meaning for: what was found in place of what was expected.
 
-ghost use Rattle.std.specs.Prelude.{◌≡◌, false, None, IfOk};
-ghost use Rattle.yaml_base.specs.Answer.{is_memory};
-ghost use Rattle.yaml_base.specs.declared.error.Cause.TheVariants.{InvalidLength};
+ghost use Rattle.std.specs.Prelude.{IfOk};
 ghost use Rattle.yaml_base.specs.declared.found.Found.TheVariants.{Map, Seq, Str};
 ghost use Rattle.yaml_shape.specs.Expected.{expected_text, tuple_variant_with_text};
 ghost use Rattle.yaml_shape.specs.ShapeView.{shape_of};
 ghost use Rattle.yaml_load.specs.DocEventView.{doc_scalar_of};
 ghost use Rattle.yaml_scalar.specs.Presence.{null_fault};
-ghost use Rattle.yaml_scalar.specs.ScalarFound.{wrong_type, wrong_value, fault_in};
+ghost use Rattle.yaml_scalar.specs.ReadingGives.{IsRefusedBy};
+ghost use Rattle.yaml_scalar.specs.ScalarFound.{wrong_length, wrong_type, wrong_value, fault_in};
 ghost use Rattle.yaml_scalar.specs.ScalarFound.{scalar_fault, sequence_fault, mapping_fault};
 ghost use Rattle.yaml_scalar.specs.ScalarShapes.{too_few_text};
 ghost use Rattle.yaml_scalar.specs.ScalarSorts.{sort_of};
@@ -16,21 +15,34 @@ ghost use Rattle.yaml_scalar.specs.Expectations.{expected_of, wanted_of};
 
 use crate::expected::{Expected, words};
 use crate::found_kind::{found_in, found_string, found_text, refusal_of, wrong_value};
-use crate::refusal::Refusal;
+use crate::refusal::{Refusal, refuse};
 use std::alloc::{AllocError, Global};
-use yaml_base::{Cause, Found, Words};
+use yaml_base::{Cause, Error, Found, Words};
 use yaml_load::DocScalar;
 use yaml_shape::{Shape, tuple_struct_with, tuple_variant_with};
 
-// The fault of a node of another type than is expected.
-fn wrong_type(alloc: Global, found: Found, expected: &Expected<'_>) -> Result<Cause, AllocError>
-    ensures { IfOk result (λ cause. cause ≡ wrong_type found (expected_of expected.now)) }
+/// The refusal of a row of another length than is expected, or want of memory.
+pub fn wrong_length(alloc: Global, length: usize, expected: Words) -> Refusal
+    ensures { IsRefusedBy result (wrong_length length expected) }
 {
-    Ok(Cause::InvalidType {
+    let fault = Cause::InvalidLength {
+        length,
+        expected,
+        place: None,
+    };
+    refuse(alloc, Error::new(fault))
+}
+
+// The fault of a node of another type than is expected.
+fn wrong_type(alloc: Global, found: Found, expected: &Expected<'_>) -> Result<Refusal, AllocError>
+    ensures { IfOk result (λ refusal. IsRefusedBy refusal (wrong_type found (expected_of expected.now))) }
+{
+    let fault = Cause::InvalidType {
         found,
         expected: expected.text(alloc)?,
         place: None,
-    })
+    };
+    Ok(refuse(alloc, Error::new(fault)))
 }
 
 // The fault of a collection where another node is expected.
@@ -38,21 +50,22 @@ fn wrong_collection(
     alloc: Global,
     found: Found,
     expected: &Expected<'_>,
-) -> Result<Cause, AllocError>
-    ensures { IfOk result (λ cause. cause ≡ wrong_type found (wanted_of expected.now)) }
+) -> Result<Refusal, AllocError>
+    ensures { IfOk result (λ refusal. IsRefusedBy refusal (wrong_type found (wanted_of expected.now))) }
 {
-    Ok(Cause::InvalidType {
+    let fault = Cause::InvalidType {
         found,
         expected: expected.wanted(alloc)?,
         place: None,
-    })
+    };
+    Ok(refuse(alloc, Error::new(fault)))
 }
 
 /// The fault of what was found where something else is expected, or want of memory.
 pub(crate) fn found_other(alloc: Global, found: Found, expected: &Expected<'_>) -> Refusal
-    ensures { is_memory result ≡ false → result ≡ wrong_type found (expected_of expected.now) }
+    ensures { IsRefusedBy result (wrong_type found (expected_of expected.now)) }
 {
-    refusal_of(alloc, wrong_type(alloc, found, expected))
+    refusal_of(wrong_type(alloc, found, expected))
 }
 
 /// The fault of a scalar where something else is expected, or want of memory.
@@ -62,9 +75,8 @@ pub fn found_scalar_for(
     taken: bool,
     scalar: &DocScalar<'_>,
 ) -> Refusal
-    ensures { is_memory result ≡ false
-        → result ≡ fault_in (sort_of taken (doc_scalar_of scalar.now)) scalar.now.value.items
-        (expected_of expected.now) }
+    ensures { IsRefusedBy result (fault_in (sort_of taken (doc_scalar_of scalar.now)) scalar.now.value.items
+        (expected_of expected.now)) }
 {
     match found_in(alloc, taken, scalar) {
         Ok(found) => found_other(alloc, found, expected),
@@ -74,16 +86,16 @@ pub fn found_scalar_for(
 
 /// The fault of a sequence where something else is expected, or want of memory.
 pub fn found_sequence_for(alloc: Global, expected: &Expected<'_>) -> Refusal
-    ensures { is_memory result ≡ false → result ≡ wrong_type Seq (wanted_of expected.now) }
+    ensures { IsRefusedBy result (wrong_type Seq (wanted_of expected.now)) }
 {
-    refusal_of(alloc, wrong_collection(alloc, Found::Seq, expected))
+    refusal_of(wrong_collection(alloc, Found::Seq, expected))
 }
 
 /// The fault of a mapping where something else is expected, or want of memory.
 pub fn found_mapping_for(alloc: Global, expected: &Expected<'_>) -> Refusal
-    ensures { is_memory result ≡ false → result ≡ wrong_type Map (wanted_of expected.now) }
+    ensures { IsRefusedBy result (wrong_type Map (wanted_of expected.now)) }
 {
-    refusal_of(alloc, wrong_collection(alloc, Found::Map, expected))
+    refusal_of(wrong_collection(alloc, Found::Map, expected))
 }
 
 /// The fault of a scalar that its shape has no meaning for, or want of memory.
@@ -93,8 +105,7 @@ pub(crate) fn found_scalar(
     taken: bool,
     scalar: &DocScalar<'_>,
 ) -> Refusal
-    ensures { is_memory result ≡ false
-        → result ≡ scalar_fault (shape_of shape.now) taken (doc_scalar_of scalar.now) }
+    ensures { IsRefusedBy result (scalar_fault (shape_of shape.now) taken (doc_scalar_of scalar.now)) }
 {
     found_scalar_for(alloc, &Expected::Shape(shape), taken, scalar)
 }
@@ -103,7 +114,7 @@ pub(crate) fn found_scalar(
 #[cold]
 #[inline(never)]
 pub fn found_sequence(alloc: Global, shape: &Shape) -> Refusal
-    ensures { is_memory result ≡ false → result ≡ sequence_fault (shape_of shape.now) }
+    ensures { IsRefusedBy result (sequence_fault (shape_of shape.now)) }
 {
     found_sequence_for(alloc, &Expected::Shape(shape))
 }
@@ -112,59 +123,59 @@ pub fn found_sequence(alloc: Global, shape: &Shape) -> Refusal
 #[cold]
 #[inline(never)]
 pub fn found_mapping(alloc: Global, shape: &Shape) -> Refusal
-    ensures { is_memory result ≡ false → result ≡ mapping_fault (shape_of shape.now) }
+    ensures { IsRefusedBy result (mapping_fault (shape_of shape.now)) }
 {
     found_mapping_for(alloc, &Expected::Shape(shape))
 }
 
 // The fault of a value that its shape does not expect.
-fn wrong_value_of(alloc: Global, found: Found, shape: &Shape) -> Result<Cause, AllocError>
-    ensures { IfOk result (λ cause. cause ≡ wrong_value found (expected_text (shape_of shape.now))) }
+fn wrong_value_of(alloc: Global, found: Found, shape: &Shape) -> Result<Refusal, AllocError>
+    ensures { IfOk result
+        (λ refusal. IsRefusedBy refusal (wrong_value found (expected_text (shape_of shape.now)))) }
 {
-    Ok(wrong_value(found, Expected::Shape(shape).text(alloc)?))
+    Ok(wrong_value(alloc, found, Expected::Shape(shape).text(alloc)?))
 }
 
 /// The fault of an integer that is none of its shape, or want of memory.
 pub(crate) fn found_integer_outside(alloc: Global, found: Found, shape: &Shape) -> Refusal
-    ensures { is_memory result ≡ false → result ≡ wrong_value found (expected_text (shape_of shape.now)) }
+    ensures { IsRefusedBy result (wrong_value found (expected_text (shape_of shape.now))) }
 {
-    refusal_of(alloc, wrong_value_of(alloc, found, shape))
+    refusal_of(wrong_value_of(alloc, found, shape))
 }
 
 // The fault of a text that its shape does not expect.
-fn wrong_text_of(alloc: Global, text: &str, shape: &Shape) -> Result<Cause, AllocError>
+fn wrong_text_of(alloc: Global, text: &str, shape: &Shape) -> Result<Refusal, AllocError>
     ensures { IfOk result
-        (λ cause. cause ≡ wrong_value (Str text.now) (expected_text (shape_of shape.now))) }
+        (λ refusal. IsRefusedBy refusal (wrong_value (Str text.now) (expected_text (shape_of shape.now)))) }
 {
     wrong_value_of(alloc, found_string(alloc, text)?, shape)
 }
 
 /// The fault of a text that is none of its shape, or want of memory.
 pub(crate) fn found_other_text(alloc: Global, text: &str, shape: &Shape) -> Refusal
-    ensures { is_memory result ≡ false
-        → result ≡ wrong_value (Str text.now) (expected_text (shape_of shape.now)) }
+    ensures { IsRefusedBy result (wrong_value (Str text.now) (expected_text (shape_of shape.now))) }
 {
-    refusal_of(alloc, wrong_text_of(alloc, text, shape))
+    refusal_of(wrong_text_of(alloc, text, shape))
 }
 
 // The fault of a scalar that should stand for nothing.
-fn null_fault(alloc: Global, scalar: &DocScalar<'_>) -> Result<Cause, AllocError>
-    ensures { IfOk result (λ cause. cause ≡ null_fault (doc_scalar_of scalar.now)) }
+fn null_fault(alloc: Global, scalar: &DocScalar<'_>) -> Result<Refusal, AllocError>
+    ensures { IfOk result (λ refusal. IsRefusedBy refusal (null_fault (doc_scalar_of scalar.now))) }
 {
-    Ok(wrong_value(found_text(alloc, scalar)?, words(alloc, "null")?))
+    Ok(wrong_value(alloc, found_text(alloc, scalar)?, words(alloc, "null")?))
 }
 
 /// The fault of a scalar that should stand for nothing, or want of memory.
 pub(crate) fn found_no_null(alloc: Global, scalar: &DocScalar<'_>) -> Refusal
-    ensures { is_memory result ≡ false → result ≡ null_fault (doc_scalar_of scalar.now) }
+    ensures { IsRefusedBy result (null_fault (doc_scalar_of scalar.now)) }
 {
-    refusal_of(alloc, null_fault(alloc, scalar))
+    refusal_of(null_fault(alloc, scalar))
 }
 
 // The fault of a collection without elements where a tuple or a tuple struct asks for some.
-fn no_elements(alloc: Global, shape: &Shape) -> Result<Cause, AllocError>
+fn no_elements(alloc: Global, shape: &Shape) -> Result<Refusal, AllocError>
     ensures { IfOk result
-        (λ cause. cause ≡ InvalidLength 0 (too_few_text (shape_of shape.now)) None) }
+        (λ refusal. IsRefusedBy refusal (wrong_length 0 (too_few_text (shape_of shape.now)))) }
 {
     let expected = match shape {
         Shape::TupleStruct { name, items } => match tuple_struct_with(alloc, name, items.len()) {
@@ -173,19 +184,14 @@ fn no_elements(alloc: Global, shape: &Shape) -> Result<Cause, AllocError>
         },
         _ => Expected::Shape(shape).text(alloc)?,
     };
-    Ok(Cause::InvalidLength {
-        length: 0,
-        expected,
-        place: None,
-    })
+    Ok(wrong_length(alloc, 0, expected))
 }
 
 /// The fault of no elements where a tuple or a tuple struct asks for some, or want of memory.
 pub(crate) fn found_no_elements(alloc: Global, shape: &Shape) -> Refusal
-    ensures { is_memory result ≡ false
-        → result ≡ InvalidLength 0 (too_few_text (shape_of shape.now)) None }
+    ensures { IsRefusedBy result (wrong_length 0 (too_few_text (shape_of shape.now))) }
 {
-    refusal_of(alloc, no_elements(alloc, shape))
+    refusal_of(no_elements(alloc, shape))
 }
 
 // The fault of a scalar without elements where a tuple variant asks for some.
@@ -194,25 +200,20 @@ fn no_variant_elements(
     name: &str,
     variant: &str,
     count: usize,
-) -> Result<Cause, AllocError>
+) -> Result<Refusal, AllocError>
     ensures { IfOk result
-        (λ cause. cause ≡ InvalidLength 0 (tuple_variant_with_text name.now variant.now count) None) }
+        (λ refusal. IsRefusedBy refusal
+        (wrong_length 0 (tuple_variant_with_text name.now variant.now count))) }
 {
-    let expected = match tuple_variant_with(alloc, name, variant, count) {
-        Ok(text) => Words::new(text),
-        Err(_) => return Err(AllocError),
-    };
-    Ok(Cause::InvalidLength {
-        length: 0,
-        expected,
-        place: None,
-    })
+    match tuple_variant_with(alloc, name, variant, count) {
+        Ok(text) => Ok(wrong_length(alloc, 0, Words::new(text))),
+        Err(_) => Err(AllocError),
+    }
 }
 
 /// The fault of no elements where a tuple variant asks for some, or want of memory.
 pub fn found_no_variant_elements(alloc: Global, name: &str, variant: &str, count: usize) -> Refusal
-    ensures { is_memory result ≡ false
-        → result ≡ InvalidLength 0 (tuple_variant_with_text name.now variant.now count) None }
+    ensures { IsRefusedBy result (wrong_length 0 (tuple_variant_with_text name.now variant.now count)) }
 {
-    refusal_of(alloc, no_variant_elements(alloc, name, variant, count))
+    refusal_of(no_variant_elements(alloc, name, variant, count))
 }

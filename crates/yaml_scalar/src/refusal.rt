@@ -1,8 +1,8 @@
 //! Why a reading failed, in little room.
 
 ghost use Rattle.std.specs.Prelude.{◌≡◌, false};
-ghost use Rattle.yaml_base.specs.Answer.{is_memory};
-ghost use Rattle.yaml_base.specs.declared.error.Cause.TheVariants.{EndOfStream, Memory};
+ghost use Rattle.yaml_scalar.specs.ReadFault.{IsOfReading, cause_of, end_of_stream, out_of_memory, ran_out};
+ghost use Rattle.yaml_scalar.specs.ReadFault.{refusal_by, refused};
 
 use std::alloc::{AllocError, AllocFailed, Global};
 use std::marker::Model;
@@ -11,32 +11,35 @@ use yaml_base::{Cause, Error};
 /// The answer of a call within a reading.
 pub type Result<T> = std::result::Result<T, Refusal>;
 
-/// Why a reading failed. It is seen as its cause, and takes one pointer; none stands for want of memory.
+/// Why a reading failed: memory ran out, or a fault was found, which none of other documents is. It takes one pointer;
+/// none stands for want of memory.
 #[derive(Drop)]
 pub struct Refusal {
     fault: Option<Box<Error>>,
 }
 
 impl Model for Refusal {
-    ghost use Rattle.yaml_base.specs.declared.error.Cause.{Cause};
     ghost use Rattle.yaml_scalar.specs.BoxedFault.{boxed_cause};
+    ghost use Rattle.yaml_scalar.specs.ReadFault.{IsOfReading, PlainRefusal, refusal_by};
 
-    ghost Value = { Cause };
+    ghost Value = { PlainRefusal };
 
-    ghost view = { λ r. boxed_cause r.fault };
+    ghost view = { λ r. refusal_by (boxed_cause r.fault) };
+
+    ghost invariant = { λ r. IsOfReading (boxed_cause r.fault) };
 }
 
 impl Refusal {
     /// Want of memory. Takes no memory.
     pub fn memory() -> Refusal
-        ensures { result ≡ Memory }
+        ensures { result ≡ out_of_memory }
     {
         Refusal { fault: None }
     }
 
-    /// The same fault. Takes no memory.
+    /// The same as a fault that callers are told. Takes no memory.
     pub fn into_error(self) -> Error
-        ensures { result ≡ self }
+        ensures { result ≡ cause_of self }
     {
         match self.fault {
             Some(fault) => Box::into_inner(fault),
@@ -47,7 +50,8 @@ impl Refusal {
 
 /// The refusal by this fault, or want of memory.
 pub fn refuse(alloc: Global, fault: Error) -> Refusal
-    ensures { is_memory result ≡ false → result ≡ fault }
+    requires { IsOfReading fault }
+    ensures { ran_out result ≡ false → result ≡ refusal_by fault }
 {
     match Box::new(alloc, fault) {
         Ok(fault) => Refusal { fault: Some(fault) },
@@ -59,16 +63,16 @@ pub fn refuse(alloc: Global, fault: Error) -> Refusal
 #[cold]
 #[inline(never)]
 pub fn ended(alloc: Global) -> Refusal
-    ensures { is_memory result ≡ false → result ≡ EndOfStream }
+    ensures { ran_out result ≡ false → result ≡ refused end_of_stream }
 {
     refuse(alloc, Error::new(Cause::EndOfStream))
 }
 
 impl From<AllocError> for Refusal {
     ghost use Rattle.std.specs.Prelude.{◌≡◌};
-    ghost use Rattle.yaml_base.specs.declared.error.Cause.TheVariants.{Memory};
+    ghost use Rattle.yaml_scalar.specs.ReadFault.{out_of_memory};
 
-    ghost from_gives = { λ _ e. e ≡ Memory };
+    ghost from_gives = { λ _ e. e ≡ out_of_memory };
 
     fn from(_: AllocError) -> Refusal {
         Refusal { fault: None }
@@ -77,9 +81,9 @@ impl From<AllocError> for Refusal {
 
 impl<T: Drop> From<AllocFailed<T>> for Refusal {
     ghost use Rattle.std.specs.Prelude.{◌≡◌};
-    ghost use Rattle.yaml_base.specs.declared.error.Cause.TheVariants.{Memory};
+    ghost use Rattle.yaml_scalar.specs.ReadFault.{out_of_memory};
 
-    ghost from_gives = { λ _ e. e ≡ Memory };
+    ghost from_gives = { λ _ e. e ≡ out_of_memory };
 
     fn from(_: AllocFailed<T>) -> Refusal {
         Refusal { fault: None }

@@ -2,7 +2,6 @@
 
 ghost use Rattle.std.specs.Prelude.{◌≡◌, Ok, Err, true, is_ok, option_and_then, if◌then◌else◌};
 ghost use Rattle.std.specs.Option.{option_map_or};
-ghost use Rattle.yaml_base.specs.Answer.{Gives};
 ghost use Rattle.yaml_base.specs.PlainWords.{boolean_of};
 ghost use Rattle.yaml_shape.specs.DataView.{data_of};
 ghost use Rattle.yaml_shape.specs.PlainData.{bool_data, none_data, unit_data};
@@ -11,6 +10,7 @@ ghost use Rattle.yaml_shape.specs.ShapeView.{ids_of, shape_of};
 ghost use Rattle.yaml_load.specs.DocEventView.{doc_scalar_of};
 ghost use Rattle.yaml_scalar.specs.CoreTags.{bool_tag};
 ghost use Rattle.yaml_scalar.specs.Presence.{is_absent, null_fault};
+ghost use Rattle.yaml_scalar.specs.ReadingGives.{Yields};
 ghost use Rattle.yaml_scalar.specs.ScalarFound.{scalar_fault};
 ghost use Rattle.yaml_scalar.specs.ScalarShapes.{no_elements, plain_text, scalar_answer};
 ghost use Rattle.yaml_scalar.specs.ScalarShapes.{takes_no_memory, void_answer};
@@ -48,7 +48,7 @@ fn read_bool<'de>(
     taken: bool,
     scalar: &DocScalar<'de>,
 ) -> Result<Data<'de>>
-    ensures gives { Gives data_of result
+    ensures gives { Yields data_of result
         (option_map_or (λ b. Ok (bool_data b))
         (option_and_then boolean_of (plain_text bool_tag taken (doc_scalar_of scalar.now)))
         (Err (scalar_fault (shape_of shape.now) taken (doc_scalar_of scalar.now)))) }
@@ -65,7 +65,7 @@ fn read_bool<'de>(
 
 // Any value.
 fn read_any<'de>(alloc: Global, taken: bool, scalar: &DocScalar<'de>) -> Result<Data<'de>>
-    ensures { Gives data_of result
+    ensures { Yields data_of result
         (scalar_answer any_shape taken (doc_scalar_of scalar.now)) }
 {
     Ok(Data::Any(any_scalar(alloc, taken, scalar)?))
@@ -73,7 +73,7 @@ fn read_any<'de>(alloc: Global, taken: bool, scalar: &DocScalar<'de>) -> Result<
 
 // A unit.
 fn read_unit<'de>(alloc: Global, taken: bool, scalar: &DocScalar<'de>) -> Result<Data<'de>>
-    ensures gives { Gives data_of result
+    ensures gives { Yields data_of result
         (if is_absent taken (doc_scalar_of scalar.now) then Ok unit_data
         else Err (null_fault (doc_scalar_of scalar.now))) }
     ensures free { is_ok result ≡ is_ok
@@ -89,7 +89,7 @@ fn read_unit<'de>(alloc: Global, taken: bool, scalar: &DocScalar<'de>) -> Result
 
 // An optional that is absent.
 fn read_none<'de>(alloc: Global, taken: bool, scalar: &DocScalar<'de>) -> Result<Data<'de>>
-    ensures gives { Gives data_of result
+    ensures gives { Yields data_of result
         (if is_absent taken (doc_scalar_of scalar.now) then Ok none_data
         else Err (null_fault (doc_scalar_of scalar.now))) }
     ensures free { is_ok result ≡ is_ok
@@ -105,7 +105,7 @@ fn read_none<'de>(alloc: Global, taken: bool, scalar: &DocScalar<'de>) -> Result
 
 // A tuple or a tuple struct without elements.
 fn no_elements<'de>(alloc: Global, shape: &Shape, asked: &[ShapeId]) -> Result<Data<'de>>
-    ensures { Gives data_of result (no_elements (ids_of asked.now) (shape_of shape.now)) }
+    ensures { Yields data_of result (no_elements (ids_of asked.now) (shape_of shape.now)) }
 {
     if asked.is_empty() {
         Ok(Data::Tuple(Vec::new(alloc)))
@@ -122,7 +122,7 @@ pub fn read_scalar<'de>(
     taken: bool,
     scalar: &DocScalar<'de>,
 ) -> Result<Data<'de>>
-    ensures gives { Gives data_of result (scalar_answer (shape_of shape.now) taken (doc_scalar_of scalar.now)) }
+    ensures gives { Yields data_of result (scalar_answer (shape_of shape.now) taken (doc_scalar_of scalar.now)) }
     ensures free { takes_no_memory (shape_of shape.now) (doc_scalar_of scalar.now) ≡ true
         → is_ok result ≡ is_ok (scalar_answer (shape_of shape.now) taken (doc_scalar_of scalar.now)) }
 {
@@ -152,7 +152,7 @@ pub fn read_scalar<'de>(
 /// The node of an empty stream under a shape.
 #[inline(never)]
 pub fn read_void<'de>(alloc: Global, shape: &Shape) -> Result<Data<'de>>
-    ensures { Gives data_of result (void_answer (shape_of shape.now)) }
+    ensures { Yields data_of result (void_answer (shape_of shape.now)) }
 {
     match shape {
         Shape::Any => Ok(Data::Any(Value::Null)),

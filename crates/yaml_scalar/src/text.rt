@@ -2,12 +2,12 @@
 
 ghost use Rattle.std.specs.Prelude.{◌≡◌, IfSome, Err, Ok, true, is_ok, is_some};
 ghost use Rattle.std.specs.Option.{option_copied, option_map_or};
-ghost use Rattle.yaml_base.specs.Answer.{Gives};
 ghost use Rattle.yaml_base.specs.Borrowable.{is_borrowable};
 ghost use Rattle.yaml_shape.specs.DataView.{data_of};
 ghost use Rattle.yaml_shape.specs.PlainData.{text_data};
 ghost use Rattle.yaml_shape.specs.ShapeView.{shape_of};
 ghost use Rattle.yaml_load.specs.DocEventView.{doc_scalar_of};
+ghost use Rattle.yaml_scalar.specs.ReadingGives.{Yields};
 ghost use Rattle.yaml_scalar.specs.ScalarFound.{scalar_fault};
 ghost use Rattle.yaml_scalar.specs.ScalarShapes.{lent_text, text_of};
 
@@ -43,7 +43,7 @@ pub(crate) fn read_text<'de>(
     taken: bool,
     scalar: &DocScalar<'de>,
 ) -> Result<Data<'de>>
-    ensures gives { Gives data_of result
+    ensures gives { Yields data_of result
         (option_map_or (λ text. Ok (lent_text (doc_scalar_of scalar.now) text))
         (text_of (doc_scalar_of scalar.now))
         (Err (scalar_fault (shape_of shape.now) taken (doc_scalar_of scalar.now)))) }

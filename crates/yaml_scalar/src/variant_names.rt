@@ -1,14 +1,14 @@
 //! The variants of an enum: found by their names, and what a scalar that names one gives.
 
-ghost use Rattle.std.specs.Prelude.{◌≡◌, ℕ, Err, IfOk, None, codes, false};
+ghost use Rattle.std.specs.Prelude.{◌≡◌, ℕ, Err, IfOk, None, codes};
 ghost use Rattle.std.specs.Option.{option_map_or};
-ghost use Rattle.yaml_base.specs.Answer.{Gives, is_memory};
-ghost use Rattle.yaml_base.specs.declared.error.Cause.TheVariants.{NestedEnum, UnknownVariant};
 ghost use Rattle.yaml_base.specs.declared.found.Found.TheVariants.{Bytes, UnitVariant};
 ghost use Rattle.yaml_shape.specs.DataView.{data_of};
 ghost use Rattle.yaml_shape.specs.ShapeView.{content_of, variants_of};
 ghost use Rattle.yaml_shape.specs.Validity.{names_of};
 ghost use Rattle.yaml_load.specs.DocEventView.{doc_scalar_of};
+ghost use Rattle.yaml_scalar.specs.ReadingGives.{IsRefusedBy, Yields};
+ghost use Rattle.yaml_scalar.specs.ReadFault.{at_node, nested_enum};
 ghost use Rattle.yaml_scalar.specs.ScalarFound.{wrong_type};
 ghost use Rattle.yaml_scalar.specs.ScalarShapes.{text_of};
 ghost use Rattle.yaml_scalar.specs.Variants.{bare_variant, named_variant, unknown_variant, variant_named};
@@ -16,10 +16,10 @@ ghost use Rattle.yaml_scalar.specs.VariantView.{variant_view};
 
 use crate::expected::words;
 use crate::found_kind::refusal_of;
-use crate::refusal::{Refusal, Result};
+use crate::refusal::{Refusal, Result, refuse};
 use crate::sort::text_of;
 use std::alloc::{AllocError, Global};
-use yaml_base::{Cause, Found, WordList};
+use yaml_base::{Cause, Error, Found, WordList};
 use yaml_load::DocScalar;
 use yaml_shape::{Data, VariantShape};
 
@@ -52,69 +52,75 @@ fn names(
     Ok(WordList::new(names))
 }
 
-// The fault of a name that no variant has.
+// The refusal of a name that no variant has.
 fn unknown(
     alloc: Global,
     variants: &[(String, VariantShape)],
     name: &str,
-) -> std::result::Result<Cause, AllocError>
+) -> std::result::Result<Refusal, AllocError>
     ensures { IfOk result
-        (λ cause. cause ≡ UnknownVariant name.now (names_of (variants_of variants.now)) None) }
+        (λ refusal. IsRefusedBy refusal (unknown_variant (variants_of variants.now) name.now)) }
 {
-    Ok(Cause::UnknownVariant {
+    let fault = Cause::UnknownVariant {
         variant: words(alloc, name)?,
         known: names(alloc, variants)?,
         place: None,
-    })
+    };
+    Ok(refuse(alloc, Error::new(fault)))
 }
 
 /// The fault of a name that no variant has, or want of memory.
 pub fn unknown_variant(alloc: Global, variants: &[(String, VariantShape)], name: &str) -> Refusal
-    ensures { is_memory result ≡ false
-        → result ≡ unknown_variant (variants_of variants.now) name.now }
+    ensures { IsRefusedBy result (unknown_variant (variants_of variants.now) name.now) }
 {
-    refusal_of(alloc, unknown(alloc, variants, name))
+    refusal_of(unknown(alloc, variants, name))
 }
 
-// The fault of a node of another type than is expected.
-fn wrong_type(alloc: Global, found: Found, expected: &str) -> std::result::Result<Cause, AllocError>
-    ensures { IfOk result (λ cause. cause ≡ wrong_type found expected.now) }
+// The refusal of a node of another type than is expected.
+fn wrong_type(
+    alloc: Global,
+    found: Found,
+    expected: &str,
+) -> std::result::Result<Refusal, AllocError>
+    ensures { IfOk result (λ refusal. IsRefusedBy refusal (wrong_type found expected.now)) }
 {
-    Ok(Cause::InvalidType {
+    let fault = Cause::InvalidType {
         found,
         expected: words(alloc, expected)?,
         place: None,
-    })
+    };
+    Ok(refuse(alloc, Error::new(fault)))
 }
 
 // The fault of a variant that is named without the content that it has, or want of memory.
 fn without_content(alloc: Global, expected: &str) -> Refusal
-    ensures { is_memory result ≡ false → result ≡ wrong_type UnitVariant expected.now }
+    ensures { IsRefusedBy result (wrong_type UnitVariant expected.now) }
 {
-    refusal_of(alloc, wrong_type(alloc, Found::UnitVariant, expected))
+    refusal_of(wrong_type(alloc, Found::UnitVariant, expected))
 }
 
-// The fault of an enum in a node whose tag named a variant of the enum with this name.
-fn nested(alloc: Global, name: &str, tag: &str) -> std::result::Result<Cause, AllocError>
-    ensures { IfOk result (λ cause. cause ≡ NestedEnum name.now tag.now None) }
+// The refusal of an enum in a node whose tag named a variant of the enum with this name.
+fn nested(alloc: Global, name: &str, tag: &str) -> std::result::Result<Refusal, AllocError>
+    ensures { IfOk result (λ refusal. IsRefusedBy refusal (at_node (nested_enum name.now tag.now) None)) }
 {
-    Ok(Cause::NestedEnum {
+    let fault = Cause::NestedEnum {
         name: words(alloc, name)?,
         tag: words(alloc, tag)?,
         place: None,
-    })
+    };
+    Ok(refuse(alloc, Error::new(fault)))
 }
 
 /// The fault of an enum in a node whose tag named a variant of the enum with this name, or want of memory.
 pub fn nested_enum(alloc: Global, name: &str, tag: &str) -> Refusal
-    ensures { is_memory result ≡ false → result ≡ NestedEnum name.now tag.now None }
+    ensures { IsRefusedBy result (at_node (nested_enum name.now tag.now) None) }
 {
-    refusal_of(alloc, nested(alloc, name, tag))
+    refusal_of(nested(alloc, name, tag))
 }
 
 // The variant in a place, named without a content.
 fn bare_variant<'de>(alloc: Global, place: usize, content: &VariantShape) -> Result<Data<'de>>
-    ensures { Gives data_of result (bare_variant place (content_of content.now)) }
+    ensures { Yields data_of result (bare_variant place (content_of content.now)) }
 {
     match content {
         VariantShape::Unit => Ok(Data::Variant(place, Box::new(alloc, Data::Unit)?)),
@@ -132,7 +138,7 @@ fn named_variant<'de>(
     variants: &[(String, VariantShape)],
     name: &str,
 ) -> Result<Data<'de>>
-    ensures { Gives data_of result (named_variant (variants_of variants.now) name.now) }
+    ensures { Yields data_of result (named_variant (variants_of variants.now) name.now) }
 {
     match variant_named(variants, name) {
         Some((place, content)) => bare_variant(alloc, place, content),
@@ -146,11 +152,11 @@ pub(crate) fn read_variant_name<'de>(
     variants: &[(String, VariantShape)],
     scalar: &DocScalar<'_>,
 ) -> Result<Data<'de>>
-    ensures { Gives data_of result (option_map_or (named_variant (variants_of variants.now))
+    ensures { Yields data_of result (option_map_or (named_variant (variants_of variants.now))
         (text_of (doc_scalar_of scalar.now)) (Err (wrong_type Bytes (codes "variant identifier")))) }
 {
     match text_of(scalar) {
         Some(text) => named_variant(alloc, variants, text),
-        None => Err(refusal_of(alloc, wrong_type(alloc, Found::Bytes, "variant identifier"))),
+        None => Err(refusal_of(wrong_type(alloc, Found::Bytes, "variant identifier"))),
     }
 }

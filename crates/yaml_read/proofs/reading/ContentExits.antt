@@ -3,7 +3,6 @@ use Rattle.std.proofs.Common.{◌≡◌, ℕ, ◌-◌, ◌<◌, Bool, true, fals
 use Rattle.std.proofs.Common.{ap, ◌∙◌, length}
 use Rattle.std.specs.Option.{is_some}
 use Rattle.yaml_base.specs.Position.{Position}
-use Rattle.yaml_base.specs.declared.error.Cause.{Cause}
 use Rattle.yaml_shape.specs.DataView.{items_of, entries_of}
 use Rattle.yaml_shape.specs.PlainData.{any_data, variant_data}
 use Rattle.yaml_shape.specs.PlainShape.{PlainShape, any_shape, fields_shape, enum_shape, Owner, content_shape}
@@ -14,6 +13,7 @@ use Rattle.yaml_load.specs.PlainDocEvent.{mapping_begins, mapping_ends}
 use Rattle.yaml_load.specs.DocEventView.{doc_event_of}
 use Rattle.yaml_load.specs.declared.doc_event.DocEvent.{DocEvent}
 use Rattle.yaml_load.specs.declared.doc_event.DocStart.{DocStart}
+use Rattle.yaml_scalar.specs.ReadFault.{PlainRefusal}
 use Rattle.yaml_scalar.specs.Steps.{ending, wrap, with_shape}
 use Rattle.yaml_scalar.specs.Variants.{Variants, variant_named}
 use Rattle.yaml_read.specs.AnyData.{tree_in, trees_in, pairs_in}
@@ -35,7 +35,7 @@ use Rattle.yaml_read.proofs.reading.Exits.{step_event, step_handed}
 use Rattle.yaml_read.proofs.reading.ValueExits.{variant_handed, enum_as_is, taken_as_is, any_as_is, any_tagged}
 
 -- what is made of an answer under a shape that was looked up
-with_wrap : {A B C : Type 0} (f : A → B) (o : Option PlainShape) (go : PlainShape → Result (A × C) Cause)
+with_wrap : {A B C : Type 0} (f : A → B) (o : Option PlainShape) (go : PlainShape → Result (A × C) PlainRefusal)
     → with_shape o (λ t. wrap f (go t)) ≡ wrap f (with_shape o go)
 with_wrap f None go = refl
 with_wrap f (Some t) go = refl
@@ -141,14 +141,14 @@ module _ (code : CodeSource) (fuel : ℕ) (q : Question) (walk : Walk) where
       (length code.events.now) [] (after (spot_of walk)))) q.nest some)
 
 -- what is made of what was made of an answer
-pub wrap_onto_finds : {A B C D : Type 0} (f : A → B) (g : B → D) (r : Result (A × C) Cause) (v : B) (c : C)
-    → ◌≡◌ {A = Result (B × C) Cause} (wrap f r) (Ok (v, c))
-    → ◌≡◌ {A = Result (D × C) Cause} (wrap (λ x. g (f x)) r) (Ok (g v, c))
+pub wrap_onto_finds : {A B C D : Type 0} (f : A → B) (g : B → D) (r : Result (A × C) PlainRefusal) (v : B) (c : C)
+    → ◌≡◌ {A = Result (B × C) PlainRefusal} (wrap f r) (Ok (v, c))
+    → ◌≡◌ {A = Result (D × C) PlainRefusal} (wrap (λ x. g (f x)) r) (Ok (g v, c))
 wrap_onto_finds f g (Ok x) v c h = ap (wrap g) h
 wrap_onto_finds f g (Err y) v c h = absurd cc
 
-pub wrap_onto_fails : {A B C D : Type 0} (f : A → B) (g : B → D) (r : Result (A × C) Cause) (x : Cause)
-    → ◌≡◌ {A = Result (B × C) Cause} (wrap f r) (Err x)
-    → ◌≡◌ {A = Result (D × C) Cause} (wrap (λ x. g (f x)) r) (Err x)
+pub wrap_onto_fails : {A B C D : Type 0} (f : A → B) (g : B → D) (r : Result (A × C) PlainRefusal) (x : PlainRefusal)
+    → ◌≡◌ {A = Result (B × C) PlainRefusal} (wrap f r) (Err x)
+    → ◌≡◌ {A = Result (D × C) PlainRefusal} (wrap (λ x. g (f x)) r) (Err x)
 wrap_onto_fails f g (Ok y) x h = absurd cc
 wrap_onto_fails f g (Err y) x h = ap (wrap g) h

@@ -2,10 +2,7 @@
 use Rattle.std.proofs.Common.{◌≡◌, ℕ, ◌-◌, ◌<◌, Bool, true, false, List, [], Some, None, Option, Result, Ok, Err, refl}
 use Rattle.std.proofs.Common.{ap, ◌∙◌, rules, length}
 use Rattle.std.specs.Option.{is_some}
-use Rattle.yaml_base.specs.Answer.{Gives}
 use Rattle.yaml_base.specs.Position.{Position}
-use Rattle.yaml_base.specs.declared.error.Cause.{Cause}
-use Rattle.yaml_base.specs.declared.error.Cause.TheVariants.{EndOfStream}
 use Rattle.yaml_shape.specs.DataView.{data_of, entry_of, items_of, entries_of}
 use Rattle.yaml_shape.specs.PlainData.{PlainData, seq_data, map_data, some_data, newtype_data}
 use Rattle.yaml_shape.specs.PlainShape.{PlainShape, option_shape, newtype_shape, seq_shape, row_shape, map_shape, Owner}
@@ -14,7 +11,9 @@ use Rattle.yaml_shape.specs.declared.data.Entry.{Entry, the_lemmas}
 use Rattle.yaml_load.specs.DocEventView.{doc_event_of}
 use Rattle.yaml_load.specs.PlainDocEvent.{PlainDocEvent, sequence_begins, mapping_begins}
 use Rattle.yaml_load.specs.declared.doc_event.DocEvent.{DocEvent}
-use Rattle.yaml_scalar.specs.Steps.{ending, wrap, finish, with_shape}
+use Rattle.yaml_scalar.specs.ReadFault.{ReadFault, PlainRefusal, refused, end_of_stream}
+use Rattle.yaml_scalar.specs.ReadingGives.{GivesReading, Yields}
+use Rattle.yaml_scalar.specs.Steps.{with_end, ending, wrap, finish, with_shape}
 use Rattle.yaml_read.specs.Handing.{Handing, as_is, handed, early, is_content}
 use Rattle.yaml_read.specs.Rows.{row_of, row_data}
 use Rattle.yaml_read.specs.TreeReader.{Spot, after}
@@ -32,11 +31,11 @@ pub same_spot : (a b : Spot) → a.place ≡ b.place → a.left ≡ b.left → a
 same_spot a b p l = λ i. record { place = p i; left = l i }
 
 -- what is given, with where it ended
-pub gives_ending_at : {X : Type 0} (view : X → PlainData) (p q : Spot) (result : Result X Cause)
-    (r : Result PlainData Cause) → p ≡ q → Gives view result r
-    → Gives {X = X} {Y = PlainData × Spot} (λ x. (view x, p)) result (ending q r)
+pub gives_ending_at : {X : Type 0} (view : X → PlainData) (p q : Spot) (result : Result X PlainRefusal)
+    (r : Result PlainData ReadFault) → p ≡ q → Yields view result r
+    → GivesReading {X = X} {Y = PlainData × Spot} (λ x. (view x, p)) result (ending q r)
 gives_ending_at view p q (Ok x) r e g = rw (g, e)
-gives_ending_at view p q (Err y) r e g = λ m. ap (ending q) (g m)
+gives_ending_at view p q (Err y) r e g = λ m. ap (with_end q) (g m)
 
 pub not_sequence_end : (e : DocEvent) → (e ≡ event.SequenceEnd → ⊥) → is_sequence_end (doc_event_of e) ≡ false
 not_sequence_end (event.Alias j) h = refl
@@ -71,7 +70,7 @@ module _ (code : CodeSource) (fuel : ℕ) (q : Question) (walk : Walk) where
   step_late h = rw h
 
   -- the events end
-  pub step_ended : seen code.events.now walk.place ≡ None → by_shape code fuel q walk ≡ Err EndOfStream
+  pub step_ended : seen code.events.now walk.place ≡ None → by_shape code fuel q walk ≡ Err (refused end_of_stream)
   step_ended h = rw h
 
   -- a node is read as it is handed on
@@ -152,19 +151,19 @@ module _ (code : CodeSource) (fuel : ℕ) (q : Question) (walk : Walk) where
       (length code.events.now) []
       (after (spot_of walk)))))) q.nest some ∙ (rw (there, there')))
 
-pub finish_fails : {S A C : Type 0} (f : S → Result A Cause) (r : Result (S × C) Cause) (x : Cause) → r ≡ Err x
-    → ◌≡◌ {A = Result (A × C) Cause} (finish f r) (Err x)
+pub finish_fails : {S A C : Type 0} (f : S → Result A ReadFault) (r : Result (S × C) PlainRefusal) (x : PlainRefusal)
+    → r ≡ Err x → ◌≡◌ {A = Result (A × C) PlainRefusal} (finish f r) (Err x)
 finish_fails f r x h = rw h
 
-pub gives_finish : {X S : Type 0} (view : X → PlainData) (f : S → Result PlainData Cause) (result : Result X Cause)
-    (r : Result (S × Spot) Cause) (s : S) (p : Spot) → r ≡ Ok (s, p)
-    → Gives view result (f s) → Gives {X = X} {Y = PlainData × Spot} (λ x. (view x, p)) result (finish f r)
+pub gives_finish : {X S : Type 0} (view : X → PlainData) (f : S → Result PlainData ReadFault) (result : Result X PlainRefusal)
+    (r : Result (S × Spot) PlainRefusal) (s : S) (p : Spot) → r ≡ Ok (s, p)
+    → Yields view result (f s) → GivesReading {X = X} {Y = PlainData × Spot} (λ x. (view x, p)) result (finish f r)
 gives_finish view f (Ok x) r s p e g = rw (e, g)
 gives_finish view f (Err y) r s p e g = λ m. rw (e, g m)
 
 -- what is made of what is given
-pub gives_wrapped : {X A B C : Type 0} (view : X → A × C) (f : A → B) (result : Result X Cause)
-    (r : Result (A × C) Cause) → Gives view result r
-    → Gives {X = X} {Y = B × C} (λ x. (f (view x).0, (view x).1)) result (wrap f r)
+pub gives_wrapped : {X A B C : Type 0} (view : X → A × C) (f : A → B) (result : Result X PlainRefusal)
+    (r : Result (A × C) PlainRefusal) → GivesReading view result r
+    → GivesReading {X = X} {Y = B × C} (λ x. (f (view x).0, (view x).1)) result (wrap f r)
 gives_wrapped view f (Ok x) r g = rw g refl
 gives_wrapped view f (Err y) r g = λ m. rw (g m) refl

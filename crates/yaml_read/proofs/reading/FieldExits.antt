@@ -3,13 +3,13 @@ use Rattle.std.proofs.Common.{◌≡◌, ℕ, ◌-◌, ◌<◌, Bool, false, Lis
 use Rattle.std.proofs.Common.{length}
 use Rattle.std.specs.Prelude.{set}
 use Rattle.std.specs.Option.{is_some}
-use Rattle.yaml_base.specs.Answer.{Gives}
 use Rattle.yaml_base.specs.Position.{Position}
-use Rattle.yaml_base.specs.declared.error.Cause.{Cause}
 use Rattle.yaml_shape.specs.PlainData.{PlainData}
 use Rattle.yaml_shape.specs.PlainShape.{PlainShape, identifier_shape, fields_shape, shape_at}
 use Rattle.yaml_load.specs.PlainDocEvent.{PlainDocEvent, mapping_begins}
-use Rattle.yaml_scalar.specs.Steps.{◌>>=◌, wrap, finish}
+use Rattle.yaml_scalar.specs.ReadFault.{ReadFault, PlainRefusal}
+use Rattle.yaml_scalar.specs.ReadingGives.{GivesReading, Yields, lift}
+use Rattle.yaml_scalar.specs.Steps.{◌>>=◌, ending, wrap, finish}
 use Rattle.yaml_read.specs.Fields.{Fields, Slots, no_slots, name_in, field_named, struct_of}
 use Rattle.yaml_read.specs.Handing.{as_is, handed, is_bare}
 use Rattle.yaml_read.specs.Places.{Way, place}
@@ -57,14 +57,13 @@ step_struct code fuel q walk strict fields tag m o is some =
     (no_slots fields) (after (spot_of walk)))) q.nest some
 
 -- what a name is looked up as, with the way to the value, and where the reading ended
-abbrev pub keyed : Way → Spot → Result (Option (ℕ × ℕ)) Cause → Reading (Option (ℕ × ℕ) × Way)
-keyed w q (Ok f) = Ok ((f, w), q)
-keyed w q (Err y) = Err y
+abbrev pub keyed : Way → Spot → Result (Option (ℕ × ℕ)) ReadFault → Reading (Option (ℕ × ℕ) × Way)
+keyed w q r = lift r >>= λ f. Ok ((f, w), q)
 
 -- the key of a field, and then its value
 module _ (source : Source) (read : Way → Reader) (way : Way) (strict : Bool) (fields : Fields) (nest : ℕ)
     (slots : Slots) (at : Spot) where
-  pub no_name : (x : Cause) → field_key_at source read way strict fields nest slots at ≡ Err x
+  pub no_name : (x : PlainRefusal) → field_key_at source read way strict fields nest slots at ≡ Err x
       → field_at source read way strict fields nest slots at ≡ Err x
   no_name x h = rw h refl
 
@@ -90,20 +89,18 @@ module _ (source : Source) (read : Way → Reader) (way : Way) (strict : Bool) (
   key_looked_up k middle mark h m =
       rw (h, m) (over (value_way way (source.events at.place)) (field_named strict fields slots (name_in k) _))
     where
-      over : (w : Way) (r : Result (Option (ℕ × ℕ)) Cause)
-          → (◌>>=◌ {A = Option (ℕ × ℕ) × Way} {B = (Option (ℕ × ℕ) × Way) × Spot}
-          (◌>>=◌ {A = Option (ℕ × ℕ)} {B = Option (ℕ × ℕ) × Way} r (λ f. Ok (f, w))) (λ v. Ok (v, middle)))
-          ≡ keyed w middle r
+      over : (w : Way) (r : Result (Option (ℕ × ℕ)) ReadFault)
+          → ending {A = Option (ℕ × ℕ) × Way} middle (r >>= λ f. Ok (f, w)) ≡ keyed w middle r
       over w (Ok f) = refl
       over w (Err y) = refl
 
-  pub key_fails : (x : Cause) → read way identifier_shape nest None at ≡ Err x
+  pub key_fails : (x : PlainRefusal) → read way identifier_shape nest None at ≡ Err x
       → field_key_at source read way strict fields nest slots at ≡ Err x
   key_fails x h = rw h refl
 
 -- what the name that was looked up gives, with where it ended
-pub gives_key : {X : Type 0} (view : X → Option (ℕ × ℕ)) (w : Way) (p q : Spot) (result : Result X Cause)
-    (r : Result (Option (ℕ × ℕ)) Cause) → p ≡ q → Gives view result r
-    → Gives {X = X} {Y = (Option (ℕ × ℕ) × Way) × Spot} (λ x. ((view x, w), p)) result (keyed w q r)
+pub gives_key : {X : Type 0} (view : X → Option (ℕ × ℕ)) (w : Way) (p q : Spot) (result : Result X PlainRefusal)
+    (r : Result (Option (ℕ × ℕ)) ReadFault) → p ≡ q → Yields view result r
+    → GivesReading {X = X} {Y = (Option (ℕ × ℕ) × Way) × Spot} (λ x. ((view x, w), p)) result (keyed w q r)
 gives_key view w p q (Ok x) r e g = rw (g, e) refl
 gives_key view w p q (Err y) r e g = λ m. rw (g m) refl

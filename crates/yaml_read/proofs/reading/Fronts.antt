@@ -6,14 +6,13 @@ use Rattle.std.specs.Prelude.{◌≢◌, slice_get}
 use Rattle.std.proofs.lemmas.List.{length-map}
 use Rattle.std.proofs.lemmas.Option.{slice_get_within}
 use Rattle.yaml_base.specs.Position.{Position}
-use Rattle.yaml_base.specs.declared.error.Cause.{Cause}
-use Rattle.yaml_base.specs.declared.error.Cause.TheVariants.{Memory, EndOfStream}
 use Rattle.yaml_shape.specs.PlainData.{PlainData}
 use Rattle.yaml_shape.specs.PlainShape.{PlainShape}
 use Rattle.yaml_load.specs.DocTree.{DocNode, events_of}
 use Rattle.yaml_load.specs.Ends.{ends_of, ends_from, end_place, inner_after, is_opening, is_closing}
 use Rattle.yaml_load.specs.PlainDocEvent.{PlainDocEvent}
 use Rattle.yaml_load.specs.PlainDocument.{PlainDocument}
+use Rattle.yaml_scalar.specs.ReadFault.{PlainRefusal, out_of_memory, refused, end_of_stream, cause_of}
 use Rattle.yaml_read.specs.Places.{root_way}
 use Rattle.yaml_read.specs.Reads.{IsTreeOf, GoesOn}
 use Rattle.yaml_read.specs.TreeReader.{PlainLimits, marks_of, whole_fuel, read_tree, answer_within}
@@ -23,7 +22,7 @@ use Rattle.yaml_read.proofs.reading.Growing.{Grows, alike, ended, wanted}
 use Rattle.yaml_read.proofs.reading.GrowingReadings.{grows_node}
 use Rattle.yaml_read.proofs.reading.Shown.{Shows}
 use Rattle.yaml_read.proofs.reading.TreeLaws.{reader_tied}
-use Rattle.yaml_read.proofs.reading.WholeReadings.{whole_source, whole_reading, landed_err, shows_list}
+use Rattle.yaml_read.proofs.reading.WholeReadings.{whole_source, whole_reading, err_is, landed_err, shows_list}
 
 -- an element of a list stands in each list that begins with it
 stands_on : {A : Type 0} (xs ys : List A) (p : ℕ) (x : A) → slice_get xs p ≡ Some x → slice_get (xs ++ ys) p ≡ Some x
@@ -64,14 +63,11 @@ map_on : {A B : Type 0} (f : A → B) (xs ys : List A) → map f (xs ++ ys) ≡ 
 map_on f [] ys = refl
 map_on f (x ∷ xs) ys = ap (λ zs. f x ∷ zs) (map_on f xs ys)
 
-same_err : {A : Type 0} (x y : Cause) → ◌≡◌ {A = Result A Cause} (Err x) (Err y) → x ≡ y
-same_err x y h = cc
-
-stays : {A : Type 0} (r q : Result A Cause) (y : Cause) → Grows r q → r ≡ Err y → y ≢ EndOfStream → y ≢ Memory
-    → q ≡ Err y
+stays : {A : Type 0} (r q : Result A PlainRefusal) (y : PlainRefusal) → Grows r q → r ≡ Err y
+    → y ≢ refused end_of_stream → y ≢ out_of_memory → q ≡ Err y
 stays _ q y (alike r) h end memory = h
-stays _ q y (ended r) h end memory = absurd (end (sym (same_err EndOfStream y h)))
-stays _ q y (wanted r) h end memory = absurd (memory (sym (same_err Memory y h)))
+stays _ q y (ended r) h end memory = absurd (end (sym (err_is _ _ h)))
+stays _ q y (wanted r) h end memory = absurd (memory (sym (err_is _ _ h)))
 
 module _ (limits : PlainLimits) (table : List PlainShape) (s : PlainShape) (document whole : PlainDocument)
     (root : DocNode) (is : IsTreeOf whole root) (on : GoesOn document whole) where
@@ -100,8 +96,8 @@ module _ (limits : PlainLimits) (table : List PlainShape) (s : PlainShape) (docu
       (record { place = 0; left = limits.follows * length document.events })
 
   -- it answers what reading the tree answers
-  tied_on : (y : Cause) → full_reading ≡ Err y
-      → answer_within limits.nesting (limits.follows * length document.events) table s whole root ≡ Err y
+  tied_on : (y : PlainRefusal) → full_reading ≡ Err y
+      → answer_within limits.nesting (limits.follows * length document.events) table s whole root ≡ Err (cause_of y)
   tied_on y h =
       landed_err (0 + length (events_of root))
       (read_tree table (whole_fuel limits (length document.events)) root (marks_of whole.events) root_way s
@@ -110,7 +106,8 @@ module _ (limits : PlainLimits) (table : List PlainShape) (s : PlainShape) (docu
       (marks_of whole.events) (λ p. refl) root seen is.known (whole_fuel limits (length document.events)) root_way s
       limits.nesting None root (record { place = 0; left = limits.follows * length document.events }) seen) ∙ h)
 
-  pub first_fault : (y : Cause) → whole_reading limits table document s ≡ Err y → y ≢ EndOfStream → y ≢ Memory
-      → answer_within limits.nesting (limits.follows * length document.events) table s whole root ≡ Err y
+  pub first_fault : (y : PlainRefusal) → whole_reading limits table document s ≡ Err y → y ≢ refused end_of_stream
+      → y ≢ out_of_memory
+      → answer_within limits.nesting (limits.follows * length document.events) table s whole root ≡ Err (cause_of y)
   first_fault y h end memory =
       tied_on y (stays (whole_reading limits table document s) full_reading y grown h end memory)

@@ -5,7 +5,6 @@ use Rattle.std.specs.Prelude.{if◌then◌else◌, nat_lt}
 use Rattle.std.specs.Option.{is_some}
 use Rattle.std.proofs.lemmas.Bool.{lt-ltb, ltb-true}
 use Rattle.yaml_base.specs.Position.{Position}
-use Rattle.yaml_base.specs.declared.error.Cause.TheVariants.{BytesUnsupported, EndOfStream}
 use Rattle.yaml_shape.specs.DataView.{items_of, entries_of}
 use Rattle.yaml_shape.specs.PlainData.{PlainData, any_data, seq_data, map_data, some_data, newtype_data, variant_data}
 use Rattle.yaml_shape.specs.PlainData.{ignored_data}
@@ -16,6 +15,7 @@ use Rattle.yaml_tree.specs.Tree as tree
 use Rattle.yaml_load.specs.Ends.{is_closing}
 use Rattle.yaml_load.specs.PlainDocEvent.{PlainDocEvent, alias_to, a_scalar, a_void}
 use Rattle.yaml_load.specs.PlainDocEvent.{sequence_begins, sequence_ends, mapping_begins, mapping_ends}
+use Rattle.yaml_scalar.specs.ReadFault.{refused, bytes_unsupported, end_of_stream}
 use Rattle.yaml_scalar.specs.Steps.{◌>>=◌, unless}
 use Rattle.yaml_read.specs.AnyData.{tree_in, trees_in, pairs_in}
 use Rattle.yaml_read.specs.Fields.{Fields, Slots, no_slots, struct_of}
@@ -77,7 +77,7 @@ module _ (table : List PlainShape) (events all : Events) (ends all_ends : ℕ �
   grows_skip_to p left (Some end) is = by_size (nat_lt end size) refl
     where
       by_size : (b : Bool) → nat_lt end size ≡ b
-          → Grows (if b then Ok (ignored_data, record { place = end + 1; left = left }) else Err EndOfStream)
+          → Grows (if b then Ok (ignored_data, record { place = end + 1; left = left }) else Err (refused end_of_stream))
           (skip_to full (all_ends p) left)
       by_size false past = ended _
       by_size true within =
@@ -90,7 +90,7 @@ module _ (table : List PlainShape) (events all : Events) (ends all_ends : ℕ �
       by_event : (o : Option (PlainDocEvent × Position)) → events at.place ≡ o
           → Grows (skip_event front at o) (skip_event full at (all at.place))
       by_event None is = ended _
-      by_event (Some e) is = rw (more at.place e is) (grows_if (is_closing e.0) _ _ _ _ (alike (Err EndOfStream))
+      by_event (Some e) is = rw (more at.place e is) (grows_if (is_closing e.0) _ _ _ _ (alike (Err (refused end_of_stream)))
           (grows_skip_to at.place at.left (ends at.place) refl))
 
   -- ---- nodes, by readers of which one grows to the other
@@ -241,12 +241,12 @@ module _ (table : List PlainShape) (events all : Events) (ends all_ends : ℕ �
         (place_at way s (is_some taken) (all at.place) (node_step full other way s nest taken at))
     grows_step way s nest taken at = by_event (events at.place) refl
       where
-        by_bytes : (o : Option (PlainDocEvent × Position)) → Grows {A = PlainData × Spot} (Err BytesUnsupported)
-            (place_at way shape.bytes_shape (is_some taken) o (Err BytesUnsupported))
+        by_bytes : (o : Option (PlainDocEvent × Position)) → Grows {A = PlainData × Spot} (Err (refused bytes_unsupported))
+            (place_at way shape.bytes_shape (is_some taken) o (Err (refused bytes_unsupported)))
         by_bytes None = alike _
         by_bytes (Some e) = alike _
 
-        by_shape : (s : PlainShape) → Grows (unless (early s) (Err EndOfStream))
+        by_shape : (s : PlainShape) → Grows (unless (early s) (Err (refused end_of_stream)))
             (place_at way s (is_some taken) (all at.place) (node_step full other way s nest taken at))
         by_shape shape.bytes_shape = by_bytes (all at.place)
         by_shape _ = ended _

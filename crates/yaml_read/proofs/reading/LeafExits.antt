@@ -3,7 +3,6 @@ use Rattle.std.proofs.Common.{◌≡◌, ℕ, zero, suc, ◌+◌, ◌-◌, ◌<�
 use Rattle.std.proofs.Common.{Err, refl, sym, ap, ◌∙◌, arith}
 use Rattle.std.specs.Option.{is_some}
 use Rattle.yaml_base.specs.Position.{Position}
-use Rattle.yaml_base.specs.declared.error.Cause.{Cause}
 use Rattle.yaml_shape.specs.PlainData.{PlainData}
 use Rattle.yaml_shape.specs.PlainShape.{PlainShape, bool_shape, char_shape, integer_shape, str_shape, identifier_shape}
 use Rattle.yaml_shape.specs.PlainShape.{unit_shape, unit_struct_shape}
@@ -12,6 +11,7 @@ use Rattle.yaml_read.specs.Handing.{as_is, handed, early}
 use Rattle.yaml_read.specs.NodeTags.{TakenBy}
 use Rattle.yaml_read.specs.Places.{Way, place, placed, places}
 use Rattle.yaml_base.specs.PlainEvent.{PlainScalar}
+use Rattle.yaml_scalar.specs.ReadFault.{ReadFault, refused}
 use Rattle.yaml_scalar.specs.ScalarShapes.{scalar_answer, text_of, lent_text}
 use Rattle.yaml_scalar.specs.Steps.{ending}
 use Rattle.yaml_read.specs.TreeReader.{Spot, after, mark_or_first}
@@ -82,7 +82,7 @@ leaf_alias source way s nest at (suc fuel) left j w m n lt leaf some is there =
     added : (l : ℕ) → l + 1 - 1 ≡ l
     added l = omega arith
 
-    followed : (r : Result PlainData Cause)
+    followed : (r : Result PlainData ReadFault)
         → node_at source fuel way s nest None (record { place = j; left = left })
         ≡ place true n way (ending (record { place = j + 1; left = left }) r)
         → pursue (node_at source fuel way s nest None) j at.place at.left
@@ -91,7 +91,7 @@ leaf_alias source way s nest at (suc fuel) left j w m n lt leaf some is there =
         ∙ pursue_finds (node_at source fuel way s nest None) j at.place (left + 1) v
         (record { place = j + 1; left = left }) (omega arith) (rw (added left) h)
     followed (Err y) h = ap (pursue (node_at source fuel way s nest None) j at.place) (sym some)
-        ∙ pursue_fails (node_at source fuel way s nest None) j at.place (left + 1) (placed true n way y) (omega arith)
+        ∙ pursue_fails (node_at source fuel way s nest None) j at.place (left + 1) (placed true n way (refused y)) (omega arith)
         (rw (added left) h)
 
 -- a name that is a scalar

@@ -2,10 +2,9 @@
 use Rattle.std.proofs.Common.{◌≡◌, ℕ, zero, suc, ◌+◌, ◌-◌, ◌<◌, Bool, true, false, Some, None, Result, Ok, Err, ap, sym}
 use Rattle.std.proofs.Common.{◌∙◌, arith}
 use Rattle.yaml_base.specs.Position.{Position}
-use Rattle.yaml_base.specs.declared.error.Cause.{Cause}
-use Rattle.yaml_base.specs.declared.error.Cause.TheVariants.{EndOfStream, RecursionLimitExceeded}
 use Rattle.yaml_shape.specs.PlainData.{PlainData}
 use Rattle.yaml_load.specs.PlainDocEvent.{PlainDocEvent}
+use Rattle.yaml_scalar.specs.ReadFault.{PlainRefusal, refused, end_of_stream, recursion_limit_exceeded}
 use Rattle.yaml_scalar.specs.Steps.{◌>>=◌, wrap, enter}
 use Rattle.yaml_read.specs.TreeReader.{Spot, after}
 use Rattle.yaml_read.specs.inner.Reader.{Reading, Events, each_at, pursue}
@@ -13,7 +12,7 @@ use Rattle.yaml_read.specs.inner.Reader.{Reading, Events, each_at, pursue}
 module _ {S : Type 0} (is_end : PlainDocEvent → Bool) (step : S → Spot → Reading S) (events : Events) where
   -- the events end within the collection
   pub each_ended : (n : ℕ) (s : S) (at : Spot) → events at.place ≡ None → each_at is_end step events (suc n) s at
-      ≡ Err EndOfStream
+      ≡ Err (refused end_of_stream)
   unfolding each_at
   each_ended n s at e = rw e
 
@@ -32,7 +31,7 @@ module _ {S : Type 0} (is_end : PlainDocEvent → Bool) (step : S → Spot → R
   each_going n s at e is end = rw (is, end)
 
   -- it is refused
-  pub each_fails : (n : ℕ) (s : S) (at : Spot) (e : PlainDocEvent × Position) (x : Cause) → events at.place ≡ Some e
+  pub each_fails : (n : ℕ) (s : S) (at : Spot) (e : PlainDocEvent × Position) (x : PlainRefusal) → events at.place ≡ Some e
       → is_end e.0 ≡ false
       → step s at ≡ Err x → each_at is_end step events (suc n) s at ≡ Err x
   each_fails n s at e x is end r = each_going n s at e is end
@@ -66,10 +65,10 @@ module _ {S : Type 0} (is_end : PlainDocEvent → Bool) (step : S → Spot → R
   led_end turns e lt is end = led_on turns lt ∙ each_end is_end step events (turns - gone - 1) s' next e is end
 
   pub led_ended : (turns : ℕ) → gone < turns → events next.place ≡ None → each_at is_end step events turns s at
-      ≡ Err EndOfStream
+      ≡ Err (refused end_of_stream)
   led_ended turns lt is = led_on turns lt ∙ each_ended is_end step events (turns - gone - 1) s' next is
 
-  pub led_fails : (turns : ℕ) (e : PlainDocEvent × Position) (x : Cause) → gone < turns → events next.place ≡ Some e
+  pub led_fails : (turns : ℕ) (e : PlainDocEvent × Position) (x : PlainRefusal) → gone < turns → events next.place ≡ Some e
       → is_end e.0 ≡ false → step s' next ≡ Err x → each_at is_end step events turns s at ≡ Err x
   led_fails turns e x lt is end r =
       led_on turns lt ∙ each_fails is_end step events (turns - gone - 1) s' next e x is end r
@@ -83,18 +82,18 @@ module _ {S : Type 0} (is_end : PlainDocEvent → Bool) (step : S → Spot → R
       ap (λ (m : ℕ). each_at is_end step events m s at) split ∙ led (suc n)
       ∙ each_more is_end step events n s' t next there e is end r ∙ ap (λ u. each_at is_end step events n u there) same
 
-pub wrap_fails : {A B C : Type 0} (f : A → B) (r : Result (A × C) Cause) (x : Cause) → r ≡ Err x
-    → ◌≡◌ {A = Result (B × C) Cause} (wrap f r) (Err x)
+pub wrap_fails : {A B C : Type 0} (f : A → B) (r : Result (A × C) PlainRefusal) (x : PlainRefusal) → r ≡ Err x
+    → ◌≡◌ {A = Result (B × C) PlainRefusal} (wrap f r) (Err x)
 wrap_fails f r x h = rw h
 
-pub wrap_finds : {A B C : Type 0} (f : A → B) (r : Result (A × C) Cause) (v : A) (c : C) → r ≡ Ok (v, c)
-    → ◌≡◌ {A = Result (B × C) Cause} (wrap f r) (Ok (f v, c))
+pub wrap_finds : {A B C : Type 0} (f : A → B) (r : Result (A × C) PlainRefusal) (v : A) (c : C) → r ≡ Ok (v, c)
+    → ◌≡◌ {A = Result (B × C) PlainRefusal} (wrap f r) (Ok (f v, c))
 wrap_finds f r v c h = rw h
 
 pub enough : (n : ℕ) → suc n - 1 ≡ n
 enough n = omega arith
 
-pub pursue_fails : (read : Spot → Reading PlainData) (j p n : ℕ) (x : Cause) → 0 < n
+pub pursue_fails : (read : Spot → Reading PlainData) (j p n : ℕ) (x : PlainRefusal) → 0 < n
     → read (record { place = j; left = n - 1 }) ≡ Err x
     → pursue read j p n ≡ Err x
 pursue_fails read j p zero x lt h = absurd (omega arith)
@@ -106,10 +105,10 @@ pub pursue_finds : (read : Spot → Reading PlainData) (j p n : ℕ) (v : PlainD
 pursue_finds read j p zero v next lt h = absurd (omega arith)
 pursue_finds read j p (suc n) v next lt h = rw (rw (enough n) at h)
 
-module _ {A : Type 0} (mark : Position) (go : ℕ → Result A Cause) where
+module _ {A : Type 0} (mark : Position) (go : ℕ → Result A PlainRefusal) where
   pub entered : (nest : ℕ) → 0 < nest → enter nest mark go ≡ go (nest - 1)
   entered zero lt = absurd (omega arith)
   entered (suc n) lt = ap go (sym (enough n))
 
-  pub too_deep : (nest : ℕ) → nest ≡ 0 → enter nest mark go ≡ Err (RecursionLimitExceeded mark)
+  pub too_deep : (nest : ℕ) → nest ≡ 0 → enter nest mark go ≡ Err (refused (recursion_limit_exceeded mark))
   too_deep nest h = rw h

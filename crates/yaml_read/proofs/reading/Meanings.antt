@@ -1,13 +1,13 @@
 -- A tree means at most one thing.
 use Rattle.std.proofs.Common.{◌≡◌, ℕ, suc, ◌+◌, Bool, refl, ap, ap₂, Ok, Some, sym, ◌∙◌, Result}
 use Rattle.std.specs.Prelude.{max, set, List}
-use Rattle.yaml_base.specs.declared.error.Cause.{Cause}
 use Rattle.yaml_shape.specs.PlainData.{PlainData, PlainItems, PlainEntries, any_data, variant_data, ignored_data}
 use Rattle.yaml_shape.specs.PlainData.{seq_data, item, map_data, some_data, newtype_data, tuple_data}
 use Rattle.yaml_shape.specs.PlainShape.{PlainShape, ignored_shape}
 use Rattle.yaml_tree.specs.Tree.{sequence, tagged}
 use Rattle.yaml_tree.specs.Tree as tree
 use Rattle.yaml_load.specs.DocTree.{DocNode, DocNodes, DocPairs}
+use Rattle.yaml_scalar.specs.ReadFault.{ReadFault}
 use Rattle.yaml_read.specs.AnyData.{tree_in, trees_in, pairs_in}
 use Rattle.yaml_read.specs.Fields.{Fields, Slots, find, name_in, struct_of}
 use Rattle.yaml_read.specs.Handing.{Handing, as_ignored}
@@ -26,7 +26,7 @@ pub record Same {A : Type 0} (v v' : A) (d d' k k' : ℕ) : Type 0 where
   pub nestings : d ≡ d'
   pub follows : k ≡ k'
 
-ok_is : {x y : PlainData} → ◌≡◌ {A = Result PlainData Cause} (Ok x) (Ok y) → x ≡ y
+ok_is : {x y : PlainData} → ◌≡◌ {A = Result PlainData ReadFault} (Ok x) (Ok y) → x ≡ y
 ok_is h = cc
 
 module _ (table : List PlainShape) (root : DocNode) where

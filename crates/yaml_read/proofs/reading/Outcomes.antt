@@ -2,23 +2,21 @@
 use Rattle.std.proofs.Common.{◌≡◌, ℕ, zero, suc, ◌+◌, ◌-◌, ◌<◌, ◌≤◌, List, [], ◌∷◌, Option, Some, Ok, Err, Bool, true}
 use Rattle.std.proofs.Common.{false, refl, ap, ◌∙◌, arith, Result}
 use Rattle.std.specs.Prelude.{max}
-use Rattle.yaml_base.specs.CausePlace.{filled}
 use Rattle.yaml_base.specs.Position.{Position}
-use Rattle.yaml_base.specs.declared.error.Cause.{Cause}
-use Rattle.yaml_base.specs.declared.error.Cause.TheVariants.{RecursionLimitExceeded, RepetitionLimitExceeded}
 use Rattle.yaml_base.specs.declared.error.Place.{Place}
 use Rattle.yaml_shape.specs.DataView.{items_of, entries_of}
 use Rattle.yaml_shape.specs.PlainData.{PlainData, PlainItems, PlainEntries, no_items, item, no_entries, entry}
 use Rattle.yaml_shape.specs.PlainShape.{PlainShape}
+use Rattle.yaml_scalar.specs.ReadFault.{ReadFault, refused, recursion_limit_exceeded, repetition_limit_exceeded}
 use Rattle.yaml_scalar.specs.Steps.{◌>>=◌, wrap, enter, follow, finish, with_shape}
-use Rattle.yaml_read.specs.Places.{Way, placed, place}
+use Rattle.yaml_read.specs.Places.{Way, with_place, placed, place}
 use Rattle.yaml_read.specs.TreeReader.{Answer}
 
 -- It is the data, and a limit is passed where one has to be.
 pub data Outcome {A : Type 0} (r : Answer A) (v : A) (nest left d k : ℕ) : Type 0 where
   reads : d ≤ nest → k ≤ left → r ≡ Ok (v, left - k) → Outcome r v nest left d k
-  deep : (m : Position) → nest < d → r ≡ Err (RecursionLimitExceeded m) → Outcome r v nest left d k
-  many : left < k → r ≡ Err RepetitionLimitExceeded → Outcome r v nest left d k
+  deep : (m : Position) → nest < d → r ≡ Err (refused (recursion_limit_exceeded m)) → Outcome r v nest left d k
+  many : left < k → r ≡ Err (refused repetition_limit_exceeded) → Outcome r v nest left d k
 
 pub here : {A : Type 0} (v : A) (nest left : ℕ) (r : Answer A) → r ≡ Ok (v, left) → Outcome r v nest left 0 0
 here v nest left r e = reads (omega arith) (omega arith) (e ∙ ap (λ l. Ok (v, l)) (omega arith))
@@ -47,7 +45,7 @@ wrapped f r v nest left d k (reads a b e) = reads a b (rw e)
 wrapped f r v nest left d k (deep m a e) = deep m a (rw e)
 wrapped f r v nest left d k (many a e) = many a (rw e)
 
-pub finished : {S A : Type 0} (f : S → Result A Cause) (r : Answer S) (s : S) (v : A) (nest left d k : ℕ)
+pub finished : {S A : Type 0} (f : S → Result A ReadFault) (r : Answer S) (s : S) (v : A) (nest left d k : ℕ)
     → Outcome r s nest left d k → f s ≡ Ok v → Outcome (finish f r) v nest left d k
 finished f r s v nest left d k (reads a b e) h = reads a b (rw (e, h))
 finished f r s v nest left d k (deep m a e) h = deep m a (rw e)
@@ -57,18 +55,19 @@ pub looked_up : {A : Type 0} (o : Option PlainShape) (s : PlainShape) (go : Plai
     (nest left d k : ℕ) → o ≡ Some s → Outcome (go s) v nest left d k → Outcome (with_shape o go) v nest left d k
 looked_up o s go v nest left d k e h = rw e h
 
-kept : (here : Bool) (mark : Position) (way : Way) (y : Cause) → ((p : Place) → filled y p ≡ y) → placed here mark way y
-    ≡ y
-kept true mark way y h = h (record { mark = mark; path = way.text })
+-- a fault of a limit has no place
+kept : (here : Bool) (mark : Position) (way : Way) (y : ReadFault) → ((p : Place) → with_place y p ≡ y)
+    → placed here mark way (refused y) ≡ refused y
+kept true mark way y h = ap refused (h (record { mark = mark; path = way.text }))
 kept false mark way y h = refl
 
 pub placed_outcome : {A : Type 0} (here : Bool) (mark : Position) (way : Way) (r : Answer A) (v : A) (nest left d k : ℕ)
     → Outcome r v nest left d k → Outcome (place here mark way r) v nest left d k
 placed_outcome here mark way r v nest left d k (reads a b e) = reads a b (rw e)
 placed_outcome here mark way r v nest left d k (deep m a e) =
-    deep m a (rw e (ap Err (kept here mark way (RecursionLimitExceeded m) (λ p. refl))))
+    deep m a (rw e (ap Err (kept here mark way (recursion_limit_exceeded m) (λ p. refl))))
 placed_outcome here mark way r v nest left d k (many a e) =
-    many a (rw e (ap Err (kept here mark way RepetitionLimitExceeded (λ p. refl))))
+    many a (rw e (ap Err (kept here mark way repetition_limit_exceeded (λ p. refl))))
 
 -- one part, and then the rest
 pub bound : {A B : Type 0} (r : Answer A) (g : A × ℕ → Answer B) (v : A) (w : B) (nest left d d' k k' : ℕ)

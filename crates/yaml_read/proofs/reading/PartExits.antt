@@ -4,9 +4,9 @@ use Rattle.std.proofs.Common.{subst}
 use Rattle.std.specs.Prelude.{slice_get, drop, All}
 use Rattle.std.proofs.lemmas.List.Elements.{All-get_or}
 use Rattle.std.proofs.lemmas.Option.{get_or_from_slice_get, slice_get_within}
-use Rattle.yaml_base.specs.declared.error.Cause.{Cause}
 use Rattle.yaml_shape.specs.PlainData.{PlainData}
 use Rattle.yaml_shape.specs.PlainShape.{PlainShape}
+use Rattle.yaml_scalar.specs.ReadFault.{PlainRefusal}
 use Rattle.yaml_scalar.specs.Steps.{wrap}
 use Rattle.yaml_read.specs.Places.{Way}
 use Rattle.yaml_read.specs.Rows.{row_step}
@@ -15,10 +15,10 @@ use Rattle.yaml_read.specs.inner.Reader.{Source, Reader, value_way, entry_at}
 
 module _ (source : Source) (read : Way → Reader) (way : Way) (s t : PlainShape) (nest : ℕ)
     (vs : List (PlainData × PlainData)) (at : Spot) where
-  pub no_key : (x : Cause) → read way s nest None at ≡ Err x → entry_at source read way s t nest vs at ≡ Err x
+  pub no_key : (x : PlainRefusal) → read way s nest None at ≡ Err x → entry_at source read way s t nest vs at ≡ Err x
   no_key x h = rw h
 
-  pub no_value : (k : PlainData) (middle : Spot) (x : Cause) → read way s nest None at ≡ Ok (k, middle)
+  pub no_value : (k : PlainData) (middle : Spot) (x : PlainRefusal) → read way s nest None at ≡ Ok (k, middle)
       → read (value_way way (source.events at.place)) t nest None middle ≡ Err x
       → entry_at source read way s t nest vs at ≡ Err x
   no_value k middle x h h' = rw (h, h')
@@ -29,13 +29,13 @@ module _ (source : Source) (read : Way → Reader) (way : Way) (s t : PlainShape
   one_entry k v middle next h h' = rw (h, h')
 
 -- the step of a tuple that has no more elements, and of one that has
-pub row_skips : {C : Type 0} (vs : List PlainData) (extra : ℕ) (read : ℕ → Result (PlainData × C) Cause)
-    (skip : Result (PlainData × C) Cause) (ids : List ℕ) → ids ≡ []
+pub row_skips : {C : Type 0} (vs : List PlainData) (extra : ℕ) (read : ℕ → Result (PlainData × C) PlainRefusal)
+    (skip : Result (PlainData × C) PlainRefusal) (ids : List ℕ) → ids ≡ []
     → row_step ids vs extra read skip ≡ wrap (λ v. record { left = []; read = vs; extra = extra + 1 }) skip
 row_skips vs extra read skip ids e = rw e
 
-pub row_reads : {C : Type 0} (vs : List PlainData) (extra : ℕ) (read : ℕ → Result (PlainData × C) Cause)
-    (skip : Result (PlainData × C) Cause) (ids : List ℕ) (id : ℕ) (rest : List ℕ) → ids ≡ id ∷ rest
+pub row_reads : {C : Type 0} (vs : List PlainData) (extra : ℕ) (read : ℕ → Result (PlainData × C) PlainRefusal)
+    (skip : Result (PlainData × C) PlainRefusal) (ids : List ℕ) (id : ℕ) (rest : List ℕ) → ids ≡ id ∷ rest
     → row_step ids vs extra read skip ≡ wrap (λ v. record { left = rest; read = vs ++ v ∷ []; extra = extra }) (read id)
 row_reads vs extra read skip ids id rest e = rw e
 

@@ -1,15 +1,11 @@
 -- Placing a fault changes no answer, no place where a reading ends, and no fault of a limit.
 use Rattle.std.proofs.Common.{◌≡◌, ℕ, Bool, true, false, Result, Ok, Err, refl, sym, ap, ◌∙◌, Option, Some, None, zero}
 use Rattle.std.proofs.Common.{suc, ◌<◌, ◌-◌, arith}
-use Rattle.yaml_base.specs.Answer.{is_memory}
-use Rattle.yaml_base.specs.CausePlace.{filled}
 use Rattle.yaml_base.specs.Position.{Position}
-use Rattle.yaml_base.specs.declared.error.Cause.{Cause}
-use Rattle.yaml_base.specs.declared.error.Cause.TheVariants.{Memory}
-use Rattle.yaml_base.specs.declared.error.Place.{Place}
 use Rattle.yaml_shape.specs.PlainShape.{PlainShape}
 use Rattle.std.specs.Option.{is_some}
 use Rattle.yaml_load.specs.PlainDocEvent.{PlainDocEvent}
+use Rattle.yaml_scalar.specs.ReadFault.{PlainRefusal, out_of_memory, refused, ran_out}
 use Rattle.yaml_read.specs.NodeTags.{TakenBy}
 use Rattle.yaml_read.specs.Places.{Way, placed, place, places}
 use Rattle.yaml_read.specs.TreeReader.{Answer, Spot}
@@ -30,14 +26,15 @@ module _ (here : Bool) (mark : Position) (way : Way) where
   landed_place end q (Ok x) e = rw e
   landed_place end q (Err y) e = rw e
 
-  pub data_place : {A : Type 0} (Q : A → Type 0) (r : Result A Cause) → IfData Q r → IfData Q (place here mark way r)
+  pub data_place : {A : Type 0} (Q : A → Type 0) (r : Result A PlainRefusal) → IfData Q r → IfData Q (place here mark way r)
   data_place Q (Ok x) h y e = h y e
   data_place Q (Err z) h y e = absurd cc
 
 -- want of memory stays, and nothing else becomes it
-pub filled_memory : (y : Cause) (p : Place) → is_memory (filled y p) ≡ is_memory y
-filled_memory Memory p = refl
-filled_memory _ p = refl
+pub placed_memory : (here : Bool) (mark : Position) (way : Way) (y : PlainRefusal)
+    → ran_out (placed here mark way y) ≡ ran_out y
+placed_memory here mark way out_of_memory = refl
+placed_memory here mark way (refused fault) = refl
 
 -- a node's reading is its step, with its fault placed
 pub node_unfolds : (source : Source) (way : Way) (s : PlainShape) (nest : ℕ) (taken : Option TakenBy) (at : Spot)
@@ -50,33 +47,29 @@ node_unfolds source way s nest taken at (suc f) lt = rw (enough f)
 
 module _ (way : Way) (s : PlainShape) (taken : Bool) where
   pub place_ok : {A : Type 0} (e : Option (PlainDocEvent × Position)) (x : A)
-      → ◌≡◌ {A = Result A Cause} (place_at way s taken e (Ok x)) (Ok x)
+      → ◌≡◌ {A = Result A PlainRefusal} (place_at way s taken e (Ok x)) (Ok x)
   place_ok None x = refl
   place_ok (Some e) x = refl
 
   -- a fault is placed at the node's first event, where the call for the shape places it
-  pub place_here : {A : Type 0} (o : Option (PlainDocEvent × Position)) (e : PlainDocEvent) (m : Position) (y : Cause)
+  pub place_here : {A : Type 0} (o : Option (PlainDocEvent × Position)) (e : PlainDocEvent) (m : Position) (y : PlainRefusal)
       → o ≡ Some (e, m)
-      → places s taken e ≡ true → ◌≡◌ {A = Result A Cause} (place_at way s taken o (Err y)) (Err (placed true m way y))
+      → places s taken e ≡ true → ◌≡◌ {A = Result A PlainRefusal} (place_at way s taken o (Err y)) (Err (placed true m way y))
   place_here o e m y is p = rw (is, p)
 
-  err_is : {A : Type 0} {x y : Cause} → ◌≡◌ {A = Result A Cause} (Err x) (Err y) → x ≡ y
+  err_is : {A : Type 0} {x y : PlainRefusal} → ◌≡◌ {A = Result A PlainRefusal} (Err x) (Err y) → x ≡ y
   err_is h = cc
 
   -- a fault is placed alike, whatever the answer would have been, and it is want of memory as before
-  pub place_moved : {A B : Type 0} (e : Option (PlainDocEvent × Position)) (f y : Cause)
+  pub place_moved : {A B : Type 0} (e : Option (PlainDocEvent × Position)) (f y : PlainRefusal)
       → place_at {A = A} way s taken e (Err f) ≡ Err y → place_at {A = B} way s taken e (Err f) ≡ Err y
   place_moved None f y h = ap Err (err_is h)
   place_moved (Some e) f y h = ap Err (err_is h)
 
-  pub place_memory : {A : Type 0} (e : Option (PlainDocEvent × Position)) (f y : Cause)
-      → place_at {A = A} way s taken e (Err f) ≡ Err y → is_memory f ≡ is_memory y
-  place_memory None f y h = ap is_memory (err_is h)
-  place_memory (Some e) f y h = chosen (places s taken e.0) ∙ ap is_memory (err_is h)
-    where
-      chosen : (b : Bool) → is_memory f ≡ is_memory (placed b e.1 way f)
-      chosen true = sym (filled_memory f (record { mark = e.1; path = way.text }))
-      chosen false = refl
+  pub place_memory : {A : Type 0} (e : Option (PlainDocEvent × Position)) (f y : PlainRefusal)
+      → place_at {A = A} way s taken e (Err f) ≡ Err y → ran_out f ≡ ran_out y
+  place_memory None f y h = ap ran_out (err_is h)
+  place_memory (Some e) f y h = sym (placed_memory (places s taken e.0) e.1 way f) ∙ ap ran_out (err_is h)
 
 -- what the step of a node reads is what the node is read as
 pub node_read : (code : CodeSource) (q : Question) (walk : Walk) (fuel : ℕ) (x : PlainData × Spot) → 0 < fuel
@@ -87,10 +80,10 @@ node_read code q walk fuel x some h =
     ∙ place_ok q.way q.shape (is_some q.taken) (seen code.events.now walk.place) x
 
 -- and its fault is that of the node, once it is placed
-pub node_refused : (code : CodeSource) (q : Question) (walk : Walk) (fuel : ℕ) (f y : Cause) → 0 < fuel
-    → (is_memory f ≡ false → by_step code (fuel - 1) q walk ≡ Err f)
+pub node_refused : (code : CodeSource) (q : Question) (walk : Walk) (fuel : ℕ) (f y : PlainRefusal) → 0 < fuel
+    → (ran_out f ≡ false → by_step code (fuel - 1) q walk ≡ Err f)
     → place_at {A = Spot} q.way q.shape (is_some q.taken) (seen code.events.now walk.place) (Err f) ≡ Err y
-    → is_memory y ≡ false → by_node code fuel q walk ≡ Err y
+    → ran_out y ≡ false → by_node code fuel q walk ≡ Err y
 node_refused code q walk fuel f y some h told m =
     node_unfolds (source_of code) q.way q.shape q.nest q.taken (spot_of walk) fuel some
     ∙ ap (place_at q.way q.shape (is_some q.taken) (seen code.events.now walk.place))
@@ -98,9 +91,9 @@ node_refused code q walk fuel f y some h told m =
     ∙ place_moved q.way q.shape (is_some q.taken) (seen code.events.now walk.place) f y told
 
 pub node_refused_here : (code : CodeSource) (q : Question) (walk : Walk) (fuel : ℕ) (e : PlainDocEvent) (m : Position)
-    (f y : Cause) → 0 < fuel → seen code.events.now walk.place ≡ Some (e, m) → places q.shape (is_some q.taken) e ≡ true
-    → (is_memory f ≡ false → by_step code (fuel - 1) q walk ≡ Err f)
-    → (is_memory y ≡ false → y ≡ placed true m q.way f) → is_memory y ≡ false → by_node code fuel q walk ≡ Err y
+    (f y : PlainRefusal) → 0 < fuel → seen code.events.now walk.place ≡ Some (e, m) → places q.shape (is_some q.taken) e ≡ true
+    → (ran_out f ≡ false → by_step code (fuel - 1) q walk ≡ Err f)
+    → (ran_out y ≡ false → y ≡ placed true m q.way f) → ran_out y ≡ false → by_node code fuel q walk ≡ Err y
 node_refused_here code q walk fuel e m f y some is here h told known =
     node_refused code q walk fuel f y some h
     (place_here q.way q.shape (is_some q.taken) (seen code.events.now walk.place) e m f is here

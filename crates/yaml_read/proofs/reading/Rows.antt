@@ -3,17 +3,17 @@ use Rattle.std.proofs.Common.{◌≡◌, ℕ, zero, suc, ◌+◌, ◌<◌, ◌�
 use Rattle.std.proofs.Common.{Ok, Err, refl, arith, ◌==◌}
 use Rattle.std.specs.Prelude.{if◌then◌else◌, drop}
 use Rattle.std.proofs.lemmas.Bool.{eqb-true}
-use Rattle.yaml_base.specs.declared.error.Cause.{Cause}
-use Rattle.yaml_base.specs.declared.error.Cause.TheVariants.{InvalidLength}
 use Rattle.yaml_shape.specs.DataView.{items_of}
 use Rattle.yaml_shape.specs.Expected.{sequence_text, few_text}
 use Rattle.yaml_shape.specs.PlainData.{PlainData, tuple_data}
 use Rattle.yaml_shape.specs.PlainShape.{Owner}
+use Rattle.yaml_scalar.specs.ReadFault.{ReadFault}
+use Rattle.yaml_scalar.specs.ScalarFound.{wrong_length}
 use Rattle.yaml_read.specs.Rows.{row_end}
 
 -- too few
 pub row_short : (owner : Owner) (count : ℕ) (ids : List ℕ) (vs : List PlainData) (extra i : ℕ) → i < length ids
-    → row_end owner count (drop i ids) vs extra ≡ Err (InvalidLength (length vs) (few_text owner count) None)
+    → row_end owner count (drop i ids) vs extra ≡ Err (wrong_length (length vs) (few_text owner count))
 row_short owner count [] vs extra i lt = absurd (below_none i lt)
   where
     below_none : (i : ℕ) → i < 0 → ⊥
@@ -34,12 +34,12 @@ row_whole owner count ids vs extra e z = rw (e, z)
 
 -- too many
 pub row_long : (owner : Owner) (count : ℕ) (ids : List ℕ) (vs : List PlainData) (extra : ℕ) → ids ≡ [] → (extra ≡ 0 → ⊥)
-    → row_end owner count ids vs extra ≡ Err (InvalidLength (length vs + extra) (sequence_text count) None)
+    → row_end owner count ids vs extra ≡ Err (wrong_length (length vs + extra) (sequence_text count))
 row_long owner count ids vs extra e some = rw e (chosen (extra == 0) refl)
   where
     chosen : (b : Bool) → (extra == 0) ≡ b
-        → ◌≡◌ {A = Result PlainData Cause} (if b then Ok (tuple_data (items_of vs)) else Err
-        (InvalidLength (length vs + extra) (sequence_text count) None))
-        (Err (InvalidLength (length vs + extra) (sequence_text count) None))
+        → ◌≡◌ {A = Result PlainData ReadFault} (if b then Ok (tuple_data (items_of vs))
+        else Err (wrong_length (length vs + extra) (sequence_text count)))
+        (Err (wrong_length (length vs + extra) (sequence_text count)))
     chosen true z = absurd (some (eqb-true extra 0 z))
     chosen false z = refl

@@ -6,7 +6,6 @@ use Rattle.std.specs.Option.{is_some}
 use Rattle.std.proofs.lemmas.List.{length-map}
 use Rattle.std.proofs.lemmas.Option.{slice_get_within}
 use Rattle.yaml_base.specs.Position.{Position}
-use Rattle.yaml_base.specs.declared.error.Cause.{Cause}
 use Rattle.yaml_shape.specs.PlainData.{PlainData}
 use Rattle.yaml_shape.specs.PlainShape.{PlainShape, option_shape, shape_at}
 use Rattle.yaml_shape.specs.Walks.{rank}
@@ -15,14 +14,14 @@ use Rattle.yaml_load.specs.DocTree.{DocNode, events_of, node_of}
 use Rattle.yaml_load.specs.Ends.{ends_of}
 use Rattle.yaml_load.specs.PlainDocument.{PlainDocument}
 use Rattle.yaml_load.specs.declared.doc_event.DocEvent.{DocEvent}
-use Rattle.yaml_scalar.specs.Steps.{◌>>=◌}
+use Rattle.yaml_scalar.specs.ReadFault.{PlainRefusal, cause_of}
 use Rattle.yaml_read.specs.Handing.{depth, reach, nesting_depth, untaken_reach}
 use Rattle.yaml_read.specs.Meaning.{Means}
 use Rattle.yaml_read.specs.NodeTags.{TakenBy}
 use Rattle.yaml_read.specs.NodeReads.{ReadsNode, NodeGives, taker, node_answer}
 use Rattle.yaml_read.specs.Places.{Way}
 use Rattle.yaml_read.specs.Reads.{IsTreeOf}
-use Rattle.yaml_read.specs.TreeReader.{Spot, Answer, marks_of, read_tree}
+use Rattle.yaml_read.specs.TreeReader.{Spot, Answer, marks_of, read_tree, value_told}
 use Rattle.yaml_read.specs.declared.node_place.NodePlace.{NodePlace}
 use Rattle.yaml_read.specs.inner.Reader.{Reading, node_at}
 use Rattle.yaml_read.proofs.reading.Complete.{tree_outcome}
@@ -100,7 +99,7 @@ module _ (table : List PlainShape) (s : PlainShape) (document : PlainDocument) (
         → Ok v ≡ node_answer table s document way at root n
     value_is v next h = sym (landed_ok _ in_tree v next (sym tied ∙ h))
 
-    fault_is : (y : Cause) → node_reading ≡ Err y → Err y ≡ node_answer table s document way at root n
+    fault_is : (y : PlainRefusal) → node_reading ≡ Err y → Err (cause_of y) ≡ node_answer table s document way at root n
     fault_is y h = sym (landed_err _ in_tree y (sym tied ∙ h))
 
     read_is : (v : PlainData) (next : Spot) (new : NodePlace) → node_reading ≡ Ok (v, next)
@@ -129,7 +128,7 @@ module _ (table : List PlainShape) (s : PlainShape) (document : PlainDocument) (
     meant small falls low v d k m nested followed =
         elim (tree_outcome table root (marks_of document.events) small falls m way (fuel_at at) at.nestings
         (taker at.tag_taken) (spot_at at) (is_taken at.tag_taken) (omega (arith, low, reach_small at.tag_taken))) [
-          | reads a b e ↦ ap (λ (q : Answer PlainData). q >>= λ x. Ok x.0) e
+          | reads a b e ↦ ap value_told e
           | deep p a e ↦ absurd (omega (arith, nested))
           | many a e ↦ absurd (omega (arith, followed))
         ]
@@ -150,9 +149,9 @@ module _ (table : List PlainShape) (s : PlainShape) (document : PlainDocument) (
     }
 
     -- and so is a fault of a document that nothing cut off, or none of a tree
-    pub node_fault : (y : Cause) (new : NodePlace)
+    pub node_fault : (y : PlainRefusal) (new : NodePlace)
         → ((root : DocNode) → IsTreeOf document root → node_reading ≡ Err y)
-        → NodeGives table s document way at new (Err y)
+        → NodeGives table s document way at new (Err (cause_of y))
     node_fault y new h = record {
       found = λ root n w is there e. absurd cc;
       only = λ root n w d k is there m a b.

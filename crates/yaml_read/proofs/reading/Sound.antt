@@ -2,7 +2,6 @@
 use Rattle.std.proofs.Common.{◌≡◌, ℕ, zero, suc, List, [], Option, Some, None, Bool, true, refl, sym, subst, arith}
 use Rattle.std.specs.Option.{is_some}
 use Rattle.yaml_base.specs.Position.{Position}
-use Rattle.yaml_base.specs.declared.error.Cause.TheVariants.{Memory, EndOfStream}
 use Rattle.yaml_shape.specs.DataView.{entries_of}
 use Rattle.yaml_shape.specs.PlainData.{any_data, variant_data, map_data, some_data, newtype_data, ignored_data}
 use Rattle.yaml_shape.specs.PlainShape.{PlainShape, any_shape, map_shape, fields_shape, shape_at, content_shape}
@@ -10,6 +9,7 @@ use Rattle.yaml_tree.specs.Mapping.{keys_distinct}
 use Rattle.yaml_tree.specs.Tree.{tagged}
 use Rattle.yaml_tree.specs.Tree as tree_of
 use Rattle.yaml_load.specs.DocTree.{DocNode, DocPairs, nothing, reference, word, list, mapping, node_of, first_event}
+use Rattle.yaml_scalar.specs.ReadFault.{out_of_memory, refused, end_of_stream}
 use Rattle.yaml_scalar.specs.ScalarFound.{mapping_fault}
 use Rattle.yaml_scalar.specs.ScalarShapes.{scalar_answer, void_answer}
 use Rattle.yaml_scalar.specs.Steps.{unless}
@@ -71,12 +71,12 @@ module _ (table : List PlainShape) (root : DocNode) (marks : ℕ → Position) w
           nested = omega (arith, g.found.nested, nested);
           followed = g.found.followed;
         }))
-    mapping_sound s nest taken tag ps mark at = data_err _ (mapping_fault s)
+    mapping_sound s nest taken tag ps mark at = data_err _ (refused (mapping_fault s))
 
     target_sound : (s : PlainShape) (nest j left : ℕ) (taken : Bool) (o : Option DocNode) → node_of root j ≡ o
         → IfData (λ x. Found (MeansAs table root as_is s (reference j) taken x.0) nest (suc left) x.1)
         (target_of (read way) s nest o j left)
-    target_sound s nest j left taken None is = data_err _ EndOfStream
+    target_sound s nest j left taken None is = data_err _ (refused end_of_stream)
     target_sound s nest j left taken (Some n) is = λ x h.
         let f = sound way s nest None n (record { place = j; left = left }) x h in
         record {
@@ -155,7 +155,7 @@ module _ (table : List PlainShape) (root : DocNode) (marks : ℕ → Position) w
         data_wrap _ (λ v. any_data (tagged name (tree_in v))) (read way any_shape nest (Some around_value) n at) (λ x e.
         let f = sound way any_shape nest (Some around_value) n at x e in
         record { d = f.d; k = f.k; meaning = means_tagged f.meaning; nested = f.nested; followed = f.followed })
-    handed_sound as_refused s nest taken n at = data_err _ (refusal s taken (first_event n))
+    handed_sound as_refused s nest taken n at = data_err _ (refused (refusal s taken (first_event n)))
 
     step_sound : (s : PlainShape) (nest : ℕ) (taken : Option TakenBy) (n : DocNode) (at : Spot)
         → IfData (λ x. Found (Means table root s n (is_some taken) x.0) nest at.left x.1)
@@ -168,7 +168,7 @@ module _ (table : List PlainShape) (root : DocNode) (marks : ℕ → Position) w
   -- data is a meaning within the limits
   pub tree_sound : (fuel : ℕ) (way : Way) → IsSound table root (read_tree table fuel root marks way)
   unfolding read_tree
-  tree_sound zero way s nest taken n at = data_err _ Memory
+  tree_sound zero way s nest taken n at = data_err _ out_of_memory
   tree_sound (suc fuel) way s nest taken n at =
       data_place (places s (is_some taken) (first_event n)) (marks at.place) way _ _
       (step_sound (read_tree table fuel root marks) (tree_sound fuel) way s nest taken n at)

@@ -4,15 +4,14 @@ use Rattle.std.proofs.Common.{sym, ap, subst, ◌∙◌, arith, append_assoc, ap
 use Rattle.std.specs.Prelude.{max, if◌then◌else◌}
 use Rattle.std.proofs.lemmas.Bool.{eqb-true}
 use Rattle.yaml_base.specs.Position.{Position}
-use Rattle.yaml_base.specs.declared.error.Cause.{Cause}
-use Rattle.yaml_base.specs.declared.error.Cause.TheVariants.{InvalidLength}
 use Rattle.yaml_shape.specs.DataView.{items_of}
 use Rattle.yaml_shape.specs.Expected.{sequence_text}
 use Rattle.yaml_shape.specs.PlainData.{PlainData, any_data, seq_data, tuple_data}
 use Rattle.yaml_shape.specs.PlainShape.{PlainShape, any_shape, seq_shape, row_shape, Owner, shape_at}
 use Rattle.yaml_tree.specs.Tree.{sequence}
 use Rattle.yaml_load.specs.DocTree.{DocNode, DocNodes, list, no_nodes, node}
-use Rattle.yaml_scalar.specs.ScalarFound.{sequence_fault}
+use Rattle.yaml_scalar.specs.ReadFault.{ReadFault, refused}
+use Rattle.yaml_scalar.specs.ScalarFound.{sequence_fault, wrong_length}
 use Rattle.yaml_scalar.specs.Steps.{with_shape}
 use Rattle.yaml_read.specs.AnyData.{trees_in}
 use Rattle.yaml_read.specs.Handing.{as_is}
@@ -25,7 +24,7 @@ use Rattle.yaml_read.proofs.reading.Steps.{IfData, data_ok, data_err, data_then,
 use Rattle.yaml_read.proofs.reading.Steps.{data_finish}
 use Rattle.yaml_read.proofs.reading.SoundParts.{Found, Gathered, IsSound, nodes_sound}
 
-ok_is : {A : Type 0} {x y : A} → ◌≡◌ {A = Result A Cause} (Ok x) (Ok y) → x ≡ y
+ok_is : {A : Type 0} {x y : A} → ◌≡◌ {A = Result A ReadFault} (Ok x) (Ok y) → x ≡ y
 ok_is h = cc
 
 module _ (table : List PlainShape) (root : DocNode) (read : Way → TreeReader)
@@ -84,9 +83,9 @@ module _ (table : List PlainShape) (root : DocNode) (read : Way → TreeReader)
   row_ok owner count (id ∷ ids) vs extra v h = absurd cc
   row_ok owner count [] vs extra v h = chosen (extra == 0) refl h
     where
-      chosen : (b : Bool) → (extra == 0) ≡ b → ◌≡◌ {A = Result PlainData Cause}
-          (if b then Ok (tuple_data (items_of vs)) else Err
-          (InvalidLength (length vs + extra) (sequence_text count) None)) (Ok v)
+      chosen : (b : Bool) → (extra == 0) ≡ b → ◌≡◌ {A = Result PlainData ReadFault}
+          (if b then Ok (tuple_data (items_of vs))
+          else Err (wrong_length (length vs + extra) (sequence_text count))) (Ok v)
           → (◌≡◌ {A = List ℕ} [] []) × (extra ≡ 0) × (tuple_data (items_of vs) ≡ v)
       chosen true e h = (refl, eqb-true extra 0 e, ok_is h)
       chosen false e h = absurd cc
@@ -135,4 +134,4 @@ module _ (table : List PlainShape) (root : DocNode) (read : Way → TreeReader)
         nested = omega (arith, g.found.nested, nested);
         followed = g.found.followed;
       }))
-  sequence_sound s nest taken tag ns mark at = data_err _ (sequence_fault s)
+  sequence_sound s nest taken tag ns mark at = data_err _ (refused (sequence_fault s))

@@ -3,11 +3,11 @@ use Rattle.std.proofs.Common.{◌≡◌, ℕ, zero, suc, Option, Some, None, Ok,
 use Rattle.std.proofs.Common.{refl, Result, ◌+◌}
 use Rattle.std.specs.Option.{is_some}
 use Rattle.yaml_base.specs.Position.{Position}
-use Rattle.yaml_base.specs.declared.error.Cause.{Cause}
 use Rattle.yaml_shape.specs.PlainData.{PlainData}
 use Rattle.yaml_shape.specs.PlainShape.{PlainShape}
 use Rattle.yaml_shape.specs.PlainShape as shape
 use Rattle.yaml_load.specs.PlainDocEvent.{PlainDocEvent, alias_to}
+use Rattle.yaml_scalar.specs.ReadFault.{ReadFault, PlainRefusal}
 use Rattle.yaml_scalar.specs.Steps.{◌>>=◌, unless}
 use Rattle.yaml_read.specs.Handing.{early}
 use Rattle.yaml_read.specs.NodeTags.{TakenBy}
@@ -22,7 +22,7 @@ abbrev pub Stands : Option (PlainDocEvent × Position) → Type 0
 Stands o = (e : PlainDocEvent × Position) × (o ≡ Some e)
 
 unplaced : {A : Type 0} (way : Way) (s : PlainShape) (taken : Bool) (o : Option (PlainDocEvent × Position))
-    (r : Result A Cause) (x : A) → place_at way s taken o r ≡ Ok x → r ≡ Ok x
+    (r : Result A PlainRefusal) (x : A) → place_at way s taken o r ≡ Ok x → r ≡ Ok x
 unplaced way s taken None r x h = h
 unplaced way s taken (Some e) (Ok y) x h = h
 unplaced way s taken (Some e) (Err y) x h = absurd cc
@@ -37,7 +37,7 @@ module _ (source : Source) where
       by_event (source.events at.place) (early s)
       (unplaced way s (is_some taken) (source.events at.place) _ x h)
     where
-      by_event : (o : Option (PlainDocEvent × Position)) (first : Option Cause)
+      by_event : (o : Option (PlainDocEvent × Position)) (first : Option ReadFault)
           → unless first (shape_step source (node_at source fuel) way s nest taken at o) ≡ Ok x → Stands o
       by_event None None h = absurd cc
       by_event None (Some y) h = absurd cc

@@ -1,85 +1,83 @@
 -- What the steps of a reading of trees answer where its fuel is enough: data, with no more follows left than before, or
 -- a fault of reading, never want of memory.
-use Rattle.std.proofs.Common.{◌≡◌, ℕ, zero, suc, ◌≤◌, Option, Some, Result, Ok, Err, Bool, false, refl}
+use Rattle.std.proofs.Common.{◌≡◌, ℕ, zero, suc, ◌≤◌, Option, Some, None, Result, Ok, Err, Bool, refl}
 use Rattle.std.proofs.Common.{arith}
 use Rattle.yaml_base.specs.Position.{Position}
-use Rattle.yaml_base.specs.declared.error.Cause.{Cause}
 use Rattle.yaml_shape.specs.PlainShape.{PlainShape}
-use Rattle.yaml_shape.specs.PlainShape as shape
 use Rattle.yaml_load.specs.DocTree.{DocNode, DocNodes, DocPairs, no_nodes, node, no_pairs, pair}
+use Rattle.yaml_scalar.specs.ReadFault.{ReadFault, PlainRefusal, refused}
 use Rattle.yaml_scalar.specs.Steps.{◌>>=◌, ending, wrap, finish, enter, follow, with_shape, unless}
-use Rattle.yaml_read.specs.Handing.{early}
-use Rattle.yaml_read.specs.Places.{Way, placed, place}
+use Rattle.yaml_read.specs.Places.{Way, place}
 use Rattle.yaml_read.specs.TreeReader.{Spot, Answer, behind, each_node, each_pair}
-use Rattle.yaml_read.proofs.reading.OwnFaults.{OwnIf, own_value, own_fault, IsOwn, own_placed}
 
 -- the answer is a value of which this holds, with at most so many follows left, or a fault of reading
 pub data Ends {A : Type 0} (Q : A → Type 0) (left : ℕ) : Answer A → Type 0 where
   ends_value : (x : A) (l : ℕ) → l ≤ left → Q x → Ends Q left (Ok (x, l))
-  ends_fault : (e : Cause) → IsOwn false e → Ends Q left (Err e)
+  ends_fault : (fault : ReadFault) → Ends Q left (Err (refused fault))
 
 -- nothing is asked of the value
 abbrev pub Any : {A : Type 0} → A → Type 0
 Any x = Unit {0}
 
-pub ends_own : {A : Type 0} (Q : A → Type 0) (left : ℕ) (r : Answer A) → Ends Q left r → OwnIf false r
-ends_own Q left _ (ends_value x l h q) = own_value (x, l)
-ends_own Q left _ (ends_fault e h) = own_fault e h
+-- it is no want of memory
+pub ends_refused : {A : Type 0} (Q : A → Type 0) (left : ℕ) (r : Answer A) → Ends Q left r → (y : PlainRefusal)
+    → r ≡ Err y → (fault : ReadFault) × (refused fault ≡ y)
+ends_refused Q left _ (ends_value x l h q) y e = absurd cc
+ends_refused Q left _ (ends_fault fault) y e = (fault, cc)
 
 pub ends_fewer : {A : Type 0} (Q : A → Type 0) (less left : ℕ) (r : Answer A) → less ≤ left → Ends Q less r
     → Ends Q left r
 ends_fewer Q less left _ lt (ends_value x l h q) = ends_value x l (omega (arith, h, lt)) q
-ends_fewer Q less left _ lt (ends_fault e h) = ends_fault e h
+ends_fewer Q less left _ lt (ends_fault fault) = ends_fault fault
 
 pub ends_bind : {A B : Type 0} (P : A → Type 0) (Q : B → Type 0) (left : ℕ) (r : Answer A) (g : A × ℕ → Answer B)
     → Ends P left r → ((x : A) (l : ℕ) → l ≤ left → P x → Ends Q l (g (x, l))) → Ends Q left (r >>= g)
 ends_bind P Q left _ g (ends_value x l h p) k = ends_fewer Q l left (g (x, l)) h (k x l h p)
-ends_bind P Q left _ g (ends_fault e h) k = ends_fault e h
+ends_bind P Q left _ g (ends_fault fault) k = ends_fault fault
 
 pub ends_wrap : {A B : Type 0} (P : A → Type 0) (Q : B → Type 0) (left : ℕ) (f : A → B) (r : Answer A) → Ends P left r
     → ((x : A) → P x → Q (f x)) → Ends Q left (wrap f r)
 ends_wrap P Q left f r h q = ends_bind P Q left r (λ x. Ok (f x.0, x.1)) h
     (λ x l lt p. ends_value (f x) l (omega arith) (q x p))
 
--- a step that asks for no node
-pub ends_pure : {A : Type 0} (left : ℕ) (r : Result A Cause) → OwnIf false r → Ends Any left (ending left r)
-ends_pure left _ (own_value x) = ends_value x left (omega arith) tt
-ends_pure left _ (own_fault e h) = ends_fault e h
+-- what is made of what takes no memory
+ends_made : {A : Type 0} (Q : A → Type 0) (left : ℕ) (r : Result A ReadFault) → ((x : A) → r ≡ Ok x → Q x)
+    → Ends Q left (ending left r)
+ends_made Q left (Ok x) q = ends_value x left (omega arith) (q x refl)
+ends_made Q left (Err fault) q = ends_fault fault
 
-pub ends_finish : {S A : Type 0} (P : S → Type 0) (Q : A → Type 0) (left : ℕ) (f : S → Result A Cause) (r : Answer S)
-    → Ends P left r → ((s : S) → OwnIf false (f s)) → ((s : S) (x : A) → f s ≡ Ok x → Q x) → Ends Q left (finish f r)
-ends_finish {A} P Q left f r h g q = ends_bind P Q left r (λ x. f x.0 >>= λ v. Ok (v, x.1)) h
-    (λ s l lt p. last l (f s) (g s) (q s))
-  where
-    last : (l : ℕ) (r : Result A Cause) → OwnIf false r → ((x : A) → r ≡ Ok x → Q x)
-        → Ends Q l (r >>= λ v. Ok (v, l))
-    last l _ (own_value x) q = ends_value x l (omega arith) (q x refl)
-    last l _ (own_fault e h) q = ends_fault e h
+-- a step that asks for no node
+pub ends_pure : {A : Type 0} (left : ℕ) (r : Result A ReadFault) → Ends Any left (ending left r)
+ends_pure left r = ends_made Any left r (λ x e. tt)
+
+pub ends_finish : {S A : Type 0} (P : S → Type 0) (Q : A → Type 0) (left : ℕ) (f : S → Result A ReadFault) (r : Answer S)
+    → Ends P left r → ((s : S) (x : A) → f s ≡ Ok x → Q x) → Ends Q left (finish f r)
+ends_finish P Q left f r h q = ends_bind P Q left r (λ x. ending x.1 (f x.0)) h
+    (λ s l lt p. ends_made Q l (f s) (q s))
 
 pub ends_enter : {A : Type 0} (Q : A → Type 0) (left nest : ℕ) (mark : Position) (go : ℕ → Answer A)
     → ((n : ℕ) → nest ≡ suc n → Ends Q left (go n)) → Ends Q left (enter nest mark go)
-ends_enter Q left zero mark go h = ends_fault _ tt
+ends_enter Q left zero mark go h = ends_fault _
 ends_enter Q left (suc n) mark go h = h n refl
 
 pub ends_follow : {A : Type 0} (Q : A → Type 0) (left : ℕ) (go : ℕ → Answer A)
     → ((n : ℕ) → left ≡ suc n → Ends Q n (go n)) → Ends Q left (follow left go)
-ends_follow Q zero go h = ends_fault _ tt
+ends_follow Q zero go h = ends_fault _
 ends_follow Q (suc n) go h = ends_fewer Q n (suc n) (go n) (omega arith) (h n refl)
 
 pub ends_with : {A : Type 0} (Q : A → Type 0) (left : ℕ) (o : Option PlainShape) (s : PlainShape)
     (go : PlainShape → Answer A) → o ≡ Some s → Ends Q left (go s) → Ends Q left (with_shape o go)
 ends_with Q left o s go is h = rw is h
 
-pub ends_unless : {A : Type 0} (Q : A → Type 0) (left : ℕ) (s : PlainShape) (r : Answer A) → Ends Q left r
-    → Ends Q left (unless (early s) r)
-ends_unless Q left shape.bytes_shape r h = ends_fault _ tt
-ends_unless Q left _ r h = h
+pub ends_unless : {A : Type 0} (Q : A → Type 0) (left : ℕ) (o : Option ReadFault) (r : Answer A) → Ends Q left r
+    → Ends Q left (unless o r)
+ends_unless Q left None r h = h
+ends_unless Q left (Some fault) r h = ends_fault fault
 
 pub ends_place : {A : Type 0} (Q : A → Type 0) (left : ℕ) (here : Bool) (mark : Position) (way : Way) (r : Answer A)
     → Ends Q left r → Ends Q left (place here mark way r)
 ends_place Q left here mark way _ (ends_value x l h q) = ends_value x l h q
-ends_place Q left here mark way _ (ends_fault e h) =
-    ends_fault (placed here mark way e) (own_placed false here mark way e h)
+ends_place Q left here mark way _ (ends_fault fault) = ends_fault _
 
 module _ {S : Type 0} (Q : S → Type 0) (most : ℕ) where
   -- nodes from left to right, of which each keeps what holds of the state

@@ -21,7 +21,7 @@ use Rattle.yaml_scalar.proofs.VariantCode.{content_all}
 use Rattle.yaml_read.specs.AnyData.{tree_in, trees_in, pairs_in}
 use Rattle.yaml_read.specs.Fields.{Fields, Slots, no_slots, name_in, field_named, field_step, struct_of}
 use Rattle.yaml_read.specs.Handing.{Handing, as_is, as_some, as_newtype, as_ignored, as_bare, as_variant, as_tagged}
-use Rattle.yaml_read.specs.Handing.{as_refused, handed, depth, reach, untaken_reach}
+use Rattle.yaml_read.specs.Handing.{as_refused, early, handed, depth, reach, untaken_reach}
 use Rattle.yaml_read.specs.NodeTags.{TakenBy, around_value}
 use Rattle.yaml_read.specs.Places.{Way, element_under, value_under, places}
 use Rattle.yaml_read.specs.Rows.{Row, row_of, row_step, row_data}
@@ -30,9 +30,6 @@ use Rattle.yaml_read.specs.TreeReader.{any_key_of, field_key, field_value, targe
 use Rattle.yaml_read.specs.TreeReader.{sequence_of, mapping_of, node_by, handed_by, read_tree}
 use Rattle.yaml_read.proofs.FieldLaws.{named_found}
 use Rattle.yaml_read.proofs.reading.Handings.{From, handed_from}
-use Rattle.yaml_read.proofs.reading.OwnFaults.{own_value, own_bind}
-use Rattle.yaml_read.proofs.reading.OwnAnswers.{own_scalar, own_void, own_struct, own_named, own_new_key, own_row}
-use Rattle.yaml_read.proofs.reading.OwnAnswers.{own_refusal}
 use Rattle.yaml_read.proofs.reading.Reaches.{reach_rank}
 use Rattle.yaml_read.proofs.reading.TreeEnds.{Ends, ends_value, ends_fault, Any, ends_wrap, ends_pure, ends_finish}
 use Rattle.yaml_read.proofs.reading.TreeEnds.{ends_enter, ends_follow, ends_with, ends_unless, ends_place}
@@ -99,7 +96,7 @@ module _ (table : List PlainShape) (root : DocNode) (marks : ℕ → Position) (
         (each_node (row_part table read way n) (row_of ids) ns at)
         (ends_nodes RowIn at.left (row_part table read way n)
         (row_part_ends n at.left (omega (arith, lt, is))) (row_of ids) ns at (omega arith) a)
-        (own_row owner (length ids)) (λ s x e. tt))
+        (λ s x e. tt))
 
     -- ---- fields
     abbrev KeyIn : Option (ℕ × ℕ) × Way → Type 0
@@ -118,7 +115,6 @@ module _ (table : List PlainShape) (root : DocNode) (marks : ℕ → Position) (
     field_key_ends strict fields nest most a enough slots m at few ok =
         ends_finish Any KeyIn at.left _ (read way shape.identifier_shape nest None m at)
         (plain_ends way shape.identifier_shape nest most m at (All-nil IsIn) refl enough few)
-        (λ k. own_bind _ _ (own_named strict fields slots (name_in k) _) (λ f. own_value _))
         (λ k x e. key_in strict fields slots (name_in k) _ a x.0
         (looked (field_named strict fields slots (name_in k) _) (value_under way (first_event m)) x e))
 
@@ -148,7 +144,7 @@ module _ (table : List PlainShape) (root : DocNode) (marks : ℕ → Position) (
         (ends_pairs Any at.left KeyIn (field_key read marks way strict fields n) (field_value table read n)
         (field_key_ends strict fields n at.left a (omega (arith, lt, is)))
         (field_value_ends n at.left (omega (arith, lt, is))) (no_slots fields) ps at (omega arith) tt)
-        (own_struct table fields) (λ s x e. tt))
+        (λ s x e. tt))
 
     -- ---- collections
     item_ends : (w : Way) (s : PlainShape) (nest : ℕ) (vs : List PlainData) (n : DocNode) (at : Spot)
@@ -179,7 +175,7 @@ module _ (table : List PlainShape) (root : DocNode) (marks : ℕ → Position) (
         (plain_ends (element_under way (length vs)) shape.any_shape n at.left m to names refl (omega (arith, lt, is))
         few))
         [] ns at (omega arith) tt) (λ x p. tt))
-    sequence_ends s nest mark ns at names lt = ends_fault _ tt
+    sequence_ends s nest mark ns at names lt = ends_fault _
 
     mapping_ends : (s : PlainShape) (nest : ℕ) (mark : Position) (ps : DocPairs) (at : Spot)
         → NamesWithin (length table) s → 8200 * (at.left + nest) < suc fuel
@@ -207,17 +203,17 @@ module _ (table : List PlainShape) (root : DocNode) (marks : ℕ → Position) (
         (ends_pairs Any at.left Any (any_key_of read way n) (value_of read shape.any_shape n)
         (λ vs m to few ok. ends_finish Any Any to.left _ (read way shape.any_shape n None m to)
         (plain_ends way shape.any_shape n at.left m to names refl (omega (arith, lt, is)) few)
-        (λ k. own_bind _ _ (own_new_key vs k) (λ k. own_value _)) (λ s x e. tt))
+        (λ s x e. tt))
         (λ vs k m to few ok p. ends_wrap Any Any to.left (λ v. vs ++ (k.1, v) ∷ []) _
         (plain_ends k.0 shape.any_shape n at.left m to names refl (omega (arith, lt, is)) few) (λ x p. tt))
         [] ps at (omega arith) tt) (λ x p. tt))
-    mapping_ends s nest mark ps at names lt = ends_fault _ tt
+    mapping_ends s nest mark ps at names lt = ends_fault _
 
     -- ---- nodes
     target_ends : (s : PlainShape) (nest j left : ℕ) (o : Option DocNode) → NamesWithin (length table) s
         → reach table s ≤ 4096 → 8200 * (left + nest) + 8196 < fuel
         → Ends Any left (target_of (read way) s nest o j left)
-    target_ends s nest j left None names short enough = ends_fault _ tt
+    target_ends s nest j left None names short enough = ends_fault _
     target_ends s nest j left (Some n) names short enough =
         ends way s nest None n (record { place = j; left = left }) names short (omega (arith, short, enough))
 
@@ -225,12 +221,12 @@ module _ (table : List PlainShape) (root : DocNode) (marks : ℕ → Position) (
         → NamesWithin (length table) s → reach table s ≤ 4096
         → depth table s (is_some taken) nest at.left < suc fuel
         → Ends Any at.left (node_by table read way root marks s nest taken n at)
-    node_ends s nest taken nothing at names short lt = ends_pure at.left (void_answer s) (own_void s)
+    node_ends s nest taken nothing at names short lt = ends_pure at.left (void_answer s)
     node_ends s nest taken (reference j) at names short lt =
         ends_follow Any at.left (target_of (read way) s nest (node_of root j) j)
         (λ l is. target_ends s nest j l (node_of root j) names short (omega (arith, lt, is)))
     node_ends s nest taken (word w) at names short lt =
-        ends_pure at.left (scalar_answer s (is_some taken) w) (own_scalar s (is_some taken) w)
+        ends_pure at.left (scalar_answer s (is_some taken) w)
     node_ends s nest taken (list tag ns) at names short lt =
         sequence_ends s nest (marks at.place) ns (after at) names (omega (arith, lt))
     node_ends s nest taken (mapping tag ps) at names short lt =
@@ -258,7 +254,7 @@ module _ (table : List PlainShape) (root : DocNode) (marks : ℕ → Position) (
         (omega (arith, t.3, is, lt))) (λ x p. tt)))
     handed_ends as_ignored s nest taken n at from names short lt = ends_value ignored_data at.left (omega arith) tt
     handed_ends (as_bare fields) s nest taken n at from names short lt =
-        ends_pure at.left (struct_of table fields (no_slots fields)) (own_struct table fields (no_slots fields))
+        ends_pure at.left (struct_of table fields (no_slots fields))
     handed_ends (as_variant place around content) s nest taken n at from names short lt =
         let all = subst (NamesWithin (length table)) from.1 names in
         let t = content_there table small falls closed around.name around.variant content
@@ -273,7 +269,7 @@ module _ (table : List PlainShape) (root : DocNode) (marks : ℕ → Position) (
         (ends way shape.any_shape nest (Some around_value) n at (All-nil IsIn) (omega arith)
         (omega (arith, untaken, lt))) (λ x p. tt)
     handed_ends as_refused s nest taken n at from names short lt =
-        ends_fault _ (own_refusal false s taken (first_event n))
+        ends_fault _
 
   -- a node
   pub tree_ends : (fuel : ℕ) (way : Way) (s : PlainShape) (nest : ℕ) (taken : Option TakenBy) (n : DocNode) (at : Spot)
@@ -283,7 +279,7 @@ module _ (table : List PlainShape) (root : DocNode) (marks : ℕ → Position) (
   tree_ends zero way s nest taken n at names short lt = absurd (omega arith)
   tree_ends (suc fuel) way s nest taken n at names short lt =
       ends_place Any at.left (places s (is_some taken) (first_event n)) (marks at.place) way _
-      (ends_unless Any at.left s _
+      (ends_unless Any at.left (early s) _
       (handed_ends fuel (read_tree table fuel root marks) (tree_ends fuel) way
       (handed s (is_some taken) (first_event n)) s nest taken n at (handed_from s (is_some taken) (first_event n)) names
       short lt))

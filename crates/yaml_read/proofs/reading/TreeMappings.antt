@@ -2,13 +2,13 @@
 use Rattle.std.proofs.Common.{◌≡◌, ℕ, ◌+◌, ◌<◌, List, [], ◌∷◌, ◌++◌, length, Option, Some, None, Ok, Bool, refl, arith}
 use Rattle.std.proofs.Common.{ap, ap₂, set, Result, ◌∙◌}
 use Rattle.yaml_base.specs.Position.{Position}
-use Rattle.yaml_base.specs.declared.error.Cause.{Cause}
 use Rattle.yaml_shape.specs.DataView.{entries_of}
 use Rattle.yaml_shape.specs.PlainData.{PlainData, any_data, map_data, ignored_data}
 use Rattle.yaml_shape.specs.PlainShape.{PlainShape, any_shape, identifier_shape, map_shape, fields_shape, shape_at}
 use Rattle.yaml_tree.specs.Tree as tree_of
 use Rattle.yaml_load.specs.DocTree.{DocNode, DocPairs, events_of, events_of_pairs, first_event}
 use Rattle.yaml_load.specs.PlainDocEvent.{PlainDocEvent, mapping_ends}
+use Rattle.yaml_scalar.specs.ReadFault.{ReadFault}
 use Rattle.yaml_scalar.specs.Steps.{◌>>=◌, wrap, finish}
 use Rattle.yaml_read.specs.AnyData.{pairs_in, new_key}
 use Rattle.yaml_read.specs.Fields.{Fields, Slots, no_slots, name_in, field_named, struct_of}
@@ -24,7 +24,7 @@ use Rattle.yaml_read.proofs.reading.TreeLists.{AreTied, skip_tied}
 
 -- the field that a key is looked up as, with the way to its value
 abbrev named : Way → (strict : Bool) → Fields → Slots → (mark : Position) → (value : Way) → PlainData
-    → Result (Option (ℕ × ℕ) × Way) Cause
+    → Result (Option (ℕ × ℕ) × Way) ReadFault
 named way strict fields slots mark value key =
     field_named strict fields slots (name_in key) (record { mark = mark; path = way.text }) >>= λ f. Ok (f, value)
 

@@ -2,10 +2,10 @@
 use Rattle.std.proofs.Common.{◌≡◌, ℕ, zero, suc, ◌+◌, ◌<◌, [], ◌∷◌, ◌++◌, length, Some, None, Option, Result, Ok, Err}
 use Rattle.std.proofs.Common.{refl, subst, ◌∙◌, arith}
 use Rattle.yaml_base.specs.Position.{Position}
-use Rattle.yaml_base.specs.declared.error.Cause.{Cause}
 use Rattle.yaml_load.specs.PlainDocEvent.{PlainDocEvent, sequence_ends, mapping_ends}
 use Rattle.yaml_load.specs.DocTree.{DocNode, DocNodes, DocPairs, no_nodes, node, no_pairs, pair, events_of}
 use Rattle.yaml_load.specs.DocTree.{events_of_nodes, events_of_pairs}
+use Rattle.yaml_scalar.specs.ReadFault.{ReadFault}
 use Rattle.yaml_scalar.specs.Steps.{◌>>=◌, ending, wrap, enter, follow, finish, with_shape, unless}
 use Rattle.yaml_read.specs.TreeReader.{Spot, Answer, each_node, each_pair}
 use Rattle.yaml_read.specs.inner.Reader.{Reading, Events, is_sequence_end, is_mapping_end, each_at}
@@ -30,7 +30,7 @@ pub landed_wrap : {A B : Type 0} (end : ℕ) (f : A → B) (q : Reading A) (r : 
 landed_wrap end f q (Ok x) e = rw e
 landed_wrap end f q (Err y) e = rw e
 
-pub landed_ending : {A : Type 0} (end left : ℕ) (r : Result A Cause) → ending (record { place = end; left = left }) r
+pub landed_ending : {A : Type 0} (end left : ℕ) (r : Result A ReadFault) → ending (record { place = end; left = left }) r
     ≡ landed end (ending left r)
 landed_ending end left (Ok x) = refl
 landed_ending end left (Err y) = refl
@@ -51,7 +51,7 @@ pub landed_with : {A : Type 0} (end : ℕ) (o : Option PlainShape) (f : PlainSha
 landed_with end None f g h = refl
 landed_with end (Some s) f g h = h s refl
 
-pub landed_unless : {A : Type 0} (end : ℕ) (o : Option Cause) (q : Reading A) (r : Answer A) → q ≡ landed end r
+pub landed_unless : {A : Type 0} (end : ℕ) (o : Option ReadFault) (q : Reading A) (r : Answer A) → q ≡ landed end r
     → unless o q ≡ landed end (unless o r)
 landed_unless end None q r h = h
 landed_unless end (Some e) q r h = refl
@@ -134,12 +134,7 @@ module _ (events : Events) (size : ℕ) (within : (p : ℕ) (e : PlainDocEvent �
         regroup (Ok x) f g = refl
         regroup (Err y) f g = refl
 
-pub landed_finish : {S A : Type 0} (end : ℕ) (f : S → Result A Cause) (q : Reading S) (r : Answer S) → q ≡ landed end r
-    → finish f q ≡ landed end (finish f r)
-landed_finish end f q (Ok x) e = rw e (made (f x.0) x.1)
-  where
-    made : {A : Type 0} (o : Result A Cause) (left : ℕ) → (o >>= λ v. Ok (v, record { place = end; left = left }))
-        ≡ landed end (o >>= λ v. Ok (v, left))
-    made (Ok v) left = refl
-    made (Err y) left = refl
+pub landed_finish : {S A : Type 0} (end : ℕ) (f : S → Result A ReadFault) (q : Reading S) (r : Answer S)
+    → q ≡ landed end r → finish f q ≡ landed end (finish f r)
+landed_finish end f q (Ok x) e = rw e (landed_ending end x.1 (f x.0))
 landed_finish end f q (Err y) e = rw e

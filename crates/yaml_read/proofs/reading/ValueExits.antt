@@ -1,10 +1,10 @@
 -- What a node's reading comes to under the shapes of any value and of enums.
 use Rattle.std.proofs.Common.{◌≡◌, ℕ, ◌-◌, ◌<◌, Bool, true, false, List, [], Some, None, Err, refl, ◌∙◌}
 use Rattle.std.proofs.Common.{Ok, ◌∷◌, ◌++◌}
-use Rattle.yaml_base.specs.declared.error.Cause.{Cause}
 use Rattle.yaml_shape.specs.PlainData.{PlainData}
 use Rattle.yaml_shape.specs.PlainShape.{any_shape, enum_shape, PlainVariant}
 use Rattle.yaml_load.specs.PlainDocEvent.{PlainDocEvent}
+use Rattle.yaml_scalar.specs.ReadFault.{ReadFault, PlainRefusal, refused}
 use Rattle.yaml_scalar.specs.Variants.{Variants, variant_named}
 use Rattle.yaml_read.specs.AnyData.{new_key}
 use Rattle.yaml_read.specs.Handing.{as_is, as_variant, as_tagged, handed, is_filled_scalar}
@@ -38,15 +38,15 @@ taken_as_is name variants e h = rw h refl
 -- ---- the pairs of any values
 module _ (source : Source) (read : Way
     → Reader) (way : Way) (nest : ℕ) (vs : List (PlainData × PlainData)) (at : Spot) where
-  pub any_no_key : (x : Cause) → read way any_shape nest None at ≡ Err x
+  pub any_no_key : (x : PlainRefusal) → read way any_shape nest None at ≡ Err x
       → any_entry_at source read way nest vs at ≡ Err x
   any_no_key x h = rw h refl
 
-  pub any_repeated : (k : PlainData) (middle : Spot) (x : Cause) → read way any_shape nest None at ≡ Ok (k, middle)
-      → new_key vs k ≡ Err x → any_entry_at source read way nest vs at ≡ Err x
+  pub any_repeated : (k : PlainData) (middle : Spot) (x : ReadFault) → read way any_shape nest None at ≡ Ok (k, middle)
+      → new_key vs k ≡ Err x → any_entry_at source read way nest vs at ≡ Err (refused x)
   any_repeated k middle x h again = rw (h, again) refl
 
-  pub any_no_value : (k : PlainData) (middle : Spot) (x : Cause) → read way any_shape nest None at ≡ Ok (k, middle)
+  pub any_no_value : (k : PlainData) (middle : Spot) (x : PlainRefusal) → read way any_shape nest None at ≡ Ok (k, middle)
       → new_key vs k ≡ Ok k → read (value_way way (source.events at.place)) any_shape nest None middle ≡ Err x
       → any_entry_at source read way nest vs at ≡ Err x
   any_no_value k middle x h new h' = rw (h, new, h') refl

@@ -5,46 +5,43 @@ use Rattle.std.specs.Prelude.{◌≢◌, ◌⊎◌, slice_get}
 use Rattle.std.proofs.lemmas.Option.{slice_get_within}
 use Rattle.yaml_base.specs.Answer.{is_memory}
 use Rattle.yaml_base.specs.declared.error.Cause.{Cause}
-use Rattle.yaml_base.specs.declared.error.Cause.TheVariants.{Memory, MoreThanOneDocument, EndOfStream}
+use Rattle.yaml_base.specs.declared.error.Cause.TheVariants.{MoreThanOneDocument, EndOfStream}
 use Rattle.yaml_shape.specs.PlainData.{PlainData}
 use Rattle.yaml_shape.specs.PlainShape.{PlainShape, option_shape, shape_at}
 use Rattle.yaml_shape.specs.Walks.{rank}
 use Rattle.yaml_load.specs.DocTree.{DocNode, events_of}
 use Rattle.yaml_load.specs.PlainDocument.{PlainDocument}
 use Rattle.yaml_load.specs.StreamLaw.{IsEnding}
-use Rattle.yaml_scalar.specs.Steps.{◌>>=◌}
+use Rattle.yaml_scalar.specs.ReadFault.{PlainRefusal, out_of_memory, refused, end_of_stream, cause_of, ran_out}
 use Rattle.yaml_read.specs.Handing.{reach}
 use Rattle.yaml_read.specs.Meaning.{Means}
 use Rattle.yaml_read.specs.Places.{root_way}
 use Rattle.yaml_read.specs.ReadingFaults.{IsNodeFault, IsReadingFault}
 use Rattle.yaml_read.specs.Reads.{IsTreeOf, Reads, IsRefusal, DocumentGives, front_answer, cut_fault}
-use Rattle.yaml_read.specs.TreeReader.{PlainLimits, Spot, Answer, marks_of, whole_fuel, whole_tree, answer_of}
-use Rattle.yaml_read.specs.TreeReader.{answer_within}
+use Rattle.yaml_read.specs.TreeReader.{PlainLimits, Spot, marks_of, whole_fuel, whole_tree, answer_of}
+use Rattle.yaml_read.specs.TreeReader.{answer_within, value_told}
 use Rattle.yaml_read.specs.inner.Reader.{Reading}
 use Rattle.yaml_read.proofs.reading.Outcomes.{Outcome, reads, deep, many}
 use Rattle.yaml_read.proofs.reading.Complete.{tree_outcome}
 use Rattle.yaml_read.proofs.reading.EndLaws.{node_ends}
-use Rattle.yaml_read.proofs.reading.OwnFaults.{Own, own_value, own_fault, IsOwn, own_bind, own_kind}
-use Rattle.yaml_read.proofs.reading.OwnReadings.{own_node}
+use Rattle.yaml_read.proofs.reading.ReadingCauses.{cut_kept, fault_is_reading, fault_of_node}
 use Rattle.yaml_read.proofs.reading.Shown.{Shows}
 use Rattle.yaml_read.proofs.reading.Sound.{tree_sound}
 use Rattle.yaml_read.proofs.reading.TreeLaws.{reader_tied}
 use Rattle.yaml_read.proofs.reading.TreeWalks.{landed}
 use Rattle.yaml_read.proofs.reading.Fronts.{first_fault}
-use Rattle.yaml_read.proofs.reading.WholeReadings.{shows_list, err_is, landed_ok, landed_err, answer_ok}
-use Rattle.yaml_read.proofs.reading.WholeReadings.{answer_err, reading_err}
+use Rattle.yaml_read.proofs.reading.WholeReadings.{shows_list, err_is, landed_ok, landed_err, answer_ok, told_err}
 pub use Rattle.yaml_read.proofs.reading.WholeReadings.{whole_source, whole_reading, seen_whole}
 
 -- what is told of a document that was cut off is what cut it off, or a fault of a node
-split : (cut y z : Cause) → IsOwn true z → y ≡ cut_fault cut (Err z) → is_memory y ≡ false → (y ≡ cut) ⊎ IsNodeFault y
-split cut y EndOfStream h e known = inl e
-split cut y Memory h e known = let bad = sym known ∙ ap is_memory e in absurd cc
-split cut y other h e known = inr (subst IsNodeFault (sym e) h)
-
-told_by : (r : Result PlainData Cause) (cut y : Cause) → Own r → y ≡ cut_fault cut r → is_memory y ≡ false
+told_by : (r : Reading PlainData) (cut y : Cause) → y ≡ cut_fault cut (value_told r) → is_memory y ≡ false
     → (y ≡ cut) ⊎ IsNodeFault y
-told_by _ cut y (own_value x) e known = inl e
-told_by _ cut y (own_fault z h) e known = split cut y z h e known
+told_by (Ok x) cut y e known = inl e
+told_by (Err out_of_memory) cut y e known = let bad = sym known ∙ ap is_memory e in absurd cc
+told_by (Err (refused end_of_stream)) cut y e known = inl e
+told_by (Err (refused fault)) cut y e known =
+    let other : fault ≢ end_of_stream = λ h. absurd cc in
+    inr (subst IsNodeFault (sym (e ∙ cut_kept cut fault other)) (fault_of_node fault other))
 
 -- what is told is what reading answers, where it is not what cut the document off, and then no end of the events
 front_is : (r : Result PlainData Cause) (cut y : Cause) → y ≡ cut_fault cut r → y ≢ cut
@@ -56,6 +53,16 @@ front_is (Err z) cut y e other = (ap Err (sym e), λ end. let bad : z ≡ EndOfS
 -- what cuts documents off does not say that there are others
 pub ending_own : (f y : Cause) → IsEnding (Some f) → y ≡ f → y ≢ MoreThanOneDocument
 ending_own f y h same e = subst IsEnding (ap Some (sym same ∙ e)) h
+
+-- nor does what is told of a document that was cut off
+pub cut_own : (refusal : PlainRefusal) (y ending : Cause) → IsEnding (Some ending)
+    → (refusal ≡ refused end_of_stream → is_memory y ≡ false → y ≡ ending)
+    → (refusal ≢ refused end_of_stream → y ≡ cause_of refusal) → is_memory y ≡ false → y ≢ MoreThanOneDocument
+cut_own out_of_memory y ending cut ended kept known e =
+    let bad = sym known ∙ ap is_memory (kept (λ h. absurd cc)) in absurd cc
+cut_own (refused end_of_stream) y ending cut ended kept known e = ending_own ending y cut (ended refl known) e
+cut_own (refused other) y ending cut ended kept known e =
+    subst IsReadingFault (sym (kept (λ h. absurd cc)) ∙ e) (fault_is_reading other)
 
 module _ (limits : PlainLimits) (table : List PlainShape) (s : PlainShape) (document : PlainDocument) where
   module _ (root : DocNode) (is : IsTreeOf document root) where
@@ -93,52 +100,37 @@ module _ (limits : PlainLimits) (table : List PlainShape) (s : PlainShape) (docu
   answered v next h root is = sym (landed_ok _ (whole_tree limits table document.events s root) v next
       (sym (tied root is) ∙ h))
 
-  pub refused : (y : Cause) → whole_reading limits table document s ≡ Err y → (root : DocNode) → IsTreeOf document root
-      → Err y ≡ answer_of limits table s document root
-  refused y h root is = sym (landed_err _ (whole_tree limits table document.events s root) y (sym (tied root is) ∙ h))
-
-  whole_own : Own (whole_reading limits table document s)
-  whole_own = own_node (whole_source table document) (whole_fuel limits (length document.events)) root_way s
-      limits.nesting None (record { place = 0; left = limits.follows * length document.events })
-
-  -- each fault that reading by places answers is one of reading, or want of memory
-  pub refusal_kind : (y : Cause) → whole_reading limits table document s ≡ Err y → is_memory y ≡ false
-      → (fault : Cause) → ◌≡◌ {A = Result PlainData Cause} (Err y) (Err fault) → IsReadingFault fault
-  refusal_kind y h known fault e =
-      subst IsReadingFault (err_is y fault e) (own_kind (whole_reading limits table document s) y whole_own h known)
-
-  -- none says that there are other documents
-  pub own_refusal : (y : Cause) → (is_memory y ≡ false → whole_reading limits table document s ≡ Err y)
-      → y ≢ MoreThanOneDocument
-  own_refusal y h e =
-      let known = ap is_memory e in refusal_kind y (h known) known MoreThanOneDocument (ap Err e)
+  pub fault_answered : (y : PlainRefusal) → whole_reading limits table document s ≡ Err y → (root : DocNode)
+      → IsTreeOf document root → Err (cause_of y) ≡ answer_of limits table s document root
+  fault_answered y h root is = sym (landed_err _ (whole_tree limits table document.events s root) y (sym (tied root is) ∙ h))
 
   -- what is told of a document that was cut off, where reading answers a fault
-  pub told_cut : (refusal y ending : Cause)
-      → (is_memory refusal ≡ false → whole_reading limits table document s ≡ Err refusal)
-      → (refusal ≡ EndOfStream → is_memory y ≡ false → y ≡ ending) → (refusal ≢ EndOfStream → y ≡ refusal)
+  pub told_cut : (refusal : PlainRefusal) (y ending : Cause)
+      → (ran_out refusal ≡ false → whole_reading limits table document s ≡ Err refusal)
+      → (refusal ≡ refused end_of_stream → is_memory y ≡ false → y ≡ ending)
+      → (refusal ≢ refused end_of_stream → y ≡ cause_of refusal)
       → is_memory y ≡ false → y ≡ cut_fault ending (front_answer limits table s document)
   told_cut refusal y ending seen ended kept fault = by refusal seen ended kept
     where
-      read_as : (r : Result PlainData Cause) → front_answer limits table s document ≡ r
-          → cut_fault ending r ≡ cut_fault ending (front_answer limits table s document)
-      read_as r e = ap (cut_fault ending) (sym e)
+      read_as : (f : PlainRefusal) → whole_reading limits table document s ≡ Err f
+          → cut_fault ending (Err (cause_of f)) ≡ cut_fault ending (front_answer limits table s document)
+      read_as f e = ap (λ (r : Reading PlainData). cut_fault ending (value_told r)) (sym e)
 
-      by : (refusal : Cause) → (is_memory refusal ≡ false → whole_reading limits table document s ≡ Err refusal)
-          → (refusal ≡ EndOfStream → is_memory y ≡ false → y ≡ ending) → (refusal ≢ EndOfStream → y ≡ refusal)
+      by : (refusal : PlainRefusal) → (ran_out refusal ≡ false → whole_reading limits table document s ≡ Err refusal)
+          → (refusal ≡ refused end_of_stream → is_memory y ≡ false → y ≡ ending)
+          → (refusal ≢ refused end_of_stream → y ≡ cause_of refusal)
           → y ≡ cut_fault ending (front_answer limits table s document)
-      by EndOfStream seen ended kept =
-          ended refl fault
-          ∙ read_as (Err EndOfStream) (ap (λ (r : Reading PlainData). r >>= λ x. Ok x.0) (seen refl))
-      by other seen ended kept =
-          let same : y ≡ other = kept (λ e. absurd cc) in
-          same ∙ read_as (Err other)
-          (ap (λ (r : Reading PlainData). r >>= λ x. Ok x.0) (seen (ap is_memory (sym same) ∙ fault)))
+      by out_of_memory seen ended kept =
+          let bad = sym fault ∙ ap is_memory (kept (λ e. absurd cc)) in absurd cc
+      by (refused end_of_stream) seen ended kept = ended refl fault ∙ read_as (refused end_of_stream) (seen refl)
+      by (refused other) seen ended kept =
+          let apart : other ≢ end_of_stream = λ h. absurd cc in
+          kept (λ e. absurd cc) ∙ sym (cut_kept ending other apart) ∙ read_as (refused other) (seen refl)
 
   -- and where it answers data
   pub data_cut : (v : PlainData) (next : Spot) (ending : Cause) → whole_reading limits table document s ≡ Ok (v, next)
       → ending ≡ cut_fault ending (front_answer limits table s document)
-  data_cut v next ending e = ap (cut_fault ending) (sym (ap (λ (r : Reading PlainData). r >>= λ x. Ok x.0) e))
+  data_cut v next ending e = ap (λ (r : Reading PlainData). cut_fault ending (value_told r)) (sym e)
 
   -- a document that was cut off is refused by what cut it off, or by a fault that reading answers
   pub cut_gives : (y ending : Cause) → document.ending ≡ Some ending → y ≢ MoreThanOneDocument
@@ -153,22 +145,22 @@ module _ (limits : PlainLimits) (table : List PlainShape) (s : PlainShape) (docu
     kind = λ fault whole e. let bad = sym cut ∙ whole in absurd cc;
     told = λ fault is.
         let same : ending ≡ fault = some_is ending fault (sym cut ∙ is) in
-        let front = own_bind (whole_reading limits table document s) (λ x. Ok x.0) whole_own (λ x. own_value x.0) in (
+        (
           y,
           refl,
           subst (λ f. (y ≡ f) ⊎ IsNodeFault y) same
-              (told_by (front_answer limits table s document) ending y front told known),
+              (told_by (whole_reading limits table document s) ending y told known),
         );
     front = λ fault found whole root is e other on tree.
         let same : ending ≡ fault = some_is ending fault (sym cut ∙ is) in
         let mine : y ≡ found = err_is y found e in
         let first = front_is (front_answer limits table s document) ending y told
         (λ h. other (sym mine ∙ (h ∙ same))) in
-        let read = reading_err (whole_reading limits table document s) y first.0 in
-        subst (λ f. answer_within limits.nesting (limits.follows * length document.events) table s whole root ≡ Err f)
-        mine
-        (first_fault limits table s document whole root tree on y read first.1
-        (λ h. let bad = sym known ∙ ap is_memory h in absurd cc));
+        let read = told_err (whole_reading limits table document s) y first.0 in
+        first_fault limits table s document whole root tree on read.0 read.1
+        (λ h. first.1 (sym read.2 ∙ ap cause_of h))
+        (λ h. let bad = sym known ∙ ap is_memory (sym read.2 ∙ ap cause_of h) in absurd cc)
+        ∙ ap Err (read.2 ∙ mine);
     exact = λ root is. absurd (uncut root is);
     cut = λ fault is.
         let same : ending ≡ fault = some_is ending fault (sym cut ∙ is) in
@@ -197,7 +189,7 @@ module _ (limits : PlainLimits) (table : List PlainShape) (s : PlainShape) (docu
     pub read_answer : (root : DocNode) (v : PlainData) → Reads limits table s root (length document.events) v
         → answer_of limits table s document root ≡ Ok v
     read_answer root v r = elim (outcome root v r.nestings r.followed r.means) [
-      | reads a b e ↦ ap (λ (q : Answer PlainData). q >>= λ x. Ok x.0) e
+      | reads a b e ↦ ap value_told e
       | deep m a e ↦ absurd (omega (arith, r.nests_within))
       | many a e ↦ absurd (omega (arith, r.follows_within))
     ]
@@ -207,14 +199,16 @@ module _ (limits : PlainLimits) (table : List PlainShape) (s : PlainShape) (docu
         → answer_of limits table s document root ≡ Err y
         → IsRefusal limits (length document.events) d k y
     answer_refusal root v d k y m h =
-        let f = answer_err (whole_tree limits table document.events s root) y h in
+        let f = told_err (whole_tree limits table document.events s root) y h in
         elim (outcome root v d k m) [
-          | reads a b e ↦ absurd (ok_or_err _ _ y e f)
-          | deep m a e ↦ subst (IsRefusal limits (length document.events) d k) (err_is _ _ (sym e ∙ f)) a
-          | many a e ↦ subst (IsRefusal limits (length document.events) d k) (err_is _ _ (sym e ∙ f)) a
+          | reads a b e ↦ absurd (ok_or_err _ _ f.0 e f.1)
+          | deep m a e ↦ subst (IsRefusal limits (length document.events) d k)
+              (ap cause_of (err_is _ _ (sym e ∙ f.1)) ∙ f.2) a
+          | many a e ↦ subst (IsRefusal limits (length document.events) d k)
+              (ap cause_of (err_is _ _ (sym e ∙ f.1)) ∙ f.2) a
         ]
       where
-        ok_or_err : {A : Type 0} (r : Result A Cause) (x : A) (y : Cause) → r ≡ Ok x → r ≡ Err y → ⊥
+        ok_or_err : {A : Type 0} (r : Result A PlainRefusal) (x : A) (y : PlainRefusal) → r ≡ Ok x → r ≡ Err y → ⊥
         ok_or_err r x y e f = let bad = sym e ∙ f in absurd cc
 
     -- what answers as the tree does is what a document gives that nothing cut off

@@ -1,5 +1,5 @@
 -- The fault of a tree under a shape of a schema is one of reading.
-use Rattle.std.proofs.Common.{◌≡◌, ℕ, ◌*◌, ◌<◌, ◌≤◌, List, length, Some, None, Ok, Err, arith, subst}
+use Rattle.std.proofs.Common.{◌≡◌, ℕ, ◌*◌, ◌<◌, ◌≤◌, List, length, Some, None, Err, ap, ◌∙◌, arith, subst}
 use Rattle.std.proofs.lemmas.List.Elements.{All-get_or}
 use Rattle.std.proofs.lemmas.Option.{slice_get_within, get_or_from_slice_get}
 use Rattle.yaml_base.specs.declared.error.Cause.{Cause}
@@ -8,13 +8,15 @@ use Rattle.yaml_shape.specs.Validity.{AllNameWithin, NamesWithin}
 use Rattle.yaml_shape.specs.Walks.{rank}
 use Rattle.yaml_load.specs.DocTree.{DocNode}
 use Rattle.yaml_load.specs.PlainDocument.{PlainDocument}
+use Rattle.yaml_scalar.specs.ReadFault.{cause_of}
 use Rattle.yaml_read.specs.Places.{root_way}
 use Rattle.yaml_read.specs.ReadingFaults.{IsReadingFault}
 use Rattle.yaml_read.specs.TreeReader.{PlainLimits, marks_of, whole_fuel, whole_tree, answer_of}
-use Rattle.yaml_read.proofs.reading.OwnFaults.{own_bind, own_value, own_never}
 use Rattle.yaml_read.proofs.reading.Reaches.{low}
-use Rattle.yaml_read.proofs.reading.TreeEnds.{Any, ends_own}
+use Rattle.yaml_read.proofs.reading.TreeEnds.{Any, ends_refused}
+use Rattle.yaml_read.proofs.reading.ReadingCauses.{fault_is_reading}
 use Rattle.yaml_read.proofs.reading.TreeFaults.{tree_ends}
+use Rattle.yaml_read.proofs.reading.WholeReadings.{told_err}
 
 module _ (table : List PlainShape) (small : (id : ℕ) → rank table id ≤ 4096) (falls : (id content : ℕ)
     → shape_at table id ≡ Some (option_shape content) → rank table content < rank table id)
@@ -29,11 +31,11 @@ module _ (table : List PlainShape) (small : (id : ℕ) → rank table id ≤ 409
       → (fault : Cause) → answer_of limits table s document root ≡ Err fault → IsReadingFault fault
   answer_kind id s document root at fault e =
       let short = low table small falls id s at in
-      own_never (answer_of limits table s document root) fault
-      (own_bind (whole_tree limits table document.events s root) (λ x. Ok x.0)
-      (ends_own Any (limits.follows * length document.events) (whole_tree limits table document.events s root)
+      let told = told_err (whole_tree limits table document.events s root) fault e in
+      let refused = ends_refused Any (limits.follows * length document.events)
+      (whole_tree limits table document.events s root)
       (tree_ends table root (marks_of document.events) small falls closed
       (whole_fuel limits (length document.events)) root_way s limits.nesting None root
       (record { place = 0; left = limits.follows * length document.events })
-      (names_within id s at) short (omega (arith, short))))
-      (λ x. own_value x.0)) e
+      (names_within id s at) short (omega (arith, short))) told.0 told.1 in
+      subst IsReadingFault (ap cause_of refused.1 ∙ told.2) (fault_is_reading refused.0)

@@ -12,10 +12,10 @@ use Rattle.yaml_load.specs.Ends.{ends_of}
 use Rattle.yaml_load.specs.PlainDocEvent.{PlainDocEvent}
 use Rattle.yaml_load.specs.PlainDocument.{PlainDocument}
 use Rattle.yaml_load.specs.declared.doc_event.DocEvent.{DocEvent}
-use Rattle.yaml_scalar.specs.Steps.{◌>>=◌}
+use Rattle.yaml_scalar.specs.ReadFault.{PlainRefusal, cause_of}
 use Rattle.yaml_read.specs.Handing.{depth, reach}
 use Rattle.yaml_read.specs.Places.{root_way}
-use Rattle.yaml_read.specs.TreeReader.{PlainLimits, Spot, Answer, whole_fuel}
+use Rattle.yaml_read.specs.TreeReader.{PlainLimits, Spot, Answer, value_told, whole_fuel}
 use Rattle.yaml_read.specs.inner.Reader.{Source, Reading, Events, node_at}
 use Rattle.yaml_read.proofs.reading.Shown.{Shows}
 use Rattle.yaml_read.proofs.reading.TreeWalks.{landed}
@@ -63,29 +63,28 @@ seen_whole limits table s small document es ends r seen numbers gives =
     let same = gives (whole_fuel limits (length es)) (omega (arith, small)) in
     rw (seen, size, numbers) at same
 
-pub same_ok : {A : Type 0} (x y : A) → ◌≡◌ {A = Result A Cause} (Ok x) (Ok y) → x ≡ y
+pub same_ok : {E A : Type 0} (x y : A) → ◌≡◌ {A = Result A E} (Ok x) (Ok y) → x ≡ y
 same_ok x y h = cc
 
-pub err_is : {A : Type 0} (e f : Cause) → ◌≡◌ {A = Result A Cause} (Err e) (Err f) → e ≡ f
+pub err_is : {E A : Type 0} (e f : E) → ◌≡◌ {A = Result A E} (Err e) (Err f) → e ≡ f
 err_is e f h = cc
 
 pub landed_ok : (p : ℕ) (r : Answer PlainData) (v : PlainData) (next : Spot) → landed p r ≡ Ok (v, next)
-    → (r >>= λ x. Ok x.0) ≡ Ok v
+    → value_told r ≡ Ok v
 landed_ok p (Ok x) v next h = ap (λ (y : PlainData × Spot). Ok y.0) (same_ok _ _ h)
 landed_ok p (Err y) v next h = absurd cc
 
-pub landed_err : (p : ℕ) (r : Answer PlainData) (y : Cause) → landed p r ≡ Err y → (r >>= λ x. Ok x.0) ≡ Err y
+pub landed_err : (p : ℕ) (r : Answer PlainData) (y : PlainRefusal) → landed p r ≡ Err y
+    → value_told r ≡ Err (cause_of y)
 landed_err p (Ok x) y h = absurd cc
-landed_err p (Err z) y h = ap Err (err_is _ _ h)
+landed_err p (Err z) y h = ap (λ f. Err (cause_of f)) (err_is _ _ h)
 
-pub answer_ok : (r : Answer PlainData) (v : PlainData) → (r >>= λ x. Ok x.0) ≡ Ok v → (left : ℕ) × (r ≡ Ok (v, left))
+pub answer_ok : (r : Answer PlainData) (v : PlainData) → value_told r ≡ Ok v → (left : ℕ) × (r ≡ Ok (v, left))
 answer_ok (Ok x) v h = (x.1, ap (λ w. Ok (w, x.1)) (same_ok _ _ h))
 answer_ok (Err y) v h = absurd cc
 
-pub answer_err : (r : Answer PlainData) (y : Cause) → (r >>= λ x. Ok x.0) ≡ Err y → r ≡ Err y
-answer_err (Ok x) y h = absurd cc
-answer_err (Err z) y h = ap Err (err_is _ _ h)
-
-pub reading_err : (r : Reading PlainData) (y : Cause) → (r >>= λ x. Ok x.0) ≡ Err y → r ≡ Err y
-reading_err (Ok x) y h = absurd cc
-reading_err (Err z) y h = ap Err (err_is _ _ h)
+-- a fault that is told is that of a refusal
+pub told_err : {A C : Type 0} (r : Result (A × C) PlainRefusal) (y : Cause) → value_told r ≡ Err y
+    → (f : PlainRefusal) × (r ≡ Err f) × (cause_of f ≡ y)
+told_err (Ok x) y h = absurd cc
+told_err (Err f) y h = (f, refl, err_is _ _ h)

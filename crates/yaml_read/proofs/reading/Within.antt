@@ -5,11 +5,11 @@ use Rattle.std.proofs.Common.{bytes_eq, if◌then◌else◌}
 use Rattle.std.specs.Option.{option_map}
 use Rattle.std.proofs.lemmas.List.Elements.{All-head, All-tail, All-nil, All-get_or}
 use Rattle.std.proofs.lemmas.Option.{slice_get-get_or}
-use Rattle.yaml_base.specs.declared.error.Cause.{Cause}
 use Rattle.yaml_shape.specs.PlainShape.{PlainShape, shape_at, content_shape, PlainVariant}
 use Rattle.yaml_shape.specs.PlainShape as shape
 use Rattle.yaml_shape.specs.Validity.{AllNameWithin, NamesWithin, named_in, numbers_of}
 use Rattle.yaml_shape.specs.Walks.{rank}
+use Rattle.yaml_scalar.specs.ReadFault.{ReadFault}
 use Rattle.yaml_scalar.specs.Steps.{◌>>=◌}
 use Rattle.yaml_read.specs.Fields.{Fields, find}
 use Rattle.yaml_read.specs.Handing.{reach}
@@ -35,11 +35,11 @@ find_all P (g ∷ gs) name f is a =
     chosen false (Some u) e later = subst (λ (u : ℕ × ℕ). P u.1) (same_some e) (later u refl)
 
 -- what was looked up is what was answered, before its way was added
-pub looked : (r : Result (Option (ℕ × ℕ)) Cause) (w : Way) (x : Option (ℕ × ℕ) × Way) → (r >>= λ f. Ok (f, w)) ≡ Ok x
+pub looked : (r : Result (Option (ℕ × ℕ)) ReadFault) (w : Way) (x : Option (ℕ × ℕ) × Way) → (r >>= λ f. Ok (f, w)) ≡ Ok x
     → r ≡ Ok x.0
 looked (Ok o) w x h = ap (λ (y : Option (ℕ × ℕ) × Way). Ok y.0) (same_ok h)
   where
-    same_ok : {A : Type 0} {x y : A} → ◌≡◌ {A = Result A Cause} (Ok x) (Ok y) → x ≡ y
+    same_ok : {A : Type 0} {x y : A} → ◌≡◌ {A = Result A ReadFault} (Ok x) (Ok y) → x ≡ y
     same_ok h = cc
 looked (Err y) w x h = absurd cc
 

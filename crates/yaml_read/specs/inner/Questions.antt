@@ -1,9 +1,7 @@
 -- What is asked of a node, and what is promised of the answer.
 use Rattle.std.specs.Prelude.{ℕ, suc, ◌<◌, length, Option, Some, Result}
 use Rattle.std.specs.Option.{is_some}
-use Rattle.yaml_base.specs.Answer.{Gives}
 use Rattle.yaml_base.specs.Position.{Position}
-use Rattle.yaml_base.specs.declared.error.Cause.{Cause}
 use Rattle.yaml_shape.specs.DataView.{data_of}
 use Rattle.yaml_shape.specs.PlainData.{PlainData}
 use Rattle.yaml_shape.specs.PlainShape.{PlainShape}
@@ -11,6 +9,8 @@ use Rattle.yaml_shape.specs.ShapeView.{shape_of}
 use Rattle.yaml_shape.specs.Validity.{NamesWithin}
 use Rattle.yaml_shape.specs.declared.data.Data.{Data}
 use Rattle.yaml_load.specs.PlainDocEvent.{PlainDocEvent}
+use Rattle.yaml_scalar.specs.ReadFault.{PlainRefusal}
+use Rattle.yaml_scalar.specs.ReadingGives.{GivesReading}
 use Rattle.yaml_read.specs.Handing.{depth}
 use Rattle.yaml_read.specs.NodeTags.{TakenBy}
 use Rattle.yaml_read.specs.Places.{Way, way_of}
@@ -66,18 +66,18 @@ by_event source fuel q walk e mark =
     event_at (source_of source) (reader_of fuel source) q.way q.shape q.nest q.taken (spot_of walk) e mark
 
 -- the answer is what the plain reader gives
-abbrev pub GivesNode : CodeSource → Question → (old new : Walk) → Result Data Cause → Type 0
+abbrev pub GivesNode : CodeSource → Question → (old new : Walk) → Result Data PlainRefusal → Type 0
 GivesNode source q old new result = (fuel : ℕ) → question_depth source q old.left < fuel
-    → Gives (λ x. (data_of x, spot_of new)) result (by_node source fuel q old)
+    → GivesReading (λ x. (data_of x, spot_of new)) result (by_node source fuel q old)
 
-abbrev pub GivesStep : CodeSource → Question → (old new : Walk) → Result Data Cause → Type 0
+abbrev pub GivesStep : CodeSource → Question → (old new : Walk) → Result Data PlainRefusal → Type 0
 GivesStep source q old new result = (fuel : ℕ) → question_depth source q old.left < suc fuel
-    → Gives (λ x. (data_of x, spot_of new)) result (by_step source fuel q old)
+    → GivesReading (λ x. (data_of x, spot_of new)) result (by_step source fuel q old)
 
-abbrev pub GivesShape : CodeSource → Question → (old new : Walk) → Result Data Cause → Type 0
+abbrev pub GivesShape : CodeSource → Question → (old new : Walk) → Result Data PlainRefusal → Type 0
 GivesShape source q old new result = (fuel : ℕ) → question_depth source q old.left < suc fuel
-    → Gives (λ x. (data_of x, spot_of new)) result (by_shape source fuel q old)
+    → GivesReading (λ x. (data_of x, spot_of new)) result (by_shape source fuel q old)
 
-abbrev pub GivesEvent : CodeSource → Question → PlainDocEvent → (old new : Walk) → Result Data Cause → Type 0
+abbrev pub GivesEvent : CodeSource → Question → PlainDocEvent → (old new : Walk) → Result Data PlainRefusal → Type 0
 GivesEvent source q e old new result = (fuel : ℕ) (mark : Position) → question_depth source q old.left < suc fuel
-    → Gives (λ x. (data_of x, spot_of new)) result (by_event source fuel q old e mark)
+    → GivesReading (λ x. (data_of x, spot_of new)) result (by_event source fuel q old e mark)

@@ -19,12 +19,11 @@ mod tuple;
 mod tuple_length;
 
 ghost use Rattle.std.specs.Prelude.{◌≡◌, ◌<◌, length, OnOk, true, false};
-ghost use Rattle.yaml_base.specs.Answer.{is_memory};
-ghost use Rattle.yaml_base.specs.declared.error.Cause.TheVariants.{BytesUnsupported};
-ghost use Rattle.yaml_base.specs.declared.error.Cause.TheVariants.{RecursionLimitExceeded, RepetitionLimitExceeded};
 ghost use Rattle.yaml_shape.specs.ShapeView.{shape_of};
 ghost use Rattle.yaml_load.specs.DocEventView.{doc_event_of};
 ghost use Rattle.yaml_load.specs.Ends.{GoForward};
+ghost use Rattle.yaml_scalar.specs.ReadFault.{bytes_unsupported, recursion_limit_exceeded, repetition_limit_exceeded};
+ghost use Rattle.yaml_scalar.specs.ReadingGives.{IsRefusedBy};
 ghost use Rattle.yaml_read.specs.inner.Questions.{question_of, Named, GivesNode, GivesStep, GivesEvent};
 ghost use Rattle.yaml_read.specs.inner.Reader.{takes, is_leaf};
 ghost use Rattle.yaml_read.specs.inner.Walks.{MovesOn, Costs};
@@ -46,7 +45,7 @@ use yaml_shape::{Data, Shape};
 #[cold]
 #[inline(never)]
 pub(super) fn too_deep(alloc: Global, mark: Mark) -> Refusal
-    ensures { is_memory result ≡ false → result ≡ RecursionLimitExceeded mark }
+    ensures { IsRefusedBy result (recursion_limit_exceeded mark) }
 {
     refuse(alloc, Error::new(Cause::RecursionLimitExceeded(mark)))
 }
@@ -55,7 +54,7 @@ pub(super) fn too_deep(alloc: Global, mark: Mark) -> Refusal
 #[cold]
 #[inline(never)]
 fn followed_too_often(alloc: Global) -> Refusal
-    ensures { is_memory result ≡ false → result ≡ RepetitionLimitExceeded }
+    ensures { IsRefusedBy result repetition_limit_exceeded }
 {
     refuse(alloc, Error::new(Cause::RepetitionLimitExceeded))
 }
@@ -64,7 +63,7 @@ fn followed_too_often(alloc: Global) -> Refusal
 #[cold]
 #[inline(never)]
 fn refused_bytes(alloc: Global) -> Refusal
-    ensures { is_memory result ≡ false → result ≡ BytesUnsupported }
+    ensures { IsRefusedBy result bytes_unsupported }
 {
     refuse(alloc, Error::new(Cause::BytesUnsupported))
 }

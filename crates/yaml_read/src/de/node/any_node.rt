@@ -2,7 +2,6 @@
 
 ghost use Rattle.std.specs.Prelude.{◌≡◌, ℕ, ◌+◌, ◌*◌, ◌<◌, ◌≤◌, [], length, None, OnOk, Some};
 ghost use Rattle.std.specs.Option.{is_some};
-ghost use Rattle.yaml_base.specs.Answer.{Gives};
 ghost use Rattle.yaml_shape.specs.DataView.{data_of, items_of, entries_of};
 ghost use Rattle.yaml_shape.specs.PlainData.{any_data};
 ghost use Rattle.yaml_shape.specs.PlainShape.{any_shape};
@@ -12,6 +11,7 @@ ghost use Rattle.yaml_tree.specs.Tree as tree;
 ghost use Rattle.yaml_tree.specs.Valid.{pairs_of};
 ghost use Rattle.yaml_load.specs.DocEventView.{doc_event_of};
 ghost use Rattle.yaml_load.specs.Ends.{GoForward};
+ghost use Rattle.yaml_scalar.specs.ReadingGives.{GivesReading};
 ghost use Rattle.yaml_scalar.specs.Steps.{wrap};
 ghost use Rattle.yaml_read.specs.AnyData.{tree_in, trees_in, pairs_in};
 ghost use Rattle.yaml_read.specs.Handing.{parts_depth, nesting_depth};
@@ -71,7 +71,7 @@ impl<'s, 'de> Source<'s, 'de> {
         requires within { walk.old.place < length self.now.events.now }
         requires forward { GoForward self.now.ends.now }
         ensures gives { (fuel : ℕ) → nesting_depth * (walk.old.left + ask.now.nest) < fuel
-            → Gives (λ x. (data_of x, spot_of walk.new)) result
+            → GivesReading (λ x. (data_of x, spot_of walk.new)) result
             (wrap (λ v. any_data (tagged name.now (tree_in v)))
             (by_node self.now fuel (taken_as (question_of ask.now) any_shape around_value) walk.old)) }
         ensures moves { OnOk result (MovesOn (length self.now.events.now) walk.old walk.new) }
@@ -146,7 +146,7 @@ impl<'s, 'de> Source<'s, 'de> {
         requires forward { GoForward self.now.ends.now }
         ensures gives { (fuel turns : ℕ) → parts_depth nest walk.old.left < fuel
             → length self.now.events.now < turns + walk.old.place
-            → Gives (λ x. (data_of x, spot_of walk.new)) result
+            → GivesReading (λ x. (data_of x, spot_of walk.new)) result
             (wrap (λ vs. any_data (sequence (trees_in (items_of vs)))) (sequence_parts (source_of self.now)
             (item_at (reader_of fuel self.now) (way_of path.now) any_shape nest)
             turns [] (spot_of walk.old))) }
@@ -174,7 +174,7 @@ impl<'s, 'de> Source<'s, 'de> {
         requires forward { GoForward self.now.ends.now }
         ensures gives { (fuel turns : ℕ) → parts_depth nest walk.old.left < fuel
             → length self.now.events.now < turns + walk.old.place
-            → Gives (λ x. (data_of x, spot_of walk.new)) result
+            → GivesReading (λ x. (data_of x, spot_of walk.new)) result
             (wrap (λ vs. any_data (tree.mapping (pairs_in (entries_of vs)))) (mapping_parts (source_of self.now)
             (any_entry_at (source_of self.now) (reader_of fuel self.now) (way_of path.now) nest)
             turns [] (spot_of walk.old))) }
@@ -201,7 +201,7 @@ impl<'s, 'de> Source<'s, 'de> {
         requires forward { GoForward self.now.ends.now }
         ensures gives { (fuel turns : ℕ) → parts_depth nest walk.old.left < fuel
             → length self.now.events.now < turns + walk.old.place
-            → Gives (λ x. (pairs_of x, spot_of walk.new)) result
+            → GivesReading (λ x. (pairs_of x, spot_of walk.new)) result
             (wrap (λ vs. pairs_in (entries_of vs)) (mapping_parts (source_of self.now)
             (any_entry_at (source_of self.now) (reader_of fuel self.now) (way_of path.now) nest)
             turns [] (spot_of walk.old))) }

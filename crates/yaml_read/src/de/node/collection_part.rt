@@ -1,12 +1,12 @@
 //! The parts of collections.
 
 ghost use Rattle.std.specs.Prelude.{◌≡◌, ℕ, ◌<◌, length, None, OnOk, Some, false};
-ghost use Rattle.yaml_base.specs.Answer.{Gives};
 ghost use Rattle.yaml_shape.specs.DataView.{data_of};
 ghost use Rattle.yaml_shape.specs.ShapeView.{shape_of};
 ghost use Rattle.yaml_shape.specs.Validity.{NamesWithin};
 ghost use Rattle.yaml_load.specs.DocEventView.{doc_event_of};
 ghost use Rattle.yaml_load.specs.Ends.{GoForward};
+ghost use Rattle.yaml_scalar.specs.ReadingGives.{GivesReading};
 ghost use Rattle.yaml_read.specs.Handing.{depth};
 ghost use Rattle.yaml_read.specs.Places.{value_under, way_of};
 ghost use Rattle.yaml_read.specs.inner.Questions.{question_of, Named, GivesNode};
@@ -42,7 +42,7 @@ impl<'s, 'de> Source<'s, 'de> {
         requires named { NamesWithin (length self.now.schema.now) (shape_of shape.now) }
         requires forward { GoForward self.now.ends.now }
         ensures gives { (fuel : ℕ) → depth self.now.schema.now (shape_of shape.now) false nest walk.old.left < fuel
-            → Gives (λ x. (data_of x, spot_of walk.new)) result
+            → GivesReading (λ x. (data_of x, spot_of walk.new)) result
             (reader_of fuel self.now (way_of path.now) (shape_of shape.now) nest None (spot_of walk.old)) }
         ensures moves { OnOk result (MovesOn (length self.now.events.now) walk.old walk.new) }
         ensures cost { Costs (length self.now.events.now) walk.old walk.new }
@@ -131,7 +131,7 @@ impl<'s, 'de> Source<'s, 'de> {
         requires named { NamesWithin (length self.now.schema.now) (shape_of shape.now) }
         requires forward { GoForward self.now.ends.now }
         ensures gives { (fuel : ℕ) → depth self.now.schema.now (shape_of shape.now) false nest walk.old.left < fuel
-            → Gives (λ x. (data_of x, spot_of walk.new)) result
+            → GivesReading (λ x. (data_of x, spot_of walk.new)) result
             (reader_of fuel self.now (value_under (way_of path.now) (doc_event_of key.now))
             (shape_of shape.now) nest None
             (spot_of walk.old)) }

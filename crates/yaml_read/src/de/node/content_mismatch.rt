@@ -1,11 +1,11 @@
 //! Nodes in place of what a variant holds: their data, or what was found.
 
-ghost use Rattle.std.specs.Prelude.{◌≡◌, Bool, Err, false, true};
-ghost use Rattle.yaml_base.specs.Answer.{Gives, is_memory};
+ghost use Rattle.std.specs.Prelude.{Bool, true};
 ghost use Rattle.yaml_shape.specs.DataView.{data_of};
 ghost use Rattle.yaml_shape.specs.PlainShape.{row_shape, fields_shape, of_variant};
 ghost use Rattle.yaml_shape.specs.ShapeView.{ids_of};
 ghost use Rattle.yaml_load.specs.DocEventView.{doc_event_of, doc_scalar_of};
+ghost use Rattle.yaml_scalar.specs.ReadingGives.{Refuses, Yields, lift};
 ghost use Rattle.yaml_scalar.specs.ScalarShapes.{scalar_answer};
 ghost use Rattle.yaml_read.specs.Fields.{Fields};
 ghost use Rattle.yaml_read.specs.inner.Reader.{other_answer};
@@ -26,7 +26,7 @@ fn scalar_in_row<'de>(
     items: &[ShapeId],
     scalar: &DocScalar<'_>,
 ) -> Result<Data<'de>>
-    ensures { Gives data_of result (scalar_answer
+    ensures { Yields data_of result (scalar_answer
         (row_shape (of_variant around.now.name.now around.now.variant.now) (ids_of items.now)) true
         (doc_scalar_of scalar.now)) }
 {
@@ -49,7 +49,7 @@ pub(crate) fn found_in_row<'de>(
     items: &[ShapeId],
     event: &DocEvent<'_>,
 ) -> Result<Data<'de>>
-    ensures { Gives data_of result (other_answer
+    ensures { Yields data_of result (other_answer
         (row_shape (of_variant around.now.name.now around.now.variant.now) (ids_of items.now))
         (doc_event_of event.now)) }
 {
@@ -67,9 +67,9 @@ pub(crate) fn found_in_row<'de>(
 
 /// The fault of a node whose tag is taken, and that is no mapping, in place of a variant's fields; or want of memory.
 pub(crate) fn found_in_fields(alloc: Global, around: &TakenBy<'_>, event: &DocEvent<'_>) -> Refusal
-    ensures { (strict : Bool) (fields : Fields) → is_memory result ≡ false
-        → other_answer (fields_shape strict (of_variant around.now.name.now around.now.variant.now) fields)
-        (doc_event_of event.now) ≡ Err result }
+    ensures { (strict : Bool) (fields : Fields) → Refuses result (lift (other_answer
+        (fields_shape strict (of_variant around.now.name.now around.now.variant.now) fields)
+        (doc_event_of event.now))) }
 {
     let expected = Expected::StructVariant {
         name: around.name,

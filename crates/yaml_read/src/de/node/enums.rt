@@ -1,13 +1,13 @@
 //! An enum: the variant that the node's tag names with what it holds, or a variant that the node's text names.
 
 ghost use Rattle.std.specs.Prelude.{◌≡◌, ℕ, suc, ◌+◌, ◌*◌, ◌<◌, length, All, OnOk, Some, false};
-ghost use Rattle.yaml_base.specs.Answer.{Gives};
 ghost use Rattle.yaml_shape.specs.DataView.{data_of};
 ghost use Rattle.yaml_shape.specs.PlainShape.{row_shape, fields_shape, enum_shape, of_variant, content_shape};
 ghost use Rattle.yaml_shape.specs.ShapeView.{content_of, fields_of, ids_of, variants_of};
 ghost use Rattle.yaml_shape.specs.Validity.{named_in, numbers_of};
 ghost use Rattle.yaml_load.specs.DocEventView.{doc_event_of};
 ghost use Rattle.yaml_load.specs.Ends.{GoForward};
+ghost use Rattle.yaml_scalar.specs.ReadingGives.{GivesReading};
 ghost use Rattle.yaml_scalar.specs.Steps.{with_shape};
 ghost use Rattle.yaml_read.specs.Handing.{is_filled_scalar, most_optionals, nesting_depth};
 ghost use Rattle.yaml_read.specs.NodeTags.{untaken_name};
@@ -100,7 +100,7 @@ impl<'s, 'de> Source<'s, 'de> {
         requires named { All (λ id. id < length self.now.schema.now) (named_in (content_of content.now)) }
         requires forward { GoForward self.now.ends.now }
         ensures gives { (fuel : ℕ) → nesting_depth * (walk.old.left + ask.now.nest) + most_optionals < fuel
-            → Gives (λ x. (data_of x, spot_of walk.new)) result
+            → GivesReading (λ x. (data_of x, spot_of walk.new)) result
             (with_shape
             (content_shape self.now.schema.now around.now.name.now around.now.variant.now (content_of content.now))
             (λ t. by_node self.now fuel (taken_as (question_of ask.now) t (plain_around around.now)) walk.old)) }

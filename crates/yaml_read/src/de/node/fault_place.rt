@@ -2,9 +2,10 @@
 
 ghost use Rattle.std.specs.Prelude.{◌≡◌, true, false, Err};
 ghost use Rattle.std.specs.Option.{is_some};
-ghost use Rattle.yaml_base.specs.Answer.{is_memory, Fails};
 ghost use Rattle.yaml_shape.specs.ShapeView.{shape_of};
 ghost use Rattle.yaml_load.specs.DocEventView.{doc_event_of};
+ghost use Rattle.yaml_scalar.specs.ReadFault.{ran_out};
+ghost use Rattle.yaml_scalar.specs.ReadingGives.{Refuses};
 ghost use Rattle.yaml_read.specs.Places.{way_of, placed, places, value_under};
 ghost use Rattle.yaml_read.specs.TreeReader.{Spot};
 ghost use Rattle.yaml_read.specs.inner.Reader.{place_at};
@@ -21,7 +22,7 @@ use yaml_shape::Shape;
 
 /// The fault at this place, if it has none yet, or want of memory.
 pub(crate) fn at_place(alloc: Global, refusal: Refusal, mark: Mark, path: &Path<'_>) -> Refusal
-    ensures { is_memory result ≡ false → result ≡ placed true mark (way_of path.now) refusal }
+    ensures { ran_out result ≡ false → result ≡ placed true mark (way_of path.now) refusal }
 {
     match refusal.into_error().fix_mark(alloc, mark, path) {
         Ok(fault) => refuse(alloc, fault),
@@ -50,7 +51,7 @@ impl<'s, 'de> Source<'s, 'de> {
         place: usize,
         refusal: Refusal,
     ) -> Refusal
-        ensures { Fails result (place_at {A = Spot} (way_of ask.now.path.now) (shape_of ask.now.shape.now)
+        ensures { Refuses result (place_at {A = Spot} (way_of ask.now.path.now) (shape_of ask.now.shape.now)
             (is_some (around_of ask.now.taken))
             (seen self.now.events.now place) (Err refusal)) }
     {

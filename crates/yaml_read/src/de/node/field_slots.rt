@@ -1,12 +1,12 @@
 //! The fields of a struct: found by their names, each at most once.
 
 ghost use Rattle.std.specs.Prelude.{◌≡◌, ◌<◌, None, Some, IfOk, IfSome, set, length, false};
-ghost use Rattle.yaml_base.specs.Answer.{Gives, is_memory};
 ghost use Rattle.yaml_base.specs.PathText.{path_text};
-ghost use Rattle.yaml_base.specs.declared.error.Cause.TheVariants.{MissingField, DuplicateField, UnknownField};
 ghost use Rattle.yaml_shape.specs.DataView.{data_of};
 ghost use Rattle.yaml_shape.specs.ShapeView.{fields_of};
 ghost use Rattle.yaml_shape.specs.Validity.{names_of};
+ghost use Rattle.yaml_scalar.specs.ReadFault.{at_node, duplicate_field, missing_field, unknown_field};
+ghost use Rattle.yaml_scalar.specs.ReadingGives.{IsRefusedBy, Yields};
 ghost use Rattle.yaml_read.specs.Fields.{find, is_free, no_slots, field_named};
 ghost use Rattle.yaml_read.specs.inner.Walks.{slots_of, field_view, IsAmong};
 
@@ -85,20 +85,21 @@ fn unknown_field(
     alloc: Global,
     fields: &[(String, ShapeId)],
     name: &str,
-) -> Result<Cause, AllocError>
-    ensures { IfOk result
-        (λ cause. cause ≡ UnknownField name.now (names_of (fields_of fields.now)) None) }
+) -> Result<Refusal, AllocError>
+    ensures { IfOk result (λ refusal. IsRefusedBy refusal
+        (at_node (unknown_field name.now (names_of (fields_of fields.now))) None)) }
 {
-    Ok(Cause::UnknownField {
+    let fault = Cause::UnknownField {
         name: words(alloc, name)?,
         known: names(alloc, fields)?,
         place: None,
-    })
+    };
+    Ok(refuse(alloc, Error::new(fault)))
 }
 
 // The fault of a field that is there twice, or want of memory.
 fn duplicate_field(alloc: Global, name: &str) -> Refusal
-    ensures { is_memory result ≡ false → result ≡ DuplicateField name.now None }
+    ensures { IsRefusedBy result (at_node (duplicate_field name.now) None) }
 {
     match words(alloc, name) {
         Ok(name) => refuse(
@@ -111,7 +112,7 @@ fn duplicate_field(alloc: Global, name: &str) -> Refusal
 
 /// The fault of a field that is missing, or want of memory.
 pub(crate) fn missing_field(alloc: Global, name: &str) -> Refusal
-    ensures { is_memory result ≡ false → result ≡ MissingField name.now None }
+    ensures { IsRefusedBy result (at_node (missing_field name.now) None) }
 {
     match words(alloc, name) {
         Ok(name) => refuse(alloc, Error::new(Cause::MissingField { name, place: None })),
@@ -129,7 +130,7 @@ pub(crate) fn field_named(
     name: &str,
     mark: Mark,
 ) -> Result<Option<(usize, ShapeId)>, Refusal>
-    ensures gives { Gives field_view result (field_named names.now.strict (fields_of names.now.fields.now)
+    ensures gives { Yields field_view result (field_named names.now.strict (fields_of names.now.fields.now)
         (slots_of slots.now) name.now
         (record { mark = mark; path = path_text path.now })) }
     ensures found { IfOk result (λ key. IfSome key (IsAmong (fields_of names.now.fields.now))) }
@@ -147,7 +148,7 @@ pub(crate) fn field_named(
                 return Ok(None);
             }
             let fault = unknown_field(alloc, names.fields.fields(), name)?;
-            Err(at_place(alloc, refuse(alloc, Error::new(fault)), mark, path))
+            Err(at_place(alloc, fault, mark, path))
         }
     }
 }

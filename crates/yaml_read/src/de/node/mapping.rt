@@ -1,13 +1,13 @@
 //! A mapping whose keys have one shape, and whose values have another.
 
 ghost use Rattle.std.specs.Prelude.{◌≡◌, ℕ, ◌+◌, ◌<◌, ◌≤◌, [], length, map, OnOk, Some};
-ghost use Rattle.yaml_base.specs.Answer.{Gives};
 ghost use Rattle.yaml_shape.specs.DataView.{entry_of};
 ghost use Rattle.yaml_shape.specs.PlainShape.{map_shape};
 ghost use Rattle.yaml_shape.specs.ShapeView.{shape_of};
 ghost use Rattle.yaml_shape.specs.Validity.{NamesWithin};
 ghost use Rattle.yaml_load.specs.DocEventView.{doc_event_of};
 ghost use Rattle.yaml_load.specs.Ends.{GoForward};
+ghost use Rattle.yaml_scalar.specs.ReadingGives.{GivesReading};
 ghost use Rattle.yaml_read.specs.Handing.{reach, parts_depth};
 ghost use Rattle.yaml_read.specs.Places.{way_of};
 ghost use Rattle.yaml_read.specs.inner.Questions.{question_of, Named, GivesShape};
@@ -78,7 +78,7 @@ impl<'s, 'de> Source<'s, 'de> {
         requires forward { GoForward self.now.ends.now }
         ensures gives { (fuel turns : ℕ) → parts_depth nest walk.old.left < fuel
             → length self.now.events.now < turns + walk.old.place
-            → Gives (λ x. (map entry_of x.items, spot_of walk.new)) result
+            → GivesReading (λ x. (map entry_of x.items, spot_of walk.new)) result
             (mapping_parts (source_of self.now)
             (entry_at (source_of self.now) (reader_of fuel self.now) (way_of path.now) (shape_of key.now)
             (shape_of value.now) nest)

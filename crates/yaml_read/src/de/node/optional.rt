@@ -2,11 +2,11 @@
 
 ghost use Rattle.std.specs.Prelude.{◌≡◌, ℕ, suc, ◌+◌, ◌*◌, ◌<◌, length, List, OnOk};
 ghost use Rattle.std.specs.Option.{is_some};
-ghost use Rattle.yaml_base.specs.Answer.{Gives};
 ghost use Rattle.yaml_shape.specs.DataView.{data_of};
 ghost use Rattle.yaml_shape.specs.PlainShape.{option_shape, newtype_shape};
 ghost use Rattle.yaml_load.specs.DocEventView.{doc_event_of};
 ghost use Rattle.yaml_load.specs.Ends.{GoForward};
+ghost use Rattle.yaml_scalar.specs.ReadingGives.{GivesReading};
 ghost use Rattle.yaml_read.specs.Handing.{is_content, untaken_reach, nesting_depth};
 ghost use Rattle.yaml_read.specs.Places.{way_of};
 ghost use Rattle.yaml_read.specs.inner.Questions.{question_of, Named, GivesShape};
@@ -82,7 +82,7 @@ impl<'s, 'de> Source<'s, 'de> {
         requires forward { GoForward self.now.ends.now }
         ensures gives { (fuel : ℕ) (name : List ℕ) → nesting_depth * (walk.old.left + ask.now.nest) + untaken_reach
             (is_some (around_of ask.now.taken)) < suc fuel
-            → Gives (λ x. (data_of x, spot_of walk.new)) result
+            → GivesReading (λ x. (data_of x, spot_of walk.new)) result
             (shape_step (source_of self.now) (reader_of fuel self.now) (way_of ask.now.path.now)
             (newtype_shape name content.0) ask.now.nest (around_of ask.now.taken)
             (spot_of walk.old) (seen self.now.events.now walk.old.place)) }

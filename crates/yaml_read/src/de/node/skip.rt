@@ -1,11 +1,11 @@
 //! Stepping over a node as a whole.
 
 ghost use Rattle.std.specs.Prelude.{◌≡◌, length, OnOk};
-ghost use Rattle.yaml_base.specs.Answer.{Gives};
 ghost use Rattle.yaml_shape.specs.DataView.{data_of};
 ghost use Rattle.yaml_shape.specs.PlainData.{ignored_data};
 ghost use Rattle.yaml_load.specs.DocEventView.{doc_event_of};
 ghost use Rattle.yaml_load.specs.Ends.{is_closing, GoForward};
+ghost use Rattle.yaml_scalar.specs.ReadingGives.{GivesReading};
 ghost use Rattle.yaml_read.specs.inner.Reader.{skip_at};
 ghost use Rattle.yaml_read.specs.inner.Walks.{source_of, spot_of, MovesOn, Costs};
 
@@ -26,7 +26,7 @@ impl<'s, 'de> Source<'s, 'de> {
     /// Steps over the node at the walk's place.
     pub(crate) fn pass_over(&self, walk: &mut Walk) -> Result<()>
         requires forward { GoForward self.now.ends.now }
-        ensures gives { Gives (λ _. (ignored_data, spot_of walk.new)) result
+        ensures gives { GivesReading (λ _. (ignored_data, spot_of walk.new)) result
             (skip_at (source_of self.now) (spot_of walk.old)) }
         ensures moves { OnOk result (MovesOn (length self.now.events.now) walk.old walk.new) }
         ensures cost { Costs (length self.now.events.now) walk.old walk.new }
@@ -51,7 +51,7 @@ impl<'s, 'de> Source<'s, 'de> {
     #[inline(never)]
     pub(crate) fn read_ignored(&self, walk: &mut Walk) -> Result<Data<'de>>
         requires forward { GoForward self.now.ends.now }
-        ensures gives { Gives (λ x. (data_of x, spot_of walk.new)) result
+        ensures gives { GivesReading (λ x. (data_of x, spot_of walk.new)) result
             (skip_at (source_of self.now) (spot_of walk.old)) }
         ensures moves { OnOk result (MovesOn (length self.now.events.now) walk.old walk.new) }
         ensures cost { Costs (length self.now.events.now) walk.old walk.new }

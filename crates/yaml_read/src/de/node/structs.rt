@@ -2,12 +2,12 @@
 
 ghost use Rattle.std.specs.Prelude.{◌≡◌, ℕ, ◌+◌, ◌*◌, ◌<◌, ◌≤◌, length, All, OnOk, IfOk, IfSome, Some, Ok};
 ghost use Rattle.std.specs.Option.{option_map};
-ghost use Rattle.yaml_base.specs.Answer.{Gives};
 ghost use Rattle.yaml_shape.specs.DataView.{data_of};
 ghost use Rattle.yaml_shape.specs.ShapeView.{field_of, fields_of};
 ghost use Rattle.yaml_shape.specs.Validity.{numbers_of};
 ghost use Rattle.yaml_load.specs.DocEventView.{doc_event_of};
 ghost use Rattle.yaml_load.specs.Ends.{GoForward};
+ghost use Rattle.yaml_scalar.specs.ReadingGives.{GivesReading, Yields};
 ghost use Rattle.yaml_read.specs.Fields.{name_in, no_slots, struct_of, field_data};
 ghost use Rattle.yaml_read.specs.Handing.{is_bare, nesting_depth, parts_depth, tag_depth};
 ghost use Rattle.yaml_read.specs.Places.{way_of};
@@ -107,7 +107,7 @@ impl<'s, 'de> Source<'s, 'de> {
         requires forward { GoForward self.now.ends.now }
         ensures gives { (fuel turns : ℕ) → parts_depth nest walk.old.left < fuel
             → length self.now.events.now < turns + walk.old.place
-            → Gives (λ x. (slots_of x.items, spot_of walk.new)) result
+            → GivesReading (λ x. (slots_of x.items, spot_of walk.new)) result
             (mapping_parts (source_of self.now)
             (field_at (source_of self.now) (reader_of fuel self.now) (way_of path.now) names.now.strict
             (fields_of names.now.fields.now) nest)
@@ -148,7 +148,7 @@ impl<'s, 'de> Source<'s, 'de> {
         requires named { All (λ id. id < length self.now.schema.now) (numbers_of (fields_of names.now.fields.now)) }
         requires forward { GoForward self.now.ends.now }
         ensures gives { (fuel : ℕ) → parts_depth nest walk.old.left < fuel
-            → Gives (λ _. (slots_of slots.new.items, spot_of walk.new)) result
+            → GivesReading (λ _. (slots_of slots.new.items, spot_of walk.new)) result
             (field_at (source_of self.now) (reader_of fuel self.now) (way_of path.now) names.now.strict
             (fields_of names.now.fields.now) nest
             (slots_of slots.old.items) (spot_of walk.old)) }
@@ -188,7 +188,7 @@ impl<'s, 'de> Source<'s, 'de> {
         requires within { walk.old.place < length self.now.events.now }
         requires forward { GoForward self.now.ends.now }
         ensures gives { (fuel : ℕ) → nesting_depth * (walk.old.left + nest) + tag_depth < fuel
-            → Gives (λ x. (
+            → GivesReading (λ x. (
               (field_view x, value_way (way_of path.now) (seen self.now.events.now walk.old.place)),
               spot_of walk.new,
             )) result
@@ -237,7 +237,7 @@ impl<'s, 'de> Source<'s, 'de> {
     // The data of a field: what was read, or absent where its shape is an optional.
     fn field_data(&self, field: &(String, ShapeId), slot: Option<Data<'de>>) -> Result<Data<'de>>
         requires named { field.now.1.0 < length self.now.schema.now }
-        ensures { Gives data_of result (field_data self.now.schema.now (field_of field.now)
+        ensures { Yields data_of result (field_data self.now.schema.now (field_of field.now)
             (option_map data_of slot.entry)) }
     {
         match slot {
@@ -256,7 +256,7 @@ impl<'s, 'de> Source<'s, 'de> {
         slots: Vec<Option<Data<'de>>>,
     ) -> Result<Data<'de>>
         requires named { All (λ id. id < length self.now.schema.now) (numbers_of (fields_of fields.now)) }
-        ensures { Gives data_of result (struct_of self.now.schema.now (fields_of fields.now)
+        ensures { Yields data_of result (struct_of self.now.schema.now (fields_of fields.now)
             (slots_of slots.entry.items)) }
     {
         let mut items = Vec::with_capacity(self.alloc, fields.len())?;
@@ -271,7 +271,7 @@ impl<'s, 'de> Source<'s, 'de> {
     /// A struct of which no field is there.
     pub(crate) fn bare_struct(&self, fields: &[(String, ShapeId)]) -> Result<Data<'de>>
         requires named { All (λ id. id < length self.now.schema.now) (numbers_of (fields_of fields.now)) }
-        ensures { Gives data_of result
+        ensures { Yields data_of result
             (struct_of self.now.schema.now (fields_of fields.now) (no_slots (fields_of fields.now))) }
     {
         let slots = no_slots(self.alloc, fields)?;

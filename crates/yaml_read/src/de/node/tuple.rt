@@ -1,10 +1,10 @@
 //! A tuple, or a tuple struct: as many elements as there are shapes.
 
 ghost use Rattle.std.specs.Prelude.{◌≡◌, ℕ, ◌+◌, ◌<◌, ◌≤◌, length, All, OnOk, IfOk};
-ghost use Rattle.yaml_base.specs.Answer.{Gives};
 ghost use Rattle.yaml_shape.specs.PlainShape.{row_shape};
 ghost use Rattle.yaml_shape.specs.ShapeView.{ids_of};
 ghost use Rattle.yaml_load.specs.Ends.{GoForward};
+ghost use Rattle.yaml_scalar.specs.ReadingGives.{GivesReading};
 ghost use Rattle.yaml_read.specs.Handing.{parts_depth};
 ghost use Rattle.yaml_read.specs.Places.{way_of};
 ghost use Rattle.yaml_read.specs.Rows.{row_of};
@@ -69,7 +69,7 @@ impl<'s, 'de> Source<'s, 'de> {
         requires forward { GoForward self.now.ends.now }
         ensures gives { (fuel turns : ℕ) → parts_depth nest walk.old.left < fuel
             → length self.now.events.now < turns + walk.old.place
-            → Gives (λ x. (row_view (ids_of items.now) x, spot_of walk.new)) result
+            → GivesReading (λ x. (row_view (ids_of items.now) x, spot_of walk.new)) result
             (sequence_parts (source_of self.now) (row_at (source_of self.now) (reader_of fuel self.now)
             (way_of path.now) nest)
             turns (row_of (ids_of items.now)) (spot_of walk.old)) }

@@ -1,18 +1,17 @@
 //! The elements of a tuple.
 
-ghost use Rattle.std.specs.Prelude.{◌≡◌, slice_get, ◌+◌, ◌<◌, ◌^◌, length, None, Ok, string_bytes};
+ghost use Rattle.std.specs.Prelude.{◌≡◌, slice_get, ◌+◌, ◌<◌, ◌^◌, length, Ok, string_bytes};
 ghost use Rattle.std.specs.Option.{option_map};
-ghost use Rattle.yaml_base.specs.Answer.{Gives};
-ghost use Rattle.yaml_base.specs.declared.error.Cause.TheVariants.{InvalidLength};
 ghost use Rattle.yaml_shape.specs.DataView.{data_of};
 ghost use Rattle.yaml_shape.specs.Expected.{few_text};
 ghost use Rattle.yaml_shape.specs.ShapeView.{ids_of};
+ghost use Rattle.yaml_scalar.specs.ReadingGives.{Yields};
 ghost use Rattle.yaml_read.specs.Rows.{row_data};
 ghost use Rattle.yaml_read.specs.inner.Walks.{owner_of, row_view};
 
 use std::alloc::Global;
-use yaml_base::{Cause, Error, Words};
-use yaml_scalar::{Refusal, Result, refuse};
+use yaml_base::Words;
+use yaml_scalar::{Refusal, Result, wrong_length};
 use yaml_shape::{Data, ShapeId, sequence_of, tuple_struct_with, tuple_variant_with};
 
 /// The elements that were read, and how many more there are.
@@ -42,7 +41,7 @@ pub(crate) fn item_here(items: &[ShapeId], place: usize) -> Option<ShapeId>
 
 // What a node with too few elements is expected to be.
 fn expected(alloc: Global, owner: Owner<'_>, count: usize) -> Result<String>
-    ensures { Gives string_bytes result (Ok (few_text (owner_of owner.entry) count)) }
+    ensures { Yields string_bytes result (Ok (few_text (owner_of owner.entry) count)) }
 {
     match owner {
         Owner::Tuple => Ok(format!(in alloc; "a tuple of size {count}")?),
@@ -67,13 +66,14 @@ pub(crate) fn finish<'de>(
     elements: Elements<'de>,
 ) -> Result<Data<'de>>
     requires few { length elements.read.items + elements.extra < 2 ^ 64 }
-    ensures { Gives data_of result (row_data (owner_of owner.entry) (length (ids_of items.now))
+    ensures { Yields data_of result (row_data (owner_of owner.entry) (length (ids_of items.now))
         (row_view (ids_of items.now) elements.entry)) }
 {
     let count = items.len();
     let length = elements.read.len();
     if length < count {
-        return Err(refuse(alloc, wrong_length(length, expected(alloc, owner, count)?)));
+        let expected = Words::new(expected(alloc, owner, count)?);
+        return Err(wrong_length(alloc, length, expected));
     }
     if elements.extra == 0 {
         return Ok(Data::Tuple(elements.read));
@@ -81,16 +81,5 @@ pub(crate) fn finish<'de>(
     let Ok(expected) = sequence_of(alloc, count) else {
         return Err(Refusal::memory());
     };
-    Err(refuse(alloc, wrong_length(length + elements.extra, expected)))
-}
-
-// The fault of a tuple with another number of elements.
-fn wrong_length(length: usize, expected: String) -> Error
-    ensures { result ≡ InvalidLength length (string_bytes expected) None }
-{
-    Error::new(Cause::InvalidLength {
-        length,
-        expected: Words::new(expected),
-        place: None,
-    })
+    Err(wrong_length(alloc, length + elements.extra, Words::new(expected)))
 }

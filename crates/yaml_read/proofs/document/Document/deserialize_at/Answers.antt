@@ -4,9 +4,11 @@ use Rattle.yaml_base.specs.Position.{Position}
 use Rattle.yaml_shape.specs.DataView.{data_of}
 use Rattle.yaml_shape.specs.ShapeView.{shape_of}
 use Rattle.yaml_load.specs.PlainDocEvent.{PlainDocEvent}
+use Rattle.yaml_scalar.specs.ReadFault.{cause_of}
 use Rattle.yaml_read.specs.NodeReads.{NodeGives}
 use Rattle.yaml_read.specs.Places.{way_of}
 use Rattle.yaml_read.proofs.reading.EndLaws.{ends_go_forward}
+use Rattle.yaml_read.proofs.reading.ReadingCauses.{known_refusal}
 use Rattle.yaml_read.proofs.reading.SingleNodes.{seen_node, node_data, node_fault, one_shape}
 use Rattle.yaml_read.proofs.document.Document.deserialize_at.Goals as goal
 
@@ -33,9 +35,9 @@ returns-in-Ok-clause-read c = λ s there.
 pub returns-in-None-clause-read : goal.returns-in-None-clause-read
 returns-in-None-clause-read c = λ s there. rw c.into_error.ensures (λ known.
     subst (λ t. NodeGives c.args.schema.now t c.args.self.now (way_of c.args.path.now) c.args.at.now c.args.at.now
-    (Err c.in-Err.refusal)) (one_shape _ _ (sym there ∙ c.shape.ensures.found))
+    (Err (cause_of c.in-Err.refusal))) (one_shape _ _ (sym there ∙ c.shape.ensures.found))
     (node_fault c.args.schema.now (shape_of c.shape.result.now) c.args.self.now (way_of c.args.path.now) c.args.at.now
     c.optionals_end.ensures.small c.optionals_end.ensures.falls c.shape.ensures.small c.in-Err.refusal c.args.at.now
     (λ root is. seen_node c.args.schema.now (shape_of c.shape.result.now) c.args.self.now (way_of c.args.path.now)
     c.args.at.now c.events.result.now c.ends.result.now _ _ c.taker.ensures c.shape.ensures.small
-    c.events.ensures.shown c.ends.ensures (λ fuel lt. c.in-Err.ensures.gives fuel lt known))))
+    c.events.ensures.shown c.ends.ensures (λ fuel lt. c.in-Err.ensures.gives fuel lt (known_refusal c.in-Err.refusal known)))))

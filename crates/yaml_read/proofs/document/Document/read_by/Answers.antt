@@ -2,7 +2,6 @@
 use Rattle.std.proofs.Common.{◌≡◌, ◌*◌, Ok, Err, false, sym, ap, subst, ◌∙◌, map, length, arith}
 use Rattle.std.proofs.lemmas.List.{length-map}
 use Rattle.std.specs.Option.{option_copied}
-use Rattle.yaml_base.specs.Answer.{is_memory}
 use Rattle.yaml_base.specs.Position.{Position}
 use Rattle.yaml_shape.specs.DataView.{data_of}
 use Rattle.yaml_shape.specs.ShapeView.{shape_of}
@@ -10,9 +9,11 @@ use Rattle.yaml_load.specs.DocEventView.{doc_event_of}
 use Rattle.yaml_load.specs.PlainDocEvent.{PlainDocEvent}
 use Rattle.yaml_load.specs.StreamLaw.{IsEnding}
 use Rattle.yaml_load.specs.declared.doc_event.DocEvent.{DocEvent}
+use Rattle.yaml_scalar.specs.ReadFault.{cause_of, ran_out}
 use Rattle.yaml_read.proofs.WholeEnds.{seen_within, read_ends, leaves}
 use Rattle.yaml_read.proofs.reading.EndLaws.{ends_go_forward}
-use Rattle.yaml_read.proofs.reading.Whole.{answered, refused, refusal_kind, own_refusal, cut_gives}
+use Rattle.yaml_read.proofs.reading.ReadingCauses.{known_refusal, refusal_kind}
+use Rattle.yaml_read.proofs.reading.Whole.{answered, fault_answered, cut_own, cut_gives}
 use Rattle.yaml_read.proofs.reading.Whole.{gives_of_exact, told_cut, data_cut, ending_own, whole_reading}
 use Rattle.yaml_read.proofs.document.Document.read_by.Goals as goal
 
@@ -61,13 +62,12 @@ returns-in-None-error-clause-read c = λ fresh. rw c.into_error.ensures (λ faul
     c.events.result.now c.ends.result.now _
     c.nesting.result (c.follows.result * length c.events.result.now) (sym c.nesting.ensures)
     (ap (λ x. x * length c.events.result.now) (sym c.follows.ensures.value))
-    c.events.ensures.shown c.ends.ensures (λ fuel lt. c.in-Err.ensures.gives fuel lt fault) in
+    c.events.ensures.shown c.ends.ensures (λ fuel lt. c.in-Err.ensures.gives fuel lt (known_refusal c.in-Err.refusal fault)) in
     gives_of_exact c.args.limits c.args.schema.now (shape_of c.args.shape.now) c.args.self.now
     c.optionals_end.ensures.small c.optionals_end.ensures.falls c.requires.small
-    (Err c.in-Err.refusal) (sym c.error-in-Err.ensures.shown ∙ ap option_copied c.in-None-error.is)
-    (refusal_kind c.args.limits c.args.schema.now (shape_of c.args.shape.now) c.args.self.now c.in-Err.refusal seen
-    fault)
-    (refused c.args.limits c.args.schema.now (shape_of c.args.shape.now) c.args.self.now c.in-Err.refusal seen))
+    (Err (cause_of c.in-Err.refusal)) (sym c.error-in-Err.ensures.shown ∙ ap option_copied c.in-None-error.is)
+    (refusal_kind c.in-Err.refusal (known_refusal c.in-Err.refusal fault))
+    (fault_answered c.args.limits c.args.schema.now (shape_of c.args.shape.now) c.args.self.now c.in-Err.refusal seen))
 
 pub returns-in-Ok-clause-read : goal.returns-in-Ok-clause-read
 returns-in-Ok-clause-read c = λ fresh fault.
@@ -85,7 +85,7 @@ returns-in-Ok-clause-read c = λ fresh fault.
 pub returns-clause-read : goal.returns-clause-read
 returns-clause-read c = λ fresh fault.
     let cut = sym c.error-in-Err.ensures.shown ∙ ap option_copied c.in-Some-error.is in
-    let seen : is_memory c.in-Err.refusal ≡ false
+    let seen : ran_out c.in-Err.refusal ≡ false
     → whole_reading c.args.limits c.args.schema.now c.args.self.now (shape_of c.args.shape.now) ≡ Err c.in-Err.refusal = λ known.
     seen_within c.args.limits c.args.schema.now (shape_of c.args.shape.now) c.requires.small c.args.self.now
     c.events.result.now c.ends.result.now _
@@ -94,9 +94,8 @@ returns-clause-read c = λ fresh fault.
     c.events.ensures.shown c.ends.ensures (λ fuel lt. c.in-Err.ensures.gives fuel lt known) in
     cut_gives c.args.limits c.args.schema.now (shape_of c.args.shape.now) c.args.self.now c.cut_off_fault.result
     c.in-Some-error.ending.now cut
-    (c.cut_off_fault.ensures.own
-    (own_refusal c.args.limits c.args.schema.now (shape_of c.args.shape.now) c.args.self.now c.in-Err.refusal seen)
-    (subst IsEnding cut c.error-in-Err.ensures.kind) fault)
+    (cut_own c.in-Err.refusal _ c.in-Some-error.ending.now (subst IsEnding cut c.error-in-Err.ensures.kind)
+    c.cut_off_fault.ensures.ended c.cut_off_fault.ensures.kept fault)
     (told_cut c.args.limits c.args.schema.now (shape_of c.args.shape.now) c.args.self.now c.in-Err.refusal c.cut_off_fault.result
     c.in-Some-error.ending.now seen c.cut_off_fault.ensures.ended c.cut_off_fault.ensures.kept fault)
     fault

@@ -7,7 +7,9 @@ use Rattle.yaml_shape.specs.DataView.{data_of, items_of}
 use Rattle.yaml_shape.specs.PlainData.{struct_data}
 use Rattle.yaml_shape.specs.ShapeView.{field_of}
 use Rattle.yaml_shape.specs.declared.data.Data.{Struct, the_lemmas}
+use Rattle.yaml_scalar.specs.ReadingGives.{lift}
 use Rattle.yaml_scalar.specs.Steps.{◌>>=◌}
+use Rattle.yaml_scalar.proofs.LiftLaws.{lifted_fails}
 use Rattle.yaml_read.specs.Fields.{field_data}
 use Rattle.yaml_read.specs.inner.Walks.{slots_of}
 use Rattle.yaml_read.proofs.FieldCode.{number_within}
@@ -32,11 +34,11 @@ returns-in_err-field_data c =
     c.next.ensures.cases c.next.ensures.items c.loop-field.invariant.counted in
     handed_on data_of c.from_residual-in_err-field_data.result c.in_err-field_data.field-0.0 _
     c.from_residual-in_err-field_data.ensures.1
-    (λ small. ap (λ vs. vs >>= λ l. Ok (struct_data (items_of l)))
+    (λ small. lifted_fails _ (λ l. Ok (struct_data (items_of l))) _
     (gathered_ends table c.loop-field.items.items c.args.fields.now c.loop-field.field-index c.field-item.result
     (into_iter_items c.loop-field.rest) (into_iter_items c.next.new.self) c.next.result _
     c.in_err-field_data.field-0.0 _ here slot
-    (ap (λ o. field_data table (field_of c.field-item.result) (option_map data_of o)) (sym c.flatten-slot.ensures)
+    (ap (λ o. lift (field_data table (field_of c.field-item.result) (option_map data_of o))) (sym c.flatten-slot.ensures)
     ∙ c.in_err-field_data.ensures small)
     c.loop-field.invariant.left))
 
@@ -54,8 +56,8 @@ loop-field-preserved c =
           (gathered_next table c.loop-field.items.items c.args.fields.now c.loop-field.field-index c.field-item.result
           (into_iter_items c.loop-field.rest) (into_iter_items c.next.new.self) c.next.result _
           c.in_ok-field_data.field-0 _ here slot
-          (ap (λ o. field_data table (field_of c.field-item.result) (option_map data_of o)) (sym c.flatten-slot.ensures)
-          ∙ c.in_ok-field_data.ensures)
+          (ap (λ o. lift (field_data table (field_of c.field-item.result) (option_map data_of o)))
+          (sym c.flatten-slot.ensures) ∙ c.in_ok-field_data.ensures)
           c.loop-field.invariant.left);
     }
 
@@ -64,7 +66,7 @@ returns c =
     let items = c.loop-field.items in
     let seen_as : data_of (Struct items) ≡ struct_data (items_of (map data_of items.items)) =
     search (rules, the_lemmas) in
-    ap (λ vs. vs >>= λ l. Ok (struct_data (items_of l)))
+    ap (λ vs. lift (vs >>= λ l. Ok (struct_data (items_of l))))
     (gathered_all c.args.self.now.schema.now items.items c.args.fields.now c.loop-field.field-index
     (slots_of (into_iter_items c.loop-field.rest)) _ c.loop-field-test.false c.loop-field.invariant.left)
     ∙ ap (λ v. Ok v) (sym seen_as)

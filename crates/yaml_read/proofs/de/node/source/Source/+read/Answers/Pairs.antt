@@ -87,8 +87,8 @@ read_pairs-returns-then-has_key t c =
           (way_of c.args.path.now) c.args.nest vs (spot_of l.walk) _ _ _
           (rw c.requires.shape at (c.in-Ok.ensures.gives fuel (omega (arith, v.left, lt, flat))))
           (key_again vs (data_of c.in-Ok.key) (pairs_of l.pairs) v.same
-          (rw c.value_in-key.ensures at (sym c.has_key.ensures ∙ c.if-has_key.true))
-          ∙ (rw (← c.value_in-key.ensures) (ap Err (sym (c.duplicate_entry.ensures fault)))))));
+          (rw c.value_in-key.ensures at (sym c.has_key.ensures ∙ c.if-has_key.true)))))
+          ∙ (rw (← c.value_in-key.ensures) (ap Err (sym (c.duplicate_entry.ensures fault))));
       moves = tt;
       cost = omega (arith, v.cost, c.in-Ok.ensures.moves);
     }

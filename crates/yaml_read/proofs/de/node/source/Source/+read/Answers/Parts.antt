@@ -1,12 +1,11 @@
 -- What the reader gives at each exit: nodes within others, and aliases.
 use Rattle.std.proofs.Common.{Ok, Err, Some, None, ◌+◌, ◌-◌, true, sym, ap, ◌∙◌, arith, refl}
 use Rattle.std.specs.Option.{is_some}
-use Rattle.yaml_base.specs.Answer.{is_memory}
-use Rattle.yaml_base.specs.PathText.{path_text}
 use Rattle.yaml_shape.specs.DataView.{data_of}
 use Rattle.yaml_shape.specs.ShapeView.{shape_of}
 use Rattle.yaml_load.specs.DocEventView.{doc_event_of, doc_scalar_of}
-use Rattle.yaml_scalar.specs.Steps.{ending}
+use Rattle.yaml_scalar.specs.ReadFault.{ran_out}
+use Rattle.yaml_scalar.specs.Steps.{with_end}
 use Rattle.yaml_read.specs.Handing.{early}
 use Rattle.yaml_read.specs.Places.{way_of, value_under, place, placed, places}
 use Rattle.yaml_read.specs.TreeReader.{Spot, after}
@@ -14,7 +13,7 @@ use Rattle.yaml_read.specs.inner.Walks.{around_of, source_of, spot_of}
 use Rattle.yaml_read.specs.inner.Questions.{question_of}
 use Rattle.yaml_read.proofs.reading.Exits.{same_spot, step_late}
 use Rattle.yaml_read.proofs.reading.LeafExits.{leaf_alias, leaf_scalar}
-use Rattle.yaml_read.proofs.reading.PlaceLaws.{filled_memory, node_read, node_refused_here}
+use Rattle.yaml_read.proofs.reading.PlaceLaws.{placed_memory, node_read, node_refused_here}
 use Rattle.yaml_read.proofs.de.node.source.Source.+read.Goals as goal
 
 pub read_part-returns-in-Ok-clause-gives : goal.read_part-returns-in-Ok-clause-gives
@@ -23,7 +22,7 @@ read_part-returns-in-Ok-clause-gives t c = λ fuel lt.
     (spot_of c.args.walk.now) fuel (doc_scalar_of c.in-Scalar.scalar) c.args.event.now.1 (omega arith)
     (sym c.requires.leaf ∙ c.if-leaf.true) (c.requires.here
     ∙ ap (λ e. Some (doc_event_of e, c.args.event.now.1)) c.in-Scalar.is)
-    ∙ ap (λ r. place true c.args.event.now.1 (way_of c.args.path.now) (ending (after (spot_of c.args.walk.now)) r))
+    ∙ ap (λ r. place true c.args.event.now.1 (way_of c.args.path.now) (with_end (after (spot_of c.args.walk.now)) r))
     c.in-Ok.ensures.gives
     ∙ ap (λ p. Ok (data_of c.in-Ok.data, p))
     (sym (same_spot (spot_of c.step.new.self) (after (spot_of c.args.walk.now)) c.step.ensures.place
@@ -36,9 +35,9 @@ read_part-returns-in-Err-clause-gives t c = λ fuel lt m.
     (spot_of c.args.walk.now) fuel (doc_scalar_of c.in-Scalar.scalar) c.args.event.now.1 (omega arith)
     (sym c.requires.leaf ∙ c.if-leaf.true) (c.requires.here
     ∙ ap (λ e. Some (doc_event_of e, c.args.event.now.1)) c.in-Scalar.is)
-    ∙ ap (λ r. place true c.args.event.now.1 (way_of c.args.path.now) (ending (after (spot_of c.args.walk.now)) r))
-    (c.in-Err.ensures.gives (sym (filled_memory c.in-Err.refusal
-    (record { mark = c.args.event.now.1; path = path_text c.args.path.now })) ∙ ap is_memory (sym told) ∙ m))
+    ∙ ap (λ r. place true c.args.event.now.1 (way_of c.args.path.now) (with_end (after (spot_of c.args.walk.now)) r))
+    (c.in-Err.ensures.gives (sym (placed_memory true c.args.event.now.1 (way_of c.args.path.now)
+    c.in-Err.refusal) ∙ ap ran_out (sym told) ∙ m))
     ∙ ap Err (sym told)
 
 pub read_further-returns-in-Ok-clause-gives : goal.read_further-returns-in-Ok-clause-gives
@@ -51,7 +50,7 @@ read_further-returns-in-Ok-clause-gives t c = λ fuel lt.
     (sym c.requires.leaf ∙ c.if-leaf.true) c.follow.ensures.left
     (c.requires.here ∙ ap (λ e. Some (doc_event_of e, c.args.event.now.1)) c.in-Alias.is) c.in-Some.ensures.found
     ∙ ap (λ r. place true c.args.event.now.1 (way_of c.args.ask.now.path.now)
-    (place true c.in-Some.there.now (way_of c.args.ask.now.path.now) (ending next r))) c.in-Ok.ensures.gives
+    (place true c.in-Some.there.now (way_of c.args.ask.now.path.now) (with_end next r))) c.in-Ok.ensures.gives
     ∙ ap (λ p. Ok (data_of c.in-Ok.data, p))
     (sym (same_spot (spot_of c.follow.new.self) next c.follow.ensures.place refl)))
 
@@ -59,12 +58,11 @@ pub read_further-returns-in-Err-clause-gives : goal.read_further-returns-in-Err-
 read_further-returns-in-Err-clause-gives t c = λ fuel lt m.
     let next : Spot = record { place = c.args.walk.now.place + 1; left = c.follow.new.self.left } in
     let told = c.at_place.ensures m in
-    let known = sym (filled_memory c.at_place-placed.result
-    (record { mark = c.args.event.now.1; path = path_text c.args.ask.now.path.now })) ∙ ap is_memory (sym told) ∙ m in
+    let known = sym (placed_memory true c.args.event.now.1 (way_of c.args.ask.now.path.now)
+    c.at_place-placed.result) ∙ ap ran_out (sym told) ∙ m in
     let told' = c.at_place-placed.ensures known in
-    let known' = sym (filled_memory c.in-Err.refusal
-    (record { mark = c.in-Some.there.now; path = path_text c.args.ask.now.path.now })) ∙ ap is_memory (sym told') ∙
-    known in
+    let known' = sym (placed_memory true c.in-Some.there.now (way_of c.args.ask.now.path.now)
+    c.in-Err.refusal) ∙ ap ran_out (sym told') ∙ known in
     rw c.requires.untaken (leaf_alias (source_of c.args.self.now) (way_of c.args.ask.now.path.now)
     (shape_of c.args.ask.now.shape.now) c.args.ask.now.nest
     (spot_of c.args.walk.now) fuel c.follow.new.self.left c.in-Alias.target
@@ -72,7 +70,7 @@ read_further-returns-in-Err-clause-gives t c = λ fuel lt m.
     (sym c.requires.leaf ∙ c.if-leaf.true) c.follow.ensures.left
     (c.requires.here ∙ ap (λ e. Some (doc_event_of e, c.args.event.now.1)) c.in-Alias.is) c.in-Some.ensures.found
     ∙ ap (λ r. place true c.args.event.now.1 (way_of c.args.ask.now.path.now)
-    (place true c.in-Some.there.now (way_of c.args.ask.now.path.now) (ending next r))) (c.in-Err.ensures.gives known')
+    (place true c.in-Some.there.now (way_of c.args.ask.now.path.now) (with_end next r))) (c.in-Err.ensures.gives known')
     ∙ ap (λ y. Err (placed true c.args.event.now.1 (way_of c.args.ask.now.path.now) y)) (sym told')
     ∙ ap Err (sym told))
 
@@ -114,7 +112,7 @@ read_value-returns-in-Ok-clause-gives t c = λ fuel lt.
     leaf_scalar (source_of c.args.self.now) way (shape_of c.args.shape.now) c.args.nest None
     (spot_of c.args.walk.now) fuel (doc_scalar_of c.in-Some.scalar.now) c.in-Some.mark.now (omega arith)
     (sym c.requires.leaf ∙ c.if-leaf.true) c.in-Some.ensures.found
-    ∙ ap (λ r. place true c.in-Some.mark.now way (ending (after (spot_of c.args.walk.now)) r)) c.in-Ok.ensures.gives
+    ∙ ap (λ r. place true c.in-Some.mark.now way (with_end (after (spot_of c.args.walk.now)) r)) c.in-Ok.ensures.gives
     ∙ ap (λ p. Ok (data_of c.in-Ok.data, p))
     (sym (same_spot (spot_of c.step.new.self) (after (spot_of c.args.walk.now)) c.step.ensures.place
     c.step.ensures.left))
@@ -127,9 +125,9 @@ read_value-returns-in-Err-clause-gives t c = λ fuel lt m.
     leaf_scalar (source_of c.args.self.now) way (shape_of c.args.shape.now) c.args.nest None
     (spot_of c.args.walk.now) fuel (doc_scalar_of c.in-Some.scalar.now) c.in-Some.mark.now (omega arith)
     (sym c.requires.leaf ∙ c.if-leaf.true) c.in-Some.ensures.found
-    ∙ ap (λ r. place true c.in-Some.mark.now way (ending (after (spot_of c.args.walk.now)) r))
-    (c.in-Err.ensures.gives (sym (filled_memory c.in-Err.refusal
-    (record { mark = c.in-Some.mark.now; path = way.text })) ∙ ap is_memory (sym told) ∙ m))
+    ∙ ap (λ r. place true c.in-Some.mark.now way (with_end (after (spot_of c.args.walk.now)) r))
+    (c.in-Err.ensures.gives (sym (placed_memory true c.in-Some.mark.now way c.in-Err.refusal)
+    ∙ ap ran_out (sym told) ∙ m))
     ∙ ap Err (sym told)
 
 pub read_value-returns-in-Some-event-clause-gives : goal.read_value-returns-in-Some-event-clause-gives

@@ -4,7 +4,7 @@ use Rattle.yaml_shape.specs.DataView.{data_of}
 use Rattle.yaml_shape.specs.PlainShape.{row_shape, fields_shape, of_variant}
 use Rattle.yaml_shape.specs.ShapeView.{ids_of, fields_of}
 use Rattle.yaml_load.specs.DocEventView.{doc_event_of}
-use Rattle.yaml_scalar.specs.Steps.{ending}
+use Rattle.yaml_scalar.specs.Steps.{with_end}
 use Rattle.yaml_read.specs.Fields.{struct_of}
 use Rattle.yaml_read.specs.Handing.{is_bare}
 use Rattle.yaml_read.specs.Places.{way_of}
@@ -64,7 +64,7 @@ read_variant_fields-returns-in_default t c =
           (spot_of c.args.walk.now) c.args.strict owner fields (doc_event_of c.args.event.now.0) c.args.event.now.1
           c.args.around.now.variant.now c.requires.tagged
           (no_mapping_starts c.args.event.now.0 c.in_default.not-MappingStart c.args.strict owner fields)
-          ∙ ap (ending (after (spot_of c.args.walk.now)))
+          ∙ ap (with_end (after (spot_of c.args.walk.now)))
           (c.found_in_fields.ensures c.args.strict fields fault);
       moves = tt;
       cost = omega (
