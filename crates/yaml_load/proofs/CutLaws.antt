@@ -4,18 +4,13 @@ use Rattle.std.proofs.Common.{cond, arith, Bool, true, false, Option, Some, None
 use Rattle.std.specs.Prelude.{slice_get, not}
 use Rattle.std.proofs.lemmas.Bool.{cases_Bool}
 use Rattle.std.proofs.lemmas.List.Elements.{All-append, All-cons, All-nil}
-use Rattle.yaml_base.specs.Position.{Position}
-use Rattle.yaml_base.specs.PlainEvent.{PlainEvent}
-use Rattle.yaml_base.specs.PlainFault.{PlainFault}
+use Rattle.yaml_load.proofs.Words.{Position, PlainEvent, PlainFault, Input, Find, find_in, known_events, unknown_mark}
+use Rattle.yaml_load.proofs.Words.{body, is_ended, is_document_start, anchors_in, ending_of, document_from}
+use Rattle.yaml_load.proofs.Words.{documents_of, after_starts, is_open_after, void_documents, void_document, last_mark}
+use Rattle.yaml_load.proofs.Words.{is_document_end, failed_document, further_document, becomes, then_events, or_mark}
+use Rattle.yaml_load.proofs.Words.{PlainDocEvent, PlainDocument, IsBeforeFault, IsAtFault, EndAtFault, HoldsFront}
+use Rattle.yaml_load.proofs.Words.{HoldFronts}
 use Rattle.yaml_base.specs.declared.error.Cause.TheVariants.{UnknownAnchor}
-use Rattle.yaml_load.specs.Documents.{Input, Find, find_in, known_events, unknown_mark, body, is_ended}
-use Rattle.yaml_load.specs.Documents.{is_document_start, anchors_in, ending_of, document_from, documents_of}
-use Rattle.yaml_load.specs.Documents.{after_starts, is_open_after}
-use Rattle.yaml_load.specs.Documents.{void_documents, void_document, last_mark, is_document_end, failed_document}
-use Rattle.yaml_load.specs.Documents.{further_document, becomes, then_events, or_mark}
-use Rattle.yaml_load.specs.PlainDocEvent.{PlainDocEvent}
-use Rattle.yaml_load.specs.PlainDocument.{PlainDocument}
-use Rattle.yaml_load.specs.StreamLaw.{IsBeforeFault, IsAtFault, EndAtFault, HoldsFront, HoldFronts}
 
 -- the first unknown mark behind a start
 abbrev unknown_of : Input → Option Position

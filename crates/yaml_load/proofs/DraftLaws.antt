@@ -6,18 +6,11 @@ use Rattle.std.specs.Str.{bytes_eq}
 use Rattle.std.proofs.lemmas.Bool.{cases_Bool, le-ltb}
 use Rattle.std.proofs.lemmas.List.{length-map, map-append}
 use Rattle.std.proofs.lemmas.List.Elements.{All-cons, All-push}
-use Rattle.yaml_base.specs.Position.{Position}
-use Rattle.yaml_base.specs.PlainEvent.{PlainEvent, stream_start, stream_end, document_start, document_end, alias}
-use Rattle.yaml_base.specs.PlainEvent.{scalar}
-use Rattle.yaml_base.specs.PlainEvent.{sequence_start, sequence_end, mapping_start, mapping_end}
-use Rattle.yaml_base.specs.Tree.{anchor_at, greater, greatest_below, number_below}
-use Rattle.yaml_load.specs.DocEventView.{doc_event_of, marked_events_of}
-use Rattle.yaml_load.specs.Documents.{Find, Input, anchor_of, anchors_in, find_in}
-use Rattle.yaml_load.specs.PlainDocEvent.{PlainDocEvent, alias_to}
-use Rattle.yaml_load.specs.declared.doc_event.DocEvent.{DocEvent}
-use Rattle.yaml_load.specs.declared.loader.draft.Draft.{Draft}
-use Rattle.yaml_load.specs.inner.Drafts.{AreTaken, IsDraft, IsTaken, Waiting, drafted, drafts_of, is_of_node}
-use Rattle.yaml_load.specs.inner.OpenEnds.{HasNumbers}
+use Rattle.yaml_load.proofs.Words.{Position, PlainEvent, stream_start, stream_end, document_start, document_end, alias}
+use Rattle.yaml_load.proofs.Words.{scalar, sequence_start, sequence_end, mapping_start, mapping_end, anchor_at, greater}
+use Rattle.yaml_load.proofs.Words.{greatest_below, number_below, doc_event_of, marked_events_of, Find, Input, anchor_of}
+use Rattle.yaml_load.proofs.Words.{anchors_in, find_in, PlainDocEvent, alias_to, DocEvent, Draft, AreTaken, IsDraft}
+use Rattle.yaml_load.proofs.Words.{IsTaken, Waiting, drafted, drafts_of, is_of_node, HasNumbers}
 
 abbrev Events : Type 0
 Events = List (DocEvent × Position)

@@ -4,10 +4,8 @@ use Rattle.std.proofs.Common.{refl, sym, ◌∙◌, ap, subst, arith, append_ass
 use Rattle.std.proofs.lemmas.Bool.{ne_eqb}
 use Rattle.std.proofs.lemmas.List.{set-append_left, reverse-append}
 use Rattle.std.proofs.lemmas.List.Elements.{All-push, All-tail}
-use Rattle.yaml_load.specs.Ends.{end_place, ends_from, is_closing, is_opening}
-use Rattle.yaml_load.specs.PlainDocEvent.{PlainDocEvent, alias_to, a_scalar, sequence_begins, sequence_ends}
-use Rattle.yaml_load.specs.PlainDocEvent.{mapping_begins, mapping_ends, a_void}
-use Rattle.yaml_load.specs.inner.OpenEnds.{filled}
+use Rattle.yaml_load.proofs.Words.{end_place, ends_from, is_closing, is_opening, PlainDocEvent, alias_to, a_scalar}
+use Rattle.yaml_load.proofs.Words.{sequence_begins, sequence_ends, mapping_begins, mapping_ends, a_void, filled}
 
 -- in reverse
 pub All-reverse : {X : Type 0} (P : X → Type 0) (xs : List X) → All P xs → All P (reverse xs)

@@ -5,21 +5,10 @@ use Rattle.std.proofs.Common.{None, option_map}
 use Rattle.std.specs.Prelude.{slice_get}
 use Rattle.std.proofs.Math.Seq.{drop-append_seam, take-add, take-append_seam, take-append-add}
 use Rattle.std.proofs.lemmas.List.{length-map, take-append-drop, take-map}
-use Rattle.yaml_base.specs.Position.{Position}
-use Rattle.yaml_base.specs.PlainFault.{PlainFault}
-use Rattle.yaml_base.specs.declared.error.Cause.{Cause}
-use Rattle.yaml_load.specs.DocEventView.{doc_event_of, marked_events_of}
-use Rattle.yaml_load.specs.Documents.{Find, Input, anchors_in, document_of, ending_of, find_in, known_events}
-use Rattle.yaml_load.specs.Documents.{unknown_mark}
-use Rattle.yaml_load.specs.Ends.{ends_of}
-use Rattle.yaml_load.specs.Gathering.{AreCuts, documents_in, ending_in, plain_doc_events}
-use Rattle.yaml_load.specs.PlainDocEvent.{PlainDocEvent}
-use Rattle.yaml_load.specs.PlainDocument.{PlainDocument}
-use Rattle.yaml_load.specs.declared.doc_event.DocEvent.{DocEvent}
-use Rattle.yaml_load.specs.declared.loader.draft.Cut.{Cut}
-use Rattle.yaml_load.specs.declared.loader.draft.Draft.{Draft}
-use Rattle.yaml_load.specs.inner.Drafts.{IsBetween, IsDraft, drafts_of, settled}
-use Rattle.yaml_load.specs.inner.OpenEnds.{EndsView, bounded_from}
+use Rattle.yaml_load.proofs.Words.{Position, PlainFault, Cause, doc_event_of, marked_events_of, Find, Input, anchors_in}
+use Rattle.yaml_load.proofs.Words.{document_of, ending_of, find_in, known_events, unknown_mark, ends_of, AreCuts}
+use Rattle.yaml_load.proofs.Words.{documents_in, ending_in, plain_doc_events, PlainDocEvent, PlainDocument, DocEvent}
+use Rattle.yaml_load.proofs.Words.{Cut, Draft, IsBetween, IsDraft, drafts_of, settled, EndsView, bounded_from}
 use Rattle.yaml_load.proofs.Gatherings.{cuts_pushed, documents_pushed, long_pushed, plain_doc_events-marked}
 use Rattle.yaml_load.proofs.SettledEnds.{ends_of_cut, ends_of_whole}
 use Rattle.yaml_load.proofs.SettledLaws.{settled_whole}

@@ -5,15 +5,9 @@ use Rattle.std.proofs.Common.{refl, sym, ◌∙◌, ap, subst, arith, length-app
 use Rattle.std.proofs.lemmas.List.{take-append-le, drop-append-le, map-append}
 use Rattle.std.proofs.lemmas.List.Elements.{All-append, All-cons, All-nil, All-tail}
 use Rattle.std.proofs.Math.Seq.{drop-append_seam}
-use Rattle.yaml_base.specs.Position.{Position}
-use Rattle.yaml_base.specs.declared.error.Cause.{Cause}
-use Rattle.yaml_load.specs.DocEventView.{doc_event_of, marked_events_of}
-use Rattle.yaml_load.specs.Ends.{ends_from, ends_of}
-use Rattle.yaml_load.specs.Gathering.{AreCuts, HasEnds, document_in, documents_in, ending_in, plain_doc_events}
-use Rattle.yaml_load.specs.PlainDocEvent.{PlainDocEvent}
-use Rattle.yaml_load.specs.PlainDocument.{PlainDocument}
-use Rattle.yaml_load.specs.declared.doc_event.DocEvent.{DocEvent}
-use Rattle.yaml_load.specs.declared.loader.draft.Cut.{Cut}
+use Rattle.yaml_load.proofs.Words.{Position, Cause, doc_event_of, marked_events_of, ends_from, ends_of, AreCuts}
+use Rattle.yaml_load.proofs.Words.{HasEnds, document_in, documents_in, ending_in, plain_doc_events, PlainDocEvent}
+use Rattle.yaml_load.proofs.Words.{PlainDocument, DocEvent, Cut}
 
 abbrev Events : Type 0
 Events = List (DocEvent × Position)

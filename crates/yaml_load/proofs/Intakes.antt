@@ -4,23 +4,11 @@ use Rattle.std.proofs.Common.{All, append_assoc, append-nil, is_some, length}
 use Rattle.std.proofs.lemmas.List.{length-append, map-append}
 use Rattle.std.specs.Prelude.{slice_get}
 use Rattle.std.specs.Option.{option_map}
-use Rattle.yaml_base.specs.Position.{Position}
-use Rattle.yaml_base.specs.PlainEvent.{PlainEvent}
-use Rattle.yaml_base.specs.PlainFault.{PlainFault}
-use Rattle.yaml_base.specs.StreamMachine.{State, before_stream, next_state, run}
-use Rattle.yaml_base.specs.declared.open.Open.{Open}
+use Rattle.yaml_load.proofs.Words.{Position, PlainEvent, PlainFault, State, before_stream, next_state, run, Open}
+use Rattle.yaml_load.proofs.Words.{IsWellFormed, Input, documents_of, last_mark, events_in, PlainDocument, IsDocument}
+use Rattle.yaml_load.proofs.Words.{Moves, is_done, is_open, state_of, Phase, Draft, IsBetween, HasTaken, IsOnWay}
+use Rattle.yaml_load.proofs.Words.{IsReady, Takes, is_inside, open_before, open_behind}
 use Rattle.yaml_base.proofs.StreamMachineLaws.{run_append}
-use Rattle.yaml_base.specs.Stream.{IsWellFormed}
-use Rattle.yaml_load.specs.Documents.{Input, documents_of, last_mark}
-use Rattle.yaml_load.specs.MarkedEvents.{events_in}
-use Rattle.yaml_load.specs.PlainDocument.{PlainDocument}
-use Rattle.yaml_load.specs.StreamLaw.{IsDocument}
-use Rattle.yaml_load.specs.StreamPhases.{Moves, is_done, is_open, state_of}
-use Rattle.yaml_load.specs.declared.loader.check.Phase.{Phase}
-use Rattle.yaml_load.specs.declared.loader.draft.Draft.{Draft}
-use Rattle.yaml_load.specs.inner.Drafts.{IsBetween}
-use Rattle.yaml_load.specs.inner.Intake.{HasTaken}
-use Rattle.yaml_load.specs.inner.Loading.{IsOnWay, IsReady, Takes, is_inside, open_before, open_behind}
 use Rattle.yaml_load.proofs.LoadingLaws.{on_way, ready_if}
 use Rattle.yaml_load.proofs.LoadingTurns.{inside_phase, open_faulted, turns}
 use Rattle.yaml_load.proofs.StreamEndings.{all_endings}

@@ -26,4 +26,5 @@ pub mod StreamLaws
 pub mod StreamTrees
 pub mod Targets
 pub mod ToldNodes
+pub mod Words
 pub mod WrongPlaces

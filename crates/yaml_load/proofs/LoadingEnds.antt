@@ -3,17 +3,10 @@ use Rattle.std.proofs.Common.{◌≡◌, List, [], ◌∷◌, ◌++◌, map, len
 use Rattle.std.proofs.Common.{Option, Some, None, is_some, Bool, true, false, cond}
 use Rattle.std.specs.Prelude.{option_to_list}
 use Rattle.std.specs.Bool.{beq}
-use Rattle.yaml_base.specs.Position.{Position}
-use Rattle.yaml_base.specs.PlainFault.{PlainFault}
-use Rattle.yaml_base.specs.declared.event.Event.{Event}
-use Rattle.yaml_load.specs.Documents.{Input, after_starts, anchors_in, document_from, document_of, documents_of}
-use Rattle.yaml_load.specs.Documents.{failed_document, last_mark, void_document, void_documents}
-use Rattle.yaml_load.specs.Gathering.{documents_in}
-use Rattle.yaml_load.specs.PlainDocument.{PlainDocument}
-use Rattle.yaml_load.specs.declared.loader.draft.Cut.{Cut}
-use Rattle.yaml_load.specs.declared.loader.draft.Draft.{Draft}
-use Rattle.yaml_load.specs.inner.Drafts.{IsBetween}
-use Rattle.yaml_load.specs.inner.Loading.{IsClosedDraft, IsOnWay, IsOpenDraft}
+use Rattle.yaml_load.proofs.Words.{Position, PlainFault, Event, Input, after_starts, anchors_in, document_from}
+use Rattle.yaml_load.proofs.Words.{document_of, documents_of, failed_document, last_mark, void_document, void_documents}
+use Rattle.yaml_load.proofs.Words.{documents_in, PlainDocument, Cut, Draft, IsBetween, IsClosedDraft, IsOnWay}
+use Rattle.yaml_load.proofs.Words.{IsOpenDraft}
 use Rattle.yaml_load.proofs.LoadingLaws.{from_body}
 
 -- the documents of all events, where no event is left

@@ -3,25 +3,14 @@ use Rattle.std.proofs.Common.{◌≡◌, ◌+◌, ℕ, length, List, [], ◌∷�
 use Rattle.std.proofs.Common.{append_assoc, append-nil}
 use Rattle.std.proofs.Common.{Option, Some, None, All, IsTrue, Bool, true, false, not, cond, ◌||◌}
 use Rattle.std.proofs.lemmas.List.Elements.{All-tail}
-use Rattle.yaml_base.specs.Position.{Position}
-use Rattle.yaml_base.specs.PlainEvent.{PlainEvent, stream_start, stream_end, document_start, document_end}
-use Rattle.yaml_base.specs.PlainEvent.{alias, scalar, sequence_start, sequence_end, mapping_start, mapping_end}
-use Rattle.yaml_base.specs.PlainFault.{PlainFault}
-use Rattle.yaml_base.specs.Tree.{anchor_at}
-use Rattle.yaml_load.specs.DocEventView.{doc_event_of}
-use Rattle.yaml_load.specs.Documents.{Input, after_starts, anchor_of, anchors_in, body, document_from, document_of}
-use Rattle.yaml_load.specs.Documents.{ending_of}
-use Rattle.yaml_load.specs.Documents.{find_in, is_document_end, is_document_start, is_ended, is_open_after}
-use Rattle.yaml_load.specs.Documents.{known_events, unknown_mark}
-use Rattle.yaml_load.specs.Gathering.{AreCuts, documents_in}
-use Rattle.yaml_load.specs.PlainDocEvent.{PlainDocEvent}
-use Rattle.yaml_load.specs.PlainDocument.{PlainDocument}
-use Rattle.yaml_load.specs.declared.doc_event.DocEvent.{DocEvent}
-use Rattle.yaml_load.specs.declared.loader.draft.Cut.{Cut}
-use Rattle.yaml_load.specs.declared.loader.draft.Draft.{Draft}
-use Rattle.yaml_load.specs.inner.Drafts.{IsBetween, IsDraft, IsTaken, Waiting, drafted, drafts_of, is_of_node}
-use Rattle.yaml_load.specs.inner.OpenEnds.{HasNumbers}
-use Rattle.yaml_load.specs.inner.Loading.{IsClosedDraft, IsOnWay, IsOpenDraft, IsReady, Takes, open_before, open_behind}
+use Rattle.yaml_load.proofs.Words.{Position, PlainEvent, stream_start, stream_end, document_start, document_end, alias}
+use Rattle.yaml_load.proofs.Words.{scalar, sequence_start, sequence_end, mapping_start, mapping_end, PlainFault}
+use Rattle.yaml_load.proofs.Words.{anchor_at, doc_event_of, Input, after_starts, anchor_of, anchors_in, body}
+use Rattle.yaml_load.proofs.Words.{document_from, document_of, ending_of, find_in, is_document_end, is_document_start}
+use Rattle.yaml_load.proofs.Words.{is_ended, is_open_after, known_events, unknown_mark, AreCuts, documents_in}
+use Rattle.yaml_load.proofs.Words.{PlainDocEvent, PlainDocument, DocEvent, Cut, Draft, IsBetween, IsDraft, IsTaken}
+use Rattle.yaml_load.proofs.Words.{Waiting, drafted, drafts_of, is_of_node, HasNumbers, IsClosedDraft, IsOnWay}
+use Rattle.yaml_load.proofs.Words.{IsOpenDraft, IsReady, Takes, open_before, open_behind}
 use Rattle.yaml_load.proofs.DraftLaws.{aliases_in_range, as_many, begins_within, draft_more, drafts_long, whole_long}
 
 abbrev NodeFacts : PlainEvent → Type 0

@@ -1,15 +1,11 @@
 -- Which states are within a document, in front of each event and behind it.
 use Rattle.std.proofs.Common.{◌≡◌, List, [], ◌∷◌, refl, sym, ◌∙◌, ap, Some, Bool, true, false}
-use Rattle.yaml_base.specs.PlainEvent.{PlainEvent, stream_start, stream_end, document_start, document_end, alias}
-use Rattle.yaml_base.specs.PlainEvent.{scalar, sequence_start, sequence_end, mapping_start, mapping_end}
-use Rattle.yaml_base.specs.StreamMachine.{State, before_stream, between_documents, before_root, within, after_stream}
-use Rattle.yaml_base.specs.StreamMachine.{begins, next_state}
-use Rattle.yaml_load.specs.StreamPhases.{is_done, is_open, state_of}
-use Rattle.yaml_load.specs.declared.loader.check.Phase.{Phase}
+use Rattle.yaml_load.proofs.Words.{PlainEvent, stream_start, stream_end, document_start, document_end, alias, scalar}
+use Rattle.yaml_load.proofs.Words.{sequence_start, sequence_end, mapping_start, mapping_end, State, before_stream}
+use Rattle.yaml_load.proofs.Words.{between_documents, before_root, within, after_stream, begins, next_state, is_done}
+use Rattle.yaml_load.proofs.Words.{is_open, state_of, Phase, Open, is_inside, open_before, open_behind}
 use Rattle.yaml_load.specs.declared.loader.check.Phase.TheVariants.{Before, Between, Root, Within, Ended, After}
-use Rattle.yaml_base.specs.declared.open.Open.{Open}
 use Rattle.yaml_base.specs.declared.open.Open.TheVariants.{Sequence, Key, Value}
-use Rattle.yaml_load.specs.inner.Loading.{is_inside, open_before, open_behind}
 
 abbrev Turns : PlainEvent → State → State → Type 0
 Turns e s t = (is_inside s ≡ open_before e) × (is_inside t ≡ open_behind e)

@@ -2,16 +2,13 @@
 use Rattle.std.proofs.Common.{◌≡◌, ℕ, suc, ◌+◌, List, [], ◌∷◌, ◌++◌, length, refl, sym, ◌∙◌, ap, subst, arith, Bool}
 use Rattle.std.proofs.Common.{true, false, cond, ◌==◌, Option, Some, None, length-append}
 use Rattle.std.proofs.lemmas.Bool.{eq-eqb}
-use Rattle.yaml_base.specs.Tree.{Node, alias_node, scalar_node, sequence_node, mapping_node, Nodes, no_nodes, node}
-use Rattle.yaml_base.specs.Tree.{NodePairs, no_pairs, pair, size_of, anchor_at, anchors_of, anchors_of_nodes}
-use Rattle.yaml_base.specs.Tree.{anchors_of_pairs}
-use Rattle.yaml_load.specs.DocTree.{DocNode, reference, word, list, mapping, DocNodes, DocPairs, events_of}
-use Rattle.yaml_load.specs.DocTree.{events_of_nodes, events_of_pairs, numbered, numbered_nodes, numbered_pairs}
-use Rattle.yaml_load.specs.DocTree.{with_number}
+use Rattle.yaml_load.proofs.Words.{Node, alias_node, scalar_node, sequence_node, mapping_node, Nodes, no_nodes, node}
+use Rattle.yaml_load.proofs.Words.{NodePairs, no_pairs, pair, size_of, anchor_at, anchors_of, anchors_of_nodes}
+use Rattle.yaml_load.proofs.Words.{anchors_of_pairs, DocNode, reference, word, list, mapping, DocNodes, DocPairs}
+use Rattle.yaml_load.proofs.Words.{events_of, events_of_nodes, events_of_pairs, numbered, numbered_nodes}
+use Rattle.yaml_load.proofs.Words.{numbered_pairs, with_number, Find, sequence_ends, mapping_ends, without_anchor}
+use Rattle.yaml_load.proofs.Words.{resolved_from, resolved_nodes, resolved_pairs}
 use Rattle.yaml_load.specs.DocTree as tree
-use Rattle.yaml_load.specs.Documents.{Find}
-use Rattle.yaml_load.specs.PlainDocEvent.{sequence_ends, mapping_ends}
-use Rattle.yaml_load.specs.Resolved.{without_anchor, resolved_from, resolved_nodes, resolved_pairs}
 use Rattle.yaml_load.proofs.NodeSizes.{nodes_size, pairs_size, size_sequence, size_mapping, size_node, size_pair}
 use Rattle.yaml_load.proofs.OnTrees.{OnTree, on_tree, on_map, on_nodes, on_pairs, Each, each_append, each_more}
 

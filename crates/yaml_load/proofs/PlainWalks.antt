@@ -2,14 +2,11 @@
 use Rattle.std.proofs.Common.{◌≡◌, ℕ, ◌+◌, List, [], ◌∷◌, ◌++◌, map, refl, ◌∙◌, ap, Bool, true, false, cond, ◌||◌}
 use Rattle.std.proofs.Common.{Option, Some, None, is_some, inl, inr}
 use Rattle.std.proofs.lemmas.Bool.{cases_Bool}
-use Rattle.yaml_base.specs.Position.{Position}
-use Rattle.yaml_base.specs.PlainEvent.{PlainEvent, sequence_start, sequence_end, mapping_start, mapping_end}
-use Rattle.yaml_base.specs.Tree.{Node, alias_node, scalar_node, sequence_node, mapping_node, Nodes, no_nodes, node}
-use Rattle.yaml_base.specs.Tree.{NodePairs, no_pairs, pair, node_events, nodes_events, pairs_events, anchor_at}
-use Rattle.yaml_load.specs.Documents.{Input, Find, becomes, then_events, known_events, or_mark, unknown_mark, body}
-use Rattle.yaml_load.specs.Documents.{behind, is_ended, is_document_end, anchor_of, anchors_in}
-use Rattle.yaml_load.specs.MarkedEvents.{events_in}
-use Rattle.yaml_load.specs.PlainDocEvent.{PlainDocEvent}
+use Rattle.yaml_load.proofs.Words.{Position, PlainEvent, sequence_start, sequence_end, mapping_start, mapping_end, Node}
+use Rattle.yaml_load.proofs.Words.{alias_node, scalar_node, sequence_node, mapping_node, Nodes, no_nodes, node}
+use Rattle.yaml_load.proofs.Words.{NodePairs, no_pairs, pair, node_events, nodes_events, pairs_events, anchor_at, Input}
+use Rattle.yaml_load.proofs.Words.{Find, becomes, then_events, known_events, or_mark, unknown_mark, body, behind}
+use Rattle.yaml_load.proofs.Words.{is_ended, is_document_end, anchor_of, anchors_in, events_in, PlainDocEvent}
 
 -- the definitions without marks
 abbrev pub plain_body : List PlainEvent → List PlainEvent

@@ -3,13 +3,11 @@ use Rattle.std.proofs.Common.{◌≡◌, ℕ, suc, ◌+◌, ◌≤◌, List, [],
 use Rattle.std.proofs.Common.{take_all, Option, Some, None, Bool, true, false, inl, inr, option_map, cond, ◌&&◌, ◌==◌}
 use Rattle.std.proofs.lemmas.Bool.{cases_Bool}
 use Rattle.std.proofs.lemmas.List.{length-map}
-use Rattle.yaml_base.specs.Position.{Position}
-use Rattle.yaml_base.specs.PlainEvent.{PlainEvent, stream_start, stream_end, document_start, document_end, alias}
-use Rattle.yaml_base.specs.PlainEvent.{scalar, sequence_start, sequence_end, mapping_start, mapping_end}
-use Rattle.yaml_load.specs.Documents.{Find, Input, becomes, known_events, or_mark, then_events, unknown_mark}
-use Rattle.yaml_load.specs.Ends.{end_place, ends_from, ends_of, inner_after, is_closing, is_opening}
-use Rattle.yaml_load.specs.PlainDocEvent.{PlainDocEvent, alias_to}
-use Rattle.yaml_load.specs.inner.Drafts.{drafted, drafts_of}
+use Rattle.yaml_load.proofs.Words.{Position, PlainEvent, stream_start, stream_end, document_start, document_end, alias}
+use Rattle.yaml_load.proofs.Words.{scalar, sequence_start, sequence_end, mapping_start, mapping_end, Find, Input}
+use Rattle.yaml_load.proofs.Words.{becomes, known_events, or_mark, then_events, unknown_mark, end_place, ends_from}
+use Rattle.yaml_load.proofs.Words.{ends_of, inner_after, is_closing, is_opening, PlainDocEvent, alias_to, drafted}
+use Rattle.yaml_load.proofs.Words.{drafts_of}
 use Rattle.yaml_load.proofs.SettledLaws.{Marked}
 
 -- how an event and what it becomes begin and end collections

@@ -4,13 +4,10 @@ use Rattle.std.proofs.Common.{append_assoc, append-nil, length-append, Option, S
 use Rattle.std.proofs.Common.{inl, inr}
 use Rattle.std.specs.Prelude.{slice_get}
 use Rattle.std.proofs.lemmas.List.Elements.{All-tail}
-use Rattle.yaml_base.specs.Position.{Position}
-use Rattle.yaml_base.specs.PlainEvent.{PlainEvent, stream_start, stream_end, document_start, document_end, alias}
-use Rattle.yaml_base.specs.PlainEvent.{scalar, sequence_start, sequence_end, mapping_start, mapping_end}
-use Rattle.yaml_load.specs.Documents.{Find, Input, becomes, known_events, or_mark, then_events, unknown_mark}
-use Rattle.yaml_load.specs.PlainDocEvent.{PlainDocEvent, alias_to}
-use Rattle.yaml_load.specs.inner.Drafts.{AreTaken, IsTaken, Settled, Waiting, aimed, drafted, is_of_node, settle}
-use Rattle.yaml_load.specs.inner.Drafts.{settled}
+use Rattle.yaml_load.proofs.Words.{Position, PlainEvent, stream_start, stream_end, document_start, document_end, alias}
+use Rattle.yaml_load.proofs.Words.{scalar, sequence_start, sequence_end, mapping_start, mapping_end, Find, Input}
+use Rattle.yaml_load.proofs.Words.{becomes, known_events, or_mark, then_events, unknown_mark, PlainDocEvent, alias_to}
+use Rattle.yaml_load.proofs.Words.{AreTaken, IsTaken, Settled, Waiting, aimed, drafted, is_of_node, settle, settled}
 
 abbrev pub Marked : Type 0
 Marked = List (PlainDocEvent × Position)

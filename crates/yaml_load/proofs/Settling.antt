@@ -3,13 +3,9 @@ use Rattle.std.proofs.Common.{◌≡◌, ℕ, zero, suc, ◌+◌, ◌<◌, List,
 use Rattle.std.proofs.Common.{sym, ◌∙◌, ap, arith, add-one, Option, Some}
 use Rattle.std.proofs.Math.Seq.{drop-cons}
 use Rattle.std.proofs.lemmas.List.{drop-set-add, get_or-drop, length-drop}
-use Rattle.yaml_base.specs.Position.{Position}
-use Rattle.yaml_load.specs.DocEventView.{doc_event_of, marked_events_of}
-use Rattle.yaml_load.specs.Documents.{Find}
-use Rattle.yaml_load.specs.PlainDocEvent.{PlainDocEvent, alias_to}
-use Rattle.yaml_load.specs.declared.doc_event.DocEvent.{DocEvent}
+use Rattle.yaml_load.proofs.Words.{Position, doc_event_of, marked_events_of, Find, PlainDocEvent, alias_to, DocEvent}
+use Rattle.yaml_load.proofs.Words.{Settled, aimed, settle, settled}
 use Rattle.yaml_load.specs.declared.doc_event.DocEvent.TheVariants as event
-use Rattle.yaml_load.specs.inner.Drafts.{Settled, aimed, settle, settled}
 
 abbrev Events : Type 0
 Events = List (DocEvent × Position)

@@ -1,13 +1,10 @@
 -- What cuts a document of a stream off is an alias or the parser.
 use Rattle.std.proofs.Common.{List, [], ◌∷◌, map, cond, Bool, true, false, Option, Some, None, All}
 use Rattle.std.proofs.lemmas.List.Elements.{All-append, All-cons, All-nil}
-use Rattle.yaml_base.specs.Position.{Position}
-use Rattle.yaml_base.specs.PlainFault.{PlainFault}
-use Rattle.yaml_load.specs.Documents.{Input, find_in, unknown_mark, body, is_ended, anchors_in, ending_of}
-use Rattle.yaml_load.specs.Documents.{document_from, documents_of, after_starts, void_documents, last_mark}
-use Rattle.yaml_load.specs.Documents.{void_document, failed_document, further_document, is_open_after}
-use Rattle.yaml_load.specs.PlainDocument.{PlainDocument}
-use Rattle.yaml_load.specs.StreamLaw.{IsEnding}
+use Rattle.yaml_load.proofs.Words.{Position, PlainFault, Input, find_in, unknown_mark, body, is_ended, anchors_in}
+use Rattle.yaml_load.proofs.Words.{ending_of, document_from, documents_of, after_starts, void_documents, last_mark}
+use Rattle.yaml_load.proofs.Words.{void_document, failed_document, further_document, is_open_after, PlainDocument}
+use Rattle.yaml_load.proofs.Words.{IsEnding}
 
 -- what cuts a document off
 abbrev EndsSo : PlainDocument → Type 0

@@ -1,19 +1,12 @@
 -- The documents of a whole stream are those of its trees.
 use Rattle.std.proofs.Common.{◌≡◌, ℕ, ◌+◌, List, [], ◌∷◌, ◌++◌, map, refl, sym, ◌∙◌, ap, subst, cond, append-nil, Bool}
 use Rattle.std.proofs.Common.{true, false, Option, Some, None, is_some}
-use Rattle.yaml_base.specs.Position.{Position}
-use Rattle.yaml_base.specs.PlainEvent.{PlainEvent, stream_start, stream_end, document_start, document_end}
-use Rattle.yaml_base.specs.PlainFault.{PlainFault}
-use Rattle.yaml_base.specs.Stream.{documents_events, stream_events}
-use Rattle.yaml_base.specs.Tree.{Node, node_events, size_of, target, anchors_of}
-use Rattle.yaml_load.specs.DocTree.{DocNode, events_of}
-use Rattle.yaml_load.specs.Documents.{Input, Find, find_in, known_events, unknown_mark, body, behind, is_ended}
-use Rattle.yaml_load.specs.Documents.{is_document_start, anchors_in, ending_of, document_from, documents_of}
-use Rattle.yaml_load.specs.Documents.{after_starts, void_documents, last_mark}
-use Rattle.yaml_load.specs.MarkedEvents.{events_in}
-use Rattle.yaml_load.specs.Resolved.{resolved}
-use Rattle.yaml_load.specs.PlainDocEvent.{alias_to}
-use Rattle.yaml_load.specs.StreamLaw.{IsDocumentOf, AreDocumentsOf, AreStreamDocuments}
+use Rattle.yaml_load.proofs.Words.{Position, PlainEvent, stream_start, stream_end, document_start, document_end}
+use Rattle.yaml_load.proofs.Words.{PlainFault, documents_events, stream_events, Node, node_events, size_of, target}
+use Rattle.yaml_load.proofs.Words.{anchors_of, DocNode, events_of, Input, Find, find_in, known_events, unknown_mark}
+use Rattle.yaml_load.proofs.Words.{body, behind, is_ended, is_document_start, anchors_in, ending_of, document_from}
+use Rattle.yaml_load.proofs.Words.{documents_of, after_starts, void_documents, last_mark, events_in, resolved, alias_to}
+use Rattle.yaml_load.proofs.Words.{IsDocumentOf, AreDocumentsOf, AreStreamDocuments}
 use Rattle.yaml_load.proofs.DocumentLaws.{starts_behind}
 use Rattle.yaml_load.proofs.PlainWalks.{events_in-body, events_in-behind, is_ended-plain, anchors_in-plain, known-plain}
 use Rattle.yaml_load.proofs.PlainWalks.{missing-plain, plain_anchors, plain_known, plain_missing, plain_body}

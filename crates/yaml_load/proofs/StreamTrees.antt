@@ -3,20 +3,13 @@ use Rattle.std.proofs.Common.{◌≡◌, List, [], ◌∷◌, ◌++◌, map, ref
 use Rattle.std.proofs.Common.{Option, Some, None, is_some, All, inl, inr, ◌||◌, ◌≢◌}
 use Rattle.std.proofs.lemmas.Bool.{cases_Bool}
 use Rattle.std.proofs.lemmas.List.Elements.{All-append, All-cons, All-nil}
-use Rattle.yaml_base.specs.Position.{Position}
-use Rattle.yaml_base.specs.PlainEvent.{PlainEvent, stream_start, stream_end, document_start, document_end}
-use Rattle.yaml_base.specs.PlainFault.{PlainFault}
-use Rattle.yaml_base.specs.Stream.{documents_events, stream_events, IsWellFormed}
-use Rattle.yaml_base.specs.Tree.{Node, node_events}
-use Rattle.yaml_load.specs.DocTree.{DocNode, IsTreeOf, nothing}
-use Rattle.yaml_load.specs.Documents.{Input, find_in, unknown_mark, body, behind, is_ended, is_document_start}
-use Rattle.yaml_load.specs.Documents.{anchors_in, ending_of, document_from, documents_of, after_starts, last_mark}
-use Rattle.yaml_load.specs.Documents.{void_document, is_document_end, failed_document, further_document, is_open_after}
-use Rattle.yaml_load.specs.MarkedEvents.{events_in}
-use Rattle.yaml_load.specs.Resolved.{resolved}
-use Rattle.yaml_load.specs.PlainDocEvent.{alias_to, a_void}
-use Rattle.yaml_load.specs.PlainDocument.{PlainDocument}
-use Rattle.yaml_load.specs.StreamLaw.{IsDocumentOf, AreDocumentsOf, AreStreamDocuments, HasTree}
+use Rattle.yaml_load.proofs.Words.{Position, PlainEvent, stream_start, stream_end, document_start, document_end}
+use Rattle.yaml_load.proofs.Words.{PlainFault, documents_events, stream_events, IsWellFormed, Node, node_events}
+use Rattle.yaml_load.proofs.Words.{DocNode, IsTreeOf, nothing, Input, find_in, unknown_mark, body, behind, is_ended}
+use Rattle.yaml_load.proofs.Words.{is_document_start, anchors_in, ending_of, document_from, documents_of, after_starts}
+use Rattle.yaml_load.proofs.Words.{last_mark, void_document, is_document_end, failed_document, further_document}
+use Rattle.yaml_load.proofs.Words.{is_open_after, events_in, resolved, alias_to, a_void, PlainDocument, IsDocumentOf}
+use Rattle.yaml_load.proofs.Words.{AreDocumentsOf, AreStreamDocuments, HasTree}
 use Rattle.yaml_load.proofs.DocumentLaws.{starts_behind, no_starts}
 use Rattle.yaml_load.proofs.PlainWalks.{events_in-body, events_in-behind, is_ended-plain, plain_body, plain_behind}
 use Rattle.yaml_load.proofs.PlainWalks.{plain_ended, body_node, behind_node}

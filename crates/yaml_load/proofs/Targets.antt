@@ -4,16 +4,12 @@ use Rattle.std.proofs.Common.{true, false, cond, ◌&&◌, nat_lt, Option, Some,
 use Rattle.std.specs.Prelude.{slice_get}
 use Rattle.std.specs.Str.{bytes_eq}
 use Rattle.std.proofs.lemmas.Bool.{cases_lt}
-use Rattle.yaml_base.specs.Position.{Position}
-use Rattle.yaml_base.specs.Tree.{Node, alias_node, scalar_node, sequence_node, mapping_node, Nodes, no_nodes, node}
-use Rattle.yaml_base.specs.Tree.{NodePairs, no_pairs, pair, size_of, anchors_of, greater, number_below, greatest_below}
-use Rattle.yaml_base.specs.Tree.{target}
-use Rattle.yaml_load.specs.DocTree.{DocNode, reference, list, mapping, events_of, events_of_nodes, events_of_pairs}
-use Rattle.yaml_load.specs.DocTree.{node_of}
-use Rattle.yaml_load.specs.Documents.{Find}
-use Rattle.yaml_load.specs.PlainDocEvent.{PlainDocEvent, alias_to, a_scalar, sequence_begins, sequence_ends}
-use Rattle.yaml_load.specs.PlainDocEvent.{mapping_begins, mapping_ends, a_void}
-use Rattle.yaml_load.specs.Resolved.{resolved_from, resolved_nodes, resolved_pairs, resolved}
+use Rattle.yaml_load.proofs.Words.{Position, Node, alias_node, scalar_node, sequence_node, mapping_node, Nodes}
+use Rattle.yaml_load.proofs.Words.{no_nodes, node, NodePairs, no_pairs, pair, size_of, anchors_of, greater}
+use Rattle.yaml_load.proofs.Words.{number_below, greatest_below, target, DocNode, reference, list, mapping, events_of}
+use Rattle.yaml_load.proofs.Words.{events_of_nodes, events_of_pairs, node_of, Find, PlainDocEvent, alias_to, a_scalar}
+use Rattle.yaml_load.proofs.Words.{sequence_begins, sequence_ends, mapping_begins, mapping_ends, a_void, resolved_from}
+use Rattle.yaml_load.proofs.Words.{resolved_nodes, resolved_pairs, resolved}
 use Rattle.yaml_load.proofs.OnTrees.{OnTree, on_tree, tree_there, on_map, on_nodes, on_pairs, Each, each_append}
 use Rattle.yaml_load.proofs.NumberedNodes.{fits}
 

@@ -5,18 +5,10 @@ use Rattle.std.proofs.Common.{Bool, true, false, refl, sym, ◌∙◌, ap, inl, 
 use Rattle.std.proofs.Math.Seq.{take-append-add, take-append_seam, take-length}
 use Rattle.std.proofs.lemmas.List.{length-append, length-map, map-append, take-append-drop}
 use Rattle.std.proofs.lemmas.Simd.{map-map}
-use Rattle.yaml_base.specs.Position.{Position}
-use Rattle.yaml_base.specs.PlainEvent.{PlainEvent, event_of}
-use Rattle.yaml_base.specs.declared.event.Event.{Event}
-use Rattle.yaml_base.specs.Stream.{IsStream, IsBeginning, IsWellFormed}
-use Rattle.yaml_base.specs.declared.open.Open.{Open}
-use Rattle.yaml_load.specs.declared.loader.check.Phase.{Phase}
+use Rattle.yaml_load.proofs.Words.{Position, PlainEvent, event_of, Event, IsStream, IsBeginning, IsWellFormed, Open}
+use Rattle.yaml_load.proofs.Words.{Phase, State, before_stream, after_stream, next_state, run, Input, events_in}
+use Rattle.yaml_load.proofs.Words.{plain_events, plain_marked, is_done, state_of, IsWrongAt, IsWrongNext}
 use Rattle.yaml_load.specs.declared.loader.check.Phase.TheVariants.{Before, Between, Root, Within, Ended, After}
-use Rattle.yaml_base.specs.StreamMachine.{State, before_stream, after_stream, next_state, run}
-use Rattle.yaml_load.specs.Documents.{Input}
-use Rattle.yaml_load.specs.MarkedEvents.{events_in, plain_events, plain_marked}
-use Rattle.yaml_load.specs.StreamPhases.{is_done, state_of}
-use Rattle.yaml_load.specs.WrongPlace.{IsWrongAt, IsWrongNext}
 use Rattle.yaml_base.proofs.StreamMachineLaws.{whole_run, goes_on_run, run_append}
 
 -- the plain events of events with marks

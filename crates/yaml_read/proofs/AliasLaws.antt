@@ -1,14 +1,10 @@
 -- An alias means what its target means.
 use Rattle.std.proofs.Common.{◌≡◌, ◌∙◌, ℕ, suc, List, Some, None, true, false, refl, sym, subst}
-use Rattle.yaml_shape.specs.PlainData.{PlainData}
-use Rattle.yaml_shape.specs.PlainShape.{PlainShape, any_shape, bool_shape, char_shape, integer_shape, str_shape}
-use Rattle.yaml_shape.specs.PlainShape.{identifier_shape, bytes_shape, option_shape, unit_shape, unit_struct_shape}
-use Rattle.yaml_shape.specs.PlainShape.{newtype_shape, seq_shape, row_shape, map_shape, fields_shape, enum_shape}
-use Rattle.yaml_shape.specs.PlainShape.{ignored_shape}
-use Rattle.yaml_load.specs.DocTree.{DocNode, reference, node_of, first_event}
-use Rattle.yaml_read.specs.Following.{follows_aliases}
-use Rattle.yaml_read.specs.Handing.{as_is, handed, early}
-use Rattle.yaml_read.specs.Meaning.{Means, MeansAs, means_node, means_target}
+use Rattle.yaml_read.proofs.Words.{PlainData, PlainShape, any_shape, bool_shape, char_shape, integer_shape, str_shape}
+use Rattle.yaml_read.proofs.Words.{identifier_shape, bytes_shape, option_shape, unit_shape, unit_struct_shape}
+use Rattle.yaml_read.proofs.Words.{newtype_shape, seq_shape, row_shape, map_shape, fields_shape, enum_shape}
+use Rattle.yaml_read.proofs.Words.{ignored_shape, DocNode, reference, node_of, first_event, follows_aliases, as_is}
+use Rattle.yaml_read.proofs.Words.{handed, early, Means, MeansAs, means_node, means_target}
 
 -- the shape hands an alias on as what it is by its kind
 handed_on : (s : PlainShape) (j : ℕ) → follows_aliases s ≡ true

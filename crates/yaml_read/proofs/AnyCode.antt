@@ -3,17 +3,10 @@ use Rattle.std.proofs.Common.{◌≡◌, ℕ, pos, negsuc, arith, length, List, 
 use Rattle.std.proofs.Common.{sym, ap, ◌∙◌, true≢false}
 use Rattle.std.proofs.Math.Bool.{Bool-set}
 use Rattle.yaml_base.specs.declared.entry_key.EntryKey.TheVariants as key
-use Rattle.yaml_shape.specs.DataView.{data_of, items_of}
-use Rattle.yaml_shape.specs.declared.data.Data.{Data}
-use Rattle.yaml_tree.specs.Integer.{is_number, integer_of, is_canonical}
-use Rattle.yaml_tree.specs.Number.{number_of}
-use Rattle.yaml_tree.specs.Tree.{Trees, no_trees, tree, number}
-use Rattle.yaml_tree.specs.View.{tree_of, trees_of}
-use Rattle.yaml_tree.specs.declared.number.Integer.{Integer}
+use Rattle.yaml_read.proofs.Words.{data_of, items_of, Data, is_number, integer_of, is_canonical, number_of, Trees}
+use Rattle.yaml_read.proofs.Words.{no_trees, tree, number, tree_of, trees_of, Integer, Number, Value, tree_in, trees_in}
+use Rattle.yaml_read.proofs.Words.{number_key, entry_key}
 use Rattle.yaml_tree.specs.declared.number.Integer.TheVariants.{Unsigned, Negative}
-use Rattle.yaml_tree.specs.declared.number.Number.{Number}
-use Rattle.yaml_tree.specs.declared.value.Value.{Value}
-use Rattle.yaml_read.specs.AnyData.{tree_in, trees_in, number_key, entry_key}
 
 -- values, and others behind them
 abbrev pub trees_then : Trees → Trees → Trees

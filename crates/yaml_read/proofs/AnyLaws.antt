@@ -3,14 +3,10 @@ use Rattle.std.proofs.Common.{◌≡◌, List, [], ◌∷◌, ◌++◌, Result, 
 use Rattle.std.proofs.Common.{refl, sym, ◌∙◌, ap, Some, None}
 use Rattle.std.specs.Option.{is_some}
 use Rattle.std.specs.Prelude.{if◌then◌else◌}
-use Rattle.yaml_shape.specs.DataView.{entries_of}
-use Rattle.yaml_shape.specs.PlainData.{PlainData}
-use Rattle.yaml_tree.specs.Equal.{tree_eq}
-use Rattle.yaml_tree.specs.EqualLaws.{tree_eq-symm}
-use Rattle.yaml_tree.specs.Mapping.{has_key, keys_distinct, value_at, with_pair}
-use Rattle.yaml_tree.specs.Tree.{Tree, Pairs, no_pairs, pair, with_last}
-use Rattle.yaml_scalar.specs.ReadFault.{ReadFault, at_node, duplicate_entry}
-use Rattle.yaml_read.specs.AnyData.{tree_in, pairs_in, entry_key, new_key}
+use Rattle.yaml_read.proofs.Words.{entries_of, PlainData, tree_eq, tree_eq-symm, has_key, keys_distinct, value_at}
+use Rattle.yaml_read.proofs.Words.{with_pair, Tree, Pairs, with_last, ReadFault, at_node, duplicate_entry, tree_in}
+use Rattle.yaml_read.proofs.Words.{pairs_in, entry_key, new_key}
+use Rattle.yaml_tree.specs.Tree.{no_pairs, pair}
 
 -- the pairs that a list of keys with values is
 abbrev pub pairs_of : List (PlainData × PlainData) → Pairs

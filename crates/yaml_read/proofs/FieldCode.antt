@@ -5,11 +5,7 @@ use Rattle.std.specs.Prelude.{drop, slice_get, bytes_eq, cond, if◌then◌else�
 use Rattle.std.specs.Option.{option_map}
 use Rattle.std.specs.declared.alloc.Global.{Global}
 use Rattle.std.proofs.lemmas.Option.{slice_get_within, slice_get-get_or, slice_get-map, get_or_from_slice_get}
-use Rattle.yaml_shape.specs.ShapeView.{field_of, fields_of}
-use Rattle.yaml_shape.specs.Validity.{numbers_of}
-use Rattle.yaml_shape.specs.declared.shape.ShapeId.{ShapeId}
-use Rattle.yaml_read.specs.Fields.{Fields, find}
-use Rattle.yaml_read.specs.inner.Walks.{field_view}
+use Rattle.yaml_read.proofs.Words.{field_of, fields_of, numbers_of, ShapeId, Fields, find, field_view}
 
 -- the code's fields
 abbrev pub Declared : Type 0

@@ -2,18 +2,11 @@
 use Rattle.std.proofs.Common.{◌≡◌, ℕ, zero, suc, List, [], ◌∷◌, set, Option, Some, None, Result, Ok, Err}
 use Rattle.std.proofs.Common.{Bool, true, false, ◌&&◌, bytes_eq, refl, ap, subst, if◌then◌else◌}
 use Rattle.std.specs.Option.{option_map}
-use Rattle.yaml_base.specs.declared.error.Place.{Place}
-use Rattle.yaml_shape.specs.DataView.{items_of}
-use Rattle.yaml_shape.specs.HasShape.{has_shape, each_has, passes, on_option}
-use Rattle.yaml_shape.specs.PlainData.{PlainData, struct_data, none_data}
-use Rattle.yaml_shape.specs.PlainShape.{PlainShape, option_shape, fields_shape, Owner, shape_at}
-use Rattle.yaml_shape.specs.Validity.{numbers_of}
-use Rattle.yaml_scalar.specs.ReadFault.{ReadFault}
-use Rattle.yaml_scalar.specs.Steps.{◌>>=◌}
+use Rattle.yaml_read.proofs.Words.{Place, items_of, has_shape, each_has, passes, on_option, PlainData, struct_data}
+use Rattle.yaml_read.proofs.Words.{none_data, PlainShape, option_shape, fields_shape, Owner, shape_at, numbers_of}
+use Rattle.yaml_read.proofs.Words.{ReadFault, ◌>>=◌, is_option, Fields, Slots, no_slots, find, is_free, known_field}
+use Rattle.yaml_read.proofs.Words.{field_named, field_data, all_fields, struct_of}
 use Rattle.yaml_scalar.proofs.OfShape.{is_of}
-use Rattle.yaml_read.specs.Kinds.{is_option}
-use Rattle.yaml_read.specs.Fields.{Fields, Slots, no_slots, find, is_free, known_field, field_named}
-use Rattle.yaml_read.specs.Fields.{field_data, all_fields, struct_of}
 
 -- answers are the same only where their data is
 ok_is : {A : Type 0} {x y : A} → ◌≡◌ {A = Result A ReadFault} (Ok x) (Ok y) → x ≡ y

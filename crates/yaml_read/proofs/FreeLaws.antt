@@ -4,28 +4,14 @@ use Rattle.std.proofs.Common.{Result, Ok, Err, Bool, true, false, not, ◌||◌,
 use Rattle.std.specs.Prelude.{slice_get, IfSome}
 use Rattle.std.specs.Option.{is_some, option_copied}
 use denote.Ref.{Bor}
-use Rattle.yaml_base.specs.PlainEvent.{PlainScalar}
-use Rattle.yaml_base.specs.Position.{Position}
-use Rattle.yaml_shape.specs.DataView.{data_of}
-use Rattle.yaml_shape.specs.PlainData.{PlainData, none_data, ignored_data}
+use Rattle.yaml_read.proofs.Words.{PlainScalar, Position, data_of, PlainData, none_data, ignored_data, PlainShape}
+use Rattle.yaml_read.proofs.Words.{option_shape, ignored_shape, named, DocNode, word, PlainDocEvent, a_scalar}
+use Rattle.yaml_read.proofs.Words.{PlainDocument, is_absent, is_false_null, null_fault, ReadFault, scalar_answer}
+use Rattle.yaml_read.proofs.Words.{ending, Handing, as_is, as_some, handed, early, reach, TakenBy, Way, root_way, place}
+use Rattle.yaml_read.proofs.Words.{IsTreeOf, Spot, after, marks_of, whole_fuel, read_tree, IsAnswered, Source, is_leaf}
+use Rattle.yaml_read.proofs.Words.{node_at}
 use Rattle.yaml_shape.specs.declared.data.Data.{the_lemmas}
 use Rattle.yaml_shape.specs.declared.data.Data.TheVariants.{Ignored}
-use Rattle.yaml_shape.specs.PlainShape.{PlainShape, option_shape, ignored_shape}
-use Rattle.yaml_shape.specs.Validity.{named}
-use Rattle.yaml_load.specs.DocTree.{DocNode, word}
-use Rattle.yaml_load.specs.PlainDocEvent.{PlainDocEvent, a_scalar}
-use Rattle.yaml_load.specs.PlainDocument.{PlainDocument}
-use Rattle.yaml_scalar.specs.Presence.{is_absent, is_false_null, null_fault}
-use Rattle.yaml_scalar.specs.ReadFault.{ReadFault}
-use Rattle.yaml_scalar.specs.ScalarShapes.{scalar_answer}
-use Rattle.yaml_scalar.specs.Steps.{ending}
-use Rattle.yaml_read.specs.Handing.{Handing, as_is, as_some, handed, early, reach}
-use Rattle.yaml_read.specs.NodeTags.{TakenBy}
-use Rattle.yaml_read.specs.Places.{Way, root_way, place}
-use Rattle.yaml_read.specs.Reads.{IsTreeOf}
-use Rattle.yaml_read.specs.TreeReader.{Spot, after, marks_of, whole_fuel, read_tree}
-use Rattle.yaml_read.specs.inner.Answered.{IsAnswered}
-use Rattle.yaml_read.specs.inner.Reader.{Source, is_leaf, node_at}
 use Rattle.yaml_read.proofs.reading.LeafExits.{leaf_scalar}
 use Rattle.yaml_read.proofs.reading.Whole.{whole_source, answered}
 

@@ -8,4 +8,5 @@ pub mod FreeLaws
 pub mod KindLaws
 pub mod SlotCode
 pub mod WholeEnds
+pub mod Words
 pub mod reading

@@ -7,18 +7,10 @@ use Rattle.std.specs.Option.{option_map, option_flatten, option_to_list, is_some
 use Rattle.std.specs.declared.alloc.Global.{Global}
 use Rattle.std.proofs.lemmas.List.{map-append}
 use Rattle.std.specs.Result.{IsErrAnd}
-use Rattle.yaml_shape.specs.DataView.{data_of}
-use Rattle.yaml_shape.specs.PlainData.{PlainData}
-use Rattle.yaml_shape.specs.PlainShape.{PlainShape}
-use Rattle.yaml_shape.specs.ShapeView.{field_of, fields_of}
-use Rattle.yaml_shape.specs.declared.data.Data.{Data}
-use Rattle.yaml_shape.specs.declared.shape.ShapeId.{ShapeId}
-use Rattle.yaml_scalar.specs.ReadFault.{ReadFault, PlainRefusal, ran_out}
-use Rattle.yaml_scalar.specs.ReadingGives.{Yields, lift}
-use Rattle.yaml_scalar.specs.Steps.{◌>>=◌}
+use Rattle.yaml_read.proofs.Words.{data_of, PlainData, PlainShape, field_of, fields_of, Data, ShapeId, ReadFault}
+use Rattle.yaml_read.proofs.Words.{PlainRefusal, ran_out, Yields, lift, ◌>>=◌, Fields, Slots, is_free, no_slots}
+use Rattle.yaml_read.proofs.Words.{field_data, all_fields, slots_of}
 use Rattle.yaml_scalar.proofs.LiftLaws.{lifted, lifted_fails}
-use Rattle.yaml_read.specs.Fields.{Fields, Slots, is_free, no_slots, field_data, all_fields}
-use Rattle.yaml_read.specs.inner.Walks.{slots_of}
 use Rattle.yaml_read.proofs.FieldCode.{Declared, same_some}
 
 -- the code's slots

@@ -1,26 +1,13 @@
 -- Where the reading of a document starts and ends.
-use Rattle.std.proofs.Common.{◌≡◌, ℕ, suc, ◌+◌, ◌-◌, ◌*◌, ◌<◌, ◌≤◌, List, [], ◌∷◌, map, length, None, Result, Ok, Err}
+use Rattle.std.proofs.Common.{◌≡◌, ℕ, ◌+◌, ◌-◌, ◌*◌, ◌<◌, ◌≤◌, List, map, length, None, Ok, Err}
 use Rattle.std.proofs.Common.{Bool, true, false, refl, sym, ap, subst, ◌∙◌, arith}
 use Rattle.std.specs.Prelude.{slice_get}
 use Rattle.std.proofs.lemmas.List.{length-map}
 use Rattle.std.proofs.lemmas.Option.{slice_get_within}
-use Rattle.yaml_base.specs.Position.{Position}
-use Rattle.yaml_shape.specs.PlainData.{PlainData}
-use Rattle.yaml_shape.specs.PlainShape.{PlainShape}
-use Rattle.yaml_load.specs.DocEventView.{marked_events_of}
-use Rattle.yaml_load.specs.DocTree.{events_of}
-use Rattle.yaml_load.specs.Ends.{ends_of}
-use Rattle.yaml_load.specs.PlainDocEvent.{PlainDocEvent}
-use Rattle.yaml_load.specs.PlainDocument.{PlainDocument}
-use Rattle.yaml_load.specs.StreamLaw.{HasTree}
-use Rattle.yaml_load.specs.declared.doc_event.DocEvent.{DocEvent}
-use Rattle.yaml_read.specs.CursorReads.{LeavesCursor, most_steps}
-use Rattle.yaml_read.specs.Handing.{depth, reach}
-use Rattle.yaml_read.specs.Places.{root_way}
-use Rattle.yaml_read.specs.PlainCursor.{PlainCursor, fresh_cursor}
-use Rattle.yaml_read.specs.Reads.{IsTreeOf}
-use Rattle.yaml_read.specs.TreeReader.{PlainLimits, Spot, Answer, marks_of, whole_fuel, whole_tree}
-use Rattle.yaml_read.specs.inner.Reader.{Reading, Events, node_at}
+use Rattle.yaml_read.proofs.Words.{Position, PlainData, PlainShape, marked_events_of, events_of, ends_of, PlainDocEvent}
+use Rattle.yaml_read.proofs.Words.{PlainDocument, HasTree, DocEvent, LeavesCursor, most_steps, depth, reach, root_way}
+use Rattle.yaml_read.proofs.Words.{PlainCursor, fresh_cursor, IsTreeOf, PlainLimits, Spot, Answer, marks_of, whole_fuel}
+use Rattle.yaml_read.proofs.Words.{whole_tree, Reading, node_at}
 use Rattle.yaml_read.proofs.reading.EndLaws.{node_ends}
 use Rattle.yaml_read.proofs.reading.Shown.{Shows}
 use Rattle.yaml_read.proofs.reading.TreeLaws.{reader_tied}

@@ -1,6 +1,6 @@
 //! The variants of an enum: found by their names, and what a scalar that names one gives.
 
-ghost use Rattle.std.specs.Prelude.{◌≡◌, ℕ, Err, IfOk, None, codes};
+ghost use Rattle.std.specs.Prelude.{◌≡◌, Err, IfOk, None, codes};
 ghost use Rattle.std.specs.Option.{option_map_or};
 ghost use Rattle.yaml_base.specs.declared.found.Found.TheVariants.{Bytes, UnitVariant};
 ghost use Rattle.yaml_shape.specs.DataView.{data_of};

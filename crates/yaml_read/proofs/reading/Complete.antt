@@ -2,33 +2,22 @@
 use Rattle.std.proofs.Common.{◌≡◌, ℕ, zero, suc, ◌+◌, ◌-◌, ◌*◌, ◌<◌, ◌≤◌, List, [], ◌∷◌, ◌++◌, Option, Some, None, Ok}
 use Rattle.std.proofs.Common.{Bool, true, refl, sym, ap, subst, ◌∙◌, arith, append_assoc, append-nil, length}
 use Rattle.std.specs.Option.{is_some}
-use Rattle.yaml_base.specs.Position.{Position}
-use Rattle.yaml_shape.specs.DataView.{items_of, entries_of}
-use Rattle.yaml_shape.specs.PlainData.{PlainData, PlainItems, PlainEntries, any_data, variant_data, seq_data, map_data}
-use Rattle.yaml_shape.specs.PlainData.{some_data, newtype_data, ignored_data}
-use Rattle.yaml_shape.specs.PlainShape.{PlainShape, any_shape, option_shape, shape_at, content_shape}
-use Rattle.yaml_tree.specs.Mapping.{keys_distinct}
-use Rattle.yaml_tree.specs.Tree.{sequence, tagged}
+use Rattle.yaml_read.proofs.Words.{Position, items_of, entries_of, PlainData, PlainItems, PlainEntries, any_data}
+use Rattle.yaml_read.proofs.Words.{variant_data, seq_data, map_data, some_data, newtype_data, ignored_data, PlainShape}
+use Rattle.yaml_read.proofs.Words.{any_shape, option_shape, shape_at, content_shape, keys_distinct, sequence, tagged}
+use Rattle.yaml_read.proofs.Words.{tree_in, trees_in, pairs_in, rank, DocNode, DocNodes, DocPairs, first_event}
+use Rattle.yaml_read.proofs.Words.{scalar_answer, wrap, ending, Fields, Slots, Handing, handed, early, reach}
+use Rattle.yaml_read.proofs.Words.{untaken_reach, depth, parts_depth, tag_depth, nesting_depth, TakenBy, around_value}
+use Rattle.yaml_read.proofs.Words.{Means, means_node, MeansAs, means_some, means_newtype, means_ignored, means_target}
+use Rattle.yaml_read.proofs.Words.{means_void, means_scalar, means_list, means_mapping, means_bare, means_fields}
+use Rattle.yaml_read.proofs.Words.{MeanFields, means_no_fields, means_field, means_unknown, means_variant, means_tagged}
+use Rattle.yaml_read.proofs.Words.{means_any_list, means_any_mapping, MeansList, means_seq, means_row, MeansPairs}
+use Rattle.yaml_read.proofs.Words.{means_map, MeanEach, means_none, means_more, MeanRow, means_no_elements}
+use Rattle.yaml_read.proofs.Words.{means_element, MeanPairs, means_no_pairs, means_pair, Way, element_under}
+use Rattle.yaml_read.proofs.Words.{value_under, places, place, field_key, field_value, any_key_of, Spot, after, behind}
+use Rattle.yaml_read.proofs.Words.{each_node, each_pair, TreeReader, item_of, key_of, value_of, row_part, sequence_of}
+use Rattle.yaml_read.proofs.Words.{mapping_of, target_of, handed_by, read_tree}
 use Rattle.yaml_tree.specs.Tree as tree_of
-use Rattle.yaml_read.specs.AnyData.{tree_in, trees_in, pairs_in}
-use Rattle.yaml_shape.specs.Walks.{rank}
-use Rattle.yaml_load.specs.DocTree.{DocNode, DocNodes, DocPairs, first_event}
-use Rattle.yaml_scalar.specs.ScalarShapes.{scalar_answer}
-use Rattle.yaml_scalar.specs.Steps.{wrap, ending}
-use Rattle.yaml_read.specs.Fields.{Fields, Slots}
-use Rattle.yaml_read.specs.Handing.{Handing, handed, early, reach, untaken_reach, depth, parts_depth, tag_depth}
-use Rattle.yaml_read.specs.Handing.{nesting_depth}
-use Rattle.yaml_read.specs.NodeTags.{TakenBy, around_value}
-use Rattle.yaml_read.specs.Meaning.{Means, means_node, MeansAs, means_some, means_newtype, means_ignored, means_target}
-use Rattle.yaml_read.specs.Meaning.{means_void, means_scalar, means_list, means_mapping, means_bare, means_fields}
-use Rattle.yaml_read.specs.Meaning.{MeanFields, means_no_fields, means_field, means_unknown, means_variant}
-use Rattle.yaml_read.specs.Meaning.{means_tagged, means_any_list, means_any_mapping, MeansList, means_seq, means_row}
-use Rattle.yaml_read.specs.Meaning.{MeansPairs, means_map, MeanEach, means_none, means_more, MeanRow, means_no_elements}
-use Rattle.yaml_read.specs.Meaning.{means_element, MeanPairs, means_no_pairs, means_pair}
-use Rattle.yaml_read.specs.Places.{Way, element_under, value_under, places, place}
-use Rattle.yaml_read.specs.TreeReader.{field_key, field_value, any_key_of, Spot, after, behind, each_node, each_pair}
-use Rattle.yaml_read.specs.TreeReader.{TreeReader, item_of, key_of, value_of, row_part, sequence_of, mapping_of}
-use Rattle.yaml_read.specs.TreeReader.{target_of, handed_by, read_tree}
 use Rattle.yaml_read.proofs.AnyLaws.{pairs_of}
 use Rattle.yaml_read.proofs.reading.Handings.{From, from_handing}
 use Rattle.yaml_read.proofs.reading.Outcomes.{Outcome, here, followed, entered, wrapped, looked_up, placed_outcome}

@@ -2,32 +2,16 @@
 use Rattle.std.proofs.Common.{◌≡◌, ℕ, ◌-◌, ◌<◌, Bool, true, false, List, [], Some, None, Option, Result, Ok, Err, refl}
 use Rattle.std.proofs.Common.{ap, ◌∙◌, length}
 use Rattle.std.specs.Option.{is_some}
-use Rattle.yaml_base.specs.Position.{Position}
-use Rattle.yaml_shape.specs.DataView.{items_of, entries_of}
-use Rattle.yaml_shape.specs.PlainData.{any_data, variant_data}
-use Rattle.yaml_shape.specs.PlainShape.{PlainShape, any_shape, fields_shape, enum_shape, Owner, content_shape}
-use Rattle.yaml_shape.specs.PlainShape.{PlainVariant}
-use Rattle.yaml_tree.specs.Tree.{sequence, tagged}
-use Rattle.yaml_load.specs.PlainDocEvent.{PlainDocEvent, alias_to, a_scalar, a_void, sequence_begins, sequence_ends}
-use Rattle.yaml_load.specs.PlainDocEvent.{mapping_begins, mapping_ends}
-use Rattle.yaml_load.specs.DocEventView.{doc_event_of}
-use Rattle.yaml_load.specs.declared.doc_event.DocEvent.{DocEvent}
-use Rattle.yaml_load.specs.declared.doc_event.DocStart.{DocStart}
-use Rattle.yaml_scalar.specs.ReadFault.{PlainRefusal}
-use Rattle.yaml_scalar.specs.Steps.{ending, wrap, with_shape}
-use Rattle.yaml_scalar.specs.Variants.{Variants, variant_named}
-use Rattle.yaml_read.specs.AnyData.{tree_in, trees_in, pairs_in}
-use Rattle.yaml_read.specs.Fields.{Fields}
-use Rattle.yaml_read.specs.Handing.{as_variant, is_filled_scalar, as_tagged}
-use Rattle.yaml_read.specs.NodeTags.{TakenBy, around_value, untaken_name}
-use Rattle.yaml_read.specs.Places.{Way}
-use Rattle.yaml_read.specs.TreeReader.{Spot, after}
-use Rattle.yaml_read.specs.inner.Reader.{Source, Reader, event_at, other_answer, takes, item_at, any_entry_at}
-use Rattle.yaml_read.specs.inner.Reader.{sequence_parts, mapping_parts}
+use Rattle.yaml_read.proofs.Words.{Position, items_of, entries_of, any_data, variant_data, PlainShape, any_shape}
+use Rattle.yaml_read.proofs.Words.{fields_shape, enum_shape, Owner, content_shape, PlainVariant, sequence, tagged}
+use Rattle.yaml_read.proofs.Words.{PlainDocEvent, alias_to, a_scalar, a_void, sequence_begins, sequence_ends}
+use Rattle.yaml_read.proofs.Words.{mapping_begins, mapping_ends, doc_event_of, DocEvent, DocStart, PlainRefusal, ending}
+use Rattle.yaml_read.proofs.Words.{wrap, with_shape, Variants, variant_named, tree_in, trees_in, pairs_in, Fields}
+use Rattle.yaml_read.proofs.Words.{as_variant, is_filled_scalar, as_tagged, TakenBy, around_value, untaken_name, Way}
+use Rattle.yaml_read.proofs.Words.{Spot, after, Source, Reader, event_at, other_answer, takes, item_at, any_entry_at}
+use Rattle.yaml_read.proofs.Words.{sequence_parts, mapping_parts, Walk, Question, taken_as, by_node, by_shape, by_event}
+use Rattle.yaml_read.proofs.Words.{source_of, reader_of, spot_of, seen}
 use Rattle.yaml_read.specs.declared.de.node.source.Source.{Source as CodeSource}
-use Rattle.yaml_read.specs.declared.walk.Walk.{Walk}
-use Rattle.yaml_read.specs.inner.Questions.{Question, taken_as, by_node, by_shape, by_event}
-use Rattle.yaml_read.specs.inner.Walks.{source_of, reader_of, spot_of, seen}
 use Rattle.yaml_tree.specs.Tree as tree
 use Rattle.yaml_load.specs.declared.doc_event.DocEvent.TheVariants as event
 use Rattle.yaml_read.proofs.reading.Loops.{entered}

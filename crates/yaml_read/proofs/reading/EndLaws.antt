@@ -3,12 +3,11 @@ use Rattle.std.proofs.Common.{◌≡◌, ℕ, zero, suc, ◌+◌, ◌-◌, ◌�
 use Rattle.std.proofs.Common.{false, ◌&&◌, ◌==◌, refl, sym, ap, subst, ◌∙◌, arith, append_assoc, length-append}
 use Rattle.std.specs.Prelude.{slice_get, if◌then◌else◌}
 use Rattle.std.proofs.lemmas.Bool.{eqb-true}
-use Rattle.yaml_base.specs.Position.{Position}
-use Rattle.yaml_load.specs.PlainDocEvent.{PlainDocEvent, sequence_ends, mapping_ends}
-use Rattle.yaml_load.specs.DocTree.{DocNode, DocNodes, DocPairs, nothing, reference, word, list, mapping, no_nodes}
-use Rattle.yaml_load.specs.DocTree.{node, no_pairs, pair, events_of, events_of_nodes, events_of_pairs}
-use Rattle.yaml_load.specs.Ends.{is_opening, is_closing, inner_after, end_place, ends_from, ends_of, GoForward}
-use Rattle.yaml_read.specs.inner.Reader.{Events}
+use Rattle.yaml_read.proofs.Words.{Position, PlainDocEvent, sequence_ends, mapping_ends, DocNode, DocNodes, DocPairs}
+use Rattle.yaml_read.proofs.Words.{nothing, reference, word, list, mapping, no_nodes, node, events_of, events_of_nodes}
+use Rattle.yaml_read.proofs.Words.{events_of_pairs, is_opening, is_closing, inner_after, end_place, ends_from, ends_of}
+use Rattle.yaml_read.proofs.Words.{GoForward, Events}
+use Rattle.yaml_load.specs.DocTree.{no_pairs, pair}
 use Rattle.yaml_read.proofs.reading.Shown.{Shows}
 
 not_outer : (b : Bool) (n : ℕ) → (n + 1 == 0) ≡ b → b ≡ false

@@ -2,27 +2,17 @@
 use Rattle.std.proofs.Common.{◌≡◌, ℕ, ◌-◌, ◌<◌, Bool, true, false, List, [], Some, None, Option, Result, Ok, Err, refl}
 use Rattle.std.proofs.Common.{ap, ◌∙◌, rules, length}
 use Rattle.std.specs.Option.{is_some}
-use Rattle.yaml_base.specs.Position.{Position}
-use Rattle.yaml_shape.specs.DataView.{data_of, entry_of, items_of, entries_of}
-use Rattle.yaml_shape.specs.PlainData.{PlainData, seq_data, map_data, some_data, newtype_data}
-use Rattle.yaml_shape.specs.PlainShape.{PlainShape, option_shape, newtype_shape, seq_shape, row_shape, map_shape, Owner}
-use Rattle.yaml_shape.specs.PlainShape.{shape_at}
-use Rattle.yaml_shape.specs.declared.data.Entry.{Entry, the_lemmas}
-use Rattle.yaml_load.specs.DocEventView.{doc_event_of}
-use Rattle.yaml_load.specs.PlainDocEvent.{PlainDocEvent, sequence_begins, mapping_begins}
-use Rattle.yaml_load.specs.declared.doc_event.DocEvent.{DocEvent}
-use Rattle.yaml_scalar.specs.ReadFault.{ReadFault, PlainRefusal, refused, end_of_stream}
-use Rattle.yaml_scalar.specs.ReadingGives.{GivesReading, Yields}
-use Rattle.yaml_scalar.specs.Steps.{with_end, ending, wrap, finish, with_shape}
-use Rattle.yaml_read.specs.Handing.{Handing, as_is, handed, early, is_content}
-use Rattle.yaml_read.specs.Rows.{row_of, row_data}
-use Rattle.yaml_read.specs.TreeReader.{Spot, after}
-use Rattle.yaml_read.specs.inner.Reader.{is_sequence_end, is_mapping_end, item_at, entry_at, row_at, sequence_parts}
-use Rattle.yaml_read.specs.inner.Reader.{mapping_parts, handed_at, shape_step}
+use Rattle.yaml_read.proofs.Words.{Position, data_of, entry_of, items_of, entries_of, PlainData, seq_data, map_data}
+use Rattle.yaml_read.proofs.Words.{some_data, newtype_data, PlainShape, option_shape, newtype_shape, seq_shape}
+use Rattle.yaml_read.proofs.Words.{row_shape, map_shape, Owner, shape_at, Entry, doc_event_of, PlainDocEvent}
+use Rattle.yaml_read.proofs.Words.{sequence_begins, mapping_begins, DocEvent, ReadFault, PlainRefusal, refused}
+use Rattle.yaml_read.proofs.Words.{end_of_stream, GivesReading, Yields, with_end, ending, wrap, finish, with_shape}
+use Rattle.yaml_read.proofs.Words.{Handing, as_is, handed, early, is_content, row_of, row_data, Spot, after}
+use Rattle.yaml_read.proofs.Words.{is_sequence_end, is_mapping_end, item_at, entry_at, row_at, sequence_parts}
+use Rattle.yaml_read.proofs.Words.{mapping_parts, handed_at, shape_step, Walk, Question, by_step, by_shape, by_event}
+use Rattle.yaml_read.proofs.Words.{source_of, reader_of, spot_of, seen}
+use Rattle.yaml_shape.specs.declared.data.Entry.{the_lemmas}
 use Rattle.yaml_read.specs.declared.de.node.source.Source.{Source as CodeSource}
-use Rattle.yaml_read.specs.declared.walk.Walk.{Walk}
-use Rattle.yaml_read.specs.inner.Questions.{Question, by_step, by_shape, by_event}
-use Rattle.yaml_read.specs.inner.Walks.{source_of, reader_of, spot_of, seen}
 use Rattle.yaml_load.specs.declared.doc_event.DocEvent.TheVariants as event
 use Rattle.yaml_read.proofs.reading.Loops.{entered}
 

@@ -3,23 +3,14 @@ use Rattle.std.proofs.Common.{◌≡◌, ℕ, ◌-◌, ◌<◌, Bool, false, Lis
 use Rattle.std.proofs.Common.{length}
 use Rattle.std.specs.Prelude.{set}
 use Rattle.std.specs.Option.{is_some}
-use Rattle.yaml_base.specs.Position.{Position}
-use Rattle.yaml_shape.specs.PlainData.{PlainData}
-use Rattle.yaml_shape.specs.PlainShape.{PlainShape, identifier_shape, fields_shape, shape_at}
-use Rattle.yaml_load.specs.PlainDocEvent.{PlainDocEvent, mapping_begins}
-use Rattle.yaml_scalar.specs.ReadFault.{ReadFault, PlainRefusal}
-use Rattle.yaml_scalar.specs.ReadingGives.{GivesReading, Yields, lift}
-use Rattle.yaml_scalar.specs.Steps.{◌>>=◌, ending, wrap, finish}
-use Rattle.yaml_read.specs.Fields.{Fields, Slots, no_slots, name_in, field_named, struct_of}
-use Rattle.yaml_read.specs.Handing.{as_is, handed, is_bare}
-use Rattle.yaml_read.specs.Places.{Way, place}
-use Rattle.yaml_read.specs.TreeReader.{Spot, after, mark_or_first}
-use Rattle.yaml_read.specs.inner.Reader.{Source, Reading, Reader, value_way, text_at, fields_in, skip_at, mapping_parts}
-use Rattle.yaml_read.specs.inner.Reader.{mapping_at, fields_at, field_at, field_key_at}
+use Rattle.yaml_read.proofs.Words.{Position, PlainData, PlainShape, identifier_shape, fields_shape, shape_at}
+use Rattle.yaml_read.proofs.Words.{PlainDocEvent, mapping_begins, ReadFault, PlainRefusal, GivesReading, Yields, lift}
+use Rattle.yaml_read.proofs.Words.{◌>>=◌, ending, wrap, finish, Fields, Slots, no_slots, name_in, field_named}
+use Rattle.yaml_read.proofs.Words.{struct_of, as_is, handed, is_bare, Way, place, Spot, after, mark_or_first, Source}
+use Rattle.yaml_read.proofs.Words.{Reading, Reader, value_way, text_at, fields_in, skip_at, mapping_parts, mapping_at}
+use Rattle.yaml_read.proofs.Words.{fields_at, field_at, field_key_at, Walk, Question, by_shape, source_of, reader_of}
+use Rattle.yaml_read.proofs.Words.{spot_of, seen}
 use Rattle.yaml_read.specs.declared.de.node.source.Source.{Source as CodeSource}
-use Rattle.yaml_read.specs.declared.walk.Walk.{Walk}
-use Rattle.yaml_read.specs.inner.Questions.{Question, by_shape}
-use Rattle.yaml_read.specs.inner.Walks.{source_of, reader_of, spot_of, seen}
 use Rattle.yaml_read.proofs.reading.Loops.{entered}
 use Rattle.yaml_read.proofs.reading.Exits.{step_event}
 

@@ -5,18 +5,10 @@ use Rattle.std.proofs.Common.{if◌then◌else◌, length-append}
 use Rattle.std.specs.Prelude.{◌≢◌, slice_get}
 use Rattle.std.proofs.lemmas.List.{length-map}
 use Rattle.std.proofs.lemmas.Option.{slice_get_within}
-use Rattle.yaml_base.specs.Position.{Position}
-use Rattle.yaml_shape.specs.PlainData.{PlainData}
-use Rattle.yaml_shape.specs.PlainShape.{PlainShape}
-use Rattle.yaml_load.specs.DocTree.{DocNode, events_of}
-use Rattle.yaml_load.specs.Ends.{ends_of, ends_from, end_place, inner_after, is_opening, is_closing}
-use Rattle.yaml_load.specs.PlainDocEvent.{PlainDocEvent}
-use Rattle.yaml_load.specs.PlainDocument.{PlainDocument}
-use Rattle.yaml_scalar.specs.ReadFault.{PlainRefusal, out_of_memory, refused, end_of_stream, cause_of}
-use Rattle.yaml_read.specs.Places.{root_way}
-use Rattle.yaml_read.specs.Reads.{IsTreeOf, GoesOn}
-use Rattle.yaml_read.specs.TreeReader.{PlainLimits, marks_of, whole_fuel, read_tree, answer_within}
-use Rattle.yaml_read.specs.inner.Reader.{Reading, node_at}
+use Rattle.yaml_read.proofs.Words.{Position, PlainData, PlainShape, DocNode, events_of, ends_of, ends_from, end_place}
+use Rattle.yaml_read.proofs.Words.{inner_after, is_opening, is_closing, PlainDocEvent, PlainDocument, PlainRefusal}
+use Rattle.yaml_read.proofs.Words.{out_of_memory, refused, end_of_stream, cause_of, root_way, IsTreeOf, GoesOn}
+use Rattle.yaml_read.proofs.Words.{PlainLimits, marks_of, whole_fuel, read_tree, answer_within, Reading, node_at}
 use Rattle.yaml_read.proofs.reading.EndLaws.{node_ends}
 use Rattle.yaml_read.proofs.reading.Growing.{Grows, alike, ended, wanted}
 use Rattle.yaml_read.proofs.reading.GrowingReadings.{grows_node}

@@ -2,14 +2,9 @@
 use Rattle.std.proofs.Common.{◌≡◌, ℕ, zero, suc, List, [], ◌∷◌, Option, Some, None, Result, Ok, Err, Bool, true, false}
 use Rattle.std.proofs.Common.{refl}
 use Rattle.std.specs.Prelude.{if◌then◌else◌}
-use Rattle.yaml_base.specs.Position.{Position}
-use Rattle.yaml_shape.specs.PlainData.{PlainData}
-use Rattle.yaml_shape.specs.PlainShape.{PlainShape}
-use Rattle.yaml_scalar.specs.ReadFault.{ReadFault, PlainRefusal, out_of_memory, refused, end_of_stream}
-use Rattle.yaml_scalar.specs.Steps.{◌>>=◌, ending, wrap, finish, enter, follow, with_shape, unless}
-use Rattle.yaml_read.specs.Fields.{Slots, field_step}
-use Rattle.yaml_read.specs.Places.{Way, place}
-use Rattle.yaml_read.specs.Rows.{Row, row_step, one_more}
+use Rattle.yaml_read.proofs.Words.{Position, PlainData, PlainShape, ReadFault, PlainRefusal, out_of_memory, refused}
+use Rattle.yaml_read.proofs.Words.{end_of_stream, ◌>>=◌, ending, wrap, finish, enter, follow, with_shape, unless, Slots}
+use Rattle.yaml_read.proofs.Words.{field_step, Way, place, Row, row_step, one_more}
 
 -- the second answer is the first, unless that is the end of the events, or want of memory
 pub data Grows {A : Type 0} : Result A PlainRefusal → Result A PlainRefusal → Type 0 where

@@ -4,32 +4,20 @@ use Rattle.std.proofs.Common.{refl, sym, ◌∙◌, length, arith}
 use Rattle.std.specs.Prelude.{if◌then◌else◌, nat_lt}
 use Rattle.std.specs.Option.{is_some}
 use Rattle.std.proofs.lemmas.Bool.{lt-ltb, ltb-true}
-use Rattle.yaml_base.specs.Position.{Position}
-use Rattle.yaml_shape.specs.DataView.{items_of, entries_of}
-use Rattle.yaml_shape.specs.PlainData.{PlainData, any_data, seq_data, map_data, some_data, newtype_data, variant_data}
-use Rattle.yaml_shape.specs.PlainData.{ignored_data}
-use Rattle.yaml_shape.specs.PlainShape.{PlainShape, shape_at, content_shape}
+use Rattle.yaml_read.proofs.Words.{Position, items_of, entries_of, PlainData, any_data, seq_data, map_data, some_data}
+use Rattle.yaml_read.proofs.Words.{newtype_data, variant_data, ignored_data, PlainShape, shape_at, content_shape}
+use Rattle.yaml_read.proofs.Words.{sequence, tagged, is_closing, PlainDocEvent, alias_to, a_scalar, a_void}
+use Rattle.yaml_read.proofs.Words.{sequence_begins, sequence_ends, mapping_begins, mapping_ends, refused}
+use Rattle.yaml_read.proofs.Words.{bytes_unsupported, end_of_stream, ◌>>=◌, unless, tree_in, trees_in, pairs_in, Fields}
+use Rattle.yaml_read.proofs.Words.{Slots, no_slots, struct_of, Handing, as_is, as_some, as_newtype, as_ignored, as_bare}
+use Rattle.yaml_read.proofs.Words.{as_variant, as_tagged, as_refused, handed, early, TakenBy, around_value, Way}
+use Rattle.yaml_read.proofs.Words.{element_under, places, place, Row, row_of, row_data, Spot, after, mark_or_first}
+use Rattle.yaml_read.proofs.Words.{Reading, Reader, Events, Source, turn, each_at, place_at, item_at, entry_at}
+use Rattle.yaml_read.proofs.Words.{any_entry_at, skip_to, skip_event, skip_at, row_at, field_key_at, field_at, rows_at}
+use Rattle.yaml_read.proofs.Words.{fields_at, value_way, text_at, sequence_at, mapping_at, event_at, handed_at}
+use Rattle.yaml_read.proofs.Words.{shape_step, node_step, node_at, is_sequence_end, is_mapping_end}
 use Rattle.yaml_shape.specs.PlainShape as shape
-use Rattle.yaml_tree.specs.Tree.{sequence, tagged}
 use Rattle.yaml_tree.specs.Tree as tree
-use Rattle.yaml_load.specs.Ends.{is_closing}
-use Rattle.yaml_load.specs.PlainDocEvent.{PlainDocEvent, alias_to, a_scalar, a_void}
-use Rattle.yaml_load.specs.PlainDocEvent.{sequence_begins, sequence_ends, mapping_begins, mapping_ends}
-use Rattle.yaml_scalar.specs.ReadFault.{refused, bytes_unsupported, end_of_stream}
-use Rattle.yaml_scalar.specs.Steps.{◌>>=◌, unless}
-use Rattle.yaml_read.specs.AnyData.{tree_in, trees_in, pairs_in}
-use Rattle.yaml_read.specs.Fields.{Fields, Slots, no_slots, struct_of}
-use Rattle.yaml_read.specs.Handing.{Handing, as_is, as_some, as_newtype, as_ignored, as_bare, as_variant, as_tagged}
-use Rattle.yaml_read.specs.Handing.{as_refused, handed, early}
-use Rattle.yaml_read.specs.NodeTags.{TakenBy, around_value}
-use Rattle.yaml_read.specs.Places.{Way, element_under, places, place}
-use Rattle.yaml_read.specs.Rows.{Row, row_of, row_data}
-use Rattle.yaml_read.specs.TreeReader.{Spot, after, mark_or_first}
-use Rattle.yaml_read.specs.inner.Reader.{Reading, Reader, Events, Source, turn, each_at, place_at, item_at}
-use Rattle.yaml_read.specs.inner.Reader.{entry_at, any_entry_at, skip_to, skip_event, skip_at, row_at}
-use Rattle.yaml_read.specs.inner.Reader.{field_key_at, field_at, rows_at, fields_at, value_way, text_at}
-use Rattle.yaml_read.specs.inner.Reader.{sequence_at, mapping_at, event_at, handed_at, shape_step, node_step, node_at}
-use Rattle.yaml_read.specs.inner.Reader.{is_sequence_end, is_mapping_end}
 use Rattle.yaml_read.proofs.reading.Growing.{Grows, alike, ended, wanted, grows_bind, grows_wrap, grows_finish}
 use Rattle.yaml_read.proofs.reading.Growing.{grows_enter, grows_follow, grows_with, grows_unless, grows_if, grows_place}
 use Rattle.yaml_read.proofs.reading.Growing.{grows_one_more, grows_field}

@@ -2,20 +2,11 @@
 use Rattle.std.proofs.Common.{◌≡◌, ℕ, zero, suc, ◌+◌, ◌-◌, ◌<◌, Bool, true, false, List, Some, None, Option, Result, Ok}
 use Rattle.std.proofs.Common.{Err, refl, sym, ap, ◌∙◌, arith}
 use Rattle.std.specs.Option.{is_some}
-use Rattle.yaml_base.specs.Position.{Position}
-use Rattle.yaml_shape.specs.PlainData.{PlainData}
-use Rattle.yaml_shape.specs.PlainShape.{PlainShape, bool_shape, char_shape, integer_shape, str_shape, identifier_shape}
-use Rattle.yaml_shape.specs.PlainShape.{unit_shape, unit_struct_shape}
-use Rattle.yaml_load.specs.PlainDocEvent.{PlainDocEvent, alias_to, a_scalar}
-use Rattle.yaml_read.specs.Handing.{as_is, handed, early}
-use Rattle.yaml_read.specs.NodeTags.{TakenBy}
-use Rattle.yaml_read.specs.Places.{Way, place, placed, places}
-use Rattle.yaml_base.specs.PlainEvent.{PlainScalar}
-use Rattle.yaml_scalar.specs.ReadFault.{ReadFault, refused}
-use Rattle.yaml_scalar.specs.ScalarShapes.{scalar_answer, text_of, lent_text}
-use Rattle.yaml_scalar.specs.Steps.{ending}
-use Rattle.yaml_read.specs.TreeReader.{Spot, after, mark_or_first}
-use Rattle.yaml_read.specs.inner.Reader.{Source, is_leaf, text_at, node_at, pursue}
+use Rattle.yaml_read.proofs.Words.{Position, PlainData, PlainShape, bool_shape, char_shape, integer_shape, str_shape}
+use Rattle.yaml_read.proofs.Words.{identifier_shape, unit_shape, unit_struct_shape, PlainDocEvent, alias_to, a_scalar}
+use Rattle.yaml_read.proofs.Words.{as_is, handed, early, TakenBy, Way, place, placed, places, PlainScalar, ReadFault}
+use Rattle.yaml_read.proofs.Words.{refused, scalar_answer, text_of, lent_text, ending, Spot, after, mark_or_first}
+use Rattle.yaml_read.proofs.Words.{Source, is_leaf, text_at, node_at, pursue}
 use Rattle.yaml_read.proofs.reading.Loops.{pursue_fails, pursue_finds}
 
 -- a shape that reads scalars alone hands nothing on, and places its faults

@@ -1,13 +1,9 @@
 -- One turn of a loop over the parts of a collection, and one step of a reading.
 use Rattle.std.proofs.Common.{◌≡◌, ℕ, zero, suc, ◌+◌, ◌-◌, ◌<◌, Bool, true, false, Some, None, Result, Ok, Err, ap, sym}
 use Rattle.std.proofs.Common.{◌∙◌, arith}
-use Rattle.yaml_base.specs.Position.{Position}
-use Rattle.yaml_shape.specs.PlainData.{PlainData}
-use Rattle.yaml_load.specs.PlainDocEvent.{PlainDocEvent}
-use Rattle.yaml_scalar.specs.ReadFault.{PlainRefusal, refused, end_of_stream, recursion_limit_exceeded}
-use Rattle.yaml_scalar.specs.Steps.{◌>>=◌, wrap, enter}
-use Rattle.yaml_read.specs.TreeReader.{Spot, after}
-use Rattle.yaml_read.specs.inner.Reader.{Reading, Events, each_at, pursue}
+use Rattle.yaml_read.proofs.Words.{Position, PlainData, PlainDocEvent, PlainRefusal, refused, end_of_stream}
+use Rattle.yaml_read.proofs.Words.{recursion_limit_exceeded, ◌>>=◌, wrap, enter, Spot, after, Reading, Events, each_at}
+use Rattle.yaml_read.proofs.Words.{pursue}
 
 module _ {S : Type 0} (is_end : PlainDocEvent → Bool) (step : S → Spot → Reading S) (events : Events) where
   -- the events end within the collection

@@ -1,22 +1,17 @@
 -- What a node means is data of its shape.
 use Rattle.std.proofs.Common.{◌≡◌, ℕ, List, Some, Bool, true, refl, ◌&&◌}
-use Rattle.yaml_shape.specs.HasShape.{has_shape, all_have, entries_have, each_has}
-use Rattle.yaml_shape.specs.PlainData.{PlainData, PlainItems, PlainEntries}
-use Rattle.yaml_shape.specs.PlainShape.{PlainShape, shape_at}
-use Rattle.yaml_load.specs.DocTree.{DocNode, DocNodes, DocPairs, first_event}
-use Rattle.yaml_load.specs.PlainDocEvent.{PlainDocEvent}
+use Rattle.yaml_read.proofs.Words.{has_shape, all_have, entries_have, each_has, PlainData, PlainItems, PlainEntries}
+use Rattle.yaml_read.proofs.Words.{PlainShape, shape_at, DocNode, DocNodes, DocPairs, first_event, PlainDocEvent}
+use Rattle.yaml_read.proofs.Words.{Fields, Slots, no_slots, name_in, Handing, Means, means_node, MeansAs, means_some}
+use Rattle.yaml_read.proofs.Words.{means_newtype, means_ignored, means_target, means_void, means_scalar, means_list}
+use Rattle.yaml_read.proofs.Words.{means_mapping, means_bare, means_fields, MeanFields, means_no_fields, means_field}
+use Rattle.yaml_read.proofs.Words.{means_unknown, means_variant, means_tagged, means_any_list, means_any_mapping}
+use Rattle.yaml_read.proofs.Words.{MeansList, means_seq, means_row, MeansPairs, means_map, MeanEach, means_none}
+use Rattle.yaml_read.proofs.Words.{means_more, MeanRow, means_no_elements, means_element, MeanPairs, means_no_pairs}
+use Rattle.yaml_read.proofs.Words.{means_pair}
 use Rattle.yaml_scalar.proofs.OfShape.{is_of, of_shape, content_has}
 use Rattle.yaml_scalar.proofs.ScalarShapeLaws.{scalar-has, void-has}
 use Rattle.yaml_scalar.proofs.VariantLaws.{variant_has}
-use Rattle.yaml_read.specs.Fields.{Fields, Slots, no_slots, name_in}
-use Rattle.yaml_read.specs.Handing.{Handing}
-use Rattle.yaml_read.specs.Meaning.{Means, means_node, MeansAs, means_some, means_newtype, means_ignored, means_target}
-use Rattle.yaml_read.specs.Meaning.{means_void, means_scalar, means_list, means_mapping}
-use Rattle.yaml_read.specs.Meaning.{means_bare, means_fields, MeanFields, means_no_fields, means_field, means_unknown}
-use Rattle.yaml_read.specs.Meaning.{means_variant, means_tagged, means_any_list, means_any_mapping}
-use Rattle.yaml_read.specs.Meaning.{MeansList, means_seq, means_row, MeansPairs, means_map}
-use Rattle.yaml_read.specs.Meaning.{MeanEach, means_none, means_more, MeanRow, means_no_elements, means_element}
-use Rattle.yaml_read.specs.Meaning.{MeanPairs, means_no_pairs, means_pair}
 use Rattle.yaml_read.proofs.FieldLaws.{Fit, none_fit, set_fit, struct_has_shape}
 use Rattle.yaml_read.proofs.reading.Handings.{From, from_handing}
 

@@ -1,23 +1,17 @@
 -- A tree means at most one thing.
 use Rattle.std.proofs.Common.{◌≡◌, ℕ, suc, ◌+◌, Bool, refl, ap, ap₂, Ok, Some, sym, ◌∙◌, Result}
 use Rattle.std.specs.Prelude.{max, set, List}
-use Rattle.yaml_shape.specs.PlainData.{PlainData, PlainItems, PlainEntries, any_data, variant_data, ignored_data}
-use Rattle.yaml_shape.specs.PlainData.{seq_data, item, map_data, some_data, newtype_data, tuple_data}
-use Rattle.yaml_shape.specs.PlainShape.{PlainShape, ignored_shape}
-use Rattle.yaml_tree.specs.Tree.{sequence, tagged}
+use Rattle.yaml_read.proofs.Words.{PlainData, PlainItems, PlainEntries, any_data, variant_data, ignored_data, seq_data}
+use Rattle.yaml_read.proofs.Words.{item, map_data, some_data, newtype_data, tuple_data, PlainShape, ignored_shape}
+use Rattle.yaml_read.proofs.Words.{sequence, tagged, DocNode, DocNodes, DocPairs, ReadFault, tree_in, trees_in}
+use Rattle.yaml_read.proofs.Words.{pairs_in, Fields, Slots, find, name_in, struct_of, Handing, as_ignored, Means}
+use Rattle.yaml_read.proofs.Words.{means_node, MeansAs, means_some, means_newtype, means_ignored, means_target}
+use Rattle.yaml_read.proofs.Words.{means_void, means_scalar, means_list, means_mapping, means_bare, means_fields}
+use Rattle.yaml_read.proofs.Words.{MeanFields, means_no_fields, means_field, means_unknown, means_variant, means_tagged}
+use Rattle.yaml_read.proofs.Words.{means_any_list, means_any_mapping, MeansList, means_seq, means_row, MeansPairs}
+use Rattle.yaml_read.proofs.Words.{means_map, MeanEach, means_none, means_more, MeanRow, means_no_elements}
+use Rattle.yaml_read.proofs.Words.{means_element, MeanPairs, means_no_pairs, means_pair}
 use Rattle.yaml_tree.specs.Tree as tree
-use Rattle.yaml_load.specs.DocTree.{DocNode, DocNodes, DocPairs}
-use Rattle.yaml_scalar.specs.ReadFault.{ReadFault}
-use Rattle.yaml_read.specs.AnyData.{tree_in, trees_in, pairs_in}
-use Rattle.yaml_read.specs.Fields.{Fields, Slots, find, name_in, struct_of}
-use Rattle.yaml_read.specs.Handing.{Handing, as_ignored}
-use Rattle.yaml_read.specs.Meaning.{Means, means_node, MeansAs, means_some, means_newtype, means_ignored, means_target}
-use Rattle.yaml_read.specs.Meaning.{means_void, means_scalar, means_list, means_mapping}
-use Rattle.yaml_read.specs.Meaning.{means_bare, means_fields, MeanFields, means_no_fields, means_field, means_unknown}
-use Rattle.yaml_read.specs.Meaning.{means_variant, means_tagged, means_any_list, means_any_mapping}
-use Rattle.yaml_read.specs.Meaning.{MeansList, means_seq, means_row, MeansPairs, means_map}
-use Rattle.yaml_read.specs.Meaning.{MeanEach, means_none, means_more, MeanRow, means_no_elements, means_element}
-use Rattle.yaml_read.specs.Meaning.{MeanPairs, means_no_pairs, means_pair}
 use Rattle.yaml_read.proofs.FieldLaws.{same_place, same_number}
 
 -- the same data, with the same counts

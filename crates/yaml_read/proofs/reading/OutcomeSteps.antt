@@ -2,18 +2,13 @@
 use Rattle.std.proofs.Common.{◌≡◌, ℕ, suc, ◌+◌, ◌-◌, List, [], ◌∷◌, ◌++◌, Some, None, Ok, Bool, true, false, ap, subst}
 use Rattle.std.proofs.Common.{append_assoc, length}
 use Rattle.std.specs.Prelude.{max, set}
-use Rattle.yaml_base.specs.Position.{Position}
-use Rattle.yaml_base.specs.declared.error.Place.{Place}
-use Rattle.yaml_shape.specs.PlainData.{PlainData, PlainItems, PlainEntries, tuple_data}
-use Rattle.yaml_shape.specs.PlainShape.{PlainShape, any_shape, identifier_shape, Owner, shape_at}
-use Rattle.yaml_tree.specs.Mapping.{keys_distinct}
-use Rattle.yaml_load.specs.DocTree.{DocNode, DocNodes, DocPairs, node, pair, first_event}
-use Rattle.yaml_scalar.specs.Steps.{◌>>=◌}
-use Rattle.yaml_read.specs.Fields.{Fields, Slots, find, is_free, no_slots, name_in, struct_of}
-use Rattle.yaml_read.specs.Places.{Way, element_under, value_under, text_place, place}
-use Rattle.yaml_read.specs.Rows.{row_of, row_data}
-use Rattle.yaml_read.specs.TreeReader.{field_key, field_value, any_key_of, fields_by, Spot, after, behind, each_node}
-use Rattle.yaml_read.specs.TreeReader.{each_pair, TreeReader, item_of, key_of, value_of, row_part, row_by}
+use Rattle.yaml_read.proofs.Words.{Position, Place, PlainData, PlainItems, PlainEntries, tuple_data, PlainShape}
+use Rattle.yaml_read.proofs.Words.{any_shape, identifier_shape, Owner, shape_at, keys_distinct, DocNode, DocNodes}
+use Rattle.yaml_read.proofs.Words.{DocPairs, node, first_event, ◌>>=◌, Fields, Slots, find, is_free, no_slots, name_in}
+use Rattle.yaml_read.proofs.Words.{struct_of, Way, element_under, value_under, text_place, place, row_of, row_data}
+use Rattle.yaml_read.proofs.Words.{field_key, field_value, any_key_of, fields_by, Spot, after, behind, each_node}
+use Rattle.yaml_read.proofs.Words.{each_pair, TreeReader, item_of, key_of, value_of, row_part, row_by}
+use Rattle.yaml_load.specs.DocTree.{pair}
 use Rattle.yaml_read.proofs.AnyLaws.{pairs_of, first_apart, new_is_key}
 use Rattle.yaml_read.proofs.FieldLaws.{found_named, unknown_named}
 use Rattle.yaml_read.proofs.reading.Outcomes.{Outcome, entered, wrapped, finished, looked_up, bound, list_of}

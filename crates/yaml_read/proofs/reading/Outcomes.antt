@@ -2,15 +2,10 @@
 use Rattle.std.proofs.Common.{◌≡◌, ℕ, zero, suc, ◌+◌, ◌-◌, ◌<◌, ◌≤◌, List, [], ◌∷◌, Option, Some, Ok, Err, Bool, true}
 use Rattle.std.proofs.Common.{false, refl, ap, ◌∙◌, arith, Result}
 use Rattle.std.specs.Prelude.{max}
-use Rattle.yaml_base.specs.Position.{Position}
-use Rattle.yaml_base.specs.declared.error.Place.{Place}
-use Rattle.yaml_shape.specs.DataView.{items_of, entries_of}
-use Rattle.yaml_shape.specs.PlainData.{PlainData, PlainItems, PlainEntries, no_items, item, no_entries, entry}
-use Rattle.yaml_shape.specs.PlainShape.{PlainShape}
-use Rattle.yaml_scalar.specs.ReadFault.{ReadFault, refused, recursion_limit_exceeded, repetition_limit_exceeded}
-use Rattle.yaml_scalar.specs.Steps.{◌>>=◌, wrap, enter, follow, finish, with_shape}
-use Rattle.yaml_read.specs.Places.{Way, with_place, placed, place}
-use Rattle.yaml_read.specs.TreeReader.{Answer}
+use Rattle.yaml_read.proofs.Words.{Position, Place, items_of, entries_of, PlainData, PlainItems, PlainEntries, no_items}
+use Rattle.yaml_read.proofs.Words.{item, no_entries, entry, PlainShape, ReadFault, refused, recursion_limit_exceeded}
+use Rattle.yaml_read.proofs.Words.{repetition_limit_exceeded, ◌>>=◌, wrap, enter, follow, finish, with_shape, Way}
+use Rattle.yaml_read.proofs.Words.{with_place, placed, place, Answer}
 
 -- It is the data, and a limit is passed where one has to be.
 pub data Outcome {A : Type 0} (r : Answer A) (v : A) (nest left d k : ℕ) : Type 0 where

@@ -4,14 +4,8 @@ use Rattle.std.proofs.Common.{subst}
 use Rattle.std.specs.Prelude.{slice_get, drop, All}
 use Rattle.std.proofs.lemmas.List.Elements.{All-get_or}
 use Rattle.std.proofs.lemmas.Option.{get_or_from_slice_get, slice_get_within}
-use Rattle.yaml_shape.specs.PlainData.{PlainData}
-use Rattle.yaml_shape.specs.PlainShape.{PlainShape}
-use Rattle.yaml_scalar.specs.ReadFault.{PlainRefusal}
-use Rattle.yaml_scalar.specs.Steps.{wrap}
-use Rattle.yaml_read.specs.Places.{Way}
-use Rattle.yaml_read.specs.Rows.{row_step}
-use Rattle.yaml_read.specs.TreeReader.{Spot}
-use Rattle.yaml_read.specs.inner.Reader.{Source, Reader, value_way, entry_at}
+use Rattle.yaml_read.proofs.Words.{PlainData, PlainShape, PlainRefusal, wrap, Way, row_step, Spot, Source, Reader}
+use Rattle.yaml_read.proofs.Words.{value_way, entry_at}
 
 module _ (source : Source) (read : Way → Reader) (way : Way) (s t : PlainShape) (nest : ℕ)
     (vs : List (PlainData × PlainData)) (at : Spot) where

@@ -1,20 +1,12 @@
 -- Placing a fault changes no answer, no place where a reading ends, and no fault of a limit.
 use Rattle.std.proofs.Common.{◌≡◌, ℕ, Bool, true, false, Result, Ok, Err, refl, sym, ap, ◌∙◌, Option, Some, None, zero}
 use Rattle.std.proofs.Common.{suc, ◌<◌, ◌-◌, arith}
-use Rattle.yaml_base.specs.Position.{Position}
-use Rattle.yaml_shape.specs.PlainShape.{PlainShape}
+use Rattle.yaml_read.proofs.Words.{Position, PlainShape, PlainDocEvent, PlainRefusal, out_of_memory, refused, ran_out}
+use Rattle.yaml_read.proofs.Words.{TakenBy, Way, placed, place, places, Answer, Spot, Reading, Source, place_at}
+use Rattle.yaml_read.proofs.Words.{node_at, node_step, PlainData, Walk, Question, by_node, by_step, source_of, spot_of}
+use Rattle.yaml_read.proofs.Words.{seen}
 use Rattle.std.specs.Option.{is_some}
-use Rattle.yaml_load.specs.PlainDocEvent.{PlainDocEvent}
-use Rattle.yaml_scalar.specs.ReadFault.{PlainRefusal, out_of_memory, refused, ran_out}
-use Rattle.yaml_read.specs.NodeTags.{TakenBy}
-use Rattle.yaml_read.specs.Places.{Way, placed, place, places}
-use Rattle.yaml_read.specs.TreeReader.{Answer, Spot}
-use Rattle.yaml_read.specs.inner.Reader.{Reading, Source, place_at, node_at, node_step}
-use Rattle.yaml_shape.specs.PlainData.{PlainData}
 use Rattle.yaml_read.specs.declared.de.node.source.Source.{Source as CodeSource}
-use Rattle.yaml_read.specs.declared.walk.Walk.{Walk}
-use Rattle.yaml_read.specs.inner.Questions.{Question, by_node, by_step}
-use Rattle.yaml_read.specs.inner.Walks.{source_of, spot_of, seen}
 use Rattle.yaml_read.proofs.reading.Loops.{enough}
 use Rattle.yaml_read.proofs.reading.Steps.{IfData}
 use Rattle.yaml_read.proofs.reading.TreeWalks.{landed}

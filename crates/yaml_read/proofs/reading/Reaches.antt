@@ -1,10 +1,8 @@
 -- How many optionals may follow one another from a shape.
 use Rattle.std.proofs.Common.{◌≡◌, ℕ, ◌<◌, ◌≤◌, List, Option, Some, ap, arith}
-use Rattle.yaml_shape.specs.PlainShape.{PlainShape, option_shape, unit_shape, row_shape, fields_shape, of_variant}
-use Rattle.yaml_shape.specs.PlainShape.{shape_at, content_shape, PlainVariant, unit_variant, newtype_variant}
-use Rattle.yaml_shape.specs.PlainShape.{tuple_variant, struct_variant}
-use Rattle.yaml_shape.specs.Walks.{rank}
-use Rattle.yaml_read.specs.Handing.{reach}
+use Rattle.yaml_read.proofs.Words.{PlainShape, option_shape, unit_shape, row_shape, fields_shape, of_variant, shape_at}
+use Rattle.yaml_read.proofs.Words.{content_shape, PlainVariant, unit_variant, newtype_variant, tuple_variant}
+use Rattle.yaml_read.proofs.Words.{struct_variant, rank, reach}
 
 -- walks through optionals end: how many may follow from a shape, by its number
 pub reach_rank : (table : List PlainShape) → ((id content : ℕ) → shape_at table id ≡ Some (option_shape content)

@@ -1,15 +1,10 @@
 -- The causes that faults of reading are told as.
 use Rattle.std.proofs.Common.{◌≡◌, Option, Result, Err, false, refl, subst}
 use Rattle.std.specs.Prelude.{◌≢◌}
-use Rattle.yaml_base.specs.Answer.{is_memory}
-use Rattle.yaml_base.specs.declared.error.Cause.{Cause}
-use Rattle.yaml_base.specs.declared.error.Place.{Place}
-use Rattle.yaml_shape.specs.PlainData.{PlainData}
-use Rattle.yaml_scalar.specs.ReadFault.{PlainRefusal, out_of_memory, refused, cause_of, ran_out}
-use Rattle.yaml_scalar.specs.ReadFault.{NodeFault, invalid_type, ReadFault, end_of_stream, recursion_limit_exceeded}
-use Rattle.yaml_scalar.specs.ReadFault.{repetition_limit_exceeded, bytes_unsupported, at_node, node_cause, fault_cause}
-use Rattle.yaml_read.specs.ReadingFaults.{IsNodeFault, IsReadingFault}
-use Rattle.yaml_read.specs.Reads.{cut_fault}
+use Rattle.yaml_read.proofs.Words.{is_memory, Cause, Place, PlainData, PlainRefusal, out_of_memory, refused, cause_of}
+use Rattle.yaml_read.proofs.Words.{ran_out, NodeFault, invalid_type, ReadFault, end_of_stream}
+use Rattle.yaml_read.proofs.Words.{at_node, node_cause, fault_cause}
+use Rattle.yaml_read.proofs.Words.{IsNodeFault, IsReadingFault, cut_fault}
 use Rattle.yaml_read.proofs.reading.WholeReadings.{err_is}
 
 node_is_fault : (fault : NodeFault) (place : Option Place) → IsNodeFault (node_cause fault place)

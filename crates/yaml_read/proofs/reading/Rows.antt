@@ -1,15 +1,10 @@
 -- What becomes of a row's elements, by how many there are.
-use Rattle.std.proofs.Common.{◌≡◌, ℕ, zero, suc, ◌+◌, ◌<◌, ◌≤◌, Bool, true, false, List, [], ◌∷◌, length, None, Result}
+use Rattle.std.proofs.Common.{◌≡◌, ℕ, zero, suc, ◌+◌, ◌<◌, ◌≤◌, Bool, true, false, List, [], ◌∷◌, length, Result}
 use Rattle.std.proofs.Common.{Ok, Err, refl, arith, ◌==◌}
 use Rattle.std.specs.Prelude.{if◌then◌else◌, drop}
 use Rattle.std.proofs.lemmas.Bool.{eqb-true}
-use Rattle.yaml_shape.specs.DataView.{items_of}
-use Rattle.yaml_shape.specs.Expected.{sequence_text, few_text}
-use Rattle.yaml_shape.specs.PlainData.{PlainData, tuple_data}
-use Rattle.yaml_shape.specs.PlainShape.{Owner}
-use Rattle.yaml_scalar.specs.ReadFault.{ReadFault}
-use Rattle.yaml_scalar.specs.ScalarFound.{wrong_length}
-use Rattle.yaml_read.specs.Rows.{row_end}
+use Rattle.yaml_read.proofs.Words.{items_of, sequence_text, few_text, PlainData, tuple_data, Owner, ReadFault}
+use Rattle.yaml_read.proofs.Words.{wrong_length, row_end}
 
 -- too few
 pub row_short : (owner : Owner) (count : ℕ) (ids : List ℕ) (vs : List PlainData) (extra i : ℕ) → i < length ids

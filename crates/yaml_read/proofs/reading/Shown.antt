@@ -2,14 +2,12 @@
 use Rattle.std.proofs.Common.{◌≡◌, ℕ, suc, ◌+◌, ◌<◌, List, [], ◌∷◌, ◌++◌, length, Option, Some, Bool, true, false, ◌==◌}
 use Rattle.std.proofs.Common.{cond, refl, ap, subst, ◌∙◌, arith, length-append, append_assoc}
 use Rattle.std.proofs.lemmas.Bool.{eqb-true}
-use Rattle.yaml_base.specs.Position.{Position}
-use Rattle.yaml_load.specs.PlainDocEvent.{PlainDocEvent, alias_to, a_scalar, sequence_begins, sequence_ends}
-use Rattle.yaml_load.specs.PlainDocEvent.{mapping_begins, mapping_ends, a_void}
-use Rattle.yaml_load.specs.DocTree.{DocNode, DocNodes, DocPairs, nothing, reference, word, list, mapping, no_nodes}
-use Rattle.yaml_load.specs.DocTree.{node, no_pairs, pair, events_of, events_of_nodes, events_of_pairs, numbered}
-use Rattle.yaml_load.specs.DocTree.{numbered_nodes, numbered_pairs, with_number, node_of, first_event}
-use Rattle.yaml_load.specs.Ends.{is_closing}
-use Rattle.yaml_read.specs.inner.Reader.{Events, is_sequence_end, is_mapping_end}
+use Rattle.yaml_read.proofs.Words.{Position, PlainDocEvent, alias_to, a_scalar, sequence_begins, sequence_ends}
+use Rattle.yaml_read.proofs.Words.{mapping_begins, mapping_ends, a_void, DocNode, DocNodes, DocPairs, nothing}
+use Rattle.yaml_read.proofs.Words.{reference, word, list, mapping, no_nodes, node, events_of, events_of_nodes}
+use Rattle.yaml_read.proofs.Words.{events_of_pairs, numbered, numbered_nodes, numbered_pairs, with_number, node_of}
+use Rattle.yaml_read.proofs.Words.{first_event, is_closing, Events, is_sequence_end, is_mapping_end}
+use Rattle.yaml_load.specs.DocTree.{no_pairs, pair}
 
 -- these events stand from a place on
 abbrev pub Shows : Events → ℕ → List PlainDocEvent → Type 0

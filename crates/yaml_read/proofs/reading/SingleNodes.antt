@@ -5,25 +5,11 @@ use Rattle.std.specs.Prelude.{slice_get}
 use Rattle.std.specs.Option.{is_some}
 use Rattle.std.proofs.lemmas.List.{length-map}
 use Rattle.std.proofs.lemmas.Option.{slice_get_within}
-use Rattle.yaml_base.specs.Position.{Position}
-use Rattle.yaml_shape.specs.PlainData.{PlainData}
-use Rattle.yaml_shape.specs.PlainShape.{PlainShape, option_shape, shape_at}
-use Rattle.yaml_shape.specs.Walks.{rank}
-use Rattle.yaml_load.specs.DocEventView.{doc_event_of, marked_events_of}
-use Rattle.yaml_load.specs.DocTree.{DocNode, events_of, node_of}
-use Rattle.yaml_load.specs.Ends.{ends_of}
-use Rattle.yaml_load.specs.PlainDocument.{PlainDocument}
-use Rattle.yaml_load.specs.declared.doc_event.DocEvent.{DocEvent}
-use Rattle.yaml_scalar.specs.ReadFault.{PlainRefusal, cause_of}
-use Rattle.yaml_read.specs.Handing.{depth, reach, nesting_depth, untaken_reach}
-use Rattle.yaml_read.specs.Meaning.{Means}
-use Rattle.yaml_read.specs.NodeTags.{TakenBy}
-use Rattle.yaml_read.specs.NodeReads.{ReadsNode, NodeGives, taker, node_answer}
-use Rattle.yaml_read.specs.Places.{Way}
-use Rattle.yaml_read.specs.Reads.{IsTreeOf}
-use Rattle.yaml_read.specs.TreeReader.{Spot, Answer, marks_of, read_tree, value_told}
-use Rattle.yaml_read.specs.declared.node_place.NodePlace.{NodePlace}
-use Rattle.yaml_read.specs.inner.Reader.{Reading, node_at}
+use Rattle.yaml_read.proofs.Words.{Position, PlainData, PlainShape, option_shape, shape_at, rank, doc_event_of}
+use Rattle.yaml_read.proofs.Words.{marked_events_of, DocNode, events_of, node_of, ends_of, PlainDocument, DocEvent}
+use Rattle.yaml_read.proofs.Words.{PlainRefusal, cause_of, depth, reach, nesting_depth, untaken_reach, Means, TakenBy}
+use Rattle.yaml_read.proofs.Words.{ReadsNode, NodeGives, taker, node_answer, Way, IsTreeOf, Spot, Answer, marks_of}
+use Rattle.yaml_read.proofs.Words.{read_tree, value_told, NodePlace, Reading, node_at}
 use Rattle.yaml_read.proofs.reading.Complete.{tree_outcome}
 use Rattle.yaml_read.proofs.reading.EndLaws.{node_ends}
 use Rattle.yaml_read.proofs.reading.Outcomes.{reads, deep, many}

@@ -1,29 +1,18 @@
 -- What the reader of trees answers is what the tree means.
 use Rattle.std.proofs.Common.{◌≡◌, ℕ, zero, suc, List, [], Option, Some, None, Bool, true, refl, sym, subst, arith}
 use Rattle.std.specs.Option.{is_some}
-use Rattle.yaml_base.specs.Position.{Position}
-use Rattle.yaml_shape.specs.DataView.{entries_of}
-use Rattle.yaml_shape.specs.PlainData.{any_data, variant_data, map_data, some_data, newtype_data, ignored_data}
-use Rattle.yaml_shape.specs.PlainShape.{PlainShape, any_shape, map_shape, fields_shape, shape_at, content_shape}
-use Rattle.yaml_tree.specs.Mapping.{keys_distinct}
-use Rattle.yaml_tree.specs.Tree.{tagged}
+use Rattle.yaml_read.proofs.Words.{Position, entries_of, any_data, variant_data, map_data, some_data, newtype_data}
+use Rattle.yaml_read.proofs.Words.{ignored_data, PlainShape, any_shape, map_shape, fields_shape, shape_at}
+use Rattle.yaml_read.proofs.Words.{content_shape, keys_distinct, tagged, DocNode, DocPairs, nothing, reference, word}
+use Rattle.yaml_read.proofs.Words.{list, mapping, node_of, first_event, out_of_memory, refused, end_of_stream}
+use Rattle.yaml_read.proofs.Words.{mapping_fault, scalar_answer, void_answer, unless, tree_in, no_slots, struct_of}
+use Rattle.yaml_read.proofs.Words.{Handing, as_is, as_some, as_newtype, as_ignored, as_bare, as_variant, as_tagged}
+use Rattle.yaml_read.proofs.Words.{as_refused, handed, early, refusal, TakenBy, around_value, Means, means_node}
+use Rattle.yaml_read.proofs.Words.{MeansAs, means_some, means_newtype, means_ignored, means_target, means_void}
+use Rattle.yaml_read.proofs.Words.{means_scalar, means_mapping, means_bare, means_variant, means_tagged}
+use Rattle.yaml_read.proofs.Words.{means_any_mapping, means_map, Way, places, any_key_of, Spot, after, each_pair}
+use Rattle.yaml_read.proofs.Words.{TreeReader, key_of, value_of, mapping_of, target_of, node_by, handed_by, read_tree}
 use Rattle.yaml_tree.specs.Tree as tree_of
-use Rattle.yaml_load.specs.DocTree.{DocNode, DocPairs, nothing, reference, word, list, mapping, node_of, first_event}
-use Rattle.yaml_scalar.specs.ReadFault.{out_of_memory, refused, end_of_stream}
-use Rattle.yaml_scalar.specs.ScalarFound.{mapping_fault}
-use Rattle.yaml_scalar.specs.ScalarShapes.{scalar_answer, void_answer}
-use Rattle.yaml_scalar.specs.Steps.{unless}
-use Rattle.yaml_read.specs.AnyData.{tree_in}
-use Rattle.yaml_read.specs.Fields.{no_slots, struct_of}
-use Rattle.yaml_read.specs.Handing.{Handing, as_is, as_some, as_newtype, as_ignored, as_bare, as_variant, as_tagged}
-use Rattle.yaml_read.specs.Handing.{as_refused, handed, early, refusal}
-use Rattle.yaml_read.specs.NodeTags.{TakenBy, around_value}
-use Rattle.yaml_read.specs.Meaning.{Means, means_node, MeansAs, means_some, means_newtype, means_ignored, means_target}
-use Rattle.yaml_read.specs.Meaning.{means_void, means_scalar, means_mapping, means_bare, means_variant, means_tagged}
-use Rattle.yaml_read.specs.Meaning.{means_any_mapping, means_map}
-use Rattle.yaml_read.specs.Places.{Way, places}
-use Rattle.yaml_read.specs.TreeReader.{any_key_of, Spot, after, each_pair, TreeReader, key_of, value_of, mapping_of}
-use Rattle.yaml_read.specs.TreeReader.{target_of, node_by, handed_by, read_tree}
 use Rattle.yaml_read.proofs.AnyLaws.{pairs_of}
 use Rattle.yaml_read.proofs.reading.PlaceLaws.{data_place}
 use Rattle.yaml_read.proofs.reading.Steps.{IfData, data_ok, data_err, data_wrap, data_enter, data_follow, data_with}

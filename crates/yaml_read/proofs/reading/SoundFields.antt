@@ -1,18 +1,13 @@
 -- The fields of a struct that are read are what its pairs mean.
 use Rattle.std.proofs.Common.{◌≡◌, ℕ, suc, ◌+◌, List, Option, Some, None, Ok, Bool, arith}
 use Rattle.std.specs.Prelude.{max, set}
-use Rattle.yaml_base.specs.Position.{Position}
-use Rattle.yaml_base.specs.declared.error.Place.{Place}
-use Rattle.yaml_shape.specs.PlainData.{PlainData}
-use Rattle.yaml_shape.specs.PlainShape.{PlainShape, identifier_shape, fields_shape, Owner, shape_at}
-use Rattle.yaml_load.specs.DocTree.{DocNode, DocPairs, mapping, no_pairs, pair, first_event}
-use Rattle.yaml_scalar.specs.Steps.{◌>>=◌, with_shape}
-use Rattle.yaml_read.specs.Fields.{Fields, Slots, no_slots, name_in, field_named, struct_of}
-use Rattle.yaml_read.specs.Handing.{as_is}
-use Rattle.yaml_read.specs.Meaning.{MeansAs, means_mapping, means_fields, MeanFields, means_no_fields, means_field}
-use Rattle.yaml_read.specs.Meaning.{means_unknown}
-use Rattle.yaml_read.specs.Places.{Way, value_under, text_place}
-use Rattle.yaml_read.specs.TreeReader.{field_key, field_value, fields_by, Spot, behind, each_pair, TreeReader}
+use Rattle.yaml_read.proofs.Words.{Position, Place, PlainData, PlainShape, identifier_shape, fields_shape, Owner}
+use Rattle.yaml_read.proofs.Words.{shape_at, DocNode, DocPairs, mapping, first_event, ◌>>=◌, with_shape, Fields, Slots}
+use Rattle.yaml_read.proofs.Words.{no_slots, name_in, field_named, struct_of, as_is, MeansAs, means_mapping}
+use Rattle.yaml_read.proofs.Words.{means_fields, MeanFields, means_no_fields, means_field, means_unknown, Way}
+use Rattle.yaml_read.proofs.Words.{value_under, text_place, field_key, field_value, fields_by, Spot, behind, each_pair}
+use Rattle.yaml_read.proofs.Words.{TreeReader}
+use Rattle.yaml_load.specs.DocTree.{no_pairs, pair}
 use Rattle.yaml_read.proofs.FieldLaws.{named_found, named_unknown}
 use Rattle.yaml_read.proofs.reading.Steps.{IfData, data_ok, data_then, data_wrap, data_enter, data_with, data_finish}
 use Rattle.yaml_read.proofs.reading.SoundParts.{Found, IsSound}

@@ -3,23 +3,13 @@ use Rattle.std.proofs.Common.{◌≡◌, ℕ, suc, ◌+◌, List, [], ◌∷◌,
 use Rattle.std.proofs.Common.{sym, ap, subst, ◌∙◌, arith, append_assoc, append-nil, Result, length, ◌==◌}
 use Rattle.std.specs.Prelude.{max, if◌then◌else◌}
 use Rattle.std.proofs.lemmas.Bool.{eqb-true}
-use Rattle.yaml_base.specs.Position.{Position}
-use Rattle.yaml_shape.specs.DataView.{items_of}
-use Rattle.yaml_shape.specs.Expected.{sequence_text}
-use Rattle.yaml_shape.specs.PlainData.{PlainData, any_data, seq_data, tuple_data}
-use Rattle.yaml_shape.specs.PlainShape.{PlainShape, any_shape, seq_shape, row_shape, Owner, shape_at}
-use Rattle.yaml_tree.specs.Tree.{sequence}
-use Rattle.yaml_load.specs.DocTree.{DocNode, DocNodes, list, no_nodes, node}
-use Rattle.yaml_scalar.specs.ReadFault.{ReadFault, refused}
-use Rattle.yaml_scalar.specs.ScalarFound.{sequence_fault, wrong_length}
-use Rattle.yaml_scalar.specs.Steps.{with_shape}
-use Rattle.yaml_read.specs.AnyData.{trees_in}
-use Rattle.yaml_read.specs.Handing.{as_is}
-use Rattle.yaml_read.specs.Meaning.{MeansAs, means_list, means_row, means_any_list, means_seq}
-use Rattle.yaml_read.specs.Meaning.{MeanRow, means_no_elements, means_element}
-use Rattle.yaml_read.specs.Places.{Way, element_under}
-use Rattle.yaml_read.specs.Rows.{row_of, row_end, row_data}
-use Rattle.yaml_read.specs.TreeReader.{Spot, behind, each_node, TreeReader, item_of, row_part, sequence_of}
+use Rattle.yaml_read.proofs.Words.{Position, items_of, sequence_text, PlainData, any_data, seq_data, tuple_data}
+use Rattle.yaml_read.proofs.Words.{PlainShape, any_shape, seq_shape, row_shape, Owner, shape_at, sequence, DocNode}
+use Rattle.yaml_read.proofs.Words.{DocNodes, list, no_nodes, node, ReadFault, refused, sequence_fault, wrong_length}
+use Rattle.yaml_read.proofs.Words.{with_shape, trees_in, as_is, MeansAs, means_list, means_row, means_any_list}
+use Rattle.yaml_read.proofs.Words.{means_seq, MeanRow, means_no_elements, means_element, Way, element_under, row_of}
+use Rattle.yaml_read.proofs.Words.{row_end, row_data, Spot, behind, each_node, TreeReader, item_of, row_part}
+use Rattle.yaml_read.proofs.Words.{sequence_of}
 use Rattle.yaml_read.proofs.reading.Steps.{IfData, data_ok, data_err, data_then, data_wrap, data_enter, data_with}
 use Rattle.yaml_read.proofs.reading.Steps.{data_finish}
 use Rattle.yaml_read.proofs.reading.SoundParts.{Found, Gathered, IsSound, nodes_sound}

@@ -3,17 +3,12 @@ use Rattle.std.proofs.Common.{◌≡◌, ℕ, ◌+◌, ◌≤◌, List, [], ◌�
 use Rattle.std.proofs.Common.{arith, append_assoc, append-nil, length}
 use Rattle.std.specs.Prelude.{max}
 use Rattle.std.specs.Option.{is_some}
-use Rattle.yaml_shape.specs.DataView.{items_of, entries_of}
-use Rattle.yaml_shape.specs.PlainData.{PlainData}
-use Rattle.yaml_shape.specs.PlainShape.{PlainShape, any_shape}
-use Rattle.yaml_tree.specs.Mapping.{has_key, keys_distinct}
-use Rattle.yaml_load.specs.DocTree.{DocNode, DocNodes, DocPairs, no_nodes, node, no_pairs, pair, first_event}
-use Rattle.yaml_read.specs.AnyData.{tree_in, new_key}
-use Rattle.yaml_read.specs.NodeTags.{TakenBy}
-use Rattle.yaml_read.specs.Meaning.{Means, MeanEach, means_none, means_more, MeanPairs, means_no_pairs, means_pair}
-use Rattle.yaml_read.specs.Places.{Way, element_under, value_under}
-use Rattle.yaml_read.specs.TreeReader.{any_key_of, Spot, behind, each_node, each_pair, TreeReader, item_of, key_of}
-use Rattle.yaml_read.specs.TreeReader.{value_of}
+use Rattle.yaml_read.proofs.Words.{items_of, entries_of, PlainData, PlainShape, any_shape, has_key, keys_distinct}
+use Rattle.yaml_read.proofs.Words.{DocNode, DocNodes, DocPairs, no_nodes, node, first_event, tree_in, new_key, TakenBy}
+use Rattle.yaml_read.proofs.Words.{Means, MeanEach, means_none, means_more, MeanPairs, means_no_pairs, means_pair, Way}
+use Rattle.yaml_read.proofs.Words.{element_under, value_under, any_key_of, Spot, behind, each_node, each_pair}
+use Rattle.yaml_read.proofs.Words.{TreeReader, item_of, key_of, value_of}
+use Rattle.yaml_load.specs.DocTree.{no_pairs, pair}
 use Rattle.yaml_read.proofs.AnyLaws.{pairs_of, distinct_end, key_is_new}
 use Rattle.yaml_read.proofs.reading.Steps.{IfData, data_ok, data_then, data_wrap, data_finish}
 

@@ -2,20 +2,10 @@
 use Rattle.std.proofs.Common.{◌≡◌, ℕ, zero, suc, Option, Some, None, Ok, Err, Bool, false}
 use Rattle.std.proofs.Common.{refl, Result, ◌+◌}
 use Rattle.std.specs.Option.{is_some}
-use Rattle.yaml_base.specs.Position.{Position}
-use Rattle.yaml_shape.specs.PlainData.{PlainData}
-use Rattle.yaml_shape.specs.PlainShape.{PlainShape}
+use Rattle.yaml_read.proofs.Words.{Position, PlainData, PlainShape, PlainDocEvent, alias_to, ReadFault, PlainRefusal}
+use Rattle.yaml_read.proofs.Words.{◌>>=◌, unless, early, TakenBy, Way, Spot, Reading, Source, pursue, place_at}
+use Rattle.yaml_read.proofs.Words.{text_at, shape_step, node_at}
 use Rattle.yaml_shape.specs.PlainShape as shape
-use Rattle.yaml_load.specs.PlainDocEvent.{PlainDocEvent, alias_to}
-use Rattle.yaml_scalar.specs.ReadFault.{ReadFault, PlainRefusal}
-use Rattle.yaml_scalar.specs.Steps.{◌>>=◌, unless}
-use Rattle.yaml_read.specs.Handing.{early}
-use Rattle.yaml_read.specs.NodeTags.{TakenBy}
-use Rattle.yaml_read.specs.Places.{Way, place}
-use Rattle.yaml_read.specs.TreeReader.{Spot}
-use Rattle.yaml_read.specs.inner.Reader.{Reading, Source, pursue, place_at}
-use Rattle.yaml_read.specs.inner.Reader.{text_at}
-use Rattle.yaml_read.specs.inner.Reader.{shape_step, node_at}
 
 -- a lookup that finds an event
 abbrev pub Stands : Option (PlainDocEvent × Position) → Type 0

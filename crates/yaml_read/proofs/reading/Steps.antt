@@ -1,9 +1,7 @@
 -- What the steps of a reading answer: what holds of their data.
 use Rattle.std.proofs.Common.{◌≡◌, ℕ, zero, suc, Some, None, Option, Result, Ok, Err, refl, subst}
-use Rattle.yaml_base.specs.Position.{Position}
-use Rattle.yaml_shape.specs.PlainShape.{PlainShape}
-use Rattle.yaml_scalar.specs.ReadFault.{ReadFault, PlainRefusal, refused}
-use Rattle.yaml_scalar.specs.Steps.{◌>>=◌, ending, wrap, enter, follow, finish, with_shape, unless}
+use Rattle.yaml_read.proofs.Words.{Position, PlainShape, ReadFault, PlainRefusal, refused, ◌>>=◌, ending, wrap, enter}
+use Rattle.yaml_read.proofs.Words.{follow, finish, with_shape, unless}
 
 -- this holds of the answer, if it is one
 abbrev pub IfData : {E A : Type 0} → (A → Type 0) → Result A E → Type 0

@@ -2,13 +2,10 @@
 -- a fault of reading, never want of memory.
 use Rattle.std.proofs.Common.{◌≡◌, ℕ, zero, suc, ◌≤◌, Option, Some, None, Result, Ok, Err, Bool, refl}
 use Rattle.std.proofs.Common.{arith}
-use Rattle.yaml_base.specs.Position.{Position}
-use Rattle.yaml_shape.specs.PlainShape.{PlainShape}
-use Rattle.yaml_load.specs.DocTree.{DocNode, DocNodes, DocPairs, no_nodes, node, no_pairs, pair}
-use Rattle.yaml_scalar.specs.ReadFault.{ReadFault, PlainRefusal, refused}
-use Rattle.yaml_scalar.specs.Steps.{◌>>=◌, ending, wrap, finish, enter, follow, with_shape, unless}
-use Rattle.yaml_read.specs.Places.{Way, place}
-use Rattle.yaml_read.specs.TreeReader.{Spot, Answer, behind, each_node, each_pair}
+use Rattle.yaml_read.proofs.Words.{Position, PlainShape, DocNode, DocNodes, DocPairs, no_nodes, node, ReadFault}
+use Rattle.yaml_read.proofs.Words.{PlainRefusal, refused, ◌>>=◌, ending, wrap, finish, enter, follow, with_shape}
+use Rattle.yaml_read.proofs.Words.{unless, Way, place, Spot, Answer, behind, each_node, each_pair}
+use Rattle.yaml_load.specs.DocTree.{no_pairs, pair}
 
 -- the answer is a value of which this holds, with at most so many follows left, or a fault of reading
 pub data Ends {A : Type 0} (Q : A → Type 0) (left : ℕ) : Answer A → Type 0 where

@@ -1,33 +1,22 @@
 -- A tree is read to its end: with fuel that is enough it answers data or a fault of reading, never want of memory.
 use Rattle.std.proofs.Common.{◌≡◌, ℕ, zero, suc, ◌+◌, ◌*◌, ◌<◌, ◌≤◌, List, [], ◌∷◌, ◌++◌, length, Option, Some, None}
-use Rattle.std.proofs.Common.{Ok, Bool, false, refl, ap, subst, arith, All, IfSome, set}
+use Rattle.std.proofs.Common.{Ok, Bool, refl, ap, subst, arith, All, IfSome, set}
 use Rattle.std.specs.Option.{is_some}
 use Rattle.std.proofs.lemmas.List.Elements.{All-head, All-tail, All-nil}
-use Rattle.yaml_base.specs.Position.{Position}
-use Rattle.yaml_base.specs.declared.error.Place.{Place}
-use Rattle.yaml_shape.specs.DataView.{items_of, entries_of}
-use Rattle.yaml_shape.specs.PlainData.{PlainData, any_data, variant_data, seq_data, map_data, some_data, newtype_data}
-use Rattle.yaml_shape.specs.PlainData.{ignored_data}
-use Rattle.yaml_shape.specs.PlainShape.{PlainShape, shape_at, content_shape}
+use Rattle.yaml_read.proofs.Words.{Position, Place, items_of, entries_of, PlainData, any_data, variant_data, seq_data}
+use Rattle.yaml_read.proofs.Words.{map_data, some_data, newtype_data, ignored_data, PlainShape, shape_at, content_shape}
+use Rattle.yaml_read.proofs.Words.{AllNameWithin, NamesWithin, numbers_of, rank, sequence, tagged, DocNode, DocNodes}
+use Rattle.yaml_read.proofs.Words.{DocPairs, nothing, reference, word, list, mapping, node_of, first_event}
+use Rattle.yaml_read.proofs.Words.{scalar_answer, void_answer, tree_in, trees_in, pairs_in, Fields, Slots, no_slots}
+use Rattle.yaml_read.proofs.Words.{name_in, field_named, field_step, struct_of, Handing, as_is, as_some, as_newtype}
+use Rattle.yaml_read.proofs.Words.{as_ignored, as_bare, as_variant, as_tagged, as_refused, early, handed, depth, reach}
+use Rattle.yaml_read.proofs.Words.{untaken_reach, TakenBy, around_value, Way, element_under, value_under, places, Row}
+use Rattle.yaml_read.proofs.Words.{row_of, row_step, row_data, Spot, Answer, TreeReader, after, each_node, each_pair}
+use Rattle.yaml_read.proofs.Words.{item_of, key_of, value_of, any_key_of, field_key, field_value, target_of, row_part}
+use Rattle.yaml_read.proofs.Words.{row_by, fields_by, sequence_of, mapping_of, node_by, handed_by, read_tree}
 use Rattle.yaml_shape.specs.PlainShape as shape
-use Rattle.yaml_shape.specs.Validity.{AllNameWithin, NamesWithin, numbers_of}
-use Rattle.yaml_shape.specs.Walks.{rank}
-use Rattle.yaml_tree.specs.Tree.{sequence, tagged}
 use Rattle.yaml_tree.specs.Tree as tree
-use Rattle.yaml_load.specs.DocTree.{DocNode, DocNodes, DocPairs, nothing, reference, word, list, mapping, node_of}
-use Rattle.yaml_load.specs.DocTree.{first_event}
-use Rattle.yaml_scalar.specs.ScalarShapes.{scalar_answer, void_answer}
 use Rattle.yaml_scalar.proofs.VariantCode.{content_all}
-use Rattle.yaml_read.specs.AnyData.{tree_in, trees_in, pairs_in}
-use Rattle.yaml_read.specs.Fields.{Fields, Slots, no_slots, name_in, field_named, field_step, struct_of}
-use Rattle.yaml_read.specs.Handing.{Handing, as_is, as_some, as_newtype, as_ignored, as_bare, as_variant, as_tagged}
-use Rattle.yaml_read.specs.Handing.{as_refused, early, handed, depth, reach, untaken_reach}
-use Rattle.yaml_read.specs.NodeTags.{TakenBy, around_value}
-use Rattle.yaml_read.specs.Places.{Way, element_under, value_under, places}
-use Rattle.yaml_read.specs.Rows.{Row, row_of, row_step, row_data}
-use Rattle.yaml_read.specs.TreeReader.{Spot, Answer, TreeReader, after, each_node, each_pair, item_of, key_of, value_of}
-use Rattle.yaml_read.specs.TreeReader.{any_key_of, field_key, field_value, target_of, row_part, row_by, fields_by}
-use Rattle.yaml_read.specs.TreeReader.{sequence_of, mapping_of, node_by, handed_by, read_tree}
 use Rattle.yaml_read.proofs.FieldLaws.{named_found}
 use Rattle.yaml_read.proofs.reading.Handings.{From, handed_from}
 use Rattle.yaml_read.proofs.reading.Reaches.{reach_rank}

@@ -2,25 +2,16 @@
 use Rattle.std.proofs.Common.{◌≡◌, ℕ, zero, suc, ◌+◌, ◌<◌, [], ◌∷◌, ◌++◌, length, Option, Some, None, Ok, Err, Bool}
 use Rattle.std.proofs.Common.{true, refl, sym, subst, arith, ap, ◌∙◌}
 use Rattle.std.specs.Option.{is_some}
-use Rattle.yaml_base.specs.Position.{Position}
-use Rattle.yaml_shape.specs.PlainData.{PlainData, any_data, variant_data, some_data, newtype_data}
-use Rattle.yaml_shape.specs.PlainShape.{PlainShape, any_shape, shape_at, content_shape}
-use Rattle.yaml_tree.specs.Tree.{tagged}
-use Rattle.yaml_load.specs.DocTree.{DocNode, nothing, reference, word, list, mapping, events_of, events_of_nodes}
-use Rattle.yaml_load.specs.DocTree.{events_of_pairs, node_of, first_event}
-use Rattle.yaml_load.specs.PlainDocEvent.{PlainDocEvent, alias_to, sequence_ends, mapping_ends}
-use Rattle.yaml_scalar.specs.ScalarShapes.{scalar_answer, void_answer}
-use Rattle.yaml_scalar.specs.Steps.{◌>>=◌, ending}
-use Rattle.yaml_read.specs.AnyData.{tree_in}
-use Rattle.yaml_read.specs.Fields.{Fields, no_slots, struct_of}
-use Rattle.yaml_read.specs.Handing.{Handing, as_is, as_some, as_newtype, as_ignored, as_bare, as_variant, as_tagged}
-use Rattle.yaml_read.specs.Handing.{as_refused, is_bare, handed, early}
-use Rattle.yaml_read.specs.NodeTags.{TakenBy, around_value}
-use Rattle.yaml_read.specs.Places.{Way, places, place}
-use Rattle.yaml_read.specs.TreeReader.{Spot, after, TreeReader, Answer, sequence_of, mapping_of, target_of, node_by}
-use Rattle.yaml_read.specs.TreeReader.{handed_by, read_tree, mark_or_first}
-use Rattle.yaml_read.specs.inner.Reader.{Source, Reading, Reader, sequence_at, mapping_at, event_at, handed_at}
-use Rattle.yaml_read.specs.inner.Reader.{shape_step, node_at, place_at}
+use Rattle.yaml_read.proofs.Words.{Position, PlainData, any_data, variant_data, some_data, newtype_data, PlainShape}
+use Rattle.yaml_read.proofs.Words.{any_shape, shape_at, content_shape, tagged, DocNode, nothing, reference, word, list}
+use Rattle.yaml_read.proofs.Words.{mapping, events_of, events_of_nodes, events_of_pairs, node_of, first_event}
+use Rattle.yaml_read.proofs.Words.{PlainDocEvent, alias_to, sequence_ends, mapping_ends, scalar_answer, void_answer}
+use Rattle.yaml_read.proofs.Words.{◌>>=◌, ending, tree_in, Fields, no_slots, struct_of, Handing, as_is, as_some}
+use Rattle.yaml_read.proofs.Words.{as_newtype, as_ignored, as_bare, as_variant, as_tagged, as_refused, is_bare, handed}
+use Rattle.yaml_read.proofs.Words.{early, TakenBy, around_value, Way, places, place, Spot, after, TreeReader, Answer}
+use Rattle.yaml_read.proofs.Words.{sequence_of, mapping_of, target_of, node_by, handed_by, read_tree, mark_or_first}
+use Rattle.yaml_read.proofs.Words.{Source, Reading, Reader, sequence_at, mapping_at, event_at, handed_at, shape_step}
+use Rattle.yaml_read.proofs.Words.{node_at, place_at}
 use Rattle.yaml_read.proofs.reading.Handings.{from_handing}
 use Rattle.yaml_read.proofs.reading.PlaceLaws.{landed_place}
 use Rattle.yaml_read.proofs.reading.Shown.{Shows, target_shown, begins}

@@ -3,21 +3,12 @@ use Rattle.std.proofs.Common.{◌≡◌, ℕ, ◌+◌, ◌<◌, List, [], ◌∷
 use Rattle.std.proofs.Common.{ap}
 use Rattle.std.specs.Prelude.{nat_lt}
 use Rattle.std.proofs.lemmas.Bool.{lt-ltb}
-use Rattle.yaml_base.specs.Position.{Position}
-use Rattle.yaml_shape.specs.DataView.{items_of}
-use Rattle.yaml_shape.specs.PlainData.{PlainData, any_data, seq_data, ignored_data}
-use Rattle.yaml_shape.specs.PlainShape.{PlainShape, any_shape, seq_shape, row_shape, Owner, shape_at}
-use Rattle.yaml_tree.specs.Tree.{sequence}
-use Rattle.yaml_load.specs.DocTree.{DocNode, DocNodes, nothing, reference, word, list, mapping, events_of}
-use Rattle.yaml_load.specs.DocTree.{events_of_nodes, events_of_pairs}
-use Rattle.yaml_load.specs.PlainDocEvent.{PlainDocEvent, sequence_ends, mapping_ends}
-use Rattle.yaml_scalar.specs.Steps.{with_shape}
-use Rattle.yaml_read.specs.AnyData.{trees_in}
-use Rattle.yaml_read.specs.NodeTags.{TakenBy}
-use Rattle.yaml_read.specs.Places.{Way, element_under}
-use Rattle.yaml_read.specs.Rows.{row_of, row_step, row_data}
-use Rattle.yaml_read.specs.TreeReader.{Spot, TreeReader, item_of, row_part, row_by, sequence_of}
-use Rattle.yaml_read.specs.inner.Reader.{Source, Reader, item_at, row_at, rows_at, skip_at, sequence_at}
+use Rattle.yaml_read.proofs.Words.{Position, items_of, PlainData, any_data, seq_data, ignored_data, PlainShape}
+use Rattle.yaml_read.proofs.Words.{any_shape, seq_shape, row_shape, Owner, shape_at, sequence, DocNode, DocNodes}
+use Rattle.yaml_read.proofs.Words.{nothing, reference, word, list, mapping, events_of, events_of_nodes, events_of_pairs}
+use Rattle.yaml_read.proofs.Words.{PlainDocEvent, sequence_ends, mapping_ends, with_shape, trees_in, TakenBy, Way}
+use Rattle.yaml_read.proofs.Words.{element_under, row_of, row_step, row_data, Spot, TreeReader, item_of, row_part}
+use Rattle.yaml_read.proofs.Words.{row_by, sequence_of, Source, Reader, item_at, row_at, rows_at, skip_at, sequence_at}
 use Rattle.yaml_read.proofs.reading.Shown.{Shows, begins, opens, shows_within}
 use Rattle.yaml_read.proofs.reading.TreeWalks.{landed, landed_wrap, landed_enter, landed_with, landed_finish}
 use Rattle.yaml_read.proofs.reading.TreeWalks.{nodes_tied}

@@ -1,22 +1,15 @@
 -- Where events show a mapping, reading it by its place answers what reading its tree answers.
 use Rattle.std.proofs.Common.{◌≡◌, ℕ, ◌+◌, ◌<◌, List, [], ◌∷◌, ◌++◌, length, Option, Some, None, Ok, Bool, refl, arith}
 use Rattle.std.proofs.Common.{ap, ap₂, set, Result, ◌∙◌}
-use Rattle.yaml_base.specs.Position.{Position}
-use Rattle.yaml_shape.specs.DataView.{entries_of}
-use Rattle.yaml_shape.specs.PlainData.{PlainData, any_data, map_data, ignored_data}
-use Rattle.yaml_shape.specs.PlainShape.{PlainShape, any_shape, identifier_shape, map_shape, fields_shape, shape_at}
+use Rattle.yaml_read.proofs.Words.{Position, entries_of, PlainData, any_data, map_data, ignored_data, PlainShape}
+use Rattle.yaml_read.proofs.Words.{any_shape, identifier_shape, map_shape, fields_shape, shape_at, DocNode, DocPairs}
+use Rattle.yaml_read.proofs.Words.{events_of, events_of_pairs, first_event, PlainDocEvent, mapping_ends, ReadFault}
+use Rattle.yaml_read.proofs.Words.{◌>>=◌, wrap, finish, pairs_in, new_key, Fields, Slots, no_slots, name_in}
+use Rattle.yaml_read.proofs.Words.{field_named, struct_of, Way, value_under, text_place, Spot, TreeReader, key_of}
+use Rattle.yaml_read.proofs.Words.{value_of, fields_by, mapping_of, field_key, field_value, any_key_of, mark_or_first}
+use Rattle.yaml_read.proofs.Words.{field_key_at, field_value_at, any_key_at, text_at, Source, Reader, fields_at}
+use Rattle.yaml_read.proofs.Words.{skip_at, value_way, mapping_at}
 use Rattle.yaml_tree.specs.Tree as tree_of
-use Rattle.yaml_load.specs.DocTree.{DocNode, DocPairs, events_of, events_of_pairs, first_event}
-use Rattle.yaml_load.specs.PlainDocEvent.{PlainDocEvent, mapping_ends}
-use Rattle.yaml_scalar.specs.ReadFault.{ReadFault}
-use Rattle.yaml_scalar.specs.Steps.{◌>>=◌, wrap, finish}
-use Rattle.yaml_read.specs.AnyData.{pairs_in, new_key}
-use Rattle.yaml_read.specs.Fields.{Fields, Slots, no_slots, name_in, field_named, struct_of}
-use Rattle.yaml_read.specs.Places.{Way, value_under, text_place}
-use Rattle.yaml_read.specs.TreeReader.{Spot, TreeReader, key_of, value_of, fields_by, mapping_of, field_key}
-use Rattle.yaml_read.specs.TreeReader.{field_value, any_key_of, mark_or_first}
-use Rattle.yaml_read.specs.inner.Reader.{field_key_at, field_value_at, any_key_at, text_at, Source, Reader, fields_at}
-use Rattle.yaml_read.specs.inner.Reader.{skip_at, value_way, mapping_at}
 use Rattle.yaml_read.proofs.reading.Shown.{Shows, begins}
 use Rattle.yaml_read.proofs.reading.TreeWalks.{landed, landed_wrap, landed_enter, landed_with, landed_finish}
 use Rattle.yaml_read.proofs.reading.TreeWalks.{pairs_tied}

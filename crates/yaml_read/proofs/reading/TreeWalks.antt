@@ -1,17 +1,13 @@
 -- Going over the parts of a collection by their places answers what going over the tree's parts answers.
 use Rattle.std.proofs.Common.{◌≡◌, ℕ, zero, suc, ◌+◌, ◌<◌, [], ◌∷◌, ◌++◌, length, Some, None, Option, Result, Ok, Err}
 use Rattle.std.proofs.Common.{refl, subst, ◌∙◌, arith}
-use Rattle.yaml_base.specs.Position.{Position}
-use Rattle.yaml_load.specs.PlainDocEvent.{PlainDocEvent, sequence_ends, mapping_ends}
-use Rattle.yaml_load.specs.DocTree.{DocNode, DocNodes, DocPairs, no_nodes, node, no_pairs, pair, events_of}
-use Rattle.yaml_load.specs.DocTree.{events_of_nodes, events_of_pairs}
-use Rattle.yaml_scalar.specs.ReadFault.{ReadFault}
-use Rattle.yaml_scalar.specs.Steps.{◌>>=◌, ending, wrap, enter, follow, finish, with_shape, unless}
-use Rattle.yaml_read.specs.TreeReader.{Spot, Answer, each_node, each_pair}
-use Rattle.yaml_read.specs.inner.Reader.{Reading, Events, is_sequence_end, is_mapping_end, each_at}
+use Rattle.yaml_read.proofs.Words.{Position, PlainDocEvent, sequence_ends, mapping_ends, DocNode, DocNodes, DocPairs}
+use Rattle.yaml_read.proofs.Words.{no_nodes, node, events_of, events_of_nodes, events_of_pairs, ReadFault, ◌>>=◌}
+use Rattle.yaml_read.proofs.Words.{ending, wrap, enter, follow, finish, with_shape, unless, Spot, Answer, each_node}
+use Rattle.yaml_read.proofs.Words.{each_pair, Reading, Events, is_sequence_end, is_mapping_end, each_at, PlainShape}
+use Rattle.yaml_load.specs.DocTree.{no_pairs, pair}
 use Rattle.yaml_read.proofs.reading.Loops.{each_end, each_going}
 use Rattle.yaml_read.proofs.reading.Shown.{Shows, starts, shows_node, shows_pair, size_node, size_pair, wide}
-use Rattle.yaml_shape.specs.PlainShape.{PlainShape}
 
 -- what reading a tree answers, where the reading by places ends at this one
 abbrev pub landed : {A : Type 0} → ℕ → Answer A → Reading A

@@ -1,17 +1,10 @@
 -- What a node's reading comes to under the shapes of any value and of enums.
-use Rattle.std.proofs.Common.{◌≡◌, ℕ, ◌-◌, ◌<◌, Bool, true, false, List, [], Some, None, Err, refl, ◌∙◌}
+use Rattle.std.proofs.Common.{◌≡◌, ℕ, Bool, true, false, List, [], Some, None, Err, refl}
 use Rattle.std.proofs.Common.{Ok, ◌∷◌, ◌++◌}
-use Rattle.yaml_shape.specs.PlainData.{PlainData}
-use Rattle.yaml_shape.specs.PlainShape.{any_shape, enum_shape, PlainVariant}
-use Rattle.yaml_load.specs.PlainDocEvent.{PlainDocEvent}
-use Rattle.yaml_scalar.specs.ReadFault.{ReadFault, PlainRefusal, refused}
-use Rattle.yaml_scalar.specs.Variants.{Variants, variant_named}
-use Rattle.yaml_read.specs.AnyData.{new_key}
-use Rattle.yaml_read.specs.Handing.{as_is, as_variant, as_tagged, handed, is_filled_scalar}
-use Rattle.yaml_read.specs.NodeTags.{untaken_name}
-use Rattle.yaml_read.specs.Places.{Way}
-use Rattle.yaml_read.specs.TreeReader.{Spot}
-use Rattle.yaml_read.specs.inner.Reader.{Source, Reader, any_entry_at, value_way}
+use Rattle.yaml_read.proofs.Words.{PlainData, any_shape, enum_shape, PlainVariant, PlainDocEvent, ReadFault}
+use Rattle.yaml_read.proofs.Words.{PlainRefusal, refused, Variants, variant_named, new_key, as_is, as_variant}
+use Rattle.yaml_read.proofs.Words.{as_tagged, handed, is_filled_scalar, untaken_name, Way, Spot, Source, Reader}
+use Rattle.yaml_read.proofs.Words.{any_entry_at, value_way}
 
 -- ---- how enums and any values are handed on
 pub any_tagged : (taken : Bool) (e : PlainDocEvent) (name : List ℕ) → untaken_name taken e ≡ Some name

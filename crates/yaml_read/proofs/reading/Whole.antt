@@ -1,26 +1,15 @@
 -- What a document gives, from what its reading gives.
 use Rattle.std.proofs.Common.{◌≡◌, ℕ, ◌+◌, ◌*◌, ◌<◌, ◌≤◌, List, length, Some, None, Result, Ok, Err}
-use Rattle.std.proofs.Common.{true, false, refl, sym, ap, subst, ◌∙◌, arith, inl, inr}
+use Rattle.std.proofs.Common.{false, refl, sym, ap, subst, ◌∙◌, arith, inl, inr}
 use Rattle.std.specs.Prelude.{◌≢◌, ◌⊎◌, slice_get}
 use Rattle.std.proofs.lemmas.Option.{slice_get_within}
-use Rattle.yaml_base.specs.Answer.{is_memory}
-use Rattle.yaml_base.specs.declared.error.Cause.{Cause}
+use Rattle.yaml_read.proofs.Words.{is_memory, Cause, PlainData, PlainShape, option_shape, shape_at, rank, DocNode}
+use Rattle.yaml_read.proofs.Words.{events_of, PlainDocument, IsEnding, PlainRefusal, out_of_memory, refused}
+use Rattle.yaml_read.proofs.Words.{end_of_stream, cause_of, ran_out, reach, Means, root_way, IsNodeFault}
+use Rattle.yaml_read.proofs.Words.{IsReadingFault, IsTreeOf, Reads, IsRefusal, DocumentGives, front_answer, cut_fault}
+use Rattle.yaml_read.proofs.Words.{PlainLimits, Spot, marks_of, whole_fuel, whole_tree, answer_of}
+use Rattle.yaml_read.proofs.Words.{value_told, Reading}
 use Rattle.yaml_base.specs.declared.error.Cause.TheVariants.{MoreThanOneDocument, EndOfStream}
-use Rattle.yaml_shape.specs.PlainData.{PlainData}
-use Rattle.yaml_shape.specs.PlainShape.{PlainShape, option_shape, shape_at}
-use Rattle.yaml_shape.specs.Walks.{rank}
-use Rattle.yaml_load.specs.DocTree.{DocNode, events_of}
-use Rattle.yaml_load.specs.PlainDocument.{PlainDocument}
-use Rattle.yaml_load.specs.StreamLaw.{IsEnding}
-use Rattle.yaml_scalar.specs.ReadFault.{PlainRefusal, out_of_memory, refused, end_of_stream, cause_of, ran_out}
-use Rattle.yaml_read.specs.Handing.{reach}
-use Rattle.yaml_read.specs.Meaning.{Means}
-use Rattle.yaml_read.specs.Places.{root_way}
-use Rattle.yaml_read.specs.ReadingFaults.{IsNodeFault, IsReadingFault}
-use Rattle.yaml_read.specs.Reads.{IsTreeOf, Reads, IsRefusal, DocumentGives, front_answer, cut_fault}
-use Rattle.yaml_read.specs.TreeReader.{PlainLimits, Spot, marks_of, whole_fuel, whole_tree, answer_of}
-use Rattle.yaml_read.specs.TreeReader.{answer_within, value_told}
-use Rattle.yaml_read.specs.inner.Reader.{Reading}
 use Rattle.yaml_read.proofs.reading.Outcomes.{Outcome, reads, deep, many}
 use Rattle.yaml_read.proofs.reading.Complete.{tree_outcome}
 use Rattle.yaml_read.proofs.reading.EndLaws.{node_ends}
@@ -144,8 +133,7 @@ module _ (limits : PlainLimits) (table : List PlainShape) (s : PlainShape) (docu
     own = λ e. own (err_is y MoreThanOneDocument e);
     kind = λ fault whole e. let bad = sym cut ∙ whole in absurd cc;
     told = λ fault is.
-        let same : ending ≡ fault = some_is ending fault (sym cut ∙ is) in
-        (
+        let same : ending ≡ fault = some_is ending fault (sym cut ∙ is) in (
           y,
           refl,
           subst (λ f. (y ≡ f) ⊎ IsNodeFault y) same

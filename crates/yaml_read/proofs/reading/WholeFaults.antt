@@ -2,16 +2,9 @@
 use Rattle.std.proofs.Common.{◌≡◌, ℕ, ◌*◌, ◌<◌, ◌≤◌, List, length, Some, None, Err, ap, ◌∙◌, arith, subst}
 use Rattle.std.proofs.lemmas.List.Elements.{All-get_or}
 use Rattle.std.proofs.lemmas.Option.{slice_get_within, get_or_from_slice_get}
-use Rattle.yaml_base.specs.declared.error.Cause.{Cause}
-use Rattle.yaml_shape.specs.PlainShape.{PlainShape, option_shape, shape_at}
-use Rattle.yaml_shape.specs.Validity.{AllNameWithin, NamesWithin}
-use Rattle.yaml_shape.specs.Walks.{rank}
-use Rattle.yaml_load.specs.DocTree.{DocNode}
-use Rattle.yaml_load.specs.PlainDocument.{PlainDocument}
-use Rattle.yaml_scalar.specs.ReadFault.{cause_of}
-use Rattle.yaml_read.specs.Places.{root_way}
-use Rattle.yaml_read.specs.ReadingFaults.{IsReadingFault}
-use Rattle.yaml_read.specs.TreeReader.{PlainLimits, marks_of, whole_fuel, whole_tree, answer_of}
+use Rattle.yaml_read.proofs.Words.{Cause, PlainShape, option_shape, shape_at, AllNameWithin, NamesWithin, rank, DocNode}
+use Rattle.yaml_read.proofs.Words.{PlainDocument, cause_of, root_way, IsReadingFault, PlainLimits, marks_of, whole_fuel}
+use Rattle.yaml_read.proofs.Words.{whole_tree, answer_of}
 use Rattle.yaml_read.proofs.reading.Reaches.{low}
 use Rattle.yaml_read.proofs.reading.TreeEnds.{Any, ends_refused}
 use Rattle.yaml_read.proofs.reading.ReadingCauses.{fault_is_reading}

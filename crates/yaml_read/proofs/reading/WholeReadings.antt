@@ -3,20 +3,10 @@ use Rattle.std.proofs.Common.{◌≡◌, ℕ, suc, ◌*◌, ◌<◌, ◌≤◌, 
 use Rattle.std.proofs.Common.{false, refl, sym, ap, ◌∙◌, arith}
 use Rattle.std.specs.Prelude.{slice_get}
 use Rattle.std.proofs.lemmas.List.{length-map}
-use Rattle.yaml_base.specs.Position.{Position}
-use Rattle.yaml_base.specs.declared.error.Cause.{Cause}
-use Rattle.yaml_shape.specs.PlainData.{PlainData}
-use Rattle.yaml_shape.specs.PlainShape.{PlainShape}
-use Rattle.yaml_load.specs.DocEventView.{doc_event_of, marked_events_of}
-use Rattle.yaml_load.specs.Ends.{ends_of}
-use Rattle.yaml_load.specs.PlainDocEvent.{PlainDocEvent}
-use Rattle.yaml_load.specs.PlainDocument.{PlainDocument}
-use Rattle.yaml_load.specs.declared.doc_event.DocEvent.{DocEvent}
-use Rattle.yaml_scalar.specs.ReadFault.{PlainRefusal, cause_of}
-use Rattle.yaml_read.specs.Handing.{depth, reach}
-use Rattle.yaml_read.specs.Places.{root_way}
-use Rattle.yaml_read.specs.TreeReader.{PlainLimits, Spot, Answer, value_told, whole_fuel}
-use Rattle.yaml_read.specs.inner.Reader.{Source, Reading, Events, node_at}
+use Rattle.yaml_read.proofs.Words.{Position, Cause, PlainData, PlainShape, doc_event_of, marked_events_of, ends_of}
+use Rattle.yaml_read.proofs.Words.{PlainDocEvent, PlainDocument, DocEvent, PlainRefusal, cause_of, depth, reach}
+use Rattle.yaml_read.proofs.Words.{root_way, PlainLimits, Spot, Answer, value_told, whole_fuel, Source, Reading, Events}
+use Rattle.yaml_read.proofs.Words.{node_at}
 use Rattle.yaml_read.proofs.reading.Shown.{Shows}
 use Rattle.yaml_read.proofs.reading.TreeWalks.{landed}
 

@@ -5,15 +5,9 @@ use Rattle.std.proofs.Common.{bytes_eq, if◌then◌else◌}
 use Rattle.std.specs.Option.{option_map}
 use Rattle.std.proofs.lemmas.List.Elements.{All-head, All-tail, All-nil, All-get_or}
 use Rattle.std.proofs.lemmas.Option.{slice_get-get_or}
-use Rattle.yaml_shape.specs.PlainShape.{PlainShape, shape_at, content_shape, PlainVariant}
+use Rattle.yaml_read.proofs.Words.{PlainShape, shape_at, content_shape, PlainVariant, AllNameWithin, NamesWithin}
+use Rattle.yaml_read.proofs.Words.{named_in, numbers_of, rank, ReadFault, ◌>>=◌, Fields, find, reach, Way}
 use Rattle.yaml_shape.specs.PlainShape as shape
-use Rattle.yaml_shape.specs.Validity.{AllNameWithin, NamesWithin, named_in, numbers_of}
-use Rattle.yaml_shape.specs.Walks.{rank}
-use Rattle.yaml_scalar.specs.ReadFault.{ReadFault}
-use Rattle.yaml_scalar.specs.Steps.{◌>>=◌}
-use Rattle.yaml_read.specs.Fields.{Fields, find}
-use Rattle.yaml_read.specs.Handing.{reach}
-use Rattle.yaml_read.specs.Places.{Way}
 use Rattle.yaml_read.proofs.reading.Reaches.{low}
 
 -- what all numbers of a struct's fields meet, that of a field that is found meets

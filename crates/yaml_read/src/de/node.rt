@@ -19,7 +19,6 @@ mod tuple;
 mod tuple_length;
 
 ghost use Rattle.std.specs.Prelude.{◌≡◌, ◌<◌, length, OnOk, true, false};
-ghost use Rattle.yaml_shape.specs.ShapeView.{shape_of};
 ghost use Rattle.yaml_load.specs.DocEventView.{doc_event_of};
 ghost use Rattle.yaml_load.specs.Ends.{GoForward};
 ghost use Rattle.yaml_scalar.specs.ReadFault.{bytes_unsupported, recursion_limit_exceeded, repetition_limit_exceeded};

@@ -1,6 +1,6 @@
 //! An enum: the variant that the node's tag names with what it holds, or a variant that the node's text names.
 
-ghost use Rattle.std.specs.Prelude.{◌≡◌, ℕ, suc, ◌+◌, ◌*◌, ◌<◌, length, All, OnOk, Some, false};
+ghost use Rattle.std.specs.Prelude.{◌≡◌, ℕ, ◌+◌, ◌*◌, ◌<◌, length, All, OnOk, Some, false};
 ghost use Rattle.yaml_shape.specs.DataView.{data_of};
 ghost use Rattle.yaml_shape.specs.PlainShape.{row_shape, fields_shape, enum_shape, of_variant, content_shape};
 ghost use Rattle.yaml_shape.specs.ShapeView.{content_of, fields_of, ids_of, variants_of};
@@ -11,9 +11,8 @@ ghost use Rattle.yaml_scalar.specs.ReadingGives.{GivesReading};
 ghost use Rattle.yaml_scalar.specs.Steps.{with_shape};
 ghost use Rattle.yaml_read.specs.Handing.{is_filled_scalar, most_optionals, nesting_depth};
 ghost use Rattle.yaml_read.specs.NodeTags.{untaken_name};
-ghost use Rattle.yaml_read.specs.Places.{way_of};
 ghost use Rattle.yaml_read.specs.inner.Questions.{question_of, taken_as, by_node, Named, GivesShape, GivesStep};
-ghost use Rattle.yaml_read.specs.inner.Walks.{plain_around, source_of, spot_of, reader_of, seen, MovesOn};
+ghost use Rattle.yaml_read.specs.inner.Walks.{plain_around, spot_of, seen, MovesOn};
 ghost use Rattle.yaml_read.specs.inner.Walks.{Costs};
 
 use crate::de::node::ask::Ask;

@@ -1,6 +1,6 @@
 //! The fields of a struct: found by their names, each at most once.
 
-ghost use Rattle.std.specs.Prelude.{◌≡◌, ◌<◌, None, Some, IfOk, IfSome, set, length, false};
+ghost use Rattle.std.specs.Prelude.{◌≡◌, ◌<◌, None, Some, IfOk, IfSome, set, length};
 ghost use Rattle.yaml_base.specs.PathText.{path_text};
 ghost use Rattle.yaml_shape.specs.DataView.{data_of};
 ghost use Rattle.yaml_shape.specs.ShapeView.{fields_of};

@@ -1,9 +1,7 @@
 -- The list goes wrong where the builder refuses an event, or the end; else the builder took all of it.
 use Rattle.std.proofs.Common.{◌≡◌, ◌∙◌, ◌++◌, Err, IfErr, IfOk, Ok, Result, ap, append-nil, arith, is_some, length, subst, sym}
 use Rattle.std.specs.Vec.Iter.{into_iter_items}
-use Rattle.yaml_base.specs.Stream.{IsWellFormed}
-use Rattle.yaml_load.specs.MarkedEvents.{events_in, plain_events, plain_marked}
-use Rattle.yaml_load.specs.WrongPlace.{IsWrongAt}
+use Rattle.yaml_load.proofs.Words.{IsWellFormed, events_in, plain_events, plain_marked, IsWrongAt}
 use Rattle.yaml_load.proofs.LoadingEnds.{nothing_left}
 use Rattle.yaml_load.proofs.WrongPlaces.{events_of_marked, wrong_amid, wrong_not_well_formed}
 use Rattle.yaml_load.proofs.loader.Loader.new.Goals as goal

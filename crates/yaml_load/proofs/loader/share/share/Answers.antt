@@ -2,9 +2,7 @@
 use Rattle.std.proofs.Common.{All, ap, sym, subst, arith}
 use Rattle.std.specs.Vec.Iter.{into_iter_items}
 use Rattle.std.proofs.lemmas.List.Elements.{All-tail}
-use Rattle.yaml_load.specs.Gathering.{AreCuts, HasEnds, document_in, document_of_range, documents_in}
-use Rattle.yaml_load.specs.StreamLaw.{IsDocument}
-use Rattle.yaml_load.specs.declared.loader.draft.Cut.{Cut}
+use Rattle.yaml_load.proofs.Words.{AreCuts, HasEnds, document_in, document_of_range, documents_in, IsDocument, Cut}
 use Rattle.yaml_load.proofs.Gatherings.{documents_left}
 use Rattle.yaml_load.proofs.loader.share.share.Goals as goal
 

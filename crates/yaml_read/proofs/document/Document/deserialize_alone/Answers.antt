@@ -1,9 +1,6 @@
 -- What a document gives that is read before any walk.
 use Rattle.std.proofs.Common.{Ok, subst}
-use Rattle.yaml_shape.specs.DataView.{data_of}
-use Rattle.yaml_shape.specs.ShapeView.{shape_of}
-use Rattle.yaml_read.specs.Reads.{DocumentGives}
-use Rattle.yaml_read.specs.TreeReader.{default_limits}
+use Rattle.yaml_read.proofs.Words.{data_of, shape_of, DocumentGives, default_limits}
 use Rattle.yaml_read.proofs.FreeLaws.{reaches_none}
 use Rattle.yaml_read.proofs.reading.Whole.{gives_of_exact}
 use Rattle.yaml_read.proofs.document.Document.deserialize_alone.Goals as goal

@@ -1,12 +1,6 @@
 -- What a node gives, from what its reading gives.
 use Rattle.std.proofs.Common.{sym, refl, subst, ◌∙◌, map, Ok, Err}
-use Rattle.yaml_base.specs.Position.{Position}
-use Rattle.yaml_shape.specs.DataView.{data_of}
-use Rattle.yaml_shape.specs.ShapeView.{shape_of}
-use Rattle.yaml_load.specs.PlainDocEvent.{PlainDocEvent}
-use Rattle.yaml_scalar.specs.ReadFault.{cause_of}
-use Rattle.yaml_read.specs.NodeReads.{NodeGives}
-use Rattle.yaml_read.specs.Places.{way_of}
+use Rattle.yaml_read.proofs.Words.{Position, data_of, shape_of, PlainDocEvent, cause_of, NodeGives, way_of}
 use Rattle.yaml_read.proofs.reading.EndLaws.{ends_go_forward}
 use Rattle.yaml_read.proofs.reading.ReadingCauses.{known_refusal}
 use Rattle.yaml_read.proofs.reading.SingleNodes.{seen_node, node_data, node_fault, one_shape}

@@ -2,14 +2,8 @@
 use Rattle.std.proofs.Common.{◌≡◌, ◌*◌, Ok, Err, false, sym, ap, subst, ◌∙◌, map, length, arith}
 use Rattle.std.proofs.lemmas.List.{length-map}
 use Rattle.std.specs.Option.{option_copied}
-use Rattle.yaml_base.specs.Position.{Position}
-use Rattle.yaml_shape.specs.DataView.{data_of}
-use Rattle.yaml_shape.specs.ShapeView.{shape_of}
-use Rattle.yaml_load.specs.DocEventView.{doc_event_of}
-use Rattle.yaml_load.specs.PlainDocEvent.{PlainDocEvent}
-use Rattle.yaml_load.specs.StreamLaw.{IsEnding}
-use Rattle.yaml_load.specs.declared.doc_event.DocEvent.{DocEvent}
-use Rattle.yaml_scalar.specs.ReadFault.{cause_of, ran_out}
+use Rattle.yaml_read.proofs.Words.{Position, data_of, shape_of, doc_event_of, PlainDocEvent, IsEnding, DocEvent}
+use Rattle.yaml_read.proofs.Words.{cause_of, ran_out}
 use Rattle.yaml_read.proofs.WholeEnds.{seen_within, read_ends, leaves}
 use Rattle.yaml_read.proofs.reading.EndLaws.{ends_go_forward}
 use Rattle.yaml_read.proofs.reading.ReadingCauses.{known_refusal, refusal_kind}

@@ -1,8 +1,6 @@
 -- What a whole document gives before any walk.
 use Rattle.std.proofs.Common.{◌≡◌, sym, ap, ◌∙◌, true, false, subst}
-use Rattle.yaml_shape.specs.DataView.{data_of}
-use Rattle.yaml_shape.specs.ShapeView.{shape_of}
-use Rattle.yaml_scalar.specs.ScalarShapes.{takes_no_memory}
+use Rattle.yaml_read.proofs.Words.{data_of, shape_of, takes_no_memory}
 use Rattle.yaml_read.proofs.FreeLaws.{scalar_answered, absent_answered, ignored_answered, ignored_is, first_scalar}
 use Rattle.yaml_read.proofs.FreeLaws.{not_cut, if_some}
 use Rattle.yaml_read.proofs.document.Document.read_free.Goals as goal

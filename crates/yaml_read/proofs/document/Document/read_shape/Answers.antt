@@ -1,10 +1,6 @@
 -- What a document gives under a shape of a schema that is read before any walk.
 use Rattle.std.proofs.Common.{◌≡◌, Some, Ok, sym, subst, ◌∙◌}
-use Rattle.yaml_shape.specs.DataView.{data_of}
-use Rattle.yaml_shape.specs.PlainShape.{PlainShape}
-use Rattle.yaml_shape.specs.ShapeView.{shape_of}
-use Rattle.yaml_read.specs.Reads.{DocumentGives}
-use Rattle.yaml_read.specs.TreeReader.{default_limits}
+use Rattle.yaml_read.proofs.Words.{data_of, PlainShape, shape_of, DocumentGives, default_limits}
 use Rattle.yaml_read.proofs.reading.Reaches.{low}
 use Rattle.yaml_read.proofs.reading.Whole.{gives_of_exact}
 use Rattle.yaml_read.proofs.document.Document.read_shape.Goals as goal

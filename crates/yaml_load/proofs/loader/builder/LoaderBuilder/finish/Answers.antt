@@ -1,15 +1,9 @@
 -- The draft is closed behind the last event, or the end is wrong.
 use Rattle.std.proofs.Common.{rules, ◌≡◌, ◌∙◌, ap, is_some, length, subst, sym, true}
 use Rattle.std.proofs.lemmas.List.{length-map}
-use Rattle.yaml_base.specs.PlainEvent.{PlainEvent}
-use Rattle.yaml_base.specs.Position.{Position}
-use Rattle.yaml_base.specs.Stream.{IsWellFormed}
+use Rattle.yaml_load.proofs.Words.{PlainEvent, Position, IsWellFormed, Input, documents_of, events_in, plain_marked}
+use Rattle.yaml_load.proofs.Words.{documents_in, is_done, IsWrongAt}
 use Rattle.yaml_base.specs.declared.error.Cause.TheVariants.{NotAStream}
-use Rattle.yaml_load.specs.Documents.{Input, documents_of}
-use Rattle.yaml_load.specs.MarkedEvents.{events_in, plain_marked}
-use Rattle.yaml_load.specs.Gathering.{documents_in}
-use Rattle.yaml_load.specs.StreamPhases.{is_done}
-use Rattle.yaml_load.specs.WrongPlace.{IsWrongAt}
 use Rattle.yaml_load.proofs.Intakes.{all_documents, closed, ready_in}
 use Rattle.yaml_load.proofs.LoadingEnds.{flags_differ, flags_same}
 use Rattle.yaml_load.proofs.WrongPlaces.{right_end, wrong_end, wrong_not_well_formed}

@@ -1,15 +1,9 @@
 -- The draft goes on with the event, or the event is wrong where the machine stops.
 use Rattle.std.proofs.Common.{rules, ◌≡◌, ◌∙◌, ◌+◌, ◌∷◌, ◌++◌, [], Some, ap, length, subst, sym, true}
 use Rattle.std.proofs.lemmas.List.{map-append}
-use Rattle.yaml_base.specs.PlainEvent.{event_of}
-use Rattle.yaml_base.specs.Position.{Position}
+use Rattle.yaml_load.proofs.Words.{event_of, Position, Event, Input, events_in, plain_marked, state_of, IsWrongNext}
+use Rattle.yaml_load.proofs.Words.{HasTaken}
 use Rattle.yaml_base.specs.declared.error.Cause.TheVariants.{NotAStream}
-use Rattle.yaml_base.specs.declared.event.Event.{Event}
-use Rattle.yaml_load.specs.Documents.{Input}
-use Rattle.yaml_load.specs.MarkedEvents.{events_in, plain_marked}
-use Rattle.yaml_load.specs.StreamPhases.{state_of}
-use Rattle.yaml_load.specs.WrongPlace.{IsWrongNext}
-use Rattle.yaml_load.specs.inner.Intake.{HasTaken}
 use Rattle.yaml_load.proofs.Intakes.{ready_in, taken_on}
 use Rattle.yaml_load.proofs.WrongPlaces.{wrong_next}
 use Rattle.yaml_load.proofs.loader.builder.LoaderBuilder.push.Goals as goal

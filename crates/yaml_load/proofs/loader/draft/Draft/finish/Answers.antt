@@ -2,14 +2,8 @@
 use Rattle.std.proofs.Common.{◌≡◌, ◌+◌, ◌-◌, ◌++◌, ◌∷◌, [], ◌∙◌, List, None, ap, arith, drop, false, length, option_map}
 use Rattle.std.proofs.Common.{sym, take}
 use Rattle.std.specs.Prelude.{slice_get}
-use Rattle.yaml_load.specs.DocEventView.{marked_events_of}
-use Rattle.yaml_load.specs.PlainDocEvent.{PlainDocEvent}
-use Rattle.yaml_load.specs.declared.loader.draft.Cut.{Cut}
-use Rattle.yaml_base.specs.Position.{Position}
-use Rattle.yaml_load.specs.Documents.{ending_of}
-use Rattle.yaml_load.specs.declared.loader.draft.Draft.{Draft}
-use Rattle.yaml_load.specs.inner.Drafts.{drafts_of}
-use Rattle.yaml_load.specs.inner.OpenEnds.{EndsView, bounded_from}
+use Rattle.yaml_load.proofs.Words.{marked_events_of, PlainDocEvent, Cut, Position, ending_of, Draft, drafts_of}
+use Rattle.yaml_load.proofs.Words.{EndsView, bounded_from}
 use Rattle.yaml_load.proofs.DraftLaws.{drafts_long, whole_long}
 use Rattle.yaml_load.proofs.FinishLaws.{closed_cut, closed_whole}
 use Rattle.yaml_load.proofs.loader.draft.Draft.finish.Goals as goal

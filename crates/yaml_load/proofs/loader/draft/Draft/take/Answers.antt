@@ -1,9 +1,6 @@
 -- The draft goes over each event as the method for its kind says.
 use Rattle.std.proofs.Common.{IfSome, None, Option, Some, ap, refl}
-use Rattle.yaml_base.specs.Position.{Position}
-use Rattle.yaml_base.specs.PlainEvent.{event_of, stream_end, stream_start}
-use Rattle.yaml_load.specs.declared.loader.draft.Draft.{Draft}
-use Rattle.yaml_load.specs.inner.Loading.{Takes}
+use Rattle.yaml_load.proofs.Words.{Position, event_of, stream_end, stream_start, Draft, Takes}
 use Rattle.yaml_load.proofs.LoadingLaws.{on_stream}
 use Rattle.yaml_load.proofs.loader.draft.Draft.take.Goals as goal
 

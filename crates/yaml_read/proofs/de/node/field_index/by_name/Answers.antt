@@ -3,9 +3,7 @@ use Rattle.std.proofs.Common.{ap, ◌∙◌, arith, ◌≡◌, ◌-◌, ◌+◌,
 use Rattle.std.proofs.lemmas.Map.Text.{hash_map_updates_str}
 use Rattle.std.specs.HashMap.{get_by}
 use Rattle.std.specs.Prelude.{bytes_eq, cond, drop}
-use Rattle.yaml_shape.specs.ShapeView.{fields_of}
-use Rattle.yaml_read.specs.Fields.{find}
-use Rattle.yaml_read.specs.inner.Walks.{field_view}
+use Rattle.yaml_read.proofs.Words.{fields_of, find, field_view}
 use Rattle.yaml_read.proofs.FieldCode.{behind_by, put_before}
 use Rattle.yaml_read.proofs.de.node.field_index.by_name.Goals as goal
 

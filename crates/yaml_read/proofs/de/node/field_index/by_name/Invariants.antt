@@ -2,9 +2,7 @@
 use Rattle.std.proofs.Common.{◌≡◌, ℕ, ◌≤◌, List, length}
 use Rattle.std.specs.HashMap.{get_by}
 use Rattle.std.specs.Prelude.{bytes_eq, drop}
-use Rattle.yaml_shape.specs.ShapeView.{fields_of}
-use Rattle.yaml_read.specs.Fields.{find}
-use Rattle.yaml_read.specs.inner.Walks.{field_view}
+use Rattle.yaml_read.proofs.Words.{fields_of, find, field_view}
 use Rattle.yaml_read.proofs.FieldCode.{behind_by}
 use Rattle.yaml_read.proofs.de.node.field_index.by_name.Given as goal
 

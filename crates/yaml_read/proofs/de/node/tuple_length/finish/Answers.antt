@@ -1,16 +1,9 @@
 -- What becomes of a row's elements.
 use Rattle.std.proofs.Common.{ℕ, List, Result, ◌≡◌, ◌+◌, length, map, Ok, Err, rules, sym, ap, ap₂, ◌∙◌, arith}
 use Rattle.std.proofs.lemmas.List.{length-map}
-use Rattle.yaml_shape.specs.DataView.{data_of, items_of}
-use Rattle.yaml_shape.specs.Expected.{sequence_text, few_text}
-use Rattle.yaml_shape.specs.PlainData.{tuple_data}
-use Rattle.yaml_shape.specs.ShapeView.{ids_of}
-use Rattle.yaml_shape.specs.declared.data.Data.{Tuple, the_lemmas}
-use Rattle.yaml_shape.specs.declared.shape.ShapeId.{ShapeId}
-use Rattle.yaml_scalar.specs.ReadFault.{PlainRefusal, refused}
-use Rattle.yaml_scalar.specs.ReadingGives.{lift}
-use Rattle.yaml_scalar.specs.ScalarFound.{wrong_length}
-use Rattle.yaml_read.specs.inner.Walks.{owner_of}
+use Rattle.yaml_read.proofs.Words.{data_of, items_of, sequence_text, few_text, tuple_data, ids_of, Tuple, ShapeId}
+use Rattle.yaml_read.proofs.Words.{PlainRefusal, refused, lift, wrong_length, owner_of}
+use Rattle.yaml_shape.specs.declared.data.Data.{the_lemmas}
 use Rattle.yaml_read.proofs.reading.Rows.{row_short, drop_all, row_whole, row_long}
 use Rattle.yaml_read.proofs.de.node.tuple_length.finish.Goals as goal
 

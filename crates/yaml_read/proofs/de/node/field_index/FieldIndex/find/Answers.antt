@@ -1,8 +1,6 @@
 -- The map has the first field of each name.
 use Rattle.std.proofs.Common.{ap, ◌∙◌}
-use Rattle.yaml_shape.specs.ShapeView.{fields_of}
-use Rattle.yaml_read.specs.Fields.{find}
-use Rattle.yaml_read.specs.inner.Walks.{field_view}
+use Rattle.yaml_read.proofs.Words.{fields_of, find, field_view}
 use Rattle.yaml_read.proofs.de.node.field_index.FieldIndex.find.Goals as goal
 
 pub returns-in-Some : goal.returns-in-Some

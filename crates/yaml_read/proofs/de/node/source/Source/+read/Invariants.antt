@@ -1,22 +1,13 @@
 -- How the walk ends, and what its loops keep.
 use Rattle.std.proofs.Common.{◌≡◌, ℕ, ◌+◌, ◌*◌, ◌-◌, ◌<◌, ◌≤◌, Bool, false, List, [], map, length}
 use Rattle.std.specs.Prelude.{drop}
-use Rattle.yaml_shape.specs.DataView.{data_of, entry_of, entries_of}
-use Rattle.yaml_shape.specs.PlainData.{PlainData}
-use Rattle.yaml_shape.specs.PlainShape.{PlainShape}
-use Rattle.yaml_shape.specs.ShapeView.{shape_of, ids_of, fields_of}
-use Rattle.yaml_tree.specs.Valid.{pairs_of}
-use Rattle.yaml_read.specs.AnyData.{pairs_in}
-use Rattle.yaml_read.specs.Fields.{no_slots}
+use Rattle.yaml_read.proofs.Words.{data_of, entry_of, entries_of, PlainData, PlainShape, shape_of, ids_of, fields_of}
+use Rattle.yaml_read.proofs.Words.{pairs_of, pairs_in, no_slots, reach, untaken_reach, most_optionals, tag_depth}
+use Rattle.yaml_read.proofs.Words.{parts_depth, way_of, row_of, is_sequence_end, is_mapping_end, item_at, entry_at}
+use Rattle.yaml_read.proofs.Words.{any_entry_at, row_at, field_at, Question, question_of, seen, around_of, source_of}
+use Rattle.yaml_read.proofs.Words.{spot_of, reader_of, potential, slots_of}
 use Rattle.std.specs.Option.{is_some}
-use Rattle.yaml_read.specs.Handing.{reach, untaken_reach, most_optionals, tag_depth, parts_depth}
-use Rattle.yaml_read.specs.Places.{way_of}
-use Rattle.yaml_read.specs.Rows.{row_of}
-use Rattle.yaml_read.specs.inner.Reader.{is_sequence_end, is_mapping_end, item_at, entry_at, any_entry_at, row_at}
-use Rattle.yaml_read.specs.inner.Reader.{field_at}
 use Rattle.yaml_read.specs.declared.de.node.source.Source.{Source as CodeSource}
-use Rattle.yaml_read.specs.inner.Questions.{Question, question_of}
-use Rattle.yaml_read.specs.inner.Walks.{seen, around_of, source_of, spot_of, reader_of, potential, slots_of}
 use Rattle.yaml_read.proofs.reading.Loops.{Leads}
 use Rattle.yaml_read.proofs.de.node.source.Source.+read.Given as goal
 

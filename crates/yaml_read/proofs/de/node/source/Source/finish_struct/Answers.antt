@@ -3,15 +3,9 @@ use Rattle.std.proofs.Common.{◌≡◌, Ok, map, length, refl, sym, ap, ◌∙�
 use Rattle.std.specs.Option.{option_map}
 use Rattle.std.specs.Vec.Iter.{into_iter_items, into_iter_len}
 use Rattle.std.proofs.lemmas.Option.{slice_get_read}
-use Rattle.yaml_shape.specs.DataView.{data_of, items_of}
-use Rattle.yaml_shape.specs.PlainData.{struct_data}
-use Rattle.yaml_shape.specs.ShapeView.{field_of}
-use Rattle.yaml_shape.specs.declared.data.Data.{Struct, the_lemmas}
-use Rattle.yaml_scalar.specs.ReadingGives.{lift}
-use Rattle.yaml_scalar.specs.Steps.{◌>>=◌}
+use Rattle.yaml_read.proofs.Words.{data_of, items_of, struct_data, field_of, Struct, lift, ◌>>=◌, field_data, slots_of}
+use Rattle.yaml_shape.specs.declared.data.Data.{the_lemmas}
 use Rattle.yaml_scalar.proofs.LiftLaws.{lifted_fails}
-use Rattle.yaml_read.specs.Fields.{field_data}
-use Rattle.yaml_read.specs.inner.Walks.{slots_of}
 use Rattle.yaml_read.proofs.FieldCode.{number_within}
 use Rattle.yaml_read.proofs.SlotCode.{taken, gathered_next, gathered_ends, gathered_all, handed_on}
 use Rattle.yaml_read.proofs.de.node.source.Source.finish_struct.Goals as goal

@@ -2,10 +2,7 @@
 use Rattle.std.proofs.Common.{◌≡◌, map, length}
 use Rattle.std.specs.Prelude.{drop}
 use Rattle.std.specs.Vec.Iter.{into_iter_items, into_iter_len}
-use Rattle.yaml_shape.specs.DataView.{data_of}
-use Rattle.yaml_shape.specs.ShapeView.{fields_of}
-use Rattle.yaml_read.specs.Fields.{all_fields}
-use Rattle.yaml_read.specs.inner.Walks.{slots_of}
+use Rattle.yaml_read.proofs.Words.{data_of, fields_of, all_fields, slots_of}
 use Rattle.yaml_read.proofs.SlotCode.{behind_these}
 use Rattle.yaml_read.proofs.de.node.source.Source.finish_struct.Given as goal
 

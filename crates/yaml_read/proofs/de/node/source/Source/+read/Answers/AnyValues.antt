@@ -1,20 +1,10 @@
 -- What the reader gives at each exit: any values.
 use Rattle.std.proofs.Common.{Ok, Some, None, ◌≡◌, ◌-◌, ◌<◌, map, length, false, sym, ap, ◌∙◌, arith, rules, refl}
 use Rattle.std.specs.Option.{is_some, option_copied}
-use Rattle.yaml_shape.specs.DataView.{data_of, items_of, entries_of}
-use Rattle.yaml_shape.specs.PlainData.{any_data}
-use Rattle.yaml_shape.specs.PlainShape.{any_shape}
-use Rattle.yaml_shape.specs.ShapeView.{shape_of}
+use Rattle.yaml_read.proofs.Words.{data_of, items_of, entries_of, any_data, any_shape, shape_of, sequence, tagged}
+use Rattle.yaml_read.proofs.Words.{pairs_of, doc_event_of, tree_in, trees_in, pairs_in, reach, untaken_reach, tag_depth}
+use Rattle.yaml_read.proofs.Words.{around_value, untaken_name, after, around_of, spot_of, question_of, taken_as}
 use Rattle.yaml_shape.specs.declared.data.Data.{Any as AnyValue, the_lemmas}
-use Rattle.yaml_tree.specs.Tree.{sequence, tagged}
-use Rattle.yaml_tree.specs.Valid.{pairs_of}
-use Rattle.yaml_load.specs.DocEventView.{doc_event_of}
-use Rattle.yaml_read.specs.AnyData.{tree_in, trees_in, pairs_in}
-use Rattle.yaml_read.specs.Handing.{reach, untaken_reach, tag_depth}
-use Rattle.yaml_read.specs.NodeTags.{around_value, untaken_name}
-use Rattle.yaml_read.specs.TreeReader.{after}
-use Rattle.yaml_read.specs.inner.Walks.{around_of, spot_of}
-use Rattle.yaml_read.specs.inner.Questions.{question_of, taken_as}
 use Rattle.yaml_tree.specs.Tree as tree
 use Rattle.yaml_tree.specs.declared.value.Value.TheVariants as value
 use Rattle.yaml_read.proofs.reading.ContentExits.{only_untaken, any_tagged_step, any_list_step, any_mapping_step}

@@ -1,19 +1,12 @@
 -- What the reader gives at each exit: enums.
 use Rattle.std.proofs.Common.{Ok, Some, ◌≡◌, ◌-◌, ◌<◌, length, true, false, sym, ap, ◌∙◌, arith, rules, refl}
 use Rattle.std.specs.Option.{is_some, option_copied}
-use Rattle.yaml_shape.specs.DataView.{data_of}
-use Rattle.yaml_shape.specs.PlainData.{variant_data}
-use Rattle.yaml_shape.specs.PlainShape.{row_shape, fields_shape, of_variant}
-use Rattle.yaml_shape.specs.ShapeView.{shape_of, content_of, ids_of, fields_of, variants_of}
-use Rattle.yaml_shape.specs.declared.data.Data.{Variant, the_lemmas}
-use Rattle.yaml_load.specs.DocEventView.{doc_event_of}
-use Rattle.yaml_scalar.specs.VariantView.{variant_view}
-use Rattle.yaml_scalar.specs.Variants.{variant_named}
+use Rattle.yaml_read.proofs.Words.{data_of, variant_data, row_shape, fields_shape, of_variant, shape_of, content_of}
+use Rattle.yaml_read.proofs.Words.{ids_of, fields_of, variants_of, Variant, doc_event_of, variant_view, variant_named}
+use Rattle.yaml_read.proofs.Words.{reach, untaken_reach, tag_depth, untaken_name, around_of, plain_around, spot_of}
+use Rattle.yaml_read.proofs.Words.{question_of, taken_as}
+use Rattle.yaml_shape.specs.declared.data.Data.{the_lemmas}
 use Rattle.yaml_scalar.proofs.VariantCode.{content_all}
-use Rattle.yaml_read.specs.Handing.{reach, untaken_reach, tag_depth}
-use Rattle.yaml_read.specs.NodeTags.{untaken_name}
-use Rattle.yaml_read.specs.inner.Walks.{around_of, plain_around, spot_of}
-use Rattle.yaml_read.specs.inner.Questions.{question_of, taken_as}
 use Rattle.yaml_read.proofs.reading.ContentExits.{enum_content, enum_plain, enum_taken}
 use Rattle.yaml_read.proofs.reading.Loops.{wrap_fails, wrap_finds}
 use Rattle.yaml_read.proofs.reading.PlaceLaws.{node_read, node_refused_here}

@@ -3,16 +3,9 @@ use Rattle.std.proofs.Common.{Ok, Some, None, ◌≡◌, ◌<◌, length, sym, a
 use Rattle.std.specs.Option.{option_copied}
 use Rattle.std.proofs.lemmas.List.{length-map}
 use Rattle.std.proofs.lemmas.Option.{slice_get_within}
-use Rattle.yaml_shape.specs.DataView.{data_of}
-use Rattle.yaml_shape.specs.ShapeView.{field_of, fields_of}
-use Rattle.yaml_shape.specs.Validity.{numbers_of}
-use Rattle.yaml_load.specs.DocEventView.{doc_event_of, doc_scalar_of}
-use Rattle.yaml_load.specs.PlainDocEvent.{a_scalar}
-use Rattle.yaml_scalar.specs.ScalarShapes.{text_of, lent_text}
-use Rattle.yaml_read.specs.Places.{way_of, value_under}
-use Rattle.yaml_read.specs.TreeReader.{after}
-use Rattle.yaml_read.specs.inner.Reader.{value_way, field_key_at}
-use Rattle.yaml_read.specs.inner.Walks.{source_of, spot_of, seen, reader_of, slots_of, field_view, IsAmong}
+use Rattle.yaml_read.proofs.Words.{data_of, field_of, fields_of, numbers_of, doc_event_of, doc_scalar_of, a_scalar}
+use Rattle.yaml_read.proofs.Words.{text_of, lent_text, way_of, value_under, after, value_way, field_key_at, source_of}
+use Rattle.yaml_read.proofs.Words.{spot_of, seen, reader_of, slots_of, field_view, IsAmong}
 use Rattle.yaml_read.proofs.reading.Exits.{same_spot, gives_wrapped}
 use Rattle.yaml_read.proofs.reading.LeafExits.{name_scalar, scalar_mark}
 use Rattle.yaml_read.proofs.reading.PartExits.{all_at}

@@ -3,18 +3,10 @@ use Rattle.std.proofs.Common.{Ok, Err, Some, ◌≡◌, ◌+◌, ◌<◌, [], �
 use Rattle.std.proofs.Common.{length-append}
 use Rattle.std.specs.Option.{is_some}
 use Rattle.std.proofs.lemmas.List.{map-append}
-use Rattle.yaml_shape.specs.DataView.{data_of, entry_of, entries_of}
-use Rattle.yaml_shape.specs.PlainData.{map_data}
-use Rattle.yaml_shape.specs.declared.data.Data.{Map, the_lemmas}
-use Rattle.yaml_shape.specs.declared.data.Entry.{Entry}
-use Rattle.yaml_load.specs.DocEventView.{doc_event_of}
-use Rattle.yaml_read.specs.Handing.{handed}
-use Rattle.yaml_read.specs.Places.{way_of, value_under}
-use Rattle.yaml_read.specs.TreeReader.{Spot, after}
-use Rattle.yaml_read.specs.inner.Reader.{is_mapping_end, value_way}
-use Rattle.yaml_read.specs.inner.Walks.{around_of, spot_of, seen, source_of, reader_of}
-use Rattle.yaml_read.specs.inner.Questions.{question_of}
-use Rattle.yaml_shape.specs.ShapeView.{shape_of}
+use Rattle.yaml_read.proofs.Words.{data_of, entry_of, entries_of, map_data, Map, Entry, doc_event_of, handed, way_of}
+use Rattle.yaml_read.proofs.Words.{value_under, Spot, after, is_mapping_end, value_way, around_of, spot_of, seen}
+use Rattle.yaml_read.proofs.Words.{source_of, reader_of, question_of, shape_of}
+use Rattle.yaml_shape.specs.declared.data.Data.{the_lemmas}
 use Rattle.yaml_read.proofs.reading.Exits.{same_spot, not_mapping_end, entry_is, step_event, step_map}
 use Rattle.yaml_read.proofs.reading.PartExits.{no_key, no_value, one_entry}
 use Rattle.yaml_read.proofs.reading.Loops.{led_end, led_ended, led_fails, led_more, wrap_fails, wrap_finds}

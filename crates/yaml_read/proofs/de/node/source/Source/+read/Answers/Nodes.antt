@@ -1,12 +1,7 @@
 -- What the reader gives at each exit: nodes: what they lead to, and their places.
 use Rattle.std.proofs.Common.{Ok, Err, None, ℕ, ◌-◌, ◌<◌, [], sym, ap, ◌∙◌, arith}
 use Rattle.std.specs.Option.{is_some}
-use Rattle.yaml_shape.specs.DataView.{data_of}
-use Rattle.yaml_shape.specs.ShapeView.{shape_of}
-use Rattle.yaml_read.specs.Handing.{early}
-use Rattle.yaml_read.specs.Places.{way_of}
-use Rattle.yaml_read.specs.inner.Walks.{around_of, spot_of, reader_of}
-use Rattle.yaml_read.specs.inner.Questions.{question_of}
+use Rattle.yaml_read.proofs.Words.{data_of, shape_of, early, way_of, around_of, spot_of, reader_of, question_of}
 use Rattle.yaml_read.proofs.reading.Exits.{step_late, step_ended, step_event}
 use Rattle.yaml_read.proofs.reading.LeafExits.{leaf_as_is, leaf_late}
 use Rattle.yaml_read.proofs.reading.Loops.{pursue_fails, pursue_finds}

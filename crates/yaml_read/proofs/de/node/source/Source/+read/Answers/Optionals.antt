@@ -1,15 +1,9 @@
 -- What the reader gives at each exit: optionals and newtypes.
 use Rattle.std.proofs.Common.{Ok, ◌≡◌, ◌+◌, ◌<◌, true, false, sym, ap, ◌∙◌, arith, rules}
 use Rattle.std.specs.Option.{is_some}
-use Rattle.yaml_shape.specs.DataView.{data_of}
-use Rattle.yaml_shape.specs.PlainData.{some_data, newtype_data}
-use Rattle.yaml_shape.specs.ShapeView.{shape_of}
-use Rattle.yaml_shape.specs.Walks.{rank}
+use Rattle.yaml_read.proofs.Words.{data_of, some_data, newtype_data, shape_of, rank, doc_event_of, is_content, reach}
+use Rattle.yaml_read.proofs.Words.{around_of, spot_of, question_of}
 use Rattle.yaml_shape.specs.declared.data.Data.{Some as SomeData, Newtype, the_lemmas}
-use Rattle.yaml_load.specs.DocEventView.{doc_event_of}
-use Rattle.yaml_read.specs.Handing.{is_content, reach}
-use Rattle.yaml_read.specs.inner.Walks.{around_of, spot_of}
-use Rattle.yaml_read.specs.inner.Questions.{question_of}
 use Rattle.yaml_read.proofs.reading.Exits.{option_as_is, step_event, step_content, step_newtype}
 use Rattle.yaml_read.proofs.reading.Loops.{wrap_fails, wrap_finds}
 use Rattle.yaml_read.proofs.de.node.source.Source.+read.Goals as goal

@@ -1,17 +1,9 @@
 -- What the reader gives at each exit: pairs of any mappings.
 use Rattle.std.proofs.Common.{refl, Ok, Err, ◌≡◌, ◌+◌, [], ◌∷◌, ◌++◌, length, false, sym, ap, ◌∙◌, arith}
 use Rattle.std.proofs.Common.{length-append}
-use Rattle.yaml_shape.specs.DataView.{data_of, entries_of}
-use Rattle.yaml_shape.specs.ShapeView.{shape_of}
-use Rattle.yaml_tree.specs.Mapping.{has_key}
-use Rattle.yaml_tree.specs.Valid.{pairs_of}
-use Rattle.yaml_load.specs.DocEventView.{doc_event_of}
-use Rattle.yaml_read.specs.AnyData.{tree_in, pairs_in, new_key}
-use Rattle.yaml_read.specs.Handing.{reach}
-use Rattle.yaml_read.specs.Places.{way_of, value_under}
-use Rattle.yaml_read.specs.TreeReader.{Spot, after}
-use Rattle.yaml_read.specs.inner.Reader.{is_mapping_end, value_way}
-use Rattle.yaml_read.specs.inner.Walks.{source_of, spot_of, seen, reader_of}
+use Rattle.yaml_read.proofs.Words.{data_of, entries_of, shape_of, has_key, pairs_of, doc_event_of, tree_in, pairs_in}
+use Rattle.yaml_read.proofs.Words.{new_key, reach, way_of, value_under, Spot, after, is_mapping_end, value_way}
+use Rattle.yaml_read.proofs.Words.{source_of, spot_of, seen, reader_of}
 use Rattle.yaml_read.proofs.AnyLaws.{new_is_key, pairs_grow, key_again}
 use Rattle.yaml_read.proofs.reading.ValueExits.{any_no_key, any_repeated, any_no_value, any_entry}
 use Rattle.yaml_read.proofs.reading.Exits.{same_spot, not_mapping_end}

@@ -1,16 +1,9 @@
 -- What the reader gives at each exit: nodes within others, and aliases.
 use Rattle.std.proofs.Common.{Ok, Err, Some, None, ◌+◌, ◌-◌, true, sym, ap, ◌∙◌, arith, refl}
 use Rattle.std.specs.Option.{is_some}
-use Rattle.yaml_shape.specs.DataView.{data_of}
-use Rattle.yaml_shape.specs.ShapeView.{shape_of}
-use Rattle.yaml_load.specs.DocEventView.{doc_event_of, doc_scalar_of}
-use Rattle.yaml_scalar.specs.ReadFault.{ran_out}
-use Rattle.yaml_scalar.specs.Steps.{with_end}
-use Rattle.yaml_read.specs.Handing.{early}
-use Rattle.yaml_read.specs.Places.{way_of, value_under, place, placed, places}
-use Rattle.yaml_read.specs.TreeReader.{Spot, after}
-use Rattle.yaml_read.specs.inner.Walks.{around_of, source_of, spot_of}
-use Rattle.yaml_read.specs.inner.Questions.{question_of}
+use Rattle.yaml_read.proofs.Words.{data_of, shape_of, doc_event_of, doc_scalar_of, ran_out, with_end, early, way_of}
+use Rattle.yaml_read.proofs.Words.{value_under, place, placed, places, Spot, after, around_of, source_of, spot_of}
+use Rattle.yaml_read.proofs.Words.{question_of}
 use Rattle.yaml_read.proofs.reading.Exits.{same_spot, step_late}
 use Rattle.yaml_read.proofs.reading.LeafExits.{leaf_alias, leaf_scalar}
 use Rattle.yaml_read.proofs.reading.PlaceLaws.{placed_memory, node_read, node_refused_here}

@@ -3,15 +3,9 @@ use Rattle.std.proofs.Common.{Ok, Err, Some, ◌≡◌, ◌+◌, ◌<◌, [], �
 use Rattle.std.proofs.Common.{length-append}
 use Rattle.std.specs.Option.{is_some}
 use Rattle.std.proofs.lemmas.List.{map-append, length-map}
-use Rattle.yaml_shape.specs.DataView.{data_of, items_of}
-use Rattle.yaml_shape.specs.PlainData.{seq_data}
-use Rattle.yaml_shape.specs.declared.data.Data.{Seq, the_lemmas}
-use Rattle.yaml_load.specs.DocEventView.{doc_event_of}
-use Rattle.yaml_read.specs.Handing.{handed}
-use Rattle.yaml_read.specs.TreeReader.{Spot, after}
-use Rattle.yaml_read.specs.inner.Reader.{is_sequence_end}
-use Rattle.yaml_read.specs.inner.Walks.{around_of, spot_of}
-use Rattle.yaml_read.specs.inner.Questions.{question_of}
+use Rattle.yaml_read.proofs.Words.{data_of, items_of, seq_data, Seq, doc_event_of, handed, Spot, after, is_sequence_end}
+use Rattle.yaml_read.proofs.Words.{around_of, spot_of, question_of}
+use Rattle.yaml_shape.specs.declared.data.Data.{the_lemmas}
 use Rattle.yaml_read.proofs.reading.Exits.{same_spot, not_sequence_end, step_event, step_seq}
 use Rattle.yaml_read.proofs.reading.Loops.{led_end, led_ended, led_fails, led_more, wrap_fails, wrap_finds}
 use Rattle.yaml_read.proofs.de.node.source.Source.+read.Goals as goal

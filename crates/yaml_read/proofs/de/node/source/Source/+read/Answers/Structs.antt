@@ -2,15 +2,8 @@
 use Rattle.std.proofs.Common.{refl, Ok, Err, None, ◌≡◌, suc, ◌+◌, ◌<◌, length, false, sym, ap, ◌∙◌, arith}
 use Rattle.std.specs.Option.{is_some, option_map}
 use Rattle.std.proofs.lemmas.List.{length-map}
-use Rattle.yaml_shape.specs.DataView.{data_of}
-use Rattle.yaml_shape.specs.ShapeView.{shape_of, field_of, fields_of}
-use Rattle.yaml_load.specs.DocEventView.{doc_event_of}
-use Rattle.yaml_read.specs.Fields.{no_slots, struct_of}
-use Rattle.yaml_read.specs.Handing.{is_bare}
-use Rattle.yaml_read.specs.TreeReader.{Spot, after}
-use Rattle.yaml_read.specs.inner.Reader.{is_mapping_end}
-use Rattle.yaml_read.specs.inner.Walks.{around_of, spot_of, slots_of}
-use Rattle.yaml_read.specs.inner.Questions.{question_of}
+use Rattle.yaml_read.proofs.Words.{data_of, shape_of, field_of, fields_of, doc_event_of, no_slots, struct_of, is_bare}
+use Rattle.yaml_read.proofs.Words.{Spot, after, is_mapping_end, around_of, spot_of, slots_of, question_of}
 use Rattle.yaml_read.proofs.reading.Exits.{same_spot, not_mapping_end, step_event, finish_fails, gives_finish}
 use Rattle.yaml_read.proofs.reading.FieldExits.{fields_as_is, step_struct}
 use Rattle.yaml_read.proofs.reading.Loops.{led_end, led_ended, led_fails, led_more}

@@ -4,17 +4,9 @@ use Rattle.std.proofs.Common.{rules, length-append}
 use Rattle.std.specs.Option.{is_some}
 use Rattle.std.specs.Prelude.{drop}
 use Rattle.std.proofs.lemmas.List.{map-append, length-map}
-use Rattle.yaml_shape.specs.DataView.{data_of}
-use Rattle.yaml_shape.specs.PlainShape.{shape_at}
-use Rattle.yaml_shape.specs.ShapeView.{shape_of, ids_of}
-use Rattle.yaml_load.specs.DocEventView.{doc_event_of}
-use Rattle.yaml_scalar.specs.Steps.{with_shape}
-use Rattle.yaml_read.specs.Places.{way_of, element_under}
-use Rattle.yaml_read.specs.Rows.{row_data}
-use Rattle.yaml_read.specs.TreeReader.{Spot, after}
-use Rattle.yaml_read.specs.inner.Reader.{is_sequence_end, skip_at}
-use Rattle.yaml_read.specs.inner.Walks.{around_of, owner_of, source_of, spot_of, reader_of, row_view}
-use Rattle.yaml_read.specs.inner.Questions.{question_of}
+use Rattle.yaml_read.proofs.Words.{data_of, shape_at, shape_of, ids_of, doc_event_of, with_shape, way_of, element_under}
+use Rattle.yaml_read.proofs.Words.{row_data, Spot, after, is_sequence_end, skip_at, around_of, owner_of, source_of}
+use Rattle.yaml_read.proofs.Words.{spot_of, reader_of, row_view, question_of}
 use Rattle.yaml_read.proofs.reading.Exits.{same_spot, not_sequence_end, row_as_is, step_event, step_row, finish_fails}
 use Rattle.yaml_read.proofs.reading.Exits.{gives_finish}
 use Rattle.yaml_read.proofs.reading.PartExits.{all_at, row_skips, row_reads, drop_here, drop_none}

@@ -1,17 +1,8 @@
 -- What the reader gives at each exit: contents of variants.
 use Rattle.std.proofs.Common.{Some, ◌≡◌, ◌<◌, length, true, false, sym, ap, ◌∙◌, arith, refl}
-use Rattle.yaml_shape.specs.DataView.{data_of}
-use Rattle.yaml_shape.specs.PlainShape.{row_shape, fields_shape, of_variant}
-use Rattle.yaml_shape.specs.ShapeView.{ids_of, fields_of}
-use Rattle.yaml_load.specs.DocEventView.{doc_event_of}
-use Rattle.yaml_scalar.specs.Steps.{with_end}
-use Rattle.yaml_read.specs.Fields.{struct_of}
-use Rattle.yaml_read.specs.Handing.{is_bare}
-use Rattle.yaml_read.specs.Places.{way_of}
-use Rattle.yaml_read.specs.Rows.{row_data}
-use Rattle.yaml_read.specs.TreeReader.{after}
-use Rattle.yaml_read.specs.inner.Walks.{plain_around, source_of, spot_of, reader_of}
-use Rattle.yaml_read.specs.inner.Questions.{question_of, taken_as}
+use Rattle.yaml_read.proofs.Words.{data_of, row_shape, fields_shape, of_variant, ids_of, fields_of, doc_event_of}
+use Rattle.yaml_read.proofs.Words.{with_end, struct_of, is_bare, way_of, row_data, after, plain_around, source_of}
+use Rattle.yaml_read.proofs.Words.{spot_of, reader_of, question_of, taken_as}
 use Rattle.yaml_read.proofs.reading.ContentExits.{other_in_fields, no_mapping_starts}
 use Rattle.yaml_read.proofs.reading.Exits.{same_spot, step_event, step_row, finish_fails, gives_finish}
 use Rattle.yaml_read.proofs.reading.FieldExits.{fields_as_is, step_struct}
