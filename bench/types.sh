@@ -10,7 +10,8 @@
 # TASK is `read` (from text), `print` (to text), `parse` (from text to events), `load` (from events) or `write` (to
 # events); KIND is what is read: integers, texts, lent, pairs, lists, any, config, documents. Without one all are run.
 # The original shows its events to nobody: the last three tasks have a side of it only where PROGRAMS holds a program
-# `original_events` that takes the same arguments, made of the crate with a list in place of its parser and emitter.
+# `original_events` that takes the same arguments, `read` too, made of the crate with a list in place of its parser and
+# emitter.
 #
 # ORIGINAL names a folder with the crate serde_yaml 0.9.34, which cargo can build there; without it the port is timed
 # alone. PROGRAMS names a folder in which what is built is kept, and taken from there by a later run. SIZES are numbers
@@ -106,7 +107,7 @@ counted_row() {
     [ "$kind" != config ] || size=1
     own=$(count port "$task" "$kind")
     side=$(other_side "$task")
-    [ "$side" != original ] || other=$(count "$side" "$task" "$kind")
+    [ -z "$side" ] || other=$(count "$side" "$task" "$kind")
     awk -v task="$task" -v kind="$kind" -v size="$size" -v own="$own" -v other="$other" 'BEGIN {
         printf "| %s | %s | %d | %.0f", task, kind, size, own / size
         if (other != "") printf " / %.0f | %.2f |\n", other / size, own / other
