@@ -1,11 +1,12 @@
 //! Whether data is of a shape.
 
-ghost use Rattle.std.specs.Prelude.{◌≡◌, true, slice_get, IsTrue};
+ghost use Rattle.std.specs.Prelude.{◌≡◌, true, slice_get, IsTrue, IfSome, Some};
 ghost use Rattle.std.specs.Char.{IsScalar};
 ghost use Rattle.std.specs.Option.{option_map};
 ghost use Rattle.yaml_tree.specs.Valid.{is_value};
 ghost use Rattle.yaml_tree.specs.View.{tree_of};
-ghost use Rattle.yaml_shape.specs.PlainShape.{shape_at};
+ghost use Rattle.yaml_shape.specs.IntegerView.{integer_type_of, IsRangeOf};
+ghost use Rattle.yaml_shape.specs.PlainShape.{integer_shape, shape_at};
 ghost use Rattle.yaml_shape.specs.ShapeView.{ids_of, fields_of, content_of, variants_of, shape_of};
 ghost use Rattle.yaml_shape.specs.DataView.{data_of, items_view, entries_view, text_data_of};
 ghost use Rattle.yaml_shape.specs.Validity.{numbers_of};
@@ -15,6 +16,7 @@ ghost use Rattle.yaml_shape.specs.Held.{IsHeld, AreHeld, EntriesAreHeld};
 
 use crate::data::{Data, Entry};
 use crate::held::{char_is_held, text_is_held, value_is_held};
+use crate::integer_type::{IntegerRange, IntegerType};
 use crate::schema::Schema;
 use crate::shape::{Shape, ShapeId, VariantShape};
 use crate::text::Text;
@@ -65,6 +67,51 @@ fn takes_text(shape: &Shape, text: &Text<'_>) -> bool
 {
     text_is_held(text);
     matches!(shape, Shape::Str | Shape::Identifier)
+}
+
+// The type of the integers that a shape asks for, where there is a shape that asks for any.
+fn asked_integer(shape: Option<&Shape>) -> Option<IntegerType>
+    ensures { IfSome result (λ i. option_map (λ s. shape_of s.now) shape.entry
+        ≡ Some (integer_shape (integer_type_of i))) }
+{
+    shape?.integer()
+}
+
+// Whether the data is an integer of the range of the type that the shape with this number asks for.
+#[inline(always)]
+fn is_in_range(
+    schema: &Schema,
+    id: ShapeId,
+    integer: IntegerType,
+    range: IntegerRange,
+    data: &Data,
+) -> bool
+    requires asked { shape_at schema.now id.0 ≡ Some (integer_shape (integer_type_of integer)) }
+    requires range { IsRangeOf (integer_type_of integer) range }
+    ensures exactly { result ≡ has_shape schema.now id.0 (data_of data.now) }
+    ensures held { result ≡ true → IsHeld (data_of data.now) }
+{
+    match (data, range) {
+        (Data::Signed(n), IntegerRange::Signed { least, greatest }) => least <= *n
+            && *n <= greatest,
+        (Data::Unsigned(n), IntegerRange::Unsigned { greatest }) => *n <= greatest,
+        _ => false,
+    }
+}
+
+// Whether each element is of a shape of integers, whose range is looked up once for all.
+fn all_are_of_type(schema: &Schema, id: ShapeId, integer: IntegerType, items: &[Data]) -> bool
+    requires { shape_at schema.now id.0 ≡ Some (integer_shape (integer_type_of integer)) }
+    ensures exactly { result ≡ all_have schema.now id.0 (items_view items.now) }
+    ensures held { result ≡ true → AreHeld (items_view items.now) }
+{
+    let range = integer.range();
+    for item in items {
+        if !is_in_range(schema, id, integer, range, item) {
+            return false;
+        }
+    }
+    true
 }
 
 // The content of the variant at this place.
@@ -148,7 +195,7 @@ fn is_of(schema: &Schema, id: ShapeId, shape: Option<&Shape>, data: &Data) -> bo
     }
 }
 
-// The same, by the shortest way for what lists hold most of.
+// The same, by the shortest way for texts, which lists hold most of beside integers.
 #[cycle(has_shape)]
 #[inline(always)]
 fn part_is_of(schema: &Schema, id: ShapeId, shape: Option<&Shape>, data: &Data) -> bool
@@ -160,8 +207,6 @@ fn part_is_of(schema: &Schema, id: ShapeId, shape: Option<&Shape>, data: &Data) 
         return false;
     };
     match data {
-        Data::Signed(n) => takes_signed(found, *n),
-        Data::Unsigned(n) => takes_unsigned(found, *n),
         Data::Str(text) => takes_text(found, text),
         _ => is_of(schema, id, shape, data),
     }
@@ -198,6 +243,9 @@ fn all_have(schema: &Schema, id: ShapeId, items: &[Data]) -> bool
     ensures held { result ≡ true → AreHeld (items_view items.now) }
 {
     let shape = schema.shape(id);
+    if let Some(integer) = asked_integer(shape) {
+        return all_are_of_type(schema, id, integer, items);
+    }
     for item in items {
         if !part_is_of(schema, id, shape, item) {
             return false;
