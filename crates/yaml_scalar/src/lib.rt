@@ -21,7 +21,7 @@ pub use mismatch::{
     found_sequence_for, wrong_length,
 };
 pub use presence::{is_absent, is_empty_plain, is_present};
-pub use refusal::{Refusal, Result, ended, refuse};
+pub use refusal::{Refusal, Result, ended, refuse, refused_bytes};
 pub use scalar::{read_scalar, read_void};
 pub use sort::text_of;
 pub use variant_names::{nested_enum, unknown_variant, variant_named};

@@ -1,8 +1,8 @@
 //! Why a reading failed, in little room.
 
 ghost use Rattle.std.specs.Prelude.{◌≡◌, false};
-ghost use Rattle.yaml_scalar.specs.ReadFault.{IsOfReading, cause_of, end_of_stream, out_of_memory, ran_out};
-ghost use Rattle.yaml_scalar.specs.ReadFault.{refusal_by, refused};
+ghost use Rattle.yaml_scalar.specs.ReadFault.{IsOfReading, bytes_unsupported, cause_of, end_of_stream};
+ghost use Rattle.yaml_scalar.specs.ReadFault.{out_of_memory, ran_out, refusal_by, refused};
 
 use std::alloc::{AllocError, AllocFailed, Global};
 use std::marker::Model;
@@ -11,8 +11,8 @@ use yaml_base::{Cause, Error};
 /// The answer of a call within a reading.
 pub type Result<T> = std::result::Result<T, Refusal>;
 
-/// Why a reading failed: memory ran out, or a fault was found, which none of other documents is. It takes one pointer;
-/// none stands for want of memory.
+/// Why reading a document failed: memory ran out, or a fault was found in it. That a stream has no document, or more
+/// than one, is no such fault. It takes one pointer; none stands for want of memory.
 #[derive(Drop)]
 pub struct Refusal {
     fault: Option<Box<Error>>,
@@ -57,6 +57,15 @@ pub fn refuse(alloc: Global, fault: Error) -> Refusal
         Ok(fault) => Refusal { fault: Some(fault) },
         Err(_) => Refusal::memory(),
     }
+}
+
+/// The refusal of bytes, which nothing is read as, or want of memory.
+#[cold]
+#[inline(never)]
+pub fn refused_bytes(alloc: Global) -> Refusal
+    ensures { ran_out result ≡ false → result ≡ refused bytes_unsupported }
+{
+    refuse(alloc, Error::new(Cause::BytesUnsupported))
 }
 
 /// The refusal where the events end too early, or want of memory.

@@ -20,12 +20,12 @@ use crate::character::read_char;
 use crate::integer::read_integer;
 use crate::mismatch::{found_no_elements, found_no_null, found_scalar};
 use crate::presence::{is_absent, is_empty_plain};
-use crate::refusal::{Result, ended, refuse};
+use crate::refusal::{Result, ended, refused_bytes};
 use crate::sort::{is_plain_or_tagged_literal, text_of};
 use crate::text::read_text;
 use crate::variant_names::read_variant_name;
 use std::alloc::Global;
-use yaml_base::{Cause, Error, Tag, parse_bool};
+use yaml_base::{Tag, parse_bool};
 use yaml_load::DocScalar;
 use yaml_shape::{Data, Shape, ShapeId};
 use yaml_tree::Value;
@@ -132,7 +132,7 @@ pub fn read_scalar<'de>(
         Shape::Char => read_char(alloc, shape, taken, scalar),
         Shape::Str => read_text(alloc, shape, taken, scalar),
         Shape::Identifier => read_text(alloc, shape, taken, scalar),
-        Shape::Bytes => Err(refuse(alloc, Error::new(Cause::BytesUnsupported))),
+        Shape::Bytes => Err(refused_bytes(alloc)),
         Shape::Option(_) => read_none(alloc, taken, scalar),
         Shape::Unit | Shape::UnitStruct { name: _ } => read_unit(alloc, taken, scalar),
         Shape::Seq(_) if is_empty_plain(scalar) => Ok(Data::Seq(Vec::new(alloc))),
@@ -156,7 +156,7 @@ pub fn read_void<'de>(alloc: Global, shape: &Shape) -> Result<Data<'de>>
 {
     match shape {
         Shape::Any => Ok(Data::Any(Value::Null)),
-        Shape::Bytes => Err(refuse(alloc, Error::new(Cause::BytesUnsupported))),
+        Shape::Bytes => Err(refused_bytes(alloc)),
         Shape::Option(_) => Ok(Data::None),
         Shape::Unit | Shape::UnitStruct { name: _ } => Ok(Data::Unit),
         Shape::Seq(_) => Ok(Data::Seq(Vec::new(alloc))),

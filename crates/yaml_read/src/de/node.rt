@@ -21,7 +21,7 @@ mod tuple_length;
 ghost use Rattle.std.specs.Prelude.{◌≡◌, ◌<◌, length, OnOk, true, false};
 ghost use Rattle.yaml_load.specs.DocEventView.{doc_event_of};
 ghost use Rattle.yaml_load.specs.Ends.{GoForward};
-ghost use Rattle.yaml_scalar.specs.ReadFault.{bytes_unsupported, recursion_limit_exceeded, repetition_limit_exceeded};
+ghost use Rattle.yaml_scalar.specs.ReadFault.{recursion_limit_exceeded, repetition_limit_exceeded};
 ghost use Rattle.yaml_scalar.specs.ReadingGives.{IsRefusedBy};
 ghost use Rattle.yaml_read.specs.inner.Questions.{question_of, Named, GivesNode, GivesStep, GivesEvent};
 ghost use Rattle.yaml_read.specs.inner.Reader.{takes, is_leaf};
@@ -37,6 +37,7 @@ use yaml_base::{Cause, Error, Mark, Path};
 use yaml_load::DocEvent;
 use yaml_scalar::{
     Refusal, Result, ended, found_mapping, found_sequence, read_scalar, read_void, refuse,
+    refused_bytes,
 };
 use yaml_shape::{Data, Shape};
 
@@ -56,15 +57,6 @@ fn followed_too_often(alloc: Global) -> Refusal
     ensures { IsRefusedBy result repetition_limit_exceeded }
 {
     refuse(alloc, Error::new(Cause::RepetitionLimitExceeded))
-}
-
-// The refusal of bytes, which no node is read as, or want of memory.
-#[cold]
-#[inline(never)]
-fn refused_bytes(alloc: Global) -> Refusal
-    ensures { IsRefusedBy result bytes_unsupported }
-{
-    refuse(alloc, Error::new(Cause::BytesUnsupported))
 }
 
 impl<'s, 'de> Source<'s, 'de> {
