@@ -4,7 +4,7 @@ ghost use Rattle.std.specs.Prelude.{◌≡◌, map};
 ghost use Rattle.std.specs.Option.{option_copied};
 ghost use Rattle.yaml_load.specs.DocEventView.{marked_events_of};
 ghost use Rattle.yaml_load.specs.Ends.{ends_of};
-ghost use Rattle.yaml_load.specs.Gathering.{HasEnds, document_of_range, ending_in};
+ghost use Rattle.yaml_load.specs.Gathering.{HasEnds, document_of_range};
 ghost use Rattle.yaml_load.specs.StreamLaw.{HasTree, IsDocument, IsEnding};
 
 use crate::doc_event::DocEvent;
@@ -24,7 +24,6 @@ pub struct LoadedDocument<'de> {
 }
 
 impl<'de> Model for LoadedDocument<'de> {
-    ghost use Rattle.std.specs.Prelude.{slice_range};
     ghost use Rattle.yaml_load.specs.PlainDocument.{PlainDocument};
 
     ghost Value = { PlainDocument };

@@ -6,7 +6,6 @@ pub mod DataFound
 pub mod DataReturn
 pub mod Decimals
 pub mod FieldsInOrder
-pub mod HeldLaws
 pub mod LeafPresence
 pub mod LeavesReturn
 pub mod ListsReturn

@@ -23,6 +23,7 @@ pub use expected::{
     sequence_of, struct_variant, tuple_struct_with, tuple_variant, tuple_variant_with,
 };
 pub use fault::SchemaFault;
+pub use held::data_is_held;
 pub use integer_type::{IntegerRange, IntegerType};
 pub use join::{enum_of, map_of, newtype_of, option_of, seq_of};
 pub use rows::{row_behind, strict_struct_of, struct_of, tuple_of, tuple_struct_of, with_names};

@@ -7,6 +7,7 @@ pub mod ChoiceReturns
 pub mod Choices
 pub mod Integers
 pub mod MapLaws
+pub mod NodeWrites
 pub mod PartShapes
 pub mod PlainLaws
 pub mod BuildRefusal

@@ -8,12 +8,16 @@ ghost use Rattle.yaml_shape.specs.EqualData.{EqualData};
 ghost use Rattle.yaml_shape.specs.Join.{IsTooLarge};
 ghost use Rattle.yaml_types.specs.Start.{Start, IsStart, IsClosed};
 ghost use Rattle.yaml_types.specs.BuildRefusal.{IsBuildRefusal};
+ghost use Rattle.yaml_base.specs.EmitTree.{emit_node_events};
+ghost use Rattle.yaml_shape.specs.Held.{IsHeld};
+ghost use Rattle.yaml_types.specs.NodeWrites.{node_of, IsPut, IsFaultOf};
 ghost use Rattle.yaml_types.specs.WriteRefusal.{IsWriteRefusal};
 
 use crate::fault::BuildFault;
 use std::alloc::Global;
 use yaml_base::Error;
-use yaml_shape::{Data, Schema, SchemaFault, ShapeId};
+use yaml_shape::{Data, Schema, SchemaFault, ShapeId, data_is_held};
+use yaml_write::EventBuffer;
 
 /// A type whose values are built of data of one shape. `'de` is how long a value may keep borrowed texts.
 pub trait Deserialize<'de>: Sized {
@@ -69,6 +73,23 @@ pub trait Serialize {
         ensures ok { IfOk result (λ made. data_of made ≡ written self.now) }
         ensures kept { OnOk result (kept self.now) }
         ensures refused { IfErr result (IsWriteRefusal (unwritten self.now)) };
+
+    /// Writes the value as a node behind the events that are there, as its data is written by the shape with this
+    /// number. Where nothing else is said, the data is made first. Refused where memory runs out, by a message, or for
+    /// bytes or a tag upon a tag in the data; then part of the node may be there.
+    fn write_node(&self, out: &mut EventBuffer, schema: &Schema, id: ShapeId) -> Result<(), Error>
+        ensures put { OnOk result (IsPut emit_node_events (node_of schema.now id.0 (written self.now)) out.old out.new) }
+        ensures kept { OnOk result (kept self.now) }
+
+        // The texts of its data are UTF-8, the characters are characters, and the values are values.
+        ensures held { OnOk result (IsHeld (written self.now)) }
+        ensures refused { IfErr result (IsFaultOf (node_of schema.now id.0 (written self.now)) (unwritten self.now)) }
+    {
+        let content = self.to_data(out.alloc())?;
+        data_is_held(&content);
+        out.typed(None, schema, id, &content)?;
+        Ok(())
+    }
 
     // The shape is in the table, which names no shape outside.
     ghost closed: { IsClosed start };

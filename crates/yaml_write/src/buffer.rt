@@ -5,22 +5,34 @@ ghost use Rattle.std.specs.Prelude.{IfErr, OnErr, OnOk};
 ghost use Rattle.std.specs.Char.{encode_utf8};
 ghost use Rattle.yaml_base.specs.EmitEvents.{emit_of, tag_bytes, emit_sequence_start, emit_sequence_end};
 ghost use Rattle.yaml_base.specs.EmitEvents.{emit_mapping_start, emit_mapping_end};
+ghost use Rattle.yaml_base.specs.EmitEvents.{emit_stream_start, emit_stream_end, emit_document_start, emit_document_end};
 ghost use Rattle.yaml_base.specs.EmitTree.{emit_node_events, emit_scalar_node};
 ghost use Rattle.yaml_base.specs.declared.error.Cause.TheVariants.{Memory};
+ghost use Rattle.yaml_shape.specs.DataView.{data_of};
+ghost use Rattle.yaml_tree.specs.View.{tree_of};
 ghost use Rattle.yaml_write.specs.Adds.{Adds};
 ghost use Rattle.yaml_write.specs.Brackets.{start_by, end_by};
 ghost use Rattle.yaml_write.specs.Outcomes.{plain_node, null_node, string_node};
+ghost use Rattle.yaml_write.specs.Written.{written};
+ghost use Rattle.yaml_write.specs.WrittenValue.{written_value, truth_text};
 
+use crate::data::write_data;
+use crate::value::{write_bool, write_value};
 use crate::write_refusal::Result;
 use itoa::Integer;
 use std::alloc::Global;
 use std::marker::Model;
 use yaml_base::emitter::{AskedStyle, EmitEvent, EmitScalar, Mapping, Sequence};
 use yaml_base::infer_style;
+use yaml_shape::{Data, Schema, ShapeId};
+use yaml_tree::Value;
 
 /// Events in order, and the allocator of all that is made for them. Contracts see it as its list of plain events.
+///
+/// A type writes its values here, one node behind another. Each call adds what it says behind the events that are there;
+/// where it is refused, those are kept, perhaps with others behind them.
 #[derive(Drop)]
-pub(crate) struct EventBuffer {
+pub struct EventBuffer {
     events: Vec<EmitEvent>,
     alloc: Global,
 }
@@ -35,8 +47,8 @@ impl Model for EventBuffer {
 }
 
 impl EventBuffer {
-    // No events yet. Takes no memory.
-    pub(crate) fn new(alloc: Global) -> EventBuffer
+    /// No events yet. Takes no memory.
+    pub fn new(alloc: Global) -> EventBuffer
         ensures { result ≡ [] }
     {
         EventBuffer {
@@ -45,8 +57,8 @@ impl EventBuffer {
         }
     }
 
-    // The allocator.
-    pub(crate) fn alloc(&self) -> Global {
+    /// The allocator.
+    pub fn alloc(&self) -> Global {
         self.alloc
     }
 
@@ -57,8 +69,8 @@ impl EventBuffer {
         self.events.as_slice()
     }
 
-    // The events, handed out.
-    pub(crate) fn into_events(self) -> Vec<EmitEvent>
+    /// The events, handed out.
+    pub fn into_events(self) -> Vec<EmitEvent>
         ensures { map emit_of result.items ≡ self }
     {
         self.events
@@ -109,15 +121,15 @@ impl EventBuffer {
         self.scalar(tag, value, AskedStyle::Plain)
     }
 
-    // Null.
-    pub(crate) fn null(&mut self, tag: Option<String>) -> Result<()>
+    /// Null, under a tag, if there is one, as each of the following. The only fault is `Memory`.
+    pub fn null(&mut self, tag: Option<String>) -> Result<()>
         ensures { Adds emit_node_events (Ok (null_node (tag_bytes tag))) self.old self.new result }
     {
         self.plain(tag, "null")
     }
 
-    // An integer.
-    pub(crate) fn integer<I: Integer>(&mut self, tag: Option<String>, number: I) -> Result<()>
+    /// An integer. The only fault is `Memory`.
+    pub fn integer<I: Integer>(&mut self, tag: Option<String>, number: I) -> Result<()>
         ensures { Adds emit_node_events (Ok (plain_node (tag_bytes tag) (I.text number)))
             self.old self.new result }
     {
@@ -125,8 +137,8 @@ impl EventBuffer {
         self.plain(tag, digits.format(number))
     }
 
-    // A string, in the style that it has to be asked in.
-    pub(crate) fn string(&mut self, tag: Option<String>, text: &str) -> Result<()>
+    /// A string, in the style that it has to be asked in. The only fault is `Memory`.
+    pub fn string(&mut self, tag: Option<String>, text: &str) -> Result<()>
         ensures { Adds emit_node_events (Ok (string_node (tag_bytes tag) text.now))
             self.old self.new result }
     {
@@ -134,8 +146,8 @@ impl EventBuffer {
         self.scalar(tag, value, infer_style(text))
     }
 
-    // A character.
-    pub(crate) fn character(&mut self, tag: Option<String>, letter: char) -> Result<()>
+    /// A character. The only fault is `Memory`.
+    pub fn character(&mut self, tag: Option<String>, letter: char) -> Result<()>
         ensures { Adds emit_node_events
             (Ok (emit_scalar_node (tag_bytes tag) (encode_utf8 letter) AskedStyle.SingleQuoted))
             self.old self.new result }
@@ -145,8 +157,8 @@ impl EventBuffer {
         self.scalar(tag, value, AskedStyle::SingleQuoted)
     }
 
-    // The start of a sequence, and room for so many elements of one event.
-    pub(crate) fn start_sequence(&mut self, tag: Option<String>, elements: usize) -> Result<()>
+    /// The start of a sequence, and room for so many elements of one event. The only fault is `Memory`.
+    pub fn start_sequence(&mut self, tag: Option<String>, elements: usize) -> Result<()>
         ensures { Adds (λ e. e ∷ []) (Ok (emit_sequence_start (tag_bytes tag)))
             self.old self.new result }
     {
@@ -154,15 +166,15 @@ impl EventBuffer {
         self.push(EmitEvent::SequenceStart(Sequence { tag }))
     }
 
-    // The end of a sequence.
-    pub(crate) fn end_sequence(&mut self) -> Result<()>
+    /// The end of a sequence. The only fault is `Memory`.
+    pub fn end_sequence(&mut self) -> Result<()>
         ensures { Adds (λ e. e ∷ []) (Ok emit_sequence_end) self.old self.new result }
     {
         self.push(EmitEvent::SequenceEnd)
     }
 
-    // The start of a mapping, and room for so many entries of two events.
-    pub(crate) fn start_mapping(&mut self, tag: Option<String>, entries: usize) -> Result<()>
+    /// The start of a mapping, and room for so many entries of two events. The only fault is `Memory`.
+    pub fn start_mapping(&mut self, tag: Option<String>, entries: usize) -> Result<()>
         ensures { Adds (λ e. e ∷ []) (Ok (emit_mapping_start (tag_bytes tag)))
             self.old self.new result }
     {
@@ -170,11 +182,59 @@ impl EventBuffer {
         self.push(EmitEvent::MappingStart(Mapping { tag }))
     }
 
-    // The end of a mapping.
-    pub(crate) fn end_mapping(&mut self) -> Result<()>
+    /// The end of a mapping. The only fault is `Memory`.
+    pub fn end_mapping(&mut self) -> Result<()>
         ensures { Adds (λ e. e ∷ []) (Ok emit_mapping_end) self.old self.new result }
     {
         self.push(EmitEvent::MappingEnd)
+    }
+
+    /// A boolean. The only fault is `Memory`.
+    pub fn boolean(&mut self, tag: Option<String>, truth: bool) -> Result<()>
+        ensures { Adds emit_node_events (Ok (plain_node (tag_bytes tag) (truth_text truth)))
+            self.old self.new result }
+    {
+        write_bool(self, tag, truth)
+    }
+
+    /// A value. Refused are a tag upon a tag and want of memory.
+    pub fn value(&mut self, tag: Option<String>, value: &Value) -> Result<()>
+        ensures { Adds emit_node_events (written_value (tag_bytes tag) (tree_of value.now))
+            self.old self.new result }
+    {
+        write_value(self, tag, value)
+    }
+
+    /// Data, as it is written by the shape with this number. Refused are bytes, a tag upon a tag, and want of memory.
+    pub fn typed(
+        &mut self,
+        tag: Option<String>,
+        schema: &Schema,
+        id: ShapeId,
+        content: &Data<'_>,
+    ) -> Result<()>
+        ensures { Adds emit_node_events
+            (written schema.now id.0 (tag_bytes tag) (data_of content.now)) self.old self.new result }
+    {
+        write_data(self, schema, id, tag, content)
+    }
+
+    /// The start of a stream and of its first document. The only fault is `Memory`.
+    pub fn start_stream(&mut self) -> Result<()>
+        ensures { Adds (λ es. es) (Ok (emit_stream_start ∷ emit_document_start ∷ []))
+            self.old self.new result }
+    {
+        self.push(EmitEvent::StreamStart)?;
+        self.push(EmitEvent::DocumentStart)
+    }
+
+    /// The end of a document and of its stream. The only fault is `Memory`.
+    pub fn end_stream(&mut self) -> Result<()>
+        ensures { Adds (λ es. es) (Ok (emit_document_end ∷ emit_stream_end ∷ []))
+            self.old self.new result }
+    {
+        self.push(EmitEvent::DocumentEnd)?;
+        self.push(EmitEvent::StreamEnd)
     }
 
     // The start of a mapping where parts are keys with values, else of a sequence, and room for so many parts.

@@ -14,5 +14,10 @@ mod shape_lookup;
 mod value;
 mod write_refusal;
 
+pub use buffer::EventBuffer;
 pub use open::OpenKind;
 pub use ser::Serializer;
+pub use shape_lookup::{
+    element_shape, inner_shape, item_shapes, key_shape, named_fields, value_shape,
+};
+pub use write_refusal::Refusal;

@@ -9,7 +9,7 @@ ghost use Rattle.yaml_write.specs.InShape.{value_shape, named_fields, named_vari
 use yaml_shape::{Shape, ShapeId, VariantShape};
 
 /// The shape of the content of an optional or of a struct around one.
-pub(crate) fn inner_shape(shape: Option<&Shape>) -> ShapeId
+pub fn inner_shape(shape: Option<&Shape>) -> ShapeId
     ensures { result.0 ≡ inner_shape (option_map (λ s. shape_of s.now) shape.entry) }
 {
     match shape {
@@ -20,7 +20,7 @@ pub(crate) fn inner_shape(shape: Option<&Shape>) -> ShapeId
 }
 
 /// The shape of the elements of a sequence.
-pub(crate) fn element_shape(shape: Option<&Shape>) -> ShapeId
+pub fn element_shape(shape: Option<&Shape>) -> ShapeId
     ensures { result.0 ≡ element_shape (option_map (λ s. shape_of s.now) shape.entry) }
 {
     match shape {
@@ -30,7 +30,7 @@ pub(crate) fn element_shape(shape: Option<&Shape>) -> ShapeId
 }
 
 /// The shapes of the items of a tuple or of a tuple struct.
-pub(crate) fn item_shapes(shape: Option<&Shape>) -> &[ShapeId]
+pub fn item_shapes(shape: Option<&Shape>) -> &[ShapeId]
     ensures { ids_of result.now ≡ item_shapes (option_map (λ s. shape_of s.now) shape.entry) }
 {
     match shape {
@@ -49,7 +49,7 @@ pub(crate) fn id_at(ids: &[ShapeId], i: usize) -> ShapeId
 }
 
 /// The shape of the keys of a mapping.
-pub(crate) fn key_shape(shape: Option<&Shape>) -> ShapeId
+pub fn key_shape(shape: Option<&Shape>) -> ShapeId
     ensures { result.0 ≡ key_shape (option_map (λ s. shape_of s.now) shape.entry) }
 {
     match shape {
@@ -59,7 +59,7 @@ pub(crate) fn key_shape(shape: Option<&Shape>) -> ShapeId
 }
 
 /// The shape of the values of a mapping.
-pub(crate) fn value_shape(shape: Option<&Shape>) -> ShapeId
+pub fn value_shape(shape: Option<&Shape>) -> ShapeId
     ensures { result.0 ≡ value_shape (option_map (λ s. shape_of s.now) shape.entry) }
 {
     match shape {
@@ -69,7 +69,7 @@ pub(crate) fn value_shape(shape: Option<&Shape>) -> ShapeId
 }
 
 /// The names of the fields of a struct, each with its shape.
-pub(crate) fn named_fields(shape: Option<&Shape>) -> &[(String, ShapeId)]
+pub fn named_fields(shape: Option<&Shape>) -> &[(String, ShapeId)]
     ensures { fields_of result.now ≡ named_fields (option_map (λ s. shape_of s.now) shape.entry) }
 {
     match shape {

@@ -23,7 +23,7 @@ enum Refused {
 
 /// Why nothing is written. It is seen as its cause, and handed on in a byte.
 #[derive(Drop)]
-pub(crate) struct Refusal {
+pub struct Refusal {
     refused: Refused,
 }
 
@@ -56,7 +56,7 @@ impl Refusal {
     }
 
     /// The same as a fault.
-    pub(crate) fn into_error(self) -> Error
+    pub fn into_error(self) -> Error
         ensures { result ≡ self }
     {
         Error::new(match self.refused {

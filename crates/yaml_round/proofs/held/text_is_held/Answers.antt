@@ -1,6 +1,0 @@
--- An owned text is UTF-8.
-use Rattle.yaml_round.proofs.HeldLaws.{is_text}
-use Rattle.yaml_round.proofs.held.text_is_held.Goals as goal
-
-pub returns-in-Owned : goal.returns-in-Owned
-returns-in-Owned c = rw c.in-Owned.is (is_text c.in-Owned.field-0)
