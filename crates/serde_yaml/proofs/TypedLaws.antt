@@ -1,11 +1,14 @@
 -- What is read and written under the shape of a type.
-use Rattle.std.proofs.Common.{◌≡◌, ◌<◌, ℕ, List, [], ◌∷◌, length, Option, Some, None, Bool, true, false}
-use Rattle.std.proofs.Common.{Result, Ok, Err, arith}
+use Rattle.std.proofs.Common.{◌≡◌, ◌⊎◌, ◌<◌, ◌++◌, ℕ, List, [], ◌∷◌, length, Option, Some, None, Bool, true, false}
+use Rattle.std.proofs.Common.{Result, Ok, Err, inl, inr, arith, append_assoc}
 use Rattle.std.proofs.Common.{get_or, is_some, refl, sym, ap, subst, ◌∙◌}
+use Rattle.std.proofs.lemmas.List.{append-nil}
 use Rattle.std.specs.Prelude.{IfOk, string_bytes}
 use Rattle.std.proofs.lemmas.Option.{slice_get-get_or}
 use Rattle.yaml_base.specs.Answer.{Answers, Gives, is_memory}
-use Rattle.yaml_base.specs.EmitEvents.{PlainEmit}
+use Rattle.yaml_base.specs.EmitEvents.{PlainEmit, emit_stream_start, emit_stream_end, emit_document_start}
+use Rattle.yaml_base.specs.EmitEvents.{emit_document_end}
+use Rattle.yaml_base.specs.EmitTree.{EmitNode, emit_node_events, emit_document_events}
 use Rattle.yaml_base.specs.PlainEvent.{event_of}
 use Rattle.yaml_base.specs.PlainFault.{PlainFault}
 use Rattle.yaml_base.specs.Position.{Position}
@@ -29,13 +32,13 @@ use Rattle.yaml_read.specs.Meaning.{Means}
 use Rattle.yaml_read.specs.TreeReader.{PlainLimits}
 use Rattle.yaml_read.specs.WrongPlace.{IsWrongAt}
 use Rattle.yaml_types.specs.BuildRefusal.{IsBuildRefusal}
+use Rattle.yaml_types.specs.NodeWrites.{node_of, IsPut, IsFaultOf}
 use Rattle.yaml_types.specs.WriteRefusal.{IsWriteRefusal}
 use Rattle.yaml_types.specs.Start.{Start, IsClosed}
 use Rattle.yaml_types.specs.declared.fault.BuildFault.{BuildFault}
 use Rattle.yaml_types.specs.declared.fault.BuildFault.TheVariants as build
 use Rattle.yaml_types.specs.declared.fault.BuildFault.TheVariants.{Message}
 use Rattle.yaml_write.specs.Outcomes.{made}
-use Rattle.yaml_write.specs.Written.{written}
 use Rattle.serde_yaml.specs.TypedReads as reads
 use Rattle.serde_yaml.specs.TypedReads.{TypeGives, Makes, no_schema, build_cause}
 use Rattle.serde_yaml.specs.TypedWrites as writes
@@ -184,6 +187,23 @@ module _ {T : Type 0} (limits : PlainLimits) (start : Start) (built : PlainData 
             (m.only v none (subst (λ s. ReadsAs limits start.0 s input v) same r.reads)) makes;
       }
 
+-- a stream that was begun, a node, and its end
+stream_put : (given : Result EmitNode Cause) (begun mid new : List PlainEmit)
+    → IsPut (λ es. es) (Ok (emit_stream_start ∷ emit_document_start ∷ [])) [] begun
+    → IsPut emit_node_events given begun mid
+    → IsPut (λ es. es) (Ok (emit_document_end ∷ emit_stream_end ∷ [])) mid new
+    → made written_stream given ≡ Ok new
+stream_put (Err cause) begun mid new s e h = absurd (cc)
+stream_put (Ok node) begun mid new s e h =
+    let first : emit_stream_start ∷ emit_document_start ∷ [] ≡ begun = cc in
+    let middle : begun ++ emit_node_events node ≡ mid = cc in
+    let last : mid ++ emit_document_end ∷ emit_stream_end ∷ [] ≡ new = cc in
+    let ends : List PlainEmit = emit_document_end ∷ emit_stream_end ∷ [] in
+    ap Ok (ap (λ es. emit_stream_start ∷ (es ++ emit_stream_end ∷ [])) (append-nil (emit_document_events node))
+    ∙ (ap (λ es. emit_stream_start ∷ (emit_document_start ∷ es))
+    (append_assoc (emit_node_events node) (emit_document_end ∷ []) (emit_stream_end ∷ []))
+    ∙ (ap (λ es. (es ++ emit_node_events node) ++ ends) first ∙ (ap (λ es. es ++ ends) middle ∙ last))))
+
 module _ (start : Start) (d : PlainData) (unwritten : List ℕ → Type 0) where
   pub no_type_written : (refusal : SchemaFault) (cause : Cause) → IsTooLarge (length start.0) refusal
       → IsNoSchema refusal cause → is_memory cause ≡ false → TypeWrites start d unwritten (Err cause)
@@ -199,16 +219,31 @@ module _ (start : Start) (d : PlainData) (unwritten : List ℕ → Type 0) where
   type_refused (cause.Custom message (Some place)) by m = absurd by
   type_refused _ by m = absurd by
 
-  written_by : {X : Type 0} (view : X → List PlainEmit) (table : List PlainShape) (id : ℕ) (result : Result X Cause)
-      → IsValidSchema table → Gives view result (made written_stream (written table id None d))
-      → Answers view result (TypeWrites (table, id) d unwritten)
-  written_by view table id (Ok x) valid g = subst (TypeWrites (table, id) d unwritten) g (writes.of_shape valid)
-  written_by view table id (Err cause) valid g = λ m. subst (TypeWrites (table, id) d unwritten) (g m) (writes.of_shape valid)
+  refusal_told : (cause : Cause) → IsValidSchema start.0
+      → (node_of start.0 start.1 d ≡ Err cause) ⊎ IsWriteRefusal unwritten cause → is_memory cause ≡ false
+      → TypeWrites start d unwritten (Err cause)
+  refusal_told cause valid (inl e) m =
+      subst (TypeWrites start d unwritten) (ap (made written_stream) e) (writes.of_shape valid)
+  refusal_told cause valid (inr by) m = type_refused cause by m
 
-  -- what is written by the shape of a type, the type writes
-  pub type_writes : {X : Type 0} (view : X → List PlainEmit) (table : List PlainShape) (id : ℕ)
-      (result : Result X Cause) → table ≡ start.0 → id ≡ start.1 → IsValidSchema table
-      → Gives view result (made written_stream (written table id None d)) → Answers view result (TypeWrites start d unwritten)
-  type_writes view table id result p q valid g =
-      subst (λ t. Answers view result (TypeWrites (t, start.1) d unwritten)) p
-      (subst (λ i. Answers view result (TypeWrites (table, i) d unwritten)) q (written_by view table id result valid g))
+  -- what a node is refused for, the value is refused for
+  pub node_refused : (table : List PlainShape) (id : ℕ) (cause : Cause) → table ≡ start.0 → id ≡ start.1
+      → IsValidSchema table → IsFaultOf (node_of table id d) unwritten cause → is_memory cause ≡ false
+      → TypeWrites start d unwritten (Err cause)
+  node_refused table id cause p q valid fault m =
+      refusal_told cause (subst IsValidSchema p valid)
+      (subst (λ t. (node_of t start.1 d ≡ Err cause) ⊎ IsWriteRefusal unwritten cause) p
+      (subst (λ i. (node_of table i d ≡ Err cause) ⊎ IsWriteRefusal unwritten cause) q (fault m))) m
+
+  -- a node between the start of a stream and its end is what the type writes
+  pub node_written : (table : List PlainShape) (id : ℕ) (begun mid new : List PlainEmit) → table ≡ start.0
+      → id ≡ start.1 → IsValidSchema table → IsPut (λ es. es) (Ok (emit_stream_start ∷ emit_document_start ∷ [])) [] begun
+      → IsPut emit_node_events (node_of table id d) begun mid
+      → IsPut (λ es. es) (Ok (emit_document_end ∷ emit_stream_end ∷ [])) mid new
+      → TypeWrites start d unwritten (Ok new)
+  node_written table id begun mid new p q valid s e h =
+      let same : node_of start.0 start.1 d ≡ node_of table id d =
+      ap (λ t. node_of t start.1 d) (sym p) ∙ ap (λ i. node_of table i d) (sym q) in
+      subst (TypeWrites start d unwritten)
+      (ap (made written_stream) same ∙ stream_put (node_of table id d) begun mid new s e h)
+      (writes.of_shape (subst IsValidSchema p valid))

@@ -17,7 +17,7 @@ use yaml_base::Result;
 use yaml_base::emitter::EmitEvent;
 use yaml_shape::{Data, Schema, ShapeId, Typed};
 use yaml_types::Serialize;
-use yaml_write::Serializer;
+use yaml_write::{EventBuffer, Serializer};
 
 // The events of a whole stream whose one document is the data, by its shape.
 pub(crate) fn write_stream(
@@ -63,6 +63,11 @@ pub fn to_events<T: Serialize>(alloc: Global, value: &T) -> Result<Vec<EmitEvent
         Ok(start) => start,
         Err(refused) => return Err(schema_refusal(alloc, refused)),
     };
-    let content = value.to_data(alloc)?;
-    write_stream(alloc, &schema, id, &content)
+    schema.is_valid();
+    schema.is_table();
+    let mut events = EventBuffer::new(alloc);
+    events.start_stream()?;
+    value.write_node(&mut events, &schema, id)?;
+    events.end_stream()?;
+    Ok(events.into_events())
 }

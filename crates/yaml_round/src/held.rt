@@ -4,7 +4,6 @@ ghost use Rattle.std.specs.Prelude.{IsTrue};
 ghost use Rattle.yaml_shape.specs.Held.{is_table};
 
 use yaml_shape::Schema;
-
 pub use yaml_shape::data_is_held;
 
 /// Does nothing. A proof that calls it learns that the names in the schema are UTF-8, and that no shape of it is the

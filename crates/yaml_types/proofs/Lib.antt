@@ -7,6 +7,7 @@ pub mod GatherLaws
 pub mod ItemsThen
 pub mod InsertLaws
 pub mod LeafLaws
+pub mod NodeLaws
 pub mod StructFound
 pub mod WriteLaws
 pub mod WriteRefusals

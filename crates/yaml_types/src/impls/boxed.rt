@@ -5,6 +5,7 @@ use crate::traits::{Deserialize, RoundTrip, Serialize};
 use std::alloc::Global;
 use yaml_base::Error;
 use yaml_shape::{Data, Schema, SchemaFault, ShapeId};
+use yaml_write::EventBuffer;
 
 impl<'de, T: Deserialize<'de> + Drop> Deserialize<'de> for Box<T> {
     ghost start = { T.start };
@@ -44,6 +45,10 @@ impl<T: Serialize> Serialize for Box<T> {
 
     fn to_data<'a>(&'a self, alloc: Global) -> Result<Data<'a>, Error> {
         (**self).to_data(alloc)
+    }
+
+    fn write_node(&self, out: &mut EventBuffer, schema: &Schema, id: ShapeId) -> Result<(), Error> {
+        (**self).write_node(out, schema, id)
     }
 }
 

@@ -10,12 +10,13 @@ ghost use Rattle.yaml_types.specs.BuildRefusal.{NeverRefused};
 ghost use Rattle.yaml_types.specs.Texts.{BuiltText, bytes_returned};
 
 use crate::fault::BuildFault;
-use crate::leaf::leaf_schema;
+use crate::leaf::{leaf_schema, put_text};
 use crate::traits::{Deserialize, RoundTrip, Serialize};
 use std::alloc::Global;
 use std::boxed::BoxedStr;
 use yaml_base::Error;
 use yaml_shape::{Data, Schema, SchemaFault, Shape, ShapeId, Text};
+use yaml_write::EventBuffer;
 
 impl<'de> Deserialize<'de> for BoxedStr {
     ghost start = { leaf_start str_shape };
@@ -54,6 +55,15 @@ impl Serialize for BoxedStr {
 
     fn to_data<'a>(&'a self, _alloc: Global) -> Result<Data<'a>, Error> {
         Ok(Data::Str(Text::Borrowed(self.as_str())))
+    }
+
+    fn write_node(
+        &self,
+        out: &mut EventBuffer,
+        _schema: &Schema,
+        _id: ShapeId,
+    ) -> Result<(), Error> {
+        put_text(out, self.as_str())
     }
 }
 

@@ -11,15 +11,19 @@ ghost use Rattle.yaml_types.specs.Start.{IsStart, leaf_start};
 ghost use Rattle.yaml_types.specs.StartLaws.{closed_leaf};
 ghost use Rattle.yaml_types.specs.BuildRefusal.{IsBuildRefusal, NeverRefused};
 ghost use Rattle.yaml_types.specs.Texts.{BuiltCow, cow_returned};
+ghost use Rattle.yaml_base.specs.EmitTree.{emit_node_events};
+ghost use Rattle.yaml_shape.specs.Held.{IsHeld};
+ghost use Rattle.yaml_types.specs.NodeWrites.{node_of, IsPut, IsFaultOf};
 ghost use Rattle.yaml_types.specs.WriteRefusal.{IsWriteRefusal};
 
 use crate::fault::BuildFault;
-use crate::leaf::leaf_schema;
+use crate::leaf::{leaf_schema, put_text};
 use crate::traits::{Deserialize, RoundTrip, Serialize};
 use std::alloc::Global;
 use std::borrow::CowStr;
 use yaml_base::Error;
 use yaml_shape::{Data, Schema, SchemaFault, Shape, ShapeId, Text};
+use yaml_write::EventBuffer;
 
 /// A text that is borrowed where the data borrows it, and owned where it does not.
 impl<'de> Deserialize<'de> for CowStr<'de> {
@@ -73,6 +77,17 @@ impl<'b> Serialize for CowStr<'b> {
         ensures refused { IfErr result (IsWriteRefusal (λ _. ⊥)) }
     {
         Ok(Data::Str(Text::Borrowed(self.as_str())))
+    }
+
+    fn write_node(&self, out: &mut EventBuffer, schema: &Schema, id: ShapeId) -> Result<(), Error>
+        ensures put { OnOk result (IsPut emit_node_events
+            (node_of schema.now id.0 (text_data true (cow_str_bytes self.now))) out.old out.new) }
+        ensures kept { OnOk result (Unit {0}) }
+        ensures held { OnOk result (IsHeld (text_data true (cow_str_bytes self.now))) }
+        ensures refused { IfErr result (IsFaultOf
+            (node_of schema.now id.0 (text_data true (cow_str_bytes self.now))) (λ _. ⊥)) }
+    {
+        put_text(out, self.as_str())
     }
 }
 

@@ -3,6 +3,10 @@
 ghost use Rattle.std.specs.Prelude.{◌≡◌, map, IsTrue, All, IfOk, IfErr, OnOk};
 ghost use Rattle.yaml_shape.specs.DataView.{items_of, items_view};
 ghost use Rattle.yaml_shape.specs.HasShape.{all_have};
+ghost use Rattle.yaml_shape.specs.Held.{AreHeld};
+ghost use Rattle.yaml_base.specs.EmitTree.{emit_nodes_events};
+ghost use Rattle.yaml_write.specs.Written.{written_elements};
+ghost use Rattle.yaml_types.specs.NodeWrites.{IsPut, IsFaultOf};
 ghost use Rattle.yaml_types.specs.BuiltParts.{BuiltItems};
 ghost use Rattle.yaml_types.specs.BuildRefusal.{IsBuildRefusal};
 ghost use Rattle.yaml_types.specs.RefusalParts.{RefusedItems};
@@ -13,6 +17,7 @@ use crate::traits::{Deserialize, RoundTrip, Serialize};
 use std::alloc::Global;
 use yaml_base::Error;
 use yaml_shape::{Data, Schema, SchemaFault, ShapeId, seq_of};
+use yaml_write::{EventBuffer, element_shape};
 
 // The values of the items, in order.
 pub(super) fn build_items<'de, T: Deserialize<'de> + Drop>(
@@ -45,6 +50,27 @@ pub(super) fn write_items<'a, T: Serialize>(
         items.push(value.to_data(alloc)?)?;
     }
     Ok(items)
+}
+
+// The values as nodes behind the events that are there, in order, each by the shape with this number.
+fn put_elements<T: Serialize>(
+    values: &[T],
+    out: &mut EventBuffer,
+    schema: &Schema,
+    id: ShapeId,
+) -> Result<(), Error>
+    ensures put { OnOk result (IsPut emit_nodes_events
+        (written_elements schema.now id.0 (items_of (map T.written values.now))) out.old out.new) }
+    ensures kept { OnOk result (All T.kept values.now) }
+    ensures held { OnOk result (AreHeld (items_of (map T.written values.now))) }
+    ensures refused { IfErr result (IsFaultOf
+        (written_elements schema.now id.0 (items_of (map T.written values.now)))
+        (SomeUnwritten T.unwritten values.now)) }
+{
+    for value in values {
+        value.write_node(out, schema, id)?;
+    }
+    Ok(())
 }
 
 impl<'de, T: Deserialize<'de> + Drop> Deserialize<'de> for Vec<T> {
@@ -104,6 +130,14 @@ impl<T: Serialize> Serialize for Vec<T> {
             Ok(items) => Ok(Data::Seq(items)),
             Err(fault) => Err(fault),
         }
+    }
+
+    fn write_node(&self, out: &mut EventBuffer, schema: &Schema, id: ShapeId) -> Result<(), Error> {
+        let element = element_shape(schema.shape(id));
+        out.start_sequence(None, self.len())?;
+        put_elements(self, out, schema, element)?;
+        out.end_sequence()?;
+        Ok(())
     }
 }
 

@@ -1,8 +1,17 @@
 //! Maps in the order of their keys.
 
-ghost use Rattle.std.specs.Prelude.{[], IsTrue, IfOk, IfErr};
+ghost use Rattle.std.specs.Prelude.{[], IsTrue, IfOk, IfErr, OnOk};
+ghost use Rattle.yaml_base.specs.EmitTree.{emit_pairs_events};
 ghost use Rattle.yaml_shape.specs.DataView.{entry_of, entries_view};
 ghost use Rattle.yaml_shape.specs.HasShape.{HasShape};
+ghost use Rattle.yaml_shape.specs.Held.{IsHeld, EntriesAreHeld};
+ghost use Rattle.yaml_write.specs.Outcomes.{joined};
+ghost use Rattle.yaml_write.specs.Written.{written_entries};
+ghost use Rattle.yaml_write.specs.WrittenEvents.{pair_events};
+ghost use Rattle.yaml_write.specs.WrittenValue.{pair_node};
+ghost use Rattle.yaml_types.specs.NodeWrites.{node_of, IsPut, IsFaultOf};
+ghost use Rattle.yaml_types.specs.WriteRefusal.{PairUnwritten, SomeUnwritten};
+ghost use Rattle.yaml_types.specs.WrittenParts.{pairs_written, PairsKeep};
 ghost use Rattle.yaml_types.specs.BuiltParts.{BuiltBoth, BuiltEntries};
 ghost use Rattle.yaml_types.specs.PartShapes.{entries_match};
 ghost use Rattle.yaml_types.specs.BuildRefusal.{IsBuildRefusal};
@@ -14,6 +23,7 @@ use std::alloc::Global;
 use std::collections::BTreeMap;
 use yaml_base::Error;
 use yaml_shape::{Data, Entry, Schema, SchemaFault, ShapeId, map_of};
+use yaml_write::{EventBuffer, key_shape, value_shape};
 
 // The key and the value of an entry.
 fn build_both<'de, K: Deserialize<'de> + Drop, V: Deserialize<'de>>(
@@ -53,6 +63,46 @@ fn build_entries<'de, K: Deserialize<'de> + Ord + Drop, V: Deserialize<'de> + Dr
         let _ = map.insert(key, value)?;
     }
     Ok(map)
+}
+
+// A key and its value as nodes behind the events that are there, each by the shape with its number.
+fn put_pair<K: Serialize, V: Serialize>(
+    out: &mut EventBuffer,
+    schema: &Schema,
+    ids: (ShapeId, ShapeId),
+    key: &K,
+    value: &V,
+) -> Result<(), Error>
+    ensures put { OnOk result (IsPut pair_events (joined pair_node (node_of schema.now ids.0.0 (K.written key.now))
+        (node_of schema.now ids.1.0 (V.written value.now))) out.old out.new) }
+    ensures kept { OnOk result (K.kept key.now × V.kept value.now) }
+    ensures held { OnOk result (IsHeld (K.written key.now) × IsHeld (V.written value.now)) }
+    ensures refused { IfErr result (IsFaultOf (joined pair_node (node_of schema.now ids.0.0 (K.written key.now))
+        (node_of schema.now ids.1.0 (V.written value.now))) (PairUnwritten K.unwritten V.unwritten (key.now, value.now))) }
+{
+    key.write_node(out, schema, ids.0)?;
+    value.write_node(out, schema, ids.1)
+}
+
+// The entries as pairs of nodes behind the events that are there, in the order of their keys.
+fn put_entries<K: Serialize + Ord, V: Serialize>(
+    entries: &BTreeMap<K, V>,
+    out: &mut EventBuffer,
+    schema: &Schema,
+    ids: (ShapeId, ShapeId),
+) -> Result<(), Error>
+    ensures put { OnOk result (IsPut emit_pairs_events (written_entries schema.now ids.0.0 ids.1.0
+        (pairs_written K.written V.written entries.now.entries)) out.old out.new) }
+    ensures kept { OnOk result (PairsKeep K.kept V.kept entries.now.entries) }
+    ensures held { OnOk result (EntriesAreHeld (pairs_written K.written V.written entries.now.entries)) }
+    ensures refused { IfErr result (IsFaultOf (written_entries schema.now ids.0.0 ids.1.0
+        (pairs_written K.written V.written entries.now.entries))
+        (SomeUnwritten (PairUnwritten K.unwritten V.unwritten) entries.now.entries)) }
+{
+    for (key, value) in entries.iter() {
+        put_pair(out, schema, ids, key, value)?;
+    }
+    Ok(())
 }
 
 /// A mapping. Of entries with equal keys the first key stays, and takes the last value.
@@ -125,6 +175,14 @@ impl<K: Serialize + Ord, V: Serialize> Serialize for BTreeMap<K, V> {
             entries.push(Entry { key, value })?;
         }
         Ok(Data::Map(entries))
+    }
+
+    fn write_node(&self, out: &mut EventBuffer, schema: &Schema, id: ShapeId) -> Result<(), Error> {
+        let shape = schema.shape(id);
+        out.start_mapping(None, self.len())?;
+        put_entries(self, out, schema, (key_shape(shape), value_shape(shape)))?;
+        out.end_mapping()?;
+        Ok(())
     }
 }
 

@@ -5,6 +5,7 @@ use crate::traits::{Deserialize, RoundTrip, Serialize};
 use std::alloc::Global;
 use yaml_base::Error;
 use yaml_shape::{Data, Schema, SchemaFault, ShapeId, option_of};
+use yaml_write::{EventBuffer, inner_shape};
 
 impl<'de, T: Deserialize<'de>> Deserialize<'de> for Option<T> {
     ghost use Rattle.yaml_types.specs.Start.{option_start};
@@ -66,6 +67,16 @@ impl<T: Serialize> Serialize for Option<T> {
                 let content = value.to_data(alloc)?;
                 Ok(Data::Some(Box::new(alloc, content)?))
             }
+        }
+    }
+
+    fn write_node(&self, out: &mut EventBuffer, schema: &Schema, id: ShapeId) -> Result<(), Error> {
+        match self {
+            None => {
+                out.null(None)?;
+                Ok(())
+            }
+            Some(value) => value.write_node(out, schema, inner_shape(schema.shape(id))),
         }
     }
 }

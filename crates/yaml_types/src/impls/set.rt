@@ -1,8 +1,13 @@
 //! Sets in the order of their elements.
 
-ghost use Rattle.std.specs.Prelude.{IsTrue, IfOk, IfErr};
-ghost use Rattle.yaml_shape.specs.DataView.{items_view};
+ghost use Rattle.std.specs.Prelude.{map, All, IsTrue, IfOk, IfErr, OnOk};
+ghost use Rattle.yaml_base.specs.EmitTree.{emit_nodes_events};
+ghost use Rattle.yaml_shape.specs.DataView.{items_of, items_view};
 ghost use Rattle.yaml_shape.specs.HasShape.{all_have};
+ghost use Rattle.yaml_shape.specs.Held.{AreHeld};
+ghost use Rattle.yaml_write.specs.Written.{written_elements};
+ghost use Rattle.yaml_types.specs.NodeWrites.{IsPut, IsFaultOf};
+ghost use Rattle.yaml_types.specs.WriteRefusal.{SomeUnwritten};
 ghost use Rattle.yaml_types.specs.Start.{seq_start};
 ghost use Rattle.yaml_types.specs.StartLaws.{closed_seq};
 ghost use Rattle.yaml_types.specs.Sets.{BuiltMembers, BuiltSet, SetKeeps};
@@ -15,6 +20,7 @@ use std::alloc::Global;
 use std::collections::BTreeSet;
 use yaml_base::Error;
 use yaml_shape::{Data, Schema, SchemaFault, ShapeId, seq_of};
+use yaml_write::{EventBuffer, element_shape};
 
 // The set of the items, put in one after another.
 fn build_members<'de, T: Deserialize<'de> + Ord + Drop>(
@@ -31,6 +37,27 @@ fn build_members<'de, T: Deserialize<'de> + Ord + Drop>(
         let _ = set.insert(member)?;
     }
     Ok(set)
+}
+
+// The members as nodes behind the events that are there, in order, each by the shape with this number.
+fn put_members<T: Serialize + Ord>(
+    members: &BTreeSet<T>,
+    out: &mut EventBuffer,
+    schema: &Schema,
+    id: ShapeId,
+) -> Result<(), Error>
+    ensures put { OnOk result (IsPut emit_nodes_events
+        (written_elements schema.now id.0 (items_of (map T.written members.now.keys))) out.old out.new) }
+    ensures kept { OnOk result (All T.kept members.now.keys) }
+    ensures held { OnOk result (AreHeld (items_of (map T.written members.now.keys))) }
+    ensures refused { IfErr result (IsFaultOf
+        (written_elements schema.now id.0 (items_of (map T.written members.now.keys)))
+        (SomeUnwritten T.unwritten members.now.keys)) }
+{
+    for member in members.iter() {
+        member.write_node(out, schema, id)?;
+    }
+    Ok(())
 }
 
 /// A sequence. Of equal elements the first stays.
@@ -85,6 +112,14 @@ impl<T: Serialize + Ord> Serialize for BTreeSet<T> {
             items.push(member.to_data(alloc)?)?;
         }
         Ok(Data::Seq(items))
+    }
+
+    fn write_node(&self, out: &mut EventBuffer, schema: &Schema, id: ShapeId) -> Result<(), Error> {
+        let element = element_shape(schema.shape(id));
+        out.start_sequence(None, self.len())?;
+        put_members(self, out, schema, element)?;
+        out.end_sequence()?;
+        Ok(())
     }
 }
 

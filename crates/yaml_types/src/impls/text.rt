@@ -10,11 +10,12 @@ ghost use Rattle.yaml_types.specs.BuildRefusal.{IsBuildRefusal, RefusedStr};
 ghost use Rattle.yaml_types.specs.Start.{IsStart, leaf_start};
 
 use crate::fault::BuildFault;
-use crate::leaf::leaf_schema;
+use crate::leaf::{leaf_schema, put_text};
 use crate::traits::{Deserialize, RoundTrip, Serialize};
 use std::alloc::Global;
 use yaml_base::Error;
 use yaml_shape::{Data, Schema, SchemaFault, Shape, ShapeId, Text};
+use yaml_write::EventBuffer;
 
 impl<'de> Deserialize<'de> for String {
     ghost use Rattle.yaml_shape.specs.PlainShape.{str_shape};
@@ -66,6 +67,15 @@ impl Serialize for String {
 
     fn to_data<'a>(&'a self, _alloc: Global) -> Result<Data<'a>, Error> {
         Ok(Data::Str(Text::Borrowed(self.as_str())))
+    }
+
+    fn write_node(
+        &self,
+        out: &mut EventBuffer,
+        _schema: &Schema,
+        _id: ShapeId,
+    ) -> Result<(), Error> {
+        put_text(out, self.as_str())
     }
 }
 

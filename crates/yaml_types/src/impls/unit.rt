@@ -6,6 +6,7 @@ use crate::traits::{Deserialize, RoundTrip, Serialize};
 use std::alloc::Global;
 use yaml_base::Error;
 use yaml_shape::{Data, Schema, SchemaFault, Shape, ShapeId};
+use yaml_write::EventBuffer;
 
 impl<'de> Deserialize<'de> for () {
     ghost use Rattle.yaml_shape.specs.PlainShape.{unit_shape};
@@ -55,6 +56,16 @@ impl Serialize for () {
 
     fn to_data<'a>(&'a self, _alloc: Global) -> Result<Data<'a>, Error> {
         Ok(Data::Unit)
+    }
+
+    fn write_node(
+        &self,
+        out: &mut EventBuffer,
+        _schema: &Schema,
+        _id: ShapeId,
+    ) -> Result<(), Error> {
+        out.null(None)?;
+        Ok(())
     }
 }
 

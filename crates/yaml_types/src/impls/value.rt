@@ -7,6 +7,7 @@ use std::alloc::Global;
 use yaml_base::{Cause, Error};
 use yaml_shape::{Data, Schema, SchemaFault, Shape, ShapeId};
 use yaml_tree::Value;
+use yaml_write::EventBuffer;
 
 impl<'de> Deserialize<'de> for Value {
     ghost use Rattle.yaml_shape.specs.PlainShape.{any_shape};
@@ -60,6 +61,16 @@ impl Serialize for Value {
             Ok(copied) => Ok(Data::Any(copied)),
             Err(_) => Err(Error::new(Cause::Memory)),
         }
+    }
+
+    fn write_node(
+        &self,
+        out: &mut EventBuffer,
+        _schema: &Schema,
+        _id: ShapeId,
+    ) -> Result<(), Error> {
+        out.value(None, self)?;
+        Ok(())
     }
 }
 

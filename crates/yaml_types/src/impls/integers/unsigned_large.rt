@@ -14,6 +14,7 @@ use crate::traits::{Deserialize, RoundTrip, Serialize};
 use std::alloc::Global;
 use yaml_base::Error;
 use yaml_shape::{Data, Schema, SchemaFault, Shape, ShapeId};
+use yaml_write::EventBuffer;
 
 impl<'de> Deserialize<'de> for u64 {
     ghost start = { integer_start u64 };
@@ -53,6 +54,16 @@ impl Serialize for u64 {
 
     fn to_data<'a>(&'a self, _alloc: Global) -> Result<Data<'a>, Error> {
         Ok(Data::Unsigned(*self as u128))
+    }
+
+    fn write_node(
+        &self,
+        out: &mut EventBuffer,
+        _schema: &Schema,
+        _id: ShapeId,
+    ) -> Result<(), Error> {
+        out.integer(None, *self)?;
+        Ok(())
     }
 }
 
@@ -103,6 +114,16 @@ impl Serialize for u128 {
     fn to_data<'a>(&'a self, _alloc: Global) -> Result<Data<'a>, Error> {
         Ok(Data::Unsigned(*self))
     }
+
+    fn write_node(
+        &self,
+        out: &mut EventBuffer,
+        _schema: &Schema,
+        _id: ShapeId,
+    ) -> Result<(), Error> {
+        out.integer(None, *self)?;
+        Ok(())
+    }
 }
 
 impl<'de> RoundTrip<'de> for u128 {
@@ -151,6 +172,16 @@ impl Serialize for usize {
 
     fn to_data<'a>(&'a self, _alloc: Global) -> Result<Data<'a>, Error> {
         Ok(Data::Unsigned(*self as u128))
+    }
+
+    fn write_node(
+        &self,
+        out: &mut EventBuffer,
+        _schema: &Schema,
+        _id: ShapeId,
+    ) -> Result<(), Error> {
+        out.integer(None, *self)?;
+        Ok(())
     }
 }
 

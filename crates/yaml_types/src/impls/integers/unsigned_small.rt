@@ -14,6 +14,7 @@ use crate::traits::{Deserialize, RoundTrip, Serialize};
 use std::alloc::Global;
 use yaml_base::Error;
 use yaml_shape::{Data, Schema, SchemaFault, Shape, ShapeId};
+use yaml_write::EventBuffer;
 
 impl<'de> Deserialize<'de> for u8 {
     ghost start = { integer_start u8 };
@@ -53,6 +54,16 @@ impl Serialize for u8 {
 
     fn to_data<'a>(&'a self, _alloc: Global) -> Result<Data<'a>, Error> {
         Ok(Data::Unsigned(*self as u128))
+    }
+
+    fn write_node(
+        &self,
+        out: &mut EventBuffer,
+        _schema: &Schema,
+        _id: ShapeId,
+    ) -> Result<(), Error> {
+        out.integer(None, *self)?;
+        Ok(())
     }
 }
 
@@ -103,6 +114,16 @@ impl Serialize for u16 {
     fn to_data<'a>(&'a self, _alloc: Global) -> Result<Data<'a>, Error> {
         Ok(Data::Unsigned(*self as u128))
     }
+
+    fn write_node(
+        &self,
+        out: &mut EventBuffer,
+        _schema: &Schema,
+        _id: ShapeId,
+    ) -> Result<(), Error> {
+        out.integer(None, *self)?;
+        Ok(())
+    }
 }
 
 impl<'de> RoundTrip<'de> for u16 {
@@ -151,6 +172,16 @@ impl Serialize for u32 {
 
     fn to_data<'a>(&'a self, _alloc: Global) -> Result<Data<'a>, Error> {
         Ok(Data::Unsigned(*self as u128))
+    }
+
+    fn write_node(
+        &self,
+        out: &mut EventBuffer,
+        _schema: &Schema,
+        _id: ShapeId,
+    ) -> Result<(), Error> {
+        out.integer(None, *self)?;
+        Ok(())
     }
 }
 
