@@ -5,7 +5,7 @@ use Rattle.std.proofs.Common.{get_or, is_some, refl, sym, ap, subst, ◌∙◌}
 use Rattle.std.proofs.lemmas.List.{append-nil}
 use Rattle.std.specs.Prelude.{IfOk, string_bytes}
 use Rattle.std.proofs.lemmas.Option.{slice_get-get_or}
-use Rattle.yaml_base.specs.Answer.{Answers, Gives, is_memory}
+use Rattle.yaml_base.specs.Answer.{Answers, is_memory}
 use Rattle.yaml_base.specs.EmitEvents.{PlainEmit, emit_stream_start, emit_stream_end, emit_document_start}
 use Rattle.yaml_base.specs.EmitEvents.{emit_document_end}
 use Rattle.yaml_base.specs.EmitTree.{EmitNode, emit_node_events, emit_document_events}
