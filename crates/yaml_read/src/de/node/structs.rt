@@ -250,6 +250,7 @@ impl<'s, 'de> Source<'s, 'de> {
     }
 
     /// The struct of the fields that were read.
+    #[inline(never)]
     pub(crate) fn finish_struct(
         &self,
         fields: &[(String, ShapeId)],
@@ -269,6 +270,7 @@ impl<'s, 'de> Source<'s, 'de> {
     }
 
     /// A struct of which no field is there.
+    #[inline(never)]
     pub(crate) fn bare_struct(&self, fields: &[(String, ShapeId)]) -> Result<Data<'de>>
         requires named { All (λ id. id < length self.now.schema.now) (numbers_of (fields_of fields.now)) }
         ensures { Yields data_of result
