@@ -241,11 +241,11 @@ read_field-returns-in-Err-read_value-clause-gives = Fields.read_field-returns-in
 pub read_name-returns-in-Some-clause-gives : goal.read_name-returns-in-Some-clause-gives
 read_name-returns-in-Some-clause-gives = Fields.read_name-returns-in-Some-clause-gives
 
-pub read_name-returns-in-Err-clause-gives : goal.read_name-returns-in-Err-clause-gives
-read_name-returns-in-Err-clause-gives = Fields.read_name-returns-in-Err-clause-gives
+pub read_further_name-returns-in-Err-clause-gives : goal.read_further_name-returns-in-Err-clause-gives
+read_further_name-returns-in-Err-clause-gives = Fields.read_further_name-returns-in-Err-clause-gives
 
-pub read_name-returns-clause-gives : goal.read_name-returns-clause-gives
-read_name-returns-clause-gives = Fields.read_name-returns-clause-gives
+pub read_further_name-returns-clause-gives : goal.read_further_name-returns-clause-gives
+read_further_name-returns-clause-gives = Fields.read_further_name-returns-clause-gives
 
 -- any values
 pub read_any-read_any_tagged-requires : goal.read_any-read_any_tagged-requires
