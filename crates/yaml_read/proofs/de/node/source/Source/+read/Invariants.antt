@@ -95,6 +95,9 @@ decreases-read_further l = of_question l.self.now (question_of l.ask.now) l.walk
 abbrev pub decreases-read_value : goal.decreases-read_value
 decreases-read_value l = of_node l.self.now.schema.now (shape_of l.shape.now) false l.nest l.walk.now.left 8
 
+abbrev pub decreases-read_further_value : goal.decreases-read_further_value
+decreases-read_further_value l = of_node l.self.now.schema.now (shape_of l.shape.now) false l.nest l.walk.now.left 7
+
 abbrev pub decreases-read_items : goal.decreases-read_items
 decreases-read_items l = of_parts l.nest l.walk.now.left 12
 
