@@ -10,7 +10,7 @@ use Rattle.yaml_read.proofs.Words.{end_of_stream, GivesReading, Yields, with_end
 use Rattle.yaml_read.proofs.Words.{Handing, as_is, handed, early, is_content, row_of, row_data, Spot, after}
 use Rattle.yaml_read.proofs.Words.{is_sequence_end, is_mapping_end, item_at, entry_at, row_at, sequence_parts}
 use Rattle.yaml_read.proofs.Words.{mapping_parts, handed_at, shape_step, Walk, Question, by_step, by_shape, by_event}
-use Rattle.yaml_read.proofs.Words.{source_of, reader_of, spot_of, seen}
+use Rattle.yaml_read.proofs.Words.{source_of, reader_of, spot_of, seen, Reading}
 use Rattle.yaml_shape.specs.declared.data.Entry.{the_lemmas}
 use Rattle.yaml_read.specs.declared.de.node.source.Source.{Source as CodeSource}
 use Rattle.yaml_load.specs.declared.doc_event.DocEvent.TheVariants as event
@@ -26,6 +26,12 @@ pub gives_ending_at : {X : Type 0} (view : X → PlainData) (p q : Spot) (result
     → GivesReading {X = X} {Y = PlainData × Spot} (λ x. (view x, p)) result (ending q r)
 gives_ending_at view p q (Ok x) r e g = rw (g, e)
 gives_ending_at view p q (Err y) r e g = λ m. ap (with_end q) (g m)
+
+pub gives_with_end : {X : Type 0} (view : X → PlainData) (p q : Spot) (result : Result X PlainRefusal)
+    (r : Result PlainData PlainRefusal) (given : Reading PlainData) → given ≡ with_end q r → p ≡ q
+    → GivesReading view result r → GivesReading {X = X} {Y = PlainData × Spot} (λ x. (view x, p)) result given
+gives_with_end view p q (Ok x) r given is e g = is ∙ rw (g, e)
+gives_with_end view p q (Err y) r given is e g = λ m. is ∙ ap (with_end q) (g m)
 
 pub not_sequence_end : (e : DocEvent) → (e ≡ event.SequenceEnd → ⊥) → is_sequence_end (doc_event_of e) ≡ false
 not_sequence_end (event.Alias j) h = refl

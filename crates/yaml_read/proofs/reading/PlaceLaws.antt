@@ -3,10 +3,11 @@ use Rattle.std.proofs.Common.{◌≡◌, ℕ, Bool, true, false, Result, Ok, Err
 use Rattle.std.proofs.Common.{suc, ◌<◌, ◌-◌, arith}
 use Rattle.yaml_read.proofs.Words.{Position, PlainShape, PlainDocEvent, PlainRefusal, out_of_memory, refused, ran_out}
 use Rattle.yaml_read.proofs.Words.{TakenBy, Way, placed, place, places, Answer, Spot, Reading, Source, place_at}
-use Rattle.yaml_read.proofs.Words.{node_at, node_step, PlainData, Walk, Question, by_node, by_step, source_of, spot_of}
-use Rattle.yaml_read.proofs.Words.{seen}
+use Rattle.yaml_read.proofs.Words.{node_at, node_step, PlainData, Walk, Question, by_node, by_shape, by_step, early}
+use Rattle.yaml_read.proofs.Words.{seen, source_of, spot_of, with_end}
 use Rattle.std.specs.Option.{is_some}
 use Rattle.yaml_read.specs.declared.de.node.source.Source.{Source as CodeSource}
+use Rattle.yaml_read.proofs.reading.Exits.{step_late}
 use Rattle.yaml_read.proofs.reading.Loops.{enough}
 use Rattle.yaml_read.proofs.reading.Steps.{IfData}
 use Rattle.yaml_read.proofs.reading.TreeWalks.{landed}
@@ -27,6 +28,12 @@ pub placed_memory : (here : Bool) (mark : Position) (way : Way) (y : PlainRefusa
     → ran_out (placed here mark way y) ≡ ran_out y
 placed_memory here mark way out_of_memory = refl
 placed_memory here mark way (refused fault) = refl
+
+-- a fault is placed alike before and behind the spot where its reading ends
+pub place_end : (mark : Position) (way : Way) (end : Spot) (r : Result PlainData PlainRefusal)
+    → place true mark way (with_end end r) ≡ with_end end (place true mark way r)
+place_end mark way end (Ok x) = refl
+place_end mark way end (Err y) = refl
 
 -- a node's reading is its step, with its fault placed
 pub node_unfolds : (source : Source) (way : Way) (s : PlainShape) (nest : ℕ) (taken : Option TakenBy) (at : Spot)
@@ -90,3 +97,20 @@ node_refused_here code q walk fuel e m f y some is here h told known =
     node_refused code q walk fuel f y some h
     (place_here q.way q.shape (is_some q.taken) (seen code.events.now walk.place) e m f is here
     ∙ ap Err (sym (told known))) known
+
+-- a reading whose call places no fault
+unplaced : (way : Way) (s : PlainShape) (taken : Bool) (o : Option (PlainDocEvent × Position)) (r : Reading PlainData)
+    → ((e : PlainDocEvent) → places s taken e ≡ false) → place_at way s taken o r ≡ r
+unplaced way s taken None r none = refl
+unplaced way s taken (Some e) (Ok x) none = refl
+unplaced way s taken (Some e) (Err out_of_memory) none = refl
+unplaced way s taken (Some e) (Err (refused fault)) none = rw (none e.0)
+
+-- is that of the shape, where no fault comes first
+pub node_unplaced : (code : CodeSource) (q : Question) (walk : Walk) (fuel : ℕ) → 0 < fuel → early q.shape ≡ None
+    → ((e : PlainDocEvent) → places q.shape (is_some q.taken) e ≡ false)
+    → by_node code fuel q walk ≡ by_shape code (fuel - 1) q walk
+node_unplaced code q walk fuel some late none =
+    node_unfolds (source_of code) q.way q.shape q.nest q.taken (spot_of walk) fuel some
+    ∙ unplaced q.way q.shape (is_some q.taken) (seen code.events.now walk.place) (by_step code (fuel - 1) q walk) none
+    ∙ step_late code (fuel - 1) q walk late

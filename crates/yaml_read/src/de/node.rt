@@ -118,6 +118,7 @@ impl<'s, 'de> Source<'s, 'de> {
     /// A node that is no collection of its shape's own: an alias, a scalar, void, or a collection that the shape does
     /// not read.
     #[cycle(read)]
+    #[inline(never)]
     pub(super) fn read_simple(
         &self,
         ask: &Ask<'_, '_, '_>,
@@ -171,6 +172,7 @@ impl<'s, 'de> Source<'s, 'de> {
 
     /// A node under a shape that reads scalars alone.
     #[cycle(read)]
+    #[inline(never)]
     pub(super) fn read_leaf(&self, ask: &Ask<'_, '_, '_>, walk: &mut Walk) -> Result<Data<'de>>
         requires leaf { is_leaf (question_of ask.now).shape ≡ true }
         requires named { Named self.now (question_of ask.now) }

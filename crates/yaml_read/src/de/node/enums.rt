@@ -85,6 +85,7 @@ impl<'s, 'de> Source<'s, 'de> {
 
     /// What a variant holds, in the node whose tag names it.
     #[cycle(read)]
+    #[inline(never)]
     pub(crate) fn read_content(
         &self,
         ask: &Ask<'_, '_, '_>,

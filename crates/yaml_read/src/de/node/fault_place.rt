@@ -21,6 +21,8 @@ use yaml_scalar::{Refusal, refuse, text_of};
 use yaml_shape::Shape;
 
 /// The fault at this place, if it has none yet, or want of memory.
+#[cold]
+#[inline(never)]
 pub(crate) fn at_place(alloc: Global, refusal: Refusal, mark: Mark, path: &Path<'_>) -> Refusal
     ensures { ran_out result ≡ false → result ≡ placed true mark (way_of path.now) refusal }
 {

@@ -30,6 +30,7 @@ pub(crate) fn find(fields: &[(String, ShapeId)], name: &str) -> Option<(usize, S
 }
 
 /// Room for the data of so many fields, of which none was read.
+#[inline(never)]
 pub(crate) fn no_slots<'de>(
     alloc: Global,
     fields: &[(String, ShapeId)],

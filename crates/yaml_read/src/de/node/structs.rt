@@ -205,6 +205,36 @@ impl<'s, 'de> Source<'s, 'de> {
                 return field_named(self.alloc, path, names, slots, name, event.1);
             }
         }
+        self.read_further_name(path, names, slots, event, nest, walk)
+    }
+
+    /// The same, where it is no scalar with a text.
+    #[cycle(read)]
+    #[inline(never)]
+    pub(crate) fn read_further_name(
+        &self,
+        path: &Path<'_>,
+        names: &FieldNames<'_, '_>,
+        slots: &[Option<Data<'de>>],
+        event: &(DocEvent<'de>, Mark),
+        nest: u8,
+        walk: &mut Walk,
+    ) -> Result<Option<(usize, ShapeId)>>
+        requires here { seen self.now.events.now walk.old.place ≡ Some (doc_event_of event.now.0, event.now.1) }
+        requires within { walk.old.place < length self.now.events.now }
+        requires forward { GoForward self.now.ends.now }
+        ensures gives { (fuel : ℕ) → nesting_depth * (walk.old.left + nest) + tag_depth < fuel
+            → GivesReading (λ x. (
+              (field_view x, value_way (way_of path.now) (seen self.now.events.now walk.old.place)),
+              spot_of walk.new,
+            )) result
+            (field_key_at (source_of self.now) (reader_of fuel self.now) (way_of path.now) names.now.strict
+            (fields_of names.now.fields.now) nest
+            (slots_of slots.now) (spot_of walk.old)) }
+        ensures found { IfOk result (λ key. IfSome key (IsAmong (fields_of names.now.fields.now))) }
+        ensures moves { OnOk result (MovesOn (length self.now.events.now) walk.old walk.new) }
+        ensures cost { Costs (length self.now.events.now) walk.old walk.new }
+    {
         let ask = Ask {
             path: &*path,
             shape: &Shape::Identifier,
@@ -250,6 +280,7 @@ impl<'s, 'de> Source<'s, 'de> {
     }
 
     /// The struct of the fields that were read.
+    #[inline(never)]
     pub(crate) fn finish_struct(
         &self,
         fields: &[(String, ShapeId)],
@@ -269,6 +300,7 @@ impl<'s, 'de> Source<'s, 'de> {
     }
 
     /// A struct of which no field is there.
+    #[inline(never)]
     pub(crate) fn bare_struct(&self, fields: &[(String, ShapeId)]) -> Result<Data<'de>>
         requires named { All (λ id. id < length self.now.schema.now) (numbers_of (fields_of fields.now)) }
         ensures { Yields data_of result

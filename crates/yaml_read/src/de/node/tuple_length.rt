@@ -59,6 +59,7 @@ fn expected(alloc: Global, owner: Owner<'_>, count: usize) -> Result<String>
 }
 
 /// The tuple of these elements, where it has exactly one for each shape.
+#[inline(never)]
 pub(crate) fn finish<'de>(
     alloc: Global,
     owner: Owner<'_>,

@@ -11,7 +11,7 @@ pub invariant_of-result : goal.invariant_of-result
 invariant_of-result c = λ m is name.
     elim c.if-fields-gt-FEW.branch [
       | then-fields-gt-FEW+in_ok-by_name w ↦
-          ap (λ m. field_view (get_by (λ k. bytes_eq name k.now) m)) (same_some (sym is ∙ w.by_name-is))
+          ap (λ m. field_view (get_by (λ k. bytes_eq name k.now) m.value)) (same_some (sym is ∙ w.by_name-is))
           ∙ w.in_ok-by_name.ensures name
       | else-fields-gt-FEW w ↦ let none : None ≡ Some m = sym w.by_name-is ∙ is in absurd cc
     ]

@@ -85,17 +85,17 @@ read_part-returns-in-Ok-clause-gives = Parts.read_part-returns-in-Ok-clause-give
 pub read_part-returns-in-Err-clause-gives : goal.read_part-returns-in-Err-clause-gives
 read_part-returns-in-Err-clause-gives = Parts.read_part-returns-in-Err-clause-gives
 
+pub read_part-returns-in-Option-clause-gives : goal.read_part-returns-in-Option-clause-gives
+read_part-returns-in-Option-clause-gives = Parts.read_part-returns-in-Option-clause-gives
+
+pub read_further-returns-in-Some-clause-gives : goal.read_further-returns-in-Some-clause-gives
+read_further-returns-in-Some-clause-gives = Parts.read_further-returns-in-Some-clause-gives
+
 pub read_further-returns-in-Ok-clause-gives : goal.read_further-returns-in-Ok-clause-gives
 read_further-returns-in-Ok-clause-gives = Parts.read_further-returns-in-Ok-clause-gives
 
 pub read_further-returns-in-Err-clause-gives : goal.read_further-returns-in-Err-clause-gives
 read_further-returns-in-Err-clause-gives = Parts.read_further-returns-in-Err-clause-gives
-
-pub read_further-returns-in-Ok-read_seq-clause-gives : goal.read_further-returns-in-Ok-read_seq-clause-gives
-read_further-returns-in-Ok-read_seq-clause-gives = Parts.read_further-returns-in-Ok-read_seq-clause-gives
-
-pub read_further-returns-in-Err-read_seq-clause-gives : goal.read_further-returns-in-Err-read_seq-clause-gives
-read_further-returns-in-Err-read_seq-clause-gives = Parts.read_further-returns-in-Err-read_seq-clause-gives
 
 pub read_further-returns-in-Ok-read_map-clause-gives : goal.read_further-returns-in-Ok-read_map-clause-gives
 read_further-returns-in-Ok-read_map-clause-gives = Parts.read_further-returns-in-Ok-read_map-clause-gives
@@ -103,17 +103,20 @@ read_further-returns-in-Ok-read_map-clause-gives = Parts.read_further-returns-in
 pub read_further-returns-in-Err-read_map-clause-gives : goal.read_further-returns-in-Err-read_map-clause-gives
 read_further-returns-in-Err-read_map-clause-gives = Parts.read_further-returns-in-Err-read_map-clause-gives
 
-pub read_value-returns-in-Ok-clause-gives : goal.read_value-returns-in-Ok-clause-gives
-read_value-returns-in-Ok-clause-gives = Parts.read_value-returns-in-Ok-clause-gives
+pub read_value-returns-in-Some-clause-gives : goal.read_value-returns-in-Some-clause-gives
+read_value-returns-in-Some-clause-gives = Parts.read_value-returns-in-Some-clause-gives
 
-pub read_value-returns-in-Err-clause-gives : goal.read_value-returns-in-Err-clause-gives
-read_value-returns-in-Err-clause-gives = Parts.read_value-returns-in-Err-clause-gives
+pub read_further_value-returns-in-Any-clause-gives : goal.read_further_value-returns-in-Any-clause-gives
+read_further_value-returns-in-Any-clause-gives = Parts.read_further_value-returns-in-Any-clause-gives
 
-pub read_value-returns-in-Some-event-clause-gives : goal.read_value-returns-in-Some-event-clause-gives
-read_value-returns-in-Some-event-clause-gives = Parts.read_value-returns-in-Some-event-clause-gives
+pub read_further_value-returns-in-Option-clause-gives : goal.read_further_value-returns-in-Option-clause-gives
+read_further_value-returns-in-Option-clause-gives = Parts.read_further_value-returns-in-Option-clause-gives
 
-pub read_value-returns-in-None-clause-gives : goal.read_value-returns-in-None-clause-gives
-read_value-returns-in-None-clause-gives = Parts.read_value-returns-in-None-clause-gives
+pub read_further_value-returns-in-Some-clause-gives : goal.read_further_value-returns-in-Some-clause-gives
+read_further_value-returns-in-Some-clause-gives = Parts.read_further_value-returns-in-Some-clause-gives
+
+pub read_further_value-returns-in-None-clause-gives : goal.read_further_value-returns-in-None-clause-gives
+read_further_value-returns-in-None-clause-gives = Parts.read_further_value-returns-in-None-clause-gives
 
 -- sequences
 pub read_seq-returns-in_default : goal.read_seq-returns-in_default
@@ -241,11 +244,11 @@ read_field-returns-in-Err-read_value-clause-gives = Fields.read_field-returns-in
 pub read_name-returns-in-Some-clause-gives : goal.read_name-returns-in-Some-clause-gives
 read_name-returns-in-Some-clause-gives = Fields.read_name-returns-in-Some-clause-gives
 
-pub read_name-returns-in-Err-clause-gives : goal.read_name-returns-in-Err-clause-gives
-read_name-returns-in-Err-clause-gives = Fields.read_name-returns-in-Err-clause-gives
+pub read_further_name-returns-in-Err-clause-gives : goal.read_further_name-returns-in-Err-clause-gives
+read_further_name-returns-in-Err-clause-gives = Fields.read_further_name-returns-in-Err-clause-gives
 
-pub read_name-returns-clause-gives : goal.read_name-returns-clause-gives
-read_name-returns-clause-gives = Fields.read_name-returns-clause-gives
+pub read_further_name-returns-clause-gives : goal.read_further_name-returns-clause-gives
+read_further_name-returns-clause-gives = Fields.read_further_name-returns-clause-gives
 
 -- any values
 pub read_any-read_any_tagged-requires : goal.read_any-read_any_tagged-requires

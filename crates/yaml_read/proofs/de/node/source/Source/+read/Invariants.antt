@@ -78,7 +78,10 @@ abbrev pub decreases-read_field : goal.decreases-read_field
 decreases-read_field l = of_parts l.nest l.walk.now.left 11
 
 abbrev pub decreases-read_name : goal.decreases-read_name
-decreases-read_name l = turns (l.walk.now.left + l.nest) tag_depth 0 6
+decreases-read_name l = turns (l.walk.now.left + l.nest) tag_depth 0 7
+
+abbrev pub decreases-read_further_name : goal.decreases-read_further_name
+decreases-read_further_name l = turns (l.walk.now.left + l.nest) tag_depth 0 6
 
 abbrev pub decreases-read_simple : goal.decreases-read_simple
 decreases-read_simple l = of_question l.self.now (question_of l.ask.now) l.walk.now.left 1
@@ -91,6 +94,9 @@ decreases-read_further l = of_question l.self.now (question_of l.ask.now) l.walk
 
 abbrev pub decreases-read_value : goal.decreases-read_value
 decreases-read_value l = of_node l.self.now.schema.now (shape_of l.shape.now) false l.nest l.walk.now.left 8
+
+abbrev pub decreases-read_further_value : goal.decreases-read_further_value
+decreases-read_further_value l = of_node l.self.now.schema.now (shape_of l.shape.now) false l.nest l.walk.now.left 7
 
 abbrev pub decreases-read_items : goal.decreases-read_items
 decreases-read_items l = of_parts l.nest l.walk.now.left 12

@@ -141,22 +141,22 @@ read_name-returns-in-Some-clause-gives t c = λ fuel lt.
     (same_spot (spot_of c.step.new.self) (after (spot_of c.args.walk.now)) c.step.ensures.place c.step.ensures.left)
     c.field_named.ensures.gives)
 
-pub read_name-returns-in-Err-clause-gives : goal.read_name-returns-in-Err-clause-gives
-read_name-returns-in-Err-clause-gives t c = λ fuel lt fault.
+pub read_further_name-returns-in-Err-clause-gives : goal.read_further_name-returns-in-Err-clause-gives
+read_further_name-returns-in-Err-clause-gives t c = λ fuel lt fault.
     key_fails (source_of c.args.self.now) (reader_of fuel c.args.self.now) (way_of c.args.path.now)
     c.args.names.now.strict
     (fields_of c.args.names.now.fields.now) c.args.nest (slots_of c.args.slots.now) (spot_of c.args.walk.now) _
     (c.in-Err.ensures.gives fuel (omega (arith, lt)) fault)
 
-pub read_name-returns-clause-gives : goal.read_name-returns-clause-gives
-read_name-returns-clause-gives t c = λ fuel lt.
+pub read_further_name-returns-clause-gives : goal.read_further_name-returns-clause-gives
+read_further_name-returns-clause-gives t c = λ fuel lt.
     rw (key_looked_up (source_of c.args.self.now) (reader_of fuel c.args.self.now)
     (way_of c.args.path.now) c.args.names.now.strict (fields_of c.args.names.now.fields.now) c.args.nest
     (slots_of c.args.slots.now)
     (spot_of c.args.walk.now) (data_of c.in-Ok.key) (spot_of c.read_node.new.walk) c.text_mark-at.result
     (c.in-Ok.ensures.gives fuel (omega (arith, lt))) (c.text_mark-at.ensures c.args.walk.now.place c.requires.here))
     (gives_key field_view (value_way (way_of c.args.path.now) (seen c.args.self.now.events.now c.args.walk.now.place))
-    (spot_of c.read_node.new.walk) (spot_of c.read_node.new.walk) c.field_named-2.result _ refl
-    (rw c.name_in.ensures at c.field_named-2.ensures.gives))
+    (spot_of c.read_node.new.walk) (spot_of c.read_node.new.walk) c.field_named.result _ refl
+    (rw c.name_in.ensures at c.field_named.ensures.gives))
 
 -- ---- enums and any values
