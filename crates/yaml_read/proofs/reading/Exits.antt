@@ -27,6 +27,7 @@ pub gives_ending_at : {X : Type 0} (view : X → PlainData) (p q : Spot) (result
 gives_ending_at view p q (Ok x) r e g = rw (g, e)
 gives_ending_at view p q (Err y) r e g = λ m. ap (with_end q) (g m)
 
+-- what a reading gives, it gives with the place where it ends
 pub gives_with_end : {X : Type 0} (view : X → PlainData) (p q : Spot) (result : Result X PlainRefusal)
     (r : Result PlainData PlainRefusal) (given : Reading PlainData) → given ≡ with_end q r → p ≡ q
     → GivesReading view result r → GivesReading {X = X} {Y = PlainData × Spot} (λ x. (view x, p)) result given
