@@ -6,7 +6,7 @@ pub mod readme;
 
 use serde::{Deserialize, Serialize};
 use std::alloc::Global;
-use yaml_serde::{Documents, Error};
+use yaml_serde::{DocumentStream, Documents, Error};
 
 /// How a service is reached.
 #[derive(Debug, Drop, Serialize, Deserialize)]
@@ -72,4 +72,17 @@ pub fn all_jobs(alloc: Global, text: &str) -> Result<u32, Error> {
         jobs = jobs.saturating_add(service.max_jobs);
     }
     Ok(jobs)
+}
+
+/// How many services the documents of a text are. One is there at a time, so that a text of many takes the memory of its
+/// largest.
+pub fn count_services(alloc: Global, text: &str) -> Result<u64, Error> {
+    let mut documents = DocumentStream::from_str(alloc, text)?;
+    for count in 0..u64::MAX {
+        match documents.read_next::<Service>() {
+            Some(service) => drop(service?),
+            None => return Ok(count),
+        }
+    }
+    Ok(u64::MAX)
 }

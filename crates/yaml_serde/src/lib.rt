@@ -13,11 +13,13 @@ mod place_text;
 mod reader;
 mod sink;
 mod steps;
+mod stream;
 mod typed;
 mod values;
 mod write;
 
 pub use documents::Documents;
+pub use stream::DocumentStream;
 pub use typed::{from_events, from_slice, from_str};
 pub use values::Values;
 pub use write::{to_events, to_string};

@@ -1,0 +1,7 @@
+//! Tests of `yaml_stream`, and of what `yaml_serde` reads by it, by their public calls.
+#![tactic(auto)]
+
+#[cfg(test)]
+mod documents;
+#[cfg(test)]
+mod values;

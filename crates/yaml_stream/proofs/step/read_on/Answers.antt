@@ -1,0 +1,37 @@
+-- A loader refuses no event of the text, and took all that were read.
+use Rattle.std.proofs.Common.{◌∙◌, ◌∷◌, ◌++◌, [], None, Some, ap, sym}
+use Rattle.yaml_base.specs.Answer.{is_memory}
+use Rattle.yaml_base.specs.PlainEvent.{event_of}
+use Rattle.yaml_documents.proofs.TextLaws.{not_false}
+use Rattle.yaml_stream.proofs.ReadLaws.{ends_not, ends_now, read_never_refused, reads_more}
+use Rattle.yaml_stream.proofs.step.read_on.Goals as goal
+
+pub returns-in-Err-clause-memory : goal.returns-in-Err-clause-memory
+returns-in-Err-clause-memory c =
+    let e = c.take_next-event.result in
+    not_false (is_memory c.in-Err.fault) (λ other.
+    read_never_refused c.events.events.given c.take_next-event.new.self.given c.events.builder (e.0, e.1)
+    c.events.invariant.1.agree
+    (c.take_next-event.ensures.given ∙ ap (λ (es : _). es ++ e ∷ []) c.has_next.ensures.given)
+    c.has_events.ensures.begins (c.in-Err.ensures.wrong other).1)
+
+pub returns-then-ends-clause-on : goal.returns-then-ends-clause-on
+returns-then-ends-clause-on c =
+    let e = c.take_next-event.result in
+    let on = c.events.invariant.1 in
+    reads_more c.args.events.now.given c.args.builder.now c.events.events.given c.take_next-event.new.self.given
+    c.events.builder c.push.new.self (e.0, e.1) (Some e.1) on
+    (c.take_next-event.ensures.given ∙ ap (λ (es : _). es ++ e ∷ []) c.has_next.ensures.given)
+    c.in_default.ensures.taken (ends_now on.more (event_of e.0) e.1 on.ends (sym c.is_end-ends.ensures ∙ c.if-ends.true))
+
+pub events-preserved : goal.events-preserved
+events-preserved c =
+    let e = c.take_next-event.result in
+    let on = c.events.invariant.1 in (
+      c.take_next-event.ensures.text ∙ c.has_next.ensures.text ∙ c.events.invariant.0,
+      reads_more c.args.events.now.given c.args.builder.now c.events.events.given c.take_next-event.new.self.given
+          c.events.builder c.push.new.self (e.0, e.1) None on
+          (c.take_next-event.ensures.given ∙ ap (λ (es : _). es ++ e ∷ []) c.has_next.ensures.given)
+          c.in_default.ensures.taken
+          (ends_not on.more (event_of e.0, e.1) on.ends (sym c.is_end-ends.ensures ∙ c.if-ends.false)),
+    )

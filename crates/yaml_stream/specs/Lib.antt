@@ -1,0 +1,5 @@
+-- What contracts of this crate, and of those above it, cite.
+pub mod FirstDocuments
+pub mod HandingOut
+pub mod PlainReader
+pub mod inner

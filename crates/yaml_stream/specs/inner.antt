@@ -1,0 +1,2 @@
+-- What private contracts cite: the reader between two documents.
+pub mod Stages
