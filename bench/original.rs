@@ -52,7 +52,7 @@ fn time(task: &str, kind: &str, text: &str) -> Option<u128> {
         ("read", "lists") => read::<Vec<Vec<i64>>>(text),
         ("read", "any") => read::<serde_yaml::Value>(text),
         ("read", "config") => read::<Config>(text),
-        ("read", "documents") => read_documents(text),
+        ("read", "documents" | "streamed") => read_documents(text),
         ("print", "integers") => print::<Vec<i64>>(text),
         ("print", "texts") => print::<Vec<String>>(text),
         ("print", "pairs") => print::<BTreeMap<String, i64>>(text),

@@ -48,7 +48,7 @@ typed_text() {
                 else if (kind == "pairs") printf "key%07d: %d\n", i, i
                 else if (kind == "lists") { if (i % 4 == 0) print "-"; print "  - " i }
                 else if (kind == "any") print "- name: " word(i) "\n  port: " i "\n  on: true"
-                else if (kind == "documents") print "---\n" i
+                else if (kind == "documents" || kind == "streamed") print "---\n" i
             }
         }'
 }

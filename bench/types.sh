@@ -8,7 +8,8 @@
 #     bash bench/types.sh [TASK[/KIND]]..
 #
 # TASK is `read` (from text), `print` (to text), `parse` (from text to events), `load` (from events) or `write` (to
-# events); KIND is what is read: integers, texts, lent, pairs, lists, any, config, documents. Without one all are run.
+# events); KIND is what is read: integers, texts, lent, pairs, lists, any, config, documents, which are all loaded first,
+# or streamed ones, loaded one at a time, as the original has both. Without one all are run.
 # The original shows its events to nobody: the last three tasks have a side of it only where PROGRAMS holds a program
 # `original_events` that takes the same arguments, `read` too, made of the crate with a list in place of its parser and
 # emitter.
@@ -157,7 +158,7 @@ row() {
 [ $# -gt 0 ] || set -- read print parse load write
 for wanted in "$@"; do
     case ${wanted%%/*} in
-        read) kinds="integers texts lent pairs lists any config documents" ;;
+        read) kinds="integers texts lent pairs lists any config documents streamed" ;;
         print) kinds="integers texts pairs any config" ;;
         parse) kinds="integers texts pairs lists any" ;;
         load) kinds="integers texts lent pairs lists any config" ;;
