@@ -12,6 +12,8 @@ mod parts;
 #[cfg(test)]
 mod plain;
 #[cfg(test)]
+mod sets;
+#[cfg(test)]
 mod spelled;
 #[cfg(test)]
 mod turned;

@@ -22,7 +22,13 @@ const ROWS: &[(&[(&str, i128)], &str)] = &[
     (&[], "{}"),
     (&[("a", 1)], "{&a: 1 }"),
     (&[("b", 2), ("a", 1), ("c", 3)], "{&a: 1 &b: 2 &c: 3 }"),
+    (&[("a", 1), ("b", 2), ("c", 3)], "{&a: 1 &b: 2 &c: 3 }"),
+    (&[("c", 3), ("b", 2), ("a", 1)], "{&a: 1 &b: 2 &c: 3 }"),
     (&[("a", 1), ("a", 2)], "{&a: 2 }"),
+    (
+        &[("a", 1), ("b", 2), ("b", 3), ("c", 4)],
+        "{&a: 1 &b: 3 &c: 4 }",
+    ),
     (&[("b", 1), ("a", 2), ("b", 3), ("a", 4)], "{&a: 4 &b: 3 }"),
 ];
 
@@ -31,6 +37,29 @@ fn keys_ascend_and_the_last_of_a_repeated_key_counts(rt: HostRuntime) -> Result<
     for &(rows, expected) in ROWS {
         let text = turned::<BTreeMap<String, i64>>(rt.alloc(), entries(rt.alloc(), rows)?)?;
         assert_eq!(rt; text.as_str(), expected);
+    }
+    Ok(())
+}
+
+// The numbers from 0 on, so many, each as the key of its negative.
+fn numbers<'a>(alloc: Global, count: i128) -> Result<Data<'a>, AllocError> {
+    let mut entries = Vec::new(alloc);
+    for n in 0..count {
+        entries.push(Entry {
+            key: Data::Signed(n),
+            value: Data::Signed(-n),
+        })?;
+    }
+    Ok(Data::Map(entries))
+}
+
+#[test]
+fn many_keys_that_rise_keep_their_values(rt: HostRuntime) -> Result<(), Fail> {
+    let alloc = rt.alloc();
+    let map = read::<BTreeMap<i64, i64>>(alloc, numbers(alloc, 1000)?)?;
+    assert_eq!(rt; map.len(), 1000);
+    for key in 0..1000 {
+        assert_eq!(rt; map.get(&key).copied(), Some(-key));
     }
     Ok(())
 }

@@ -5,7 +5,8 @@ pub mod EnumFound
 pub mod FoundLaws
 pub mod GatherLaws
 pub mod ItemsThen
-pub mod InsertLaws
+pub mod PairLaws
+pub mod RisingLaws
 pub mod LeafLaws
 pub mod NodeLaws
 pub mod StructFound

@@ -5,6 +5,7 @@ pub mod BuiltParts
 pub mod ChoiceLaws
 pub mod ChoiceReturns
 pub mod Choices
+pub mod Inserted
 pub mod Integers
 pub mod MapLaws
 pub mod NodeWrites
@@ -15,6 +16,7 @@ pub mod BuildFaultText
 pub mod RefusalParts
 pub mod ReturnLaws
 pub mod RowReturns
+pub mod Rising
 pub mod Rows
 pub mod SetLaws
 pub mod Sets

@@ -23,20 +23,20 @@ use Rattle.yaml_types.specs.WrittenParts.{map_written, PairsKeep, MapKeeps}
 
 module _ {K V : Type 0} (cmp : K → K → Ordering) where
   -- each key of the first list is below each of the second
-  abbrev AreBelow : List (K × V) → List (K × V) → Type 0
+  abbrev pub AreBelow : List (K × V) → List (K × V) → Type 0
   AreBelow before after = AllByRecursion (λ p. AllByRecursion (λ q. cmp p.0 q.0 ≡ Less) after) before
 
-  below_tail : (before after : List (K × V)) (x : K × V) → AreBelow before (x ∷ after) → AreBelow before after
+  pub below_tail : (before after : List (K × V)) (x : K × V) → AreBelow before (x ∷ after) → AreBelow before after
   below_tail [] after x h = tt
   below_tail (p ∷ before) after x h = (h.0.1, below_tail before after x h.1)
 
-  below_push : (before after : List (K × V)) (p : K × V) → AreBelow before after
+  pub below_push : (before after : List (K × V)) (p : K × V) → AreBelow before after
       → AllByRecursion (λ q. cmp p.0 q.0 ≡ Less) after → AreBelow (before ++ p ∷ []) after
   below_push [] after p h a = (a, tt)
   below_push (q ∷ before) after p h a = (h.0, below_push before after p h.1 a)
 
   -- a key above all others goes behind them
-  inserted_last : (before : List (K × V)) (k : K) (v : V) → AllByRecursion (λ p. cmp k p.0 ≡ Greater) before
+  pub inserted_last : (before : List (K × V)) (k : K) (v : V) → AllByRecursion (λ p. cmp k p.0 ≡ Greater) before
       → insert_entry cmp before k v ≡ before ++ (k, v) ∷ []
   inserted_last [] k v h = refl
   inserted_last (p ∷ before) k v h =
@@ -45,7 +45,7 @@ module _ {K V : Type 0} (cmp : K → K → Ordering) where
 
   module _ (total : IsTotalOrder cmp) where
     -- a key equal to another is above what that is above
-    above : (before after : List (K × V)) (x : K × V) (k : K) → cmp x.0 k ≡ Equal → AreBelow before (x ∷ after)
+    pub above : (before after : List (K × V)) (x : K × V) (k : K) → cmp x.0 k ≡ Equal → AreBelow before (x ∷ after)
         → AllByRecursion (λ p. cmp k p.0 ≡ Greater) before
     above [] after x k same h = tt
     above (p ∷ before) after x k same h = (
@@ -54,7 +54,7 @@ module _ {K V : Type 0} (cmp : K → K → Ordering) where
     )
 
     -- and below what that is below
-    below : (after : List (K × V)) (x : K × V) (k : K) → cmp x.0 k ≡ Equal
+    pub below : (after : List (K × V)) (x : K × V) (k : K) → cmp x.0 k ≡ Equal
         → AllByRecursion (λ q. cmp x.0 q ≡ Less) (keys_of after) → AllByRecursion (λ q. cmp k q.0 ≡ Less) after
     below [] x k same h = tt
     below (q ∷ after) x k same h = (sym (total.congr x.0 k q.0 same) ∙ h.0, below after x k same h.1)

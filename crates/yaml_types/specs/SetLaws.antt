@@ -19,20 +19,20 @@ use Rattle.yaml_types.specs.WrittenParts.{seq_written}
 
 module _ {T : Type 0} (cmp : T → T → Ordering) where
   -- each element of the first list is below each of the second
-  abbrev AreBelow : List T → List T → Type 0
+  abbrev pub AreBelow : List T → List T → Type 0
   AreBelow before after = AllByRecursion (λ p. AllByRecursion (λ q. cmp p q ≡ Less) after) before
 
-  below_tail : (before after : List T) (x : T) → AreBelow before (x ∷ after) → AreBelow before after
+  pub below_tail : (before after : List T) (x : T) → AreBelow before (x ∷ after) → AreBelow before after
   below_tail [] after x h = tt
   below_tail (p ∷ before) after x h = (h.0.1, below_tail before after x h.1)
 
-  below_push : (before after : List T) (p : T) → AreBelow before after → AllByRecursion (λ q. cmp p q ≡ Less) after
+  pub below_push : (before after : List T) (p : T) → AreBelow before after → AllByRecursion (λ q. cmp p q ≡ Less) after
       → AreBelow (before ++ p ∷ []) after
   below_push [] after p h a = (a, tt)
   below_push (q ∷ before) after p h a = (h.0, below_push before after p h.1 a)
 
   -- an element above all others goes behind them
-  inserted_last : (before : List T) (k : T) → AllByRecursion (λ p. cmp k p ≡ Greater) before
+  pub inserted_last : (before : List T) (k : T) → AllByRecursion (λ p. cmp k p ≡ Greater) before
       → insert_key cmp before k ≡ before ++ k ∷ []
   inserted_last [] k h = refl
   inserted_last (p ∷ before) k h =
@@ -41,7 +41,7 @@ module _ {T : Type 0} (cmp : T → T → Ordering) where
 
   module _ (total : IsTotalOrder cmp) where
     -- an element equal to another is above what that is above
-    above : (before after : List T) (x k : T) → cmp x k ≡ Equal → AreBelow before (x ∷ after)
+    pub above : (before after : List T) (x k : T) → cmp x k ≡ Equal → AreBelow before (x ∷ after)
         → AllByRecursion (λ p. cmp k p ≡ Greater) before
     above [] after x k same h = tt
     above (p ∷ before) after x k same h = (
@@ -50,7 +50,7 @@ module _ {T : Type 0} (cmp : T → T → Ordering) where
     )
 
     -- and below what that is below
-    below : (after : List T) (x k : T) → cmp x k ≡ Equal → AllByRecursion (λ q. cmp x q ≡ Less) after
+    pub below : (after : List T) (x k : T) → cmp x k ≡ Equal → AllByRecursion (λ q. cmp x q ≡ Less) after
         → AllByRecursion (λ q. cmp k q ≡ Less) after
     below [] x k same h = tt
     below (q ∷ after) x k same h = (sym (total.congr x k q same) ∙ h.0, below after x k same h.1)

@@ -10,6 +10,7 @@ mod impls;
 mod items;
 mod last;
 mod leaf;
+mod rising;
 mod row;
 mod strict;
 mod strict_variant;

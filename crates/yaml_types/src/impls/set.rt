@@ -1,6 +1,6 @@
 //! Sets in the order of their elements.
 
-ghost use Rattle.std.specs.Prelude.{map, All, IsTrue, IfOk, IfErr, OnOk};
+ghost use Rattle.std.specs.Prelude.{◌≡◌, [], map, All, IsTrue, IfOk, IfErr, OnOk};
 ghost use Rattle.yaml_base.specs.EmitTree.{emit_nodes_events};
 ghost use Rattle.yaml_shape.specs.DataView.{items_of, items_view};
 ghost use Rattle.yaml_shape.specs.HasShape.{all_have};
@@ -10,19 +10,45 @@ ghost use Rattle.yaml_types.specs.NodeWrites.{IsPut, IsFaultOf};
 ghost use Rattle.yaml_types.specs.WriteRefusal.{SomeUnwritten};
 ghost use Rattle.yaml_types.specs.Start.{seq_start};
 ghost use Rattle.yaml_types.specs.StartLaws.{closed_seq};
-ghost use Rattle.yaml_types.specs.Sets.{BuiltMembers, BuiltSet, SetKeeps};
+ghost use Rattle.yaml_types.specs.Sets.{BuiltMembers, BuiltSet, SetKeeps, inserted_all};
 ghost use Rattle.yaml_types.specs.BuildRefusal.{IsBuildRefusal};
 ghost use Rattle.yaml_types.specs.RefusalParts.{RefusedItems, RefusedSeq};
 
 use crate::fault::BuildFault;
+use crate::impls::list::build_items;
+use crate::rising::members_rise;
 use crate::traits::{Deserialize, RoundTrip, Serialize};
-use std::alloc::Global;
+use std::alloc::{AllocError, Global};
 use std::collections::BTreeSet;
 use yaml_base::Error;
 use yaml_shape::{Data, Schema, SchemaFault, ShapeId, seq_of};
 use yaml_write::{EventBuffer, element_shape};
 
-// The set of the items, put in one after another.
+// The set of the elements, put in one after another.
+fn insert_members<T: Ord + Drop>(alloc: Global, members: Vec<T>) -> Result<BTreeSet<T>, AllocError>
+    ensures { IfOk result (λ set. set.keys ≡ inserted_all T.cmp [] members.items) }
+{
+    let mut set = BTreeSet::new(alloc);
+    for member in members {
+        let _ = set.insert(member)?;
+    }
+    Ok(set)
+}
+
+// The same. Where elements rise, the last is put in first: one below all others is compared with one of each node on
+// its way down, and one above all others with each.
+fn set_of_members<T: Ord + Drop>(alloc: Global, members: Vec<T>) -> Result<BTreeSet<T>, AllocError>
+    ensures { IfOk result (λ set. set.keys ≡ inserted_all T.cmp [] members.items) }
+{
+    if !members_rise(&members) {
+        return insert_members(alloc, members);
+    }
+    let mut backwards = members;
+    backwards.reverse();
+    insert_members(alloc, backwards)
+}
+
+// The set of the items, as if they were put in one after another.
 fn build_members<'de, T: Deserialize<'de> + Ord + Drop>(
     alloc: Global,
     items: Vec<Data<'de>>,
@@ -31,12 +57,8 @@ fn build_members<'de, T: Deserialize<'de> + Ord + Drop>(
     ensures ok { IfOk result (λ set. BuiltMembers T.cmp T.built (items_view items.entry.items) set.keys) }
     ensures refused { IfErr result (IsBuildRefusal (RefusedItems T.built T.refused (items_view items.entry.items))) }
 {
-    let mut set = BTreeSet::new(alloc);
-    for item in items {
-        let member = T::build(alloc, item)?;
-        let _ = set.insert(member)?;
-    }
-    Ok(set)
+    let members = build_items(alloc, items)?;
+    Ok(set_of_members(alloc, members)?)
 }
 
 // The members as nodes behind the events that are there, in order, each by the shape with this number.
