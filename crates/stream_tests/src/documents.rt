@@ -1,11 +1,7 @@
-//! The documents of a text that are read one by one are those that are loaded at once.
+//! The documents of a text that are handed out one by one are those that are loaded at once.
 
-use std::alloc::{AllocError, Global};
+use crate::told::{at_once, next, one_by_one, reader};
 use std::test::Fail;
-use yaml_base::{Error, Result as Answer};
-use yaml_documents::load;
-use yaml_read::{Document, Loader};
-use yaml_stream::DocumentReader;
 
 // Texts: without documents, with one and with several, and with a fault before, between, within and behind them.
 const TEXTS: &[&[u8]] = &[
@@ -39,73 +35,6 @@ const TEXTS: &[&[u8]] = &[
     b"\xef\xbb\xbf--- a\n--- b\n",
 ];
 
-// How many documents the texts have at most.
-const MOST: usize = 8;
-
-// The documents of a text at once, without what the library promises of them.
-fn loaded<'a>(alloc: Global, text: &'a [u8]) -> Answer<Loader<'a>> {
-    load(alloc, text)
-}
-
-// The same one by one, likewise.
-fn reader<'a>(alloc: Global, text: &'a [u8]) -> Answer<DocumentReader<'a>> {
-    DocumentReader::new(alloc, text)
-}
-
-// The next document, likewise.
-fn next<'a>(reader: &mut DocumentReader<'a>) -> Answer<Option<Document<'a>>> {
-    reader.next_document()
-}
-
-// Writes the events of a document, each with its mark, and the fault that cut it off, if one did.
-fn write_document(document: &Document<'_>, out: &mut String) -> Result<(), AllocError> {
-    for (event, mark) in document.events() {
-        write!(out, "{event:?} {mark}; ")?;
-    }
-    if let Some(fault) = document.error() {
-        write!(out, "{fault}")?;
-    }
-    Ok(())
-}
-
-// Writes the document that has this number, if there is one.
-fn write_numbered(
-    number: usize,
-    found: &Option<Document<'_>>,
-    out: &mut String,
-) -> Result<(), AllocError> {
-    let Some(document) = found else {
-        return Ok(());
-    };
-    write!(out, "{number}: ")?;
-    write_document(document, out)
-}
-
-// The documents that are loaded at once.
-fn at_once(alloc: Global, text: &[u8]) -> Result<String, Error> {
-    let mut documents = loaded(alloc, text)?;
-    let mut out = String::new(alloc);
-    for number in 0..MOST {
-        write_numbered(number, &documents.next_document(), &mut out)?;
-    }
-    Ok(out)
-}
-
-// Those that are read one by one, and how many they are.
-fn one_by_one(alloc: Global, text: &[u8]) -> Result<(String, usize), Error> {
-    let mut documents = reader(alloc, text)?;
-    let mut out = String::new(alloc);
-    let mut count = 0usize;
-    for number in 0..MOST {
-        let found = next(&mut documents)?;
-        if found.is_some() {
-            count = number + 1;
-        }
-        write_numbered(number, &found, &mut out)?;
-    }
-    Ok((out, count))
-}
-
 #[test]
 fn documents_come_one_by_one(rt: HostRuntime) -> Result<(), Fail> {
     let alloc = rt.alloc();
@@ -113,7 +42,7 @@ fn documents_come_one_by_one(rt: HostRuntime) -> Result<(), Fail> {
         let (told, count) = one_by_one(alloc, text)?;
         assert_eq!(rt; told.as_str(), at_once(alloc, text)?.as_str());
         assert!(rt; count >= 1);
-        assert!(rt; count < MOST);
+        assert!(rt; count <= text.len() + 1);
     }
     Ok(())
 }

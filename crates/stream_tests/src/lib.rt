@@ -2,6 +2,10 @@
 #![tactic(auto)]
 
 #[cfg(test)]
+mod batches;
+#[cfg(test)]
 mod documents;
+#[cfg(test)]
+mod told;
 #[cfg(test)]
 mod values;

@@ -14,9 +14,9 @@ use std::marker::Model;
 use yaml_base::Result;
 use yaml_stream::DocumentReader;
 
-/// The documents of a YAML text, of which the first were read. Each is parsed and loaded when it is asked for, and let
-/// go before the next one is, so that a text of many documents takes no more memory than its largest. Contracts see the
-/// documents that were read.
+/// The documents of a YAML text, of which the first were read. They are parsed and loaded ahead, some at a time, as a
+/// `DocumentReader` does it, and let go before the next ones are loaded. So a text of many documents takes no more memory
+/// than some 40 kB, or than its largest document. Contracts see the documents that were read.
 #[derive(Drop)]
 pub struct DocumentStream<'de> {
     alloc: Global,

@@ -1,5 +1,7 @@
 -- Lemmas of this crate.
+pub mod BatchLaws
+pub mod EndLaws
 pub mod ReadLaws
+pub mod StageLaws
 pub mod StartLaws
 pub mod StateLaws
-pub mod StepLaws

@@ -1,5 +1,5 @@
 -- Events that a loader takes as they are read.
-use Rattle.std.proofs.Common.{◌≡◌, List, [], ◌∷◌, ◌++◌, refl, sym, ◌∙◌, ap, append-nil, append_assoc, false, true, None}
+use Rattle.std.proofs.Common.{◌≡◌, List, [], ◌∷◌, ◌++◌, refl, sym, ◌∙◌, ap, append_assoc, false, true, None}
 use Rattle.std.proofs.Common.{Option, Some, inl, inr, ◌||◌}
 use Rattle.std.proofs.lemmas.Bool.{cases_Bool}
 use Rattle.std.proofs.lemmas.List.{map-append}
@@ -8,7 +8,7 @@ use Rattle.yaml_load.proofs.Words.{Event, Input, IsBeginning, IsWrongNext, Plain
 use Rattle.yaml_load.proofs.Words.{document_end, document_start, event_of, events_in, is_document_end, is_ended}
 use Rattle.yaml_load.proofs.Words.{mapping_end, mapping_start, plain_events, plain_marked, run, scalar, sequence_end}
 use Rattle.yaml_load.proofs.Words.{sequence_start, stream_end, stream_start}
-use Rattle.yaml_stream.specs.inner.Stages.{Agree, EndsAt, ReadsOn}
+use Rattle.yaml_stream.specs.inner.Filling.{Agree, EndsAt, ReadsOn}
 use Rattle.yaml_stream.proofs.StartLaws.{unended_tail}
 use Rattle.yaml_stream.proofs.StateLaws.{begins_alike}
 
@@ -35,17 +35,6 @@ read_never_refused given given_now taken x agree is begins wrong =
     never_refused taken (event_of x.0)
     (begins_alike (events_in taken ++ event_of x.0 ∷ []) (plain_events given_now)
     (run_more given given_now taken x agree is) begins) wrong
-
--- nothing was read
-pub reads_nothing : (given : List (Event × Position)) (taken : Input) → Agree given taken
-    → ReadsOn given taken given taken None
-reads_nothing given taken agree = record {
-  more = [];
-  given_more = sym (append-nil (plain_marked given));
-  taken_more = sym (append-nil taken);
-  agree = agree;
-  ends = refl;
-}
 
 -- one event more was read
 pub reads_more : (given : List (Event × Position)) (taken : Input) (given_now given_next : List (Event × Position))

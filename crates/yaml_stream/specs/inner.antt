@@ -1,2 +1,4 @@
--- What private contracts cite: the reader between two documents.
+-- What private contracts cite: batches of events, the documents that are loaded, and the reader between two calls.
+pub mod Filling
+pub mod Pending
 pub mod Stages

@@ -1,7 +1,10 @@
-//! The documents of a YAML text one by one: each is parsed and loaded when it is asked for.
+//! The documents of a YAML text one by one: a batch of them is parsed and loaded when its first is asked for.
 #![tactic(auto)]
 
+mod ahead;
+mod batch;
+mod filling;
+mod pending;
 mod reader;
-mod step;
 
 pub use reader::DocumentReader;

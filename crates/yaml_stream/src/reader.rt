@@ -1,26 +1,31 @@
-//! The documents of a text, one after another, of which one at a time is there.
+//! The documents of a text, one after another.
 
 ghost use Rattle.std.specs.Prelude.{◌≡◌, ◌++◌, IfErr, IfOk, IsErr, None, Ok, option_to_list, true};
 ghost use Rattle.yaml_base.specs.Answer.{is_memory};
 ghost use Rattle.yaml_stream.specs.HandingOut.{Fails, HandsOut};
 ghost use Rattle.yaml_stream.specs.PlainReader.{fresh};
 
-use crate::step::{Stage, step};
+use crate::ahead::Ahead;
+use crate::batch::Stage;
+use crate::pending::Pending;
 use std::alloc::Global;
 use std::marker::Model;
-use std::mem;
-use yaml_base::{Cause, Error, Result};
+use yaml_base::Result;
 use yaml_history::History;
 use yaml_read::Document;
 use yaml_text::Events;
 
-/// The documents of a YAML text, of which the first were handed out. Each is parsed and loaded when it is asked for, so
-/// that no more memory is held than the document takes that is there, and what the parser keeps.
+/// The documents of a YAML text, of which the first were handed out. They are parsed and loaded ahead, some at a time: up
+/// to the end of the document by which they have at least 256 events. An event takes some 130 bytes, and 40 kB are taken
+/// for those that are loaded at a time, or more where one document needs more. So a text of many documents takes no more
+/// memory than that, or than its largest document, and what the parser keeps.
+///
+/// A document that is held keeps the events of all that were loaded with it.
 #[derive(Drop)]
 pub struct DocumentReader<'de> {
     alloc: Global,
     text: &'de [u8],
-    stage: Stage<'de>,
+    ahead: Ahead<'de>,
     handed: History<Document<'de>>,
 }
 
@@ -29,16 +34,17 @@ impl<'de> Model for DocumentReader<'de> {
 
     ghost Value = { PlainReader };
 
-    ghost use Rattle.yaml_stream.specs.inner.Stages.{IsAt, has_failed, is_over};
+    ghost use Rattle.yaml_stream.specs.inner.Pending.{is_over};
+    ghost use Rattle.yaml_stream.specs.inner.Stages.{IsAt, has_ended, has_failed};
 
     ghost view = { λ r. record {
       text = r.text.now;
       handed = r.handed.items;
-      over = is_over r.stage;
-      failed = has_failed r.stage;
+      over = is_over (has_ended r.ahead.stage) r.ahead.pending;
+      failed = has_failed r.ahead.stage;
     } };
 
-    ghost invariant = { λ r. IsAt r.text.now r.stage r.handed.items };
+    ghost invariant = { λ r. IsAt r.text.now r.ahead.stage r.ahead.pending r.handed.items };
 }
 
 // Writes down that a document is handed out, if there is one.
@@ -60,7 +66,10 @@ impl<'de> DocumentReader<'de> {
         Ok(DocumentReader {
             alloc,
             text,
-            stage: Stage::Reading(events, None),
+            ahead: Ahead {
+                pending: Pending::none(),
+                stage: Stage::Reading(events, None),
+            },
             handed: History::new(),
         })
     }
@@ -69,7 +78,8 @@ impl<'de> DocumentReader<'de> {
     /// that it stands in, which is the last. A text whose bytes are not all allowed, by the rules of UTF-8 or of YAML's
     /// characters, has one document, cut off before its first event.
     ///
-    /// The only error is want of memory. Behind it no document is handed out any more: each call answers want of memory.
+    /// Where no document is loaded ahead, the next ones are, at least 256 events of them if the text has so many. The only
+    /// error is want of memory. Behind it no document is handed out any more: each call answers want of memory.
     pub fn next_document(&mut self) -> Result<Option<Document<'de>>>
         ensures text { self.new.text ≡ self.old.text }
         ensures ok { IfOk result (λ found. HandsOut self.old found self.new) }
@@ -78,20 +88,8 @@ impl<'de> DocumentReader<'de> {
         ensures over { self.old.over ≡ true → (result ≡ Ok None) × (self.new ≡ self.old) }
         ensures failed { self.old.failed ≡ true → IsErr result }
     {
-        match mem::replace(&mut self.stage, Stage::Failed) {
-            Stage::Reading(events, last) => match step(self.alloc, events, last) {
-                Ok((found, stage)) => {
-                    hand_out(&mut self.handed, &found);
-                    self.stage = stage;
-                    Ok(found)
-                }
-                Err(fault) => Err(fault),
-            },
-            Stage::Over => {
-                self.stage = Stage::Over;
-                Ok(None)
-            }
-            Stage::Failed => Err(Error::new(Cause::Memory)),
-        }
+        let found = self.ahead.next_document(self.alloc)?;
+        hand_out(&mut self.handed, &found);
+        Ok(found)
     }
 }

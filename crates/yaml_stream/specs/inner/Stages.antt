@@ -1,73 +1,41 @@
--- Where a reader stands in a text, and which documents it has handed out there.
-use Rattle.std.specs.Prelude.{◌≡◌, ◌≢◌, ◌∷◌, ◌++◌, Bool, List, None, Option, Some, [], false, if◌then◌else◌}
-use Rattle.std.specs.Prelude.{map, true, ℕ}
-use Rattle.yaml_base.specs.MarkedEvents.{events_in, plain_events, plain_marked}
-use Rattle.yaml_base.specs.PlainEvent.{document_end, stream_start}
-use Rattle.yaml_base.specs.PlainFault.{PlainFault}
+-- Where a reader stands between two calls: what was handed out, what is loaded, and what comes behind it.
+use Rattle.std.specs.Prelude.{◌≡◌, ◌++◌, Bool, List, None, Option, [], false, true, ℕ}
+use Rattle.yaml_base.specs.MarkedEvents.{plain_marked}
 use Rattle.yaml_base.specs.Position.{Position}
-use Rattle.yaml_base.specs.StreamMachine.{before_stream, between_documents, run}
-use Rattle.yaml_base.specs.declared.event.Event.{Event}
 use Rattle.yaml_documents.specs.TextDocuments.{AreDocumentsOf}
-use Rattle.yaml_read.specs.Documents.{Input, after_starts, document_from, documents_of, is_ended}
 use Rattle.yaml_read.specs.PlainDocument.{PlainDocument}
-use Rattle.yaml_stream.specs.declared.step.Stage.{Stage}
-use Rattle.yaml_stream.specs.declared.step.Stage.TheVariants.{Failed, Over, Reading}
+use Rattle.yaml_stream.specs.declared.batch.Stage.{Stage}
+use Rattle.yaml_stream.specs.declared.batch.Stage.TheVariants.{Ended, Failed, Reading}
+use Rattle.yaml_stream.specs.inner.Filling.{IsBetween, begun_in}
+use Rattle.yaml_stream.specs.inner.Pending.{ComeNext}
+use Rattle.yaml_text.specs.PlainReading.{PlainReading}
 
--- all documents were handed out
-abbrev pub is_over : Stage → Bool
-is_over Over = true
-is_over _ = false
+-- the text was read to its end
+abbrev pub has_ended : Stage → Bool
+has_ended Ended = true
+has_ended _ = false
 
 -- memory was wanting
 abbrev pub has_failed : Stage → Bool
 has_failed Failed = true
 has_failed _ = false
 
--- the events end behind a document, and are cut into the documents that were handed out
-pub record AreCut (given : List (Event × Position)) (handed : List PlainDocument) : Type 0 where
-  pub between : run (Some before_stream) (plain_events given) ≡ Some between_documents
-  pub documents : handed ≡ map (document_from None) (after_starts false (plain_marked given))
-  pub some : handed ≢ []
+-- the events of the text that were given end behind the documents, and these begin in them
+pub record AreLoaded (text : List ℕ) (events : PlainReading) (last : Option Position) (documents : List PlainDocument)
+    : Type 0 where
+  pub of_text : events.text ≡ text
+  pub between : IsBetween last events.given
+  pub begun : documents ≡ begun_in None (plain_marked events.given)
 
--- no event was read, or the events up to the end of a document, whose mark it is
-abbrev pub AreBehind : Option Position → List (Event × Position) → List PlainDocument → Type 0
-AreBehind None given handed = (given ≡ []) × (handed ≡ [])
-AreBehind (Some mark) given handed = AreCut given handed
+-- the documents of the text that were loaded where the reader stands
+abbrev pub IsBehind : List ℕ → Stage → List PlainDocument → Type 0
+IsBehind text (Reading events last) documents = AreLoaded text events last documents
+IsBehind text Ended documents = AreDocumentsOf text documents
+IsBehind text Failed documents = Unit {0}
 
--- the documents of the text that were handed out where the reader stands
-abbrev pub IsAt : List ℕ → Stage → List PlainDocument → Type 0
-IsAt text (Reading events last) handed = (events.text ≡ text) × AreBehind last events.given handed
-IsAt text Over handed = AreDocumentsOf text handed
-IsAt text Failed handed = Unit {0}
-
--- the stream came to its end, and this behind a document
-abbrev pub is_at_end : Option PlainFault → Bool → Bool
-is_at_end (Some fault) behind = false
-is_at_end None behind = behind
-
--- what a loader takes in front of the events of the next document: behind a document, the start of a stream
-abbrev pub front : Option Position → Input
-front None = []
-front (Some mark) = (stream_start, mark) ∷ []
-
--- no document ends in the events, or one does with their last, which has this mark
-abbrev pub EndsAt : Option Position → Input → Type 0
-EndsAt None more = is_ended more ≡ false
-EndsAt (Some mark) more = (inner : Input) × (is_ended inner ≡ false) × (more ≡ inner ++ (document_end, mark) ∷ [])
-
--- the events that were given and those that were taken lead to one state
-abbrev pub Agree : List (Event × Position) → Input → Type 0
-Agree given taken = run (Some before_stream) (events_in taken) ≡ run (Some before_stream) (plain_events given)
-
--- the same events were given and taken, up to the end of a document or of all
-pub record ReadsOn (given : List (Event × Position)) (taken : Input) (given_now : List (Event × Position))
-    (taken_now : Input) (end : Option Position) : Type 0 where
-  pub more : Input
-  pub given_more : plain_marked given_now ≡ plain_marked given ++ more
-  pub taken_more : taken_now ≡ taken ++ more
-  pub agree : Agree given_now taken_now
-  pub ends : EndsAt end more
-
--- the documents of the events behind the last document
-abbrev pub left_documents : Input → Option PlainFault → Bool → List PlainDocument
-left_documents taken fault behind = if is_at_end fault behind then [] else documents_of taken fault
+-- Those that were handed out and those that are pending are all that were loaded, and each pending one comes next to the
+-- first of the text. Where memory was wanting none is pending.
+pub record IsAt (text : List ℕ) (stage : Stage) (pending handed : List PlainDocument) : Type 0 where
+  pub behind : IsBehind text stage (handed ++ pending)
+  pub next : ComeNext text (has_ended stage) handed pending
+  pub none : has_failed stage ≡ true → pending ≡ []

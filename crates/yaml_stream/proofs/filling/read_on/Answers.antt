@@ -1,10 +1,11 @@
 -- A loader refuses no event of the text, and took all that were read.
-use Rattle.std.proofs.Common.{◌∙◌, ◌∷◌, ◌++◌, [], None, Some, ap, sym}
+use Rattle.std.proofs.Common.{arith, ◌∙◌, ◌∷◌, ◌++◌, [], List, None, Some, ap, subst, sym, ℕ}
 use Rattle.yaml_base.specs.Answer.{is_memory}
 use Rattle.yaml_base.specs.PlainEvent.{event_of}
 use Rattle.yaml_documents.proofs.TextLaws.{not_false}
+use Rattle.yaml_stream.specs.FirstDocuments.{AreEventsOf}
 use Rattle.yaml_stream.proofs.ReadLaws.{ends_not, ends_now, read_never_refused, reads_more}
-use Rattle.yaml_stream.proofs.step.read_on.Goals as goal
+use Rattle.yaml_stream.proofs.filling.read_on.Goals as goal
 
 pub returns-in-Err-clause-memory : goal.returns-in-Err-clause-memory
 returns-in-Err-clause-memory c =
@@ -14,6 +15,18 @@ returns-in-Err-clause-memory c =
     c.events.invariant.1.agree
     (c.take_next-event.ensures.given ∙ ap (λ (es : _). es ++ e ∷ []) c.has_next.ensures.given)
     c.has_events.ensures.begins (c.in-Err.ensures.wrong other).1)
+
+pub returns-then-ends-clause-of_text : goal.returns-then-ends-clause-of_text
+returns-then-ends-clause-of_text c =
+    let told = c.has_events.ensures in
+    subst (λ (t : List ℕ). AreEventsOf t c.take_next-event.new.self.given)
+    (c.take_next-event.ensures.text ∙ c.has_next.ensures.text ∙ c.events.invariant.0) record {
+      begins = told.begins;
+      sources = told.sources;
+      plain = told.plain;
+      marks = told.marks;
+      places = told.places;
+    }
 
 pub returns-then-ends-clause-on : goal.returns-then-ends-clause-on
 returns-then-ends-clause-on c =
@@ -34,4 +47,5 @@ events-preserved c =
           (c.take_next-event.ensures.given ∙ ap (λ (es : _). es ++ e ∷ []) c.has_next.ensures.given)
           c.in_default.ensures.taken
           (ends_not on.more (event_of e.0, e.1) on.ends (sym c.is_end-ends.ensures ∙ c.if-ends.false)),
+      omega (arith, c.saturating_sub-left.ensures, c.events.invariant.2),
     )

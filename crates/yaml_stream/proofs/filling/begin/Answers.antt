@@ -5,7 +5,7 @@ use Rattle.yaml_base.specs.Answer.{is_memory}
 use Rattle.yaml_documents.proofs.TextLaws.{not_false}
 use Rattle.yaml_load.proofs.Words.{Input, IsBeginning, between_documents, events_in, stream_start}
 use Rattle.yaml_stream.proofs.ReadLaws.{never_refused}
-use Rattle.yaml_stream.proofs.step.begin.Goals as goal
+use Rattle.yaml_stream.proofs.filling.begin.Goals as goal
 
 pub returns-in-Err-clause-memory : goal.returns-in-Err-clause-memory
 returns-in-Err-clause-memory c =

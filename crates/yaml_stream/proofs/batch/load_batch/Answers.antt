@@ -1,0 +1,42 @@
+-- A batch is full, or the text's last.
+use Rattle.std.proofs.Common.{◌∙◌, ap, is_some, subst}
+use Rattle.yaml_documents.proofs.TextLaws.{is_there}
+use Rattle.yaml_load.proofs.Words.{PlainFault, events_in, plain_events}
+use Rattle.yaml_scan.specs.AllowedText.{IsAllowed, IsOfReader}
+use Rattle.yaml_stream.specs.inner.Filling.{is_last, left_documents}
+use Rattle.yaml_stream.proofs.BatchLaws.{between_closed}
+use Rattle.yaml_stream.proofs.StageLaws.{full_at, last_at}
+use Rattle.yaml_stream.proofs.StateLaws.{well_formed_alike}
+use Rattle.yaml_stream.proofs.batch.load_batch.Goals as goal
+
+pub fill-requires-clause-closed : goal.fill-requires-clause-closed
+fill-requires-clause-closed c = between_closed c.args.last c.args.events.given c.requires.between
+
+pub left-requires : goal.left-requires
+left-requires c =
+    let read = rw c.in-Last.is at c.in_ok-filled.ensures.filled in
+    well_formed_alike (is_some c.in_ok-fault-in-Last.field-0.fault) (events_in c.fill.new.builder)
+    (plain_events c.fill.new.events.given) read.on.agree
+    (c.in_ok-fault-in-Last.ensures.taken (c.in_ok-filled.ensures.over (ap is_last c.in-Last.is)))
+
+pub returns-in_ok-documents-in-Full-clause-at : goal.returns-in_ok-documents-in-Full-clause-at
+returns-in_ok-documents-in-Full-clause-at c =
+    full_at c.args.last c.fill.new.events c.in-Full.mark c.requires.between c.in_ok-builder.ensures.front
+    (rw c.in-Full.is at c.in_ok-filled.ensures.filled) c.in_ok-filled.ensures.text
+    c.in_ok-documents-in-Full.ensures.documents
+
+pub returns-in_ok-documents-in-Last-clause-at : goal.returns-in_ok-documents-in-Last-clause-at
+returns-in_ok-documents-in-Last-clause-at c =
+    let fault = c.in_ok-fault-in-Last.field-0.fault in
+    let told = c.in_ok-fault-in-Last.ensures in
+    let text = c.in_ok-filled.ensures.text in
+    last_at c.args.last fault c.requires.between c.in_ok-builder.ensures.front
+    (rw c.in-Last.is at c.in_ok-filled.ensures.filled)
+    (told.taken (c.in_ok-filled.ensures.over (ap is_last c.in-Last.is)))
+    (λ against.
+    let refused = λ (allowed : IsAllowed c.fill.new.events.text). against (subst IsAllowed text allowed) in (
+      told.none refused,
+      is_there (λ (f : PlainFault). IsOfReader c.fill.new.events.text f.kind f.offset) fault (told.refused refused),
+    ))
+    (c.in_ok-documents-in-Last.ensures.left
+    ∙ ap (λ b. left_documents c.fill.new.builder fault b c.in-Last.some) c.is_some-before.ensures)
