@@ -1,8 +1,8 @@
 -- What a node's reading comes to under an enum, and under what its variants hold.
 use Rattle.std.proofs.Common.{◌≡◌, ℕ, ◌-◌, ◌<◌, Bool, true, false, List, [], Some, None, Option, Result, Ok, Err, refl}
-use Rattle.std.proofs.Common.{ap, ◌∙◌, length}
+use Rattle.std.proofs.Common.{sym, ap, ◌∙◌, length}
 use Rattle.std.specs.Option.{is_some}
-use Rattle.yaml_read.proofs.Words.{Position, items_of, entries_of, any_data, variant_data, PlainShape, any_shape}
+use Rattle.yaml_read.proofs.Words.{GivesReading, PlainData, by_step, place_at, ran_out, Position, items_of, entries_of, any_data, variant_data, PlainShape, any_shape}
 use Rattle.yaml_read.proofs.Words.{fields_shape, enum_shape, Owner, content_shape, PlainVariant, sequence, tagged}
 use Rattle.yaml_read.proofs.Words.{PlainDocEvent, alias_to, a_scalar, a_void, sequence_begins, sequence_ends}
 use Rattle.yaml_read.proofs.Words.{mapping_begins, mapping_ends, doc_event_of, DocEvent, DocStart, PlainRefusal, ending}
@@ -16,6 +16,7 @@ use Rattle.yaml_tree.specs.Tree as tree
 use Rattle.yaml_load.specs.declared.doc_event.DocEvent.TheVariants as event
 use Rattle.yaml_read.proofs.reading.Loops.{entered}
 use Rattle.yaml_read.proofs.reading.Exits.{step_event, step_handed}
+use Rattle.yaml_read.proofs.reading.PlaceLaws.{node_read, node_refused}
 use Rattle.yaml_read.proofs.reading.ValueExits.{variant_handed, enum_as_is, taken_as_is, any_as_is, any_tagged}
 
 -- what is made of an answer under a shape that was looked up
@@ -51,6 +52,32 @@ module _ (code : CodeSource) (fuel : ℕ) (q : Question) (walk : Walk) where
       → is_filled_scalar e ≡ true → by_shape code fuel q walk ≡ by_event code fuel q walk e m
   enum_taken name variants around e m o k is h =
       step_event code fuel q walk e m is (rw (o, k) (taken_as_is name variants e h))
+
+-- what a variant holds is read as its step reads it, and its fault is that of the step, once it is placed
+pub content_read : (code : CodeSource) (o : Option PlainShape) (q : Question) (around : TakenBy) (walk : Walk) (fuel : ℕ)
+    (x : PlainData × Spot) → 0 < fuel
+    → with_shape o (λ t. by_step code (fuel - 1) (taken_as q t around) walk) ≡ Ok x
+    → with_shape o (λ t. by_node code fuel (taken_as q t around) walk) ≡ Ok x
+content_read code None q around walk fuel x some h = absurd cc
+content_read code (Some t) q around walk fuel x some h = node_read code (taken_as q t around) walk fuel x some h
+
+pub content_refused : (code : CodeSource) (o : Option PlainShape) (q : Question) (around : TakenBy) (walk : Walk)
+    (fuel : ℕ) (e : PlainDocEvent) (m : Position) (f y : PlainRefusal) → 0 < fuel → Some (e, m) ≡ seen code.events.now walk.place
+    → (ran_out f ≡ false → with_shape o (λ t. by_step code (fuel - 1) (taken_as q t around) walk) ≡ Err f)
+    → with_shape o (λ t. place_at {A = Spot} q.way t true (Some (e, m)) (Err f)) ≡ Err y
+    → ran_out y ≡ false → with_shape o (λ t. by_node code fuel (taken_as q t around) walk) ≡ Err y
+content_refused code None q around walk fuel e m f y some is h told known = ap Err cc
+content_refused code (Some t) q around walk fuel e m f y some is h told known =
+    node_refused code (taken_as q t around) walk fuel f y some h
+    (ap (λ o. place_at {A = Spot} q.way t true o (Err f)) (sym is) ∙ told) known
+
+-- what is given by a step under the shape that was looked up
+pub content_steps : {X : Type 0} (view : X → PlainData) (p : Spot) (result : Result X PlainRefusal) (code : CodeSource)
+    (fuel : ℕ) (o : Option PlainShape) (q : Question) (around : TakenBy) (walk : Walk) (t : PlainShape) → o ≡ Some t
+    → GivesReading {X = X} {Y = PlainData × Spot} (λ x. (view x, p)) result (by_step code fuel (taken_as q t around) walk)
+    → GivesReading {X = X} {Y = PlainData × Spot} (λ x. (view x, p)) result
+    (with_shape o (λ t. by_step code fuel (taken_as q t around) walk))
+content_steps view p result code fuel o q around walk t is h = rw is h
 
 -- a node with a tag that is no collection of the variant's own
 module _ (source : Source) (read : Way → Reader) (way : Way) (nest : ℕ) (around : TakenBy) (at : Spot) where

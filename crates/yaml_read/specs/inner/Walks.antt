@@ -64,7 +64,7 @@ row_view ids row = record {
 abbrev pub owner_of : CodeOwner → Owner
 owner_of owner.Tuple = unnamed
 owner_of (owner.TupleStruct name) = of_struct name.now
-owner_of (owner.TupleVariant name variant) = of_variant name.now variant.now
+owner_of (owner.TupleVariant around) = of_variant around.now.name.now around.now.variant.now
 
 -- what was read of the fields of a struct
 abbrev pub slots_of : List (Option Data) → Slots

@@ -92,22 +92,12 @@ impl<'s, 'de> Source<'s, 'de> {
             Shape::Bytes => Err(refused_bytes(self.alloc)),
             Shape::Option(content) => self.read_option(ask, *content, walk),
             Shape::Newtype { name: _, inner } => self.read_newtype(ask, *inner, walk),
-            Shape::Seq(element) => {
-                let Some(event) = self.event(walk.place) else {
-                    return Err(ended(self.alloc));
-                };
-                self.read_seq(ask, *element, event, walk)
-            }
+            Shape::Seq(element) => self.read_seq(ask, *element, walk),
             Shape::Tuple(items) => self.read_tuple(ask, Owner::Tuple, items, walk),
             Shape::TupleStruct { name, items } => {
                 self.read_tuple(ask, Owner::TupleStruct(name), items, walk)
             }
-            Shape::Map(key, value) => {
-                let Some(event) = self.event(walk.place) else {
-                    return Err(ended(self.alloc));
-                };
-                self.read_map(ask, *key, *value, event, walk)
-            }
+            Shape::Map(key, value) => self.read_map(ask, *key, *value, walk),
             Shape::Struct { name: _, fields } => self.read_struct(ask, fields, false, walk),
             Shape::StrictStruct { name: _, fields } => self.read_struct(ask, fields, true, walk),
             Shape::IgnoredAny => self.read_ignored(walk),

@@ -14,10 +14,10 @@ ghost use Rattle.yaml_load.specs.Ends.{GoForward};
 ghost use Rattle.yaml_scalar.specs.ReadingGives.{GivesReading};
 ghost use Rattle.yaml_scalar.specs.Steps.{wrap};
 ghost use Rattle.yaml_read.specs.AnyData.{tree_in, trees_in, pairs_in};
-ghost use Rattle.yaml_read.specs.Handing.{parts_depth, nesting_depth};
+ghost use Rattle.yaml_read.specs.Handing.{nesting_depth};
 ghost use Rattle.yaml_read.specs.NodeTags.{around_value, untaken_name};
 ghost use Rattle.yaml_read.specs.Places.{way_of};
-ghost use Rattle.yaml_read.specs.inner.Questions.{question_of, taken_as, by_node, GivesShape};
+ghost use Rattle.yaml_read.specs.inner.Questions.{question_of, taken_as, by_node, GivesShape, GivesParts};
 ghost use Rattle.yaml_read.specs.inner.Reader.{item_at, sequence_parts, any_entry_at, mapping_parts};
 ghost use Rattle.yaml_read.specs.inner.Walks.{source_of, spot_of, reader_of, seen, MovesOn, Costs};
 
@@ -144,10 +144,8 @@ impl<'s, 'de> Source<'s, 'de> {
         requires shape { shape_of any.now ≡ any_shape }
         requires within { walk.old.place ≤ length self.now.events.now }
         requires forward { GoForward self.now.ends.now }
-        ensures gives { (fuel turns : ℕ) → parts_depth nest walk.old.left < fuel
-            → length self.now.events.now < turns + walk.old.place
-            → GivesReading (λ x. (data_of x, spot_of walk.new)) result
-            (wrap (λ vs. any_data (sequence (trees_in (items_of vs)))) (sequence_parts (source_of self.now)
+        ensures gives { GivesParts self.now nest data_of walk.old walk.new result (λ fuel turns.
+            wrap (λ vs. any_data (sequence (trees_in (items_of vs)))) (sequence_parts (source_of self.now)
             (item_at (reader_of fuel self.now) (way_of path.now) any_shape nest)
             turns [] (spot_of walk.old))) }
         ensures moves { OnOk result (MovesOn (length self.now.events.now) walk.old walk.new) }
@@ -172,10 +170,8 @@ impl<'s, 'de> Source<'s, 'de> {
         requires shape { shape_of any.now ≡ any_shape }
         requires within { walk.old.place ≤ length self.now.events.now }
         requires forward { GoForward self.now.ends.now }
-        ensures gives { (fuel turns : ℕ) → parts_depth nest walk.old.left < fuel
-            → length self.now.events.now < turns + walk.old.place
-            → GivesReading (λ x. (data_of x, spot_of walk.new)) result
-            (wrap (λ vs. any_data (tree.mapping (pairs_in (entries_of vs)))) (mapping_parts (source_of self.now)
+        ensures gives { GivesParts self.now nest data_of walk.old walk.new result (λ fuel turns.
+            wrap (λ vs. any_data (tree.mapping (pairs_in (entries_of vs)))) (mapping_parts (source_of self.now)
             (any_entry_at (source_of self.now) (reader_of fuel self.now) (way_of path.now) nest)
             turns [] (spot_of walk.old))) }
         ensures moves { OnOk result (MovesOn (length self.now.events.now) walk.old walk.new) }
@@ -199,10 +195,8 @@ impl<'s, 'de> Source<'s, 'de> {
         requires shape { shape_of any.now ≡ any_shape }
         requires within { walk.old.place ≤ length self.now.events.now }
         requires forward { GoForward self.now.ends.now }
-        ensures gives { (fuel turns : ℕ) → parts_depth nest walk.old.left < fuel
-            → length self.now.events.now < turns + walk.old.place
-            → GivesReading (λ x. (pairs_of x, spot_of walk.new)) result
-            (wrap (λ vs. pairs_in (entries_of vs)) (mapping_parts (source_of self.now)
+        ensures gives { GivesParts self.now nest pairs_of walk.old walk.new result (λ fuel turns.
+            wrap (λ vs. pairs_in (entries_of vs)) (mapping_parts (source_of self.now)
             (any_entry_at (source_of self.now) (reader_of fuel self.now) (way_of path.now) nest)
             turns [] (spot_of walk.old))) }
         ensures moves { OnOk result (MovesOn (length self.now.events.now) walk.old walk.new) }

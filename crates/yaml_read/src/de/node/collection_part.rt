@@ -1,6 +1,6 @@
 //! The parts of collections.
 
-ghost use Rattle.std.specs.Prelude.{◌≡◌, ℕ, ◌<◌, length, None, OnOk, Some, false, true};
+ghost use Rattle.std.specs.Prelude.{◌≡◌, ◌<◌, length, None, OnOk, Some, false, true};
 ghost use Rattle.yaml_shape.specs.DataView.{data_of};
 ghost use Rattle.yaml_shape.specs.ShapeView.{shape_of};
 ghost use Rattle.yaml_shape.specs.Validity.{NamesWithin};
@@ -8,11 +8,10 @@ ghost use Rattle.yaml_load.specs.DocEventView.{doc_event_of, doc_scalar_of};
 ghost use Rattle.yaml_load.specs.Ends.{GoForward};
 ghost use Rattle.yaml_scalar.specs.ReadingGives.{GivesReading, lift};
 ghost use Rattle.yaml_scalar.specs.ScalarShapes.{scalar_answer};
-ghost use Rattle.yaml_read.specs.Handing.{depth};
 ghost use Rattle.yaml_read.specs.Places.{place, value_under, way_of};
-ghost use Rattle.yaml_read.specs.inner.Questions.{question_of, Named, GivesNode};
+ghost use Rattle.yaml_read.specs.inner.Questions.{asked_of_part, question_of, Named, GivesNode};
 ghost use Rattle.yaml_read.specs.inner.Reader.{is_leaf};
-ghost use Rattle.yaml_read.specs.inner.Walks.{spot_of, reader_of, seen, MovesOn, Costs};
+ghost use Rattle.yaml_read.specs.inner.Walks.{seen, MovesOn, Costs};
 
 use crate::de::node::ask::Ask;
 use crate::de::node::fault_place::{at_place, value_path};
@@ -42,9 +41,8 @@ impl<'s, 'de> Source<'s, 'de> {
         requires within { walk.old.place < length self.now.events.now }
         requires named { NamesWithin (length self.now.schema.now) (shape_of shape.now) }
         requires forward { GoForward self.now.ends.now }
-        ensures gives { (fuel : ℕ) → depth self.now.schema.now (shape_of shape.now) false nest walk.old.left < fuel
-            → GivesReading (λ x. (data_of x, spot_of walk.new)) result
-            (reader_of fuel self.now (way_of path.now) (shape_of shape.now) nest None (spot_of walk.old)) }
+        ensures gives { GivesNode self.now (asked_of_part (way_of path.now) (shape_of shape.now) nest)
+            walk.old walk.new result }
         ensures moves { OnOk result (MovesOn (length self.now.events.now) walk.old walk.new) }
         ensures cost { Costs (length self.now.events.now) walk.old walk.new }
     {
@@ -66,7 +64,7 @@ impl<'s, 'de> Source<'s, 'de> {
         match shape {
             Shape::Any => self.read_node(&part, walk),
             Shape::Option(content) => self.read_option(&part, *content, walk),
-            _ => self.read_further(&part, leaf, event, walk),
+            _ => self.read_further(&part, leaf, walk),
         }
     }
 
@@ -77,40 +75,25 @@ impl<'s, 'de> Source<'s, 'de> {
         &self,
         ask: &Ask<'_, '_, '_>,
         leaf: bool,
-        event: &(DocEvent<'de>, Mark),
         walk: &mut Walk,
     ) -> Result<Data<'de>>
         requires leaf { leaf ≡ is_leaf (question_of ask.now).shape }
         requires untaken { (question_of ask.now).taken ≡ None }
-        requires here { seen self.now.events.now walk.old.place ≡ Some (doc_event_of event.now.0, event.now.1) }
-        requires within { walk.old.place < length self.now.events.now }
         requires named { Named self.now (question_of ask.now) }
         requires forward { GoForward self.now.ends.now }
         ensures gives { GivesNode self.now (question_of ask.now) walk.old walk.new result }
         ensures moves { OnOk result (MovesOn (length self.now.events.now) walk.old walk.new) }
         ensures cost { Costs (length self.now.events.now) walk.old walk.new }
     {
-        if leaf {
-            if let DocEvent::Alias(target) = &event.0 {
-                if walk.left > 0 {
-                    if let Some((scalar, there)) = self.scalar(*target) {
-                        walk.follow();
-                        return self.read_target(ask, scalar, there, &event.1);
-                    }
+        if leaf && walk.left > 0 {
+            if let Some((DocEvent::Alias(target), mark)) = self.event(walk.place) {
+                if let Some((scalar, there)) = self.scalar(*target) {
+                    walk.follow();
+                    return self.read_target(ask, scalar, there, mark);
                 }
             }
         }
-        match ask.shape {
-            Shape::Seq(element) => match self.read_seq(ask, *element, event, walk) {
-                Ok(data) => Ok(data),
-                Err(refusal) => Err(at_place(self.alloc, refusal, event.1, ask.path)),
-            },
-            Shape::Map(key, value) => match self.read_map(ask, *key, *value, event, walk) {
-                Ok(data) => Ok(data),
-                Err(refusal) => Err(at_place(self.alloc, refusal, event.1, ask.path)),
-            },
-            _ => self.read_node(ask, walk),
-        }
+        self.read_node(ask, walk)
     }
 
     // What the scalar is that an alias stands for. A fault is placed there, and else at the alias.
@@ -150,11 +133,8 @@ impl<'s, 'de> Source<'s, 'de> {
         requires leaf { leaf ≡ is_leaf (shape_of shape.now) }
         requires named { NamesWithin (length self.now.schema.now) (shape_of shape.now) }
         requires forward { GoForward self.now.ends.now }
-        ensures gives { (fuel : ℕ) → depth self.now.schema.now (shape_of shape.now) false nest walk.old.left < fuel
-            → GivesReading (λ x. (data_of x, spot_of walk.new)) result
-            (reader_of fuel self.now (value_under (way_of path.now) (doc_event_of key.now))
-            (shape_of shape.now) nest None
-            (spot_of walk.old)) }
+        ensures gives { GivesNode self.now (asked_of_part (value_under (way_of path.now) (doc_event_of key.now))
+            (shape_of shape.now) nest) walk.old walk.new result }
         ensures moves { OnOk result (MovesOn (length self.now.events.now) walk.old walk.new) }
         ensures cost { Costs (length self.now.events.now) walk.old walk.new }
     {
@@ -202,11 +182,8 @@ impl<'s, 'de> Source<'s, 'de> {
         requires leaf { leaf ≡ is_leaf (shape_of shape.now) }
         requires named { NamesWithin (length self.now.schema.now) (shape_of shape.now) }
         requires forward { GoForward self.now.ends.now }
-        ensures gives { (fuel : ℕ) → depth self.now.schema.now (shape_of shape.now) false nest walk.old.left < fuel
-            → GivesReading (λ x. (data_of x, spot_of walk.new)) result
-            (reader_of fuel self.now (value_under (way_of path.now) (doc_event_of key.now))
-            (shape_of shape.now) nest None
-            (spot_of walk.old)) }
+        ensures gives { GivesNode self.now (asked_of_part (value_under (way_of path.now) (doc_event_of key.now))
+            (shape_of shape.now) nest) walk.old walk.new result }
         ensures moves { OnOk result (MovesOn (length self.now.events.now) walk.old walk.new) }
         ensures cost { Costs (length self.now.events.now) walk.old walk.new }
     {
@@ -218,12 +195,8 @@ impl<'s, 'de> Source<'s, 'de> {
             taken: None,
         };
         match shape {
-            Shape::Any => self.read_node(&part, walk),
             Shape::Option(content) => self.read_option(&part, *content, walk),
-            _ => match self.event(walk.place) {
-                Some(event) => self.read_further(&part, leaf, event, walk),
-                None => self.read_node(&part, walk),
-            },
+            _ => self.read_further(&part, leaf, walk),
         }
     }
 }

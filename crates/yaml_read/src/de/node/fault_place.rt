@@ -1,11 +1,14 @@
 //! Giving faults their places.
 
-ghost use Rattle.std.specs.Prelude.{◌≡◌, true, false, Err};
+ghost use Rattle.std.specs.Prelude.{◌≡◌, ℕ, ◌<◌, length, All, List, Some, true, false, Err};
 ghost use Rattle.std.specs.Option.{is_some};
-ghost use Rattle.yaml_shape.specs.ShapeView.{shape_of};
+ghost use Rattle.yaml_shape.specs.PlainShape.{content_shape};
+ghost use Rattle.yaml_shape.specs.ShapeView.{content_of, shape_of};
+ghost use Rattle.yaml_shape.specs.Validity.{named_in};
 ghost use Rattle.yaml_load.specs.DocEventView.{doc_event_of};
 ghost use Rattle.yaml_scalar.specs.ReadFault.{ran_out};
 ghost use Rattle.yaml_scalar.specs.ReadingGives.{Refuses};
+ghost use Rattle.yaml_scalar.specs.Steps.{with_shape};
 ghost use Rattle.yaml_read.specs.Places.{way_of, placed, places, value_under};
 ghost use Rattle.yaml_read.specs.TreeReader.{Spot};
 ghost use Rattle.yaml_read.specs.inner.Reader.{place_at};
@@ -18,7 +21,7 @@ use std::alloc::Global;
 use yaml_base::{Mark, Path};
 use yaml_load::DocEvent;
 use yaml_scalar::{Refusal, refuse, text_of};
-use yaml_shape::Shape;
+use yaml_shape::{Shape, VariantShape};
 
 /// The fault at this place, if it has none yet, or want of memory.
 #[cold]
@@ -65,9 +68,35 @@ impl<'s, 'de> Source<'s, 'de> {
         }
         refusal
     }
+
+    /// The fault of what a variant holds in a node that begins with the event, with its place, if it has none yet; or
+    /// want of memory.
+    #[cold]
+    #[inline(never)]
+    pub(crate) fn content_fault(
+        &self,
+        ask: &Ask<'_, '_, '_>,
+        content: &VariantShape,
+        event: &(DocEvent<'_>, Mark),
+        refusal: Refusal,
+    ) -> Refusal
+        requires named { All (λ id. id < length self.now.schema.now) (named_in (content_of content.now)) }
+        ensures { (name variant : List ℕ) → Refuses result
+            (with_shape (content_shape self.now.schema.now name variant (content_of content.now))
+            (λ t. place_at {A = Spot} (way_of ask.now.path.now) t true
+            (Some (doc_event_of event.now.0, event.now.1)) (Err refusal))) }
+    {
+        if let VariantShape::Newtype(inner) = content {
+            if !places(self.shape(*inner), true, &event.0) {
+                return refusal;
+            }
+        }
+        at_place(self.alloc, refusal, event.1, ask.path)
+    }
 }
 
 /// The way to the value behind a key that begins with the event.
+#[inline(never)]
 pub(crate) fn value_path<'a>(path: &'a Path<'a>, event: &'a DocEvent<'_>) -> Path<'a>
     ensures { way_of result ≡ value_under (way_of path.now) (doc_event_of event.now) }
 {

@@ -1,41 +1,37 @@
 //! A mapping whose keys have one shape, and whose values have another.
 
-ghost use Rattle.std.specs.Prelude.{◌≡◌, ℕ, ◌+◌, ◌<◌, ◌≤◌, [], length, map, OnOk, Some};
+ghost use Rattle.std.specs.Prelude.{◌≡◌, ◌≤◌, [], length, map, OnOk};
 ghost use Rattle.yaml_shape.specs.DataView.{entry_of};
 ghost use Rattle.yaml_shape.specs.PlainShape.{map_shape};
 ghost use Rattle.yaml_shape.specs.ShapeView.{shape_of};
 ghost use Rattle.yaml_shape.specs.Validity.{NamesWithin};
-ghost use Rattle.yaml_load.specs.DocEventView.{doc_event_of};
 ghost use Rattle.yaml_load.specs.Ends.{GoForward};
-ghost use Rattle.yaml_scalar.specs.ReadingGives.{GivesReading};
-ghost use Rattle.yaml_read.specs.Handing.{reach, parts_depth};
+ghost use Rattle.yaml_read.specs.Handing.{reach};
 ghost use Rattle.yaml_read.specs.Places.{way_of};
-ghost use Rattle.yaml_read.specs.inner.Questions.{question_of, Named, GivesShape};
+ghost use Rattle.yaml_read.specs.inner.Questions.{question_of, Named, GivesShape, GivesParts};
 ghost use Rattle.yaml_read.specs.inner.Reader.{entry_at, mapping_parts};
-ghost use Rattle.yaml_read.specs.inner.Walks.{source_of, spot_of, reader_of, seen, MovesOn, Costs};
+ghost use Rattle.yaml_read.specs.inner.Walks.{source_of, spot_of, reader_of, MovesOn, Costs};
 
 use crate::de::node::ask::Ask;
 use crate::de::node::source::Source;
 use crate::de::node::too_deep;
 use crate::walk::Walk;
-use yaml_base::{Mark, Path};
+use yaml_base::Path;
 use yaml_load::DocEvent;
 use yaml_scalar::{Result, ended};
 use yaml_shape::{Data, Entry, Shape, ShapeId};
 
 impl<'s, 'de> Source<'s, 'de> {
-    /// A mapping whose keys have one shape, and whose values have another. It begins with the event.
+    /// A mapping whose keys have one shape, and whose values have another.
     #[cycle(read)]
+    #[inline(never)]
     pub(crate) fn read_map(
         &self,
         ask: &Ask<'_, '_, '_>,
         key: ShapeId,
         value: ShapeId,
-        event: &(DocEvent<'de>, Mark),
         walk: &mut Walk,
     ) -> Result<Data<'de>>
-        requires here { seen self.now.events.now walk.old.place ≡ Some (doc_event_of event.now.0, event.now.1) }
-        requires within { walk.old.place < length self.now.events.now }
         requires mapping { (question_of ask.now).shape ≡ map_shape key.0 value.0 }
         requires named { Named self.now (question_of ask.now) }
         requires forward { GoForward self.now.ends.now }
@@ -43,11 +39,14 @@ impl<'s, 'de> Source<'s, 'de> {
         ensures moves { OnOk result (MovesOn (length self.now.events.now) walk.old walk.new) }
         ensures cost { Costs (length self.now.events.now) walk.old walk.new }
     {
-        let DocEvent::MappingStart(_) = &event.0 else {
-            return self.read_simple(ask, &event.0, walk);
+        let Some((event, mark)) = self.event(walk.place) else {
+            return Err(ended(self.alloc));
+        };
+        let DocEvent::MappingStart(_) = event else {
+            return self.read_simple(ask, event, walk);
         };
         if ask.nest == 0 {
-            return Err(too_deep(self.alloc, event.1));
+            return Err(too_deep(self.alloc, *mark));
         }
         let key = self.shape(key);
         let value = self.shape(value);
@@ -76,10 +75,8 @@ impl<'s, 'de> Source<'s, 'de> {
         requires reach { reach self.now.schema.now (shape_of key.now) ≤ 4096 }
         requires reach_value { reach self.now.schema.now (shape_of value.now) ≤ 4096 }
         requires forward { GoForward self.now.ends.now }
-        ensures gives { (fuel turns : ℕ) → parts_depth nest walk.old.left < fuel
-            → length self.now.events.now < turns + walk.old.place
-            → GivesReading (λ x. (map entry_of x.items, spot_of walk.new)) result
-            (mapping_parts (source_of self.now)
+        ensures gives { GivesParts self.now nest (λ x. map entry_of x.items) walk.old walk.new result (λ fuel turns.
+            mapping_parts (source_of self.now)
             (entry_at (source_of self.now) (reader_of fuel self.now) (way_of path.now) (shape_of key.now)
             (shape_of value.now) nest)
             turns [] (spot_of walk.old)) }

@@ -1,23 +1,25 @@
 //! An optional, and a newtype: content on the same node.
 
-ghost use Rattle.std.specs.Prelude.{◌≡◌, ℕ, suc, ◌+◌, ◌*◌, ◌<◌, length, List, OnOk};
+ghost use Rattle.std.specs.Prelude.{◌≡◌, ℕ, suc, ◌+◌, ◌*◌, ◌<◌, length, List, OnOk, Ok};
 ghost use Rattle.std.specs.Option.{is_some};
 ghost use Rattle.yaml_shape.specs.DataView.{data_of};
 ghost use Rattle.yaml_shape.specs.PlainShape.{option_shape, newtype_shape};
 ghost use Rattle.yaml_load.specs.DocEventView.{doc_event_of};
 ghost use Rattle.yaml_load.specs.Ends.{GoForward};
-ghost use Rattle.yaml_scalar.specs.ReadingGives.{GivesReading};
+ghost use Rattle.yaml_scalar.specs.ReadingGives.{GivesReading, Yields};
 ghost use Rattle.yaml_read.specs.Handing.{is_content, untaken_reach, nesting_depth};
 ghost use Rattle.yaml_read.specs.Places.{way_of};
 ghost use Rattle.yaml_read.specs.inner.Questions.{question_of, Named, GivesShape};
 ghost use Rattle.yaml_read.specs.inner.Reader.{shape_step};
 ghost use Rattle.yaml_read.specs.inner.Walks.{around_of, source_of, spot_of, reader_of, seen, MovesOn, Costs};
+ghost use Rattle.yaml_shape.specs.PlainData.{some_data};
 
 use crate::de::node::ask::Ask;
 use crate::de::node::source::Source;
 use crate::de::node::too_deep;
 use crate::de::taken_tag::is_taken;
 use crate::walk::Walk;
+use std::alloc::Global;
 use yaml_base::Path;
 use yaml_load::DocEvent;
 use yaml_scalar::{Result, ended, is_present};
@@ -32,6 +34,14 @@ fn is_content(event: &DocEvent<'_>, taken: bool) -> bool
         DocEvent::SequenceStart(_) | DocEvent::MappingStart(_) => true,
         _ => false,
     }
+}
+
+// The content of an optional, as present.
+#[inline(never)]
+fn some<'de>(alloc: Global, content: Data<'de>) -> Result<Data<'de>>
+    ensures { Yields data_of result (Ok (some_data (data_of content.entry))) }
+{
+    Ok(Data::Some(Box::new(alloc, content)?))
 }
 
 impl<'s, 'de> Source<'s, 'de> {
@@ -63,10 +73,11 @@ impl<'s, 'de> Source<'s, 'de> {
             nest: ask.nest,
             taken: ask.taken,
         };
-        match self.read_node(&inner, walk) {
-            Ok(data) => Ok(Data::Some(Box::new(self.alloc, data)?)),
-            Err(refusal) => Err(refusal),
-        }
+        let data = match self.read_node(&inner, walk) {
+            Ok(data) => data,
+            Err(refusal) => return Err(refusal),
+        };
+        some(self.alloc, data)
     }
 
     /// A newtype: its content, one nesting deeper.

@@ -1,6 +1,6 @@
 //! A struct: a mapping from names of fields to their values.
 
-ghost use Rattle.std.specs.Prelude.{◌≡◌, ℕ, ◌+◌, ◌*◌, ◌<◌, ◌≤◌, length, All, OnOk, IfOk, IfSome, Some, Ok};
+ghost use Rattle.std.specs.Prelude.{◌≡◌, ℕ, ◌<◌, ◌≤◌, length, All, OnOk, IfOk, IfSome, Some, Ok};
 ghost use Rattle.std.specs.Option.{option_map};
 ghost use Rattle.yaml_shape.specs.DataView.{data_of};
 ghost use Rattle.yaml_shape.specs.ShapeView.{field_of, fields_of};
@@ -9,13 +9,13 @@ ghost use Rattle.yaml_load.specs.DocEventView.{doc_event_of};
 ghost use Rattle.yaml_load.specs.Ends.{GoForward};
 ghost use Rattle.yaml_scalar.specs.ReadingGives.{GivesReading, Yields};
 ghost use Rattle.yaml_read.specs.Fields.{name_in, no_slots, struct_of, field_data};
-ghost use Rattle.yaml_read.specs.Handing.{is_bare, nesting_depth, parts_depth, tag_depth};
+ghost use Rattle.yaml_read.specs.Handing.{is_bare, parts_depth};
 ghost use Rattle.yaml_read.specs.Places.{way_of};
 ghost use Rattle.yaml_read.specs.TreeReader.{mark_or_first};
-ghost use Rattle.yaml_read.specs.inner.Reader.{field_at, field_key_at, mapping_parts, value_way, text_at};
-ghost use Rattle.yaml_read.specs.inner.Questions.{question_of, Named, GivesShape};
+ghost use Rattle.yaml_read.specs.inner.Reader.{field_at, mapping_parts, text_at};
+ghost use Rattle.yaml_read.specs.inner.Questions.{question_of, Named, GivesShape, GivesKey, GivesParts};
 ghost use Rattle.yaml_read.specs.inner.Reader.{fields_in};
-ghost use Rattle.yaml_read.specs.inner.Walks.{source_of, spot_of, reader_of, seen, slots_of, field_view};
+ghost use Rattle.yaml_read.specs.inner.Walks.{source_of, spot_of, reader_of, seen, slots_of};
 ghost use Rattle.yaml_read.specs.inner.Walks.{IsAmong, MovesOn, Costs};
 
 use crate::de::node::ask::Ask;
@@ -53,6 +53,7 @@ fn name_in<'a>(key: &'a Data<'_>) -> &'a str
 impl<'s, 'de> Source<'s, 'de> {
     /// A struct, which refuses names of no field where it is strict.
     #[cycle(read)]
+    #[inline(never)]
     pub(crate) fn read_struct(
         &self,
         ask: &Ask<'_, '_, '_>,
@@ -87,10 +88,11 @@ impl<'s, 'de> Source<'s, 'de> {
             strict,
         };
         walk.step();
-        match self.read_fields(ask.path, &names, ask.nest - 1, walk) {
-            Ok(slots) => self.finish_struct(fields, slots),
-            Err(refusal) => Err(refusal),
-        }
+        let slots = match self.read_fields(ask.path, &names, ask.nest - 1, walk) {
+            Ok(slots) => slots,
+            Err(refusal) => return Err(refusal),
+        };
+        self.finish_struct(fields, slots)
     }
 
     /// The fields of a struct, to its end.
@@ -105,10 +107,8 @@ impl<'s, 'de> Source<'s, 'de> {
         requires within { walk.old.place ≤ length self.now.events.now }
         requires named { All (λ id. id < length self.now.schema.now) (numbers_of (fields_of names.now.fields.now)) }
         requires forward { GoForward self.now.ends.now }
-        ensures gives { (fuel turns : ℕ) → parts_depth nest walk.old.left < fuel
-            → length self.now.events.now < turns + walk.old.place
-            → GivesReading (λ x. (slots_of x.items, spot_of walk.new)) result
-            (mapping_parts (source_of self.now)
+        ensures gives { GivesParts self.now nest (λ x. slots_of x.items) walk.old walk.new result (λ fuel turns.
+            mapping_parts (source_of self.now)
             (field_at (source_of self.now) (reader_of fuel self.now) (way_of path.now) names.now.strict
             (fields_of names.now.fields.now) nest)
             turns (no_slots (fields_of names.now.fields.now)) (spot_of walk.old)) }
@@ -187,14 +187,8 @@ impl<'s, 'de> Source<'s, 'de> {
         requires here { seen self.now.events.now walk.old.place ≡ Some (doc_event_of event.now.0, event.now.1) }
         requires within { walk.old.place < length self.now.events.now }
         requires forward { GoForward self.now.ends.now }
-        ensures gives { (fuel : ℕ) → nesting_depth * (walk.old.left + nest) + tag_depth < fuel
-            → GivesReading (λ x. (
-              (field_view x, value_way (way_of path.now) (seen self.now.events.now walk.old.place)),
-              spot_of walk.new,
-            )) result
-            (field_key_at (source_of self.now) (reader_of fuel self.now) (way_of path.now) names.now.strict
-            (fields_of names.now.fields.now) nest
-            (slots_of slots.now) (spot_of walk.old)) }
+        ensures gives { GivesKey self.now (way_of path.now) names.now.strict (fields_of names.now.fields.now)
+            (slots_of slots.now) nest walk.old walk.new result }
         ensures found { IfOk result (λ key. IfSome key (IsAmong (fields_of names.now.fields.now))) }
         ensures moves { OnOk result (MovesOn (length self.now.events.now) walk.old walk.new) }
         ensures cost { Costs (length self.now.events.now) walk.old walk.new }
@@ -221,16 +215,9 @@ impl<'s, 'de> Source<'s, 'de> {
         walk: &mut Walk,
     ) -> Result<Option<(usize, ShapeId)>>
         requires here { seen self.now.events.now walk.old.place ≡ Some (doc_event_of event.now.0, event.now.1) }
-        requires within { walk.old.place < length self.now.events.now }
         requires forward { GoForward self.now.ends.now }
-        ensures gives { (fuel : ℕ) → nesting_depth * (walk.old.left + nest) + tag_depth < fuel
-            → GivesReading (λ x. (
-              (field_view x, value_way (way_of path.now) (seen self.now.events.now walk.old.place)),
-              spot_of walk.new,
-            )) result
-            (field_key_at (source_of self.now) (reader_of fuel self.now) (way_of path.now) names.now.strict
-            (fields_of names.now.fields.now) nest
-            (slots_of slots.now) (spot_of walk.old)) }
+        ensures gives { GivesKey self.now (way_of path.now) names.now.strict (fields_of names.now.fields.now)
+            (slots_of slots.now) nest walk.old walk.new result }
         ensures found { IfOk result (λ key. IfSome key (IsAmong (fields_of names.now.fields.now))) }
         ensures moves { OnOk result (MovesOn (length self.now.events.now) walk.old walk.new) }
         ensures cost { Costs (length self.now.events.now) walk.old walk.new }

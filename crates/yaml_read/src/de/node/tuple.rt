@@ -1,14 +1,12 @@
 //! A tuple, or a tuple struct: as many elements as there are shapes.
 
-ghost use Rattle.std.specs.Prelude.{◌≡◌, ℕ, ◌+◌, ◌<◌, ◌≤◌, length, All, OnOk, IfOk};
+ghost use Rattle.std.specs.Prelude.{◌≡◌, ◌+◌, ◌<◌, ◌≤◌, length, All, OnOk, IfOk};
 ghost use Rattle.yaml_shape.specs.PlainShape.{row_shape};
 ghost use Rattle.yaml_shape.specs.ShapeView.{ids_of};
 ghost use Rattle.yaml_load.specs.Ends.{GoForward};
-ghost use Rattle.yaml_scalar.specs.ReadingGives.{GivesReading};
-ghost use Rattle.yaml_read.specs.Handing.{parts_depth};
 ghost use Rattle.yaml_read.specs.Places.{way_of};
 ghost use Rattle.yaml_read.specs.Rows.{row_of};
-ghost use Rattle.yaml_read.specs.inner.Questions.{question_of, Named, GivesShape};
+ghost use Rattle.yaml_read.specs.inner.Questions.{question_of, Named, GivesShape, GivesParts};
 ghost use Rattle.yaml_read.specs.inner.Reader.{row_at, sequence_parts};
 ghost use Rattle.yaml_read.specs.inner.Walks.{owner_of, source_of, spot_of, reader_of, row_view, MovesOn, Costs};
 
@@ -25,6 +23,7 @@ use yaml_shape::{Data, ShapeId};
 impl<'s, 'de> Source<'s, 'de> {
     /// The elements of a tuple, or of a tuple struct.
     #[cycle(read)]
+    #[inline(never)]
     pub(crate) fn read_tuple(
         &self,
         ask: &Ask<'_, '_, '_>,
@@ -49,10 +48,11 @@ impl<'s, 'de> Source<'s, 'de> {
             return Err(too_deep(self.alloc, *mark));
         }
         walk.step();
-        match self.read_elements(ask.path, items, ask.nest - 1, walk) {
-            Ok(elements) => finish(self.alloc, owner, items, elements),
-            Err(refusal) => Err(refusal),
-        }
+        let elements = match self.read_elements(ask.path, items, ask.nest - 1, walk) {
+            Ok(elements) => elements,
+            Err(refusal) => return Err(refusal),
+        };
+        finish(self.alloc, owner, items, elements)
     }
 
     /// The elements of a tuple, to its end.
@@ -67,10 +67,8 @@ impl<'s, 'de> Source<'s, 'de> {
         requires within { walk.old.place ≤ length self.now.events.now }
         requires named { All (λ id. id < length self.now.schema.now) (ids_of items.now) }
         requires forward { GoForward self.now.ends.now }
-        ensures gives { (fuel turns : ℕ) → parts_depth nest walk.old.left < fuel
-            → length self.now.events.now < turns + walk.old.place
-            → GivesReading (λ x. (row_view (ids_of items.now) x, spot_of walk.new)) result
-            (sequence_parts (source_of self.now) (row_at (source_of self.now) (reader_of fuel self.now)
+        ensures gives { GivesParts self.now nest (row_view (ids_of items.now)) walk.old walk.new result (λ fuel turns.
+            sequence_parts (source_of self.now) (row_at (source_of self.now) (reader_of fuel self.now)
             (way_of path.now) nest)
             turns (row_of (ids_of items.now)) (spot_of walk.old)) }
         ensures few { IfOk result (λ x. length x.read.items + x.extra ≤ length self.now.events.now) }

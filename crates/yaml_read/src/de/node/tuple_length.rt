@@ -9,6 +9,7 @@ ghost use Rattle.yaml_scalar.specs.ReadingGives.{Yields};
 ghost use Rattle.yaml_read.specs.Rows.{row_data};
 ghost use Rattle.yaml_read.specs.inner.Walks.{owner_of, row_view};
 
+use crate::de::taken_tag::TakenBy;
 use std::alloc::Global;
 use yaml_base::Words;
 use yaml_scalar::{Refusal, Result, wrong_length};
@@ -28,8 +29,8 @@ pub(crate) enum Owner<'a> {
     Tuple,
     /// Those of the tuple struct of this name.
     TupleStruct(&'a str),
-    /// Those of a variant: the names of its enum and of itself.
-    TupleVariant { name: &'a str, variant: &'a str },
+    /// Those of the variant that took the tag.
+    TupleVariant(&'a TakenBy<'a>),
 }
 
 /// The shape of an element.
@@ -49,8 +50,8 @@ fn expected(alloc: Global, owner: Owner<'_>, count: usize) -> Result<String>
             Ok(text) => Ok(text),
             Err(_) => Err(Refusal::memory()),
         },
-        Owner::TupleVariant { name, variant } => {
-            match tuple_variant_with(alloc, name, variant, count) {
+        Owner::TupleVariant(around) => {
+            match tuple_variant_with(alloc, around.name, around.variant, count) {
                 Ok(text) => Ok(text),
                 Err(_) => Err(Refusal::memory()),
             }

@@ -26,8 +26,8 @@ read_unplaced-returns-in-Option-clause-gives = Nodes.read_unplaced-returns-in-Op
 pub read_unplaced-returns-in-Newtype-clause-gives : goal.read_unplaced-returns-in-Newtype-clause-gives
 read_unplaced-returns-in-Newtype-clause-gives = Nodes.read_unplaced-returns-in-Newtype-clause-gives
 
-pub read_unplaced-returns-in-Some-clause-gives : goal.read_unplaced-returns-in-Some-clause-gives
-read_unplaced-returns-in-Some-clause-gives = Nodes.read_unplaced-returns-in-Some-clause-gives
+pub read_unplaced-returns-in-Seq-clause-gives : goal.read_unplaced-returns-in-Seq-clause-gives
+read_unplaced-returns-in-Seq-clause-gives = Nodes.read_unplaced-returns-in-Seq-clause-gives
 
 pub read_unplaced-returns-in-Tuple-clause-gives : goal.read_unplaced-returns-in-Tuple-clause-gives
 read_unplaced-returns-in-Tuple-clause-gives = Nodes.read_unplaced-returns-in-Tuple-clause-gives
@@ -35,8 +35,8 @@ read_unplaced-returns-in-Tuple-clause-gives = Nodes.read_unplaced-returns-in-Tup
 pub read_unplaced-returns-in-TupleStruct-clause-gives : goal.read_unplaced-returns-in-TupleStruct-clause-gives
 read_unplaced-returns-in-TupleStruct-clause-gives = Nodes.read_unplaced-returns-in-TupleStruct-clause-gives
 
-pub read_unplaced-returns-in-Some-event-clause-gives : goal.read_unplaced-returns-in-Some-event-clause-gives
-read_unplaced-returns-in-Some-event-clause-gives = Nodes.read_unplaced-returns-in-Some-event-clause-gives
+pub read_unplaced-returns-in-Map-clause-gives : goal.read_unplaced-returns-in-Map-clause-gives
+read_unplaced-returns-in-Map-clause-gives = Nodes.read_unplaced-returns-in-Map-clause-gives
 
 pub read_unplaced-returns-in-Struct-clause-gives : goal.read_unplaced-returns-in-Struct-clause-gives
 read_unplaced-returns-in-Struct-clause-gives = Nodes.read_unplaced-returns-in-Struct-clause-gives
@@ -66,8 +66,8 @@ read_simple-returns-in-Err-clause-gives = Nodes.read_simple-returns-in-Err-claus
 pub read_option-returns-then-not-is_content-clause-gives : goal.read_option-returns-then-not-is_content-clause-gives
 read_option-returns-then-not-is_content-clause-gives = Optionals.read_option-returns-then-not-is_content-clause-gives
 
-pub read_option-returns-in_ok-new-in-Ok-clause-gives : goal.read_option-returns-in_ok-new-in-Ok-clause-gives
-read_option-returns-in_ok-new-in-Ok-clause-gives = Optionals.read_option-returns-in_ok-new-in-Ok-clause-gives
+pub read_option-returns-clause-gives : goal.read_option-returns-clause-gives
+read_option-returns-clause-gives = Optionals.read_option-returns-clause-gives
 
 pub read_option-returns-in-Err-clause-gives : goal.read_option-returns-in-Err-clause-gives
 read_option-returns-in-Err-clause-gives = Optionals.read_option-returns-in-Err-clause-gives
@@ -91,36 +91,18 @@ read_part-returns-in-Option-clause-gives = Parts.read_part-returns-in-Option-cla
 pub read_further-returns-in-Some-clause-gives : goal.read_further-returns-in-Some-clause-gives
 read_further-returns-in-Some-clause-gives = Parts.read_further-returns-in-Some-clause-gives
 
-pub read_further-returns-in-Ok-clause-gives : goal.read_further-returns-in-Ok-clause-gives
-read_further-returns-in-Ok-clause-gives = Parts.read_further-returns-in-Ok-clause-gives
-
-pub read_further-returns-in-Err-clause-gives : goal.read_further-returns-in-Err-clause-gives
-read_further-returns-in-Err-clause-gives = Parts.read_further-returns-in-Err-clause-gives
-
-pub read_further-returns-in-Ok-read_map-clause-gives : goal.read_further-returns-in-Ok-read_map-clause-gives
-read_further-returns-in-Ok-read_map-clause-gives = Parts.read_further-returns-in-Ok-read_map-clause-gives
-
-pub read_further-returns-in-Err-read_map-clause-gives : goal.read_further-returns-in-Err-read_map-clause-gives
-read_further-returns-in-Err-read_map-clause-gives = Parts.read_further-returns-in-Err-read_map-clause-gives
-
 pub read_value-returns-in-Some-clause-gives : goal.read_value-returns-in-Some-clause-gives
 read_value-returns-in-Some-clause-gives = Parts.read_value-returns-in-Some-clause-gives
-
-pub read_further_value-returns-in-Any-clause-gives : goal.read_further_value-returns-in-Any-clause-gives
-read_further_value-returns-in-Any-clause-gives = Parts.read_further_value-returns-in-Any-clause-gives
 
 pub read_further_value-returns-in-Option-clause-gives : goal.read_further_value-returns-in-Option-clause-gives
 read_further_value-returns-in-Option-clause-gives = Parts.read_further_value-returns-in-Option-clause-gives
 
-pub read_further_value-returns-in-Some-clause-gives : goal.read_further_value-returns-in-Some-clause-gives
-read_further_value-returns-in-Some-clause-gives = Parts.read_further_value-returns-in-Some-clause-gives
-
-pub read_further_value-returns-in-None-clause-gives : goal.read_further_value-returns-in-None-clause-gives
-read_further_value-returns-in-None-clause-gives = Parts.read_further_value-returns-in-None-clause-gives
+pub read_further_value-returns-in_default-clause-gives : goal.read_further_value-returns-in_default-clause-gives
+read_further_value-returns-in_default-clause-gives = Parts.read_further_value-returns-in_default-clause-gives
 
 -- sequences
-pub read_seq-returns-in_default : goal.read_seq-returns-in_default
-read_seq-returns-in_default = Sequences.read_seq-returns-in_default
+pub read_seq-returns-in_default-event : goal.read_seq-returns-in_default-event
+read_seq-returns-in_default-event = Sequences.read_seq-returns-in_default-event
 
 pub read_seq-returns-in-Ok-clause-gives : goal.read_seq-returns-in-Ok-clause-gives
 read_seq-returns-in-Ok-clause-gives = Sequences.read_seq-returns-in-Ok-clause-gives
@@ -144,8 +126,8 @@ read_items-loop-event-preserved = Sequences.read_items-loop-event-preserved
 pub read_tuple-returns-in_default-event : goal.read_tuple-returns-in_default-event
 read_tuple-returns-in_default-event = Tuples.read_tuple-returns-in_default-event
 
-pub read_tuple-returns-in-Ok-clause-gives : goal.read_tuple-returns-in-Ok-clause-gives
-read_tuple-returns-in-Ok-clause-gives = Tuples.read_tuple-returns-in-Ok-clause-gives
+pub read_tuple-returns-clause-gives : goal.read_tuple-returns-clause-gives
+read_tuple-returns-clause-gives = Tuples.read_tuple-returns-clause-gives
 
 pub read_tuple-returns-in-Err-clause-gives : goal.read_tuple-returns-in-Err-clause-gives
 read_tuple-returns-in-Err-clause-gives = Tuples.read_tuple-returns-in-Err-clause-gives
@@ -173,8 +155,8 @@ pub read_elements-loop-event-preserved : goal.read_elements-loop-event-preserved
 read_elements-loop-event-preserved = Tuples.read_elements-loop-event-preserved
 
 -- mappings
-pub read_map-returns-in_default : goal.read_map-returns-in_default
-read_map-returns-in_default = Mappings.read_map-returns-in_default
+pub read_map-returns-in_default-event : goal.read_map-returns-in_default-event
+read_map-returns-in_default-event = Mappings.read_map-returns-in_default-event
 
 pub read_map-returns-in-Ok-clause-gives : goal.read_map-returns-in-Ok-clause-gives
 read_map-returns-in-Ok-clause-gives = Mappings.read_map-returns-in-Ok-clause-gives
@@ -201,11 +183,11 @@ read_entries-loop-event-preserved = Mappings.read_entries-loop-event-preserved
 pub read_struct-returns-in_default-event : goal.read_struct-returns-in_default-event
 read_struct-returns-in_default-event = Structs.read_struct-returns-in_default-event
 
-pub read_struct-returns-in-Ok-clause-gives : goal.read_struct-returns-in-Ok-clause-gives
-read_struct-returns-in-Ok-clause-gives = Structs.read_struct-returns-in-Ok-clause-gives
-
 pub read_struct-returns-clause-gives : goal.read_struct-returns-clause-gives
 read_struct-returns-clause-gives = Structs.read_struct-returns-clause-gives
+
+pub read_struct-returns-in-Err-clause-gives : goal.read_struct-returns-in-Err-clause-gives
+read_struct-returns-in-Err-clause-gives = Structs.read_struct-returns-in-Err-clause-gives
 
 pub read_fields-loop-event-init : goal.read_fields-loop-event-init
 read_fields-loop-event-init = Structs.read_fields-loop-event-init
@@ -319,11 +301,14 @@ read_enum-returns-in_default-untaken_name-clause-gives = Enums.read_enum-returns
 pub read_enum-read_content-requires : goal.read_enum-read_content-requires
 read_enum-read_content-requires = Enums.read_enum-read_content-requires
 
-pub read_enum-returns-in_ok-new-in-Ok-clause-gives : goal.read_enum-returns-in_ok-new-in-Ok-clause-gives
-read_enum-returns-in_ok-new-in-Ok-clause-gives = Enums.read_enum-returns-in_ok-new-in-Ok-clause-gives
+pub read_enum-returns-clause-gives : goal.read_enum-returns-clause-gives
+read_enum-returns-clause-gives = Enums.read_enum-returns-clause-gives
 
 pub read_enum-returns-in-Err-clause-gives : goal.read_enum-returns-in-Err-clause-gives
 read_enum-returns-in-Err-clause-gives = Enums.read_enum-returns-in-Err-clause-gives
+
+pub read_enum-content_fault-requires : goal.read_enum-content_fault-requires
+read_enum-content_fault-requires = Enums.read_enum-content_fault-requires
 
 pub read_content-returns-in-Unit-clause-gives : goal.read_content-returns-in-Unit-clause-gives
 read_content-returns-in-Unit-clause-gives = Enums.read_content-returns-in-Unit-clause-gives
@@ -331,35 +316,18 @@ read_content-returns-in-Unit-clause-gives = Enums.read_content-returns-in-Unit-c
 pub read_content-returns-in-Newtype-clause-gives : goal.read_content-returns-in-Newtype-clause-gives
 read_content-returns-in-Newtype-clause-gives = Enums.read_content-returns-in-Newtype-clause-gives
 
-pub read_content-returns-in-Ok-clause-gives : goal.read_content-returns-in-Ok-clause-gives
-read_content-returns-in-Ok-clause-gives = Enums.read_content-returns-in-Ok-clause-gives
+pub read_content-returns-in-Tuple-clause-gives : goal.read_content-returns-in-Tuple-clause-gives
+read_content-returns-in-Tuple-clause-gives = Enums.read_content-returns-in-Tuple-clause-gives
 
-pub read_content-returns-in-Err-clause-gives : goal.read_content-returns-in-Err-clause-gives
-read_content-returns-in-Err-clause-gives = Enums.read_content-returns-in-Err-clause-gives
+pub read_content-returns-in-Struct-clause-gives : goal.read_content-returns-in-Struct-clause-gives
+read_content-returns-in-Struct-clause-gives = Enums.read_content-returns-in-Struct-clause-gives
 
-pub read_content-returns-in-Ok-read_variant_fields-clause-gives
-    : goal.read_content-returns-in-Ok-read_variant_fields-clause-gives
-read_content-returns-in-Ok-read_variant_fields-clause-gives =
-    Enums.read_content-returns-in-Ok-read_variant_fields-clause-gives
-
-pub read_content-returns-in-Err-read_variant_fields-clause-gives
-    : goal.read_content-returns-in-Err-read_variant_fields-clause-gives
-read_content-returns-in-Err-read_variant_fields-clause-gives =
-    Enums.read_content-returns-in-Err-read_variant_fields-clause-gives
-
-pub read_content-returns-in-Ok-read_variant_fields-2-clause-gives
-    : goal.read_content-returns-in-Ok-read_variant_fields-2-clause-gives
-read_content-returns-in-Ok-read_variant_fields-2-clause-gives =
-    Enums.read_content-returns-in-Ok-read_variant_fields-2-clause-gives
-
-pub read_content-returns-in-Err-read_variant_fields-2-clause-gives
-    : goal.read_content-returns-in-Err-read_variant_fields-2-clause-gives
-read_content-returns-in-Err-read_variant_fields-2-clause-gives =
-    Enums.read_content-returns-in-Err-read_variant_fields-2-clause-gives
+pub read_content-returns-in-StrictStruct-clause-gives : goal.read_content-returns-in-StrictStruct-clause-gives
+read_content-returns-in-StrictStruct-clause-gives = Enums.read_content-returns-in-StrictStruct-clause-gives
 
 -- contents of variants
-pub read_variant_row-returns-in-Ok-clause-gives : goal.read_variant_row-returns-in-Ok-clause-gives
-read_variant_row-returns-in-Ok-clause-gives = Variants.read_variant_row-returns-in-Ok-clause-gives
+pub read_variant_row-returns-clause-gives : goal.read_variant_row-returns-clause-gives
+read_variant_row-returns-clause-gives = Variants.read_variant_row-returns-clause-gives
 
 pub read_variant_row-returns-in-Err-clause-gives : goal.read_variant_row-returns-in-Err-clause-gives
 read_variant_row-returns-in-Err-clause-gives = Variants.read_variant_row-returns-in-Err-clause-gives
@@ -367,8 +335,8 @@ read_variant_row-returns-in-Err-clause-gives = Variants.read_variant_row-returns
 pub read_variant_fields-returns-in_default : goal.read_variant_fields-returns-in_default
 read_variant_fields-returns-in_default = Variants.read_variant_fields-returns-in_default
 
-pub read_variant_fields-returns-in-Ok-clause-gives : goal.read_variant_fields-returns-in-Ok-clause-gives
-read_variant_fields-returns-in-Ok-clause-gives = Variants.read_variant_fields-returns-in-Ok-clause-gives
-
 pub read_variant_fields-returns-clause-gives : goal.read_variant_fields-returns-clause-gives
 read_variant_fields-returns-clause-gives = Variants.read_variant_fields-returns-clause-gives
+
+pub read_variant_fields-returns-in-Err-clause-gives : goal.read_variant_fields-returns-in-Err-clause-gives
+read_variant_fields-returns-in-Err-clause-gives = Variants.read_variant_fields-returns-in-Err-clause-gives

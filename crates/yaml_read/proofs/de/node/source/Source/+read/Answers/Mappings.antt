@@ -12,11 +12,11 @@ use Rattle.yaml_read.proofs.reading.PartExits.{no_key, no_value, one_entry}
 use Rattle.yaml_read.proofs.reading.Loops.{led_end, led_ended, led_fails, led_more, wrap_fails, wrap_finds}
 use Rattle.yaml_read.proofs.de.node.source.Source.+read.Goals as goal
 
-pub read_map-returns-in_default : goal.read_map-returns-in_default
-read_map-returns-in_default t c = record {
+pub read_map-returns-in_default-event : goal.read_map-returns-in_default-event
+read_map-returns-in_default-event t c = record {
   gives = λ fuel lt. rw (step_event c.args.self.now fuel (question_of c.args.ask.now) c.args.walk.now _ _
-      (sym c.requires.here)
-      (ap (λ s. handed s (is_some (around_of c.args.ask.now.taken)) (doc_event_of c.args.event.now.0))
+      c.in-Some.ensures.found
+      (ap (λ s. handed s (is_some (around_of c.args.ask.now.taken)) (doc_event_of c.in-Some.field-0.now.0))
       c.requires.mapping))
       (c.read_simple.ensures.gives fuel _ lt);
   moves = c.read_simple.ensures.moves;
@@ -31,7 +31,7 @@ read_map-returns-in-Ok-clause-gives t c = λ fuel lt.
     search (rules, the_lemmas) in
     step_map c.args.self.now fuel (question_of c.args.ask.now) c.args.walk.now c.args.key.0 c.args.value.0 _ _ _ _
     c.requires.mapping
-    (sym (c.requires.here ∙ ap (λ e. Some (doc_event_of e, c.args.event.now.1)) c.in-MappingStart.is)) some
+    (rw c.in-MappingStart.is at c.in-Some.ensures.found) some
     c.shape-key.ensures.found c.shape-value.ensures.found
     ∙ wrap_finds (λ vs. map_data (entries_of vs)) _ _ _
     (rw (same_spot (spot_of c.step.new.self) (after (spot_of c.args.walk.now)) c.step.ensures.place c.step.ensures.left)
@@ -45,7 +45,7 @@ read_map-returns-in-Err-clause-gives t c = λ fuel lt fault.
     let left = c.step.ensures.left in
     step_map c.args.self.now fuel (question_of c.args.ask.now) c.args.walk.now c.args.key.0 c.args.value.0 _ _ _ _
     c.requires.mapping
-    (sym (c.requires.here ∙ ap (λ e. Some (doc_event_of e, c.args.event.now.1)) c.in-MappingStart.is)) some
+    (rw c.in-MappingStart.is at c.in-Some.ensures.found) some
     c.shape-key.ensures.found c.shape-value.ensures.found
     ∙ wrap_fails (λ vs. map_data (entries_of vs)) _ _
     (rw (same_spot (spot_of c.step.new.self) (after (spot_of c.args.walk.now)) c.step.ensures.place c.step.ensures.left)

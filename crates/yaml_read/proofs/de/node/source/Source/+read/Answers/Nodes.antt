@@ -32,8 +32,8 @@ read_unplaced-returns-in-Newtype-clause-gives t c = λ fuel lt.
     )
     (c.read_newtype.ensures.gives fuel [] (omega arith))
 
-pub read_unplaced-returns-in-Some-clause-gives : goal.read_unplaced-returns-in-Some-clause-gives
-read_unplaced-returns-in-Some-clause-gives t c = λ fuel lt.
+pub read_unplaced-returns-in-Seq-clause-gives : goal.read_unplaced-returns-in-Seq-clause-gives
+read_unplaced-returns-in-Seq-clause-gives t c = λ fuel lt.
     rw (step_late c.args.self.now fuel (question_of c.args.ask.now) c.args.walk.now
     (ap (λ x. early (shape_of x)) c.in-Seq.is)) (c.read_seq.ensures.gives fuel lt)
 
@@ -47,8 +47,8 @@ read_unplaced-returns-in-TupleStruct-clause-gives t c = λ fuel lt.
     rw (step_late c.args.self.now fuel (question_of c.args.ask.now) c.args.walk.now
     (ap (λ x. early (shape_of x)) c.in-TupleStruct.is)) (c.read_tuple-in-TupleStruct.ensures.gives fuel lt)
 
-pub read_unplaced-returns-in-Some-event-clause-gives : goal.read_unplaced-returns-in-Some-event-clause-gives
-read_unplaced-returns-in-Some-event-clause-gives t c = λ fuel lt.
+pub read_unplaced-returns-in-Map-clause-gives : goal.read_unplaced-returns-in-Map-clause-gives
+read_unplaced-returns-in-Map-clause-gives t c = λ fuel lt.
     rw (step_late c.args.self.now fuel (question_of c.args.ask.now) c.args.walk.now
     (ap (λ x. early (shape_of x)) c.in-Map.is)) (c.read_map.ensures.gives fuel lt)
 

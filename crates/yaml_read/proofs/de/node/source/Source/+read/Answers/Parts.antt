@@ -51,48 +51,17 @@ read_further-returns-in-Some-clause-gives t c = λ fuel lt.
     let way = way_of c.args.ask.now.path.now in
     let answer = lift (scalar_answer (shape_of c.args.ask.now.shape.now) false (doc_scalar_of c.in-Some.scalar.now)) in
     rw c.requires.untaken (gives_with_end data_of (spot_of c.follow.new.self) next c.read_target.result
-    (place true c.args.event.now.1 way (place true c.in-Some.there.now way answer)) _
+    (place true c.in-Some-Alias-default.field-0.now.1 way (place true c.in-Some.there.now way answer)) _
     (leaf_alias (source_of c.args.self.now) way
     (shape_of c.args.ask.now.shape.now) c.args.ask.now.nest
-    (spot_of c.args.walk.now) fuel c.follow.new.self.left c.in-Alias.target
-    (doc_scalar_of c.in-Some.scalar.now) c.args.event.now.1 c.in-Some.there.now (omega arith)
+    (spot_of c.args.walk.now) fuel c.follow.new.self.left c.in-Some-Alias-default.target
+    (doc_scalar_of c.in-Some.scalar.now) c.in-Some-Alias-default.field-0.now.1 c.in-Some.there.now (omega arith)
     (sym c.requires.leaf ∙ c.if-leaf.true) c.follow.ensures.left
-    (c.requires.here ∙ ap (λ e. Some (doc_event_of e, c.args.event.now.1)) c.in-Alias.is) c.in-Some.ensures.found
-    ∙ ap (place true c.args.event.now.1 way) (place_end c.in-Some.there.now way next answer)
-    ∙ place_end c.args.event.now.1 way next (place true c.in-Some.there.now way answer))
+    (sym c.in-Some-Alias-default.ensures.found
+    ∙ ap (λ e. Some (doc_event_of e, c.in-Some-Alias-default.field-0.now.1)) c.in-Some-Alias-default.t12-in-Alias-1-is) c.in-Some.ensures.found
+    ∙ ap (place true c.in-Some-Alias-default.field-0.now.1 way) (place_end c.in-Some.there.now way next answer)
+    ∙ place_end c.in-Some-Alias-default.field-0.now.1 way next (place true c.in-Some.there.now way answer))
     (same_spot (spot_of c.follow.new.self) next c.follow.ensures.place refl) c.read_target.ensures)
-
-pub read_further-returns-in-Ok-clause-gives : goal.read_further-returns-in-Ok-clause-gives
-read_further-returns-in-Ok-clause-gives t c = λ fuel lt.
-    node_read c.args.self.now (question_of c.args.ask.now) c.args.walk.now fuel _ (omega arith)
-    (step_late c.args.self.now (fuel - 1) (question_of c.args.ask.now) c.args.walk.now
-    (ap (λ x. early (shape_of x)) c.in-Seq.is) ∙ c.in-Ok.ensures.gives (fuel - 1) (omega arith))
-
-pub read_further-returns-in-Err-clause-gives : goal.read_further-returns-in-Err-clause-gives
-read_further-returns-in-Err-clause-gives t c = λ fuel lt.
-    node_refused_here c.args.self.now (question_of c.args.ask.now) c.args.walk.now fuel _ _ c.in-Err.refusal
-    c.at_place.result (omega arith) c.requires.here
-    (ap (λ x. places (shape_of x) (is_some (around_of c.args.ask.now.taken)) (doc_event_of c.args.event.now.0))
-    c.in-Seq.is)
-    (λ known. step_late c.args.self.now (fuel - 1) (question_of c.args.ask.now) c.args.walk.now
-    (ap (λ x. early (shape_of x)) c.in-Seq.is) ∙ c.in-Err.ensures.gives (fuel - 1) (omega arith) known)
-    c.at_place.ensures
-
-pub read_further-returns-in-Ok-read_map-clause-gives : goal.read_further-returns-in-Ok-read_map-clause-gives
-read_further-returns-in-Ok-read_map-clause-gives t c = λ fuel lt.
-    node_read c.args.self.now (question_of c.args.ask.now) c.args.walk.now fuel _ (omega arith)
-    (step_late c.args.self.now (fuel - 1) (question_of c.args.ask.now) c.args.walk.now
-    (ap (λ x. early (shape_of x)) c.in-Map.is) ∙ c.in-Ok-read_map.ensures.gives (fuel - 1) (omega arith))
-
-pub read_further-returns-in-Err-read_map-clause-gives : goal.read_further-returns-in-Err-read_map-clause-gives
-read_further-returns-in-Err-read_map-clause-gives t c = λ fuel lt.
-    node_refused_here c.args.self.now (question_of c.args.ask.now) c.args.walk.now fuel _ _ c.in-Err-read_map.refusal
-    c.at_place-in-Err-read_map.result (omega arith) c.requires.here
-    (ap (λ x. places (shape_of x) (is_some (around_of c.args.ask.now.taken)) (doc_event_of c.args.event.now.0))
-    c.in-Map.is)
-    (λ known. step_late c.args.self.now (fuel - 1) (question_of c.args.ask.now) c.args.walk.now
-    (ap (λ x. early (shape_of x)) c.in-Map.is) ∙ c.in-Err-read_map.ensures.gives (fuel - 1) (omega arith) known)
-    c.at_place-in-Err-read_map.ensures
 
 pub read_value-returns-in-Some-clause-gives : goal.read_value-returns-in-Some-clause-gives
 read_value-returns-in-Some-clause-gives t c = λ fuel lt.
@@ -107,10 +76,6 @@ read_value-returns-in-Some-clause-gives t c = λ fuel lt.
     ∙ place_end c.in-Some.mark.now way next answer)
     (same_spot (spot_of c.step.new.self) next c.step.ensures.place c.step.ensures.left) c.read_scalar_value.ensures
 
-pub read_further_value-returns-in-Any-clause-gives : goal.read_further_value-returns-in-Any-clause-gives
-read_further_value-returns-in-Any-clause-gives t c =
-    λ fuel lt. rw c.value_path-inner.ensures at (c.read_node.ensures.gives fuel lt)
-
 pub read_further_value-returns-in-Option-clause-gives : goal.read_further_value-returns-in-Option-clause-gives
 read_further_value-returns-in-Option-clause-gives t c = λ fuel lt.
     let q : Question = record {
@@ -123,10 +88,6 @@ read_further_value-returns-in-Option-clause-gives t c = λ fuel lt.
     (ap (λ x. early (shape_of x)) c.in-Option.is) (λ e. ap (λ x. places (shape_of x) false e) c.in-Option.is))
     (rw c.value_path-inner.ensures at (c.read_option.ensures.gives (fuel - 1) (omega arith)))
 
-pub read_further_value-returns-in-Some-clause-gives : goal.read_further_value-returns-in-Some-clause-gives
-read_further_value-returns-in-Some-clause-gives t c =
+pub read_further_value-returns-in_default-clause-gives : goal.read_further_value-returns-in_default-clause-gives
+read_further_value-returns-in_default-clause-gives t c =
     λ fuel lt. rw c.value_path-inner.ensures at (c.read_further.ensures.gives fuel lt)
-
-pub read_further_value-returns-in-None-clause-gives : goal.read_further_value-returns-in-None-clause-gives
-read_further_value-returns-in-None-clause-gives t c =
-    λ fuel lt. rw c.value_path-inner.ensures at (c.read_node-in-None.ensures.gives fuel lt)

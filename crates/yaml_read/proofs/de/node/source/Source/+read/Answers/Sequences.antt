@@ -10,11 +10,11 @@ use Rattle.yaml_read.proofs.reading.Exits.{same_spot, not_sequence_end, step_eve
 use Rattle.yaml_read.proofs.reading.Loops.{led_end, led_ended, led_fails, led_more, wrap_fails, wrap_finds}
 use Rattle.yaml_read.proofs.de.node.source.Source.+read.Goals as goal
 
-pub read_seq-returns-in_default : goal.read_seq-returns-in_default
-read_seq-returns-in_default t c = record {
+pub read_seq-returns-in_default-event : goal.read_seq-returns-in_default-event
+read_seq-returns-in_default-event t c = record {
   gives = λ fuel lt. rw (step_event c.args.self.now fuel (question_of c.args.ask.now) c.args.walk.now _ _
-      (sym c.requires.here)
-      (ap (λ s. handed s (is_some (around_of c.args.ask.now.taken)) (doc_event_of c.args.event.now.0)) c.requires.seq))
+      c.in-Some.ensures.found
+      (ap (λ s. handed s (is_some (around_of c.args.ask.now.taken)) (doc_event_of c.in-Some.field-0.now.0)) c.requires.seq))
       (c.read_simple.ensures.gives fuel _ lt);
   moves = c.read_simple.ensures.moves;
   cost = c.read_simple.ensures.cost;
@@ -27,7 +27,7 @@ read_seq-returns-in-Ok-clause-gives t c = λ fuel lt.
     let seen_as : data_of (Seq c.in-Ok.items) ≡ seq_data (items_of (map data_of c.in-Ok.items.items)) =
     search (rules, the_lemmas) in
     step_seq c.args.self.now fuel (question_of c.args.ask.now) c.args.walk.now c.args.element.0 _ _ _ c.requires.seq
-    (sym (c.requires.here ∙ ap (λ e. Some (doc_event_of e, c.args.event.now.1)) c.in-SequenceStart.is)) some
+    (rw c.in-SequenceStart.is at c.in-Some.ensures.found) some
     c.shape-element.ensures.found
     ∙ wrap_finds (λ vs. seq_data (items_of vs)) _ _ _
     (rw (same_spot (spot_of c.step.new.self) (after (spot_of c.args.walk.now)) c.step.ensures.place c.step.ensures.left)
@@ -40,7 +40,7 @@ read_seq-returns-in-Err-clause-gives t c = λ fuel lt fault.
     let some : 0 < c.args.ask.now.nest = omega (arith, c.if-ask-eq0.false) in
     let left = c.step.ensures.left in
     step_seq c.args.self.now fuel (question_of c.args.ask.now) c.args.walk.now c.args.element.0 _ _ _ c.requires.seq
-    (sym (c.requires.here ∙ ap (λ e. Some (doc_event_of e, c.args.event.now.1)) c.in-SequenceStart.is)) some
+    (rw c.in-SequenceStart.is at c.in-Some.ensures.found) some
     c.shape-element.ensures.found
     ∙ wrap_fails (λ vs. seq_data (items_of vs)) _ _
     (rw (same_spot (spot_of c.step.new.self) (after (spot_of c.args.walk.now)) c.step.ensures.place c.step.ensures.left)

@@ -22,8 +22,8 @@ read_struct-returns-in_default-event t c =
       cost = c.read_simple.ensures.cost;
     }
 
-pub read_struct-returns-in-Ok-clause-gives : goal.read_struct-returns-in-Ok-clause-gives
-read_struct-returns-in-Ok-clause-gives t c = λ fuel lt.
+pub read_struct-returns-clause-gives : goal.read_struct-returns-clause-gives
+read_struct-returns-clause-gives t c = λ fuel lt.
     let some : 0 < c.args.ask.now.nest = omega (arith, c.if-ask-eq0.false) in
     let left = c.step-2.ensures.left in
     rw (step_struct c.args.self.now fuel (question_of c.args.ask.now) c.args.walk.now c.args.strict
@@ -37,8 +37,8 @@ read_struct-returns-in-Ok-clause-gives t c = λ fuel lt.
     (c.in-Ok.ensures.gives fuel (length c.args.self.now.events.now) (omega (arith, some, left))
     (omega (arith, c.step-2.ensures.place)))) c.finish_struct.ensures)
 
-pub read_struct-returns-clause-gives : goal.read_struct-returns-clause-gives
-read_struct-returns-clause-gives t c = λ fuel lt fault.
+pub read_struct-returns-in-Err-clause-gives : goal.read_struct-returns-in-Err-clause-gives
+read_struct-returns-in-Err-clause-gives t c = λ fuel lt fault.
     let some : 0 < c.args.ask.now.nest = omega (arith, c.if-ask-eq0.false) in
     let left = c.step-2.ensures.left in
     step_struct c.args.self.now fuel (question_of c.args.ask.now) c.args.walk.now c.args.strict

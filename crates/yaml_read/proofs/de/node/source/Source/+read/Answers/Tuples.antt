@@ -23,8 +23,8 @@ read_tuple-returns-in_default-event t c = record {
   cost = c.read_simple.ensures.cost;
 }
 
-pub read_tuple-returns-in-Ok-clause-gives : goal.read_tuple-returns-in-Ok-clause-gives
-read_tuple-returns-in-Ok-clause-gives t c = λ fuel lt.
+pub read_tuple-returns-clause-gives : goal.read_tuple-returns-clause-gives
+read_tuple-returns-clause-gives t c = λ fuel lt.
     let some : 0 < c.args.ask.now.nest = omega (arith, c.if-ask-eq0.false) in
     let left = c.step.ensures.left in
     rw (step_row c.args.self.now fuel (question_of c.args.ask.now) c.args.walk.now

@@ -8,8 +8,8 @@ use Rattle.yaml_read.proofs.reading.Exits.{same_spot, step_event, step_row, fini
 use Rattle.yaml_read.proofs.reading.FieldExits.{fields_as_is, step_struct}
 use Rattle.yaml_read.proofs.de.node.source.Source.+read.Goals as goal
 
-pub read_variant_row-returns-in-Ok-clause-gives : goal.read_variant_row-returns-in-Ok-clause-gives
-read_variant_row-returns-in-Ok-clause-gives t c = λ fuel lt.
+pub read_variant_row-returns-clause-gives : goal.read_variant_row-returns-clause-gives
+read_variant_row-returns-clause-gives t c = λ fuel lt.
     let owner = of_variant c.args.around.now.name.now c.args.around.now.variant.now in
     let q = taken_as (question_of c.args.ask.now) (row_shape owner (ids_of c.args.items.now))
     (plain_around c.args.around.now) in
@@ -67,8 +67,8 @@ read_variant_fields-returns-in_default t c =
       );
     }
 
-pub read_variant_fields-returns-in-Ok-clause-gives : goal.read_variant_fields-returns-in-Ok-clause-gives
-read_variant_fields-returns-in-Ok-clause-gives t c = λ fuel lt.
+pub read_variant_fields-returns-clause-gives : goal.read_variant_fields-returns-clause-gives
+read_variant_fields-returns-clause-gives t c = λ fuel lt.
     let owner = of_variant c.args.around.now.name.now c.args.around.now.variant.now in
     let q = taken_as (question_of c.args.ask.now) (fields_shape c.args.strict owner (fields_of c.args.fields.now))
     (plain_around c.args.around.now) in
@@ -85,8 +85,8 @@ read_variant_fields-returns-in-Ok-clause-gives t c = λ fuel lt.
     (c.in-Ok.ensures.gives fuel (length c.args.self.now.events.now) (omega (arith, lt, some, left))
     (omega (arith, c.step-2.ensures.place)))) c.finish_struct.ensures)
 
-pub read_variant_fields-returns-clause-gives : goal.read_variant_fields-returns-clause-gives
-read_variant_fields-returns-clause-gives t c = λ fuel lt fault.
+pub read_variant_fields-returns-in-Err-clause-gives : goal.read_variant_fields-returns-in-Err-clause-gives
+read_variant_fields-returns-in-Err-clause-gives t c = λ fuel lt fault.
     let owner = of_variant c.args.around.now.name.now c.args.around.now.variant.now in
     let q = taken_as (question_of c.args.ask.now) (fields_shape c.args.strict owner (fields_of c.args.fields.now))
     (plain_around c.args.around.now) in
