@@ -10,5 +10,6 @@ pub mod PlainDocument
 pub mod Resolved
 pub mod StreamLaw
 pub mod StreamPhases
+pub mod Words
 pub mod WrongPlace
 pub mod inner

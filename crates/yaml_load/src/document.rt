@@ -1,11 +1,7 @@
 //! One document of a stream.
 
-ghost use Rattle.std.specs.Prelude.{◌≡◌, map};
-ghost use Rattle.std.specs.Option.{option_copied};
-ghost use Rattle.yaml_load.specs.DocEventView.{marked_events_of};
-ghost use Rattle.yaml_load.specs.Ends.{ends_of};
-ghost use Rattle.yaml_load.specs.Gathering.{HasEnds, document_of_range};
-ghost use Rattle.yaml_load.specs.StreamLaw.{HasTree, IsDocument, IsEnding};
+ghost use Rattle.yaml_load.specs.Words.{◌≡◌, map, option_copied, marked_events_of, ends_of, HasEnds, document_of_range};
+ghost use Rattle.yaml_load.specs.Words.{HasTree, IsDocument, IsEnding};
 
 use crate::doc_event::DocEvent;
 use std::marker::Model;

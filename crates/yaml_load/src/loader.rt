@@ -9,13 +9,9 @@ mod resolve;
 mod share;
 mod steps;
 
-ghost use Rattle.std.specs.Prelude.{◌≡◌, ℕ, ◌++◌, [], IfNone, IfOk, IfErr, false, is_some, option_to_list};
-ghost use Rattle.yaml_base.specs.Answer.{is_memory};
-ghost use Rattle.yaml_base.specs.Stream.{IsWellFormed};
-ghost use Rattle.yaml_base.specs.declared.error.Cause.TheVariants.{NotAStream};
-ghost use Rattle.yaml_load.specs.Documents.{documents_of};
-ghost use Rattle.yaml_load.specs.MarkedEvents.{plain_events, plain_marked};
-ghost use Rattle.yaml_load.specs.WrongPlace.{IsWrongAt};
+ghost use Rattle.yaml_load.specs.Words.{◌≡◌, ℕ, ◌++◌, [], IfNone, IfOk, IfErr, false, is_some, option_to_list};
+ghost use Rattle.yaml_load.specs.Words.{is_memory, IsWellFormed, NotAStream, documents_of, plain_events, plain_marked};
+ghost use Rattle.yaml_load.specs.Words.{IsWrongAt};
 
 use crate::document::LoadedDocument;
 pub use builder::LoaderBuilder;

@@ -1,11 +1,7 @@
 //! The anchors of one document's nodes, and of its aliases that wait for their targets.
 
-ghost use Rattle.std.specs.Prelude.{◌≡◌, ◌++◌, [], IfOk, length};
-ghost use Rattle.yaml_base.specs.PlainEvent.{alias};
-ghost use Rattle.yaml_base.specs.Tree.{anchor_at};
-ghost use Rattle.yaml_load.specs.Documents.{Input, anchors_in, find_in};
-ghost use Rattle.yaml_load.specs.PlainDocEvent.{alias_to};
-ghost use Rattle.yaml_load.specs.inner.Drafts.{IsTaken, Waiting};
+ghost use Rattle.yaml_load.specs.Words.{◌≡◌, ◌++◌, [], IfOk, length, alias, anchor_at, Input, anchors_in, find_in};
+ghost use Rattle.yaml_load.specs.Words.{alias_to, IsTaken, Waiting};
 
 use std::alloc::{AllocError, Global};
 use yaml_base::Anchor;

@@ -1,13 +1,8 @@
 //! A loader that takes the events of a stream one by one.
 
-ghost use Rattle.std.specs.Prelude.{◌≡◌, ◌<◌, ◌∷◌, ◌++◌, [], IfOk, IfErr, false, is_some, length};
-ghost use Rattle.yaml_base.specs.Answer.{is_memory};
-ghost use Rattle.yaml_base.specs.PlainEvent.{event_of};
-ghost use Rattle.yaml_base.specs.Stream.{IsWellFormed};
-ghost use Rattle.yaml_base.specs.declared.error.Cause.TheVariants.{NotAStream};
-ghost use Rattle.yaml_load.specs.Documents.{documents_of};
-ghost use Rattle.yaml_load.specs.MarkedEvents.{events_in};
-ghost use Rattle.yaml_load.specs.WrongPlace.{IsWrongAt, IsWrongNext};
+ghost use Rattle.yaml_load.specs.Words.{◌≡◌, ◌<◌, ◌∷◌, ◌++◌, [], IfOk, IfErr, false, is_some, length, is_memory};
+ghost use Rattle.yaml_load.specs.Words.{event_of, IsWellFormed, NotAStream, documents_of, events_in, IsWrongAt};
+ghost use Rattle.yaml_load.specs.Words.{IsWrongNext};
 
 use crate::loader::Loader;
 use crate::loader::check::{Phase, is_after, is_inside};

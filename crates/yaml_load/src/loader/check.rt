@@ -1,12 +1,9 @@
 //! Which events may follow one another in a stream.
 
-ghost use Rattle.std.specs.Prelude.{◌≡◌, ℕ, List, [], IfOk, IfSome, None, Option, true};
-ghost use Rattle.yaml_base.specs.PlainEvent.{PlainScalar, alias, document_end, document_start, mapping_end};
-ghost use Rattle.yaml_base.specs.PlainEvent.{mapping_start, scalar, sequence_end, sequence_start, stream_end};
-ghost use Rattle.yaml_base.specs.PlainEvent.{stream_start};
-ghost use Rattle.yaml_load.specs.StreamPhases.{IsClean, Moves, is_done, is_open, opened_in, state_of};
-ghost use Rattle.yaml_base.specs.StreamMachine.{within};
-ghost use Rattle.yaml_base.specs.declared.open.Open.TheVariants.{Sequence, Key, Value};
+ghost use Rattle.yaml_load.specs.Words.{◌≡◌, ℕ, List, [], IfOk, IfSome, None, Option, true, PlainScalar, alias};
+ghost use Rattle.yaml_load.specs.Words.{document_end, document_start, mapping_end, mapping_start, scalar, sequence_end};
+ghost use Rattle.yaml_load.specs.Words.{sequence_start, stream_end, stream_start, IsClean, Moves, is_done, is_open};
+ghost use Rattle.yaml_load.specs.Words.{opened_in, state_of, within, Sequence, Key, Value};
 
 use std::alloc::AllocError;
 use yaml_base::Open;

@@ -1,17 +1,11 @@
 //! The document whose events go by, behind those that have ended.
 
-ghost use Rattle.std.specs.Prelude.{◌≡◌, ◌∷◌, ◌++◌, ◌<◌, ◌≤◌, ◌+◌, ℕ, [], All, List, IfOk, IfSome, Some, drop};
-ghost use Rattle.std.specs.Prelude.{false, length, slice_get, take, true};
-ghost use Rattle.std.specs.Option.{option_map};
-ghost use Rattle.yaml_base.specs.Position.{Position};
-ghost use Rattle.yaml_load.specs.DocEventView.{marked_events_of};
-ghost use Rattle.yaml_load.specs.Documents.{Input, anchors_in, document_of, ending_of, find_in};
-ghost use Rattle.yaml_load.specs.Documents.{failed_document, void_document};
-ghost use Rattle.yaml_load.specs.Gathering.{AreCuts, documents_in, ending_in};
-ghost use Rattle.yaml_load.specs.PlainDocument.{PlainDocument};
+ghost use Rattle.yaml_load.specs.Words.{◌≡◌, ◌∷◌, ◌++◌, ◌<◌, ◌≤◌, ◌+◌, ℕ, [], All, List, IfOk, IfSome, Some, drop};
+ghost use Rattle.yaml_load.specs.Words.{false, length, slice_get, take, true, option_map, Position, marked_events_of};
+ghost use Rattle.yaml_load.specs.Words.{Input, anchors_in, document_of, ending_of, find_in, failed_document};
+ghost use Rattle.yaml_load.specs.Words.{void_document, AreCuts, documents_in, ending_in, PlainDocument, IsBetween};
+ghost use Rattle.yaml_load.specs.Words.{IsDraft, settled, bounded_from};
 ghost use Rattle.yaml_load.specs.declared.doc_event.DocEvent.{DocEvent as Shown};
-ghost use Rattle.yaml_load.specs.inner.Drafts.{IsBetween, IsDraft, settled};
-ghost use Rattle.yaml_load.specs.inner.OpenEnds.{bounded_from};
 
 use crate::doc_event::DocEvent;
 use crate::loader::anchors::Anchors;

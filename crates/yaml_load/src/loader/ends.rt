@@ -1,9 +1,7 @@
 //! Where the collections of a document end, found while its events go by.
 
-ghost use Rattle.std.specs.Prelude.{◌≡◌, ◌+◌, ◌≤◌, ℕ, List, [], ◌∷◌, ◌++◌, IfOk, false, length, take, true};
-ghost use Rattle.yaml_load.specs.Ends.{ends_of, is_closing, is_opening};
-ghost use Rattle.yaml_load.specs.PlainDocEvent.{PlainDocEvent};
-ghost use Rattle.yaml_load.specs.inner.OpenEnds.{HasNumbers, bounded_from};
+ghost use Rattle.yaml_load.specs.Words.{◌≡◌, ◌+◌, ◌≤◌, ℕ, List, [], ◌∷◌, ◌++◌, IfOk, false, length, take, true};
+ghost use Rattle.yaml_load.specs.Words.{ends_of, is_closing, is_opening, PlainDocEvent, HasNumbers, bounded_from};
 
 use std::alloc::{AllocError, Global};
 use std::marker::Model;

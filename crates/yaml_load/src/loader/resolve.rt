@@ -1,10 +1,8 @@
 //! The aliases of a document get their targets.
 
-ghost use Rattle.std.specs.Prelude.{◌≡◌, ◌+◌, ◌<◌, ◌≤◌, All, IfSome, IsTrue, drop, false, length, take};
-ghost use Rattle.yaml_load.specs.DocEventView.{marked_events_of};
-ghost use Rattle.yaml_load.specs.Documents.{find_in};
-ghost use Rattle.yaml_load.specs.inner.AnchorOrder.{AllBefore, IsInOrder, IsPlaceOf, NoneBefore};
-ghost use Rattle.yaml_load.specs.inner.Drafts.{settled};
+ghost use Rattle.yaml_load.specs.Words.{◌≡◌, ◌+◌, ◌<◌, ◌≤◌, All, IfSome, IsTrue, drop, false, length, take};
+ghost use Rattle.yaml_load.specs.Words.{marked_events_of, find_in, AllBefore, IsInOrder, IsPlaceOf, NoneBefore};
+ghost use Rattle.yaml_load.specs.Words.{settled};
 
 use crate::doc_event::DocEvent;
 use yaml_base::{Anchor, Mark};

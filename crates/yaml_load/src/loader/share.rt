@@ -1,8 +1,6 @@
 //! The documents share their events.
 
-ghost use Rattle.std.specs.Prelude.{◌≡◌, All, IfOk};
-ghost use Rattle.yaml_load.specs.Gathering.{AreCuts, documents_in};
-ghost use Rattle.yaml_load.specs.StreamLaw.{IsDocument};
+ghost use Rattle.yaml_load.specs.Words.{◌≡◌, All, IfOk, AreCuts, documents_in, IsDocument};
 
 use crate::document::LoadedDocument;
 use crate::loader::draft::{Cut, Draft};

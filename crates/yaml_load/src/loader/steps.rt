@@ -1,15 +1,10 @@
 //! The steps by which events become documents.
 
-ghost use Rattle.std.specs.Prelude.{◌≡◌, ◌+◌, ◌≤◌, [], IfOk, List, is_some, length, true};
-ghost use Rattle.yaml_base.specs.Position.{Position};
-ghost use Rattle.yaml_base.specs.PlainEvent.{alias, document_end, document_start, event_of, mapping_end};
-ghost use Rattle.yaml_base.specs.PlainEvent.{mapping_start};
+ghost use Rattle.yaml_load.specs.Words.{◌≡◌, ◌+◌, ◌≤◌, [], IfOk, List, is_some, length, true, Position, alias};
+ghost use Rattle.yaml_load.specs.Words.{document_end, document_start, event_of, mapping_end, mapping_start, scalar_of};
+ghost use Rattle.yaml_load.specs.Words.{sequence_end, sequence_start, Input, documents_of, last_mark, IsClean, is_open};
+ghost use Rattle.yaml_load.specs.Words.{IsBetween, IsOnWay, IsReady, Steps};
 ghost use Rattle.yaml_base.specs.PlainEvent.{scalar as scalar_event};
-ghost use Rattle.yaml_base.specs.PlainEvent.{scalar_of, sequence_end, sequence_start};
-ghost use Rattle.yaml_load.specs.Documents.{Input, documents_of, last_mark};
-ghost use Rattle.yaml_load.specs.StreamPhases.{IsClean, is_open};
-ghost use Rattle.yaml_load.specs.inner.Drafts.{IsBetween};
-ghost use Rattle.yaml_load.specs.inner.Loading.{IsOnWay, IsReady, Steps};
 
 use crate::doc_event::{DocEvent, DocScalar, DocStart};
 use crate::loader::check::{
