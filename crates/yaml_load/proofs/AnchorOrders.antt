@@ -1,18 +1,14 @@
 -- Anchors in order, by their names and then by their places: those in front of an alias come first.
-use Rattle.std.proofs.Common.{◌≡◌, ℕ, ◌+◌, ◌≤◌, List, length, get_or, refl, sym, ◌∙◌, ap, arith, true, false, nat_lt}
-use Rattle.std.proofs.Common.{inl, inr}
 use Rattle.std.specs.Cmp.{IsTotalOrder, nat_cmp_is, on_total}
-use Rattle.std.specs.Cmp.Lexicographic.{slice_cmp, nat_list_cmp_total}
-use Rattle.std.specs.List.Sorted.{IsPartitionedBy}
 use Rattle.std.specs.Ordering.{is_lt, is_eq, nat_cmp, ordering_index, ordering_then}
-use Rattle.std.specs.Str.{bytes_eq}
 use Rattle.std.specs.declared.cmp.Ordering.{Ordering}
 use Rattle.std.specs.declared.cmp.Ordering.TheVariants.{Less, Equal, Greater}
-use Rattle.std.proofs.lemmas.Bool.{cases_Bool, cases_eq, cases_lt, le-ltb, lt-ltb, ltb-true}
 use Rattle.std.proofs.lemmas.Cmp.{nat_cmp_total, then_total}
-use Rattle.std.proofs.lemmas.List.{get_or_default}
 use Rattle.std.proofs.lemmas.List.Sorted.{searchable_from_sorted}
 use Rattle.std.proofs.lemmas.Map.Text.{is_eq-slice_cmp}
+use Rattle.yaml_load.proofs.Words.{◌≡◌, ℕ, ◌+◌, ◌≤◌, List, length, get_or, refl, sym, ◌∙◌, ap, arith, true, false}
+use Rattle.yaml_load.proofs.Words.{nat_lt, inl, inr, slice_cmp, nat_list_cmp_total, IsPartitionedBy, bytes_eq}
+use Rattle.yaml_load.proofs.Words.{cases_Bool, cases_eq, cases_lt, le-ltb, lt-ltb, ltb-true, get_or_default}
 use Rattle.yaml_load.specs.inner.AnchorOrder.{AllBefore, NoneBefore, anchor_order, IsInOrder}
 
 abbrev pub Named : Type 0
@@ -25,12 +21,8 @@ order_total = then_total (on_total (λ (x : Named). x.0) nat_list_cmp_total)
 -- what is in front of something that is less is less too
 lower : (r s : Ordering) → ordering_index r ≤ ordering_index s → is_lt s ≡ true → is_lt r ≡ true
 lower Less s l h = refl
-lower Equal Less l h = absurd (omega arith)
-lower Equal Equal l h = h
-lower Equal Greater l h = absurd cc
-lower Greater Less l h = absurd (omega arith)
-lower Greater Equal l h = absurd cc
-lower Greater Greater l h = h
+lower _ Less l h = absurd (omega arith)
+lower _ _ l h = absurd cc
 
 pub parted : (named : List Named) (alias : Named) → IsInOrder named
     → IsPartitionedBy (λ x. is_lt (anchor_order x alias)) named
@@ -59,9 +51,8 @@ module _ (named : List Named) (alias : Named) (sorted : IsInOrder named) (at : �
 
 -- an order that is equal
 is_equal : (r : Ordering) → is_eq r ≡ true → r ≡ Equal
-is_equal Less e = absurd cc
 is_equal Equal e = refl
-is_equal Greater e = absurd cc
+is_equal _ e = absurd cc
 
 number_order : (m n : ℕ) → is_lt (nat_cmp m n) ≡ nat_lt m n
 number_order m n = elim (cases_lt m n) [
@@ -81,9 +72,8 @@ same_names x y h =
 
 -- those with other names in that of their names
 then_other : (r s : Ordering) → is_eq r ≡ false → is_lt (ordering_then r s) ≡ is_lt r
-then_other Less s h = refl
 then_other Equal s h = absurd cc
-then_other Greater s h = refl
+then_other _ s h = refl
 
 pub other_names : (x y : Named) → bytes_eq x.0 y.0 ≡ false
     → is_lt (anchor_order x y) ≡ is_lt (slice_cmp nat_cmp x.0 y.0)

@@ -1,17 +1,11 @@
 -- Among anchors in order, the last place of an anchor in front of an alias stands right in front of where the alias
 -- belongs.
-use Rattle.std.proofs.Common.{◌≡◌, ℕ, zero, suc, ◌+◌, ◌<◌, ◌≤◌, List, [], ◌∷◌, length, get_or, refl, sym, ◌∙◌, ap}
-use Rattle.std.proofs.Common.{subst, arith, Bool, true, false, cond, ◌&&◌, nat_lt, max, Option, Some, None, inl, inr}
-use Rattle.std.proofs.Common.{All}
-use Rattle.std.specs.Cmp.Lexicographic.{slice_cmp, bytes_decides}
-use Rattle.std.specs.List.Sorted.{IsPartitionPoint}
 use Rattle.std.specs.Ordering.{is_lt, nat_cmp}
-use Rattle.std.specs.Str.{bytes_eq}
-use Rattle.std.proofs.lemmas.Bool.{cases_Bool, cases_lt, ltb-false, ltb-true}
-use Rattle.std.proofs.lemmas.List.{get_or_default}
-use Rattle.std.proofs.lemmas.List.Elements.{All-tail}
 use Rattle.std.proofs.lemmas.List.Sorted.{ranks_by, sorted_far}
-use Rattle.yaml_base.specs.Tree.{greater, number_below, greatest_below}
+use Rattle.yaml_load.proofs.Words.{◌≡◌, ℕ, zero, suc, ◌+◌, ◌<◌, ◌≤◌, List, [], ◌∷◌, length, get_or, refl, sym, ◌∙◌, ap}
+use Rattle.yaml_load.proofs.Words.{subst, arith, Bool, true, false, cond, ◌&&◌, nat_lt, max, Option, Some, None, inl}
+use Rattle.yaml_load.proofs.Words.{inr, All, slice_cmp, bytes_decides, IsPartitionPoint, bytes_eq, cases_Bool, cases_lt}
+use Rattle.yaml_load.proofs.Words.{ltb-false, ltb-true, get_or_default, All-tail, greater, number_below, greatest_below}
 use Rattle.yaml_load.specs.inner.AnchorOrder.{anchor_order, IsInOrder}
 use Rattle.yaml_load.proofs.AnchorOrders.{Named, order_total, same_names, other_names}
 
@@ -71,6 +65,15 @@ module _ (alias : Named) where
   pub number_of_other : (x : Named) → bytes_eq x.0 alias.0 ≡ false → number x ≡ None
   number_of_other x s = rw s
 
+  pub bounded_by : (n : ℕ) (x : Named) → x.1 ≤ n → Bounded n (number x)
+  bounded_by n x least = elim (cases_Bool (bytes_eq x.0 alias.0)) [
+    | inr other ↦ subst (Bounded n) (sym (number_of_other x other)) tt
+    | inl here ↦ elim (cases_Bool (nat_lt x.1 alias.1)) [
+      | inl front ↦ subst (Bounded n) (sym (number_as x true true here front)) least
+      | inr back ↦ subst (Bounded n) (sym (number_as x true false here back)) tt
+    ]
+  ]
+
   -- an anchor that stands where the alias belongs, or behind, does not fit
   behind_none : (x : Named) → is_lt (anchor_order x alias) ≡ false → number x ≡ None
   behind_none x h = elim (cases_Bool (bytes_eq x.0 alias.0)) [
@@ -115,10 +118,7 @@ module _ (alias : Named) where
             let names = (bytes_decides y.0 alias.0).0 same ∙ sym ((bytes_decides x.0 alias.0).0 here) in
             let far = sym (same_names y x ((bytes_decides y.0 x.0).1 names)) ∙ after in
             let least : x.1 ≤ y.1 = let f = ltb-false y.1 x.1 far in omega arith in
-            elim (cases_Bool (nat_lt x.1 alias.1)) [
-              | inl front ↦ subst (Bounded y.1) (sym (number_as x true true here front)) least
-              | inr back ↦ subst (Bounded y.1) (sym (number_as x true false here back)) tt
-            ]
+            bounded_by y.1 x least
       ]
 
       -- the last one in front has the alias's name

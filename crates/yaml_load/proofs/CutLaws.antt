@@ -1,16 +1,14 @@
 -- What cuts documents off, and what they hold up to there.
-use Rattle.std.proofs.Common.{◌≡◌, ℕ, zero, suc, ◌+◌, List, [], ◌∷◌, ◌++◌, map, length, refl, sym, ◌∙◌, ap, subst}
-use Rattle.std.proofs.Common.{cond, arith, Bool, true, false, Option, Some, None, All, inl, inr, ◌||◌}
-use Rattle.std.specs.Prelude.{slice_get, not}
-use Rattle.std.proofs.lemmas.Bool.{cases_Bool}
-use Rattle.std.proofs.lemmas.List.Elements.{All-append, All-cons, All-nil}
-use Rattle.yaml_load.proofs.Words.{Position, PlainEvent, PlainFault, Input, Find, find_in, known_events, unknown_mark}
-use Rattle.yaml_load.proofs.Words.{body, is_ended, is_document_start, anchors_in, ending_of, document_from}
-use Rattle.yaml_load.proofs.Words.{documents_of, after_starts, is_open_after, void_documents, void_document, last_mark}
-use Rattle.yaml_load.proofs.Words.{is_document_end, failed_document, further_document, becomes, then_events, or_mark}
-use Rattle.yaml_load.proofs.Words.{PlainDocEvent, PlainDocument, IsBeforeFault, IsAtFault, EndAtFault, HoldsFront}
-use Rattle.yaml_load.proofs.Words.{HoldFronts}
-use Rattle.yaml_base.specs.declared.error.Cause.TheVariants.{UnknownAnchor}
+use Rattle.std.specs.Prelude.{not}
+use Rattle.yaml_load.proofs.Words.{◌≡◌, ℕ, zero, suc, ◌+◌, List, [], ◌∷◌, ◌++◌, map, length, refl, sym, ◌∙◌, ap, subst}
+use Rattle.yaml_load.proofs.Words.{cond, arith, Bool, true, false, Option, Some, None, All, inl, inr, ◌||◌, slice_get}
+use Rattle.yaml_load.proofs.Words.{cases_Bool, Position, PlainEvent, PlainFault, Input, Find, find_in, known_events}
+use Rattle.yaml_load.proofs.Words.{unknown_mark, body, is_ended, is_document_start, anchors_in, ending_of}
+use Rattle.yaml_load.proofs.Words.{document_from, documents_of, after_starts, is_open_after, is_document_end}
+use Rattle.yaml_load.proofs.Words.{failed_document, further_document, becomes, then_events, or_mark, PlainDocEvent}
+use Rattle.yaml_load.proofs.Words.{PlainDocument, IsBeforeFault, IsAtFault, EndAtFault, HoldsFront, HoldFronts}
+use Rattle.yaml_load.proofs.Words.{UnknownAnchor}
+use Rattle.yaml_load.proofs.StreamEndings.{all_kinds}
 
 -- the first unknown mark behind a start
 abbrev unknown_of : Input → Option Position
@@ -100,31 +98,16 @@ pub fault_last : (input : Input) (fault : PlainFault) → EndAtFault fault (docu
 fault_last input fault = between fault input
 
 -- a document that no parser's fault cut off
-abbrev EndsBefore : PlainDocument → Type 0
-EndsBefore d = IsBeforeFault d.ending
-
 before_none : (unknown : Option Position) (ended : Bool) → IsBeforeFault (ending_of unknown ended None)
 before_none (Some mark) ended = tt
 before_none None true = tt
 before_none None false = tt
 
-none_behind : (starts : List Input) → All EndsBefore (map (document_from None) starts)
-none_behind [] = All-nil EndsBefore
-none_behind (s ∷ starts) =
-    All-cons EndsBefore (document_from None s) (map (document_from None) starts) (before_none (unknown_of s)
-    (is_ended s))
-    (none_behind starts)
-
-none_void : (starts : List Input) (end : Option Position) → All EndsBefore (void_documents starts end)
-none_void [] None = All-nil EndsBefore
-none_void [] (Some mark) = All-cons EndsBefore (void_document mark) [] tt (All-nil EndsBefore)
-none_void (s ∷ starts) end = All-nil EndsBefore
-
 -- without the parser's fault no document has it
-pub no_fault : (input : Input) → All EndsBefore (documents_of input None)
+pub no_fault : (input : Input) → All (λ d. IsBeforeFault d.ending) (documents_of input None)
 no_fault input =
-    All-append EndsBefore (map (document_from None) (after_starts false input)) (further_document input None)
-    (none_behind (after_starts false input)) (none_void (after_starts false input) (last_mark input))
+    all_kinds (λ (d : PlainDocument). IsBeforeFault d.ending) input None
+    (λ s. before_none (unknown_of s) (is_ended s)) (λ mark. tt) (λ f is. absurd cc)
 
 -- an event at a place, and what it becomes there
 abbrev Holds : Find → Input → ℕ → ℕ → Position → Option PlainDocEvent → Type 0

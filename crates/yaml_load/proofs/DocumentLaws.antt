@@ -1,7 +1,6 @@
 -- Where the documents behind one begin.
-use Rattle.std.proofs.Common.{◌≡◌, [], ◌∷◌, sym, refl, ◌∙◌, ap, true, false, ◌||◌, inl, inr}
-use Rattle.std.proofs.lemmas.Bool.{cases_Bool}
-use Rattle.yaml_load.specs.Documents.{Input, after_starts, behind, is_document_end, is_ended}
+use Rattle.yaml_load.proofs.Words.{◌≡◌, [], ◌∷◌, sym, refl, ◌∙◌, ap, true, false, ◌||◌, inl, inr, cases_Bool, Input}
+use Rattle.yaml_load.proofs.Words.{after_starts, behind, is_document_end, is_ended}
 
 -- behind a document that ends
 pub starts_behind : (rest : Input) → is_ended rest ≡ true → after_starts true rest ≡ after_starts false (behind rest)

@@ -1,29 +1,11 @@
 -- What was seen of a document is what its draft holds.
-use Rattle.std.proofs.Common.{◌≡◌, ℕ, suc, ◌+◌, ◌<◌, ◌≤◌, List, [], ◌∷◌, ◌++◌, length}
-use Rattle.std.proofs.Common.{sym, ◌∙◌, ap, subst, arith, append_assoc, append-nil, length-append, All, IsTrue}
-use Rattle.std.proofs.Common.{true, false, Option, Some, None, option_map, nat_lt, inl, inr, refl}
-use Rattle.std.specs.Str.{bytes_eq}
-use Rattle.std.proofs.lemmas.Bool.{cases_Bool, le-ltb}
-use Rattle.std.proofs.lemmas.List.{length-map, map-append}
-use Rattle.std.proofs.lemmas.List.Elements.{All-cons, All-push}
-use Rattle.yaml_load.proofs.Words.{Position, PlainEvent, stream_start, stream_end, document_start, document_end, alias}
-use Rattle.yaml_load.proofs.Words.{scalar, sequence_start, sequence_end, mapping_start, mapping_end, anchor_at, greater}
-use Rattle.yaml_load.proofs.Words.{greatest_below, number_below, doc_event_of, marked_events_of, Find, Input, anchor_of}
-use Rattle.yaml_load.proofs.Words.{anchors_in, find_in, PlainDocEvent, alias_to, DocEvent, Draft, AreTaken, IsDraft}
-use Rattle.yaml_load.proofs.Words.{IsTaken, Waiting, drafted, drafts_of, is_of_node, HasNumbers}
-
-abbrev Events : Type 0
-Events = List (DocEvent × Position)
-
-abbrev Marked : Type 0
-Marked = List (PlainDocEvent × Position)
-
--- what is put behind a list, in two ways
-behind : {X : Type 0} (xs ys : List X) (x : X) → (xs ++ x ∷ []) ++ ys ≡ xs ++ x ∷ ys
-behind xs ys x = append_assoc xs (x ∷ []) ys
-
-one_longer : {X : Type 0} (xs : List X) (x : X) → length (xs ++ x ∷ []) ≡ length xs + 1
-one_longer xs x = length-append xs (x ∷ [])
+use Rattle.yaml_load.proofs.Words.{Events, Marked, ◌≡◌, ℕ, suc, ◌+◌, ◌<◌, ◌≤◌, List, [], ◌∷◌, ◌++◌, length, sym, ◌∙◌}
+use Rattle.yaml_load.proofs.Words.{ap, subst, arith, append_assoc, append-nil, length-append, All, IsTrue, true, false}
+use Rattle.yaml_load.proofs.Words.{Option, Some, None, option_map, nat_lt, inl, inr, refl, bytes_eq, cases_Bool, le-ltb}
+use Rattle.yaml_load.proofs.Words.{length-map, map-append, All-cons, All-push, Position, PlainEvent, alias, anchor_at}
+use Rattle.yaml_load.proofs.Words.{greater, greatest_below, number_below, doc_event_of, marked_events_of, Find, Input}
+use Rattle.yaml_load.proofs.Words.{anchor_of, anchors_in, find_in, PlainDocEvent, alias_to, DocEvent, Draft, AreTaken}
+use Rattle.yaml_load.proofs.Words.{IsDraft, IsTaken, Waiting, drafted, drafts_of, is_of_node, HasNumbers}
 
 -- the anchors of one event more
 anchors_in-push : (place : ℕ) (seen : Input) (e : PlainEvent × Position)
@@ -42,15 +24,7 @@ taken_same : (find more : Find) (place : ℕ) (e : PlainEvent) (d : PlainDocEven
     → ((a : List ℕ) → more a place ≡ find a place) → IsTaken find place e d waiting → IsTaken more place e d waiting
 taken_same find more place (alias a) d waiting h (inl w) = inl w
 taken_same find more place (alias a) d waiting h (inr k) = inr (ap (option_map alias_to) (h a) ∙ k.0, k.1)
-taken_same find more place stream_start d waiting h t = t
-taken_same find more place stream_end d waiting h t = t
-taken_same find more place document_start d waiting h t = t
-taken_same find more place document_end d waiting h t = t
-taken_same find more place (scalar s) d waiting h t = t
-taken_same find more place (sequence_start a g) d waiting h t = t
-taken_same find more place sequence_end d waiting h t = t
-taken_same find more place (mapping_start a g) d waiting h t = t
-taken_same find more place mapping_end d waiting h t = t
+taken_same find more place _ d waiting h t = t
 
 all_taken_same : (find more : Find) (place : ℕ) (seen : Input) (events : Marked) (waiting : Waiting)
     → ((a : List ℕ) (p : ℕ) → p < place + length seen → more a p ≡ find a p)
@@ -108,15 +82,7 @@ waits_within : (find : Find) (place : ℕ) (e : PlainEvent) (d : PlainDocEvent) 
 waits_within find place (alias a) d here left end l (inl w) h =
     rw w.1 (All-cons (λ (x : List ℕ × ℕ). x.1 < end) (a, place) left l h)
 waits_within find place (alias a) d here left end l (inr k) h = rw k.1 h
-waits_within find place stream_start d here left end l t h = rw t.1 h
-waits_within find place stream_end d here left end l t h = rw t.1 h
-waits_within find place document_start d here left end l t h = rw t.1 h
-waits_within find place document_end d here left end l t h = rw t.1 h
-waits_within find place (scalar s) d here left end l t h = rw t.1 h
-waits_within find place (sequence_start a g) d here left end l t h = rw t.1 h
-waits_within find place sequence_end d here left end l t h = rw t.1 h
-waits_within find place (mapping_start a g) d here left end l t h = rw t.1 h
-waits_within find place mapping_end d here left end l t h = rw t.1 h
+waits_within find place _ d here left end l t h = rw t.1 h
 
 taken_within : (find : Find) (place : ℕ) (seen : Input) (events : Marked) (waiting : Waiting)
     → AreTaken find place seen events waiting → All (λ x. x.1 < place + length seen) waiting

@@ -1,11 +1,8 @@
 -- The numbers of open collections, as they are filled in, by the next event.
-use Rattle.std.proofs.Common.{◌≡◌, ℕ, ◌+◌, ◌-◌, ◌==◌, ◌<◌, List, [], ◌∷◌, ◌++◌, length, set, reverse, All, true, false}
-use Rattle.std.proofs.Common.{refl, sym, ◌∙◌, ap, subst, arith, append_assoc, length-append, length-set}
-use Rattle.std.proofs.lemmas.Bool.{ne_eqb}
-use Rattle.std.proofs.lemmas.List.{set-append_left, reverse-append}
-use Rattle.std.proofs.lemmas.List.Elements.{All-push, All-tail}
-use Rattle.yaml_load.proofs.Words.{end_place, ends_from, is_closing, is_opening, PlainDocEvent, alias_to, a_scalar}
-use Rattle.yaml_load.proofs.Words.{sequence_begins, sequence_ends, mapping_begins, mapping_ends, a_void, filled}
+use Rattle.yaml_load.proofs.Words.{◌≡◌, ℕ, ◌+◌, ◌-◌, ◌==◌, ◌<◌, List, [], ◌∷◌, ◌++◌, length, set, reverse, All, true}
+use Rattle.yaml_load.proofs.Words.{false, refl, sym, ◌∙◌, ap, subst, arith, append_assoc, length-append, length-set}
+use Rattle.yaml_load.proofs.Words.{ne_eqb, set-append_left, reverse-append, All-push, All-tail, end_place, ends_from}
+use Rattle.yaml_load.proofs.Words.{is_closing, is_opening, PlainDocEvent, sequence_begins, mapping_begins, filled}
 
 -- in reverse
 pub All-reverse : {X : Type 0} (P : X → Type 0) (xs : List X) → All P xs → All P (reverse xs)
@@ -61,15 +58,9 @@ end_here place e later c = rw c
 
 -- no event begins one collection and ends another
 pub opens_alone : (e : PlainDocEvent) → is_opening e ≡ true → is_closing e ≡ false
-opens_alone e h = elim e as (λ x. is_opening x ≡ true → is_closing x ≡ false) [
-  | alias_to t ↦ λ h. absurd cc
-  | a_scalar s ↦ λ h. absurd cc
-  | sequence_begins t ↦ λ h. refl
-  | sequence_ends ↦ λ h. absurd cc
-  | mapping_begins t ↦ λ h. refl
-  | mapping_ends ↦ λ h. absurd cc
-  | a_void ↦ λ h. absurd cc
-] h
+opens_alone (sequence_begins t) h = refl
+opens_alone (mapping_begins t) h = refl
+opens_alone _ h = absurd cc
 
 module _ (e : PlainDocEvent) (later : List PlainDocEvent) where
   pub filled_passes : (starts : List ℕ) (inner place : ℕ) (numbers : List ℕ) → is_opening e ≡ false

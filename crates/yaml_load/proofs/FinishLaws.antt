@@ -1,23 +1,15 @@
 -- Where a document ends, its draft becomes the last of the documents.
-use Rattle.std.proofs.Common.{◌≡◌, ℕ, ◌+◌, ◌<◌, List, [], ◌∷◌, ◌++◌, map, length, take, drop, min, false}
-use Rattle.std.proofs.Common.{refl, sym, ◌∙◌, ap, subst, arith, append-nil, length-take, length-drop, Option, Some}
-use Rattle.std.proofs.Common.{None, option_map}
-use Rattle.std.specs.Prelude.{slice_get}
-use Rattle.std.proofs.Math.Seq.{drop-append_seam, take-add, take-append_seam, take-append-add}
-use Rattle.std.proofs.lemmas.List.{length-map, take-append-drop, take-map}
-use Rattle.yaml_load.proofs.Words.{Position, PlainFault, Cause, doc_event_of, marked_events_of, Find, Input, anchors_in}
+use Rattle.yaml_load.proofs.Words.{Events, Marked, ◌≡◌, ℕ, ◌+◌, ◌<◌, List, [], ◌∷◌, ◌++◌, map, length, take, drop, min}
+use Rattle.yaml_load.proofs.Words.{false, refl, sym, ◌∙◌, ap, subst, arith, append-nil, length-take, length-drop}
+use Rattle.yaml_load.proofs.Words.{Option, Some, None, option_map, slice_get, drop-append_seam, take-add}
+use Rattle.yaml_load.proofs.Words.{take-append_seam, take-append-add, length-map, take-append-drop, take-map, Position}
+use Rattle.yaml_load.proofs.Words.{PlainFault, Cause, doc_event_of, marked_events_of, Find, Input, anchors_in}
 use Rattle.yaml_load.proofs.Words.{document_of, ending_of, find_in, known_events, unknown_mark, ends_of, AreCuts}
 use Rattle.yaml_load.proofs.Words.{documents_in, ending_in, plain_doc_events, PlainDocEvent, PlainDocument, DocEvent}
 use Rattle.yaml_load.proofs.Words.{Cut, Draft, IsBetween, IsDraft, drafts_of, settled, EndsView, bounded_from}
 use Rattle.yaml_load.proofs.Gatherings.{cuts_pushed, documents_pushed, long_pushed, plain_doc_events-marked}
 use Rattle.yaml_load.proofs.SettledEnds.{ends_of_cut, ends_of_whole}
 use Rattle.yaml_load.proofs.SettledLaws.{settled_whole}
-
-abbrev Events : Type 0
-Events = List (DocEvent × Position)
-
-abbrev Marked : Type 0
-Marked = List (PlainDocEvent × Position)
 
 abbrev held : Marked → Option Cause → PlainDocument
 held events ending = record { events = events; ending = ending }

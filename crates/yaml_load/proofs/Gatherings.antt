@@ -1,16 +1,11 @@
 -- Ranges of a list of events keep their documents when events are put behind.
-use Rattle.std.proofs.Common.{◌≡◌, ℕ, suc, ◌+◌, ◌-◌, ◌≤◌, List, [], ◌∷◌, ◌++◌, map, length, take, drop, take_all}
-use Rattle.std.proofs.Common.{slice_range}
-use Rattle.std.proofs.Common.{refl, sym, ◌∙◌, ap, subst, arith, length-append, length-drop, append_assoc, Option}
-use Rattle.std.proofs.lemmas.List.{take-append-le, drop-append-le, map-append}
-use Rattle.std.proofs.lemmas.List.Elements.{All-append, All-cons, All-nil, All-tail}
-use Rattle.std.proofs.Math.Seq.{drop-append_seam}
-use Rattle.yaml_load.proofs.Words.{Position, Cause, doc_event_of, marked_events_of, ends_from, ends_of, AreCuts}
-use Rattle.yaml_load.proofs.Words.{HasEnds, document_in, documents_in, ending_in, plain_doc_events, PlainDocEvent}
-use Rattle.yaml_load.proofs.Words.{PlainDocument, DocEvent, Cut}
-
-abbrev Events : Type 0
-Events = List (DocEvent × Position)
+use Rattle.yaml_load.proofs.Words.{Events, ◌≡◌, ℕ, suc, ◌+◌, ◌-◌, ◌≤◌, List, [], ◌∷◌, ◌++◌, map, length, take, drop}
+use Rattle.yaml_load.proofs.Words.{take_all, slice_range, refl, sym, ◌∙◌, ap, subst, arith, length-append, length-drop}
+use Rattle.yaml_load.proofs.Words.{append_assoc, Option, length-map, take-append-le, drop-append-le, map-append}
+use Rattle.yaml_load.proofs.Words.{All-append, All-cons, All-nil, All-tail, drop-append_seam, Position, Cause}
+use Rattle.yaml_load.proofs.Words.{doc_event_of, marked_events_of, ends_from, ends_of, AreCuts, HasEnds, document_in}
+use Rattle.yaml_load.proofs.Words.{documents_in, ending_in, plain_doc_events, PlainDocEvent, PlainDocument, DocEvent}
+use Rattle.yaml_load.proofs.Words.{Cut}
 
 -- a range of the front
 range_of_front : {X : Type 0} (xs ys : List X) (from to : ℕ) → from ≤ to → to ≤ length xs
@@ -28,13 +23,9 @@ range_behind xs ys from to begin end =
     ∙ ap (take (to - from)) (drop-append_seam xs ys) ∙ take_all (to - from) ys long
 
 -- as many numbers as events
-length-ends_from : (place : ℕ) (events : List PlainDocEvent) → length (ends_from place events) ≡ length events
+pub length-ends_from : (place : ℕ) (events : List PlainDocEvent) → length (ends_from place events) ≡ length events
 length-ends_from place [] = refl
 length-ends_from place (e ∷ events) = ap suc (length-ends_from (place + 1) events)
-
-length-plain_doc_events : (events : Events) → length (plain_doc_events events) ≡ length events
-length-plain_doc_events [] = refl
-length-plain_doc_events (e ∷ events) = ap suc (length-plain_doc_events events)
 
 -- the plain events, with and without their marks
 pub plain_doc_events-marked : (events : Events)
@@ -59,7 +50,8 @@ has_ends_behind : (events more : Events) (ends numbers : List ℕ) (from to : �
     → HasEnds (events ++ more) (ends ++ numbers) from to
 has_ends_behind events more ends numbers from to long are begin end =
     let many : length numbers ≡ length more =
-    ap length are ∙ length-ends_from 0 (plain_doc_events more) ∙ length-plain_doc_events more in
+    ap length are ∙ length-ends_from 0 (plain_doc_events more)
+    ∙ length-map more (λ (e : DocEvent × Position). doc_event_of e.0) in
     let whole : to ≡ length (ends ++ numbers) =
     omega (arith, length-append events more, length-append ends numbers) in (
       omega (arith, length-append events more),
@@ -132,7 +124,8 @@ pub long_pushed : (events more whole : Events) (ends numbers all : List ℕ) →
     → length ends ≡ length events → numbers ≡ ends_of (plain_doc_events more) → length all ≡ length whole
 long_pushed events more whole ends numbers all w a long are =
     let many : length numbers ≡ length more =
-    ap length are ∙ length-ends_from 0 (plain_doc_events more) ∙ length-plain_doc_events more in
+    ap length are ∙ length-ends_from 0 (plain_doc_events more)
+    ∙ length-map more (λ (e : DocEvent × Position). doc_event_of e.0) in
     omega (arith, ap length w, ap length a, length-append events more, length-append ends numbers)
 
 -- one document more, and those of the ranges left

@@ -1,16 +1,15 @@
 -- A loader takes one event more.
-use Rattle.std.proofs.Common.{◌≡◌, ◌∙◌, ℕ, ◌+◌, ◌-◌, List, [], ◌∷◌, ◌++◌, Option, Some, None, Bool, true, ap, arith, sym, subst, refl}
-use Rattle.std.proofs.Common.{All, append_assoc, append-nil, is_some, length}
-use Rattle.std.proofs.lemmas.List.{length-append, map-append}
-use Rattle.std.specs.Prelude.{slice_get}
+use Rattle.std.proofs.lemmas.List.{length-append}
 use Rattle.std.specs.Option.{option_map}
-use Rattle.yaml_load.proofs.Words.{Position, PlainEvent, PlainFault, State, before_stream, next_state, run, Open}
-use Rattle.yaml_load.proofs.Words.{IsWellFormed, Input, documents_of, last_mark, events_in, PlainDocument, IsDocument}
-use Rattle.yaml_load.proofs.Words.{Moves, is_done, is_open, state_of, Phase, Draft, IsBetween, HasTaken, IsOnWay}
-use Rattle.yaml_load.proofs.Words.{IsReady, Takes, is_inside, open_before, open_behind}
-use Rattle.yaml_base.proofs.StreamMachineLaws.{run_append}
+use Rattle.yaml_load.proofs.Words.{◌≡◌, ◌∙◌, ℕ, ◌+◌, ◌-◌, List, [], ◌∷◌, ◌++◌, Option, Some, None, Bool, true, ap}
+use Rattle.yaml_load.proofs.Words.{arith, sym, subst, refl, All, append_assoc, append-nil, is_some, length, map-append}
+use Rattle.yaml_load.proofs.Words.{slice_get, Position, PlainEvent, PlainFault, State, before_stream, next_state, run}
+use Rattle.yaml_load.proofs.Words.{Open, IsWellFormed, Input, documents_of, last_mark, events_in, PlainDocument}
+use Rattle.yaml_load.proofs.Words.{IsDocument, Moves, is_done, is_open, state_of, Phase, Draft, IsBetween, HasTaken}
+use Rattle.yaml_load.proofs.Words.{IsOnWay, IsReady, Takes, is_inside, open_before, open_behind, run_append}
 use Rattle.yaml_load.proofs.LoadingLaws.{on_way, ready_if}
 use Rattle.yaml_load.proofs.LoadingTurns.{inside_phase, open_faulted, turns}
+use Rattle.yaml_load.proofs.SettledLaws.{get_behind}
 use Rattle.yaml_load.proofs.StreamEndings.{all_endings}
 use Rattle.yaml_load.proofs.StreamTrees.{whole_has_tree}
 
@@ -21,16 +20,11 @@ ran_on taken x s ran =
     ap (run (Some before_stream)) (map-append (λ (e : PlainEvent × Position). e.0) taken (x ∷ []))
     ∙ run_append (events_in taken) (x.0 ∷ []) (Some before_stream) ∙ ap (λ o. run o (x.0 ∷ [])) ran
 
--- the last event of a list that has grown by one
-got_last : (taken : Input) (x : PlainEvent × Position) → slice_get (taken ++ x ∷ []) (length taken) ≡ Some x
-got_last [] x = refl
-got_last (e ∷ taken) x = got_last taken x
-
 last_on : (taken : Input) (x : PlainEvent × Position) → Some x.1 ≡ last_mark (taken ++ x ∷ [])
 last_on taken x =
     let at : length (taken ++ x ∷ []) - 1 ≡ length taken = omega (arith, length-append taken (x ∷ [])) in
     sym (ap (λ i. option_map (λ (e : PlainEvent × Position). e.1) (slice_get (taken ++ x ∷ []) i)) at
-    ∙ ap (option_map (λ (e : PlainEvent × Position). e.1)) (got_last taken x))
+    ∙ ap (option_map (λ (e : PlainEvent × Position). e.1)) (get_behind taken [] x))
 
 pub taken_on : (phase after : Phase) (outer behind : List Open) (end : Option Position) (count : ℕ) (taken : Input)
     (e : PlainEvent) (mark : Position) (old new : Draft) → HasTaken phase outer end count taken old

@@ -1,13 +1,9 @@
 -- The anchor that was named last is the one in front of what comes next.
-use Rattle.std.proofs.Common.{◌≡◌, ℕ, suc, ◌+◌, ◌<◌, ◌≤◌, List, [], ◌∷◌, ◌++◌, ◌-◌, length, get_or, sym, ◌∙◌, ap}
-use Rattle.std.proofs.Common.{subst, arith, true, false, nat_lt, Option, Some, None, inl, inr, All}
-use Rattle.std.specs.Str.{bytes_eq}
-use Rattle.std.proofs.lemmas.Bool.{cases_Bool, lt-ltb, ltb-true}
-use Rattle.std.proofs.lemmas.List.Elements.{All-cons}
-use Rattle.yaml_base.specs.Tree.{anchor_at}
-use Rattle.yaml_load.specs.Documents.{Input, anchor_of, anchors_in, find_in}
+use Rattle.yaml_load.proofs.Words.{◌≡◌, ℕ, suc, ◌+◌, ◌<◌, ◌≤◌, List, [], ◌∷◌, ◌++◌, ◌-◌, length, get_or, sym, ◌∙◌, ap}
+use Rattle.yaml_load.proofs.Words.{subst, arith, true, nat_lt, Option, Some, None, All, bytes_eq, lt-ltb, ltb-true}
+use Rattle.yaml_load.proofs.Words.{All-cons, anchor_at, Input, anchor_of, anchors_in, find_in}
 use Rattle.yaml_load.proofs.AnchorOrders.{Named}
-use Rattle.yaml_load.proofs.AnchorSearch.{Bounded, find_some, number, number_as, number_of_other}
+use Rattle.yaml_load.proofs.AnchorSearch.{bounded_by, find_some, number, number_as}
 
 -- anchors stand at the places of their nodes
 placed_at : (o : Option (List ℕ)) (place end : ℕ) (later : List Named) → place < end
@@ -44,15 +40,6 @@ last_is_greatest place [] d = λ k e l. absurd (omega arith)
 last_is_greatest place (e ∷ seen) d =
     greatest_at (anchor_of e.0) place (anchors_in (place + 1) seen) d
     (λ k f l. let h = (placed (place + 1) seen k f l).0 in omega arith) (last_is_greatest (place + 1) seen d)
-
-bounded_by : (alias : Named) (n : ℕ) (x : Named) → x.1 ≤ n → Bounded n (number alias x)
-bounded_by alias n x least = elim (cases_Bool (bytes_eq x.0 alias.0)) [
-  | inr other ↦ subst (Bounded n) (sym (number_of_other alias x other)) tt
-  | inl here ↦ elim (cases_Bool (nat_lt x.1 alias.1)) [
-    | inl front ↦ subst (Bounded n) (sym (number_as alias x true true here front)) least
-    | inr back ↦ subst (Bounded n) (sym (number_as alias x true false here back)) tt
-  ]
-]
 
 -- the last anchor, where it has the alias's name, is its target
 pub last_found : (seen : Input) (named : List Named) (alias y : Named) → named ≡ anchors_in 0 seen

@@ -1,12 +1,10 @@
 -- Where no event is left, the draft's documents are those of all events.
-use Rattle.std.proofs.Common.{◌≡◌, List, [], ◌∷◌, ◌++◌, map, length, refl, sym, ◌∙◌, ap, subst, arith, append-nil}
-use Rattle.std.proofs.Common.{Option, Some, None, is_some, Bool, true, false, cond}
-use Rattle.std.specs.Prelude.{option_to_list}
 use Rattle.std.specs.Bool.{beq}
-use Rattle.yaml_load.proofs.Words.{Position, PlainFault, Event, Input, after_starts, anchors_in, document_from}
-use Rattle.yaml_load.proofs.Words.{document_of, documents_of, failed_document, last_mark, void_document, void_documents}
-use Rattle.yaml_load.proofs.Words.{documents_in, PlainDocument, Cut, Draft, IsBetween, IsClosedDraft, IsOnWay}
-use Rattle.yaml_load.proofs.Words.{IsOpenDraft}
+use Rattle.yaml_load.proofs.Words.{◌≡◌, List, [], ◌∷◌, ◌++◌, map, refl, sym, ◌∙◌, ap, subst, append-nil, Option, Some}
+use Rattle.yaml_load.proofs.Words.{None, is_some, Bool, true, false, cond, option_to_list, Position, PlainFault, Input}
+use Rattle.yaml_load.proofs.Words.{after_starts, anchors_in, document_from, document_of, documents_of, failed_document}
+use Rattle.yaml_load.proofs.Words.{last_mark, void_document, void_documents, documents_in, PlainDocument, Draft}
+use Rattle.yaml_load.proofs.Words.{IsBetween, IsClosedDraft, IsOnWay, IsOpenDraft}
 use Rattle.yaml_load.proofs.LoadingLaws.{from_body}
 
 -- the documents of all events, where no event is left
@@ -79,25 +77,13 @@ none_closes opened fault all old new known is made way =
     (made (subst (λ x. IsOnWay false x all [] old) is
     (subst (λ b. IsOnWay b fault all [] old) (closed_none opened fault is known) way)))
 
--- a list without elements
-pub none_held : (cuts : List Cut) → length cuts ≡ 0 → cuts ≡ []
-none_held [] h = refl
-none_held (c ∷ cuts) h = absurd (omega arith)
-
--- events of which none is left
-pub nothing_left : (events : List (Event × Position)) → length events ≡ 0 → events ≡ []
-nothing_left [] h = refl
-nothing_left (e ∷ events) h = absurd (omega arith)
-
 -- two flags that are compared
 pub flags_same : (a b : Bool) → beq a b ≡ true → a ≡ b
 flags_same true true h = refl
-flags_same true false h = absurd cc
-flags_same false true h = absurd cc
 flags_same false false h = refl
+flags_same _ _ h = absurd cc
 
 pub flags_differ : (a b : Bool) → beq a b ≡ false → a ≡ b → ⊥
-flags_differ true true h e = absurd cc
 flags_differ true false h e = absurd cc
 flags_differ false true h e = absurd cc
-flags_differ false false h e = absurd cc
+flags_differ _ _ h e = absurd cc

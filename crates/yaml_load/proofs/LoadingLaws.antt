@@ -1,16 +1,14 @@
 -- Each event that may stand where it stands leads the draft on.
-use Rattle.std.proofs.Common.{◌≡◌, ◌+◌, ℕ, length, List, [], ◌∷◌, ◌++◌, map, refl, sym, ◌∙◌, ap, subst, arith}
-use Rattle.std.proofs.Common.{append_assoc, append-nil}
-use Rattle.std.proofs.Common.{Option, Some, None, All, IsTrue, Bool, true, false, not, cond, ◌||◌}
-use Rattle.std.proofs.lemmas.List.Elements.{All-tail}
-use Rattle.yaml_load.proofs.Words.{Position, PlainEvent, stream_start, stream_end, document_start, document_end, alias}
-use Rattle.yaml_load.proofs.Words.{scalar, sequence_start, sequence_end, mapping_start, mapping_end, PlainFault}
-use Rattle.yaml_load.proofs.Words.{anchor_at, doc_event_of, Input, after_starts, anchor_of, anchors_in, body}
-use Rattle.yaml_load.proofs.Words.{document_from, document_of, ending_of, find_in, is_document_end, is_document_start}
-use Rattle.yaml_load.proofs.Words.{is_ended, is_open_after, known_events, unknown_mark, AreCuts, documents_in}
-use Rattle.yaml_load.proofs.Words.{PlainDocEvent, PlainDocument, DocEvent, Cut, Draft, IsBetween, IsDraft, IsTaken}
+use Rattle.yaml_load.proofs.Words.{◌≡◌, ◌+◌, ℕ, length, List, [], ◌∷◌, ◌++◌, map, refl, sym, ◌∙◌, ap, subst, arith}
+use Rattle.yaml_load.proofs.Words.{append_assoc, append-nil, Option, Some, None, Bool, true, false, not, cond, ◌||◌}
+use Rattle.yaml_load.proofs.Words.{Position, PlainEvent, stream_start, stream_end, document_start, document_end}
+use Rattle.yaml_load.proofs.Words.{PlainFault, anchor_at, doc_event_of, Input, after_starts, anchor_of, anchors_in}
+use Rattle.yaml_load.proofs.Words.{body, document_from, document_of, ending_of, find_in, is_document_end}
+use Rattle.yaml_load.proofs.Words.{is_document_start, is_ended, is_open_after, known_events, unknown_mark, AreCuts}
+use Rattle.yaml_load.proofs.Words.{documents_in, PlainDocEvent, DocEvent, Cut, Draft, IsBetween, IsDraft, IsTaken}
 use Rattle.yaml_load.proofs.Words.{Waiting, drafted, drafts_of, is_of_node, HasNumbers, IsClosedDraft, IsOnWay}
 use Rattle.yaml_load.proofs.Words.{IsOpenDraft, IsReady, Takes, open_before, open_behind}
+use Rattle.yaml_load.proofs.SettledLaws.{ToNodes, nodes_left}
 use Rattle.yaml_load.proofs.DraftLaws.{aliases_in_range, as_many, begins_within, draft_more, drafts_long, whole_long}
 
 abbrev NodeFacts : PlainEvent → Type 0
@@ -21,18 +19,7 @@ node_facts stream_start h = absurd cc
 node_facts stream_end h = absurd cc
 node_facts document_start h = absurd cc
 node_facts document_end h = absurd cc
-node_facts (alias a) h = (refl, refl, refl)
-node_facts (scalar s) h = (refl, refl, refl)
-node_facts (sequence_start a g) h = (refl, refl, refl)
-node_facts sequence_end h = (refl, refl, refl)
-node_facts (mapping_start a g) h = (refl, refl, refl)
-node_facts mapping_end h = (refl, refl, refl)
-
-abbrev ToNodes : Input → Type 0
-ToNodes seen = All (λ e. IsTrue (is_of_node e.0)) seen
-
-nodes_left : (e : PlainEvent × Position) (seen : Input) → ToNodes (e ∷ seen) → ToNodes seen
-nodes_left e seen nodes = All-tail (λ (x : PlainEvent × Position). IsTrue (is_of_node x.0)) e seen nodes
+node_facts _ h = (refl, refl, refl)
 
 -- events of nodes end no document
 first_ends_none : (e : PlainEvent × Position) (seen : Input) → ToNodes (e ∷ seen) → is_document_end e.0 ≡ false
@@ -72,11 +59,6 @@ ended_document seen fault =
     ap (λ (e : _). record { events = known_events (find_in (anchors_in 0 seen)) 0 seen; ending = e })
     (no_fault (unknown_mark (find_in (anchors_in 0 seen)) 0 seen) fault)
 
--- the first of documents goes over to those in front
-one_over : (documents : List PlainDocument) (d : PlainDocument) (later : List PlainDocument)
-    → (documents ++ d ∷ []) ++ later ≡ documents ++ d ∷ later
-one_over documents d later = append_assoc documents (d ∷ []) later
-
 module _ (fault : Option PlainFault) (all left rest : Input) (e : PlainEvent) (mark : Position)
     (is : left ≡ (e, mark) ∷ rest) (old new : Draft) where
   -- a document begins
@@ -92,7 +74,7 @@ module _ (fault : Option PlainFault) (all left rest : Input) (e : PlainEvent) (m
         cuts = subst (λ (x : List Cut). AreCuts old.events.items old.ends.numbers x)
             (sym (ap (λ (x : _). x.items) cuts)) h.between.cuts;
         complete = (
-          one_over (documents_in old.events.items new.cuts.items) (document_from fault rest)
+          append_assoc (documents_in old.events.items new.cuts.items) (document_from fault rest ∷ [])
               (map (document_from fault) (after_starts true rest))
               ∙ ap (λ (x : List Cut). documents_in old.events.items x
               ++ document_from fault rest ∷ map (document_from fault) (after_starts true rest))

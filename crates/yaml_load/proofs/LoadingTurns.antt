@@ -1,10 +1,9 @@
 -- Which states are within a document, in front of each event and behind it.
-use Rattle.std.proofs.Common.{◌≡◌, List, [], ◌∷◌, refl, sym, ◌∙◌, ap, Some, Bool, true, false}
-use Rattle.yaml_load.proofs.Words.{PlainEvent, stream_start, stream_end, document_start, document_end, alias, scalar}
+use Rattle.yaml_load.proofs.Words.{◌≡◌, List, [], ◌∷◌, refl, sym, ◌∙◌, ap, Some, Bool, true, false, PlainEvent}
+use Rattle.yaml_load.proofs.Words.{stream_start, stream_end, document_start, document_end, alias, scalar}
 use Rattle.yaml_load.proofs.Words.{sequence_start, sequence_end, mapping_start, mapping_end, State, before_stream}
 use Rattle.yaml_load.proofs.Words.{between_documents, before_root, within, after_stream, begins, next_state, is_done}
-use Rattle.yaml_load.proofs.Words.{is_open, state_of, Phase, Open, is_inside, open_before, open_behind}
-use Rattle.yaml_load.specs.declared.loader.check.Phase.TheVariants.{Before, Between, Root, Within, Ended, After}
+use Rattle.yaml_load.proofs.Words.{is_open, state_of, Phase, Open, is_inside, open_before, open_behind, Before, After}
 use Rattle.yaml_base.specs.declared.open.Open.TheVariants.{Sequence, Key, Value}
 
 abbrev Turns : PlainEvent → State → State → Type 0
@@ -16,16 +15,11 @@ is_next s t h = let e : s ≡ t = cc in ap is_inside (sym e)
 
 begun : (opened : List Open) (e : PlainEvent) (t : State) → begins opened e ≡ Some t
     → (open_before e ≡ true) × (open_behind e ≡ true) × (is_inside t ≡ true)
-begun opened stream_start t h = absurd cc
-begun opened stream_end t h = absurd cc
-begun opened document_start t h = absurd cc
-begun opened document_end t h = absurd cc
 begun opened (alias a) t h = (refl, refl, is_next (within opened) t h)
 begun opened (scalar s) t h = (refl, refl, is_next (within opened) t h)
 begun opened (sequence_start a g) t h = (refl, refl, is_next (within (Sequence ∷ opened)) t h)
-begun opened sequence_end t h = absurd cc
 begun opened (mapping_start a g) t h = (refl, refl, is_next (within (Key ∷ opened)) t h)
-begun opened mapping_end t h = absurd cc
+begun opened _ t h = absurd cc
 
 inside_begun : (s : State) (opened : List Open) (e : PlainEvent) (t : State) → is_inside s ≡ true → begins opened e
     ≡ Some t → Turns e s t
@@ -33,90 +27,27 @@ inside_begun s opened e t i h = let b = begun opened e t h in (i ∙ sym b.0, b.
 
 pub turns : (s : State) (e : PlainEvent) (t : State) → next_state s e ≡ Some t → Turns e s t
 turns before_stream stream_start t h = (refl, is_next between_documents t h)
-turns before_stream stream_end t h = absurd cc
-turns before_stream document_start t h = absurd cc
-turns before_stream document_end t h = absurd cc
-turns before_stream (alias a) t h = absurd cc
-turns before_stream (scalar s) t h = absurd cc
-turns before_stream (sequence_start a g) t h = absurd cc
-turns before_stream sequence_end t h = absurd cc
-turns before_stream (mapping_start a g) t h = absurd cc
-turns before_stream mapping_end t h = absurd cc
-turns between_documents stream_start t h = absurd cc
+turns before_stream _ t h = absurd cc
 turns between_documents stream_end t h = (refl, is_next after_stream t h)
 turns between_documents document_start t h = (refl, is_next before_root t h)
-turns between_documents document_end t h = absurd cc
-turns between_documents (alias a) t h = absurd cc
-turns between_documents (scalar s) t h = absurd cc
-turns between_documents (sequence_start a g) t h = absurd cc
-turns between_documents sequence_end t h = absurd cc
-turns between_documents (mapping_start a g) t h = absurd cc
-turns between_documents mapping_end t h = absurd cc
+turns between_documents _ t h = absurd cc
 turns before_root e t h = inside_begun before_root [] e t refl h
-turns (within []) stream_start t h = absurd cc
-turns (within []) stream_end t h = absurd cc
-turns (within []) document_start t h = absurd cc
 turns (within []) document_end t h = (refl, is_next between_documents t h)
-turns (within []) (alias a) t h = absurd cc
-turns (within []) (scalar s) t h = absurd cc
-turns (within []) (sequence_start a g) t h = absurd cc
-turns (within []) sequence_end t h = absurd cc
-turns (within []) (mapping_start a g) t h = absurd cc
-turns (within []) mapping_end t h = absurd cc
-turns (within (Sequence ∷ o)) stream_start t h =
-    inside_begun (within (Sequence ∷ o)) (Sequence ∷ o) stream_start t refl h
-turns (within (Sequence ∷ o)) stream_end t h = inside_begun (within (Sequence ∷ o)) (Sequence ∷ o) stream_end t refl h
-turns (within (Sequence ∷ o)) document_start t h =
-    inside_begun (within (Sequence ∷ o)) (Sequence ∷ o) document_start t refl h
-turns (within (Sequence ∷ o)) document_end t h =
-    inside_begun (within (Sequence ∷ o)) (Sequence ∷ o) document_end t refl h
-turns (within (Sequence ∷ o)) (alias a) t h = inside_begun (within (Sequence ∷ o)) (Sequence ∷ o) (alias a) t refl h
-turns (within (Sequence ∷ o)) (scalar s) t h = inside_begun (within (Sequence ∷ o)) (Sequence ∷ o) (scalar s) t refl h
-turns (within (Sequence ∷ o)) (sequence_start a g) t h =
-    inside_begun (within (Sequence ∷ o)) (Sequence ∷ o) (sequence_start a g) t refl h
+turns (within []) _ t h = absurd cc
 turns (within (Sequence ∷ o)) sequence_end t h = (refl, is_next (within o) t h)
-turns (within (Sequence ∷ o)) (mapping_start a g) t h =
-    inside_begun (within (Sequence ∷ o)) (Sequence ∷ o) (mapping_start a g) t refl h
-turns (within (Sequence ∷ o)) mapping_end t h = inside_begun (within (Sequence ∷ o)) (Sequence ∷ o) mapping_end t refl h
-turns (within (Key ∷ o)) stream_start t h = inside_begun (within (Key ∷ o)) (Value ∷ o) stream_start t refl h
-turns (within (Key ∷ o)) stream_end t h = inside_begun (within (Key ∷ o)) (Value ∷ o) stream_end t refl h
-turns (within (Key ∷ o)) document_start t h = inside_begun (within (Key ∷ o)) (Value ∷ o) document_start t refl h
-turns (within (Key ∷ o)) document_end t h = inside_begun (within (Key ∷ o)) (Value ∷ o) document_end t refl h
-turns (within (Key ∷ o)) (alias a) t h = inside_begun (within (Key ∷ o)) (Value ∷ o) (alias a) t refl h
-turns (within (Key ∷ o)) (scalar s) t h = inside_begun (within (Key ∷ o)) (Value ∷ o) (scalar s) t refl h
-turns (within (Key ∷ o)) (sequence_start a g) t h =
-    inside_begun (within (Key ∷ o)) (Value ∷ o) (sequence_start a g) t refl h
-turns (within (Key ∷ o)) sequence_end t h = inside_begun (within (Key ∷ o)) (Value ∷ o) sequence_end t refl h
-turns (within (Key ∷ o)) (mapping_start a g) t h =
-    inside_begun (within (Key ∷ o)) (Value ∷ o) (mapping_start a g) t refl h
+turns (within (Sequence ∷ o)) e t h = inside_begun (within (Sequence ∷ o)) (Sequence ∷ o) e t refl h
 turns (within (Key ∷ o)) mapping_end t h = (refl, is_next (within o) t h)
+turns (within (Key ∷ o)) e t h = inside_begun (within (Key ∷ o)) (Value ∷ o) e t refl h
 turns (within (Value ∷ o)) e t h = inside_begun (within (Value ∷ o)) (Key ∷ o) e t refl h
-turns after_stream stream_start t h = absurd cc
-turns after_stream stream_end t h = absurd cc
-turns after_stream document_start t h = absurd cc
-turns after_stream document_end t h = absurd cc
-turns after_stream (alias a) t h = absurd cc
-turns after_stream (scalar s) t h = absurd cc
-turns after_stream (sequence_start a g) t h = absurd cc
-turns after_stream sequence_end t h = absurd cc
-turns after_stream (mapping_start a g) t h = absurd cc
-turns after_stream mapping_end t h = absurd cc
+turns after_stream _ t h = absurd cc
 
 -- a phase within a document
 pub inside_phase : (p : Phase) (opened : List Open) → is_inside (state_of p opened) ≡ is_open p
 inside_phase Before opened = refl
-inside_phase Between opened = refl
-inside_phase Root opened = refl
-inside_phase (Within o) opened = refl
-inside_phase Ended opened = refl
-inside_phase After opened = refl
+inside_phase _ opened = refl
 
 -- where the events are right, a document is open only where there is a fault
 pub open_faulted : (p : Phase) (faulted : Bool) → (is_done p ≡ faulted → ⊥) → is_open p ≡ true → faulted ≡ true
 open_faulted p true other h = refl
-open_faulted Before false other h = absurd (other refl)
-open_faulted Between false other h = absurd (other refl)
-open_faulted Root false other h = absurd (other refl)
-open_faulted (Within o) false other h = absurd (other refl)
-open_faulted Ended false other h = absurd (other refl)
 open_faulted After false other h = absurd cc
+open_faulted _ false other h = absurd (other refl)

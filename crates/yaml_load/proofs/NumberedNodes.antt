@@ -1,16 +1,15 @@
 -- The places of the anchors of a document are those of nodes of its tree.
-use Rattle.std.proofs.Common.{◌≡◌, ℕ, suc, ◌+◌, List, [], ◌∷◌, ◌++◌, length, refl, sym, ◌∙◌, ap, subst, arith, Bool}
-use Rattle.std.proofs.Common.{true, false, cond, ◌==◌, Option, Some, None, length-append}
-use Rattle.std.proofs.lemmas.Bool.{eq-eqb}
-use Rattle.yaml_load.proofs.Words.{Node, alias_node, scalar_node, sequence_node, mapping_node, Nodes, no_nodes, node}
+use Rattle.yaml_load.proofs.Words.{◌≡◌, ℕ, suc, ◌+◌, List, [], ◌∷◌, ◌++◌, length, refl, sym, ◌∙◌, ap, subst, arith}
+use Rattle.yaml_load.proofs.Words.{Bool, true, false, cond, ◌==◌, Option, Some, None, length-append, eq-eqb, Node}
+use Rattle.yaml_load.proofs.Words.{alias_node, scalar_node, sequence_node, mapping_node, Nodes, no_nodes, node}
 use Rattle.yaml_load.proofs.Words.{NodePairs, no_pairs, pair, size_of, anchor_at, anchors_of, anchors_of_nodes}
 use Rattle.yaml_load.proofs.Words.{anchors_of_pairs, DocNode, reference, word, list, mapping, DocNodes, DocPairs}
 use Rattle.yaml_load.proofs.Words.{events_of, events_of_nodes, events_of_pairs, numbered, numbered_nodes}
 use Rattle.yaml_load.proofs.Words.{numbered_pairs, with_number, Find, sequence_ends, mapping_ends, without_anchor}
 use Rattle.yaml_load.proofs.Words.{resolved_from, resolved_nodes, resolved_pairs}
-use Rattle.yaml_load.specs.DocTree as tree
 use Rattle.yaml_load.proofs.NodeSizes.{nodes_size, pairs_size, size_sequence, size_mapping, size_node, size_pair}
 use Rattle.yaml_load.proofs.OnTrees.{OnTree, on_tree, on_map, on_nodes, on_pairs, Each, each_append, each_more}
+use Rattle.yaml_load.specs.DocTree as tree
 
 -- a node has the number
 abbrev pub HasNumber : List (ℕ × DocNode) → ℕ → Type 0

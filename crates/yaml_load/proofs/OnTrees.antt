@@ -1,8 +1,7 @@
 -- What holds of a tree that is there, and of each element of a list.
-use Rattle.std.proofs.Common.{◌≡◌, List, [], ◌∷◌, ◌++◌, refl, subst, Option, Some, None, option_map}
-use Rattle.yaml_load.specs.DocTree.{DocNode, DocNodes, DocPairs}
+use Rattle.yaml_load.proofs.Words.{◌≡◌, List, [], ◌∷◌, ◌++◌, refl, subst, Option, Some, None, option_map, DocNode}
+use Rattle.yaml_load.proofs.Words.{DocNodes, DocPairs, node_then_nodes, pair_then_pairs}
 use Rattle.yaml_load.specs.DocTree as tree
-use Rattle.yaml_load.specs.Resolved.{node_then_nodes, pair_then_pairs}
 
 -- what holds of what is there
 abbrev pub OnTree : {X : Type 0} → (X → Type 0) → Option X → Type 0

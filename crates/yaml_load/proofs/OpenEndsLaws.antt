@@ -1,12 +1,8 @@
 -- The numbers of open collections are filled in as their events go by.
-use Rattle.std.proofs.Common.{◌≡◌, ℕ, zero, suc, ◌+◌, ◌<◌, ◌≤◌, List, [], ◌∷◌, ◌++◌, map, length, set, reverse, min}
-use Rattle.std.proofs.Common.{true, false, refl, sym, ◌∙◌, ap, subst, arith, append-nil, length-set, get_or}
-use Rattle.std.proofs.Math.Seq.{set-append_seam}
-use Rattle.std.proofs.lemmas.List.{reverse-append}
-use Rattle.std.proofs.lemmas.List.Elements.{All-tail}
-use Rattle.yaml_load.specs.Ends.{end_place, ends_from, ends_of, is_closing, is_opening}
-use Rattle.yaml_load.specs.PlainDocEvent.{PlainDocEvent}
-use Rattle.yaml_load.specs.inner.OpenEnds.{EndsView, HasNumbers, bounded_from, filled}
+use Rattle.yaml_load.proofs.Words.{◌≡◌, ℕ, zero, suc, ◌+◌, ◌<◌, ◌≤◌, List, [], ◌∷◌, ◌++◌, map, length, set, reverse}
+use Rattle.yaml_load.proofs.Words.{min, true, false, refl, sym, ◌∙◌, ap, subst, arith, append-nil, length-set, get_or}
+use Rattle.yaml_load.proofs.Words.{set-append_seam, reverse-append, All-tail, end_place, ends_from, ends_of, is_closing}
+use Rattle.yaml_load.proofs.Words.{is_opening, PlainDocEvent, EndsView, HasNumbers, bounded_from, filled}
 use Rattle.yaml_load.proofs.FilledEnds.{All-reverse, AreIn, in_set, filled_push, end_here, filled_passes, filled_deeper}
 use Rattle.yaml_load.proofs.FilledEnds.{filled_outer, number_passes, number_opens, behind, one_longer, filled_at_end}
 

@@ -1,12 +1,11 @@
 -- The definitions of documents, read off events without their marks, and where the events of a tree end.
-use Rattle.std.proofs.Common.{◌≡◌, ℕ, ◌+◌, List, [], ◌∷◌, ◌++◌, map, refl, ◌∙◌, ap, Bool, true, false, cond, ◌||◌}
-use Rattle.std.proofs.Common.{Option, Some, None, is_some, inl, inr}
-use Rattle.std.proofs.lemmas.Bool.{cases_Bool}
-use Rattle.yaml_load.proofs.Words.{Position, PlainEvent, sequence_start, sequence_end, mapping_start, mapping_end, Node}
-use Rattle.yaml_load.proofs.Words.{alias_node, scalar_node, sequence_node, mapping_node, Nodes, no_nodes, node}
-use Rattle.yaml_load.proofs.Words.{NodePairs, no_pairs, pair, node_events, nodes_events, pairs_events, anchor_at, Input}
-use Rattle.yaml_load.proofs.Words.{Find, becomes, then_events, known_events, or_mark, unknown_mark, body, behind}
-use Rattle.yaml_load.proofs.Words.{is_ended, is_document_end, anchor_of, anchors_in, events_in, PlainDocEvent}
+use Rattle.yaml_load.proofs.Words.{◌≡◌, ℕ, ◌+◌, List, [], ◌∷◌, ◌++◌, map, refl, ◌∙◌, ap, Bool, true, false, cond, ◌||◌}
+use Rattle.yaml_load.proofs.Words.{Option, Some, None, is_some, inl, inr, cases_Bool, Position, PlainEvent}
+use Rattle.yaml_load.proofs.Words.{sequence_start, sequence_end, mapping_start, mapping_end, Node, alias_node}
+use Rattle.yaml_load.proofs.Words.{scalar_node, sequence_node, mapping_node, Nodes, no_nodes, node, NodePairs, no_pairs}
+use Rattle.yaml_load.proofs.Words.{pair, node_events, nodes_events, pairs_events, anchor_at, Input, Find, becomes}
+use Rattle.yaml_load.proofs.Words.{then_events, known_events, or_mark, unknown_mark, body, behind, is_ended}
+use Rattle.yaml_load.proofs.Words.{is_document_end, anchor_of, anchors_in, events_in, PlainDocEvent}
 
 -- the definitions without marks
 abbrev pub plain_body : List PlainEvent → List PlainEvent

@@ -1,14 +1,11 @@
 -- The ends of a document's known events are those of the draft, cut off where an alias is unknown.
-use Rattle.std.proofs.Common.{◌≡◌, ℕ, suc, ◌+◌, ◌≤◌, List, [], ◌∷◌, map, length, take, min, refl, sym, ◌∙◌, ap, arith}
-use Rattle.std.proofs.Common.{take_all, Option, Some, None, Bool, true, false, inl, inr, option_map, cond, ◌&&◌, ◌==◌}
-use Rattle.std.proofs.lemmas.Bool.{cases_Bool}
-use Rattle.std.proofs.lemmas.List.{length-map}
-use Rattle.yaml_load.proofs.Words.{Position, PlainEvent, stream_start, stream_end, document_start, document_end, alias}
-use Rattle.yaml_load.proofs.Words.{scalar, sequence_start, sequence_end, mapping_start, mapping_end, Find, Input}
+use Rattle.yaml_load.proofs.Words.{◌≡◌, ℕ, suc, ◌+◌, ◌≤◌, List, [], ◌∷◌, map, length, take, min, refl, sym, ◌∙◌, ap}
+use Rattle.yaml_load.proofs.Words.{arith, take_all, Option, Some, None, Bool, true, false, inl, inr, option_map, cond}
+use Rattle.yaml_load.proofs.Words.{◌&&◌, ◌==◌, cases_Bool, length-map, Position, PlainEvent, alias, Find, Input}
 use Rattle.yaml_load.proofs.Words.{becomes, known_events, or_mark, then_events, unknown_mark, end_place, ends_from}
 use Rattle.yaml_load.proofs.Words.{ends_of, inner_after, is_closing, is_opening, PlainDocEvent, alias_to, drafted}
-use Rattle.yaml_load.proofs.Words.{drafts_of}
-use Rattle.yaml_load.proofs.SettledLaws.{Marked}
+use Rattle.yaml_load.proofs.Words.{drafts_of, Marked}
+use Rattle.yaml_load.proofs.Gatherings.{length-ends_from}
 
 -- how an event and what it becomes begin and end collections
 abbrev Alike : PlainEvent → Option PlainDocEvent → Type 0
@@ -21,15 +18,7 @@ alike_alias a (Some t) = (refl, refl)
 
 alike : (find : Find) (place : ℕ) (e : PlainEvent) → Alike e (becomes find place e)
 alike find place (alias a) = alike_alias a (find a place)
-alike find place (scalar s) = (refl, refl)
-alike find place (sequence_start a t) = (refl, refl)
-alike find place sequence_end = (refl, refl)
-alike find place (mapping_start a t) = (refl, refl)
-alike find place mapping_end = (refl, refl)
-alike find place stream_start = (refl, refl)
-alike find place stream_end = (refl, refl)
-alike find place document_start = (refl, refl)
-alike find place document_end = (refl, refl)
+alike find place _ = (refl, refl)
 
 -- the events without their marks
 abbrev bare : Marked → List PlainDocEvent
@@ -148,10 +137,6 @@ ends_whole (e ∷ events) place bound l =
     (let h = end_to 0 (place + 1) events in omega arith) (omega arith))
     ∙ ap (λ xs. cond (is_opening e) (end_place 0 (place + 1) events) place ∷ xs)
     (ends_whole events (place + 1) bound (omega arith))
-
-length-ends_from : (place : ℕ) (events : List PlainDocEvent) → length (ends_from place events) ≡ length events
-length-ends_from place [] = refl
-length-ends_from place (e ∷ events) = ap suc (length-ends_from (place + 1) events)
 
 -- the numbers of the document, whole or cut off
 pub ends_of_cut : (find : Find) (seen : Input) (at : ℕ) → at ≡ length (known_events find 0 seen)

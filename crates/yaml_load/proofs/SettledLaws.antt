@@ -1,18 +1,13 @@
 -- Where the aliases of a draft have got their targets, its events are those of the document.
-use Rattle.std.proofs.Common.{◌≡◌, ℕ, ◌+◌, List, [], ◌∷◌, ◌++◌, length, take, refl, sym, ◌∙◌, ap, subst, arith}
-use Rattle.std.proofs.Common.{append_assoc, append-nil, length-append, Option, Some, None, All, IsTrue, option_map}
-use Rattle.std.proofs.Common.{inl, inr}
-use Rattle.std.specs.Prelude.{slice_get}
-use Rattle.std.proofs.lemmas.List.Elements.{All-tail}
-use Rattle.yaml_load.proofs.Words.{Position, PlainEvent, stream_start, stream_end, document_start, document_end, alias}
-use Rattle.yaml_load.proofs.Words.{scalar, sequence_start, sequence_end, mapping_start, mapping_end, Find, Input}
-use Rattle.yaml_load.proofs.Words.{becomes, known_events, or_mark, then_events, unknown_mark, PlainDocEvent, alias_to}
-use Rattle.yaml_load.proofs.Words.{AreTaken, IsTaken, Settled, Waiting, aimed, drafted, is_of_node, settle, settled}
+use Rattle.yaml_load.proofs.Words.{Marked, ◌≡◌, ℕ, ◌+◌, List, [], ◌∷◌, ◌++◌, length, take, refl, sym, ◌∙◌, ap, subst}
+use Rattle.yaml_load.proofs.Words.{arith, append-nil, Option, Some, None, All, IsTrue, option_map, inl, inr, slice_get}
+use Rattle.yaml_load.proofs.Words.{take-append_seam, All-tail, Position, PlainEvent, stream_start, stream_end}
+use Rattle.yaml_load.proofs.Words.{document_start, document_end, alias, Find, Input, becomes, known_events, or_mark}
+use Rattle.yaml_load.proofs.Words.{then_events, unknown_mark, PlainDocEvent, alias_to, AreTaken, IsTaken, Settled}
+use Rattle.yaml_load.proofs.Words.{Waiting, aimed, is_of_node, settle, settled}
+use Rattle.yaml_load.proofs.FilledEnds.{behind, one_longer}
 
-abbrev pub Marked : Type 0
-Marked = List (PlainDocEvent × Position)
-
-abbrev ToNodes : Input → Type 0
+abbrev pub ToNodes : Input → Type 0
 ToNodes seen = All (λ e. IsTrue (is_of_node e.0)) seen
 
 -- what settled events are: those of the document, or, where an alias is unknown, its front is
@@ -23,18 +18,8 @@ IsSettled find place seen front (events, Some at) =
     (take at events ≡ front ++ known_events find place seen)
     × (unknown_mark find place seen ≡ option_map (λ (e : PlainDocEvent × Position). e.1) (slice_get events at))
 
-behind : {X : Type 0} (xs ys : List X) (x : X) → (xs ++ x ∷ []) ++ ys ≡ xs ++ x ∷ ys
-behind xs ys x = append_assoc xs (x ∷ []) ys
-
-one_longer : {X : Type 0} (xs : List X) (x : X) → length (xs ++ x ∷ []) ≡ length xs + 1
-one_longer xs x = length-append xs (x ∷ [])
-
 -- the element behind a list
-take_front : {X : Type 0} (xs ys : List X) → take (length xs) (xs ++ ys) ≡ xs
-take_front [] ys = refl
-take_front (x ∷ xs) ys = ap (λ zs. x ∷ zs) (take_front xs ys)
-
-get_behind : {X : Type 0} (xs ys : List X) (x : X) → slice_get (xs ++ x ∷ ys) (length xs) ≡ Some x
+pub get_behind : {X : Type 0} (xs ys : List X) (x : X) → slice_get (xs ++ x ∷ ys) (length xs) ≡ Some x
 get_behind [] ys x = refl
 get_behind (y ∷ xs) ys x = get_behind xs ys x
 
@@ -68,7 +53,7 @@ settled_waiting : (find : Find) (seen : Input) (front later : Marked) (left : Wa
     → IsSettled find place ((alias a, mark) ∷ seen) front
     (settle o place (front ++ (alias_to 0, mark) ∷ later) (settled find left))
 settled_waiting find seen front later left a mark None place at is next = (
-  ap (λ n. take n (front ++ (alias_to 0, mark) ∷ later)) at ∙ take_front front ((alias_to 0, mark) ∷ later)
+  ap (λ n. take n (front ++ (alias_to 0, mark) ∷ later)) at ∙ take-append_seam front ((alias_to 0, mark) ∷ later)
       ∙ sym (append-nil front)
       ∙ ap (λ t. front ++ then_events (option_map alias_to t) mark (known_events find (place + 1) seen)) (sym is),
   ap (λ t. or_mark (option_map alias_to t) mark (unknown_mark find (place + 1) seen)) is
@@ -96,11 +81,6 @@ settled_known find seen front later left e mark d place is next =
     (subst (λ es. IsSettled find (place + 1) seen (front ++ (d, mark) ∷ []) (settled find left es))
     (behind front later (d, mark)) next)
 
--- an event that is no alias stands for itself
-plain_known : (find : Find) (place : ℕ) (e : PlainEvent) (d : PlainDocEvent) → becomes find place e ≡ Some (drafted e)
-    → d ≡ drafted e → becomes find place e ≡ Some d
-plain_known find place e d known is = known ∙ ap Some (sym is)
-
 -- one event, and those behind it
 settled_one : (find : Find) (seen : Input) (front later : Marked) (left here : Waiting) (e : PlainEvent)
     (mark : Position) (d : PlainDocEvent) (place : ℕ)
@@ -112,27 +92,14 @@ settled_one find seen front later left here (alias a) mark d place at node (inl 
     rw (w.0, w.1) (settled_waiting find seen front later left a mark (find a place) place at refl next)
 settled_one find seen front later left here (alias a) mark d place at node (inr k) next =
     rw k.1 (settled_known find seen front later left (alias a) mark d place k.0 (next d))
-settled_one find seen front later left here (scalar s) mark d place at node is next =
-    rw is.1 (settled_known find seen front later left (scalar s) mark d place
-    (plain_known find place (scalar s) d refl is.0) (next d))
-settled_one find seen front later left here (sequence_start a t) mark d place at node is next =
-    rw is.1 (settled_known find seen front later left (sequence_start a t) mark d place
-    (plain_known find place (sequence_start a t) d refl is.0) (next d))
-settled_one find seen front later left here sequence_end mark d place at node is next =
-    rw is.1 (settled_known find seen front later left sequence_end mark d place
-    (plain_known find place sequence_end d refl is.0) (next d))
-settled_one find seen front later left here (mapping_start a t) mark d place at node is next =
-    rw is.1 (settled_known find seen front later left (mapping_start a t) mark d place
-    (plain_known find place (mapping_start a t) d refl is.0) (next d))
-settled_one find seen front later left here mapping_end mark d place at node is next =
-    rw is.1 (settled_known find seen front later left mapping_end mark d place
-    (plain_known find place mapping_end d refl is.0) (next d))
-settled_one find seen front later left here stream_start mark d place at node is next = absurd (cc)
-settled_one find seen front later left here stream_end mark d place at node is next = absurd (cc)
-settled_one find seen front later left here document_start mark d place at node is next = absurd (cc)
-settled_one find seen front later left here document_end mark d place at node is next = absurd (cc)
+settled_one find seen front later left here stream_start mark d place at node is next = absurd cc
+settled_one find seen front later left here stream_end mark d place at node is next = absurd cc
+settled_one find seen front later left here document_start mark d place at node is next = absurd cc
+settled_one find seen front later left here document_end mark d place at node is next = absurd cc
+settled_one find seen front later left here e mark d place at node is next =
+    rw is.1 (settled_known find seen front later left e mark d place (ap Some (sym is.0)) (next d))
 
-nodes_left : (e : PlainEvent × Position) (seen : Input) → ToNodes (e ∷ seen) → ToNodes seen
+pub nodes_left : (e : PlainEvent × Position) (seen : Input) → ToNodes (e ∷ seen) → ToNodes seen
 nodes_left e seen nodes = All-tail (λ (x : PlainEvent × Position). IsTrue (is_of_node x.0)) e seen nodes
 
 -- the events from a place on

@@ -1,17 +1,10 @@
 -- The aliases of a document get their targets one after another, up to the first unknown one.
-use Rattle.std.proofs.Common.{◌≡◌, ℕ, zero, suc, ◌+◌, ◌<◌, List, [], ◌∷◌, length, get_or, set, drop}
-use Rattle.std.proofs.Common.{sym, ◌∙◌, ap, arith, add-one, Option, Some}
-use Rattle.std.proofs.Math.Seq.{drop-cons}
-use Rattle.std.proofs.lemmas.List.{drop-set-add, get_or-drop, length-drop}
-use Rattle.yaml_load.proofs.Words.{Position, doc_event_of, marked_events_of, Find, PlainDocEvent, alias_to, DocEvent}
+use Rattle.std.proofs.lemmas.List.{length-drop}
+use Rattle.yaml_load.proofs.Words.{Events, Marked, ◌≡◌, ℕ, zero, suc, ◌+◌, ◌<◌, List, [], ◌∷◌, length, get_or, set}
+use Rattle.yaml_load.proofs.Words.{drop, sym, ◌∙◌, ap, arith, add-one, Option, Some, drop-cons, drop-set-add}
+use Rattle.yaml_load.proofs.Words.{get_or-drop, Position, doc_event_of, marked_events_of, Find, alias_to, DocEvent}
 use Rattle.yaml_load.proofs.Words.{Settled, aimed, settle, settled}
 use Rattle.yaml_load.specs.declared.doc_event.DocEvent.TheVariants as event
-
-abbrev Events : Type 0
-Events = List (DocEvent × Position)
-
-abbrev Marked : Type 0
-Marked = List (PlainDocEvent × Position)
 
 -- an event that is set at a place
 aimed_set : (events : Events) (place target : ℕ) (y : DocEvent × Position) → place < length events → y

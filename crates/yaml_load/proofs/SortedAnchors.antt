@@ -1,22 +1,17 @@
 -- Sorted anchors have the same targets.
-use Rattle.std.proofs.Common.{◌≡◌, ℕ, suc, ◌≤◌, List, [], ◌∷◌, refl, sym, ◌∙◌, ap, subst, arith, max, Option, Some}
-use Rattle.std.proofs.Common.{None, ◌⊎◌, inl, inr, All}
 use Rattle.std.specs.List.{Contains}
-use Rattle.std.specs.List.Sorted.{IsPermutation}
-use Rattle.std.proofs.lemmas.Bool.{cases_lt}
-use Rattle.std.proofs.lemmas.List.Elements.{All-cons, All-nil}
 use Rattle.std.proofs.lemmas.List.Sorted.{All-permutation, Contains-permutation}
-use Rattle.yaml_base.specs.Tree.{greater, number_below, greatest_below}
-use Rattle.yaml_load.specs.Documents.{find_in}
+use Rattle.yaml_load.proofs.Words.{◌≡◌, ℕ, suc, ◌≤◌, List, [], ◌∷◌, refl, sym, ◌∙◌, ap, subst, arith, max, Option, Some}
+use Rattle.yaml_load.proofs.Words.{None, ◌⊎◌, inl, inr, All, IsPermutation, cases_lt, All-cons, All-nil, greater}
+use Rattle.yaml_load.proofs.Words.{number_below, greatest_below, find_in}
 use Rattle.yaml_load.proofs.AnchorOrders.{Named}
 use Rattle.yaml_load.proofs.AnchorSearch.{Bounded, find_none, find_some}
 
 -- what the greater of two numbers says of each
 both_none : (o p : Option ℕ) → greater o p ≡ None → (o ≡ None) × (p ≡ None)
 both_none None None h = (refl, refl)
-both_none None (Some m) h = absurd cc
 both_none (Some n) None h = absurd cc
-both_none (Some n) (Some m) h = absurd cc
+both_none _ _ h = absurd cc
 
 same_number : (m n : ℕ) → ◌≡◌ {A = Option ℕ} (Some m) (Some n) → m ≡ n
 same_number m n h = cc

@@ -1,12 +1,12 @@
 -- The documents of a whole stream are those of its trees.
-use Rattle.std.proofs.Common.{◌≡◌, ℕ, ◌+◌, List, [], ◌∷◌, ◌++◌, map, refl, sym, ◌∙◌, ap, subst, cond, append-nil, Bool}
-use Rattle.std.proofs.Common.{true, false, Option, Some, None, is_some}
-use Rattle.yaml_load.proofs.Words.{Position, PlainEvent, stream_start, stream_end, document_start, document_end}
-use Rattle.yaml_load.proofs.Words.{PlainFault, documents_events, stream_events, Node, node_events, size_of, target}
-use Rattle.yaml_load.proofs.Words.{anchors_of, DocNode, events_of, Input, Find, find_in, known_events, unknown_mark}
-use Rattle.yaml_load.proofs.Words.{body, behind, is_ended, is_document_start, anchors_in, ending_of, document_from}
-use Rattle.yaml_load.proofs.Words.{documents_of, after_starts, void_documents, last_mark, events_in, resolved, alias_to}
-use Rattle.yaml_load.proofs.Words.{IsDocumentOf, AreDocumentsOf, AreStreamDocuments}
+use Rattle.yaml_load.proofs.Words.{◌≡◌, ℕ, ◌+◌, List, [], ◌∷◌, ◌++◌, map, refl, sym, ◌∙◌, ap, subst, cond, append-nil}
+use Rattle.yaml_load.proofs.Words.{Bool, true, false, Option, Some, None, is_some, Position, PlainEvent, stream_start}
+use Rattle.yaml_load.proofs.Words.{stream_end, document_start, document_end, PlainFault, documents_events}
+use Rattle.yaml_load.proofs.Words.{stream_events, Node, node_events, size_of, target, anchors_of, DocNode, events_of}
+use Rattle.yaml_load.proofs.Words.{Input, Find, find_in, known_events, unknown_mark, body, behind, is_ended}
+use Rattle.yaml_load.proofs.Words.{is_document_start, anchors_in, ending_of, document_from, documents_of, after_starts}
+use Rattle.yaml_load.proofs.Words.{void_documents, last_mark, events_in, resolved, alias_to, IsDocumentOf}
+use Rattle.yaml_load.proofs.Words.{AreDocumentsOf, AreStreamDocuments}
 use Rattle.yaml_load.proofs.DocumentLaws.{starts_behind}
 use Rattle.yaml_load.proofs.PlainWalks.{events_in-body, events_in-behind, is_ended-plain, anchors_in-plain, known-plain}
 use Rattle.yaml_load.proofs.PlainWalks.{missing-plain, plain_anchors, plain_known, plain_missing, plain_body}
@@ -73,13 +73,10 @@ document_of_root root rest more is =
 -- one document for each root
 documents_of_roots : (roots : List Node) (input : Input) → events_in input ≡ documents_events roots
     → AreDocumentsOf roots (map (document_from None) (after_starts false input))
-documents_of_roots [] [] is = absurd (cc)
 documents_of_roots [] (e ∷ []) is =
     let end : e.0 ≡ stream_end = cc in
     subst (λ (x : PlainEvent). AreDocumentsOf [] (map (document_from None) (cond (is_document_start x) ([] ∷ []) [])))
     (sym end) tt
-documents_of_roots [] (e ∷ (f ∷ input)) is = absurd (cc)
-documents_of_roots (root ∷ roots) [] is = absurd (cc)
 documents_of_roots (root ∷ roots) (e ∷ rest) is =
     let start : e.0 ≡ document_start = cc in
     let node : events_in rest ≡ node_events root (document_end ∷ documents_events roots) = cc in
@@ -91,6 +88,7 @@ documents_of_roots (root ∷ roots) (e ∷ rest) is =
     ∙ ap (λ s. rest ∷ s) (starts_behind rest ended) in
     subst (λ s. AreDocumentsOf (root ∷ roots) (map (document_from None) s)) (sym starts)
     (document_of_root root rest (documents_events roots) node, documents_of_roots roots (behind rest) later)
+documents_of_roots _ _ is = absurd cc
 
 -- nothing more comes behind documents
 documents_alone : (roots : List Node) (root : Node) (starts : List Input) (end : Option Position)
@@ -103,8 +101,6 @@ documents_alone roots root (s ∷ starts) end h =
 -- the documents of a whole stream
 pub documents_of_stream : (roots : List Node) (input : Input) → events_in input ≡ stream_events roots
     → AreStreamDocuments roots (last_mark input) (documents_of input None)
-documents_of_stream roots [] is = absurd (cc)
-documents_of_stream [] (s ∷ []) is = absurd (cc)
 documents_of_stream [] (s ∷ (e ∷ [])) is =
     let start : s.0 ≡ stream_start = cc in
     let end : e.0 ≡ stream_end = cc in (
@@ -117,7 +113,6 @@ documents_of_stream [] (s ∷ (e ∷ [])) is =
           ∙ ap (λ x. map (document_from None) (cond (is_document_start x) ([] ∷ []) [])
           ++ void_documents (cond (is_document_start x) ([] ∷ []) []) (Some e.1)) end,
     )
-documents_of_stream [] (s ∷ (e ∷ (f ∷ input))) is = absurd (cc)
 documents_of_stream (root ∷ roots) (s ∷ input) is =
     let start : s.0 ≡ stream_start = cc in
     let rest : events_in input ≡ documents_events (root ∷ roots) = cc in
@@ -128,3 +123,4 @@ documents_of_stream (root ∷ roots) (s ∷ input) is =
     (sym skip)
     (documents_alone roots root (after_starts false input) (last_mark (s ∷ input))
     (documents_of_roots (root ∷ roots) input rest))
+documents_of_stream _ _ is = absurd cc

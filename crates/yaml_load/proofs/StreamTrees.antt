@@ -1,18 +1,17 @@
 -- Each document of a stream that nothing cut off has a tree, and a stream has a document.
-use Rattle.std.proofs.Common.{◌≡◌, List, [], ◌∷◌, ◌++◌, map, refl, sym, ◌∙◌, ap, subst, cond, Bool, true, false}
-use Rattle.std.proofs.Common.{Option, Some, None, is_some, All, inl, inr, ◌||◌, ◌≢◌}
-use Rattle.std.proofs.lemmas.Bool.{cases_Bool}
-use Rattle.std.proofs.lemmas.List.Elements.{All-append, All-cons, All-nil}
-use Rattle.yaml_load.proofs.Words.{Position, PlainEvent, stream_start, stream_end, document_start, document_end}
-use Rattle.yaml_load.proofs.Words.{PlainFault, documents_events, stream_events, IsWellFormed, Node, node_events}
-use Rattle.yaml_load.proofs.Words.{DocNode, IsTreeOf, nothing, Input, find_in, unknown_mark, body, behind, is_ended}
-use Rattle.yaml_load.proofs.Words.{is_document_start, anchors_in, ending_of, document_from, documents_of, after_starts}
-use Rattle.yaml_load.proofs.Words.{last_mark, void_document, is_document_end, failed_document, further_document}
-use Rattle.yaml_load.proofs.Words.{is_open_after, events_in, resolved, alias_to, a_void, PlainDocument, IsDocumentOf}
-use Rattle.yaml_load.proofs.Words.{AreDocumentsOf, AreStreamDocuments, HasTree}
+use Rattle.yaml_load.proofs.Words.{◌≡◌, List, [], ◌∷◌, ◌++◌, map, refl, sym, ◌∙◌, ap, subst, cond, Bool, true, false}
+use Rattle.yaml_load.proofs.Words.{Option, Some, None, is_some, All, inl, inr, ◌||◌, ◌≢◌, cases_Bool, All-append}
+use Rattle.yaml_load.proofs.Words.{All-cons, All-nil, Position, PlainEvent, stream_start, stream_end, document_start}
+use Rattle.yaml_load.proofs.Words.{document_end, PlainFault, documents_events, stream_events, IsWellFormed, Node}
+use Rattle.yaml_load.proofs.Words.{node_events, DocNode, IsTreeOf, nothing, Input, find_in, unknown_mark, body, behind}
+use Rattle.yaml_load.proofs.Words.{is_ended, is_document_start, anchors_in, ending_of, document_from, documents_of}
+use Rattle.yaml_load.proofs.Words.{after_starts, last_mark, void_document, is_document_end, failed_document}
+use Rattle.yaml_load.proofs.Words.{further_document, is_open_after, events_in, resolved, alias_to, a_void}
+use Rattle.yaml_load.proofs.Words.{PlainDocument, IsDocumentOf, AreDocumentsOf, AreStreamDocuments, HasTree}
 use Rattle.yaml_load.proofs.DocumentLaws.{starts_behind, no_starts}
 use Rattle.yaml_load.proofs.PlainWalks.{events_in-body, events_in-behind, is_ended-plain, plain_body, plain_behind}
 use Rattle.yaml_load.proofs.PlainWalks.{plain_ended, body_node, behind_node}
+use Rattle.yaml_load.proofs.StreamEndings.{all_failed}
 use Rattle.yaml_load.proofs.Targets.{event_at}
 use Rattle.yaml_load.proofs.StreamLaws.{document_of_body, documents_of_stream}
 
@@ -41,10 +40,9 @@ tree_of_root (Some t) document h = λ whole. (t, h)
 trees_of_roots : (roots : List Node) (documents : List PlainDocument) → AreDocumentsOf roots documents
     → All HasTree documents
 trees_of_roots [] [] h = All-nil HasTree
-trees_of_roots [] (d ∷ ds) h = absurd h
-trees_of_roots (root ∷ roots) [] h = absurd h
 trees_of_roots (root ∷ roots) (d ∷ ds) h =
     All-cons HasTree d ds (tree_of_root (resolved root) d h.0) (trees_of_roots roots ds h.1)
+trees_of_roots _ _ h = absurd h
 
 -- the document of an empty stream
 nothing_known : (mark : Position) → IsTreeOf (void_document mark) nothing
@@ -112,17 +110,11 @@ trees_of_beginning (root ∷ roots) (e ∷ rest) more fault is =
           (All-cons HasTree (document_from (Some fault) rest) [] (cut_by_fault rest fault unended) (All-nil HasTree))
     ]
 
--- the document that a fault leaves
-trees_further : (fault : PlainFault) (b : Bool) → All HasTree (cond b [] (failed_document fault ∷ []))
-trees_further fault true = All-nil HasTree
-trees_further fault false =
-    All-cons HasTree (failed_document fault) [] (λ whole. absurd (cc)) (All-nil HasTree)
-
 trees_of_fault : (roots : List Node) (input : Input) (more : List PlainEvent) (fault : PlainFault)
     → events_in input ++ more ≡ stream_events roots → All HasTree (documents_of input (Some fault))
 trees_of_fault roots [] more fault is =
     All-append HasTree [] (further_document [] (Some fault)) (All-nil HasTree)
-    (trees_further fault (is_open_after false []))
+    (all_failed HasTree fault (is_open_after false []) (λ whole. absurd cc))
 trees_of_fault roots (s ∷ input) more fault is =
     let start : s.0 ≡ stream_start = cc in
     let rest : events_in input ++ more ≡ documents_events roots = cc in
@@ -132,7 +124,7 @@ trees_of_fault roots (s ∷ input) more fault is =
     (further_document (s ∷ input) (Some fault))
     (subst (λ starts. All HasTree (map (document_from (Some fault)) starts)) (sym skip)
     (trees_of_beginning roots input more fault rest))
-    (trees_further fault (is_open_after false (s ∷ input)))
+    (all_failed HasTree fault (is_open_after false (s ∷ input)) (λ whole. absurd cc))
 
 -- each document that nothing cut off has a tree
 pub whole_has_tree : (input : Input) (fault : Option PlainFault) → IsWellFormed (is_some fault) (events_in input)

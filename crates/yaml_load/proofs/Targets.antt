@@ -1,27 +1,18 @@
 -- Where the aliases of a document have targets, each target is a node of the document's tree.
-use Rattle.std.proofs.Common.{◌≡◌, inl, inr, ℕ, zero, suc, ◌+◌, max, List, [], ◌∷◌, ◌++◌, map, refl, subst, arith, Bool}
-use Rattle.std.proofs.Common.{true, false, cond, ◌&&◌, nat_lt, Option, Some, None, option_map}
-use Rattle.std.specs.Prelude.{slice_get}
-use Rattle.std.specs.Str.{bytes_eq}
-use Rattle.std.proofs.lemmas.Bool.{cases_lt}
-use Rattle.yaml_load.proofs.Words.{Position, Node, alias_node, scalar_node, sequence_node, mapping_node, Nodes}
-use Rattle.yaml_load.proofs.Words.{no_nodes, node, NodePairs, no_pairs, pair, size_of, anchors_of, greater}
-use Rattle.yaml_load.proofs.Words.{number_below, greatest_below, target, DocNode, reference, list, mapping, events_of}
-use Rattle.yaml_load.proofs.Words.{events_of_nodes, events_of_pairs, node_of, Find, PlainDocEvent, alias_to, a_scalar}
-use Rattle.yaml_load.proofs.Words.{sequence_begins, sequence_ends, mapping_begins, mapping_ends, a_void, resolved_from}
-use Rattle.yaml_load.proofs.Words.{resolved_nodes, resolved_pairs, resolved}
+use Rattle.yaml_load.proofs.Words.{◌≡◌, inl, inr, ℕ, zero, suc, ◌+◌, max, List, [], ◌∷◌, ◌++◌, map, refl, subst, arith}
+use Rattle.yaml_load.proofs.Words.{Bool, true, false, cond, ◌&&◌, nat_lt, Option, Some, None, option_map, slice_get}
+use Rattle.yaml_load.proofs.Words.{bytes_eq, cases_lt, Position, Node, alias_node, scalar_node, sequence_node}
+use Rattle.yaml_load.proofs.Words.{mapping_node, Nodes, no_nodes, node, NodePairs, no_pairs, pair, size_of, anchors_of}
+use Rattle.yaml_load.proofs.Words.{greater, number_below, greatest_below, target, DocNode, reference, list, mapping}
+use Rattle.yaml_load.proofs.Words.{events_of, events_of_nodes, events_of_pairs, node_of, Find, PlainDocEvent, alias_to}
+use Rattle.yaml_load.proofs.Words.{sequence_ends, mapping_ends, resolved_from, resolved_nodes, resolved_pairs, resolved}
 use Rattle.yaml_load.proofs.OnTrees.{OnTree, on_tree, tree_there, on_map, on_nodes, on_pairs, Each, each_append}
 use Rattle.yaml_load.proofs.NumberedNodes.{fits}
 
 -- where an event is an alias, this holds of its target
 abbrev pub Refers : (ℕ → Type 0) → PlainDocEvent → Type 0
 Refers P (alias_to j) = P j
-Refers P (a_scalar s) = Unit {0}
-Refers P (sequence_begins tag) = Unit {0}
-Refers P sequence_ends = Unit {0}
-Refers P (mapping_begins tag) = Unit {0}
-Refers P mapping_ends = Unit {0}
-Refers P a_void = Unit {0}
+Refers P _ = Unit {0}
 
 module _ (P : ℕ → Type 0) (find : Find) (found : (a : List ℕ) (i j : ℕ) → find a i ≡ Some j → P j) where
   refers_alias : (o : Option ℕ) (a : List ℕ) (i : ℕ) → find a i ≡ o

@@ -1,15 +1,13 @@
 -- Where the machine stops, the list of events goes wrong.
-use Rattle.std.proofs.Common.{◌≡◌, ℕ, ◌+◌, List, [], ◌∷◌, ◌++◌, length, take, drop, Some}
-use Rattle.std.proofs.Common.{None}
-use Rattle.std.proofs.Common.{Bool, true, false, refl, sym, ◌∙◌, ap, inl, inr, arith, append_assoc, append-nil, subst}
-use Rattle.std.proofs.Math.Seq.{take-append-add, take-append_seam, take-length}
-use Rattle.std.proofs.lemmas.List.{length-append, length-map, map-append, take-append-drop}
+use Rattle.std.proofs.lemmas.List.{length-append}
 use Rattle.std.proofs.lemmas.Simd.{map-map}
-use Rattle.yaml_load.proofs.Words.{Position, PlainEvent, event_of, Event, IsStream, IsBeginning, IsWellFormed, Open}
-use Rattle.yaml_load.proofs.Words.{Phase, State, before_stream, after_stream, next_state, run, Input, events_in}
-use Rattle.yaml_load.proofs.Words.{plain_events, plain_marked, is_done, state_of, IsWrongAt, IsWrongNext}
-use Rattle.yaml_load.specs.declared.loader.check.Phase.TheVariants.{Before, Between, Root, Within, Ended, After}
-use Rattle.yaml_base.proofs.StreamMachineLaws.{whole_run, goes_on_run, run_append}
+use Rattle.yaml_load.proofs.Words.{◌≡◌, ℕ, ◌+◌, List, [], ◌∷◌, ◌++◌, length, take, drop, Some, None, Bool, true, false}
+use Rattle.yaml_load.proofs.Words.{refl, sym, ◌∙◌, ap, inl, inr, arith, append_assoc, append-nil, subst}
+use Rattle.yaml_load.proofs.Words.{take-append-add, take-append_seam, take-length, length-map, map-append}
+use Rattle.yaml_load.proofs.Words.{take-append-drop, Position, PlainEvent, event_of, Event, IsStream, IsBeginning}
+use Rattle.yaml_load.proofs.Words.{IsWellFormed, Open, Phase, State, before_stream, after_stream, next_state, run}
+use Rattle.yaml_load.proofs.Words.{Input, events_in, plain_events, plain_marked, is_done, state_of, IsWrongAt}
+use Rattle.yaml_load.proofs.Words.{IsWrongNext, After, whole_run, goes_on_run, run_append}
 
 -- the plain events of events with marks
 pub events_of_marked : (events : List (Event × Position)) → events_in (plain_marked events) ≡ plain_events events
@@ -64,20 +62,12 @@ wrong_not_well_formed faulted events place (begins, inr late) h = late.1 h
 
 -- a phase behind the end of the stream, and any other one
 done_state : (p : Phase) (opened : List Open) → is_done p ≡ true → state_of p opened ≡ after_stream
-done_state Before opened h = absurd cc
-done_state Between opened h = absurd cc
-done_state Root opened h = absurd cc
-done_state (Within o) opened h = absurd cc
-done_state Ended opened h = absurd cc
 done_state After opened h = refl
+done_state _ opened h = absurd cc
 
 undone_state : (p : Phase) (opened : List Open) → is_done p ≡ false → state_of p opened ≡ after_stream → ⊥
-undone_state Before opened h e = absurd cc
-undone_state Between opened h e = absurd cc
-undone_state Root opened h e = absurd cc
-undone_state (Within o) opened h e = absurd cc
-undone_state Ended opened h e = absurd cc
 undone_state After opened h e = absurd cc
+undone_state _ opened h e = absurd cc
 
 -- at the end of the events the phase says whether they are right
 not_right : (faulted : Bool) (p : Phase) (opened : List Open) (es : List PlainEvent) → run (Some before_stream) es

@@ -1,6 +1,5 @@
 -- The numbers of the range are those of its events.
-use Rattle.std.proofs.Common.{sym, ap, ◌∙◌, map, slice_range}
-use Rattle.yaml_load.proofs.Words.{Position, ends_of, PlainDocEvent, PlainDocument}
+use Rattle.yaml_load.proofs.Words.{sym, ap, ◌∙◌, map, slice_range, Position, ends_of, PlainDocEvent, PlainDocument}
 use Rattle.yaml_load.proofs.Gatherings.{plain_doc_events-marked}
 use Rattle.yaml_load.proofs.document.LoadedDocument.ends.Goals as goal
 

@@ -1,8 +1,7 @@
 -- The list goes wrong where the builder refuses an event, or the end; else the builder took all of it.
-use Rattle.std.proofs.Common.{◌≡◌, ◌∙◌, ◌++◌, Err, IfErr, IfOk, Ok, Result, ap, append-nil, arith, is_some, length, subst, sym}
-use Rattle.std.specs.Vec.Iter.{into_iter_items}
-use Rattle.yaml_load.proofs.Words.{IsWellFormed, events_in, plain_events, plain_marked, IsWrongAt}
-use Rattle.yaml_load.proofs.LoadingEnds.{nothing_left}
+use Rattle.yaml_load.proofs.Words.{◌≡◌, ◌∙◌, ◌++◌, Err, IfErr, IfOk, Ok, Result, ap, append-nil, arith, is_some, length}
+use Rattle.yaml_load.proofs.Words.{subst, sym, into_iter_items, IsWellFormed, events_in, plain_events, plain_marked}
+use Rattle.yaml_load.proofs.Words.{IsWrongAt, nil_from_length}
 use Rattle.yaml_load.proofs.WrongPlaces.{events_of_marked, wrong_amid, wrong_not_well_formed}
 use Rattle.yaml_load.proofs.loader.Loader.new.Goals as goal
 
@@ -24,7 +23,7 @@ returns-in-Err-clause-refused c = λ other good.
 pub returns-clause-accepted : goal.returns-clause-accepted
 returns-clause-accepted c =
     let none =
-    nothing_left (into_iter_items c.events.rest) (omega (arith, c.events.rest.rest.ok, c.in_default.ensures.cases.0)) in
+    nil_from_length (into_iter_items c.events.rest) (omega (arith, c.events.rest.rest.ok, c.in_default.ensures.cases.0)) in
     let all : c.events.builder ≡ plain_marked c.args.events.items =
     sym (c.events.invariant.all ∙ ap (λ (l : _). c.events.builder ++ plain_marked l) none ∙ append-nil c.events.builder) in
     let plain = ap events_in all ∙ events_of_marked c.args.events.items in
@@ -40,7 +39,7 @@ weaker P Q (Err e) goes h = goes e h
 pub returns-clause-wrong : goal.returns-clause-wrong
 returns-clause-wrong c =
     let none =
-    nothing_left (into_iter_items c.events.rest) (omega (arith, c.events.rest.rest.ok, c.in_default.ensures.cases.0)) in
+    nil_from_length (into_iter_items c.events.rest) (omega (arith, c.events.rest.rest.ok, c.in_default.ensures.cases.0)) in
     let all : c.events.builder ≡ plain_marked c.args.events.items =
     sym (c.events.invariant.all ∙ ap (λ (l : _). c.events.builder ++ plain_marked l) none ∙ append-nil c.events.builder) in
     let plain = ap events_in all ∙ events_of_marked c.args.events.items in

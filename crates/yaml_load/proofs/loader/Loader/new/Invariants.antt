@@ -1,7 +1,5 @@
 -- All events are those that the builder took and those that are left.
-use Rattle.std.proofs.Common.{◌≡◌, ◌++◌, length}
-use Rattle.std.specs.Vec.Iter.{into_iter_items}
-use Rattle.yaml_load.specs.MarkedEvents.{plain_marked}
+use Rattle.yaml_load.proofs.Words.{◌≡◌, ◌++◌, length, into_iter_items, plain_marked}
 use Rattle.yaml_load.proofs.loader.Loader.new.Given as goal
 
 abbrev pub invariant-events : goal.invariant-events

@@ -1,5 +1,5 @@
 -- In a list in order, what is in front of one that is in front is so too, and what is behind one that is not is not.
-use Rattle.std.proofs.Common.{◌∙◌, ap, is_lt, sym}
+use Rattle.yaml_load.proofs.Words.{◌∙◌, ap, is_lt, sym}
 use Rattle.yaml_load.proofs.AnchorOrders.{all_before, none_before}
 use Rattle.yaml_load.proofs.loader.resolve.is_before.Goals as goal
 

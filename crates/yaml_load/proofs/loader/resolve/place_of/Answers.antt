@@ -1,7 +1,7 @@
 -- The search by halves ends where the alias belongs among the anchors.
-use Rattle.std.proofs.Common.{rules, of_calls}
 use Rattle.std.specs.Ordering.{is_lt}
 use Rattle.std.proofs.lemmas.Fn.{always_returns_same}
+use Rattle.yaml_load.proofs.Words.{rules, of_calls}
 use Rattle.yaml_load.specs.inner.AnchorOrder.{anchor_order}
 use Rattle.yaml_load.proofs.AnchorOrders.{parted}
 use Rattle.yaml_load.proofs.loader.resolve.place_of.Goals as goal

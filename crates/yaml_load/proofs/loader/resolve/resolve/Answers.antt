@@ -1,9 +1,6 @@
 -- The alias that comes next gets its target.
-use Rattle.std.proofs.Common.{◌+◌, ◌<◌, ◌∙◌, arith, length, length-set, subst, sym, drop}
-use Rattle.std.proofs.lemmas.List.{take-set-le}
-use Rattle.yaml_load.specs.DocEventView.{marked_events_of}
-use Rattle.yaml_load.specs.Documents.{find_in}
-use Rattle.yaml_load.specs.declared.doc_event.DocEvent.TheVariants.{Alias}
+use Rattle.yaml_load.proofs.Words.{◌+◌, ◌<◌, ◌∙◌, arith, length, length-set, subst, sym, drop, take-set-le}
+use Rattle.yaml_load.proofs.Words.{marked_events_of, find_in, Alias}
 use Rattle.yaml_load.proofs.Settling.{aimed_behind, settled_more}
 use Rattle.yaml_load.proofs.loader.resolve.resolve.Goals as goal
 

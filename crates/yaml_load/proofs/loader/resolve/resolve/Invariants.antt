@@ -1,6 +1,5 @@
 -- What the aliases left make of the events is what all of them make of those there were.
-use Rattle.std.proofs.Common.{◌≡◌, length, drop, take}
-use Rattle.yaml_load.proofs.Words.{marked_events_of, find_in, settled}
+use Rattle.yaml_load.proofs.Words.{◌≡◌, length, drop, take, marked_events_of, find_in, settled}
 use Rattle.yaml_load.proofs.loader.resolve.resolve.Given as goal
 
 abbrev pub invariant-aliases : goal.invariant-aliases

@@ -1,5 +1,5 @@
 -- The alias belongs right behind the last anchor in front of it.
-use Rattle.std.proofs.Common.{◌∙◌, sym, arith}
+use Rattle.yaml_load.proofs.Words.{◌∙◌, sym, arith}
 use Rattle.yaml_load.proofs.AnchorSearch.{found_in_front, none_in_front, other_in_front}
 use Rattle.yaml_load.proofs.loader.resolve.target_of.Goals as goal
 

@@ -1,8 +1,6 @@
 -- The range that comes next lies within the events, and its document is put behind those so far.
-use Rattle.std.proofs.Common.{All, ap, sym, subst, arith}
-use Rattle.std.specs.Vec.Iter.{into_iter_items}
-use Rattle.std.proofs.lemmas.List.Elements.{All-tail}
-use Rattle.yaml_load.proofs.Words.{AreCuts, HasEnds, document_in, document_of_range, documents_in, IsDocument, Cut}
+use Rattle.yaml_load.proofs.Words.{All, ap, sym, subst, arith, into_iter_items, All-tail, AreCuts, HasEnds, document_in}
+use Rattle.yaml_load.proofs.Words.{document_of_range, documents_in, IsDocument, Cut}
 use Rattle.yaml_load.proofs.Gatherings.{documents_left}
 use Rattle.yaml_load.proofs.loader.share.share.Goals as goal
 

@@ -1,8 +1,5 @@
 -- The ranges left, and the documents made so far.
-use Rattle.std.proofs.Common.{◌≡◌, ◌++◌, All, length}
-use Rattle.std.specs.Vec.Iter.{into_iter_items}
-use Rattle.yaml_load.specs.Gathering.{AreCuts, documents_in}
-use Rattle.yaml_load.specs.StreamLaw.{IsDocument}
+use Rattle.yaml_load.proofs.Words.{◌≡◌, ◌++◌, All, length, into_iter_items, AreCuts, documents_in, IsDocument}
 use Rattle.yaml_load.proofs.loader.share.share.Given as goal
 
 abbrev pub invariant-cuts : goal.invariant-cuts

@@ -1,6 +1,5 @@
 -- The anchor named last is the one in front of the alias.
-use Rattle.std.proofs.Common.{◌∙◌, [], ap, append-nil, inr, option_map, refl, sym}
-use Rattle.yaml_load.specs.PlainDocEvent.{alias_to}
+use Rattle.yaml_load.proofs.Words.{◌∙◌, [], ap, append-nil, inr, option_map, refl, sym, alias_to}
 use Rattle.yaml_load.proofs.LastAnchor.{last_found}
 use Rattle.yaml_load.proofs.loader.anchors.Anchors.refer.Goals as goal
 

@@ -1,9 +1,7 @@
 -- The draft is closed behind the last event, or the end is wrong.
-use Rattle.std.proofs.Common.{rules, ◌≡◌, ◌∙◌, ap, is_some, length, subst, sym, true}
-use Rattle.std.proofs.lemmas.List.{length-map}
-use Rattle.yaml_load.proofs.Words.{PlainEvent, Position, IsWellFormed, Input, documents_of, events_in, plain_marked}
-use Rattle.yaml_load.proofs.Words.{documents_in, is_done, IsWrongAt}
-use Rattle.yaml_base.specs.declared.error.Cause.TheVariants.{NotAStream}
+use Rattle.yaml_load.proofs.Words.{rules, ◌≡◌, ◌∙◌, ap, is_some, length, subst, sym, true, length-map, PlainEvent}
+use Rattle.yaml_load.proofs.Words.{Position, IsWellFormed, Input, documents_of, events_in, plain_marked, documents_in}
+use Rattle.yaml_load.proofs.Words.{is_done, IsWrongAt, NotAStream}
 use Rattle.yaml_load.proofs.Intakes.{all_documents, closed, ready_in}
 use Rattle.yaml_load.proofs.LoadingEnds.{flags_differ, flags_same}
 use Rattle.yaml_load.proofs.WrongPlaces.{right_end, wrong_end, wrong_not_well_formed}

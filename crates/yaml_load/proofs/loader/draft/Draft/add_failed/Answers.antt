@@ -1,6 +1,5 @@
 -- The range of a document without events lies behind all events.
-use Rattle.std.proofs.Common.{◌∙◌, Some, ap, arith, refl}
-use Rattle.yaml_load.specs.declared.loader.draft.Cut.{Cut}
+use Rattle.yaml_load.proofs.Words.{◌∙◌, Some, ap, arith, refl, Cut}
 use Rattle.yaml_load.proofs.FinishLaws.{failed_more}
 use Rattle.yaml_load.proofs.loader.draft.Draft.add_failed.Goals as goal
 

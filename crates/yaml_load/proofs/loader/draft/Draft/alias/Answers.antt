@@ -1,7 +1,5 @@
 -- An alias is gone over.
-use Rattle.std.proofs.Common.{◌∙◌, append-nil, refl, sym}
-use Rattle.yaml_base.specs.PlainEvent.{alias}
-use Rattle.yaml_load.specs.inner.Drafts.{drafted}
+use Rattle.yaml_load.proofs.Words.{◌∙◌, append-nil, refl, sym, alias, drafted}
 use Rattle.yaml_load.proofs.LoadingLaws.{takes}
 use Rattle.yaml_load.proofs.loader.draft.Draft.alias.Goals as goal
 

@@ -1,6 +1,5 @@
 -- A document begins.
-use Rattle.std.proofs.Common.{refl}
-use Rattle.yaml_base.specs.PlainEvent.{document_start}
+use Rattle.yaml_load.proofs.Words.{refl, document_start}
 use Rattle.yaml_load.proofs.LoadingLaws.{on_begin}
 use Rattle.yaml_load.proofs.loader.draft.Draft.begin_document.Goals as goal
 

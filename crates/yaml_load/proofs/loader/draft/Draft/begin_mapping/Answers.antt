@@ -1,7 +1,5 @@
 -- The start of a mapping is gone over.
-use Rattle.std.proofs.Common.{[], ◌∙◌, append-nil, refl, sym}
-use Rattle.yaml_base.specs.PlainEvent.{mapping_start}
-use Rattle.yaml_load.specs.inner.Drafts.{drafted}
+use Rattle.yaml_load.proofs.Words.{[], ◌∙◌, append-nil, refl, sym, mapping_start, drafted}
 use Rattle.yaml_load.proofs.LoadingLaws.{takes}
 use Rattle.yaml_load.proofs.loader.draft.Draft.begin_mapping.Goals as goal
 

@@ -1,7 +1,5 @@
 -- The start of a sequence is gone over.
-use Rattle.std.proofs.Common.{[], ◌∙◌, append-nil, refl, sym}
-use Rattle.yaml_base.specs.PlainEvent.{sequence_start}
-use Rattle.yaml_load.specs.inner.Drafts.{drafted}
+use Rattle.yaml_load.proofs.Words.{[], ◌∙◌, append-nil, refl, sym, sequence_start, drafted}
 use Rattle.yaml_load.proofs.LoadingLaws.{takes}
 use Rattle.yaml_load.proofs.loader.draft.Draft.begin_sequence.Goals as goal
 

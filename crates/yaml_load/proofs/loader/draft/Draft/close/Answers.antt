@@ -1,7 +1,6 @@
 -- The end of the events ends the open document, or adds the one that the fault, or an empty stream, leaves.
-use Rattle.std.proofs.Common.{arith, ◌∙◌, sym, true}
-use Rattle.std.proofs.lemmas.Bool.{eqb-true}
-use Rattle.yaml_load.proofs.LoadingEnds.{all_open, all_void, fault_closes, none_closes, none_held}
+use Rattle.yaml_load.proofs.Words.{arith, ◌∙◌, sym, true, eqb-true, nil_from_length}
+use Rattle.yaml_load.proofs.LoadingEnds.{all_open, all_void, fault_closes, none_closes}
 use Rattle.yaml_load.proofs.loader.draft.Draft.close.Goals as goal
 
 pub returns-in_ok-finish-in-Some : goal.returns-in_ok-finish-in-Some
@@ -16,7 +15,7 @@ pub returns-in_ok-add_void-in-None : goal.returns-in_ok-add_void-in-None
 returns-in_ok-add_void-in-None c = λ all end known way.
     let old = c.args.self.now in
     let new = c.add_void.new.self in
-    let empty = none_held old.cuts.items
+    let empty = nil_from_length old.cuts.items
     (omega (arith, old.cuts.ok, eqb-true _ _ (sym c.is_empty.ensures ∙ c.if-is_empty.true))) in
     none_closes c.args.inside c.args.fault all old new known c.in-None.is
     (λ h. all_void all old h new c.in-Some-end.mark empty (sym c.in-Some-end.is ∙ end)

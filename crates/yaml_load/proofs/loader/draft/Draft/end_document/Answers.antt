@@ -1,6 +1,5 @@
 -- The open document ends.
-use Rattle.std.proofs.Common.{refl}
-use Rattle.yaml_base.specs.PlainEvent.{document_end}
+use Rattle.yaml_load.proofs.Words.{refl, document_end}
 use Rattle.yaml_load.proofs.LoadingLaws.{on_end}
 use Rattle.yaml_load.proofs.loader.draft.Draft.end_document.Goals as goal
 

@@ -1,7 +1,5 @@
 -- A scalar is gone over.
-use Rattle.std.proofs.Common.{[], ◌∙◌, append-nil, refl, sym}
-use Rattle.yaml_base.specs.PlainEvent.{scalar, scalar_of}
-use Rattle.yaml_load.specs.inner.Drafts.{drafted}
+use Rattle.yaml_load.proofs.Words.{[], ◌∙◌, append-nil, refl, sym, scalar, scalar_of, drafted}
 use Rattle.yaml_load.proofs.LoadingLaws.{takes}
 use Rattle.yaml_load.proofs.loader.draft.Draft.scalar.Goals as goal
 

@@ -1,6 +1,5 @@
 -- Anchors that are sorted have the same targets.
-use Rattle.std.proofs.Common.{List, ◌∙◌, ap, drop, sym}
-use Rattle.yaml_load.proofs.Words.{marked_events_of, Find, find_in, settled}
+use Rattle.yaml_load.proofs.Words.{List, ◌∙◌, ap, drop, sym, marked_events_of, Find, find_in, settled}
 use Rattle.yaml_load.proofs.AnchorOrders.{Named}
 use Rattle.yaml_load.proofs.SortedAnchors.{same_find}
 use Rattle.yaml_load.proofs.loader.draft.Draft.settle.Goals as goal

@@ -1,6 +1,6 @@
 -- The draft goes over each event as the method for its kind says.
-use Rattle.std.proofs.Common.{IfSome, None, Option, Some, ap, refl}
-use Rattle.yaml_load.proofs.Words.{Position, event_of, stream_end, stream_start, Draft, Takes}
+use Rattle.yaml_load.proofs.Words.{IfSome, None, Option, Some, ap, refl, Position, event_of, stream_end, stream_start}
+use Rattle.yaml_load.proofs.Words.{Draft, Takes}
 use Rattle.yaml_load.proofs.LoadingLaws.{on_stream}
 use Rattle.yaml_load.proofs.loader.draft.Draft.take.Goals as goal
 

@@ -1,6 +1,5 @@
 -- The number of the collection is filled in where it ends.
-use Rattle.std.proofs.Common.{◌≡◌, arith, length, ap, ◌++◌, ◌∷◌, [], ◌∙◌, sym, subst}
-use Rattle.yaml_load.specs.inner.OpenEnds.{HasNumbers}
+use Rattle.yaml_load.proofs.Words.{◌≡◌, arith, length, ap, ◌++◌, ◌∷◌, [], ◌∙◌, sym, subst, HasNumbers}
 use Rattle.yaml_load.proofs.OpenEndsLaws.{begins}
 use Rattle.yaml_load.proofs.loader.ends.Ends.begin.Goals as goal
 

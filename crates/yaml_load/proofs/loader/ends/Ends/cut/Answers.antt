@@ -1,5 +1,5 @@
 -- Each number is bounded by the place at which the document is cut off.
-use Rattle.std.proofs.Common.{ap, arith, min, sym, ◌∙◌}
+use Rattle.yaml_load.proofs.Words.{ap, arith, min, sym, ◌∙◌}
 use Rattle.yaml_load.proofs.OpenEndsLaws.{bounded_all, bounded_more}
 use Rattle.yaml_load.proofs.loader.ends.Ends.cut.Goals as goal
 

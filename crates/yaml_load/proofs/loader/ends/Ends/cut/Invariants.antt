@@ -1,6 +1,5 @@
 -- The numbers that are bounded, and those that will be, are what all are once bounded.
-use Rattle.std.proofs.Common.{◌≡◌, ◌-◌, [], length, take, ◌+◌}
-use Rattle.yaml_load.specs.inner.OpenEnds.{bounded_from}
+use Rattle.yaml_load.proofs.Words.{◌≡◌, ◌-◌, [], length, take, ◌+◌, bounded_from}
 use Rattle.yaml_load.proofs.loader.ends.Ends.cut.Given as goal
 
 abbrev pub invariant-numbers : goal.invariant-numbers

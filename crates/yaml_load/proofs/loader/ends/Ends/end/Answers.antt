@@ -1,10 +1,9 @@
 -- The collection that ends is the one begun last, and its number is filled in.
-use Rattle.std.proofs.Common.{rules, ap, ◌++◌, ◌∷◌, [], ◌∙◌, sym, subst}
+use Rattle.yaml_load.proofs.Words.{rules, ap, ◌++◌, ◌∷◌, [], ◌∙◌, sym, subst, HasNumbers}
 use Rattle.yaml_load.specs.declared.loader.ends.Ends.TheInside.{Inside}
-use Rattle.yaml_load.specs.inner.OpenEnds.{HasNumbers}
 use Rattle.yaml_load.proofs.OpenEndsLaws.{ends, stray_ends}
-use Rattle.yaml_load.proofs.loader.ends.Ends.end.Goals as goal
 use Rattle.yaml_load.proofs.loader.ends.Ends.end.Goals.{in-Some, in_default}
+use Rattle.yaml_load.proofs.loader.ends.Ends.end.Goals as goal
 
 pub returns : goal.returns
 returns c =

@@ -1,6 +1,5 @@
 -- Where nothing comes later, the numbers stay those that all open collections leave once they are ended.
-use Rattle.std.proofs.Common.{◌≡◌, ◌<◌, [], All, length, reverse}
-use Rattle.yaml_load.specs.inner.OpenEnds.{filled}
+use Rattle.yaml_load.proofs.Words.{◌≡◌, ◌<◌, [], All, length, reverse, filled}
 use Rattle.yaml_load.proofs.loader.ends.Ends.finish.Given as goal
 
 abbrev pub invariant-unended : goal.invariant-unended

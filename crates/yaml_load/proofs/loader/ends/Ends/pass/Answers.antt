@@ -1,6 +1,5 @@
 -- The number of an event at which no collection begins or ends is its place.
-use Rattle.std.proofs.Common.{refl, sym, subst}
-use Rattle.yaml_load.specs.inner.OpenEnds.{HasNumbers}
+use Rattle.yaml_load.proofs.Words.{refl, sym, subst, HasNumbers}
 use Rattle.yaml_load.proofs.OpenEndsLaws.{passes}
 use Rattle.yaml_load.proofs.loader.ends.Ends.pass.Goals as goal
 
