@@ -178,12 +178,7 @@ in_more e input more (suc place) x here = more place x here
 in_body : (input : Input) (place : ℕ) (x : PlainEvent × Position) → slice_get (body input) place ≡ Some x
     → slice_get input place ≡ Some x
 in_body [] place x here = here
-in_body (e ∷ input) place x here =
-    elim (cases_Bool (is_document_end e.0)) [
-      | inl yes_ ↦ absurd (let none = sym (ap (λ b. slice_get (cond b [] (e ∷ body input)) place) yes_) ∙ here in cc)
-      | inr no_ ↦ in_more e input (in_body input) place x (sym (ap (λ b. slice_get (cond b []
-          (e ∷ body input)) place) no_) ∙ here)
-    ]
+in_body (e ∷ input) place x here = grind (arith, in_more e input (in_body input) place x)
 
 holds_start : (find : Find) (start : Input) (place number : ℕ) (mark : Position) (made : Option PlainDocEvent)
     → Holds find (body start) place number mark made → Holds find start place number mark made

@@ -1,11 +1,11 @@
 -- What was seen of a document is what its draft holds.
 use Rattle.yaml_load.proofs.Words.{Events, Marked, ◌≡◌, ℕ, suc, ◌+◌, ◌<◌, ◌≤◌, List, [], ◌∷◌, ◌++◌, length, sym, ◌∙◌}
-use Rattle.yaml_load.proofs.Words.{ap, subst, arith, append_assoc, append-nil, length-append, All, IsTrue, true, false}
-use Rattle.yaml_load.proofs.Words.{Option, Some, None, option_map, nat_lt, inl, inr, refl, bytes_eq, cases_Bool, le-ltb}
-use Rattle.yaml_load.proofs.Words.{length-map, map-append, All-cons, All-push, Position, PlainEvent, alias, anchor_at}
-use Rattle.yaml_load.proofs.Words.{greater, greatest_below, number_below, doc_event_of, marked_events_of, Find, Input}
-use Rattle.yaml_load.proofs.Words.{anchor_of, anchors_in, find_in, PlainDocEvent, alias_to, DocEvent, Draft, AreTaken}
-use Rattle.yaml_load.proofs.Words.{IsDraft, IsTaken, Waiting, drafted, drafts_of, is_of_node, HasNumbers}
+use Rattle.yaml_load.proofs.Words.{ap, subst, arith, append_assoc, append-nil, length-append, All, IsTrue, true, Option}
+use Rattle.yaml_load.proofs.Words.{Some, None, option_map, inl, inr, refl, le-ltb, length-map, map-append, All-cons}
+use Rattle.yaml_load.proofs.Words.{All-push, Position, PlainEvent, alias, anchor_at, greater, greatest_below}
+use Rattle.yaml_load.proofs.Words.{number_below, doc_event_of, marked_events_of, Find, Input, anchor_of, anchors_in}
+use Rattle.yaml_load.proofs.Words.{find_in, PlainDocEvent, alias_to, DocEvent, Draft, AreTaken, IsDraft, IsTaken}
+use Rattle.yaml_load.proofs.Words.{Waiting, drafted, drafts_of, is_of_node, HasNumbers}
 
 -- the anchors of one event more
 anchors_in-push : (place : ℕ) (seen : Input) (e : PlainEvent × Position)
@@ -93,10 +93,7 @@ taken_within find place (e ∷ seen) events waiting (d, here, later, left, is, r
 
 -- a place further on does not change what is found in front of it
 number_behind : (p k : ℕ) (anchor : List ℕ) (x : List ℕ) → p ≤ k → number_below p anchor (x, k) ≡ None
-number_behind p k anchor x l = elim (cases_Bool (bytes_eq x anchor)) [
-  | inl same ↦ let f : nat_lt k p ≡ false = le-ltb k p l in rw (same, f) refl
-  | inr other ↦ rw other refl
-]
+number_behind p k anchor x l = grind (arith, le-ltb k p l)
 
 found_before : (p k : ℕ) (anchor : List ℕ) (named : List (List ℕ × ℕ)) (o : Option (List ℕ)) → p ≤ k
     → greatest_below p anchor (named ++ anchor_at o k) ≡ greatest_below p anchor named

@@ -6,9 +6,6 @@ use Rattle.yaml_load.proofs.Words.{is_opening, PlainDocEvent, EndsView, HasNumbe
 use Rattle.yaml_load.proofs.FilledEnds.{All-reverse, AreIn, in_set, filled_push, end_here, filled_passes, filled_deeper}
 use Rattle.yaml_load.proofs.FilledEnds.{filled_outer, number_passes, number_opens, behind, one_longer, filled_at_end}
 
-abbrev ends_with : List ℕ → List ℕ → EndsView
-ends_with numbers unended = record { numbers = numbers; unended = unended }
-
 module _ (front : List ℕ) (seen : List PlainDocEvent) (old : EndsView) (h : HasNumbers front seen old)
     (e : PlainDocEvent) where
   abbrev size : ℕ
@@ -23,13 +20,13 @@ module _ (front : List ℕ) (seen : List PlainDocEvent) (old : EndsView) (h : Ha
   Counted numbers starts = (later : List PlainDocEvent)
       → filled starts 0 (size + 1) later numbers ++ ends_from (size + 1) later ≡ front ++ ends_of (seen ++ e ∷ later)
 
-  made : (numbers unended : List ℕ) → length numbers ≡ length front + length (seen ++ e ∷ [])
-      → Counted numbers (reverse unended) → HasNumbers front (seen ++ e ∷ []) (ends_with numbers unended)
-  made numbers unended l c = record {
-    long = l;
-    all = λ later.
-        ap (λ n. filled (reverse unended) 0 n later numbers ++ ends_from n later) (one_longer seen e)
-        ∙ c later ∙ ap (λ es. front ++ ends_of es) (sym (behind seen later e));
+  made : (new : EndsView) (numbers unended : List ℕ) → new.numbers ≡ numbers → new.unended ≡ unended
+      → length numbers ≡ length front + length (seen ++ e ∷ []) → Counted numbers (reverse unended)
+      → HasNumbers front (seen ++ e ∷ []) new
+  made new numbers unended n u l c = record {
+    long = ap length n ∙ l;
+    all = λ later. rw (n, u, one_longer seen e) (c later
+        ∙ ap (λ es. front ++ ends_of es) (sym (behind seen later e)));
   }
 
   passed : is_opening e ≡ false → is_closing e ≡ false → AreIn old.numbers (reverse old.unended)
@@ -46,11 +43,9 @@ module _ (front : List ℕ) (seen : List PlainDocEvent) (old : EndsView) (h : Ha
       → AreIn old.numbers old.unended
       → new.numbers ≡ old.numbers ++ place ∷ [] → new.unended ≡ old.unended → HasNumbers front (seen ++ e ∷ []) new
   passes new place p o c within n u =
-      let are : new.numbers ≡ old.numbers ++ size ∷ [] = n ∙ ap (λ i. old.numbers ++ i ∷ []) p in
-      subst (λ ns. HasNumbers front (seen ++ e ∷ []) (ends_with ns new.unended)) (sym are)
-      (subst (λ us. HasNumbers front (seen ++ e ∷ []) (ends_with (old.numbers ++ size ∷ []) us)) (sym u)
-      (made (old.numbers ++ size ∷ []) old.unended (longer old.numbers size refl)
-      (passed o c (All-reverse (λ (s : ℕ). s < length old.numbers) old.unended within))))
+      made new (old.numbers ++ size ∷ []) old.unended (n ∙ ap (λ i. old.numbers ++ i ∷ []) p) u
+      (longer old.numbers size refl)
+      (passed o c (All-reverse (λ (s : ℕ). s < length old.numbers) old.unended within))
 
   begun : is_opening e ≡ true → AreIn old.numbers (reverse old.unended)
       → Counted (old.numbers ++ size ∷ []) (length old.numbers ∷ reverse old.unended)
@@ -69,13 +64,11 @@ module _ (front : List ℕ) (seen : List PlainDocEvent) (old : EndsView) (h : Ha
       → new.numbers ≡ old.numbers ++ place ∷ [] → new.unended ≡ old.unended ++ length old.numbers ∷ []
       → HasNumbers front (seen ++ e ∷ []) new
   begins new place p o within n u =
-      let are : new.numbers ≡ old.numbers ++ size ∷ [] = n ∙ ap (λ i. old.numbers ++ i ∷ []) p in
       let counted = subst (Counted (old.numbers ++ size ∷ []))
       (sym (reverse-append old.unended (length old.numbers ∷ [])))
       (begun o (All-reverse (λ (s : ℕ). s < length old.numbers) old.unended within)) in
-      subst (λ ns. HasNumbers front (seen ++ e ∷ []) (ends_with ns new.unended)) (sym are)
-      (subst (λ us. HasNumbers front (seen ++ e ∷ []) (ends_with (old.numbers ++ size ∷ []) us)) (sym u)
-      (made (old.numbers ++ size ∷ []) (old.unended ++ length old.numbers ∷ []) (longer old.numbers size refl) counted))
+      made new (old.numbers ++ size ∷ []) (old.unended ++ length old.numbers ∷ [])
+      (n ∙ ap (λ i. old.numbers ++ i ∷ []) p) u (longer old.numbers size refl) counted
 
   ended : (start : ℕ) (rest : List ℕ) → reverse old.unended ≡ start ∷ rest → is_opening e ≡ false → is_closing e ≡ true
       → AreIn old.numbers rest → Counted (set old.numbers start size ++ size ∷ []) rest
@@ -98,16 +91,12 @@ module _ (front : List ℕ) (seen : List PlainDocEvent) (old : EndsView) (h : Ha
       → new.numbers ≡ set old.numbers start place ++ place ∷ [] → new.unended ≡ rest
       → HasNumbers front (seen ++ e ∷ []) new
   ends new place start rest p o c within was n u =
-      let are : new.numbers ≡ set old.numbers start size ++ size ∷ [] =
-      n ∙ ap (λ i. set old.numbers start i ++ i ∷ []) p in
       let turned : reverse old.unended ≡ start ∷ reverse rest = ap reverse was ∙ reverse-append rest (start ∷ []) in
       let inside = All-tail (λ (s : ℕ). s < length old.numbers) start (reverse rest)
       (subst (AreIn old.numbers) turned (All-reverse (λ (s : ℕ). s < length old.numbers) old.unended within)) in
-      subst (λ ns. HasNumbers front (seen ++ e ∷ []) (ends_with ns new.unended)) (sym are)
-      (subst (λ us. HasNumbers front (seen ++ e ∷ []) (ends_with (set old.numbers start size ++ size ∷ []) us)) (sym u)
-      (made (set old.numbers start size ++ size ∷ []) rest
+      made new (set old.numbers start size ++ size ∷ []) rest (n ∙ ap (λ i. set old.numbers start i ++ i ∷ []) p) u
       (longer (set old.numbers start size) size (length-set old.numbers start size))
-      (ended start (reverse rest) turned o c inside)))
+      (ended start (reverse rest) turned o c inside)
 
   -- a stray end, where nothing is open
   strays : is_opening e ≡ false → reverse old.unended ≡ [] → Counted (old.numbers ++ size ∷ []) []
@@ -120,10 +109,8 @@ module _ (front : List ℕ) (seen : List PlainDocEvent) (old : EndsView) (h : Ha
   pub stray_ends : (new : EndsView) (place : ℕ) → place ≡ size → is_opening e ≡ false → old.unended ≡ []
       → new.numbers ≡ old.numbers ++ place ∷ [] → new.unended ≡ [] → HasNumbers front (seen ++ e ∷ []) new
   stray_ends new place p o was n u =
-      let are : new.numbers ≡ old.numbers ++ size ∷ [] = n ∙ ap (λ i. old.numbers ++ i ∷ []) p in
-      subst (λ ns. HasNumbers front (seen ++ e ∷ []) (ends_with ns new.unended)) (sym are)
-      (subst (λ us. HasNumbers front (seen ++ e ∷ []) (ends_with (old.numbers ++ size ∷ []) us)) (sym u)
-      (made (old.numbers ++ size ∷ []) [] (longer old.numbers size refl) (strays o (ap reverse was))))
+      made new (old.numbers ++ size ∷ []) [] (n ∙ ap (λ i. old.numbers ++ i ∷ []) p) u
+      (longer old.numbers size refl) (strays o (ap reverse was))
 
 -- one open collection more is ended
 pub finish_more : (old new rest : List ℕ) (start place : ℕ) (numbers set_ all : List ℕ) → old ≡ rest ++ start ∷ [] → new

@@ -1,11 +1,11 @@
 -- The definitions of documents, read off events without their marks, and where the events of a tree end.
-use Rattle.yaml_load.proofs.Words.{◌≡◌, ℕ, ◌+◌, List, [], ◌∷◌, ◌++◌, map, refl, ◌∙◌, ap, Bool, true, false, cond, ◌||◌}
-use Rattle.yaml_load.proofs.Words.{Option, Some, None, is_some, inl, inr, cases_Bool, Position, PlainEvent}
-use Rattle.yaml_load.proofs.Words.{sequence_start, sequence_end, mapping_start, mapping_end, Node, alias_node}
-use Rattle.yaml_load.proofs.Words.{scalar_node, sequence_node, mapping_node, Nodes, no_nodes, node, NodePairs, no_pairs}
-use Rattle.yaml_load.proofs.Words.{pair, node_events, nodes_events, pairs_events, anchor_at, Input, Find, becomes}
-use Rattle.yaml_load.proofs.Words.{then_events, known_events, or_mark, unknown_mark, body, behind, is_ended}
-use Rattle.yaml_load.proofs.Words.{is_document_end, anchor_of, anchors_in, events_in, PlainDocEvent}
+use Rattle.yaml_load.proofs.Words.{arith, ◌≡◌, ℕ, ◌+◌, List, [], ◌∷◌, ◌++◌, map, refl, ◌∙◌, ap, Bool, true, false, cond}
+use Rattle.yaml_load.proofs.Words.{◌||◌, Option, Some, None, is_some, Position, PlainEvent, sequence_start}
+use Rattle.yaml_load.proofs.Words.{sequence_end, mapping_start, mapping_end, Node, alias_node, scalar_node}
+use Rattle.yaml_load.proofs.Words.{sequence_node, mapping_node, Nodes, no_nodes, node, NodePairs, no_pairs, pair}
+use Rattle.yaml_load.proofs.Words.{node_events, nodes_events, pairs_events, anchor_at, Input, Find, becomes}
+use Rattle.yaml_load.proofs.Words.{then_events, known_events, or_mark, unknown_mark, body, behind, is_ended, alias}
+use Rattle.yaml_load.proofs.Words.{scalar, is_document_end, anchor_of, anchors_in, events_in, PlainDocEvent}
 
 -- the definitions without marks
 abbrev pub plain_body : List PlainEvent → List PlainEvent
@@ -43,19 +43,11 @@ plain_missing find i (e ∷ es) = or_missing (becomes find i e) (plain_missing f
 -- they say the same
 pub events_in-body : (input : Input) → events_in (body input) ≡ plain_body (events_in input)
 events_in-body [] = refl
-events_in-body (e ∷ input) =
-    elim (cases_Bool (is_document_end e.0)) [
-      | inl yes_ ↦ simp yes_
-      | inr no_ ↦ simp no_ (ap (λ es. e.0 ∷ es) (events_in-body input))
-    ]
+events_in-body (e ∷ input) = grind (arith, events_in-body input)
 
 pub events_in-behind : (input : Input) → events_in (behind input) ≡ plain_behind (events_in input)
 events_in-behind [] = refl
-events_in-behind (e ∷ input) =
-    elim (cases_Bool (is_document_end e.0)) [
-      | inl yes_ ↦ simp yes_
-      | inr no_ ↦ simp no_ (events_in-behind input)
-    ]
+events_in-behind (e ∷ input) = grind (arith, events_in-behind input)
 
 pub is_ended-plain : (input : Input) → is_ended input ≡ plain_ended (events_in input)
 is_ended-plain [] = refl
@@ -108,34 +100,30 @@ mutual
       body_node k (node_events v (pairs_events ps rest))
       ∙ ap (node_events k) (body_node v (pairs_events ps rest) ∙ ap (node_events v) (body_pairs ps rest))
 
-mutual
-  pub behind_node : (n : Node) (rest : List PlainEvent) → plain_behind (node_events n rest) ≡ plain_behind rest
-  behind_node (alias_node a) rest = refl
-  behind_node (scalar_node s) rest = refl
-  behind_node (sequence_node a g ns) rest = behind_nodes ns (sequence_end ∷ rest)
-  behind_node (mapping_node a g ps) rest = behind_pairs ps (mapping_end ∷ rest)
+-- and what only an end of a document changes, they do not change
+module _ {X : Type 0} (f : List PlainEvent → X)
+    (step : (e : PlainEvent) (es : List PlainEvent) → is_document_end e ≡ false → f (e ∷ es) ≡ f es) where
+  mutual
+    passed_node : (n : Node) (rest : List PlainEvent) → f (node_events n rest) ≡ f rest
+    passed_node (alias_node a) rest = step (alias a) rest refl
+    passed_node (scalar_node s) rest = step (scalar s) rest refl
+    passed_node (sequence_node a g ns) rest =
+        step (sequence_start a g) _ refl ∙ passed_nodes ns (sequence_end ∷ rest) ∙ step sequence_end rest refl
+    passed_node (mapping_node a g ps) rest =
+        step (mapping_start a g) _ refl ∙ passed_pairs ps (mapping_end ∷ rest) ∙ step mapping_end rest refl
 
-  behind_nodes : (ns : Nodes) (rest : List PlainEvent) → plain_behind (nodes_events ns rest) ≡ plain_behind rest
-  behind_nodes no_nodes rest = refl
-  behind_nodes (node n ns) rest = behind_node n (nodes_events ns rest) ∙ behind_nodes ns rest
+    passed_nodes : (ns : Nodes) (rest : List PlainEvent) → f (nodes_events ns rest) ≡ f rest
+    passed_nodes no_nodes rest = refl
+    passed_nodes (node n ns) rest = passed_node n (nodes_events ns rest) ∙ passed_nodes ns rest
 
-  behind_pairs : (ps : NodePairs) (rest : List PlainEvent) → plain_behind (pairs_events ps rest) ≡ plain_behind rest
-  behind_pairs no_pairs rest = refl
-  behind_pairs (pair k v ps) rest =
-      behind_node k (node_events v (pairs_events ps rest)) ∙ behind_node v (pairs_events ps rest) ∙ behind_pairs ps rest
+    passed_pairs : (ps : NodePairs) (rest : List PlainEvent) → f (pairs_events ps rest) ≡ f rest
+    passed_pairs no_pairs rest = refl
+    passed_pairs (pair k v ps) rest =
+        passed_node k (node_events v (pairs_events ps rest)) ∙ passed_node v (pairs_events ps rest)
+        ∙ passed_pairs ps rest
 
-mutual
-  pub ended_node : (n : Node) (rest : List PlainEvent) → plain_ended (node_events n rest) ≡ plain_ended rest
-  ended_node (alias_node a) rest = refl
-  ended_node (scalar_node s) rest = refl
-  ended_node (sequence_node a g ns) rest = ended_nodes ns (sequence_end ∷ rest)
-  ended_node (mapping_node a g ps) rest = ended_pairs ps (mapping_end ∷ rest)
+pub behind_node : (n : Node) (rest : List PlainEvent) → plain_behind (node_events n rest) ≡ plain_behind rest
+behind_node n rest = passed_node plain_behind (λ e es h. rw h refl) n rest
 
-  ended_nodes : (ns : Nodes) (rest : List PlainEvent) → plain_ended (nodes_events ns rest) ≡ plain_ended rest
-  ended_nodes no_nodes rest = refl
-  ended_nodes (node n ns) rest = ended_node n (nodes_events ns rest) ∙ ended_nodes ns rest
-
-  ended_pairs : (ps : NodePairs) (rest : List PlainEvent) → plain_ended (pairs_events ps rest) ≡ plain_ended rest
-  ended_pairs no_pairs rest = refl
-  ended_pairs (pair k v ps) rest =
-      ended_node k (node_events v (pairs_events ps rest)) ∙ ended_node v (pairs_events ps rest) ∙ ended_pairs ps rest
+pub ended_node : (n : Node) (rest : List PlainEvent) → plain_ended (node_events n rest) ≡ plain_ended rest
+ended_node n rest = passed_node plain_ended (λ e es h. rw h refl) n rest

@@ -27,18 +27,12 @@ bare events = map (λ e. e.0) events
 -- a collection ends no earlier than the place that is looked at
 end_from : (inner place : ℕ) (events : List PlainDocEvent) → place ≤ end_place inner place events
 end_from inner place [] = omega arith
-end_from inner place (e ∷ events) = elim (cases_Bool (is_closing e && (inner == 0))) [
-  | inl here ↦ rw (here) (omega arith)
-  | inr later ↦ rw (later) (let h = end_from (inner_after e inner) (place + 1) events in omega arith)
-]
+end_from inner place (e ∷ events) = grind (arith, end_from (inner_after e inner) (place + 1) events)
 
 -- a collection ends by the end of the events
 end_to : (inner place : ℕ) (events : List PlainDocEvent) → end_place inner place events ≤ place + length events
 end_to inner place [] = omega arith
-end_to inner place (e ∷ events) = elim (cases_Bool (is_closing e && (inner == 0))) [
-  | inl here ↦ rw (here) (omega arith)
-  | inr later ↦ rw (later) (let h = end_to (inner_after e inner) (place + 1) events in omega arith)
-]
+end_to inner place (e ∷ events) = grind (arith, end_to (inner_after e inner) (place + 1) events)
 
 -- an event that begins and ends collections as another does
 end_like : (inner place : ℕ) (d e : PlainDocEvent) (events : List PlainDocEvent) → is_opening d ≡ is_opening e

@@ -1,13 +1,13 @@
 -- Each document of a stream that nothing cut off has a tree, and a stream has a document.
-use Rattle.yaml_load.proofs.Words.{◌≡◌, List, [], ◌∷◌, ◌++◌, map, refl, sym, ◌∙◌, ap, subst, cond, Bool, true, false}
-use Rattle.yaml_load.proofs.Words.{Option, Some, None, is_some, All, inl, inr, ◌||◌, ◌≢◌, cases_Bool, All-append}
+use Rattle.yaml_load.proofs.Words.{arith, ◌≡◌, List, [], ◌∷◌, ◌++◌, map, refl, sym, ◌∙◌, ap, subst, cond, Bool, true}
+use Rattle.yaml_load.proofs.Words.{false, Option, Some, None, is_some, All, inl, inr, ◌≢◌, cases_Bool, All-append}
 use Rattle.yaml_load.proofs.Words.{All-cons, All-nil, Position, PlainEvent, stream_start, stream_end, document_start}
 use Rattle.yaml_load.proofs.Words.{document_end, PlainFault, documents_events, stream_events, IsWellFormed, Node}
 use Rattle.yaml_load.proofs.Words.{node_events, DocNode, IsTreeOf, nothing, Input, find_in, unknown_mark, body, behind}
 use Rattle.yaml_load.proofs.Words.{is_ended, is_document_start, anchors_in, ending_of, document_from, documents_of}
-use Rattle.yaml_load.proofs.Words.{after_starts, last_mark, void_document, is_document_end, failed_document}
-use Rattle.yaml_load.proofs.Words.{further_document, is_open_after, events_in, resolved, alias_to, a_void}
-use Rattle.yaml_load.proofs.Words.{PlainDocument, IsDocumentOf, AreDocumentsOf, AreStreamDocuments, HasTree}
+use Rattle.yaml_load.proofs.Words.{after_starts, last_mark, void_document, failed_document, further_document}
+use Rattle.yaml_load.proofs.Words.{is_open_after, events_in, resolved, alias_to, a_void, PlainDocument, IsDocumentOf}
+use Rattle.yaml_load.proofs.Words.{AreDocumentsOf, AreStreamDocuments, HasTree}
 use Rattle.yaml_load.proofs.DocumentLaws.{starts_behind, no_starts}
 use Rattle.yaml_load.proofs.PlainWalks.{events_in-body, events_in-behind, is_ended-plain, plain_body, plain_behind}
 use Rattle.yaml_load.proofs.PlainWalks.{plain_ended, body_node, behind_node}
@@ -18,19 +18,11 @@ use Rattle.yaml_load.proofs.StreamLaws.{document_of_body, documents_of_stream}
 -- of an input that ends within a document or behind one, what ends in it is as in all that follows
 body_ended : (es more : List PlainEvent) → plain_ended es ≡ true → plain_body (es ++ more) ≡ plain_body es
 body_ended [] more h = absurd (cc)
-body_ended (e ∷ es) more h =
-    elim (cases_Bool (is_document_end e)) [
-      | inl yes_ ↦ simp yes_
-      | inr no_ ↦ simp no_ (ap (λ l. e ∷ l) (body_ended es more (ap (λ b. b || plain_ended es) (sym no_) ∙ h)))
-    ]
+body_ended (e ∷ es) more h = grind (arith, body_ended es more)
 
 behind_ended : (es more : List PlainEvent) → plain_ended es ≡ true → plain_behind (es ++ more) ≡ plain_behind es ++ more
 behind_ended [] more h = absurd (cc)
-behind_ended (e ∷ es) more h =
-    elim (cases_Bool (is_document_end e)) [
-      | inl yes_ ↦ simp yes_
-      | inr no_ ↦ simp no_ (behind_ended es more (ap (λ b. b || plain_ended es) (sym no_) ∙ h))
-    ]
+behind_ended (e ∷ es) more h = grind (arith, behind_ended es more)
 
 -- a document of a tree has one, or was cut off
 tree_of_root : (o : Option DocNode) (document : PlainDocument) → IsDocumentOf o document → HasTree document
@@ -136,16 +128,7 @@ whole_has_tree input (Some fault) h = trees_of_fault h.0.1.0 input h.0.0 fault h
 -- where no document begins none is open
 none_open : (input : Input) → after_starts false input ≡ [] → is_open_after false input ≡ false
 none_open [] none = refl
-none_open (e ∷ input) none =
-    elim (cases_Bool (is_document_start e.0)) [
-      | inl yes_ ↦
-          absurd (let some = sym (ap (λ b. cond b (input ∷ after_starts true input) (after_starts false input)) yes_)
-          ∙ none in cc)
-      | inr no_ ↦
-          ap (λ b. is_open_after b input) no_
-          ∙ none_open input (sym (ap (λ b. cond b (input ∷ after_starts true input) (after_starts false input)) no_)
-          ∙ none)
-    ]
+none_open (e ∷ input) none = grind (arith, none_open input)
 
 some_of_stream : (roots : List Node) (last : Option Position) (documents : List PlainDocument)
     → AreStreamDocuments roots last documents → documents ≢ []

@@ -40,8 +40,7 @@ pub use Rattle.yaml_load.specs.Documents.{is_document_end, is_document_start, is
 pub use Rattle.yaml_load.specs.Documents.{or_mark, then_events, unknown_mark, void_documents}
 pub use Rattle.yaml_load.specs.Ends.{end_place, ends_from, inner_after}
 pub use Rattle.yaml_load.specs.Gathering.{document_in, plain_doc_events}
-pub use Rattle.yaml_load.specs.PlainDocEvent.{a_scalar, a_void, mapping_begins, mapping_ends, sequence_begins}
-pub use Rattle.yaml_load.specs.PlainDocEvent.{sequence_ends}
+pub use Rattle.yaml_load.specs.PlainDocEvent.{a_void, mapping_begins, mapping_ends, sequence_begins, sequence_ends}
 pub use Rattle.yaml_load.specs.Resolved.{node_then_nodes, pair_then_pairs, resolved, resolved_from, resolved_nodes}
 pub use Rattle.yaml_load.specs.Resolved.{resolved_pairs, without_anchor}
 pub use Rattle.yaml_load.specs.StreamLaw.{AreDocumentsOf, HoldsFront, IsAtFault, IsDocumentOf}
