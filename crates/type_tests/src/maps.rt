@@ -30,6 +30,28 @@ const ROWS: &[(&[(&str, i128)], &str)] = &[
         "{&a: 1 &b: 3 &c: 4 }",
     ),
     (&[("b", 1), ("a", 2), ("b", 3), ("a", 4)], "{&a: 4 &b: 3 }"),
+    // all are equal
+    (&[("a", 1), ("a", 2), ("a", 3)], "{&a: 3 }"),
+    // they rise at the end alone, from keys below and from one that comes again
+    (
+        &[("c", 1), ("e", 2), ("a", 3), ("b", 4), ("d", 5)],
+        "{&a: 3 &b: 4 &c: 1 &d: 5 &e: 2 }",
+    ),
+    (
+        &[("d", 1), ("b", 2), ("a", 3), ("b", 4), ("d", 5)],
+        "{&a: 3 &b: 4 &d: 5 }",
+    ),
+    // they rise at the start alone
+    (
+        &[("a", 1), ("b", 2), ("d", 3), ("c", 4)],
+        "{&a: 1 &b: 2 &c: 4 &d: 3 }",
+    ),
+    // an equal pair stands where they turn
+    (
+        &[("b", 1), ("a", 2), ("a", 3), ("c", 4)],
+        "{&a: 3 &b: 1 &c: 4 }",
+    ),
+    (&[("a", 1), ("c", 2), ("c", 3)], "{&a: 1 &c: 3 }"),
 ];
 
 #[test]

@@ -2,8 +2,9 @@
 
 use super::turned::{comes_back, refusal, turned, written};
 use std::alloc::{AllocError, Global};
+use std::collections::BTreeMap;
 use std::test::Fail;
-use yaml_shape::{Data, Text};
+use yaml_shape::{Data, Entry, Text};
 
 // What is present.
 fn some<'a>(alloc: Global, content: Data<'a>) -> Result<Data<'a>, AllocError> {
@@ -37,6 +38,23 @@ fn two<'a>(alloc: Global, first: Data<'a>, second: Data<'a>) -> Result<Vec<Data<
 // Three elements.
 fn three<'a>(alloc: Global) -> Result<Vec<Data<'a>>, AllocError> {
     Ok(vec![in alloc; Data::Bool(true), Data::Char('b'), Data::Unsigned(3)]?)
+}
+
+// Two entries, whose keys are the two booleans.
+fn entries<'a>(
+    alloc: Global,
+    first: Data<'a>,
+    second: Data<'a>,
+) -> Result<Vec<Entry<'a>>, AllocError> {
+    let first = Entry {
+        key: Data::Bool(false),
+        value: first,
+    };
+    let second = Entry {
+        key: Data::Bool(true),
+        value: second,
+    };
+    Ok(vec![in alloc; first, second]?)
 }
 
 // Data read as a type that has parts, and written again.
@@ -101,13 +119,21 @@ fn refused(alloc: Global, kind: u32) -> Result<String, Fail> {
             Data::Seq(two(alloc, Data::Str(Text::Borrowed("a")), text)?),
         ),
         3 => refusal::<(bool, &str)>(alloc, Data::Tuple(two(alloc, Data::Bool(true), text)?)),
+        4 => refusal::<BTreeMap<bool, &str>>(
+            alloc,
+            Data::Map(entries(alloc, Data::Str(Text::Borrowed("a")), text)?),
+        ),
+        5 => refusal::<BTreeMap<bool, &str>>(
+            alloc,
+            Data::Map(entries(alloc, text, Data::Str(Text::Borrowed("a")))?),
+        ),
         _ => refusal::<(&str, bool)>(alloc, Data::Tuple(two(alloc, text, Data::Bool(true))?)),
     }
 }
 
 #[test]
 fn a_part_that_is_refused_refuses_the_whole(rt: HostRuntime) -> Result<(), Fail> {
-    for kind in 0..5u32 {
+    for kind in 0..7u32 {
         assert_eq!(rt;
             refused(rt.alloc(), kind)?.as_str(),
             "expected a borrowed string",

@@ -32,6 +32,16 @@ const ROWS: &[(&[&str], &str)] = &[
     (&["c", "b", "a"], "[&a &b &c ]"),
     (&["a", "b", "b", "c"], "[&a &b &c ]"),
     (&["b", "a", "b", "a"], "[&a &b ]"),
+    // all are equal
+    (&["a", "a", "a"], "[&a ]"),
+    // they rise at the end alone, from elements below and from one that comes again
+    (&["c", "e", "a", "b", "d"], "[&a &b &c &d &e ]"),
+    (&["d", "b", "a", "b", "d"], "[&a &b &d ]"),
+    // they rise at the start alone
+    (&["a", "b", "d", "c"], "[&a &b &c &d ]"),
+    // an equal pair stands where they turn
+    (&["b", "a", "a", "c"], "[&a &b &c ]"),
+    (&["a", "c", "c"], "[&a &c ]"),
 ];
 
 #[test]

@@ -1,12 +1,21 @@
 -- Values built of items one by one, as a loop does it.
 use Rattle.std.proofs.Common.{ℕ, List, [], ◌∷◌, ◌++◌, sym, subst, inr, append_assoc, append-nil}
-use Rattle.std.specs.Prelude.{IsTrue}
+use Rattle.std.specs.Prelude.{IsTrue, string_bytes}
 use Rattle.yaml_tree.specs.TakeOut.{and_right}
 use Rattle.yaml_shape.specs.PlainData.{PlainData, PlainItems, no_items, item}
 use Rattle.yaml_shape.specs.HasShape.{has_shape, all_have}
 use Rattle.yaml_types.specs.Start.{Start}
+use Rattle.yaml_types.specs.BuildRefusal.{IsBuildRefusal}
 use Rattle.yaml_types.specs.BuiltParts.{BuiltItems}
 use Rattle.yaml_types.specs.RefusalParts.{RefusedItems}
+use Rattle.yaml_types.specs.declared.fault.BuildFault.{BuildFault}
+use Rattle.yaml_types.specs.declared.fault.BuildFault.TheVariants.{Memory, Message}
+
+-- a fault that is one of some messages is one of more
+pub told_by : (P Q : List ℕ → Type 0) (fault : BuildFault) → ((message : List ℕ) → P message → Q message)
+    → IsBuildRefusal P fault → IsBuildRefusal Q fault
+told_by P Q Memory more h = tt
+told_by P Q (Message text) more h = more (string_bytes text) h
 
 -- what the rest of the items gives decides what the whole does
 pub record IsBuilding {T : Type 0} (s : Start) (built : PlainData → T → Type 0) (refused : PlainData → List ℕ → Type 0)

@@ -5,8 +5,9 @@ pub mod EnumFound
 pub mod FoundLaws
 pub mod GatherLaws
 pub mod ItemsThen
-pub mod PairLaws
-pub mod RisingLaws
+pub mod MapFilling
+pub mod SetFilling
+pub mod SortedLaws
 pub mod LeafLaws
 pub mod NodeLaws
 pub mod StructFound

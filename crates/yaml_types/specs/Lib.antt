@@ -16,7 +16,6 @@ pub mod BuildFaultText
 pub mod RefusalParts
 pub mod ReturnLaws
 pub mod RowReturns
-pub mod Rising
 pub mod Rows
 pub mod SetLaws
 pub mod Sets

@@ -10,7 +10,6 @@ mod impls;
 mod items;
 mod last;
 mod leaf;
-mod rising;
 mod row;
 mod strict;
 mod strict_variant;

@@ -1,6 +1,7 @@
 //! Maps in the order of their keys.
 
-ghost use Rattle.std.specs.Prelude.{◌≡◌, [], IsTrue, IfOk, IfErr, OnOk};
+ghost use Rattle.std.specs.Prelude.{◌≡◌, [], ◌∷◌, IsTrue, IfOk, IfErr, OnOk};
+ghost use Rattle.std.specs.BTreeMap.{insert_entry};
 ghost use Rattle.yaml_base.specs.EmitTree.{emit_pairs_events};
 ghost use Rattle.yaml_shape.specs.DataView.{entry_of, entries_view};
 ghost use Rattle.yaml_shape.specs.HasShape.{HasShape};
@@ -13,15 +14,15 @@ ghost use Rattle.yaml_types.specs.NodeWrites.{node_of, IsPut, IsFaultOf};
 ghost use Rattle.yaml_types.specs.WriteRefusal.{PairUnwritten, SomeUnwritten};
 ghost use Rattle.yaml_types.specs.WrittenParts.{pairs_written, PairsKeep};
 ghost use Rattle.yaml_types.specs.BuiltParts.{BuiltBoth, BuiltEntries};
-ghost use Rattle.yaml_types.specs.Inserted.{BuiltPairs, inserted_pairs};
+ghost use Rattle.yaml_types.specs.Inserted.{inserted_pairs};
 ghost use Rattle.yaml_types.specs.PartShapes.{entries_match};
 ghost use Rattle.yaml_types.specs.BuildRefusal.{IsBuildRefusal};
 ghost use Rattle.yaml_types.specs.RefusalParts.{RefusedBoth, RefusedEntries};
 
 use crate::fault::BuildFault;
-use crate::rising::keys_rise;
 use crate::traits::{Deserialize, RoundTrip, Serialize};
 use std::alloc::{AllocError, Global};
+use std::cmp::Ordering;
 use std::collections::BTreeMap;
 use yaml_base::Error;
 use yaml_shape::{Data, Entry, Schema, SchemaFault, ShapeId, map_of};
@@ -48,54 +49,54 @@ fn build_both<'de, K: Deserialize<'de> + Drop, V: Deserialize<'de>>(
     Ok((key, V::build(alloc, value)?))
 }
 
-// The pairs of the entries, in their order.
-fn build_pairs<'de, K: Deserialize<'de> + Drop, V: Deserialize<'de> + Drop>(
+// The map of the entries, put in one after another.
+fn build_in_turn<'de, K: Deserialize<'de> + Ord + Drop, V: Deserialize<'de> + Drop>(
     alloc: Global,
     entries: Vec<Entry<'de>>,
-) -> Result<Vec<(K, V)>, BuildFault>
+) -> Result<BTreeMap<K, V>, BuildFault>
     requires { IsTrue (entries_match K.start V.start (entries_view entries.items)) }
-    ensures ok { IfOk result (λ pairs. BuiltPairs K.built V.built (entries_view entries.entry.items) pairs.items) }
+    ensures ok { IfOk result (λ map. BuiltEntries K.cmp K.built V.built (entries_view entries.entry.items) []
+        map.entries) }
     ensures refused { IfErr result (IsBuildRefusal (RefusedEntries K.built V.built K.refused V.refused
         (entries_view entries.entry.items))) }
 {
-    let mut pairs = Vec::with_capacity(alloc, entries.len())?;
-    for pair in entries {
-        pairs.push(build_both(alloc, pair)?)?;
-    }
-    Ok(pairs)
-}
-
-// The map of the pairs, put in one after another.
-fn insert_pairs<K: Ord + Drop, V: Drop>(
-    alloc: Global,
-    pairs: Vec<(K, V)>,
-) -> Result<BTreeMap<K, V>, AllocError>
-    ensures { IfOk result (λ map. map.entries ≡ inserted_pairs K.cmp [] pairs.items) }
-{
     let mut map = BTreeMap::new(alloc);
-    for (key, value) in pairs {
+    for pair in entries {
+        let (key, value) = build_both(alloc, pair)?;
         let _ = map.insert(key, value)?;
     }
     Ok(map)
 }
 
-// The same. Where keys rise, the last is put in first: a key below all others is compared with one key of each node on
-// its way down, and a key above all others with each.
-fn map_of_pairs<K: Ord + Drop, V: Drop>(
-    alloc: Global,
-    pairs: Vec<(K, V)>,
-) -> Result<BTreeMap<K, V>, AllocError>
-    ensures { IfOk result (λ map. map.entries ≡ inserted_pairs K.cmp [] pairs.items) }
+// Whether the key is below all that are there.
+fn comes_first<K: Ord, V>(key: &K, map: &BTreeMap<K, V>) -> bool
+    ensures { IsTrue result → (value : V)
+        → insert_entry K.cmp map.now.entries key.now value ≡ (key.now, value) ∷ map.now.entries }
 {
-    if !keys_rise(&pairs) {
-        return insert_pairs(alloc, pairs);
+    match map.first_key_value() {
+        Some((first, _)) => match key.cmp(first) {
+            Ordering::Less => true,
+            _ => false,
+        },
+        None => true,
     }
-    let mut backwards = pairs;
-    backwards.reverse();
-    insert_pairs(alloc, backwards)
 }
 
-// The map of the entries, as if they were put in one after another.
+// Puts in the pairs of another map, one after another.
+fn insert_all<K: Ord + Drop, V: Drop>(
+    map: &mut BTreeMap<K, V>,
+    others: BTreeMap<K, V>,
+) -> Result<(), AllocError>
+    ensures { OnOk result (map.new.entries ≡ inserted_pairs K.cmp map.old.entries others.entries) }
+{
+    for (key, value) in others {
+        let _ = map.insert(key, value)?;
+    }
+    Ok(())
+}
+
+// The map of the entries, as if they were put in one after another. The last is put in first as long as keys fall so: a
+// key below all others is compared with one key of each node on its way down, and a key above all others with each.
 fn build_entries<'de, K: Deserialize<'de> + Ord + Drop, V: Deserialize<'de> + Drop>(
     alloc: Global,
     entries: Vec<Entry<'de>>,
@@ -106,8 +107,26 @@ fn build_entries<'de, K: Deserialize<'de> + Ord + Drop, V: Deserialize<'de> + Dr
     ensures refused { IfErr result (IsBuildRefusal (RefusedEntries K.built V.built K.refused V.refused
         (entries_view entries.entry.items))) }
 {
-    let pairs = build_pairs(alloc, entries)?;
-    Ok(map_of_pairs(alloc, pairs)?)
+    let mut front = entries;
+    let mut behind = BTreeMap::new(alloc);
+    while let Some(pair) = front.pop() {
+        let (key, value) = match build_both(alloc, pair) {
+            Ok(built) => built,
+            Err(fault) => {
+                // a fault of an entry in front goes before this one
+                let _: BTreeMap<K, V> = build_in_turn(alloc, front)?;
+                return Err(fault);
+            }
+        };
+        if !comes_first(&key, &behind) {
+            let mut map = build_in_turn(alloc, front)?;
+            let _ = map.insert(key, value)?;
+            insert_all(&mut map, behind)?;
+            return Ok(map);
+        }
+        let _ = behind.insert(key, value)?;
+    }
+    Ok(behind)
 }
 
 // A key and its value as nodes behind the events that are there, each by the shape with its number.

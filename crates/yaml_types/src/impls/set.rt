@@ -1,6 +1,7 @@
 //! Sets in the order of their elements.
 
-ghost use Rattle.std.specs.Prelude.{◌≡◌, [], map, All, IsTrue, IfOk, IfErr, OnOk};
+ghost use Rattle.std.specs.Prelude.{◌≡◌, ◌∷◌, map, All, IsTrue, IfOk, IfErr, OnOk};
+ghost use Rattle.std.specs.BTreeSet.{insert_key};
 ghost use Rattle.yaml_base.specs.EmitTree.{emit_nodes_events};
 ghost use Rattle.yaml_shape.specs.DataView.{items_of, items_view};
 ghost use Rattle.yaml_shape.specs.HasShape.{all_have};
@@ -15,40 +16,55 @@ ghost use Rattle.yaml_types.specs.BuildRefusal.{IsBuildRefusal};
 ghost use Rattle.yaml_types.specs.RefusalParts.{RefusedItems, RefusedSeq};
 
 use crate::fault::BuildFault;
-use crate::impls::list::build_items;
-use crate::rising::members_rise;
 use crate::traits::{Deserialize, RoundTrip, Serialize};
 use std::alloc::{AllocError, Global};
+use std::cmp::Ordering;
 use std::collections::BTreeSet;
 use yaml_base::Error;
 use yaml_shape::{Data, Schema, SchemaFault, ShapeId, seq_of};
 use yaml_write::{EventBuffer, element_shape};
 
-// The set of the elements, put in one after another.
-fn insert_members<T: Ord + Drop>(alloc: Global, members: Vec<T>) -> Result<BTreeSet<T>, AllocError>
-    ensures { IfOk result (λ set. set.keys ≡ inserted_all T.cmp [] members.items) }
+// The set of the items, put in one after another.
+fn build_in_turn<'de, T: Deserialize<'de> + Ord + Drop>(
+    alloc: Global,
+    items: Vec<Data<'de>>,
+) -> Result<BTreeSet<T>, BuildFault>
+    requires { IsTrue (all_have T.start.0 T.start.1 (items_view items.items)) }
+    ensures ok { IfOk result (λ set. BuiltMembers T.cmp T.built (items_view items.entry.items) set.keys) }
+    ensures refused { IfErr result (IsBuildRefusal (RefusedItems T.built T.refused (items_view items.entry.items))) }
 {
     let mut set = BTreeSet::new(alloc);
-    for member in members {
-        let _ = set.insert(member)?;
+    for item in items {
+        let _ = set.insert(T::build(alloc, item)?)?;
     }
     Ok(set)
 }
 
-// The same. Where elements rise, the last is put in first: one below all others is compared with one of each node on
-// its way down, and one above all others with each.
-fn set_of_members<T: Ord + Drop>(alloc: Global, members: Vec<T>) -> Result<BTreeSet<T>, AllocError>
-    ensures { IfOk result (λ set. set.keys ≡ inserted_all T.cmp [] members.items) }
+// Whether the element is below all that are there.
+fn comes_first<T: Ord>(member: &T, set: &BTreeSet<T>) -> bool
+    ensures { IsTrue result → insert_key T.cmp set.now.keys member.now ≡ member.now ∷ set.now.keys }
 {
-    if !members_rise(&members) {
-        return insert_members(alloc, members);
+    match set.first() {
+        Some(first) => match member.cmp(first) {
+            Ordering::Less => true,
+            _ => false,
+        },
+        None => true,
     }
-    let mut backwards = members;
-    backwards.reverse();
-    insert_members(alloc, backwards)
 }
 
-// The set of the items, as if they were put in one after another.
+// Puts in the elements of another set, one after another.
+fn insert_all<T: Ord + Drop>(set: &mut BTreeSet<T>, others: BTreeSet<T>) -> Result<(), AllocError>
+    ensures { OnOk result (set.new.keys ≡ inserted_all T.cmp set.old.keys others.keys) }
+{
+    for member in others {
+        let _ = set.insert(member)?;
+    }
+    Ok(())
+}
+
+// The set of the items, as if they were put in one after another. The last is put in first as long as elements fall so:
+// one below all others is compared with one of each node on its way down, and one above all others with each.
 fn build_members<'de, T: Deserialize<'de> + Ord + Drop>(
     alloc: Global,
     items: Vec<Data<'de>>,
@@ -57,8 +73,26 @@ fn build_members<'de, T: Deserialize<'de> + Ord + Drop>(
     ensures ok { IfOk result (λ set. BuiltMembers T.cmp T.built (items_view items.entry.items) set.keys) }
     ensures refused { IfErr result (IsBuildRefusal (RefusedItems T.built T.refused (items_view items.entry.items))) }
 {
-    let members = build_items(alloc, items)?;
-    Ok(set_of_members(alloc, members)?)
+    let mut front = items;
+    let mut behind = BTreeSet::new(alloc);
+    while let Some(item) = front.pop() {
+        let member = match T::build(alloc, item) {
+            Ok(member) => member,
+            Err(fault) => {
+                // a fault of an item in front goes before this one
+                let _: BTreeSet<T> = build_in_turn(alloc, front)?;
+                return Err(fault);
+            }
+        };
+        if !comes_first(&member, &behind) {
+            let mut set = build_in_turn(alloc, front)?;
+            let _ = set.insert(member)?;
+            insert_all(&mut set, behind)?;
+            return Ok(set);
+        }
+        let _ = behind.insert(member)?;
+    }
+    Ok(behind)
 }
 
 // The members as nodes behind the events that are there, in order, each by the shape with this number.
