@@ -1,4 +1,5 @@
 -- Anchors in order, by their names and then by their places: those in front of an alias come first.
+use Rattle.std.specs.Prelude.{◌≡◌, ◌+◌, ◌≤◌}
 use Rattle.std.specs.Cmp.{IsTotalOrder, nat_cmp_is, on_total}
 use Rattle.std.specs.Ordering.{is_lt, is_eq, nat_cmp, ordering_index, ordering_then}
 use Rattle.std.specs.declared.cmp.Ordering.{Ordering}
@@ -6,9 +7,9 @@ use Rattle.std.specs.declared.cmp.Ordering.TheVariants.{Less, Equal, Greater}
 use Rattle.std.proofs.lemmas.Cmp.{nat_cmp_total, then_total}
 use Rattle.std.proofs.lemmas.List.Sorted.{searchable_from_sorted}
 use Rattle.std.proofs.lemmas.Map.Text.{is_eq-slice_cmp}
-use Rattle.yaml_load.proofs.Words.{◌≡◌, ℕ, ◌+◌, ◌≤◌, List, length, get_or, refl, sym, ◌∙◌, ap, arith, true, false}
-use Rattle.yaml_load.proofs.Words.{nat_lt, inl, inr, slice_cmp, nat_list_cmp_total, IsPartitionedBy, bytes_eq}
-use Rattle.yaml_load.proofs.Words.{cases_Bool, cases_eq, cases_lt, le-ltb, lt-ltb, ltb-true, get_or_default}
+use Rattle.yaml_load.proofs.Words.{ℕ, List, length, get_or, refl, sym, ◌∙◌, ap, arith, true, false, nat_lt, inl, inr}
+use Rattle.yaml_load.proofs.Words.{slice_cmp, nat_list_cmp_total, IsPartitionedBy, bytes_eq, cases_Bool, cases_eq}
+use Rattle.yaml_load.proofs.Words.{cases_lt, le-ltb, lt-ltb, ltb-true, get_or_default}
 use Rattle.yaml_load.specs.inner.AnchorOrder.{AllBefore, NoneBefore, anchor_order, IsInOrder}
 
 abbrev pub Named : Type 0

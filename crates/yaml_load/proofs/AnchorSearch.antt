@@ -1,11 +1,12 @@
 -- Among anchors in order, the last place of an anchor in front of an alias stands right in front of where the alias
 -- belongs.
+use Rattle.std.specs.Prelude.{◌≡◌, ◌+◌, ◌<◌, ◌≤◌, ◌∷◌, ◌&&◌}
 use Rattle.std.specs.Ordering.{is_lt, nat_cmp}
 use Rattle.std.proofs.lemmas.List.Sorted.{ranks_by, sorted_far}
-use Rattle.yaml_load.proofs.Words.{◌≡◌, ℕ, zero, suc, ◌+◌, ◌<◌, ◌≤◌, List, [], ◌∷◌, length, get_or, refl, sym, ◌∙◌, ap}
-use Rattle.yaml_load.proofs.Words.{subst, arith, Bool, true, false, cond, ◌&&◌, nat_lt, max, Option, Some, None, inl}
-use Rattle.yaml_load.proofs.Words.{inr, All, slice_cmp, bytes_decides, IsPartitionPoint, bytes_eq, cases_Bool, cases_lt}
-use Rattle.yaml_load.proofs.Words.{ltb-false, ltb-true, get_or_default, All-tail, greater, number_below, greatest_below}
+use Rattle.yaml_load.proofs.Words.{ℕ, zero, suc, List, [], length, get_or, refl, sym, ◌∙◌, ap, subst, arith, Bool, true}
+use Rattle.yaml_load.proofs.Words.{false, cond, nat_lt, max, Option, Some, None, inl, inr, All, slice_cmp}
+use Rattle.yaml_load.proofs.Words.{bytes_decides, IsPartitionPoint, bytes_eq, cases_Bool, cases_lt, ltb-false, ltb-true}
+use Rattle.yaml_load.proofs.Words.{get_or_default, All-tail, greater, number_below, greatest_below}
 use Rattle.yaml_load.specs.inner.AnchorOrder.{anchor_order, IsInOrder}
 use Rattle.yaml_load.proofs.AnchorOrders.{Named, order_total, same_names, other_names}
 

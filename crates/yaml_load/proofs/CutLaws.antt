@@ -1,13 +1,12 @@
 -- What cuts documents off, and what they hold up to there.
-use Rattle.std.specs.Prelude.{not}
-use Rattle.yaml_load.proofs.Words.{◌≡◌, ℕ, zero, suc, ◌+◌, List, [], ◌∷◌, ◌++◌, map, length, refl, sym, ◌∙◌, ap, subst}
-use Rattle.yaml_load.proofs.Words.{cond, arith, Bool, true, false, Option, Some, None, All, inl, inr, ◌||◌, slice_get}
-use Rattle.yaml_load.proofs.Words.{cases_Bool, Position, PlainEvent, PlainFault, Input, Find, find_in, known_events}
-use Rattle.yaml_load.proofs.Words.{unknown_mark, body, is_ended, is_document_start, anchors_in, ending_of}
-use Rattle.yaml_load.proofs.Words.{document_from, documents_of, after_starts, is_open_after, is_document_end}
-use Rattle.yaml_load.proofs.Words.{failed_document, further_document, becomes, then_events, or_mark, PlainDocEvent}
-use Rattle.yaml_load.proofs.Words.{PlainDocument, IsBeforeFault, IsAtFault, EndAtFault, HoldsFront, HoldFronts}
-use Rattle.yaml_load.proofs.Words.{UnknownAnchor}
+use Rattle.std.specs.Prelude.{◌≡◌, ◌+◌, ◌∷◌, ◌++◌, ◌||◌, not}
+use Rattle.yaml_load.proofs.Words.{ℕ, zero, suc, List, [], map, length, refl, sym, ◌∙◌, ap, subst, cond, arith, Bool}
+use Rattle.yaml_load.proofs.Words.{true, false, Option, Some, None, All, inl, inr, slice_get, cases_Bool, Position}
+use Rattle.yaml_load.proofs.Words.{PlainEvent, PlainFault, Input, Find, find_in, known_events, unknown_mark, body}
+use Rattle.yaml_load.proofs.Words.{is_ended, is_document_start, anchors_in, ending_of, document_from, documents_of}
+use Rattle.yaml_load.proofs.Words.{after_starts, is_open_after, is_document_end, failed_document, further_document}
+use Rattle.yaml_load.proofs.Words.{becomes, then_events, or_mark, PlainDocEvent, PlainDocument, IsBeforeFault}
+use Rattle.yaml_load.proofs.Words.{IsAtFault, EndAtFault, HoldsFront, HoldFronts, UnknownAnchor}
 use Rattle.yaml_load.proofs.StreamEndings.{all_kinds}
 
 -- the first unknown mark behind a start

@@ -1,5 +1,6 @@
 -- Where the documents behind one begin.
-use Rattle.yaml_load.proofs.Words.{arith, ◌≡◌, [], ◌∷◌, refl, true, false, Input, after_starts, behind, is_ended}
+use Rattle.std.specs.Prelude.{◌≡◌, ◌∷◌}
+use Rattle.yaml_load.proofs.Words.{arith, [], refl, true, false, Input, after_starts, behind, is_ended}
 
 -- behind a document that ends
 pub starts_behind : (rest : Input) → is_ended rest ≡ true → after_starts true rest ≡ after_starts false (behind rest)

@@ -1,11 +1,12 @@
 -- What was seen of a document is what its draft holds.
-use Rattle.yaml_load.proofs.Words.{Events, Marked, ◌≡◌, ℕ, suc, ◌+◌, ◌<◌, ◌≤◌, List, [], ◌∷◌, ◌++◌, length, sym, ◌∙◌}
-use Rattle.yaml_load.proofs.Words.{ap, subst, arith, append_assoc, append-nil, length-append, All, IsTrue, true, Option}
-use Rattle.yaml_load.proofs.Words.{Some, None, option_map, inl, inr, refl, le-ltb, length-map, map-append, All-cons}
-use Rattle.yaml_load.proofs.Words.{All-push, Position, PlainEvent, alias, anchor_at, greater, greatest_below}
-use Rattle.yaml_load.proofs.Words.{number_below, doc_event_of, marked_events_of, Find, Input, anchor_of, anchors_in}
-use Rattle.yaml_load.proofs.Words.{find_in, PlainDocEvent, alias_to, DocEvent, Draft, AreTaken, IsDraft, IsTaken}
-use Rattle.yaml_load.proofs.Words.{Waiting, drafted, drafts_of, is_of_node, HasNumbers}
+use Rattle.std.specs.Prelude.{◌≡◌, ◌+◌, ◌<◌, ◌≤◌, ◌∷◌, ◌++◌}
+use Rattle.yaml_load.proofs.Words.{Events, Marked, ℕ, suc, List, [], length, sym, ◌∙◌, ap, subst, arith, append_assoc}
+use Rattle.yaml_load.proofs.Words.{append-nil, length-append, All, IsTrue, true, Option, Some, None, option_map, inl}
+use Rattle.yaml_load.proofs.Words.{inr, refl, le-ltb, length-map, map-append, All-cons, All-push, Position, PlainEvent}
+use Rattle.yaml_load.proofs.Words.{alias, anchor_at, greater, greatest_below, number_below, doc_event_of}
+use Rattle.yaml_load.proofs.Words.{marked_events_of, Find, Input, anchor_of, anchors_in, find_in, PlainDocEvent}
+use Rattle.yaml_load.proofs.Words.{alias_to, DocEvent, Draft, AreTaken, IsDraft, IsTaken, Waiting, drafted, drafts_of}
+use Rattle.yaml_load.proofs.Words.{is_of_node, HasNumbers}
 
 -- the anchors of one event more
 anchors_in-push : (place : ℕ) (seen : Input) (e : PlainEvent × Position)

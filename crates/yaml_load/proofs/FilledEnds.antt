@@ -1,8 +1,9 @@
 -- The numbers of open collections, as they are filled in, by the next event.
-use Rattle.yaml_load.proofs.Words.{◌≡◌, ℕ, ◌+◌, ◌-◌, ◌==◌, ◌<◌, List, [], ◌∷◌, ◌++◌, length, set, reverse, All, true}
-use Rattle.yaml_load.proofs.Words.{false, refl, sym, ◌∙◌, ap, subst, arith, append_assoc, length-append, length-set}
-use Rattle.yaml_load.proofs.Words.{ne_eqb, set-append_left, reverse-append, All-push, All-tail, end_place, ends_from}
-use Rattle.yaml_load.proofs.Words.{is_closing, is_opening, PlainDocEvent, sequence_begins, mapping_begins, filled}
+use Rattle.std.specs.Prelude.{◌≡◌, ◌+◌, ◌-◌, ◌==◌, ◌<◌, ◌∷◌, ◌++◌}
+use Rattle.yaml_load.proofs.Words.{ℕ, List, [], length, set, reverse, All, true, false, refl, sym, ◌∙◌, ap, subst}
+use Rattle.yaml_load.proofs.Words.{arith, append_assoc, length-append, length-set, ne_eqb, set-append_left}
+use Rattle.yaml_load.proofs.Words.{reverse-append, All-push, All-tail, end_place, ends_from, is_closing, is_opening}
+use Rattle.yaml_load.proofs.Words.{PlainDocEvent, sequence_begins, mapping_begins, filled}
 
 -- in reverse
 pub All-reverse : {X : Type 0} (P : X → Type 0) (xs : List X) → All P xs → All P (reverse xs)

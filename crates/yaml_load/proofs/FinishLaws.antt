@@ -1,12 +1,13 @@
 -- Where a document ends, its draft becomes the last of the documents.
-use Rattle.yaml_load.proofs.Words.{Events, Marked, ◌≡◌, ℕ, ◌+◌, ◌<◌, List, [], ◌∷◌, ◌++◌, map, length, take, drop, min}
-use Rattle.yaml_load.proofs.Words.{false, refl, sym, ◌∙◌, ap, subst, arith, append-nil, length-take, length-drop}
-use Rattle.yaml_load.proofs.Words.{Option, Some, None, option_map, slice_get, drop-append_seam, take-add}
-use Rattle.yaml_load.proofs.Words.{take-append_seam, take-append-add, length-map, take-append-drop, take-map, Position}
-use Rattle.yaml_load.proofs.Words.{PlainFault, Cause, doc_event_of, marked_events_of, Find, Input, anchors_in}
-use Rattle.yaml_load.proofs.Words.{document_of, ending_of, find_in, known_events, unknown_mark, ends_of, AreCuts}
-use Rattle.yaml_load.proofs.Words.{documents_in, ending_in, plain_doc_events, PlainDocEvent, PlainDocument, DocEvent}
-use Rattle.yaml_load.proofs.Words.{Cut, Draft, IsBetween, IsDraft, drafts_of, settled, EndsView, bounded_from}
+use Rattle.std.specs.Prelude.{◌≡◌, ◌+◌, ◌<◌, ◌∷◌, ◌++◌}
+use Rattle.yaml_load.proofs.Words.{Events, Marked, ℕ, List, [], map, length, take, drop, min, false, refl, sym, ◌∙◌, ap}
+use Rattle.yaml_load.proofs.Words.{subst, arith, append-nil, length-take, length-drop, Option, Some, None, option_map}
+use Rattle.yaml_load.proofs.Words.{slice_get, drop-append_seam, take-add, take-append_seam, take-append-add, length-map}
+use Rattle.yaml_load.proofs.Words.{take-append-drop, take-map, Position, PlainFault, Cause, doc_event_of}
+use Rattle.yaml_load.proofs.Words.{marked_events_of, Find, Input, anchors_in, document_of, ending_of, find_in}
+use Rattle.yaml_load.proofs.Words.{known_events, unknown_mark, ends_of, AreCuts, documents_in, ending_in}
+use Rattle.yaml_load.proofs.Words.{plain_doc_events, PlainDocEvent, PlainDocument, DocEvent, Cut, Draft, IsBetween}
+use Rattle.yaml_load.proofs.Words.{IsDraft, drafts_of, settled, EndsView, bounded_from}
 use Rattle.yaml_load.proofs.Gatherings.{cuts_pushed, documents_pushed, long_pushed, plain_doc_events-marked}
 use Rattle.yaml_load.proofs.SettledEnds.{ends_of_cut, ends_of_whole}
 use Rattle.yaml_load.proofs.SettledLaws.{settled_whole}

@@ -1,11 +1,11 @@
 -- Ranges of a list of events keep their documents when events are put behind.
-use Rattle.yaml_load.proofs.Words.{Events, ◌≡◌, ℕ, suc, ◌+◌, ◌-◌, ◌≤◌, List, [], ◌∷◌, ◌++◌, map, length, take, drop}
-use Rattle.yaml_load.proofs.Words.{take_all, slice_range, refl, sym, ◌∙◌, ap, subst, arith, length-append, length-drop}
-use Rattle.yaml_load.proofs.Words.{append_assoc, Option, length-map, take-append-le, drop-append-le, map-append}
-use Rattle.yaml_load.proofs.Words.{All-append, All-cons, All-nil, All-tail, drop-append_seam, Position, Cause}
-use Rattle.yaml_load.proofs.Words.{doc_event_of, marked_events_of, ends_from, ends_of, AreCuts, HasEnds, document_in}
-use Rattle.yaml_load.proofs.Words.{documents_in, ending_in, plain_doc_events, PlainDocEvent, PlainDocument, DocEvent}
-use Rattle.yaml_load.proofs.Words.{Cut}
+use Rattle.std.specs.Prelude.{◌≡◌, ◌+◌, ◌-◌, ◌≤◌, ◌∷◌, ◌++◌}
+use Rattle.yaml_load.proofs.Words.{Events, ℕ, suc, List, [], map, length, take, drop, take_all, slice_range, refl, sym}
+use Rattle.yaml_load.proofs.Words.{◌∙◌, ap, subst, arith, length-append, length-drop, append_assoc, Option, length-map}
+use Rattle.yaml_load.proofs.Words.{take-append-le, drop-append-le, map-append, All-append, All-cons, All-nil, All-tail}
+use Rattle.yaml_load.proofs.Words.{drop-append_seam, Position, Cause, doc_event_of, marked_events_of, ends_from}
+use Rattle.yaml_load.proofs.Words.{ends_of, AreCuts, HasEnds, document_in, documents_in, ending_in, plain_doc_events}
+use Rattle.yaml_load.proofs.Words.{PlainDocEvent, PlainDocument, DocEvent, Cut}
 
 -- a range of the front
 range_of_front : {X : Type 0} (xs ys : List X) (from to : ℕ) → from ≤ to → to ≤ length xs

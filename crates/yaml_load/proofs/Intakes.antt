@@ -1,12 +1,13 @@
 -- A loader takes one event more.
+use Rattle.std.specs.Prelude.{◌≡◌, ◌+◌, ◌-◌, ◌∷◌, ◌++◌}
 use Rattle.std.proofs.lemmas.List.{length-append}
 use Rattle.std.specs.Option.{option_map}
-use Rattle.yaml_load.proofs.Words.{◌≡◌, ◌∙◌, ℕ, ◌+◌, ◌-◌, List, [], ◌∷◌, ◌++◌, Option, Some, None, Bool, true, ap}
-use Rattle.yaml_load.proofs.Words.{arith, sym, subst, refl, All, append_assoc, append-nil, is_some, length, map-append}
-use Rattle.yaml_load.proofs.Words.{slice_get, Position, PlainEvent, PlainFault, State, before_stream, next_state, run}
-use Rattle.yaml_load.proofs.Words.{Open, IsWellFormed, Input, documents_of, last_mark, events_in, PlainDocument}
-use Rattle.yaml_load.proofs.Words.{IsDocument, Moves, is_done, is_open, state_of, Phase, Draft, IsBetween, HasTaken}
-use Rattle.yaml_load.proofs.Words.{IsOnWay, IsReady, Takes, is_inside, open_before, open_behind, run_append}
+use Rattle.yaml_load.proofs.Words.{◌∙◌, ℕ, List, [], Option, Some, None, Bool, true, ap, arith, sym, subst, refl, All}
+use Rattle.yaml_load.proofs.Words.{append_assoc, append-nil, is_some, length, map-append, slice_get, Position}
+use Rattle.yaml_load.proofs.Words.{PlainEvent, PlainFault, State, before_stream, next_state, run, Open, IsWellFormed}
+use Rattle.yaml_load.proofs.Words.{Input, documents_of, last_mark, events_in, PlainDocument, IsDocument, Moves, is_done}
+use Rattle.yaml_load.proofs.Words.{is_open, state_of, Phase, Draft, IsBetween, HasTaken, IsOnWay, IsReady, Takes}
+use Rattle.yaml_load.proofs.Words.{is_inside, open_before, open_behind, run_append}
 use Rattle.yaml_load.proofs.LoadingLaws.{on_way, ready_if}
 use Rattle.yaml_load.proofs.LoadingTurns.{inside_phase, open_faulted, turns}
 use Rattle.yaml_load.proofs.SettledLaws.{get_behind}

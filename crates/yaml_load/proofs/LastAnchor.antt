@@ -1,7 +1,8 @@
 -- The anchor that was named last is the one in front of what comes next.
-use Rattle.yaml_load.proofs.Words.{◌≡◌, ℕ, suc, ◌+◌, ◌<◌, ◌≤◌, List, [], ◌∷◌, ◌++◌, ◌-◌, length, get_or, sym, ◌∙◌, ap}
-use Rattle.yaml_load.proofs.Words.{subst, arith, true, nat_lt, Option, Some, None, All, bytes_eq, lt-ltb, ltb-true}
-use Rattle.yaml_load.proofs.Words.{All-cons, anchor_at, Input, anchor_of, anchors_in, find_in}
+use Rattle.std.specs.Prelude.{◌≡◌, ◌+◌, ◌<◌, ◌≤◌, ◌∷◌, ◌++◌, ◌-◌}
+use Rattle.yaml_load.proofs.Words.{ℕ, suc, List, [], length, get_or, sym, ◌∙◌, ap, subst, arith, true, nat_lt, Option}
+use Rattle.yaml_load.proofs.Words.{Some, None, All, bytes_eq, lt-ltb, ltb-true, All-cons, anchor_at, Input, anchor_of}
+use Rattle.yaml_load.proofs.Words.{anchors_in, find_in}
 use Rattle.yaml_load.proofs.AnchorOrders.{Named}
 use Rattle.yaml_load.proofs.AnchorSearch.{bounded_by, find_some, number, number_as}
 

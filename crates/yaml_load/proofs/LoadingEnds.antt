@@ -1,10 +1,11 @@
 -- Where no event is left, the draft's documents are those of all events.
+use Rattle.std.specs.Prelude.{◌≡◌, ◌∷◌, ◌++◌}
 use Rattle.std.specs.Bool.{beq}
-use Rattle.yaml_load.proofs.Words.{◌≡◌, List, [], ◌∷◌, ◌++◌, map, refl, sym, ◌∙◌, ap, subst, append-nil, Option, Some}
-use Rattle.yaml_load.proofs.Words.{None, is_some, Bool, true, false, cond, option_to_list, Position, PlainFault, Input}
-use Rattle.yaml_load.proofs.Words.{after_starts, anchors_in, document_from, document_of, documents_of, failed_document}
-use Rattle.yaml_load.proofs.Words.{last_mark, void_document, void_documents, documents_in, PlainDocument, Draft}
-use Rattle.yaml_load.proofs.Words.{IsBetween, IsClosedDraft, IsOnWay, IsOpenDraft}
+use Rattle.yaml_load.proofs.Words.{List, [], map, refl, sym, ◌∙◌, ap, subst, append-nil, Option, Some, None, is_some}
+use Rattle.yaml_load.proofs.Words.{Bool, true, false, cond, option_to_list, Position, PlainFault, Input, after_starts}
+use Rattle.yaml_load.proofs.Words.{anchors_in, document_from, document_of, documents_of, failed_document, last_mark}
+use Rattle.yaml_load.proofs.Words.{void_document, void_documents, documents_in, PlainDocument, Draft, IsBetween}
+use Rattle.yaml_load.proofs.Words.{IsClosedDraft, IsOnWay, IsOpenDraft}
 use Rattle.yaml_load.proofs.LoadingLaws.{from_body}
 
 -- the documents of all events, where no event is left

@@ -1,13 +1,13 @@
 -- Each event that may stand where it stands leads the draft on.
-use Rattle.yaml_load.proofs.Words.{◌≡◌, ◌+◌, ℕ, length, List, [], ◌∷◌, ◌++◌, map, refl, sym, ◌∙◌, ap, subst, arith}
-use Rattle.yaml_load.proofs.Words.{append_assoc, append-nil, Option, Some, None, Bool, true, false, not, cond, ◌||◌}
-use Rattle.yaml_load.proofs.Words.{Position, PlainEvent, stream_start, stream_end, document_start, document_end}
-use Rattle.yaml_load.proofs.Words.{PlainFault, anchor_at, doc_event_of, Input, after_starts, anchor_of, anchors_in}
-use Rattle.yaml_load.proofs.Words.{body, document_from, document_of, ending_of, find_in, is_document_end}
-use Rattle.yaml_load.proofs.Words.{is_document_start, is_ended, is_open_after, known_events, unknown_mark, AreCuts}
-use Rattle.yaml_load.proofs.Words.{documents_in, PlainDocEvent, DocEvent, Cut, Draft, IsBetween, IsDraft, IsTaken}
-use Rattle.yaml_load.proofs.Words.{Waiting, drafted, drafts_of, is_of_node, HasNumbers, IsClosedDraft, IsOnWay}
-use Rattle.yaml_load.proofs.Words.{IsOpenDraft, IsReady, Takes, open_before, open_behind}
+use Rattle.std.specs.Prelude.{◌≡◌, ◌+◌, ◌∷◌, ◌++◌, ◌||◌}
+use Rattle.yaml_load.proofs.Words.{ℕ, length, List, [], map, refl, sym, ◌∙◌, ap, subst, arith, append_assoc, append-nil}
+use Rattle.yaml_load.proofs.Words.{Option, Some, None, Bool, true, false, not, cond, Position, PlainEvent, stream_start}
+use Rattle.yaml_load.proofs.Words.{stream_end, document_start, document_end, PlainFault, anchor_at, doc_event_of, Input}
+use Rattle.yaml_load.proofs.Words.{after_starts, anchor_of, anchors_in, body, document_from, document_of, ending_of}
+use Rattle.yaml_load.proofs.Words.{find_in, is_document_end, is_document_start, is_ended, is_open_after, known_events}
+use Rattle.yaml_load.proofs.Words.{unknown_mark, AreCuts, documents_in, PlainDocEvent, DocEvent, Cut, Draft, IsBetween}
+use Rattle.yaml_load.proofs.Words.{IsDraft, IsTaken, Waiting, drafted, drafts_of, is_of_node, HasNumbers, IsClosedDraft}
+use Rattle.yaml_load.proofs.Words.{IsOnWay, IsOpenDraft, IsReady, Takes, open_before, open_behind}
 use Rattle.yaml_load.proofs.SettledLaws.{ToNodes, nodes_left}
 use Rattle.yaml_load.proofs.DraftLaws.{aliases_in_range, as_many, begins_within, draft_more, drafts_long, whole_long}
 

@@ -1,9 +1,10 @@
 -- Which states are within a document, in front of each event and behind it.
-use Rattle.yaml_load.proofs.Words.{◌≡◌, List, [], ◌∷◌, refl, sym, ◌∙◌, ap, Some, Bool, true, false, PlainEvent}
-use Rattle.yaml_load.proofs.Words.{stream_start, stream_end, document_start, document_end, alias, scalar}
-use Rattle.yaml_load.proofs.Words.{sequence_start, sequence_end, mapping_start, mapping_end, State, before_stream}
-use Rattle.yaml_load.proofs.Words.{between_documents, before_root, within, after_stream, begins, next_state, is_done}
-use Rattle.yaml_load.proofs.Words.{is_open, state_of, Phase, Open, is_inside, open_before, open_behind, Before, After}
+use Rattle.std.specs.Prelude.{◌≡◌, ◌∷◌}
+use Rattle.yaml_load.proofs.Words.{List, [], refl, sym, ◌∙◌, ap, Some, Bool, true, false, PlainEvent, stream_start}
+use Rattle.yaml_load.proofs.Words.{stream_end, document_start, document_end, alias, scalar, sequence_start}
+use Rattle.yaml_load.proofs.Words.{sequence_end, mapping_start, mapping_end, State, before_stream, between_documents}
+use Rattle.yaml_load.proofs.Words.{before_root, within, after_stream, begins, next_state, is_done, is_open, state_of}
+use Rattle.yaml_load.proofs.Words.{Phase, Open, is_inside, open_before, open_behind, Before, After}
 use Rattle.yaml_base.specs.declared.open.Open.TheVariants.{Sequence, Key, Value}
 
 abbrev Turns : PlainEvent → State → State → Type 0

@@ -1,8 +1,8 @@
 -- How many events a node, nodes and pairs have.
-use Rattle.yaml_load.proofs.Words.{◌≡◌, ℕ, ◌+◌, List, [], ◌∷◌, length, arith, Option, PlainEvent, sequence_end}
-use Rattle.yaml_load.proofs.Words.{mapping_end, Node, alias_node, scalar_node, sequence_node, mapping_node, Nodes}
-use Rattle.yaml_load.proofs.Words.{no_nodes, node, NodePairs, no_pairs, pair, node_events, nodes_events, pairs_events}
-use Rattle.yaml_load.proofs.Words.{size_of}
+use Rattle.std.specs.Prelude.{◌≡◌, ◌+◌, ◌∷◌}
+use Rattle.yaml_load.proofs.Words.{ℕ, List, [], length, arith, Option, PlainEvent, sequence_end, mapping_end, Node}
+use Rattle.yaml_load.proofs.Words.{alias_node, scalar_node, sequence_node, mapping_node, Nodes, no_nodes, node}
+use Rattle.yaml_load.proofs.Words.{NodePairs, no_pairs, pair, node_events, nodes_events, pairs_events, size_of}
 
 -- how many events there are
 abbrev pub nodes_size : Nodes → ℕ

@@ -1,12 +1,13 @@
 -- The places of the anchors of a document are those of nodes of its tree.
-use Rattle.yaml_load.proofs.Words.{◌≡◌, ℕ, suc, ◌+◌, List, [], ◌∷◌, ◌++◌, length, refl, sym, ◌∙◌, ap, subst, arith}
-use Rattle.yaml_load.proofs.Words.{Bool, true, false, cond, ◌==◌, Option, Some, None, length-append, eq-eqb, Node}
-use Rattle.yaml_load.proofs.Words.{alias_node, scalar_node, sequence_node, mapping_node, Nodes, no_nodes, node}
-use Rattle.yaml_load.proofs.Words.{NodePairs, no_pairs, pair, size_of, anchor_at, anchors_of, anchors_of_nodes}
-use Rattle.yaml_load.proofs.Words.{anchors_of_pairs, DocNode, reference, word, list, mapping, DocNodes, DocPairs}
-use Rattle.yaml_load.proofs.Words.{events_of, events_of_nodes, events_of_pairs, numbered, numbered_nodes}
-use Rattle.yaml_load.proofs.Words.{numbered_pairs, with_number, Find, sequence_ends, mapping_ends, without_anchor}
-use Rattle.yaml_load.proofs.Words.{resolved_from, resolved_nodes, resolved_pairs}
+use Rattle.std.specs.Prelude.{◌≡◌, ◌+◌, ◌∷◌, ◌++◌, ◌==◌}
+use Rattle.yaml_load.proofs.Words.{ℕ, suc, List, [], length, refl, sym, ◌∙◌, ap, subst, arith, Bool, true, false, cond}
+use Rattle.yaml_load.proofs.Words.{Option, Some, None, length-append, eq-eqb, Node, alias_node, scalar_node}
+use Rattle.yaml_load.proofs.Words.{sequence_node, mapping_node, Nodes, no_nodes, node, NodePairs, no_pairs, pair}
+use Rattle.yaml_load.proofs.Words.{size_of, anchor_at, anchors_of, anchors_of_nodes, anchors_of_pairs, DocNode}
+use Rattle.yaml_load.proofs.Words.{reference, word, list, mapping, DocNodes, DocPairs, events_of, events_of_nodes}
+use Rattle.yaml_load.proofs.Words.{events_of_pairs, numbered, numbered_nodes, numbered_pairs, with_number, Find}
+use Rattle.yaml_load.proofs.Words.{sequence_ends, mapping_ends, without_anchor, resolved_from, resolved_nodes}
+use Rattle.yaml_load.proofs.Words.{resolved_pairs}
 use Rattle.yaml_load.proofs.NodeSizes.{nodes_size, pairs_size, size_sequence, size_mapping, size_node, size_pair}
 use Rattle.yaml_load.proofs.OnTrees.{OnTree, on_tree, on_map, on_nodes, on_pairs, Each, each_append, each_more}
 use Rattle.yaml_load.specs.DocTree as tree

@@ -1,6 +1,7 @@
 -- What holds of a tree that is there, and of each element of a list.
-use Rattle.yaml_load.proofs.Words.{◌≡◌, List, [], ◌∷◌, ◌++◌, refl, subst, Option, Some, None, option_map, DocNode}
-use Rattle.yaml_load.proofs.Words.{DocNodes, DocPairs, node_then_nodes, pair_then_pairs}
+use Rattle.std.specs.Prelude.{◌≡◌, ◌∷◌, ◌++◌}
+use Rattle.yaml_load.proofs.Words.{List, [], refl, subst, Option, Some, None, option_map, DocNode, DocNodes, DocPairs}
+use Rattle.yaml_load.proofs.Words.{node_then_nodes, pair_then_pairs}
 use Rattle.yaml_load.specs.DocTree as tree
 
 -- what holds of what is there

@@ -1,8 +1,9 @@
 -- The numbers of open collections are filled in as their events go by.
-use Rattle.yaml_load.proofs.Words.{◌≡◌, ℕ, zero, suc, ◌+◌, ◌<◌, ◌≤◌, List, [], ◌∷◌, ◌++◌, map, length, set, reverse}
-use Rattle.yaml_load.proofs.Words.{min, true, false, refl, sym, ◌∙◌, ap, subst, arith, append-nil, length-set, get_or}
-use Rattle.yaml_load.proofs.Words.{set-append_seam, reverse-append, All-tail, end_place, ends_from, ends_of, is_closing}
-use Rattle.yaml_load.proofs.Words.{is_opening, PlainDocEvent, EndsView, HasNumbers, bounded_from, filled}
+use Rattle.std.specs.Prelude.{◌≡◌, ◌+◌, ◌<◌, ◌≤◌, ◌∷◌, ◌++◌}
+use Rattle.yaml_load.proofs.Words.{ℕ, zero, suc, List, [], map, length, set, reverse, min, true, false, refl, sym, ◌∙◌}
+use Rattle.yaml_load.proofs.Words.{ap, subst, arith, append-nil, length-set, get_or, set-append_seam, reverse-append}
+use Rattle.yaml_load.proofs.Words.{All-tail, end_place, ends_from, ends_of, is_closing, is_opening, PlainDocEvent}
+use Rattle.yaml_load.proofs.Words.{EndsView, HasNumbers, bounded_from, filled}
 use Rattle.yaml_load.proofs.FilledEnds.{All-reverse, AreIn, in_set, filled_push, end_here, filled_passes, filled_deeper}
 use Rattle.yaml_load.proofs.FilledEnds.{filled_outer, number_passes, number_opens, behind, one_longer, filled_at_end}
 

@@ -1,11 +1,12 @@
 -- The definitions of documents, read off events without their marks, and where the events of a tree end.
-use Rattle.yaml_load.proofs.Words.{arith, ◌≡◌, ℕ, ◌+◌, List, [], ◌∷◌, ◌++◌, map, refl, ◌∙◌, ap, Bool, true, false, cond}
-use Rattle.yaml_load.proofs.Words.{◌||◌, Option, Some, None, is_some, Position, PlainEvent, sequence_start}
-use Rattle.yaml_load.proofs.Words.{sequence_end, mapping_start, mapping_end, Node, alias_node, scalar_node}
-use Rattle.yaml_load.proofs.Words.{sequence_node, mapping_node, Nodes, no_nodes, node, NodePairs, no_pairs, pair}
-use Rattle.yaml_load.proofs.Words.{node_events, nodes_events, pairs_events, anchor_at, Input, Find, becomes}
-use Rattle.yaml_load.proofs.Words.{then_events, known_events, or_mark, unknown_mark, body, behind, is_ended, alias}
-use Rattle.yaml_load.proofs.Words.{scalar, is_document_end, anchor_of, anchors_in, events_in, PlainDocEvent}
+use Rattle.std.specs.Prelude.{◌≡◌, ◌+◌, ◌∷◌, ◌++◌, ◌||◌}
+use Rattle.yaml_load.proofs.Words.{arith, ℕ, List, [], map, refl, ◌∙◌, ap, Bool, true, false, cond, Option, Some, None}
+use Rattle.yaml_load.proofs.Words.{is_some, Position, PlainEvent, sequence_start, sequence_end, mapping_start}
+use Rattle.yaml_load.proofs.Words.{mapping_end, Node, alias_node, scalar_node, sequence_node, mapping_node, Nodes}
+use Rattle.yaml_load.proofs.Words.{no_nodes, node, NodePairs, no_pairs, pair, node_events, nodes_events, pairs_events}
+use Rattle.yaml_load.proofs.Words.{anchor_at, Input, Find, becomes, then_events, known_events, or_mark, unknown_mark}
+use Rattle.yaml_load.proofs.Words.{body, behind, is_ended, alias, scalar, is_document_end, anchor_of, anchors_in}
+use Rattle.yaml_load.proofs.Words.{events_in, PlainDocEvent}
 
 -- the definitions without marks
 abbrev pub plain_body : List PlainEvent → List PlainEvent

@@ -1,10 +1,10 @@
 -- The ends of a document's known events are those of the draft, cut off where an alias is unknown.
-use Rattle.yaml_load.proofs.Words.{◌≡◌, ℕ, suc, ◌+◌, ◌≤◌, List, [], ◌∷◌, map, length, take, min, refl, sym, ◌∙◌, ap}
-use Rattle.yaml_load.proofs.Words.{arith, take_all, Option, Some, None, Bool, true, false, inl, inr, option_map, cond}
-use Rattle.yaml_load.proofs.Words.{◌&&◌, ◌==◌, cases_Bool, length-map, Position, PlainEvent, alias, Find, Input}
-use Rattle.yaml_load.proofs.Words.{becomes, known_events, or_mark, then_events, unknown_mark, end_place, ends_from}
-use Rattle.yaml_load.proofs.Words.{ends_of, inner_after, is_closing, is_opening, PlainDocEvent, alias_to, drafted}
-use Rattle.yaml_load.proofs.Words.{drafts_of, Marked}
+use Rattle.std.specs.Prelude.{◌≡◌, ◌+◌, ◌≤◌, ◌∷◌, ◌&&◌, ◌==◌}
+use Rattle.yaml_load.proofs.Words.{ℕ, suc, List, [], map, length, take, min, refl, sym, ◌∙◌, ap, arith, take_all}
+use Rattle.yaml_load.proofs.Words.{Option, Some, None, Bool, true, false, inl, inr, option_map, cond, cases_Bool}
+use Rattle.yaml_load.proofs.Words.{length-map, Position, PlainEvent, alias, Find, Input, becomes, known_events, or_mark}
+use Rattle.yaml_load.proofs.Words.{then_events, unknown_mark, end_place, ends_from, ends_of, inner_after, is_closing}
+use Rattle.yaml_load.proofs.Words.{is_opening, PlainDocEvent, alias_to, drafted, drafts_of, Marked}
 use Rattle.yaml_load.proofs.Gatherings.{length-ends_from}
 
 -- how an event and what it becomes begin and end collections

@@ -1,10 +1,11 @@
 -- Where the aliases of a draft have got their targets, its events are those of the document.
-use Rattle.yaml_load.proofs.Words.{Marked, ◌≡◌, ℕ, ◌+◌, List, [], ◌∷◌, ◌++◌, length, take, refl, sym, ◌∙◌, ap, subst}
-use Rattle.yaml_load.proofs.Words.{arith, append-nil, Option, Some, None, All, IsTrue, option_map, inl, inr, slice_get}
-use Rattle.yaml_load.proofs.Words.{take-append_seam, All-tail, Position, PlainEvent, stream_start, stream_end}
-use Rattle.yaml_load.proofs.Words.{document_start, document_end, alias, Find, Input, becomes, known_events, or_mark}
-use Rattle.yaml_load.proofs.Words.{then_events, unknown_mark, PlainDocEvent, alias_to, AreTaken, IsTaken, Settled}
-use Rattle.yaml_load.proofs.Words.{Waiting, aimed, is_of_node, settle, settled}
+use Rattle.std.specs.Prelude.{◌≡◌, ◌+◌, ◌∷◌, ◌++◌}
+use Rattle.yaml_load.proofs.Words.{Marked, ℕ, List, [], length, take, refl, sym, ◌∙◌, ap, subst, arith, append-nil}
+use Rattle.yaml_load.proofs.Words.{Option, Some, None, All, IsTrue, option_map, inl, inr, slice_get, take-append_seam}
+use Rattle.yaml_load.proofs.Words.{All-tail, Position, PlainEvent, stream_start, stream_end, document_start}
+use Rattle.yaml_load.proofs.Words.{document_end, alias, Find, Input, becomes, known_events, or_mark, then_events}
+use Rattle.yaml_load.proofs.Words.{unknown_mark, PlainDocEvent, alias_to, AreTaken, IsTaken, Settled, Waiting, aimed}
+use Rattle.yaml_load.proofs.Words.{is_of_node, settle, settled}
 use Rattle.yaml_load.proofs.FilledEnds.{behind, one_longer}
 
 abbrev pub ToNodes : Input → Type 0

@@ -1,9 +1,10 @@
 -- The aliases of a document get their targets one after another, up to the first unknown one.
+use Rattle.std.specs.Prelude.{◌≡◌, ◌+◌, ◌<◌, ◌∷◌}
 use Rattle.std.proofs.lemmas.List.{length-drop}
-use Rattle.yaml_load.proofs.Words.{Events, Marked, ◌≡◌, ℕ, zero, suc, ◌+◌, ◌<◌, List, [], ◌∷◌, length, get_or, set}
-use Rattle.yaml_load.proofs.Words.{drop, sym, ◌∙◌, ap, arith, add-one, Option, Some, drop-cons, drop-set-add}
-use Rattle.yaml_load.proofs.Words.{get_or-drop, Position, doc_event_of, marked_events_of, Find, alias_to, DocEvent}
-use Rattle.yaml_load.proofs.Words.{Settled, aimed, settle, settled}
+use Rattle.yaml_load.proofs.Words.{Events, Marked, ℕ, zero, suc, List, [], length, get_or, set, drop, sym, ◌∙◌, ap}
+use Rattle.yaml_load.proofs.Words.{arith, add-one, Option, Some, drop-cons, drop-set-add, get_or-drop, Position}
+use Rattle.yaml_load.proofs.Words.{doc_event_of, marked_events_of, Find, alias_to, DocEvent, Settled, aimed, settle}
+use Rattle.yaml_load.proofs.Words.{settled}
 use Rattle.yaml_load.specs.declared.doc_event.DocEvent.TheVariants as event
 
 -- an event that is set at a place

@@ -1,9 +1,10 @@
 -- Sorted anchors have the same targets.
+use Rattle.std.specs.Prelude.{◌≡◌, ◌≤◌, ◌∷◌, ◌⊎◌}
 use Rattle.std.specs.List.{Contains}
 use Rattle.std.proofs.lemmas.List.Sorted.{All-permutation, Contains-permutation}
-use Rattle.yaml_load.proofs.Words.{◌≡◌, ℕ, suc, ◌≤◌, List, [], ◌∷◌, refl, sym, ◌∙◌, ap, subst, arith, max, Option, Some}
-use Rattle.yaml_load.proofs.Words.{None, ◌⊎◌, inl, inr, All, IsPermutation, cases_lt, All-cons, All-nil, greater}
-use Rattle.yaml_load.proofs.Words.{number_below, greatest_below, find_in}
+use Rattle.yaml_load.proofs.Words.{ℕ, suc, List, [], refl, sym, ◌∙◌, ap, subst, arith, max, Option, Some, None, inl}
+use Rattle.yaml_load.proofs.Words.{inr, All, IsPermutation, cases_lt, All-cons, All-nil, greater, number_below}
+use Rattle.yaml_load.proofs.Words.{greatest_below, find_in}
 use Rattle.yaml_load.proofs.AnchorOrders.{Named}
 use Rattle.yaml_load.proofs.AnchorSearch.{Bounded, find_none, find_some}
 

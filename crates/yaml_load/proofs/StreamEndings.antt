@@ -1,6 +1,7 @@
 -- What cuts a document of a stream off is an alias or the parser.
-use Rattle.yaml_load.proofs.Words.{◌≡◌, refl, get_or, List, [], ◌∷◌, map, cond, Bool, true, false, Option, Some, None}
-use Rattle.yaml_load.proofs.Words.{All, All-append, All-cons, All-map, All-nil, Position, PlainFault, Input, find_in}
+use Rattle.std.specs.Prelude.{◌≡◌, ◌∷◌}
+use Rattle.yaml_load.proofs.Words.{refl, get_or, List, [], map, cond, Bool, true, false, Option, Some, None, All}
+use Rattle.yaml_load.proofs.Words.{All-append, All-cons, All-map, All-nil, Position, PlainFault, Input, find_in}
 use Rattle.yaml_load.proofs.Words.{unknown_mark, body, is_ended, anchors_in, ending_of, document_from, documents_of}
 use Rattle.yaml_load.proofs.Words.{after_starts, void_documents, last_mark, void_document, failed_document}
 use Rattle.yaml_load.proofs.Words.{further_document, is_open_after, PlainDocument, IsEnding}

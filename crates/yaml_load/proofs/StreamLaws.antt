@@ -1,12 +1,12 @@
 -- The documents of a whole stream are those of its trees.
-use Rattle.yaml_load.proofs.Words.{◌≡◌, ℕ, ◌+◌, List, [], ◌∷◌, ◌++◌, map, refl, sym, ◌∙◌, ap, subst, cond, append-nil}
-use Rattle.yaml_load.proofs.Words.{Bool, true, false, Option, Some, None, is_some, Position, PlainEvent, stream_start}
-use Rattle.yaml_load.proofs.Words.{stream_end, document_start, document_end, PlainFault, documents_events}
-use Rattle.yaml_load.proofs.Words.{stream_events, Node, node_events, size_of, target, anchors_of, DocNode, events_of}
-use Rattle.yaml_load.proofs.Words.{Input, Find, find_in, known_events, unknown_mark, body, behind, is_ended}
-use Rattle.yaml_load.proofs.Words.{is_document_start, anchors_in, ending_of, document_from, documents_of, after_starts}
-use Rattle.yaml_load.proofs.Words.{void_documents, last_mark, events_in, resolved, alias_to, IsDocumentOf}
-use Rattle.yaml_load.proofs.Words.{AreDocumentsOf, AreStreamDocuments}
+use Rattle.std.specs.Prelude.{◌≡◌, ◌+◌, ◌∷◌, ◌++◌}
+use Rattle.yaml_load.proofs.Words.{ℕ, List, [], map, refl, sym, ◌∙◌, ap, subst, cond, append-nil, Bool, true, false}
+use Rattle.yaml_load.proofs.Words.{Option, Some, None, is_some, Position, PlainEvent, stream_start, stream_end}
+use Rattle.yaml_load.proofs.Words.{document_start, document_end, PlainFault, documents_events, stream_events, Node}
+use Rattle.yaml_load.proofs.Words.{node_events, size_of, target, anchors_of, DocNode, events_of, Input, Find, find_in}
+use Rattle.yaml_load.proofs.Words.{known_events, unknown_mark, body, behind, is_ended, is_document_start, anchors_in}
+use Rattle.yaml_load.proofs.Words.{ending_of, document_from, documents_of, after_starts, void_documents, last_mark}
+use Rattle.yaml_load.proofs.Words.{events_in, resolved, alias_to, IsDocumentOf, AreDocumentsOf, AreStreamDocuments}
 use Rattle.yaml_load.proofs.DocumentLaws.{starts_behind}
 use Rattle.yaml_load.proofs.PlainWalks.{events_in-body, events_in-behind, is_ended-plain, anchors_in-plain, known-plain}
 use Rattle.yaml_load.proofs.PlainWalks.{missing-plain, plain_anchors, plain_known, plain_missing, plain_body}

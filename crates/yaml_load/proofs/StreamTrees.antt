@@ -1,13 +1,14 @@
 -- Each document of a stream that nothing cut off has a tree, and a stream has a document.
-use Rattle.yaml_load.proofs.Words.{arith, ◌≡◌, List, [], ◌∷◌, ◌++◌, map, refl, sym, ◌∙◌, ap, subst, cond, Bool, true}
-use Rattle.yaml_load.proofs.Words.{false, Option, Some, None, is_some, All, inl, inr, ◌≢◌, cases_Bool, All-append}
-use Rattle.yaml_load.proofs.Words.{All-cons, All-nil, Position, PlainEvent, stream_start, stream_end, document_start}
-use Rattle.yaml_load.proofs.Words.{document_end, PlainFault, documents_events, stream_events, IsWellFormed, Node}
-use Rattle.yaml_load.proofs.Words.{node_events, DocNode, IsTreeOf, nothing, Input, find_in, unknown_mark, body, behind}
-use Rattle.yaml_load.proofs.Words.{is_ended, is_document_start, anchors_in, ending_of, document_from, documents_of}
-use Rattle.yaml_load.proofs.Words.{after_starts, last_mark, void_document, failed_document, further_document}
-use Rattle.yaml_load.proofs.Words.{is_open_after, events_in, resolved, alias_to, a_void, PlainDocument, IsDocumentOf}
-use Rattle.yaml_load.proofs.Words.{AreDocumentsOf, AreStreamDocuments, HasTree}
+use Rattle.std.specs.Prelude.{◌≡◌, ◌∷◌, ◌++◌, ◌≢◌}
+use Rattle.yaml_load.proofs.Words.{arith, List, [], map, refl, sym, ◌∙◌, ap, subst, cond, Bool, true, false, Option}
+use Rattle.yaml_load.proofs.Words.{Some, None, is_some, All, inl, inr, cases_Bool, All-append, All-cons, All-nil}
+use Rattle.yaml_load.proofs.Words.{Position, PlainEvent, stream_start, stream_end, document_start, document_end}
+use Rattle.yaml_load.proofs.Words.{PlainFault, documents_events, stream_events, IsWellFormed, Node, node_events}
+use Rattle.yaml_load.proofs.Words.{DocNode, IsTreeOf, nothing, Input, find_in, unknown_mark, body, behind, is_ended}
+use Rattle.yaml_load.proofs.Words.{is_document_start, anchors_in, ending_of, document_from, documents_of, after_starts}
+use Rattle.yaml_load.proofs.Words.{last_mark, void_document, failed_document, further_document, is_open_after}
+use Rattle.yaml_load.proofs.Words.{events_in, resolved, alias_to, a_void, PlainDocument, IsDocumentOf, AreDocumentsOf}
+use Rattle.yaml_load.proofs.Words.{AreStreamDocuments, HasTree}
 use Rattle.yaml_load.proofs.DocumentLaws.{starts_behind, no_starts}
 use Rattle.yaml_load.proofs.PlainWalks.{events_in-body, events_in-behind, is_ended-plain, plain_body, plain_behind}
 use Rattle.yaml_load.proofs.PlainWalks.{plain_ended, body_node, behind_node}

@@ -1,10 +1,11 @@
 -- Where the aliases of a document have targets, each target is a node of the document's tree.
-use Rattle.yaml_load.proofs.Words.{◌≡◌, inl, inr, ℕ, zero, suc, ◌+◌, max, List, [], ◌∷◌, ◌++◌, map, refl, subst, arith}
-use Rattle.yaml_load.proofs.Words.{Bool, true, false, cond, ◌&&◌, nat_lt, Option, Some, None, option_map, slice_get}
-use Rattle.yaml_load.proofs.Words.{bytes_eq, cases_lt, Position, Node, alias_node, scalar_node, sequence_node}
-use Rattle.yaml_load.proofs.Words.{mapping_node, Nodes, no_nodes, node, NodePairs, no_pairs, pair, size_of, anchors_of}
-use Rattle.yaml_load.proofs.Words.{greater, number_below, greatest_below, target, DocNode, reference, list, mapping}
-use Rattle.yaml_load.proofs.Words.{events_of, events_of_nodes, events_of_pairs, node_of, Find, PlainDocEvent, alias_to}
+use Rattle.std.specs.Prelude.{◌≡◌, ◌+◌, ◌∷◌, ◌++◌, ◌&&◌}
+use Rattle.yaml_load.proofs.Words.{inl, inr, ℕ, zero, suc, max, List, [], map, refl, subst, arith, Bool, true, false}
+use Rattle.yaml_load.proofs.Words.{cond, nat_lt, Option, Some, None, option_map, slice_get, bytes_eq, cases_lt}
+use Rattle.yaml_load.proofs.Words.{Position, Node, alias_node, scalar_node, sequence_node, mapping_node, Nodes}
+use Rattle.yaml_load.proofs.Words.{no_nodes, node, NodePairs, no_pairs, pair, size_of, anchors_of, greater}
+use Rattle.yaml_load.proofs.Words.{number_below, greatest_below, target, DocNode, reference, list, mapping, events_of}
+use Rattle.yaml_load.proofs.Words.{events_of_nodes, events_of_pairs, node_of, Find, PlainDocEvent, alias_to}
 use Rattle.yaml_load.proofs.Words.{sequence_ends, mapping_ends, resolved_from, resolved_nodes, resolved_pairs, resolved}
 use Rattle.yaml_load.proofs.OnTrees.{OnTree, on_tree, tree_there, on_map, on_nodes, on_pairs, Each, each_append}
 use Rattle.yaml_load.proofs.NumberedNodes.{fits}

@@ -1,13 +1,14 @@
 -- What the definitions of documents say of the events of a tree: its anchors, and what its events become.
-use Rattle.yaml_load.proofs.Words.{◌≡◌, ℕ, ◌+◌, List, [], ◌∷◌, ◌++◌, refl, sym, ◌∙◌, ap, subst, arith, true, Option}
-use Rattle.yaml_load.proofs.Words.{Some, None, append_assoc, option_map, PlainEvent, alias, sequence_start}
-use Rattle.yaml_load.proofs.Words.{sequence_end, mapping_start, mapping_end, Node, alias_node, scalar_node}
-use Rattle.yaml_load.proofs.Words.{sequence_node, mapping_node, Nodes, no_nodes, node, NodePairs, no_pairs, pair}
-use Rattle.yaml_load.proofs.Words.{node_events, nodes_events, pairs_events, size_of, anchor_at, anchors_of}
-use Rattle.yaml_load.proofs.Words.{anchors_of_nodes, anchors_of_pairs, DocNode, reference, list, mapping, DocNodes}
-use Rattle.yaml_load.proofs.Words.{DocPairs, events_of, events_of_nodes, events_of_pairs, Find, PlainDocEvent, alias_to}
-use Rattle.yaml_load.proofs.Words.{sequence_begins, sequence_ends, mapping_begins, mapping_ends, node_then_nodes}
-use Rattle.yaml_load.proofs.Words.{pair_then_pairs, resolved_from, resolved_nodes, resolved_pairs}
+use Rattle.std.specs.Prelude.{◌≡◌, ◌+◌, ◌∷◌, ◌++◌}
+use Rattle.yaml_load.proofs.Words.{ℕ, List, [], refl, sym, ◌∙◌, ap, subst, arith, true, Option, Some, None}
+use Rattle.yaml_load.proofs.Words.{append_assoc, option_map, PlainEvent, alias, sequence_start, sequence_end}
+use Rattle.yaml_load.proofs.Words.{mapping_start, mapping_end, Node, alias_node, scalar_node, sequence_node}
+use Rattle.yaml_load.proofs.Words.{mapping_node, Nodes, no_nodes, node, NodePairs, no_pairs, pair, node_events}
+use Rattle.yaml_load.proofs.Words.{nodes_events, pairs_events, size_of, anchor_at, anchors_of, anchors_of_nodes}
+use Rattle.yaml_load.proofs.Words.{anchors_of_pairs, DocNode, reference, list, mapping, DocNodes, DocPairs, events_of}
+use Rattle.yaml_load.proofs.Words.{events_of_nodes, events_of_pairs, Find, PlainDocEvent, alias_to, sequence_begins}
+use Rattle.yaml_load.proofs.Words.{sequence_ends, mapping_begins, mapping_ends, node_then_nodes, pair_then_pairs}
+use Rattle.yaml_load.proofs.Words.{resolved_from, resolved_nodes, resolved_pairs}
 use Rattle.yaml_load.proofs.PlainWalks.{plain_anchors, then_known, plain_known, or_missing, plain_missing}
 use Rattle.yaml_load.proofs.NodeSizes.{nodes_size, pairs_size, size_sequence, size_mapping, size_node, size_pair}
 

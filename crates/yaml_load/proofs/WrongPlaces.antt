@@ -1,13 +1,14 @@
 -- Where the machine stops, the list of events goes wrong.
+use Rattle.std.specs.Prelude.{◌≡◌, ◌+◌, ◌∷◌, ◌++◌}
 use Rattle.std.proofs.lemmas.List.{length-append}
 use Rattle.std.proofs.lemmas.Simd.{map-map}
-use Rattle.yaml_load.proofs.Words.{◌≡◌, ℕ, ◌+◌, List, [], ◌∷◌, ◌++◌, length, take, drop, Some, None, Bool, true, false}
-use Rattle.yaml_load.proofs.Words.{refl, sym, ◌∙◌, ap, inl, inr, arith, append_assoc, append-nil, subst}
-use Rattle.yaml_load.proofs.Words.{take-append-add, take-append_seam, take-length, length-map, map-append}
-use Rattle.yaml_load.proofs.Words.{take-append-drop, Position, PlainEvent, event_of, Event, IsStream, IsBeginning}
-use Rattle.yaml_load.proofs.Words.{IsWellFormed, Open, Phase, State, before_stream, after_stream, next_state, run}
-use Rattle.yaml_load.proofs.Words.{Input, events_in, plain_events, plain_marked, is_done, state_of, IsWrongAt}
-use Rattle.yaml_load.proofs.Words.{IsWrongNext, After, whole_run, goes_on_run, run_append}
+use Rattle.yaml_load.proofs.Words.{ℕ, List, [], length, take, drop, Some, None, Bool, true, false, refl, sym, ◌∙◌, ap}
+use Rattle.yaml_load.proofs.Words.{inl, inr, arith, append_assoc, append-nil, subst, take-append-add, take-append_seam}
+use Rattle.yaml_load.proofs.Words.{take-length, length-map, map-append, take-append-drop, Position, PlainEvent}
+use Rattle.yaml_load.proofs.Words.{event_of, Event, IsStream, IsBeginning, IsWellFormed, Open, Phase, State}
+use Rattle.yaml_load.proofs.Words.{before_stream, after_stream, next_state, run, Input, events_in, plain_events}
+use Rattle.yaml_load.proofs.Words.{plain_marked, is_done, state_of, IsWrongAt, IsWrongNext, After, whole_run}
+use Rattle.yaml_load.proofs.Words.{goes_on_run, run_append}
 
 -- the plain events of events with marks
 pub events_of_marked : (events : List (Event × Position)) → events_in (plain_marked events) ≡ plain_events events

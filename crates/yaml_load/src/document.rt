@@ -1,6 +1,7 @@
 //! One document of a stream.
 
-ghost use Rattle.yaml_load.specs.Words.{◌≡◌, map, option_copied, marked_events_of, ends_of, HasEnds, document_of_range};
+ghost use Rattle.std.specs.Prelude.{◌≡◌};
+ghost use Rattle.yaml_load.specs.Words.{map, option_copied, marked_events_of, ends_of, HasEnds, document_of_range};
 ghost use Rattle.yaml_load.specs.Words.{HasTree, IsDocument, IsEnding};
 
 use crate::doc_event::DocEvent;

@@ -9,9 +9,9 @@ mod resolve;
 mod share;
 mod steps;
 
-ghost use Rattle.yaml_load.specs.Words.{◌≡◌, ℕ, ◌++◌, [], IfNone, IfOk, IfErr, false, is_some, option_to_list};
-ghost use Rattle.yaml_load.specs.Words.{is_memory, IsWellFormed, NotAStream, documents_of, plain_events, plain_marked};
-ghost use Rattle.yaml_load.specs.Words.{IsWrongAt};
+ghost use Rattle.std.specs.Prelude.{◌≡◌, ◌++◌};
+ghost use Rattle.yaml_load.specs.Words.{ℕ, [], IfNone, IfOk, IfErr, false, is_some, option_to_list, is_memory};
+ghost use Rattle.yaml_load.specs.Words.{IsWellFormed, NotAStream, documents_of, plain_events, plain_marked, IsWrongAt};
 
 use crate::document::LoadedDocument;
 pub use builder::LoaderBuilder;

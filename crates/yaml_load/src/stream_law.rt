@@ -1,9 +1,9 @@
 //! What the documents of a stream are: contracts of functions that do nothing.
 
-ghost use Rattle.yaml_load.specs.Words.{◌≡◌, ◌≢◌, [], All, List, None, Some, Option, is_some, false, PlainFault};
-ghost use Rattle.yaml_load.specs.Words.{IsWellFormed, stream_events, Node, Input, after_starts, documents_of};
-ghost use Rattle.yaml_load.specs.Words.{last_mark, events_in, AreStreamDocuments, HasTree, IsEnding, IsBeforeFault};
-ghost use Rattle.yaml_load.specs.Words.{EndAtFault, HoldFronts};
+ghost use Rattle.std.specs.Prelude.{◌≡◌, ◌≢◌};
+ghost use Rattle.yaml_load.specs.Words.{[], All, List, None, Some, Option, is_some, false, PlainFault, IsWellFormed};
+ghost use Rattle.yaml_load.specs.Words.{stream_events, Node, Input, after_starts, documents_of, last_mark, events_in};
+ghost use Rattle.yaml_load.specs.Words.{AreStreamDocuments, HasTree, IsEnding, IsBeforeFault, EndAtFault, HoldFronts};
 
 /// A whole stream is cut into the documents of its trees, in order: the tree of each is that of the stream with its
 /// aliases resolved, or it ends at an unknown anchor. A stream without documents is cut into one that stands for

@@ -1,7 +1,8 @@
 //! The anchors of one document's nodes, and of its aliases that wait for their targets.
 
-ghost use Rattle.yaml_load.specs.Words.{◌≡◌, ◌++◌, [], IfOk, length, alias, anchor_at, Input, anchors_in, find_in};
-ghost use Rattle.yaml_load.specs.Words.{alias_to, IsTaken, Waiting};
+ghost use Rattle.std.specs.Prelude.{◌≡◌, ◌++◌};
+ghost use Rattle.yaml_load.specs.Words.{[], IfOk, length, alias, anchor_at, Input, anchors_in, find_in, alias_to};
+ghost use Rattle.yaml_load.specs.Words.{IsTaken, Waiting};
 
 use std::alloc::{AllocError, Global};
 use yaml_base::Anchor;

@@ -1,8 +1,8 @@
 //! A loader that takes the events of a stream one by one.
 
-ghost use Rattle.yaml_load.specs.Words.{◌≡◌, ◌<◌, ◌∷◌, ◌++◌, [], IfOk, IfErr, false, is_some, length, is_memory};
-ghost use Rattle.yaml_load.specs.Words.{event_of, IsWellFormed, NotAStream, documents_of, events_in, IsWrongAt};
-ghost use Rattle.yaml_load.specs.Words.{IsWrongNext};
+ghost use Rattle.std.specs.Prelude.{◌≡◌, ◌<◌, ◌∷◌, ◌++◌};
+ghost use Rattle.yaml_load.specs.Words.{[], IfOk, IfErr, false, is_some, length, is_memory, event_of, IsWellFormed};
+ghost use Rattle.yaml_load.specs.Words.{NotAStream, documents_of, events_in, IsWrongAt, IsWrongNext};
 
 use crate::loader::Loader;
 use crate::loader::check::{Phase, is_after, is_inside};

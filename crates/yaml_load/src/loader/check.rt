@@ -1,6 +1,7 @@
 //! Which events may follow one another in a stream.
 
-ghost use Rattle.yaml_load.specs.Words.{◌≡◌, ℕ, List, [], IfOk, IfSome, None, Option, true, PlainScalar, alias};
+ghost use Rattle.std.specs.Prelude.{◌≡◌};
+ghost use Rattle.yaml_load.specs.Words.{ℕ, List, [], IfOk, IfSome, None, Option, true, PlainScalar, alias};
 ghost use Rattle.yaml_load.specs.Words.{document_end, document_start, mapping_end, mapping_start, scalar, sequence_end};
 ghost use Rattle.yaml_load.specs.Words.{sequence_start, stream_end, stream_start, IsClean, Moves, is_done, is_open};
 ghost use Rattle.yaml_load.specs.Words.{opened_in, state_of, within, Sequence, Key, Value};

@@ -1,10 +1,10 @@
 //! The document whose events go by, behind those that have ended.
 
-ghost use Rattle.yaml_load.specs.Words.{◌≡◌, ◌∷◌, ◌++◌, ◌<◌, ◌≤◌, ◌+◌, ℕ, [], All, List, IfOk, IfSome, Some, drop};
-ghost use Rattle.yaml_load.specs.Words.{false, length, slice_get, take, true, option_map, Position, marked_events_of};
-ghost use Rattle.yaml_load.specs.Words.{Input, anchors_in, document_of, ending_of, find_in, failed_document};
-ghost use Rattle.yaml_load.specs.Words.{void_document, AreCuts, documents_in, ending_in, PlainDocument, IsBetween};
-ghost use Rattle.yaml_load.specs.Words.{IsDraft, settled, bounded_from};
+ghost use Rattle.std.specs.Prelude.{◌≡◌, ◌∷◌, ◌++◌, ◌<◌, ◌≤◌, ◌+◌};
+ghost use Rattle.yaml_load.specs.Words.{ℕ, [], All, List, IfOk, IfSome, Some, drop, false, length, slice_get, take};
+ghost use Rattle.yaml_load.specs.Words.{true, option_map, Position, marked_events_of, Input, anchors_in, document_of};
+ghost use Rattle.yaml_load.specs.Words.{ending_of, find_in, failed_document, void_document, AreCuts, documents_in};
+ghost use Rattle.yaml_load.specs.Words.{ending_in, PlainDocument, IsBetween, IsDraft, settled, bounded_from};
 ghost use Rattle.yaml_load.specs.declared.doc_event.DocEvent.{DocEvent as Shown};
 
 use crate::doc_event::DocEvent;

@@ -1,7 +1,8 @@
 //! Where the collections of a document end, found while its events go by.
 
-ghost use Rattle.yaml_load.specs.Words.{◌≡◌, ◌+◌, ◌≤◌, ℕ, List, [], ◌∷◌, ◌++◌, IfOk, false, length, take, true};
-ghost use Rattle.yaml_load.specs.Words.{ends_of, is_closing, is_opening, PlainDocEvent, HasNumbers, bounded_from};
+ghost use Rattle.std.specs.Prelude.{◌≡◌, ◌+◌, ◌≤◌, ◌∷◌, ◌++◌};
+ghost use Rattle.yaml_load.specs.Words.{ℕ, List, [], IfOk, false, length, take, true, ends_of, is_closing, is_opening};
+ghost use Rattle.yaml_load.specs.Words.{PlainDocEvent, HasNumbers, bounded_from};
 
 use std::alloc::{AllocError, Global};
 use std::marker::Model;

@@ -1,8 +1,8 @@
 //! The aliases of a document get their targets.
 
-ghost use Rattle.yaml_load.specs.Words.{◌≡◌, ◌+◌, ◌<◌, ◌≤◌, All, IfSome, IsTrue, drop, false, length, take};
-ghost use Rattle.yaml_load.specs.Words.{marked_events_of, find_in, AllBefore, IsInOrder, IsPlaceOf, NoneBefore};
-ghost use Rattle.yaml_load.specs.Words.{settled};
+ghost use Rattle.std.specs.Prelude.{◌≡◌, ◌+◌, ◌<◌, ◌≤◌};
+ghost use Rattle.yaml_load.specs.Words.{All, IfSome, IsTrue, drop, false, length, take, marked_events_of, find_in};
+ghost use Rattle.yaml_load.specs.Words.{AllBefore, IsInOrder, IsPlaceOf, NoneBefore, settled};
 
 use crate::doc_event::DocEvent;
 use yaml_base::{Anchor, Mark};

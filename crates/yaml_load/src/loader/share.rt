@@ -1,6 +1,7 @@
 //! The documents share their events.
 
-ghost use Rattle.yaml_load.specs.Words.{◌≡◌, All, IfOk, AreCuts, documents_in, IsDocument};
+ghost use Rattle.std.specs.Prelude.{◌≡◌};
+ghost use Rattle.yaml_load.specs.Words.{All, IfOk, AreCuts, documents_in, IsDocument};
 
 use crate::document::LoadedDocument;
 use crate::loader::draft::{Cut, Draft};

@@ -1,9 +1,10 @@
 //! The steps by which events become documents.
 
-ghost use Rattle.yaml_load.specs.Words.{◌≡◌, ◌+◌, ◌≤◌, [], IfOk, List, is_some, length, true, Position, alias};
-ghost use Rattle.yaml_load.specs.Words.{document_end, document_start, event_of, mapping_end, mapping_start, scalar_of};
-ghost use Rattle.yaml_load.specs.Words.{sequence_end, sequence_start, Input, documents_of, last_mark, IsClean, is_open};
-ghost use Rattle.yaml_load.specs.Words.{IsBetween, IsOnWay, IsReady, Steps};
+ghost use Rattle.std.specs.Prelude.{◌≡◌, ◌+◌, ◌≤◌};
+ghost use Rattle.yaml_load.specs.Words.{[], IfOk, List, is_some, length, true, Position, alias, document_end};
+ghost use Rattle.yaml_load.specs.Words.{document_start, event_of, mapping_end, mapping_start, scalar_of, sequence_end};
+ghost use Rattle.yaml_load.specs.Words.{sequence_start, Input, documents_of, last_mark, IsClean, is_open, IsBetween};
+ghost use Rattle.yaml_load.specs.Words.{IsOnWay, IsReady, Steps};
 ghost use Rattle.yaml_base.specs.PlainEvent.{scalar as scalar_event};
 
 use crate::doc_event::{DocEvent, DocScalar, DocStart};

@@ -1,7 +1,8 @@
 -- The list goes wrong where the builder refuses an event, or the end; else the builder took all of it.
-use Rattle.yaml_load.proofs.Words.{◌≡◌, ◌∙◌, ◌++◌, Err, IfErr, IfOk, Ok, Result, ap, append-nil, arith, is_some, length}
-use Rattle.yaml_load.proofs.Words.{subst, sym, into_iter_items, IsWellFormed, events_in, plain_events, plain_marked}
-use Rattle.yaml_load.proofs.Words.{IsWrongAt, nil_from_length}
+use Rattle.std.specs.Prelude.{◌≡◌, ◌++◌}
+use Rattle.yaml_load.proofs.Words.{◌∙◌, Err, IfErr, IfOk, Ok, Result, ap, append-nil, arith, is_some, length, subst}
+use Rattle.yaml_load.proofs.Words.{sym, into_iter_items, IsWellFormed, events_in, plain_events, plain_marked, IsWrongAt}
+use Rattle.yaml_load.proofs.Words.{nil_from_length}
 use Rattle.yaml_load.proofs.WrongPlaces.{events_of_marked, wrong_amid, wrong_not_well_formed}
 use Rattle.yaml_load.proofs.loader.Loader.new.Goals as goal
 

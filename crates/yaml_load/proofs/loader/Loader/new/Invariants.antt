@@ -1,5 +1,6 @@
 -- All events are those that the builder took and those that are left.
-use Rattle.yaml_load.proofs.Words.{◌≡◌, ◌++◌, length, into_iter_items, plain_marked}
+use Rattle.std.specs.Prelude.{◌≡◌, ◌++◌}
+use Rattle.yaml_load.proofs.Words.{length, into_iter_items, plain_marked}
 use Rattle.yaml_load.proofs.loader.Loader.new.Given as goal
 
 abbrev pub invariant-events : goal.invariant-events

@@ -1,6 +1,7 @@
 -- The alias that comes next gets its target.
-use Rattle.yaml_load.proofs.Words.{◌+◌, ◌<◌, ◌∙◌, arith, length, length-set, subst, sym, drop, take-set-le}
-use Rattle.yaml_load.proofs.Words.{marked_events_of, find_in, Alias}
+use Rattle.std.specs.Prelude.{◌+◌, ◌<◌}
+use Rattle.yaml_load.proofs.Words.{◌∙◌, arith, length, length-set, subst, sym, drop, take-set-le, marked_events_of}
+use Rattle.yaml_load.proofs.Words.{find_in, Alias}
 use Rattle.yaml_load.proofs.Settling.{aimed_behind, settled_more}
 use Rattle.yaml_load.proofs.loader.resolve.resolve.Goals as goal
 

@@ -1,5 +1,6 @@
 -- What the aliases left make of the events is what all of them make of those there were.
-use Rattle.yaml_load.proofs.Words.{◌≡◌, length, drop, take, marked_events_of, find_in, settled}
+use Rattle.std.specs.Prelude.{◌≡◌}
+use Rattle.yaml_load.proofs.Words.{length, drop, take, marked_events_of, find_in, settled}
 use Rattle.yaml_load.proofs.loader.resolve.resolve.Given as goal
 
 abbrev pub invariant-aliases : goal.invariant-aliases

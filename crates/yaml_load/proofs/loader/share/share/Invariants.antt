@@ -1,5 +1,6 @@
 -- The ranges left, and the documents made so far.
-use Rattle.yaml_load.proofs.Words.{◌≡◌, ◌++◌, All, length, into_iter_items, AreCuts, documents_in, IsDocument}
+use Rattle.std.specs.Prelude.{◌≡◌, ◌++◌}
+use Rattle.yaml_load.proofs.Words.{All, length, into_iter_items, AreCuts, documents_in, IsDocument}
 use Rattle.yaml_load.proofs.loader.share.share.Given as goal
 
 abbrev pub invariant-cuts : goal.invariant-cuts

@@ -1,7 +1,8 @@
 -- The draft is closed behind the last event, or the end is wrong.
-use Rattle.yaml_load.proofs.Words.{rules, ◌≡◌, ◌∙◌, ap, is_some, length, subst, sym, true, length-map, PlainEvent}
-use Rattle.yaml_load.proofs.Words.{Position, IsWellFormed, Input, documents_of, events_in, plain_marked, documents_in}
-use Rattle.yaml_load.proofs.Words.{is_done, IsWrongAt, NotAStream}
+use Rattle.std.specs.Prelude.{◌≡◌}
+use Rattle.yaml_load.proofs.Words.{rules, ◌∙◌, ap, is_some, length, subst, sym, true, length-map, PlainEvent, Position}
+use Rattle.yaml_load.proofs.Words.{IsWellFormed, Input, documents_of, events_in, plain_marked, documents_in, is_done}
+use Rattle.yaml_load.proofs.Words.{IsWrongAt, NotAStream}
 use Rattle.yaml_load.proofs.Intakes.{all_documents, closed, ready_in}
 use Rattle.yaml_load.proofs.LoadingEnds.{flags_differ, flags_same}
 use Rattle.yaml_load.proofs.WrongPlaces.{right_end, wrong_end, wrong_not_well_formed}

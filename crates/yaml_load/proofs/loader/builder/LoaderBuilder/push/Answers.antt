@@ -1,7 +1,7 @@
 -- The draft goes on with the event, or the event is wrong where the machine stops.
-use Rattle.yaml_load.proofs.Words.{rules, ◌≡◌, ◌∙◌, ◌+◌, ◌∷◌, ◌++◌, [], Some, ap, length, subst, sym, true, map-append}
-use Rattle.yaml_load.proofs.Words.{event_of, Position, Event, Input, events_in, plain_marked, state_of, IsWrongNext}
-use Rattle.yaml_load.proofs.Words.{HasTaken, NotAStream}
+use Rattle.std.specs.Prelude.{◌≡◌, ◌+◌, ◌∷◌, ◌++◌}
+use Rattle.yaml_load.proofs.Words.{rules, ◌∙◌, [], Some, ap, length, subst, sym, true, map-append, event_of, Position}
+use Rattle.yaml_load.proofs.Words.{Event, Input, events_in, plain_marked, state_of, IsWrongNext, HasTaken, NotAStream}
 use Rattle.yaml_load.proofs.Intakes.{ready_in, taken_on}
 use Rattle.yaml_load.proofs.WrongPlaces.{wrong_next}
 use Rattle.yaml_load.proofs.loader.builder.LoaderBuilder.push.Goals as goal

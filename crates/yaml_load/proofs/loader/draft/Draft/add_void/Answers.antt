@@ -1,5 +1,6 @@
 -- The node of an empty stream is a document of its own.
-use Rattle.yaml_load.proofs.Words.{◌∷◌, [], ◌∙◌, arith, refl, None, ends_of, a_void, Cut, Void}
+use Rattle.std.specs.Prelude.{◌∷◌}
+use Rattle.yaml_load.proofs.Words.{[], ◌∙◌, arith, refl, None, ends_of, a_void, Cut, Void}
 use Rattle.yaml_load.proofs.FinishLaws.{between_more}
 use Rattle.yaml_load.proofs.OpenEndsLaws.{none_open, none_seen}
 use Rattle.yaml_load.proofs.loader.draft.Draft.add_void.Goals as goal

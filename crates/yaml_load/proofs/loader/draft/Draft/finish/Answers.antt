@@ -1,7 +1,8 @@
 -- The document is whole, or cut off in front of an unknown alias.
-use Rattle.yaml_load.proofs.Words.{◌≡◌, ◌+◌, ◌-◌, ◌++◌, ◌∷◌, [], ◌∙◌, List, None, ap, arith, drop, false, length}
-use Rattle.yaml_load.proofs.Words.{option_map, sym, take, slice_get, marked_events_of, PlainDocEvent, Cut, Position}
-use Rattle.yaml_load.proofs.Words.{ending_of, Draft, drafts_of, EndsView, bounded_from}
+use Rattle.std.specs.Prelude.{◌≡◌, ◌+◌, ◌-◌, ◌++◌, ◌∷◌}
+use Rattle.yaml_load.proofs.Words.{[], ◌∙◌, List, None, ap, arith, drop, false, length, option_map, sym, take}
+use Rattle.yaml_load.proofs.Words.{slice_get, marked_events_of, PlainDocEvent, Cut, Position, ending_of, Draft}
+use Rattle.yaml_load.proofs.Words.{drafts_of, EndsView, bounded_from}
 use Rattle.yaml_load.proofs.DraftLaws.{drafts_long, whole_long}
 use Rattle.yaml_load.proofs.FinishLaws.{closed_cut, closed_whole}
 use Rattle.yaml_load.proofs.loader.draft.Draft.finish.Goals.{in-Some, in-None}

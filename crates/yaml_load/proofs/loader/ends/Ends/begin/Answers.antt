@@ -1,5 +1,6 @@
 -- The number of the collection is filled in where it ends.
-use Rattle.yaml_load.proofs.Words.{◌≡◌, arith, length, ap, ◌++◌, ◌∷◌, [], ◌∙◌, sym, subst, HasNumbers}
+use Rattle.std.specs.Prelude.{◌≡◌, ◌++◌, ◌∷◌}
+use Rattle.yaml_load.proofs.Words.{arith, length, ap, [], ◌∙◌, sym, subst, HasNumbers}
 use Rattle.yaml_load.proofs.OpenEndsLaws.{begins}
 use Rattle.yaml_load.proofs.loader.ends.Ends.begin.Goals as goal
 

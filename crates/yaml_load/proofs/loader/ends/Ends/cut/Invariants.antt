@@ -1,5 +1,6 @@
 -- The numbers that are bounded, and those that will be, are what all are once bounded.
-use Rattle.yaml_load.proofs.Words.{◌≡◌, ◌-◌, [], length, take, ◌+◌, bounded_from}
+use Rattle.std.specs.Prelude.{◌≡◌, ◌-◌, ◌+◌}
+use Rattle.yaml_load.proofs.Words.{[], length, take, bounded_from}
 use Rattle.yaml_load.proofs.loader.ends.Ends.cut.Given as goal
 
 abbrev pub invariant-numbers : goal.invariant-numbers

@@ -1,5 +1,6 @@
 -- The collection that ends is the one begun last, and its number is filled in.
-use Rattle.yaml_load.proofs.Words.{rules, ap, ◌++◌, ◌∷◌, [], ◌∙◌, sym, subst, HasNumbers}
+use Rattle.std.specs.Prelude.{◌++◌, ◌∷◌}
+use Rattle.yaml_load.proofs.Words.{rules, ap, [], ◌∙◌, sym, subst, HasNumbers}
 use Rattle.yaml_load.specs.declared.loader.ends.Ends.TheInside.{Inside}
 use Rattle.yaml_load.proofs.OpenEndsLaws.{ends, stray_ends}
 use Rattle.yaml_load.proofs.loader.ends.Ends.end.Goals.{in-Some, in_default}

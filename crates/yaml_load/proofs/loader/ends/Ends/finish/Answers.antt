@@ -1,6 +1,7 @@
 -- Each open collection ends where the document does.
-use Rattle.yaml_load.proofs.Words.{refl, ap, arith, length, set, reverse, [], ◌∷◌, ◌∙◌, length-append, length-set}
-use Rattle.yaml_load.proofs.Words.{rules, EndsView, filled}
+use Rattle.std.specs.Prelude.{◌∷◌}
+use Rattle.yaml_load.proofs.Words.{refl, ap, arith, length, set, reverse, [], ◌∙◌, length-append, length-set, rules}
+use Rattle.yaml_load.proofs.Words.{EndsView, filled}
 use Rattle.yaml_load.proofs.OpenEndsLaws.{finish_more, finished, in_front, last_in}
 use Rattle.yaml_load.proofs.loader.ends.Ends.finish.Goals as goal
 

@@ -1,5 +1,6 @@
 -- Where nothing comes later, the numbers stay those that all open collections leave once they are ended.
-use Rattle.yaml_load.proofs.Words.{◌≡◌, ◌<◌, [], All, length, reverse, filled}
+use Rattle.std.specs.Prelude.{◌≡◌, ◌<◌}
+use Rattle.yaml_load.proofs.Words.{[], All, length, reverse, filled}
 use Rattle.yaml_load.proofs.loader.ends.Ends.finish.Given as goal
 
 abbrev pub invariant-unended : goal.invariant-unended
