@@ -21,6 +21,8 @@ use yaml_shape::Shape;
 use yaml_tree::{Number, Value};
 
 // The fault of what is no value, or want of memory.
+#[cold]
+#[inline(never)]
 fn no_value(alloc: Global, found: Found) -> Refusal
     ensures { IsRefusedBy result (wrong_type found (expected_text any_shape)) }
 {

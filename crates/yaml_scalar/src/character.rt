@@ -43,6 +43,7 @@ fn one_character<'de>(alloc: Global, shape: &Shape, text: &str) -> Result<Data<'
 }
 
 /// A scalar whose text is one character.
+#[inline(never)]
 pub(crate) fn read_char<'de>(
     alloc: Global,
     shape: &Shape,

@@ -91,6 +91,8 @@ fn wrong_string(alloc: Global, text: &str, expected: &str) -> Result<Refusal, Al
 }
 
 // The refusal of a string that is none of those that are expected, or want of memory.
+#[cold]
+#[inline(never)]
 fn not_such(alloc: Global, text: &str, expected: &str) -> Refusal
     ensures { IsRefusedBy result (wrong_value (Str text.now) expected.now) }
 {

@@ -2,6 +2,7 @@
 
 ghost use Rattle.std.specs.Prelude.{◌≡◌, true, false, is_ok};
 ghost use Rattle.yaml_shape.specs.DataView.{data_of};
+ghost use Rattle.yaml_shape.specs.PlainData.{signed_data, unsigned_data};
 ghost use Rattle.yaml_shape.specs.IntegerTypes.{has_sign};
 ghost use Rattle.yaml_shape.specs.IntegerView.{integer_type_of};
 ghost use Rattle.yaml_shape.specs.PlainShape.{integer_shape};
@@ -11,7 +12,7 @@ ghost use Rattle.yaml_scalar.specs.ReadingGives.{Yields};
 ghost use Rattle.yaml_scalar.specs.ScalarShapes.{scalar_answer};
 ghost use Rattle.yaml_scalar.specs.inner.Numbers.{signed_number, unsigned_number};
 
-use crate::integer_text::{signed_in, unsigned_in};
+use crate::integer_text::{signed_in, small_signed_in, small_unsigned_in, unsigned_in};
 use crate::mismatch::{found_integer_outside, found_scalar};
 use crate::refusal::Result;
 use std::alloc::Global;
@@ -19,49 +20,52 @@ use yaml_base::Found;
 use yaml_load::DocScalar;
 use yaml_shape::{Data, IntegerType, Shape};
 
-// An integer of a type with a sign.
-fn read_signed<'de>(
+// The integer of a type with a sign, however it is written.
+#[inline(never)]
+fn read_signed(
     alloc: Global,
     shape: &Shape,
     integer: IntegerType,
     taken: bool,
-    scalar: &DocScalar<'de>,
-) -> Result<Data<'de>>
+    scalar: &DocScalar<'_>,
+) -> Result<i128>
     requires { has_sign (integer_type_of integer) ≡ true }
-    ensures gives { Yields data_of result
+    ensures gives { Yields signed_data result
         (signed_number (integer_type_of integer) (shape_of shape.now) taken (doc_scalar_of scalar.now)) }
     ensures free { is_ok result ≡ is_ok
         (signed_number (integer_type_of integer) (shape_of shape.now) taken (doc_scalar_of scalar.now)) }
 {
     match signed_in(integer, taken, scalar) {
-        Some(value) if integer.takes_signed(value) => Ok(Data::Signed(value)),
+        Some(value) if integer.takes_signed(value) => Ok(value),
         Some(value) => Err(found_integer_outside(alloc, Found::Signed(value), shape)),
         None => Err(found_scalar(alloc, shape, taken, scalar)),
     }
 }
 
-// An integer of a type without a sign.
-fn read_unsigned<'de>(
+// The integer of a type without a sign, however it is written.
+#[inline(never)]
+fn read_unsigned(
     alloc: Global,
     shape: &Shape,
     integer: IntegerType,
     taken: bool,
-    scalar: &DocScalar<'de>,
-) -> Result<Data<'de>>
+    scalar: &DocScalar<'_>,
+) -> Result<u128>
     requires { has_sign (integer_type_of integer) ≡ false }
-    ensures gives { Yields data_of result
+    ensures gives { Yields unsigned_data result
         (unsigned_number (integer_type_of integer) (shape_of shape.now) taken (doc_scalar_of scalar.now)) }
     ensures free { is_ok result ≡ is_ok
         (unsigned_number (integer_type_of integer) (shape_of shape.now) taken (doc_scalar_of scalar.now)) }
 {
     match unsigned_in(integer, taken, scalar) {
-        Some(value) if integer.takes_unsigned(value) => Ok(Data::Unsigned(value)),
+        Some(value) if integer.takes_unsigned(value) => Ok(value),
         Some(value) => Err(found_integer_outside(alloc, Found::Unsigned(value), shape)),
         None => Err(found_scalar(alloc, shape, taken, scalar)),
     }
 }
 
 /// An integer of the type that the shape asks for.
+#[inline(always)]
 pub(crate) fn read_integer<'de>(
     alloc: Global,
     shape: &Shape,
@@ -75,8 +79,16 @@ pub(crate) fn read_integer<'de>(
         (scalar_answer (shape_of shape.now) taken (doc_scalar_of scalar.now)) }
 {
     if integer.has_sign() {
-        read_signed(alloc, shape, integer, taken, scalar)
+        let value = match small_signed_in(integer, scalar) {
+            Some(value) => value as i128,
+            None => read_signed(alloc, shape, integer, taken, scalar)?,
+        };
+        Ok(Data::Signed(value))
     } else {
-        read_unsigned(alloc, shape, integer, taken, scalar)
+        let value = match small_unsigned_in(integer, scalar) {
+            Some(value) => value as u128,
+            None => read_unsigned(alloc, shape, integer, taken, scalar)?,
+        };
+        Ok(Data::Unsigned(value))
     }
 }

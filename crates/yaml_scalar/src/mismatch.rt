@@ -22,6 +22,8 @@ use yaml_load::DocScalar;
 use yaml_shape::{Shape, tuple_struct_with, tuple_variant_with};
 
 /// The refusal of a row of another length than is expected, or want of memory.
+#[cold]
+#[inline(never)]
 pub fn wrong_length(alloc: Global, length: usize, expected: Words) -> Refusal
     ensures { IsRefusedBy result (wrong_length length expected) }
 {
@@ -62,6 +64,8 @@ fn wrong_collection(
 }
 
 /// The fault of what was found where something else is expected, or want of memory.
+#[cold]
+#[inline(never)]
 pub(crate) fn found_other(alloc: Global, found: Found, expected: &Expected<'_>) -> Refusal
     ensures { IsRefusedBy result (wrong_type found (expected_of expected.now)) }
 {
@@ -69,6 +73,8 @@ pub(crate) fn found_other(alloc: Global, found: Found, expected: &Expected<'_>) 
 }
 
 /// The fault of a scalar where something else is expected, or want of memory.
+#[cold]
+#[inline(never)]
 pub fn found_scalar_for(
     alloc: Global,
     expected: &Expected<'_>,
@@ -85,6 +91,8 @@ pub fn found_scalar_for(
 }
 
 /// The fault of a sequence where something else is expected, or want of memory.
+#[cold]
+#[inline(never)]
 pub fn found_sequence_for(alloc: Global, expected: &Expected<'_>) -> Refusal
     ensures { IsRefusedBy result (wrong_type Seq (wanted_of expected.now)) }
 {
@@ -92,6 +100,8 @@ pub fn found_sequence_for(alloc: Global, expected: &Expected<'_>) -> Refusal
 }
 
 /// The fault of a mapping where something else is expected, or want of memory.
+#[cold]
+#[inline(never)]
 pub fn found_mapping_for(alloc: Global, expected: &Expected<'_>) -> Refusal
     ensures { IsRefusedBy result (wrong_type Map (wanted_of expected.now)) }
 {
@@ -99,6 +109,8 @@ pub fn found_mapping_for(alloc: Global, expected: &Expected<'_>) -> Refusal
 }
 
 /// The fault of a scalar that its shape has no meaning for, or want of memory.
+#[cold]
+#[inline(never)]
 pub(crate) fn found_scalar(
     alloc: Global,
     shape: &Shape,
@@ -137,6 +149,8 @@ fn wrong_value_of(alloc: Global, found: Found, shape: &Shape) -> Result<Refusal,
 }
 
 /// The fault of an integer that is none of its shape, or want of memory.
+#[cold]
+#[inline(never)]
 pub(crate) fn found_integer_outside(alloc: Global, found: Found, shape: &Shape) -> Refusal
     ensures { IsRefusedBy result (wrong_value found (expected_text (shape_of shape.now))) }
 {
@@ -152,6 +166,8 @@ fn wrong_text_of(alloc: Global, text: &str, shape: &Shape) -> Result<Refusal, Al
 }
 
 /// The fault of a text that is none of its shape, or want of memory.
+#[cold]
+#[inline(never)]
 pub(crate) fn found_other_text(alloc: Global, text: &str, shape: &Shape) -> Refusal
     ensures { IsRefusedBy result (wrong_value (Str text.now) (expected_text (shape_of shape.now))) }
 {
@@ -166,6 +182,8 @@ fn null_fault(alloc: Global, scalar: &DocScalar<'_>) -> Result<Refusal, AllocErr
 }
 
 /// The fault of a scalar that should stand for nothing, or want of memory.
+#[cold]
+#[inline(never)]
 pub(crate) fn found_no_null(alloc: Global, scalar: &DocScalar<'_>) -> Refusal
     ensures { IsRefusedBy result (null_fault (doc_scalar_of scalar.now)) }
 {
@@ -188,6 +206,8 @@ fn no_elements(alloc: Global, shape: &Shape) -> Result<Refusal, AllocError>
 }
 
 /// The fault of no elements where a tuple or a tuple struct asks for some, or want of memory.
+#[cold]
+#[inline(never)]
 pub(crate) fn found_no_elements(alloc: Global, shape: &Shape) -> Refusal
     ensures { IsRefusedBy result (wrong_length 0 (too_few_text (shape_of shape.now))) }
 {
@@ -212,6 +232,8 @@ fn no_variant_elements(
 }
 
 /// The fault of no elements where a tuple variant asks for some, or want of memory.
+#[cold]
+#[inline(never)]
 pub fn found_no_variant_elements(alloc: Global, name: &str, variant: &str, count: usize) -> Refusal
     ensures { IsRefusedBy result (wrong_length 0 (tuple_variant_with_text name.now variant.now count)) }
 {

@@ -42,6 +42,7 @@ fn boolean_of(taken: bool, scalar: &DocScalar<'_>) -> Option<bool>
 }
 
 // A boolean.
+#[inline(never)]
 fn read_bool<'de>(
     alloc: Global,
     shape: &Shape,
@@ -64,6 +65,7 @@ fn read_bool<'de>(
 }
 
 // Any value.
+#[inline(never)]
 fn read_any<'de>(alloc: Global, taken: bool, scalar: &DocScalar<'de>) -> Result<Data<'de>>
     ensures { Yields data_of result
         (scalar_answer any_shape taken (doc_scalar_of scalar.now)) }
@@ -72,6 +74,7 @@ fn read_any<'de>(alloc: Global, taken: bool, scalar: &DocScalar<'de>) -> Result<
 }
 
 // A unit.
+#[inline(never)]
 fn read_unit<'de>(alloc: Global, taken: bool, scalar: &DocScalar<'de>) -> Result<Data<'de>>
     ensures gives { Yields data_of result
         (if is_absent taken (doc_scalar_of scalar.now) then Ok unit_data
@@ -88,6 +91,7 @@ fn read_unit<'de>(alloc: Global, taken: bool, scalar: &DocScalar<'de>) -> Result
 }
 
 // An optional that is absent.
+#[inline(never)]
 fn read_none<'de>(alloc: Global, taken: bool, scalar: &DocScalar<'de>) -> Result<Data<'de>>
     ensures gives { Yields data_of result
         (if is_absent taken (doc_scalar_of scalar.now) then Ok none_data
@@ -104,6 +108,7 @@ fn read_none<'de>(alloc: Global, taken: bool, scalar: &DocScalar<'de>) -> Result
 }
 
 // A tuple or a tuple struct without elements.
+#[inline(never)]
 fn no_elements<'de>(alloc: Global, shape: &Shape, asked: &[ShapeId]) -> Result<Data<'de>>
     ensures { Yields data_of result (no_elements (ids_of asked.now) (shape_of shape.now)) }
 {
@@ -126,6 +131,9 @@ pub fn read_scalar<'de>(
     ensures free { takes_no_memory (shape_of shape.now) (doc_scalar_of scalar.now) ≡ true
         → is_ok result ≡ is_ok (scalar_answer (shape_of shape.now) taken (doc_scalar_of scalar.now)) }
 {
+    if let Some(integer) = shape.integer() {
+        return read_integer(alloc, shape, integer, taken, scalar);
+    }
     match shape {
         Shape::Any => read_any(alloc, taken, scalar),
         Shape::Bool => read_bool(alloc, shape, taken, scalar),
@@ -142,10 +150,7 @@ pub fn read_scalar<'de>(
         }
         Shape::Map(_, _) if is_empty_plain(scalar) => Ok(Data::Map(Vec::new(alloc))),
         Shape::Enum { name: _, variants } => read_variant_name(alloc, variants, scalar),
-        _ => match shape.integer() {
-            Some(integer) => read_integer(alloc, shape, integer, taken, scalar),
-            None => Err(found_scalar(alloc, shape, taken, scalar)),
-        },
+        _ => Err(found_scalar(alloc, shape, taken, scalar)),
     }
 }
 

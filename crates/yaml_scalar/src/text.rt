@@ -37,6 +37,7 @@ fn lent<'de>(text: &'de str) -> Data<'de>
 }
 
 /// The text of a scalar, borrowed where the source shows it. It takes memory where it is not borrowed.
+#[inline(never)]
 pub(crate) fn read_text<'de>(
     alloc: Global,
     shape: &Shape,

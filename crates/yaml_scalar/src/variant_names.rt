@@ -70,6 +70,8 @@ fn unknown(
 }
 
 /// The fault of a name that no variant has, or want of memory.
+#[cold]
+#[inline(never)]
 pub fn unknown_variant(alloc: Global, variants: &[(String, VariantShape)], name: &str) -> Refusal
     ensures { IsRefusedBy result (unknown_variant (variants_of variants.now) name.now) }
 {
@@ -93,6 +95,8 @@ fn wrong_type(
 }
 
 // The fault of a variant that is named without the content that it has, or want of memory.
+#[cold]
+#[inline(never)]
 fn without_content(alloc: Global, expected: &str) -> Refusal
     ensures { IsRefusedBy result (wrong_type UnitVariant expected.now) }
 {
@@ -112,6 +116,8 @@ fn nested(alloc: Global, name: &str, tag: &str) -> std::result::Result<Refusal, 
 }
 
 /// The fault of an enum in a node whose tag named a variant of the enum with this name, or want of memory.
+#[cold]
+#[inline(never)]
 pub fn nested_enum(alloc: Global, name: &str, tag: &str) -> Refusal
     ensures { IsRefusedBy result (at_node (nested_enum name.now tag.now) None) }
 {
@@ -147,6 +153,7 @@ fn named_variant<'de>(
 }
 
 /// The variant that a scalar names.
+#[inline(never)]
 pub(crate) fn read_variant_name<'de>(
     alloc: Global,
     variants: &[(String, VariantShape)],

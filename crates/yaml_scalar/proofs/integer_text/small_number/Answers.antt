@@ -6,22 +6,23 @@ use Rattle.yaml_scalar.proofs.integer_text.small_number.Goals as goal
 pub overflow_mul-number : goal.overflow_mul-number
 overflow_mul-number c =
     let i = c.loop-byte.invariant in
-    let fits = small-fits _ _ _ (omega (arith, c.loop-byte-test.true, i.3)) i.2 c.if-not-is_ascii_digit.ensures.cases in
+    let fits = small-fits _ _ _ (omega (arith, c.loop-byte-test.true, i.3)) i.2 c.in_ok-digit.ensures.digit in
     omega (arith, fits)
 
 pub overflow_add-number : goal.overflow_add-number
 overflow_add-number c =
     let i = c.loop-byte.invariant in
-    let fits = small-fits _ _ _ (omega (arith, c.loop-byte-test.true, i.3)) i.2 c.if-not-is_ascii_digit.ensures.cases in
+    let fits = small-fits _ _ _ (omega (arith, c.loop-byte-test.true, i.3)) i.2 c.in_ok-digit.ensures.digit in
     omega (arith, fits)
 
 pub loop-byte-preserved : goal.loop-byte-preserved
 loop-byte-preserved c =
     let i = c.loop-byte.invariant in
-    let digit = c.if-not-is_ascii_digit.ensures.cases in (
-      behind-more _ _ _ c.loop-byte-test.true digit ∙ i.0,
+    let digit = c.in_ok-digit.ensures.digit in
+    let value = c.in_ok-digit.ensures.value in (
+      rw value (behind-more _ _ _ c.loop-byte-test.true digit ∙ i.0),
       all-more _ _ c.loop-byte-test.true digit i.1,
-      small-more _ _ _ i.2 digit,
+      rw value (small-more _ _ _ i.2 digit),
       i.3,
       i.4,
       i.5,
