@@ -1,31 +1,15 @@
 -- An alias means what its target means.
-use Rattle.std.proofs.Common.{◌≡◌, ◌∙◌, ℕ, suc, List, Some, None, true, false, refl, sym, subst}
-use Rattle.yaml_read.proofs.Words.{PlainData, PlainShape, any_shape, bool_shape, char_shape, integer_shape, str_shape}
-use Rattle.yaml_read.proofs.Words.{identifier_shape, bytes_shape, option_shape, unit_shape, unit_struct_shape}
-use Rattle.yaml_read.proofs.Words.{newtype_shape, seq_shape, row_shape, map_shape, fields_shape, enum_shape}
-use Rattle.yaml_read.proofs.Words.{ignored_shape, DocNode, reference, node_of, first_event, follows_aliases, as_is}
-use Rattle.yaml_read.proofs.Words.{handed, early, Means, MeansAs, means_node, means_target}
+use Rattle.yaml_read.proofs.Words.{follows_aliases, newtype_shape, ignored_shape, means_target, bytes_shape, PlainShape}
+use Rattle.yaml_read.proofs.Words.{first_event, means_node, PlainData, reference, DocNode, node_of, MeansAs, handed, ℕ}
+use Rattle.yaml_read.proofs.Words.{false, subst, as_is, early, Means, List, Some, None, true, refl, ◌≡◌, ◌∙◌, suc, sym}
 
 -- the shape hands an alias on as what it is by its kind
 handed_on : (s : PlainShape) (j : ℕ) → follows_aliases s ≡ true
     → (early s ≡ None) × (handed s false (first_event (reference j)) ≡ as_is)
-handed_on any_shape j h = (refl, refl)
-handed_on bool_shape j h = (refl, refl)
-handed_on char_shape j h = (refl, refl)
-handed_on (integer_shape i) j h = (refl, refl)
-handed_on str_shape j h = (refl, refl)
-handed_on identifier_shape j h = (refl, refl)
-handed_on (option_shape content) j h = (refl, refl)
-handed_on unit_shape j h = (refl, refl)
-handed_on (unit_struct_shape name) j h = (refl, refl)
-handed_on (seq_shape element) j h = (refl, refl)
-handed_on (row_shape owner items) j h = (refl, refl)
-handed_on (map_shape key value) j h = (refl, refl)
-handed_on (fields_shape strict owner fields) j h = (refl, refl)
-handed_on (enum_shape name variants) j h = (refl, refl)
 handed_on bytes_shape j h = absurd cc
 handed_on (newtype_shape name inner) j h = absurd cc
 handed_on ignored_shape j h = absurd cc
+handed_on _ j h = (refl, refl)
 
 module _ (table : List PlainShape) (root : DocNode) (s : PlainShape) (j : ℕ) (v : PlainData) where
   -- the target, with what it means

@@ -1,12 +1,11 @@
 -- The values of data as the code gathers them.
-use Rattle.std.proofs.Common.{◌≡◌, ℕ, pos, negsuc, arith, length, List, [], ◌∷◌, ◌++◌, Bool, true, false, map, refl}
-use Rattle.std.proofs.Common.{sym, ap, ◌∙◌, true≢false}
 use Rattle.std.proofs.Math.Bool.{Bool-set}
-use Rattle.yaml_base.specs.declared.entry_key.EntryKey.TheVariants as key
-use Rattle.yaml_read.proofs.Words.{data_of, items_of, Data, is_number, integer_of, is_canonical, number_of, Trees}
-use Rattle.yaml_read.proofs.Words.{no_trees, tree, number, tree_of, trees_of, Integer, Number, Value, tree_in, trees_in}
-use Rattle.yaml_read.proofs.Words.{number_key, entry_key}
+use Rattle.yaml_read.proofs.Words.{◌≡◌, ℕ, pos, negsuc, List, [], ◌∷◌, ◌++◌, Bool, true, false, map, refl, sym, ap, ◌∙◌}
+use Rattle.yaml_read.proofs.Words.{true≢false, data_of, items_of, Data, is_number, integer_of, is_canonical, number_of}
+use Rattle.yaml_read.proofs.Words.{Trees, no_trees, tree, number, tree_of, trees_of, Integer, Number, Value, tree_in}
+use Rattle.yaml_read.proofs.Words.{trees_in, number_key, entry_key}
 use Rattle.yaml_tree.specs.declared.number.Integer.TheVariants.{Unsigned, Negative}
+use Rattle.yaml_base.specs.declared.entry_key.EntryKey.TheVariants as key
 
 -- values, and others behind them
 abbrev pub trees_then : Trees → Trees → Trees
@@ -60,7 +59,3 @@ told_as (Negative (negsuc n)) h = negative_told (is_number (negsuc n)) n refl h
 
 pub number_told : (x : Number) → key.Number x ≡ entry_key (number (number_of x))
 number_told x = told_as x.integer x.canonical
-
-pub nothing_left : (ds : List Data) → length ds ≡ 0 → ds ≡ []
-nothing_left [] h = refl
-nothing_left (d ∷ ds) h = absurd (omega arith)

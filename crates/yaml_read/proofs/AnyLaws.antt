@@ -1,11 +1,9 @@
 -- A key that is new to each before it keeps the keys of a mapping distinct, and keys that are distinct are new.
-use Rattle.std.proofs.Common.{◌≡◌, List, [], ◌∷◌, ◌++◌, Result, Ok, Err, Bool, true, false, not, ◌&&◌, ◌||◌}
-use Rattle.std.proofs.Common.{refl, sym, ◌∙◌, ap, Some, None}
-use Rattle.std.specs.Option.{is_some}
-use Rattle.std.specs.Prelude.{if◌then◌else◌}
-use Rattle.yaml_read.proofs.Words.{entries_of, PlainData, tree_eq, tree_eq-symm, has_key, keys_distinct, value_at}
-use Rattle.yaml_read.proofs.Words.{with_pair, Tree, Pairs, with_last, ReadFault, at_node, duplicate_entry, tree_in}
-use Rattle.yaml_read.proofs.Words.{pairs_in, entry_key, new_key}
+use Rattle.std.proofs.lemmas.Bool.{not-true}
+use Rattle.yaml_read.proofs.Words.{◌≡◌, List, [], ◌∷◌, ◌++◌, Result, Ok, Err, Bool, true, false, not, ◌&&◌, ◌||◌, refl}
+use Rattle.yaml_read.proofs.Words.{sym, ◌∙◌, ap, Some, None, is_some, if◌then◌else◌, entries_of, PlainData, tree_eq}
+use Rattle.yaml_read.proofs.Words.{tree_eq-symm, has_key, keys_distinct, value_at, with_pair, Tree, Pairs, with_last}
+use Rattle.yaml_read.proofs.Words.{ReadFault, at_node, duplicate_entry, tree_in, pairs_in, entry_key, new_key}
 use Rattle.yaml_tree.specs.Tree.{no_pairs, pair}
 
 -- the pairs that a list of keys with values is
@@ -19,10 +17,6 @@ neither false b h = (refl, h)
 both_hold : (a b : Bool) → (a && b) ≡ true → (a ≡ true) × (b ≡ true)
 both_hold true b h = (refl, h)
 both_hold false b h = absurd cc
-
-is_not : (b : Bool) → not b ≡ true → b ≡ false
-is_not true h = absurd cc
-is_not false h = refl
 
 -- another key behind
 apart_end : (vs : List (PlainData × PlainData)) (j : Tree) (k v : PlainData) → has_key j (pairs_of vs) ≡ false
@@ -41,7 +35,7 @@ distinct_end (w ∷ vs) k v d h =
     let other : tree_eq (tree_in w.0) (tree_in k) ≡ false = tree_eq-symm (tree_in w.0) (tree_in k) ∙ n.0 in
     rw (
       apart_end vs (tree_in w.0) k v
-          (is_not (has_key (tree_in w.0) (pairs_of vs)) apart.0) other,
+          (not-true (has_key (tree_in w.0) (pairs_of vs)) apart.0) other,
       distinct_end vs k v apart.1 n.1,
     ) refl
 
@@ -61,7 +55,7 @@ first_apart (w ∷ vs) more k v d =
     (keys_distinct (pairs_of (vs ++ (k, v) ∷ more))) d in
     let other : tree_eq (tree_in k) (tree_in w.0) ≡ false =
     tree_eq-symm (tree_in k) (tree_in w.0)
-    ∙ in_middle vs more (tree_in w.0) k v (is_not (has_key (tree_in w.0) (pairs_of (vs ++ (k, v) ∷ more))) apart.0) in
+    ∙ in_middle vs more (tree_in w.0) k v (not-true (has_key (tree_in w.0) (pairs_of (vs ++ (k, v) ∷ more))) apart.0) in
     rw (other, first_apart vs more k v apart.1) refl
 
 -- a key that is taken for new is new

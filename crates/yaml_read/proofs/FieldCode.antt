@@ -1,11 +1,11 @@
 -- The fields of a struct as the code looks one up.
-use Rattle.std.proofs.Common.{◌≡◌, ℕ, zero, suc, ◌+◌, ◌<◌, List, [], ◌∷◌, map, length, get_or, All, Option, Some, None}
-use Rattle.std.proofs.Common.{Bool, true, false, refl, sym, ap, ◌∙◌, subst, arith, add-one, String, string_bytes}
-use Rattle.std.specs.Prelude.{drop, slice_get, bytes_eq, cond, if◌then◌else◌}
-use Rattle.std.specs.Option.{option_map}
 use Rattle.std.specs.declared.alloc.Global.{Global}
-use Rattle.std.proofs.lemmas.Option.{slice_get_within, slice_get-get_or, slice_get-map, get_or_from_slice_get}
-use Rattle.yaml_read.proofs.Words.{field_of, fields_of, numbers_of, ShapeId, Fields, find, field_view}
+use Rattle.yaml_read.proofs.Words.{◌≡◌, ℕ, zero, suc, ◌+◌, ◌<◌, List, [], ◌∷◌, map, length, get_or, All, Option, Some}
+use Rattle.yaml_read.proofs.Words.{None, Bool, true, false, refl, sym, ap, ◌∙◌, subst, arith, add-one, String}
+use Rattle.yaml_read.proofs.Words.{string_bytes, drop, slice_get, bytes_eq, cond, if◌then◌else◌, option_map}
+use Rattle.yaml_read.proofs.Words.{slice_get_within, slice_get-get_or, slice_get-map, get_or_from_slice_get, field_of}
+use Rattle.yaml_read.proofs.Words.{fields_of, numbers_of, ShapeId, Fields, find, field_view}
+use Rattle.yaml_read.proofs.FieldLaws.{found_later, same_place, same_number}
 
 -- the code's fields
 abbrev pub Declared : Type 0
@@ -101,24 +101,17 @@ put_before fields name place d e behind within h = chosen (bytes_eq (string_byte
 pub find_within : (fields : Fields) (name : List ℕ) (place id : ℕ) → find fields name ≡ Some (place, id)
     → slice_get (map (λ f. f.1) fields) place ≡ Some id
 find_within [] name place id h = absurd cc
-find_within (f ∷ fs) name place id h = chosen (bytes_eq f.0 name) (find fs name) (find_within fs name) place h
+find_within (f ∷ fs) name place id h = chosen (bytes_eq f.0 name) h (λ p is. find_within fs name p id is)
   where
-    chosen : (b : Bool) (o : Option (ℕ × ℕ)) → ((n m : ℕ) → o ≡ Some (n, m) → slice_get (map (λ f. f.1) fs) n ≡ Some m)
-        → (n : ℕ) → (if b then Some (zero, f.1) else one_further o) ≡ Some (n, id)
-        → slice_get (f.1 ∷ map (λ f. f.1) fs) n ≡ Some id
-    chosen true o within zero h = ap (λ (y : ℕ × ℕ). Some y.1) (same_some h)
-    chosen true o within (suc n) h =
-        let e : zero ≡ suc n = ap (λ (y : ℕ × ℕ). y.0) (same_some h) in
-        absurd (omega arith)
-    chosen false None within n h = absurd cc
-    chosen false (Some x) within zero h =
-        let e : suc x.0 ≡ zero = ap (λ (y : ℕ × ℕ). y.0) (same_some h) in
-        absurd (omega arith)
-    chosen false (Some x) within (suc n) h =
-        let e : suc x.0 ≡ suc n = ap (λ (y : ℕ × ℕ). y.0) (same_some h) in
-        let at : x.0 ≡ n = omega arith in
-        let number : x.1 ≡ id = ap (λ (y : ℕ × ℕ). y.1) (same_some h) in
-        within n id (ap (λ (m : ℕ). Some (m, x.1)) at ∙ ap (λ (m : ℕ). Some (n, m)) number)
+    chosen : (b : Bool) → (if b then Some (zero, f.1) else one_further (find fs name)) ≡ Some (place, id)
+        → ((p : ℕ) → find fs name ≡ Some (p, id) → slice_get (numbers_of fs) p ≡ Some id)
+        → slice_get (numbers_of (f ∷ fs)) place ≡ Some id
+    chosen true e later =
+        subst (λ p. slice_get (numbers_of (f ∷ fs)) p ≡ Some id) (same_place zero f.1 place id e)
+        (ap Some (same_number zero f.1 place id e))
+    chosen false e later =
+        let there = found_later (find fs name) place id e in
+        subst (λ p. slice_get (numbers_of (f ∷ fs)) p ≡ Some id) there.2 (later there.0 there.1)
 
 -- the number of a field's shape is small where all are
 pub number_within : (size : ℕ) (fields : Declared) (place : ℕ) (f : String Global × ShapeId)

@@ -1,59 +1,44 @@
 -- What is found and held of a struct's fields, and what becomes of it.
-use Rattle.std.proofs.Common.{◌≡◌, ℕ, zero, suc, List, [], ◌∷◌, set, Option, Some, None, Result, Ok, Err}
-use Rattle.std.proofs.Common.{Bool, true, false, ◌&&◌, bytes_eq, refl, ap, subst, if◌then◌else◌}
-use Rattle.std.specs.Option.{option_map}
-use Rattle.yaml_read.proofs.Words.{Place, items_of, has_shape, each_has, passes, on_option, PlainData, struct_data}
-use Rattle.yaml_read.proofs.Words.{none_data, PlainShape, option_shape, fields_shape, Owner, shape_at, numbers_of}
-use Rattle.yaml_read.proofs.Words.{ReadFault, ◌>>=◌, is_option, Fields, Slots, no_slots, find, is_free, known_field}
-use Rattle.yaml_read.proofs.Words.{field_named, field_data, all_fields, struct_of}
+use Rattle.std.specs.Cmp.Derive.{both_true}
+use Rattle.yaml_read.proofs.Words.{◌≡◌, ℕ, zero, suc, List, [], ◌∷◌, set, Option, Some, None, Result, Ok, Err, Bool}
+use Rattle.yaml_read.proofs.Words.{true, false, bytes_eq, refl, ap, subst, if◌then◌else◌, option_map, Place, items_of}
+use Rattle.yaml_read.proofs.Words.{has_shape, each_has, passes, on_option, PlainData, struct_data, none_data}
+use Rattle.yaml_read.proofs.Words.{PlainShape, option_shape, fields_shape, Owner, shape_at, numbers_of, ReadFault}
+use Rattle.yaml_read.proofs.Words.{◌>>=◌, is_option, Fields, Slots, no_slots, find, is_free, known_field, field_named}
+use Rattle.yaml_read.proofs.Words.{field_data, all_fields, struct_of}
 use Rattle.yaml_scalar.proofs.OfShape.{is_of}
 
 -- answers are the same only where their data is
 ok_is : {A : Type 0} {x y : A} → ◌≡◌ {A = Result A ReadFault} (Ok x) (Ok y) → x ≡ y
 ok_is h = cc
 
--- two answers to where a name is looked up are the same
-abbrev Looked : (answer other : Result (Option (ℕ × ℕ)) ReadFault) → Type 0
-Looked answer other = answer ≡ other
+-- what a name is looked up as: a field of which nothing was read, or none where the struct is not strict
+abbrev LookedAs : (strict : Bool) → Slots → (found given : Option (ℕ × ℕ)) → Type 0
+LookedAs strict slots found None = (◌≡◌ {A = Option (ℕ × ℕ)} found None) × (strict ≡ false)
+LookedAs strict slots found (Some f) = (found ≡ Some f) × (is_free slots f.0 ≡ true)
+
+looked_as : (strict : Bool) (fields : Fields) (slots : Slots) (name : List ℕ) (key : Place)
+    (found given : Option (ℕ × ℕ)) → known_field strict fields slots name key found ≡ Ok given
+    → LookedAs strict slots found given
+looked_as true fields slots name key None given e = absurd cc
+looked_as false fields slots name key None given e = subst (LookedAs false slots None) (ok_is e) (refl, refl)
+looked_as strict fields slots name key (Some f) given e = chosen (is_free slots f.0) _ refl e
+  where
+    chosen : (b : Bool) (y : ReadFault) → is_free slots f.0 ≡ b
+        → ◌≡◌ {A = Result (Option (ℕ × ℕ)) ReadFault} (if b then Ok (Some f) else Err y) (Ok given)
+        → LookedAs strict slots (Some f) given
+    chosen true y is e = subst (LookedAs strict slots (Some f)) (ok_is e) (refl, is)
+    chosen false y is e = absurd cc
 
 -- a name that is looked up as a field is that of a field of which nothing was read
 pub named_found : (strict : Bool) (fields : Fields) (slots : Slots) (name : List ℕ) (key : Place) (f : ℕ × ℕ)
     → field_named strict fields slots name key ≡ Ok (Some f) → (find fields name ≡ Some f) × (is_free slots f.0 ≡ true)
-named_found strict fields slots name key f h = known (find fields name) h
-  where
-    chosen : (b : Bool) (g : ℕ × ℕ) (y : ReadFault) → Looked (if b then Ok (Some g) else Err y) (Ok (Some f))
-        → (g ≡ f) × (b ≡ true)
-    chosen true g y e = let same : Some g ≡ Some f = ok_is e in (cc, refl)
-    chosen false g y e = absurd cc
-
-    other : (b : Bool) (y : ReadFault) → Looked (if b then Err y else Ok None) (Ok (Some f)) → ⊥
-    other true y e = cc
-    other false y e = let same : None ≡ Some f = ok_is e in cc
-
-    known : (o : Option (ℕ × ℕ)) → known_field strict fields slots name key o ≡ Ok (Some f)
-        → (o ≡ Some f) × (is_free slots f.0 ≡ true)
-    known None e = absurd (other strict _ e)
-    known (Some g) e =
-        let c = chosen (is_free slots g.0) g _ e in
-        (ap Some c.0, subst (λ (f : ℕ × ℕ). is_free slots f.0 ≡ true) c.0 c.1)
+named_found strict fields slots name key f h = looked_as strict fields slots name key (find fields name) (Some f) h
 
 -- a name that is looked up as none is that of no field, and the struct is not strict
 pub named_unknown : (strict : Bool) (fields : Fields) (slots : Slots) (name : List ℕ) (key : Place)
     → field_named strict fields slots name key ≡ Ok None → (find fields name ≡ None) × (strict ≡ false)
-named_unknown strict fields slots name key h = known (find fields name) h
-  where
-    chosen : (b : Bool) (g : ℕ × ℕ) (y : ReadFault) → Looked (if b then Ok (Some g) else Err y) (Ok None) → ⊥
-    chosen true g y e = let same : Some g ≡ None = ok_is e in cc
-    chosen false g y e = cc
-
-    other : (b : Bool) (y : ReadFault) → Looked (if b then Err y else Ok None) (Ok None) → b ≡ false
-    other true y e = absurd cc
-    other false y e = refl
-
-    known : (o : Option (ℕ × ℕ)) → known_field strict fields slots name key o ≡ Ok None
-        → (◌≡◌ {A = Option (ℕ × ℕ)} o None) × (strict ≡ false)
-    known None e = (refl, other strict _ e)
-    known (Some g) e = absurd (chosen (is_free slots g.0) g _ e)
+named_unknown strict fields slots name key h = looked_as strict fields slots name key (find fields name) None h
 
 -- the name of a field of which nothing was read is looked up as that field
 pub found_named : (strict : Bool) (fields : Fields) (slots : Slots) (name : List ℕ) (key : Place) (place id : ℕ)
@@ -80,11 +65,11 @@ pub same_number : (place id place' id' : ℕ) → ◌≡◌ {A = Option (ℕ × 
 same_number place id place' id' h = ap (λ (x : ℕ × ℕ). x.1) (some_is h)
 
 -- one place on
-abbrev further : ℕ × ℕ → ℕ × ℕ
+abbrev pub further : ℕ × ℕ → ℕ × ℕ
 further x = (suc x.0, x.1)
 
 -- a field that is found behind the first is found among the others
-found_later : (o : Option (ℕ × ℕ)) (place id : ℕ) → option_map further o ≡ Some (place, id)
+pub found_later : (o : Option (ℕ × ℕ)) (place id : ℕ) → option_map further o ≡ Some (place, id)
     → (p : ℕ) × (o ≡ Some (p, id)) × (suc p ≡ place)
 found_later None place id e = absurd cc
 found_later (Some x) place id e =
@@ -136,7 +121,8 @@ module _ (table : List PlainShape) where
       absent (Some _) e = absurd cc
 
       chosen : (b : Bool) (y : ReadFault) → passes (shape_at table f.1) is_option ≡ b
-          → ◌≡◌ {A = Result PlainData ReadFault} (if b then Ok none_data else Err y) (Ok v) → has_shape table f.1 v ≡ true
+          → ◌≡◌ {A = Result PlainData ReadFault} (if b then Ok none_data else Err y) (Ok v)
+          → has_shape table f.1 v ≡ true
       chosen true y is e = subst (λ x. has_shape table f.1 x ≡ true) (ok_is e) (absent (shape_at table f.1) is)
       chosen false y is e = absurd cc
 
@@ -148,9 +134,6 @@ module _ (table : List PlainShape) where
   apart (Ok v) (Err y) vs h = absurd cc
   apart (Err y) rs vs h = absurd cc
 
-  both : (a b : Bool) → a ≡ true → b ≡ true → (a && b) ≡ true
-  both a b p q = rw (p, q) refl
-
   -- the data of all fields is of their shapes
   all_have : (fields : Fields) (slots : Slots) (vs : List PlainData) → Fit fields slots
       → all_fields table fields slots ≡ Ok vs → each_has table (numbers_of fields) (items_of vs) ≡ true
@@ -158,8 +141,7 @@ module _ (table : List PlainShape) where
   all_have (f ∷ fs) [] vs fit h =
       let a = apart (field_data table f None) (all_fields table fs []) vs h in
       subst (λ vs. each_has table (numbers_of (f ∷ fs)) (items_of vs) ≡ true) a.4
-      (both (has_shape table f.1 a.0) (each_has table (numbers_of fs) (items_of a.1))
-      (data_has f None a.0 (λ w e. absurd cc) a.2) (all_have fs [] a.1 (none_left fs) a.3))
+      (both_true (data_has f None a.0 (λ w e. absurd cc) a.2) (all_have fs [] a.1 (none_left fs) a.3))
     where
       none_left : (fs : Fields) → Fit fs []
       none_left [] = tt
@@ -167,8 +149,7 @@ module _ (table : List PlainShape) where
   all_have (f ∷ fs) (s ∷ slots) vs fit h =
       let a = apart (field_data table f s) (all_fields table fs slots) vs h in
       subst (λ vs. each_has table (numbers_of (f ∷ fs)) (items_of vs) ≡ true) a.4
-      (both (has_shape table f.1 a.0) (each_has table (numbers_of fs) (items_of a.1)) (data_has f s a.0 fit.0 a.2)
-      (all_have fs slots a.1 fit.1 a.3))
+      (both_true (data_has f s a.0 fit.0 a.2) (all_have fs slots a.1 fit.1 a.3))
 
   -- fields that are filled by what fits them are data of their shape
   pub struct_has_shape : (strict : Bool) (owner : Owner) (fields : Fields) (slots : Slots) (v : PlainData)

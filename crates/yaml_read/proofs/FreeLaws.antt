@@ -1,19 +1,18 @@
 -- Documents that are read without a walk, and shapes that name no others.
-use Rattle.std.proofs.Common.{rules, ◌≡◌, ℕ, zero, suc, ◌*◌, ◌<◌, ◌≤◌, List, [], ◌∷◌, map, length, Option, Some, None}
-use Rattle.std.proofs.Common.{Result, Ok, Err, Bool, true, false, not, ◌||◌, if◌then◌else◌, refl, sym, ap, ◌∙◌, arith}
-use Rattle.std.specs.Prelude.{slice_get, IfSome}
-use Rattle.std.specs.Option.{is_some, option_copied}
 use denote.Ref.{Bor}
-use Rattle.yaml_read.proofs.Words.{PlainScalar, Position, data_of, PlainData, none_data, ignored_data, PlainShape}
-use Rattle.yaml_read.proofs.Words.{option_shape, ignored_shape, named, DocNode, word, PlainDocEvent, a_scalar}
-use Rattle.yaml_read.proofs.Words.{PlainDocument, is_absent, is_false_null, null_fault, ReadFault, scalar_answer}
-use Rattle.yaml_read.proofs.Words.{ending, Handing, as_is, as_some, handed, early, reach, TakenBy, Way, root_way, place}
-use Rattle.yaml_read.proofs.Words.{IsTreeOf, Spot, after, marks_of, whole_fuel, read_tree, IsAnswered, Source, is_leaf}
-use Rattle.yaml_read.proofs.Words.{node_at}
+use Rattle.yaml_read.proofs.Words.{rules, ◌≡◌, ℕ, zero, suc, ◌*◌, ◌<◌, ◌≤◌, List, [], ◌∷◌, map, length, Option, Some}
+use Rattle.yaml_read.proofs.Words.{None, Result, Ok, Err, Bool, true, false, not, ◌||◌, if◌then◌else◌, refl, sym, ap}
+use Rattle.yaml_read.proofs.Words.{◌∙◌, arith, slice_get, IfSome, is_some, option_copied, PlainScalar, Position}
+use Rattle.yaml_read.proofs.Words.{data_of, PlainData, none_data, ignored_data, PlainShape, option_shape, ignored_shape}
+use Rattle.yaml_read.proofs.Words.{named, DocNode, word, PlainDocEvent, a_scalar, PlainDocument, is_absent}
+use Rattle.yaml_read.proofs.Words.{is_false_null, null_fault, ReadFault, scalar_answer, ending, Handing, as_is, as_some}
+use Rattle.yaml_read.proofs.Words.{handed, early, reach, TakenBy, Way, root_way, place, IsTreeOf, Spot, after, marks_of}
+use Rattle.yaml_read.proofs.Words.{whole_fuel, read_tree, IsAnswered, Source, is_leaf, node_at}
 use Rattle.yaml_shape.specs.declared.data.Data.{the_lemmas}
 use Rattle.yaml_shape.specs.declared.data.Data.TheVariants.{Ignored}
 use Rattle.yaml_read.proofs.reading.LeafExits.{leaf_scalar}
 use Rattle.yaml_read.proofs.reading.Whole.{whole_source, answered}
+use Rattle.yaml_read.proofs.reading.WholeReadings.{start}
 
 -- a document whose first event is a scalar, and that has a tree, gives the data of the scalar
 pub scalar_answered : (s : PlainShape) (document : PlainDocument) (w : PlainScalar) (mark : Position) (v : PlainData)
@@ -25,7 +24,7 @@ scalar_answered s document w mark v leaf whole first is = record {
   answer = λ limits table root tree.
       answered limits table s document v _
       (leaf_scalar (whole_source table document) root_way s limits.nesting None
-      (record { place = 0; left = limits.follows * length document.events })
+      (start limits document)
       (whole_fuel limits (length document.events)) w mark (omega arith) leaf first
       ∙ ap (λ (r : Result PlainData ReadFault). place true mark root_way
       (ending (record { place = 1; left = limits.follows * length document.events }) r)) is) root tree;
@@ -46,7 +45,7 @@ ignored_answered s document v is same whole = record {
   answer = λ limits table root tree. rw (is, same)
       (rw (ignored_tree table (whole_fuel limits (length document.events)) root root
       (marks_of document.events) root_way limits.nesting
-      (record { place = 0; left = limits.follows * length document.events }) (omega arith)));
+      (start limits document) (omega arith)));
 }
 
 -- a shape that names no other is no optional
@@ -104,7 +103,7 @@ absent_answered s c document w mark v same none whole first absent = record {
   answer = λ limits table root tree. rw (same, none)
       (answered limits table (option_shape c) document none_data _
       (scalar_read (whole_source table document) root_way (option_shape c) limits.nesting None
-      (record { place = 0; left = limits.follows * length document.events })
+      (start limits document)
       (whole_fuel limits (length document.events)) w mark none_data (omega arith) first refl
       (absent_as_is (is_absent false w) (is_false_null false w) (as_some c) as_is absent)
       (absent_gives (is_absent false w) none_data (null_fault w) absent))

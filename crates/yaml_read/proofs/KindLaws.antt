@@ -1,7 +1,6 @@
 -- A shape of a kind is in its table.
-use Rattle.std.proofs.Common.{◌≡◌, ℕ, ◌<◌, List, Option, Some, None, Bool, true, length}
-use Rattle.std.proofs.lemmas.Option.{slice_get_within}
-use Rattle.yaml_shape.specs.PlainShape.{PlainShape, shape_at}
+use Rattle.yaml_read.proofs.Words.{◌≡◌, ℕ, ◌<◌, List, Option, Some, None, Bool, true, length, slice_get_within}
+use Rattle.yaml_read.proofs.Words.{PlainShape, shape_at}
 use Rattle.yaml_read.specs.Kinds.{any_of, has_kind}
 
 there : (kind : PlainShape → Bool) (o : Option PlainShape) → any_of kind o ≡ true → (s : PlainShape) × (o ≡ Some s)

@@ -1,15 +1,14 @@
 -- The slots of a struct as the code fills them, and as it takes the data of the fields from them.
-use Rattle.std.proofs.Common.{◌≡◌, ℕ, zero, suc, ◌+◌, ◌≤◌, List, [], ◌∷◌, ◌++◌, map, length, Option, Some, None, Bool}
-use Rattle.std.proofs.Common.{true, false, Result, Ok, Err, refl, sym, ap, ◌∙◌, arith, append_assoc, append-nil}
-use Rattle.std.proofs.Common.{add-one, String}
-use Rattle.std.specs.Prelude.{drop, slice_get, not}
-use Rattle.std.specs.Option.{option_map, option_flatten, option_to_list, is_some, is_none, MatchOption}
+use Rattle.std.proofs.lemmas.List.{nil_from_length, drop_more, drop_all}
 use Rattle.std.specs.declared.alloc.Global.{Global}
-use Rattle.std.proofs.lemmas.List.{map-append}
 use Rattle.std.specs.Result.{IsErrAnd}
-use Rattle.yaml_read.proofs.Words.{data_of, PlainData, PlainShape, field_of, fields_of, Data, ShapeId, ReadFault}
-use Rattle.yaml_read.proofs.Words.{PlainRefusal, ran_out, Yields, lift, ◌>>=◌, Fields, Slots, is_free, no_slots}
-use Rattle.yaml_read.proofs.Words.{field_data, all_fields, slots_of}
+use Rattle.yaml_read.proofs.Words.{slice_get-map, slice_get_within, get_or_from_slice_get, length-map, ◌≡◌, ℕ, zero}
+use Rattle.yaml_read.proofs.Words.{suc, ◌+◌, ◌≤◌, List, [], ◌∷◌, ◌++◌, map, length, Option, Some, None, Bool, true}
+use Rattle.yaml_read.proofs.Words.{false, Result, Ok, Err, refl, sym, ap, ◌∙◌, arith, append_assoc, append-nil, String}
+use Rattle.yaml_read.proofs.Words.{drop, slice_get, not, option_map, option_flatten, option_to_list, is_some, is_none}
+use Rattle.yaml_read.proofs.Words.{MatchOption, map-append, data_of, PlainData, PlainShape, field_of, fields_of, Data}
+use Rattle.yaml_read.proofs.Words.{ShapeId, ReadFault, PlainRefusal, ran_out, Yields, lift, ◌>>=◌, Fields, Slots}
+use Rattle.yaml_read.proofs.Words.{is_free, no_slots, field_data, all_fields, slots_of}
 use Rattle.yaml_scalar.proofs.LiftLaws.{lifted, lifted_fails}
 use Rattle.yaml_read.proofs.FieldCode.{Declared, same_some}
 
@@ -70,13 +69,9 @@ pub taken : (old : CodeSlots) (r : Option (Option Data)) (new : CodeSlots) (befo
     → MatchOption r ((before ≡ 0) × (after ≡ 0)) (λ s. (old ≡ s ∷ new) × (after + 1 ≡ before))
     → old ≡ option_to_list r ++ new → before ≡ length old → Taken old r new after
 taken old None new before after h e counted =
-    let empty : old ≡ [] = no_more old (omega (arith, h.0)) in
+    let empty : old ≡ [] = nil_from_length old (omega (arith, h.0)) in
     let left : new ≡ [] = sym e ∙ empty in
     record { first = rw empty refl; rest = rw (empty, left) refl; counted = rw left (h.1) }
-  where
-    no_more : (l : CodeSlots) → length l ≡ 0 → l ≡ []
-    no_more [] h = refl
-    no_more (s ∷ l) h = absurd (omega arith)
 taken old (Some s) new before after h e counted =
     let size : length old ≡ length (s ∷ new) = ap length e in
     record { first = rw e refl; rest = rw e refl; counted = omega (arith, h.1) }
@@ -85,19 +80,11 @@ taken old (Some s) new before after h e counted =
 drop_seen : (fields : Declared) (place : ℕ) (f : String Global × ShapeId) → slice_get fields place ≡ Some f
     → drop place (fields_of fields) ≡ field_of f ∷ drop (place + 1) (fields_of fields)
 drop_seen fields place f h =
-    by_step fields place h ∙ ap (λ n. field_of f ∷ drop n (fields_of fields)) (sym (add-one place))
-  where
-    by_step : (fields : Declared) (place : ℕ) → slice_get fields place ≡ Some f
-        → drop place (fields_of fields) ≡ field_of f ∷ drop (suc place) (fields_of fields)
-    by_step [] place h = absurd cc
-    by_step (g ∷ fs) zero h = ap (λ x. field_of x ∷ fields_of fs) (same_some h)
-    by_step (g ∷ fs) (suc place) h = by_step fs place h
-
-drop_past : (fields : Declared) (place : ℕ) → length fields ≤ place → drop place (fields_of fields) ≡ []
-drop_past [] zero h = refl
-drop_past [] (suc place) h = refl
-drop_past (g ∷ fs) zero h = absurd (omega arith)
-drop_past (g ∷ fs) (suc place) h = drop_past fs place (omega arith)
+    let here : slice_get (fields_of fields) place ≡ Some (field_of f) =
+    slice_get-map field_of fields place ∙ ap (option_map field_of) h in
+    drop_more (fields_of fields) place (field_of f) (slice_get_within (fields_of fields) place (field_of f) here)
+    ∙ ap (λ g. g ∷ drop (place + 1) (fields_of fields))
+    (get_or_from_slice_get (fields_of fields) place (field_of f) (field_of f) here)
 
 module _ (table : List PlainShape) where
   -- the data of the fields that are left, behind the data before them
@@ -150,7 +137,8 @@ module _ (table : List PlainShape) where
       → behind_these (map data_of before) (drop place (fields_of fields)) (slots_of old) ≡ whole
       → lift whole ≡ Err y
   gathered_ends before fields place f old new r count y whole here t read left =
-      ap lift (sym left ∙ ap (λ fs. behind_these (map data_of before) fs (slots_of old)) (drop_seen fields place f here))
+      ap lift (sym left ∙ ap (λ fs. behind_these (map data_of before) fs (slots_of old))
+      (drop_seen fields place f here))
       ∙ gathered_fails (map data_of before) (field_of f) (drop (place + 1) (fields_of fields)) (slots_of old) y
       (ap (λ o. lift (field_data table (field_of f) o)) t.first ∙ read)
 
@@ -159,11 +147,13 @@ module _ (table : List PlainShape) where
       → behind_these (map data_of before) (drop place (fields_of fields)) slots ≡ whole
       → whole ≡ Ok (map data_of before)
   gathered_all before fields place slots whole past left =
-      sym left ∙ (ap (λ fs. behind_these (map data_of before) fs slots) (drop_past fields place past)
+      sym left ∙ (ap (λ fs. behind_these (map data_of before) fs slots)
+      (drop_all place (fields_of fields) (omega (arith, past, length-map fields field_of)))
       ∙ ap Ok (append-nil (map data_of before)))
 
 -- what a `?` hands on
-pub handed_on : {T Y : Type 0} (view : T → Y) (r : Result T PlainRefusal) (y : PlainRefusal) (given : Result Y ReadFault)
+pub handed_on : {T Y : Type 0} (view : T → Y) (r : Result T PlainRefusal) (y : PlainRefusal)
+    (given : Result Y ReadFault)
     → IsErrAnd r (λ e. e ≡ y) → (ran_out y ≡ false → lift given ≡ Err y) → Yields view r given
 handed_on view (Ok x) y given e h = absurd e
 handed_on view (Err x) y given e h = λ small. h (ap ran_out (sym e) ∙ small) ∙ ap Err (sym e)

@@ -1,4 +1,19 @@
--- The words of definitions that several proofs cite, in one place.
+-- The words of definitions that several proofs cite, and std's lemmas that they cite, in one place.
+pub use Rattle.std.proofs.Common.{◌≡◌, ◌∙◌, ℕ, suc, List, Some, None, true, false, refl, sym, subst, pos, negsuc, arith}
+pub use Rattle.std.proofs.Common.{length, [], ◌∷◌, ◌++◌, Bool, map, ap, true≢false, Result, Ok, Err, not, ◌&&◌, ◌||◌}
+pub use Rattle.std.proofs.Common.{if◌then◌else◌, zero, ◌+◌, ◌<◌, get_or, All, Option, add-one, String, string_bytes}
+pub use Rattle.std.proofs.Common.{drop, bytes_eq, cond, set, rules, ◌*◌, ◌≤◌, IfSome, append_assoc, append-nil, ◌-◌}
+pub use Rattle.std.proofs.Common.{take, ap₂, ◌==◌, length-append, inl, inr}
+pub use Rattle.std.specs.Prelude.{slice_get, ◌≢◌, nat_lt, max, ◌⊎◌}
+pub use Rattle.std.specs.Option.{is_some, option_map, option_copied, option_flatten, option_to_list, is_none}
+pub use Rattle.std.specs.Option.{MatchOption}
+pub use Rattle.std.specs.HashMap.{get_by}
+pub use Rattle.std.specs.Vec.Iter.{into_iter_items, into_iter_len}
+pub use Rattle.std.proofs.lemmas.Bool.{ltb-true, ltb-false, eqb-true, lt-ltb}
+pub use Rattle.std.proofs.lemmas.List.{map-append, length-map, map-set}
+pub use Rattle.std.proofs.lemmas.List.Elements.{All-get_or, All-head, All-tail, All-nil}
+pub use Rattle.std.proofs.lemmas.Option.{slice_get_within, slice_get-get_or, slice_get-map, get_or_from_slice_get}
+pub use Rattle.std.proofs.lemmas.Option.{slice_get_read}
 pub use Rattle.yaml_tree.specs.Equal.{tree_eq}
 pub use Rattle.yaml_tree.specs.EqualLaws.{tree_eq-symm}
 pub use Rattle.yaml_tree.specs.Integer.{integer_of, is_canonical, is_number}
@@ -36,6 +51,7 @@ pub use Rattle.yaml_load.specs.DocEventView.{doc_event_of, doc_scalar_of, marked
 pub use Rattle.yaml_load.specs.DocTree.{DocNode, DocNodes, DocPairs, events_of, events_of_nodes, events_of_pairs}
 pub use Rattle.yaml_load.specs.DocTree.{first_event, list, mapping, no_nodes, node, node_of, nothing, numbered}
 pub use Rattle.yaml_load.specs.DocTree.{numbered_nodes, numbered_pairs, reference, with_number, word}
+pub use Rattle.yaml_load.specs.DocTree.{no_pairs, pair}
 pub use Rattle.yaml_load.specs.Ends.{GoForward, end_place, ends_from, ends_of, inner_after, is_closing, is_opening}
 pub use Rattle.yaml_load.specs.PlainDocEvent.{PlainDocEvent, a_scalar, a_void, alias_to, mapping_begins, mapping_ends}
 pub use Rattle.yaml_load.specs.PlainDocEvent.{sequence_begins, sequence_ends}
@@ -97,3 +113,4 @@ pub use Rattle.yaml_read.specs.inner.Reader.{takes, text_at, turn, value_way}
 unfoldable pub use Rattle.yaml_read.specs.inner.Reader.{each_at, node_at}
 pub use Rattle.yaml_read.specs.inner.Walks.{IsAmong, around_of, field_view, owner_of, plain_around, potential}
 pub use Rattle.yaml_read.specs.inner.Walks.{reader_of, row_view, seen, slots_of, source_of, spot_of}
+pub use Rattle.yaml_read.specs.declared.de.node.source.Source.{Source as CodeSource}

@@ -12,7 +12,6 @@ pub mod LeafExits
 pub mod Loops
 pub mod MeaningShapes
 pub mod Meanings
-pub mod OutcomeSteps
 pub mod Outcomes
 pub mod PartExits
 pub mod PlaceLaws
@@ -22,16 +21,13 @@ pub mod Rows
 pub mod Shown
 pub mod SingleNodes
 pub mod Sound
-pub mod SoundFields
-pub mod SoundLists
 pub mod SoundParts
 pub mod Started
 pub mod Steps
 pub mod TreeEnds
 pub mod TreeFaults
 pub mod TreeLaws
-pub mod TreeLists
-pub mod TreeMappings
+pub mod TreeParts
 pub mod TreeWalks
 pub mod ValueExits
 pub mod Whole

@@ -1,17 +1,14 @@
 -- What a node's reading comes to under an enum, and under what its variants hold.
-use Rattle.std.proofs.Common.{◌≡◌, ℕ, ◌-◌, ◌<◌, Bool, true, false, List, [], Some, None, Option, Result, Ok, Err, refl}
-use Rattle.std.proofs.Common.{sym, ap, ◌∙◌, length}
-use Rattle.std.specs.Option.{is_some}
-use Rattle.yaml_read.proofs.Words.{GivesReading, PlainData, by_step, place_at, ran_out, Position, items_of, entries_of, any_data, variant_data, PlainShape, any_shape}
-use Rattle.yaml_read.proofs.Words.{fields_shape, enum_shape, Owner, content_shape, PlainVariant, sequence, tagged}
-use Rattle.yaml_read.proofs.Words.{PlainDocEvent, alias_to, a_scalar, a_void, sequence_begins, sequence_ends}
-use Rattle.yaml_read.proofs.Words.{mapping_begins, mapping_ends, doc_event_of, DocEvent, DocStart, PlainRefusal, ending}
-use Rattle.yaml_read.proofs.Words.{wrap, with_shape, Variants, variant_named, tree_in, trees_in, pairs_in, Fields}
-use Rattle.yaml_read.proofs.Words.{as_variant, is_filled_scalar, as_tagged, TakenBy, around_value, untaken_name, Way}
-use Rattle.yaml_read.proofs.Words.{Spot, after, Source, Reader, event_at, other_answer, takes, item_at, any_entry_at}
-use Rattle.yaml_read.proofs.Words.{sequence_parts, mapping_parts, Walk, Question, taken_as, by_node, by_shape, by_event}
-use Rattle.yaml_read.proofs.Words.{source_of, reader_of, spot_of, seen}
-use Rattle.yaml_read.specs.declared.de.node.source.Source.{Source as CodeSource}
+use Rattle.yaml_read.proofs.Words.{◌≡◌, ℕ, ◌-◌, ◌<◌, Bool, true, false, List, [], Some, None, Option, Result, Ok, Err}
+use Rattle.yaml_read.proofs.Words.{refl, sym, ap, ◌∙◌, length, is_some, GivesReading, PlainData, by_step, place_at, Way}
+use Rattle.yaml_read.proofs.Words.{ran_out, Position, items_of, entries_of, any_data, variant_data, PlainShape, Owner}
+use Rattle.yaml_read.proofs.Words.{any_shape, fields_shape, enum_shape, content_shape, PlainVariant, sequence, tagged}
+use Rattle.yaml_read.proofs.Words.{PlainDocEvent, a_scalar, sequence_begins, mapping_begins, doc_event_of, DocEvent}
+use Rattle.yaml_read.proofs.Words.{DocStart, PlainRefusal, ending, wrap, with_shape, Variants, variant_named, tree_in}
+use Rattle.yaml_read.proofs.Words.{trees_in, pairs_in, Fields, as_variant, is_filled_scalar, as_tagged, TakenBy, Spot}
+use Rattle.yaml_read.proofs.Words.{around_value, untaken_name, after, Source, Reader, event_at, other_answer, takes}
+use Rattle.yaml_read.proofs.Words.{item_at, any_entry_at, sequence_parts, mapping_parts, Walk, Question, taken_as, seen}
+use Rattle.yaml_read.proofs.Words.{by_node, by_shape, by_event, source_of, reader_of, spot_of, CodeSource}
 use Rattle.yaml_tree.specs.Tree as tree
 use Rattle.yaml_load.specs.declared.doc_event.DocEvent.TheVariants as event
 use Rattle.yaml_read.proofs.reading.Loops.{entered}
@@ -54,15 +51,16 @@ module _ (code : CodeSource) (fuel : ℕ) (q : Question) (walk : Walk) where
       step_event code fuel q walk e m is (rw (o, k) (taken_as_is name variants e h))
 
 -- what a variant holds is read as its step reads it, and its fault is that of the step, once it is placed
-pub content_read : (code : CodeSource) (o : Option PlainShape) (q : Question) (around : TakenBy) (walk : Walk) (fuel : ℕ)
-    (x : PlainData × Spot) → 0 < fuel
+pub content_read : (code : CodeSource) (o : Option PlainShape) (q : Question) (around : TakenBy) (walk : Walk)
+    (fuel : ℕ) (x : PlainData × Spot) → 0 < fuel
     → with_shape o (λ t. by_step code (fuel - 1) (taken_as q t around) walk) ≡ Ok x
     → with_shape o (λ t. by_node code fuel (taken_as q t around) walk) ≡ Ok x
 content_read code None q around walk fuel x some h = absurd cc
 content_read code (Some t) q around walk fuel x some h = node_read code (taken_as q t around) walk fuel x some h
 
 pub content_refused : (code : CodeSource) (o : Option PlainShape) (q : Question) (around : TakenBy) (walk : Walk)
-    (fuel : ℕ) (e : PlainDocEvent) (m : Position) (f y : PlainRefusal) → 0 < fuel → Some (e, m) ≡ seen code.events.now walk.place
+    (fuel : ℕ) (e : PlainDocEvent) (m : Position) (f y : PlainRefusal) → 0 < fuel
+    → Some (e, m) ≡ seen code.events.now walk.place
     → (ran_out f ≡ false → with_shape o (λ t. by_step code (fuel - 1) (taken_as q t around) walk) ≡ Err f)
     → with_shape o (λ t. place_at {A = Spot} q.way t true (Some (e, m)) (Err f)) ≡ Err y
     → ran_out y ≡ false → with_shape o (λ t. by_node code fuel (taken_as q t around) walk) ≡ Err y
@@ -74,8 +72,8 @@ content_refused code (Some t) q around walk fuel e m f y some is h told known =
 -- what is given by a step under the shape that was looked up
 pub content_steps : {X : Type 0} (view : X → PlainData) (p : Spot) (result : Result X PlainRefusal) (code : CodeSource)
     (fuel : ℕ) (o : Option PlainShape) (q : Question) (around : TakenBy) (walk : Walk) (t : PlainShape) → o ≡ Some t
-    → GivesReading {X = X} {Y = PlainData × Spot} (λ x. (view x, p)) result (by_step code fuel (taken_as q t around) walk)
-    → GivesReading {X = X} {Y = PlainData × Spot} (λ x. (view x, p)) result
+    → GivesReading {X = X} {Y = PlainData × Spot} (λ x. (view x, p)) result (by_step code fuel
+    (taken_as q t around) walk) → GivesReading {X = X} {Y = PlainData × Spot} (λ x. (view x, p)) result
     (with_shape o (λ t. by_step code fuel (taken_as q t around) walk))
 content_steps view p result code fuel o q around walk t is h = rw is h
 
@@ -86,25 +84,16 @@ module _ (source : Source) (read : Way → Reader) (way : Way) (nest : ℕ) (aro
       → untaken_name false e ≡ Some tag → takes (fields_shape strict owner fields) e ≡ false
       → event_at source read way (fields_shape strict owner fields) nest (Some around) at e m
       ≡ ending (after at) (other_answer (fields_shape strict owner fields) e)
-  other_in_fields strict owner fields (alias_to j) m tag h other = absurd cc
   other_in_fields strict owner fields (a_scalar w) m tag h other = refl
   other_in_fields strict owner fields (sequence_begins own) m tag h other = refl
-  other_in_fields strict owner fields sequence_ends m tag h other = absurd cc
-  other_in_fields strict owner fields (mapping_begins own) m tag h other = absurd cc
-  other_in_fields strict owner fields mapping_ends m tag h other = absurd cc
-  other_in_fields strict owner fields a_void m tag h other = absurd cc
+  other_in_fields strict owner fields _ m tag h other = absurd cc
 
 -- an event that is no start of a mapping is no collection of a variant's fields, and none of a sequence of its elements
 pub no_mapping_starts : (e : DocEvent) → ((s : DocStart) → e ≡ event.MappingStart s → ⊥)
     → (strict : Bool) (owner : Owner) (fields : Fields)
     → takes (fields_shape strict owner fields) (doc_event_of e) ≡ false
-no_mapping_starts (event.Alias j) h strict owner fields = refl
-no_mapping_starts (event.Scalar w) h strict owner fields = refl
-no_mapping_starts (event.SequenceStart s) h strict owner fields = refl
-no_mapping_starts event.SequenceEnd h strict owner fields = refl
 no_mapping_starts (event.MappingStart s) h strict owner fields = absurd (h s refl)
-no_mapping_starts event.MappingEnd h strict owner fields = refl
-no_mapping_starts event.Void h strict owner fields = refl
+no_mapping_starts _ h strict owner fields = refl
 
 -- ---- any values
 -- a tag whose name is told is not taken

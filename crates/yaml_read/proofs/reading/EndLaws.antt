@@ -1,14 +1,11 @@
 -- The numbers of a document's events tell where its nodes end.
-use Rattle.std.proofs.Common.{◌≡◌, ℕ, zero, suc, ◌+◌, ◌-◌, ◌≤◌, List, [], ◌∷◌, ◌++◌, map, length, Some, Bool, true}
-use Rattle.std.proofs.Common.{false, ◌&&◌, ◌==◌, refl, sym, ap, subst, ◌∙◌, arith, append_assoc, length-append}
-use Rattle.std.specs.Prelude.{slice_get, if◌then◌else◌}
-use Rattle.std.proofs.lemmas.Bool.{eqb-true}
-use Rattle.yaml_read.proofs.Words.{Position, PlainDocEvent, sequence_ends, mapping_ends, DocNode, DocNodes, DocPairs}
-use Rattle.yaml_read.proofs.Words.{nothing, reference, word, list, mapping, no_nodes, node, events_of, events_of_nodes}
-use Rattle.yaml_read.proofs.Words.{events_of_pairs, is_opening, is_closing, inner_after, end_place, ends_from, ends_of}
-use Rattle.yaml_read.proofs.Words.{GoForward, Events}
-use Rattle.yaml_load.specs.DocTree.{no_pairs, pair}
-use Rattle.yaml_read.proofs.reading.Shown.{Shows}
+use Rattle.yaml_read.proofs.Words.{◌≡◌, ℕ, zero, suc, ◌+◌, ◌-◌, ◌≤◌, List, [], ◌∷◌, ◌++◌, map, length, Some, Bool, true}
+use Rattle.yaml_read.proofs.Words.{false, ◌&&◌, ◌==◌, refl, sym, ap, subst, ◌∙◌, arith, append_assoc, length-append}
+use Rattle.yaml_read.proofs.Words.{slice_get, if◌then◌else◌, eqb-true, Position, PlainDocEvent, sequence_ends}
+use Rattle.yaml_read.proofs.Words.{mapping_ends, DocNode, DocNodes, DocPairs, list, mapping, no_nodes, node, events_of}
+use Rattle.yaml_read.proofs.Words.{events_of_nodes, events_of_pairs, is_opening, is_closing, inner_after, end_place}
+use Rattle.yaml_read.proofs.Words.{ends_from, ends_of, GoForward, Events, no_pairs, pair}
+use Rattle.yaml_read.proofs.reading.Shown.{Shows, begins}
 
 not_outer : (b : Bool) (n : ℕ) → (n + 1 == 0) ≡ b → b ≡ false
 not_outer true n h = let bad = eqb-true (n + 1) 0 h in absurd (omega arith)
@@ -18,30 +15,25 @@ back : (n : ℕ) → n + 1 - 1 ≡ n
 back n = omega arith
 
 -- an inner collection ends
-closed_sequence : (inner place : ℕ) (rest : List PlainDocEvent) → end_place (inner + 1) place (sequence_ends ∷ rest)
-    ≡ end_place inner (place + 1) rest
-closed_sequence inner place rest = let no = not_outer (inner + 1 == 0) inner refl in rw (no, back inner)
-
-closed_mapping : (inner place : ℕ) (rest : List PlainDocEvent) → end_place (inner + 1) place (mapping_ends ∷ rest)
-    ≡ end_place inner (place + 1) rest
-closed_mapping inner place rest = let no = not_outer (inner + 1 == 0) inner refl in rw (no, back inner)
+closed : (e : PlainDocEvent) (inner place : ℕ) (rest : List PlainDocEvent) → is_closing e ≡ true
+    → is_opening e ≡ false
+    → end_place (inner + 1) place (e ∷ rest) ≡ end_place inner (place + 1) rest
+closed e inner place rest c o = let no = not_outer (inner + 1 == 0) inner refl in rw (c, no, o, back inner)
 
 mutual
   over_node : (n : DocNode) (inner place : ℕ) (rest : List PlainDocEvent) → end_place inner place (events_of n ++ rest)
       ≡ end_place inner (place + length (events_of n)) rest
-  over_node nothing inner place rest = refl
-  over_node (reference j) inner place rest = refl
-  over_node (word w) inner place rest = refl
   over_node (list tag ns) inner place rest =
       ap (end_place (inner + 1) (place + 1)) (append_assoc (events_of_nodes ns) (sequence_ends ∷ []) rest)
       ∙ over_nodes ns (inner + 1) (place + 1) (sequence_ends ∷ rest)
-      ∙ closed_sequence inner (place + 1 + length (events_of_nodes ns)) rest
+      ∙ closed sequence_ends inner (place + 1 + length (events_of_nodes ns)) rest refl refl
       ∙ ap (λ p. end_place inner p rest) (omega (arith, length-append (events_of_nodes ns) (sequence_ends ∷ [])))
   over_node (mapping tag ps) inner place rest =
       ap (end_place (inner + 1) (place + 1)) (append_assoc (events_of_pairs ps) (mapping_ends ∷ []) rest)
       ∙ over_pairs ps (inner + 1) (place + 1) (mapping_ends ∷ rest)
-      ∙ closed_mapping inner (place + 1 + length (events_of_pairs ps)) rest
+      ∙ closed mapping_ends inner (place + 1 + length (events_of_pairs ps)) rest refl refl
       ∙ ap (λ p. end_place inner p rest) (omega (arith, length-append (events_of_pairs ps) (mapping_ends ∷ [])))
+  over_node _ inner place rest = refl
 
   over_nodes : (ns : DocNodes) (inner place : ℕ) (rest : List PlainDocEvent)
       → end_place inner place (events_of_nodes ns ++ rest) ≡ end_place inner (place + length (events_of_nodes ns)) rest
@@ -72,9 +64,6 @@ EndsAt ends p size = (end : ℕ) × (slice_get ends p ≡ Some end) × (end + 1 
 
 first_end : (n : DocNode) (q : ℕ) (rest : List PlainDocEvent)
     → EndsAt (ends_from q (events_of n ++ rest)) 0 (q + length (events_of n))
-first_end nothing q rest = (q, refl, refl)
-first_end (reference j) q rest = (q, refl, refl)
-first_end (word w) q rest = (q, refl, refl)
 first_end (list tag ns) q rest = (
   q + 1 + length (events_of_nodes ns),
   ap Some (ap (end_place 0 (q + 1)) (append_assoc (events_of_nodes ns) (sequence_ends ∷ []) rest)
@@ -87,6 +76,7 @@ first_end (mapping tag ps) q rest = (
       ∙ over_pairs ps 0 (q + 1) (mapping_ends ∷ rest)),
   omega (arith, length-append (events_of_pairs ps) (mapping_ends ∷ [])),
 )
+first_end _ q rest = (q, refl, refl)
 
 -- the same behind other events
 behind_others : (before : List PlainDocEvent) (q : ℕ) (n : DocNode) (after : List PlainDocEvent)
@@ -118,22 +108,12 @@ prefix es [] s = (events_only es, refl)
 prefix [] (t ∷ ts) s = let bad = s.0.1 in absurd cc
 prefix (e ∷ es) (t ∷ ts) s =
     let more = prefix es ts (unshift (slice_get (e ∷ es)) 0 ts s.1) in
-    let same : e ≡ (t, s.0.0) = some_is s.0.1 in
+    let same : e ≡ (t, s.0.0) = cc (s.0.1) in
     (more.0, ap (λ (x : PlainDocEvent × Position). x.0 ∷ events_only es) same ∙ ap (λ xs. t ∷ xs) more.1)
-  where
-    some_is : {A : Type 0} {x y : A} → Some x ≡ Some y → x ≡ y
-    some_is h = cc
-
-starts_there : (n : DocNode) (p : ℕ) → Shows (slice_get []) p (events_of n) → ⊥
-starts_there nothing p s = let bad = s.0.1 in absurd cc
-starts_there (reference j) p s = let bad = s.0.1 in absurd cc
-starts_there (word w) p s = let bad = s.0.1 in absurd cc
-starts_there (list tag ns) p s = let bad = s.0.1 in absurd cc
-starts_there (mapping tag ps) p s = let bad = s.0.1 in absurd cc
 
 node_end : (es : List (PlainDocEvent × Position)) (q p : ℕ) (n : DocNode) → Shows (slice_get es) p (events_of n)
     → EndsAt (ends_from q (events_only es)) p (q + p + length (events_of n))
-node_end [] q p n s = absurd (starts_there n p s)
+node_end [] q p n s = let bad = (begins (slice_get []) p n s).1 in absurd cc
 node_end (e ∷ es) q zero n s =
     let front = prefix (e ∷ es) (events_of n) s in
     let found = subst (λ l. EndsAt (ends_from q l) 0 (q + length (events_of n))) (sym front.1)

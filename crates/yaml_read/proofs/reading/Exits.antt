@@ -1,18 +1,15 @@
 -- What a node's reading comes to, once its shape and its first event are known.
-use Rattle.std.proofs.Common.{◌≡◌, ℕ, ◌-◌, ◌<◌, Bool, true, false, List, [], Some, None, Option, Result, Ok, Err, refl}
-use Rattle.std.proofs.Common.{ap, ◌∙◌, rules, length}
-use Rattle.std.specs.Option.{is_some}
-use Rattle.yaml_read.proofs.Words.{Position, data_of, entry_of, items_of, entries_of, PlainData, seq_data, map_data}
-use Rattle.yaml_read.proofs.Words.{some_data, newtype_data, PlainShape, option_shape, newtype_shape, seq_shape}
-use Rattle.yaml_read.proofs.Words.{row_shape, map_shape, Owner, shape_at, Entry, doc_event_of, PlainDocEvent}
-use Rattle.yaml_read.proofs.Words.{sequence_begins, mapping_begins, DocEvent, ReadFault, PlainRefusal, refused}
-use Rattle.yaml_read.proofs.Words.{end_of_stream, GivesReading, Yields, with_end, ending, wrap, finish, with_shape}
-use Rattle.yaml_read.proofs.Words.{Handing, as_is, handed, early, is_content, row_of, row_data, Spot, after}
-use Rattle.yaml_read.proofs.Words.{is_sequence_end, is_mapping_end, item_at, entry_at, row_at, sequence_parts}
-use Rattle.yaml_read.proofs.Words.{mapping_parts, handed_at, shape_step, Walk, Question, by_step, by_shape, by_event}
-use Rattle.yaml_read.proofs.Words.{source_of, reader_of, spot_of, seen, Reading}
+use Rattle.yaml_read.proofs.Words.{◌≡◌, ℕ, ◌-◌, ◌<◌, Bool, true, false, List, [], Some, None, Option, Result, Ok, Err}
+use Rattle.yaml_read.proofs.Words.{refl, ap, ◌∙◌, rules, length, is_some, Position, data_of, entry_of, items_of, Owner}
+use Rattle.yaml_read.proofs.Words.{entries_of, PlainData, seq_data, map_data, some_data, newtype_data, PlainShape, wrap}
+use Rattle.yaml_read.proofs.Words.{option_shape, newtype_shape, seq_shape, row_shape, map_shape, shape_at, Entry, as_is}
+use Rattle.yaml_read.proofs.Words.{doc_event_of, PlainDocEvent, sequence_begins, mapping_begins, DocEvent, ReadFault}
+use Rattle.yaml_read.proofs.Words.{PlainRefusal, refused, end_of_stream, GivesReading, Yields, with_end, ending, finish}
+use Rattle.yaml_read.proofs.Words.{with_shape, Handing, handed, early, is_content, row_of, row_data, Spot, after, Walk}
+use Rattle.yaml_read.proofs.Words.{is_sequence_end, is_mapping_end, item_at, entry_at, row_at, sequence_parts, Question}
+use Rattle.yaml_read.proofs.Words.{mapping_parts, handed_at, shape_step, by_step, by_shape, by_event, source_of, seen}
+use Rattle.yaml_read.proofs.Words.{reader_of, spot_of, Reading, CodeSource}
 use Rattle.yaml_shape.specs.declared.data.Entry.{the_lemmas}
-use Rattle.yaml_read.specs.declared.de.node.source.Source.{Source as CodeSource}
 use Rattle.yaml_load.specs.declared.doc_event.DocEvent.TheVariants as event
 use Rattle.yaml_read.proofs.reading.Loops.{entered}
 
@@ -35,22 +32,12 @@ gives_with_end view p q (Ok x) r given is e g = is ∙ rw (g, e)
 gives_with_end view p q (Err y) r given is e g = λ m. is ∙ ap (with_end q) (g m)
 
 pub not_sequence_end : (e : DocEvent) → (e ≡ event.SequenceEnd → ⊥) → is_sequence_end (doc_event_of e) ≡ false
-not_sequence_end (event.Alias j) h = refl
-not_sequence_end (event.Scalar s) h = refl
-not_sequence_end (event.SequenceStart s) h = refl
 not_sequence_end event.SequenceEnd h = absurd (h refl)
-not_sequence_end (event.MappingStart s) h = refl
-not_sequence_end event.MappingEnd h = refl
-not_sequence_end event.Void h = refl
+not_sequence_end _ h = refl
 
 pub not_mapping_end : (e : DocEvent) → (e ≡ event.MappingEnd → ⊥) → is_mapping_end (doc_event_of e) ≡ false
-not_mapping_end (event.Alias j) h = refl
-not_mapping_end (event.Scalar s) h = refl
-not_mapping_end (event.SequenceStart s) h = refl
-not_mapping_end event.SequenceEnd h = refl
-not_mapping_end (event.MappingStart s) h = refl
 not_mapping_end event.MappingEnd h = absurd (h refl)
-not_mapping_end event.Void h = refl
+not_mapping_end _ h = refl
 
 -- an entry is seen by its key and its value
 pub entry_is : (e : Entry) → entry_of e ≡ (data_of e.key, data_of e.value)
@@ -152,7 +139,8 @@ pub finish_fails : {S A C : Type 0} (f : S → Result A ReadFault) (r : Result (
     → r ≡ Err x → ◌≡◌ {A = Result (A × C) PlainRefusal} (finish f r) (Err x)
 finish_fails f r x h = rw h
 
-pub gives_finish : {X S : Type 0} (view : X → PlainData) (f : S → Result PlainData ReadFault) (result : Result X PlainRefusal)
+pub gives_finish : {X S : Type 0} (view : X → PlainData) (f : S → Result PlainData ReadFault)
+    (result : Result X PlainRefusal)
     (r : Result (S × Spot) PlainRefusal) (s : S) (p : Spot) → r ≡ Ok (s, p)
     → Yields view result (f s) → GivesReading {X = X} {Y = PlainData × Spot} (λ x. (view x, p)) result (finish f r)
 gives_finish view f (Ok x) r s p e g = rw (e, g)

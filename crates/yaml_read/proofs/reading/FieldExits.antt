@@ -1,16 +1,12 @@
 -- What reading a struct comes to, and what reading one of its fields does.
-use Rattle.std.proofs.Common.{◌≡◌, ℕ, ◌-◌, ◌<◌, Bool, false, List, Some, None, Option, Result, Ok, Err, refl, ap, ◌∙◌}
-use Rattle.std.proofs.Common.{length}
-use Rattle.std.specs.Prelude.{set}
-use Rattle.std.specs.Option.{is_some}
-use Rattle.yaml_read.proofs.Words.{Position, PlainData, PlainShape, identifier_shape, fields_shape, shape_at}
-use Rattle.yaml_read.proofs.Words.{PlainDocEvent, mapping_begins, ReadFault, PlainRefusal, GivesReading, Yields, lift}
-use Rattle.yaml_read.proofs.Words.{◌>>=◌, ending, wrap, finish, Fields, Slots, no_slots, name_in, field_named}
-use Rattle.yaml_read.proofs.Words.{struct_of, as_is, handed, is_bare, Way, place, Spot, after, mark_or_first, Source}
-use Rattle.yaml_read.proofs.Words.{Reading, Reader, value_way, text_at, fields_in, skip_at, mapping_parts, mapping_at}
-use Rattle.yaml_read.proofs.Words.{fields_at, field_at, field_key_at, Walk, Question, by_shape, source_of, reader_of}
-use Rattle.yaml_read.proofs.Words.{spot_of, seen}
-use Rattle.yaml_read.specs.declared.de.node.source.Source.{Source as CodeSource}
+use Rattle.yaml_read.proofs.Words.{◌≡◌, ℕ, ◌-◌, ◌<◌, Bool, false, List, Some, None, Option, Result, Ok, Err, refl, ap}
+use Rattle.yaml_read.proofs.Words.{◌∙◌, length, set, is_some, Position, PlainData, PlainShape, identifier_shape}
+use Rattle.yaml_read.proofs.Words.{fields_shape, shape_at, PlainDocEvent, mapping_begins, ReadFault, PlainRefusal}
+use Rattle.yaml_read.proofs.Words.{GivesReading, Yields, lift, ◌>>=◌, ending, wrap, finish, Fields, Slots, no_slots}
+use Rattle.yaml_read.proofs.Words.{name_in, field_named, struct_of, as_is, handed, is_bare, Way, place, Spot, after}
+use Rattle.yaml_read.proofs.Words.{mark_or_first, Source, Reading, Reader, value_way, text_at, fields_in, skip_at}
+use Rattle.yaml_read.proofs.Words.{mapping_parts, mapping_at, fields_at, field_at, field_key_at, Walk, Question}
+use Rattle.yaml_read.proofs.Words.{by_shape, source_of, reader_of, spot_of, seen, CodeSource}
 use Rattle.yaml_read.proofs.reading.Loops.{entered}
 use Rattle.yaml_read.proofs.reading.Exits.{step_event}
 
@@ -20,15 +16,13 @@ pub fields_as_is : (s : PlainShape) (f : Bool × Fields) (taken : Bool) (e : Pla
 fields_as_is (fields_shape strict owner fields) f taken e h b = rw b refl
 fields_as_is _ f taken e h b = absurd cc
 
-pair_is : {x y : Bool × Fields} → Some x ≡ Some y → x ≡ y
-pair_is h = cc
-
 module _ (source : Source) (read : Way → Reader) (way : Way) where
   pub fields_mapping : (s : PlainShape) (strict : Bool) (fields : Fields) (nest : ℕ) (mark : Position) (at : Spot)
       → fields_in s ≡ Some (strict, fields)
       → mapping_at source read way s nest mark at ≡ fields_at source read way strict fields nest mark at
   fields_mapping (fields_shape strict' owner fields') strict fields nest mark at h =
-      ap (λ (f : Bool × Fields). fields_at source read way f.0 f.1 nest mark at) (pair_is h)
+      let same : (strict', fields') ≡ (strict, fields) = cc in
+      ap (λ (f : Bool × Fields). fields_at source read way f.0 f.1 nest mark at) same
   fields_mapping _ strict fields nest mark at h = absurd cc
 
 -- fields

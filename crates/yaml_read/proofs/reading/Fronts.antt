@@ -1,20 +1,15 @@
 -- The fault of the first events of a document is the first fault of each document that begins with them.
-use Rattle.std.proofs.Common.{◌≡◌, ℕ, zero, suc, ◌+◌, ◌*◌, ◌<◌, List, [], ◌∷◌, ◌++◌, map, length, Some, None}
-use Rattle.std.proofs.Common.{Result, Err, Bool, true, false, refl, sym, ap, subst, ◌∙◌, arith, ◌&&◌, ◌==◌}
-use Rattle.std.proofs.Common.{if◌then◌else◌, length-append}
-use Rattle.std.specs.Prelude.{◌≢◌, slice_get}
-use Rattle.std.proofs.lemmas.List.{length-map}
-use Rattle.std.proofs.lemmas.Option.{slice_get_within}
-use Rattle.yaml_read.proofs.Words.{Position, PlainData, PlainShape, DocNode, events_of, ends_of, ends_from, end_place}
-use Rattle.yaml_read.proofs.Words.{inner_after, is_opening, is_closing, PlainDocEvent, PlainDocument, PlainRefusal}
-use Rattle.yaml_read.proofs.Words.{out_of_memory, refused, end_of_stream, cause_of, root_way, IsTreeOf, GoesOn}
-use Rattle.yaml_read.proofs.Words.{PlainLimits, marks_of, whole_fuel, read_tree, answer_within, Reading, node_at}
-use Rattle.yaml_read.proofs.reading.EndLaws.{node_ends}
+use Rattle.yaml_read.proofs.Words.{map-append, ◌≡◌, ℕ, zero, suc, ◌+◌, ◌*◌, ◌<◌, List, [], ◌∷◌, ◌++◌, map, length, Some}
+use Rattle.yaml_read.proofs.Words.{None, Result, Err, Bool, true, false, refl, sym, ap, subst, ◌∙◌, arith, ◌&&◌, ◌==◌}
+use Rattle.yaml_read.proofs.Words.{if◌then◌else◌, length-append, ◌≢◌, slice_get, length-map, Position, PlainData}
+use Rattle.yaml_read.proofs.Words.{PlainShape, DocNode, ends_of, ends_from, end_place, inner_after, is_opening}
+use Rattle.yaml_read.proofs.Words.{is_closing, PlainDocEvent, PlainDocument, PlainRefusal, out_of_memory, refused}
+use Rattle.yaml_read.proofs.Words.{end_of_stream, cause_of, root_way, IsTreeOf, GoesOn, PlainLimits, whole_fuel}
+use Rattle.yaml_read.proofs.Words.{answer_within, Reading, node_at}
 use Rattle.yaml_read.proofs.reading.Growing.{Grows, alike, ended, wanted}
 use Rattle.yaml_read.proofs.reading.GrowingReadings.{grows_node}
-use Rattle.yaml_read.proofs.reading.Shown.{Shows}
-use Rattle.yaml_read.proofs.reading.TreeLaws.{reader_tied}
-use Rattle.yaml_read.proofs.reading.WholeReadings.{whole_source, whole_reading, err_is, landed_err, shows_list}
+use Rattle.yaml_read.proofs.reading.WholeReadings.{start, whole_source, whole_reading, tree_shown, document_tied}
+use Rattle.yaml_read.proofs.reading.WholeReadings.{err_is, lands_err}
 
 -- an element of a list stands in each list that begins with it
 stands_on : {A : Type 0} (xs ys : List A) (p : ℕ) (x : A) → slice_get xs p ≡ Some x → slice_get (xs ++ ys) p ≡ Some x
@@ -51,10 +46,6 @@ ends_on (e ∷ es) more q zero end h lt = chosen (is_opening e) h
     chosen false h = h
 ends_on (e ∷ es) more q (suc p) end h lt = ends_on es more (q + 1) p end h (omega arith)
 
-map_on : {A B : Type 0} (f : A → B) (xs ys : List A) → map f (xs ++ ys) ≡ map f xs ++ map f ys
-map_on f [] ys = refl
-map_on f (x ∷ xs) ys = ap (λ zs. f x ∷ zs) (map_on f xs ys)
-
 stays : {A : Type 0} (r q : Result A PlainRefusal) (y : PlainRefusal) → Grows r q → r ≡ Err y
     → y ≢ refused end_of_stream → y ≢ out_of_memory → q ≡ Err y
 stays _ q y (alike r) h end memory = h
@@ -63,13 +54,10 @@ stays _ q y (wanted r) h end memory = absurd (memory (sym (err_is _ _ h)))
 
 module _ (limits : PlainLimits) (table : List PlainShape) (s : PlainShape) (document whole : PlainDocument)
     (root : DocNode) (is : IsTreeOf whole root) (on : GoesOn document whole) where
-  seen : Shows (slice_get whole.events) 0 (events_of root)
-  seen = subst (Shows (slice_get whole.events) 0) is.events (shows_list whole.events)
-
   -- the same reading over the events of the whole document
   abbrev full_reading : Reading PlainData
   full_reading = node_at (whole_source table whole) (whole_fuel limits (length document.events)) root_way s
-      limits.nesting None (record { place = 0; left = limits.follows * length document.events })
+      limits.nesting None (start limits document)
 
   grown : Grows (whole_reading limits table document s) full_reading
   grown =
@@ -80,26 +68,17 @@ module _ (limits : PlainLimits) (table : List PlainShape) (s : PlainShape) (docu
       (λ p end h lt.
       subst (λ es. slice_get (ends_of es) p ≡ Some end)
       (sym (ap (λ (es : List (PlainDocEvent × Position)). map (λ e. e.0) es) on.events
-      ∙ map_on (λ (e : PlainDocEvent × Position). e.0) document.events on.rest))
+      ∙ map-append (λ (e : PlainDocEvent × Position). e.0) document.events on.rest))
       (ends_on (map (λ e. e.0) document.events) (map (λ e. e.0) on.rest) 0 p end h
       (omega (arith, lt, length-map document.events (λ (e : PlainDocEvent × Position). e.0)))))
       (omega (arith, ap length on.events, length-append document.events on.rest))
       (whole_fuel limits (length document.events)) root_way s limits.nesting None
-      (record { place = 0; left = limits.follows * length document.events })
-
-  -- it answers what reading the tree answers
-  tied_on : (y : PlainRefusal) → full_reading ≡ Err y
-      → answer_within limits.nesting (limits.follows * length document.events) table s whole root ≡ Err (cause_of y)
-  tied_on y h =
-      landed_err (0 + length (events_of root))
-      (read_tree table (whole_fuel limits (length document.events)) root (marks_of whole.events) root_way s
-      limits.nesting None root (record { place = 0; left = limits.follows * length document.events })) y
-      (sym (reader_tied (whole_source table whole) (λ p e. slice_get_within whole.events p e) (node_ends whole.events)
-      (marks_of whole.events) (λ p. refl) root seen is.known (whole_fuel limits (length document.events)) root_way s
-      limits.nesting None root (record { place = 0; left = limits.follows * length document.events }) seen) ∙ h)
+      (start limits document)
 
   pub first_fault : (y : PlainRefusal) → whole_reading limits table document s ≡ Err y → y ≢ refused end_of_stream
       → y ≢ out_of_memory
       → answer_within limits.nesting (limits.follows * length document.events) table s whole root ≡ Err (cause_of y)
   first_fault y h end memory =
-      tied_on y (stays (whole_reading limits table document s) full_reading y grown h end memory)
+      sym (lands_err (document_tied table whole root is (whole_fuel limits (length document.events)) root_way s
+      limits.nesting None root (start limits document) (tree_shown table whole root is)) y
+      (stays (whole_reading limits table document s) full_reading y grown h end memory))

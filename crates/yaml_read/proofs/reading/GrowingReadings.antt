@@ -1,26 +1,21 @@
 -- A reading by places of the first events of a document, and one of all of them.
-use Rattle.std.proofs.Common.{◌≡◌, ℕ, zero, suc, ◌<◌, ◌≤◌, List, [], Option, Some, None, Ok, Err, Bool, true, false, ◌+◌}
-use Rattle.std.proofs.Common.{refl, sym, ◌∙◌, length, arith}
-use Rattle.std.specs.Prelude.{if◌then◌else◌, nat_lt}
-use Rattle.std.specs.Option.{is_some}
-use Rattle.std.proofs.lemmas.Bool.{lt-ltb, ltb-true}
-use Rattle.yaml_read.proofs.Words.{Position, items_of, entries_of, PlainData, any_data, seq_data, map_data, some_data}
-use Rattle.yaml_read.proofs.Words.{newtype_data, variant_data, ignored_data, PlainShape, shape_at, content_shape}
-use Rattle.yaml_read.proofs.Words.{sequence, tagged, is_closing, PlainDocEvent, alias_to, a_scalar, a_void}
-use Rattle.yaml_read.proofs.Words.{sequence_begins, sequence_ends, mapping_begins, mapping_ends, refused}
-use Rattle.yaml_read.proofs.Words.{bytes_unsupported, end_of_stream, ◌>>=◌, unless, tree_in, trees_in, pairs_in, Fields}
-use Rattle.yaml_read.proofs.Words.{Slots, no_slots, struct_of, Handing, as_is, as_some, as_newtype, as_ignored, as_bare}
-use Rattle.yaml_read.proofs.Words.{as_variant, as_tagged, as_refused, handed, early, TakenBy, around_value, Way}
-use Rattle.yaml_read.proofs.Words.{element_under, places, place, Row, row_of, row_data, Spot, after, mark_or_first}
-use Rattle.yaml_read.proofs.Words.{Reading, Reader, Events, Source, turn, each_at, place_at, item_at, entry_at}
-use Rattle.yaml_read.proofs.Words.{any_entry_at, skip_to, skip_event, skip_at, row_at, field_key_at, field_at, rows_at}
-use Rattle.yaml_read.proofs.Words.{fields_at, value_way, text_at, sequence_at, mapping_at, event_at, handed_at}
-use Rattle.yaml_read.proofs.Words.{shape_step, node_step, node_at, is_sequence_end, is_mapping_end}
+use Rattle.yaml_read.proofs.Words.{bytes_unsupported, sequence_begins, is_sequence_end, mapping_begins, is_mapping_end}
+use Rattle.yaml_read.proofs.Words.{if◌then◌else◌, content_shape, PlainDocEvent, end_of_stream, element_under, PlainData}
+use Rattle.yaml_read.proofs.Words.{mark_or_first, newtype_data, variant_data, ignored_data, around_value, any_entry_at}
+use Rattle.yaml_read.proofs.Words.{field_key_at, sequence_at, entries_of, PlainShape, is_closing, as_newtype, some_data}
+use Rattle.yaml_read.proofs.Words.{as_ignored, as_variant, skip_event, mapping_at, shape_step, struct_of, as_tagged, []}
+use Rattle.yaml_read.proofs.Words.{value_way, handed_at, node_step, ltb-true, Position, items_of, any_data, seq_data, ℕ}
+use Rattle.yaml_read.proofs.Words.{map_data, shape_at, sequence, alias_to, trees_in, pairs_in, no_slots, row_data, zero}
+use Rattle.yaml_read.proofs.Words.{place_at, entry_at, field_at, event_at, is_some, refused, tree_in, Handing, as_some}
+use Rattle.yaml_read.proofs.Words.{TakenBy, Reading, each_at, item_at, skip_to, skip_at, text_at, node_at, Option, List}
+use Rattle.yaml_read.proofs.Words.{length, nat_lt, lt-ltb, tagged, unless, Fields, handed, places, row_of, Reader, Some}
+use Rattle.yaml_read.proofs.Words.{Events, Source, row_at, false, arith, ◌>>=◌, Slots, as_is, early, place, after, None}
+use Rattle.yaml_read.proofs.Words.{Bool, true, refl, Spot, turn, ◌≡◌, suc, ◌<◌, ◌≤◌, Err, ◌+◌, sym, ◌∙◌, Way, Row, Ok}
 use Rattle.yaml_shape.specs.PlainShape as shape
 use Rattle.yaml_tree.specs.Tree as tree
 use Rattle.yaml_read.proofs.reading.Growing.{Grows, alike, ended, wanted, grows_bind, grows_wrap, grows_finish}
 use Rattle.yaml_read.proofs.reading.Growing.{grows_enter, grows_follow, grows_with, grows_unless, grows_if, grows_place}
-use Rattle.yaml_read.proofs.reading.Growing.{grows_one_more, grows_field}
+use Rattle.yaml_read.proofs.reading.Growing.{grows_row, grows_field}
 use Rattle.yaml_read.proofs.reading.Started.{Stands, started, named}
 
 -- the first events, and all of them
@@ -34,7 +29,7 @@ module _ (table : List PlainShape) (events all : Events) (ends all_ends : ℕ �
   full = record { table = table; events = all; ends = all_ends; size = whole }
 
   -- ---- loops
-  module _ {S : Type 0} (is_end : PlainDocEvent → Bool) (step other : S → Spot → Reading S)
+  module _ {S : Type 0} {step other : S → Spot → Reading S} (is_end : PlainDocEvent → Bool)
       (grows : (s : S) (at : Spot) → Grows (step s at) (other s at)) where
     grows_each : (n m : ℕ) (s : S) (at : Spot) → n ≤ m
         → Grows (each_at is_end step events n s at) (each_at is_end other all m s at)
@@ -49,7 +44,7 @@ module _ (table : List PlainShape) (events all : Events) (ends all_ends : ℕ �
             → Grows (if b then Ok (s, after at) else (step s at >>= λ x. each_at is_end step events n x.0 x.1))
             (if b then Ok (s, after at) else (other s at >>= λ x. each_at is_end other all m x.0 x.1))
         going true later = alike _
-        going false later = grows_bind (step s at) (other s at) _ _ (grows s at) (λ x e. later x.0 x.1)
+        going false later = grows_bind (grows s at) (λ x e. later x.0 x.1)
 
         by_turn : (o : Option (PlainDocEvent × Position)) → events at.place ≡ o
             → ((t : S) (to : Spot) → Grows (each_at is_end step events n t to) (each_at is_end other all m t to))
@@ -65,8 +60,8 @@ module _ (table : List PlainShape) (events all : Events) (ends all_ends : ℕ �
   grows_skip_to p left (Some end) is = by_size (nat_lt end size) refl
     where
       by_size : (b : Bool) → nat_lt end size ≡ b
-          → Grows (if b then Ok (ignored_data, record { place = end + 1; left = left }) else Err (refused end_of_stream))
-          (skip_to full (all_ends p) left)
+          → Grows (if b then Ok (ignored_data, record { place = end + 1; left = left }) else Err (refused
+          end_of_stream)) (skip_to full (all_ends p) left)
       by_size false past = ended _
       by_size true within =
           let below = ltb-true end size within in
@@ -78,7 +73,7 @@ module _ (table : List PlainShape) (events all : Events) (ends all_ends : ℕ �
       by_event : (o : Option (PlainDocEvent × Position)) → events at.place ≡ o
           → Grows (skip_event front at o) (skip_event full at (all at.place))
       by_event None is = ended _
-      by_event (Some e) is = rw (more at.place e is) (grows_if (is_closing e.0) _ _ _ _ (alike (Err (refused end_of_stream)))
+      by_event (Some e) is = rw (more at.place e is) (grows_if (is_closing e.0) (alike (Err (refused end_of_stream)))
           (grows_skip_to at.place at.left (ends at.place) refl))
 
   -- ---- nodes, by readers of which one grows to the other
@@ -92,7 +87,7 @@ module _ (table : List PlainShape) (events all : Events) (ends all_ends : ℕ �
       → Stands (events (text_at at.place (events at.place)))) where
     grows_item : (way : Way) (s : PlainShape) (nest : ℕ) (vs : List PlainData) (at : Spot)
         → Grows (item_at read way s nest vs at) (item_at other way s nest vs at)
-    grows_item way s nest vs at = grows_wrap _ _ _ (grows (element_under way (length vs)) s nest None at)
+    grows_item way s nest vs at = grows_wrap _ (grows (element_under way (length vs)) s nest None at)
 
     -- the way to a value behind a key that was read
     same_way : (way : Way) (at : Spot) → Stands (events at.place)
@@ -102,26 +97,22 @@ module _ (table : List PlainShape) (events all : Events) (ends all_ends : ℕ �
     grows_entry : (way : Way) (s t : PlainShape) (nest : ℕ) (vs : List (PlainData × PlainData)) (at : Spot)
         → Grows (entry_at front read way s t nest vs at) (entry_at full other way s t nest vs at)
     grows_entry way s t nest vs at =
-        grows_bind _ _ _ _
-        (grows_bind (read way s nest None at) (other way s nest None at) _ _ (grows way s nest None at)
+        grows_bind (grows_bind (grows way s nest None at)
         (λ x e. rw (same_way way at (began way s nest None at x e)) (alike _)))
-        (λ k e. grows_wrap _ _ _ (grows k.0.0 t nest None k.1))
+        (λ k e. grows_wrap _ (grows k.0.0 t nest None k.1))
 
     grows_any_entry : (way : Way) (nest : ℕ) (vs : List (PlainData × PlainData)) (at : Spot)
         → Grows (any_entry_at front read way nest vs at) (any_entry_at full other way nest vs at)
     grows_any_entry way nest vs at =
-        grows_bind _ _ _ _
-        (grows_bind (read way shape.any_shape nest None at) (other way shape.any_shape nest None at) _ _
-        (grows way shape.any_shape nest None at)
+        grows_bind (grows_bind (grows way shape.any_shape nest None at)
         (λ x e. rw (same_way way at (began way shape.any_shape nest None at x e)) (alike _)))
-        (λ k e. grows_wrap _ _ _ (grows k.0.0 shape.any_shape nest None k.1))
+        (λ k e. grows_wrap _ (grows k.0.0 shape.any_shape nest None k.1))
 
     grows_row_part : (way : Way) (nest : ℕ) (row : Row) (at : Spot)
         → Grows (row_at front read way nest row at) (row_at full other way nest row at)
     grows_row_part way nest row at =
-        grows_one_more _ _ _ _ row
-        (λ id. grows_with (shape_at table id) _ _ (λ s. grows (element_under way (length row.read)) s nest None at))
-        (grows_skip at)
+        grows_row row.left row.read row.extra (λ id. grows_with (shape_at table id)
+        (λ s. grows (element_under way (length row.read)) s nest None at)) (grows_skip at)
 
     -- the mark of a name that was read
     same_mark : (at : Spot) → Stands (events at.place) → Stands (events (text_at at.place (events at.place)))
@@ -135,9 +126,7 @@ module _ (table : List PlainShape) (events all : Events) (ends all_ends : ℕ �
         → Grows (field_key_at front read way strict fields nest slots at)
         (field_key_at full other way strict fields nest slots at)
     grows_field_key way strict fields nest slots at =
-        grows_bind (read way shape.identifier_shape nest None at) (other way shape.identifier_shape nest None at) _ _
-        (grows way shape.identifier_shape nest None at)
-        (λ x e.
+        grows_bind (grows way shape.identifier_shape nest None at) (λ x e.
         let here = began way shape.identifier_shape nest None at x e in
         rw (same_way way at here, same_mark at here (called way nest at x e)) (alike _))
 
@@ -145,91 +134,69 @@ module _ (table : List PlainShape) (events all : Events) (ends all_ends : ℕ �
         → Grows (field_at front read way strict fields nest slots at)
         (field_at full other way strict fields nest slots at)
     grows_field_part way strict fields nest slots at =
-        grows_bind _ _ _ _ (grows_field_key way strict fields nest slots at)
-        (λ k e. grows_field slots k.0.0 _ _ _ _
-        (λ id. grows_with (shape_at table id) _ _ (λ s. grows k.0.1 s nest None k.1)) (grows_skip k.1))
-
-    grows_rows : (way : Way) (owner : shape.Owner) (ids : List ℕ) (nest : ℕ) (mark : Position) (at : Spot)
-        → Grows (rows_at front read way owner ids nest mark at) (rows_at full other way owner ids nest mark at)
-    grows_rows way owner ids nest mark at =
-        grows_enter nest mark _ _ (λ n. grows_finish (row_data owner (length ids)) _ _
-        (grows_each is_sequence_end (row_at front read way n) (row_at full other way n) (grows_row_part way n)
-        size whole (row_of ids) at larger))
-
-    grows_fields : (way : Way) (strict : Bool) (fields : Fields) (nest : ℕ) (mark : Position) (at : Spot)
-        → Grows (fields_at front read way strict fields nest mark at)
-        (fields_at full other way strict fields nest mark at)
-    grows_fields way strict fields nest mark at =
-        grows_enter nest mark _ _ (λ n. grows_finish (struct_of table fields) _ _
-        (grows_each is_mapping_end (field_at front read way strict fields n) (field_at full other way strict fields n)
-        (grows_field_part way strict fields n) size whole (no_slots fields) at larger))
+        grows_bind (grows_field_key way strict fields nest slots at) (λ k e. grows_field slots k.0.0
+        (λ id. grows_with (shape_at table id) (λ s. grows k.0.1 s nest None k.1)) (grows_skip k.1))
 
     grows_sequence : (way : Way) (s : PlainShape) (nest : ℕ) (mark : Position) (at : Spot)
         → Grows (sequence_at front read way s nest mark at) (sequence_at full other way s nest mark at)
     grows_sequence way (shape.seq_shape e) nest mark at =
-        grows_enter nest mark _ _ (λ n. grows_with (shape_at table e) _ _ (λ s.
-        grows_wrap (λ vs. seq_data (items_of vs)) _ _
-        (grows_each is_sequence_end (item_at read way s n) (item_at other way s n) (grows_item way s n) size whole []
-        at larger)))
-    grows_sequence way (shape.row_shape owner ids) nest mark at = grows_rows way owner ids nest mark at
+        grows_enter nest mark (λ n. grows_with (shape_at table e) (λ s. grows_wrap (λ vs. seq_data (items_of vs))
+        (grows_each is_sequence_end (grows_item way s n) size whole [] at larger)))
+    grows_sequence way (shape.row_shape owner ids) nest mark at =
+        grows_enter nest mark (λ n. grows_finish (row_data owner (length ids))
+        (grows_each is_sequence_end (grows_row_part way n) size whole (row_of ids) at larger))
     grows_sequence way shape.any_shape nest mark at =
-        grows_enter nest mark _ _ (λ n. grows_wrap (λ vs. any_data (sequence (trees_in (items_of vs)))) _ _
-        (grows_each is_sequence_end (item_at read way shape.any_shape n) (item_at other way shape.any_shape n)
-        (grows_item way shape.any_shape n) size whole [] at larger))
+        grows_enter nest mark (λ n. grows_wrap (λ vs. any_data (sequence (trees_in (items_of vs))))
+        (grows_each is_sequence_end (grows_item way shape.any_shape n) size whole [] at larger))
     grows_sequence way s nest mark at = alike _
 
     grows_mapping : (way : Way) (s : PlainShape) (nest : ℕ) (mark : Position) (at : Spot)
         → Grows (mapping_at front read way s nest mark at) (mapping_at full other way s nest mark at)
     grows_mapping way (shape.map_shape a b) nest mark at =
-        grows_enter nest mark _ _ (λ n. grows_with (shape_at table a) _ _ (λ s. grows_with (shape_at table b) _ _ (λ t.
-        grows_wrap (λ vs. map_data (entries_of vs)) _ _
-        (grows_each is_mapping_end (entry_at front read way s t n) (entry_at full other way s t n)
-        (grows_entry way s t n) size whole [] at larger))))
+        grows_enter nest mark (λ n. grows_with (shape_at table a) (λ s. grows_with (shape_at table b) (λ t.
+        grows_wrap (λ vs. map_data (entries_of vs))
+        (grows_each is_mapping_end (grows_entry way s t n) size whole [] at larger))))
     grows_mapping way (shape.fields_shape strict owner fields) nest mark at =
-        grows_fields way strict fields nest mark at
+        grows_enter nest mark (λ n. grows_finish (struct_of table fields)
+        (grows_each is_mapping_end (grows_field_part way strict fields n) size whole (no_slots fields) at larger))
     grows_mapping way shape.any_shape nest mark at =
-        grows_enter nest mark _ _ (λ n. grows_wrap (λ vs. any_data (tree.mapping (pairs_in (entries_of vs)))) _ _
-        (grows_each is_mapping_end (any_entry_at front read way n) (any_entry_at full other way n)
-        (grows_any_entry way n) size whole [] at larger))
+        grows_enter nest mark (λ n. grows_wrap (λ vs. any_data (tree.mapping (pairs_in (entries_of vs))))
+        (grows_each is_mapping_end (grows_any_entry way n) size whole [] at larger))
     grows_mapping way s nest mark at = alike _
 
     grows_event : (way : Way) (s : PlainShape) (nest : ℕ) (taken : Option TakenBy) (at : Spot) (e : PlainDocEvent)
         (mark : Position) → Grows (event_at front read way s nest taken at e mark)
         (event_at full other way s nest taken at e mark)
     grows_event way s nest taken at (alias_to j) mark =
-        grows_follow at.left _ _ (λ n. grows_bind _ _ _ _ (grows way s nest None (record { place = j; left = n }))
-        (λ x e. alike _))
-    grows_event way s nest taken at (a_scalar w) mark = alike _
+        grows_follow at.left (λ n. grows_bind (grows way s nest None (record { place = j; left = n })) (λ x e. alike _))
     grows_event way s nest taken at (sequence_begins tag) mark = grows_sequence way s nest mark (after at)
-    grows_event way s nest taken at sequence_ends mark = alike _
     grows_event way s nest taken at (mapping_begins tag) mark = grows_mapping way s nest mark (after at)
-    grows_event way s nest taken at mapping_ends mark = alike _
-    grows_event way s nest taken at a_void mark = alike _
+    grows_event way s nest taken at _ mark = alike _
 
     grows_handed : (h : Handing) (way : Way) (s : PlainShape) (nest : ℕ) (taken : Option TakenBy) (at : Spot)
         (e : PlainDocEvent) (mark : Position) → Grows (handed_at front h read way s nest taken at e mark)
         (handed_at full h other way s nest taken at e mark)
     grows_handed as_is way s nest taken at e mark = grows_event way s nest taken at e mark
     grows_handed (as_some c) way s nest taken at e mark =
-        grows_with (shape_at table c) _ _ (λ t. grows_wrap some_data _ _ (grows way t nest taken at))
+        grows_with (shape_at table c) (λ t. grows_wrap some_data (grows way t nest taken at))
     grows_handed (as_newtype c) way s nest taken at e mark =
-        grows_enter nest mark _ _ (λ m. grows_with (shape_at table c) _ _
-        (λ t. grows_wrap newtype_data _ _ (grows way t m taken at)))
+        grows_enter nest mark (λ m. grows_with (shape_at table c)
+        (λ t. grows_wrap newtype_data (grows way t m taken at)))
     grows_handed as_ignored way s nest taken at e mark = grows_skip at
-    grows_handed (as_bare fields) way s nest taken at e mark = alike _
     grows_handed (as_variant place around content) way s nest taken at e mark =
-        grows_with (content_shape table around.name around.variant content) _ _
-        (λ t. grows_wrap (variant_data place) _ _ (grows way t nest (Some around) at))
+        grows_with (content_shape table around.name around.variant content)
+        (λ t. grows_wrap (variant_data place) (grows way t nest (Some around) at))
     grows_handed (as_tagged name) way s nest taken at e mark =
-        grows_wrap (λ v. any_data (tagged name (tree_in v))) _ _ (grows way shape.any_shape nest (Some around_value) at)
-    grows_handed as_refused way s nest taken at e mark = alike _
+        grows_wrap (λ v. any_data (tagged name (tree_in v))) (grows way shape.any_shape nest (Some around_value) at)
+    grows_handed _ way s nest taken at e mark = alike _
 
     grows_step : (way : Way) (s : PlainShape) (nest : ℕ) (taken : Option TakenBy) (at : Spot)
         → Grows (place_at way s (is_some taken) (events at.place) (node_step front read way s nest taken at))
         (place_at way s (is_some taken) (all at.place) (node_step full other way s nest taken at))
     grows_step way s nest taken at = by_event (events at.place) refl
       where
-        by_bytes : (o : Option (PlainDocEvent × Position)) → Grows {A = PlainData × Spot} (Err (refused bytes_unsupported))
+        by_bytes : (o : Option (PlainDocEvent × Position)) → Grows {A = PlainData × Spot}
+            (Err (refused bytes_unsupported))
             (place_at way shape.bytes_shape (is_some taken) o (Err (refused bytes_unsupported)))
         by_bytes None = alike _
         by_bytes (Some e) = alike _
@@ -244,7 +211,7 @@ module _ (table : List PlainShape) (events all : Events) (ends all_ends : ℕ �
             (place_at way s (is_some taken) (all at.place) (node_step full other way s nest taken at))
         by_event None is = by_shape s
         by_event (Some e) is = rw (more at.place e is)
-            (grows_place (places s (is_some taken) e.0) e.1 way _ _ (grows_unless (early s) _ _
+            (grows_place (places s (is_some taken) e.0) e.1 way (grows_unless (early s)
             (grows_handed (handed s (is_some taken) e.0) way s nest taken at e.0 e.1)))
 
   -- a node
@@ -253,5 +220,5 @@ module _ (table : List PlainShape) (events all : Events) (ends all_ends : ℕ �
   unfolding node_at
   grows_node zero way s nest taken at = alike _
   grows_node (suc fuel) way s nest taken at =
-      grows_step (node_at front fuel) (node_at full fuel) (grows_node fuel) (started front fuel) (named front fuel) way s
-      nest taken at
+      grows_step (node_at front fuel) (node_at full fuel) (grows_node fuel) (started front fuel)
+      (named front fuel) way s nest taken at

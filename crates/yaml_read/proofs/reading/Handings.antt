@@ -1,10 +1,9 @@
 -- Which shapes hand a node on, and as what.
-use Rattle.std.proofs.Common.{◌≡◌, ℕ, List, Option, Some, None, Bool, true, false, refl, subst, if◌then◌else◌}
-use Rattle.yaml_read.proofs.Words.{PlainShape, any_shape, option_shape, newtype_shape, fields_shape, enum_shape}
-use Rattle.yaml_read.proofs.Words.{ignored_shape, Owner, PlainVariant, PlainDocEvent, Variants, variant_named, Handing}
-use Rattle.yaml_read.proofs.Words.{as_is, as_some, as_newtype, as_ignored, as_bare, as_variant, as_tagged, as_refused}
-use Rattle.yaml_read.proofs.Words.{handed, is_content, is_bare, is_filled_scalar, any_by, enum_by, variant_by}
-use Rattle.yaml_read.proofs.Words.{untaken_name}
+use Rattle.yaml_read.proofs.Words.{◌≡◌, ℕ, List, Option, Some, None, Bool, true, false, refl, subst, if◌then◌else◌}
+use Rattle.yaml_read.proofs.Words.{PlainShape, any_shape, option_shape, newtype_shape, fields_shape, enum_shape, Owner}
+use Rattle.yaml_read.proofs.Words.{ignored_shape, PlainVariant, PlainDocEvent, Variants, variant_named, Handing, as_is}
+use Rattle.yaml_read.proofs.Words.{as_some, as_newtype, as_ignored, as_bare, as_variant, as_tagged, as_refused, handed}
+use Rattle.yaml_read.proofs.Words.{is_content, is_bare, is_filled_scalar, any_by, enum_by, variant_by, untaken_name}
 
 -- what is handed on as something is handed on by a shape that has it, from an event that has it
 abbrev pub From : PlainShape → (taken : Bool) → PlainDocEvent → Handing → Type 0

@@ -1,44 +1,29 @@
 -- What reading a scalar comes to, under a shape that reads scalars alone.
-use Rattle.std.proofs.Common.{◌≡◌, ℕ, zero, suc, ◌+◌, ◌-◌, ◌<◌, Bool, true, false, List, Some, None, Option, Result, Ok}
-use Rattle.std.proofs.Common.{Err, refl, sym, ap, ◌∙◌, arith}
-use Rattle.std.specs.Option.{is_some}
-use Rattle.yaml_read.proofs.Words.{Position, PlainData, PlainShape, bool_shape, char_shape, integer_shape, str_shape}
-use Rattle.yaml_read.proofs.Words.{identifier_shape, unit_shape, unit_struct_shape, PlainDocEvent, alias_to, a_scalar}
-use Rattle.yaml_read.proofs.Words.{as_is, handed, early, TakenBy, Way, place, placed, places, PlainScalar, ReadFault}
-use Rattle.yaml_read.proofs.Words.{refused, scalar_answer, text_of, lent_text, ending, Spot, after, mark_or_first}
-use Rattle.yaml_read.proofs.Words.{Source, is_leaf, text_at, node_at, pursue}
+use Rattle.yaml_read.proofs.Words.{unit_struct_shape, identifier_shape, integer_shape, PlainDocEvent, scalar_answer, Ok}
+use Rattle.yaml_read.proofs.Words.{mark_or_first, PlainScalar, PlainShape, bool_shape, char_shape, unit_shape, Position}
+use Rattle.yaml_read.proofs.Words.{PlainData, str_shape, ReadFault, lent_text, alias_to, a_scalar, is_some, TakenBy, ap}
+use Rattle.yaml_read.proofs.Words.{refused, text_of, is_leaf, text_at, node_at, Option, Result, a_void, handed, placed}
+use Rattle.yaml_read.proofs.Words.{places, ending, Source, pursue, false, arith, as_is, early, place, after, zero, Bool}
+use Rattle.yaml_read.proofs.Words.{true, List, Some, None, refl, Spot, ◌≡◌, suc, ◌+◌, ◌-◌, ◌<◌, Err, sym, ◌∙◌, Way, ℕ}
 use Rattle.yaml_read.proofs.reading.Loops.{pursue_fails, pursue_finds}
 
--- a shape that reads scalars alone hands nothing on, and places its faults
+-- a shape that reads scalars alone hands nothing on, has no fault that comes first, and places its faults
+leaf_known : (s : PlainShape) (taken : Bool) (e : PlainDocEvent) → is_leaf s ≡ true
+    → (handed s taken e ≡ as_is) × (early s ≡ None) × (places s taken e ≡ true)
+leaf_known bool_shape taken e h = (refl, refl, refl)
+leaf_known char_shape taken e h = (refl, refl, refl)
+leaf_known (integer_shape i) taken e h = (refl, refl, refl)
+leaf_known str_shape taken e h = (refl, refl, refl)
+leaf_known identifier_shape taken e h = (refl, refl, refl)
+leaf_known unit_shape taken e h = (refl, refl, refl)
+leaf_known (unit_struct_shape name) taken e h = (refl, refl, refl)
+leaf_known _ taken e h = absurd cc
+
 pub leaf_as_is : (s : PlainShape) (taken : Bool) (e : PlainDocEvent) → is_leaf s ≡ true → handed s taken e ≡ as_is
-leaf_as_is bool_shape taken e h = refl
-leaf_as_is char_shape taken e h = refl
-leaf_as_is (integer_shape i) taken e h = refl
-leaf_as_is str_shape taken e h = refl
-leaf_as_is identifier_shape taken e h = refl
-leaf_as_is unit_shape taken e h = refl
-leaf_as_is (unit_struct_shape name) taken e h = refl
-leaf_as_is _ taken e h = absurd cc
+leaf_as_is s taken e h = (leaf_known s taken e h).0
 
 pub leaf_late : (s : PlainShape) → is_leaf s ≡ true → early s ≡ None
-leaf_late bool_shape h = refl
-leaf_late char_shape h = refl
-leaf_late (integer_shape i) h = refl
-leaf_late str_shape h = refl
-leaf_late identifier_shape h = refl
-leaf_late unit_shape h = refl
-leaf_late (unit_struct_shape name) h = refl
-leaf_late _ h = absurd cc
-
-pub leaf_places : (s : PlainShape) (taken : Bool) (e : PlainDocEvent) → is_leaf s ≡ true → places s taken e ≡ true
-leaf_places bool_shape taken e h = refl
-leaf_places char_shape taken e h = refl
-leaf_places (integer_shape i) taken e h = refl
-leaf_places str_shape taken e h = refl
-leaf_places identifier_shape taken e h = refl
-leaf_places unit_shape taken e h = refl
-leaf_places (unit_struct_shape name) taken e h = refl
-leaf_places _ taken e h = absurd cc
+leaf_late s h = (leaf_known s true a_void h).1
 
 -- a scalar under a shape that reads scalars alone
 pub leaf_scalar : (source : Source) (way : Way) (s : PlainShape) (nest : ℕ) (taken : Option TakenBy) (at : Spot)
@@ -48,12 +33,7 @@ pub leaf_scalar : (source : Source) (way : Way) (s : PlainShape) (nest : ℕ) (t
 unfolding node_at
 leaf_scalar source way s nest taken at zero w m lt leaf is = absurd (omega arith)
 leaf_scalar source way s nest taken at (suc fuel) w m lt leaf is =
-    rw (
-      is,
-      leaf_late s leaf,
-      leaf_as_is s (is_some taken) (a_scalar w) leaf,
-      leaf_places s (is_some taken) (a_scalar w) leaf,
-    )
+    let known = leaf_known s (is_some taken) (a_scalar w) leaf in rw (is, known.1, known.0, known.2)
 
 -- an alias of a scalar under such a shape
 pub leaf_alias : (source : Source) (way : Way) (s : PlainShape) (nest : ℕ) (at : Spot) (fuel left j : ℕ)
@@ -66,7 +46,8 @@ pub leaf_alias : (source : Source) (way : Way) (s : PlainShape) (nest : ℕ) (at
 unfolding node_at
 leaf_alias source way s nest at zero left j w m n lt leaf some is there = absurd (omega arith)
 leaf_alias source way s nest at (suc fuel) left j w m n lt leaf some is there =
-    (rw (is, leaf_late s leaf, leaf_as_is s false (alias_to j) leaf, leaf_places s false (alias_to j) leaf))
+    let known = leaf_known s false (alias_to j) leaf in
+    (rw (is, known.1, known.0, known.2))
     ∙ ap (place true m way) (followed (scalar_answer s false w)
     (leaf_scalar source way s nest None (record { place = j; left = left }) fuel w n (omega arith) leaf there))
   where
@@ -82,8 +63,8 @@ leaf_alias source way s nest at (suc fuel) left j w m n lt leaf some is there =
         ∙ pursue_finds (node_at source fuel way s nest None) j at.place (left + 1) v
         (record { place = j + 1; left = left }) (omega arith) (rw (added left) h)
     followed (Err y) h = ap (pursue (node_at source fuel way s nest None) j at.place) (sym some)
-        ∙ pursue_fails (node_at source fuel way s nest None) j at.place (left + 1) (placed true n way (refused y)) (omega arith)
-        (rw (added left) h)
+        ∙ pursue_fails (node_at source fuel way s nest None) j at.place (left + 1) (placed true n way (refused y))
+        (omega arith) (rw (added left) h)
 
 -- a name that is a scalar
 pub name_scalar : (source : Source) (way : Way) (nest : ℕ) (at : Spot) (fuel : ℕ) (w : PlainScalar) (m : Position)

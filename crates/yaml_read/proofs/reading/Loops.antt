@@ -1,9 +1,8 @@
 -- One turn of a loop over the parts of a collection, and one step of a reading.
-use Rattle.std.proofs.Common.{◌≡◌, ℕ, zero, suc, ◌+◌, ◌-◌, ◌<◌, Bool, true, false, Some, None, Result, Ok, Err, ap, sym}
-use Rattle.std.proofs.Common.{◌∙◌, arith}
-use Rattle.yaml_read.proofs.Words.{Position, PlainData, PlainDocEvent, PlainRefusal, refused, end_of_stream}
-use Rattle.yaml_read.proofs.Words.{recursion_limit_exceeded, ◌>>=◌, wrap, enter, Spot, after, Reading, Events, each_at}
-use Rattle.yaml_read.proofs.Words.{pursue}
+use Rattle.yaml_read.proofs.Words.{◌≡◌, ℕ, zero, suc, ◌+◌, ◌-◌, ◌<◌, Bool, true, false, Some, None, Result, Ok, Err, ap}
+use Rattle.yaml_read.proofs.Words.{sym, ◌∙◌, arith, Position, PlainData, PlainDocEvent, PlainRefusal, refused}
+use Rattle.yaml_read.proofs.Words.{end_of_stream, recursion_limit_exceeded, ◌>>=◌, wrap, enter, Spot, after, Reading}
+use Rattle.yaml_read.proofs.Words.{Events, each_at, pursue}
 
 module _ {S : Type 0} (is_end : PlainDocEvent → Bool) (step : S → Spot → Reading S) (events : Events) where
   -- the events end within the collection
@@ -27,8 +26,8 @@ module _ {S : Type 0} (is_end : PlainDocEvent → Bool) (step : S → Spot → R
   each_going n s at e is end = rw (is, end)
 
   -- it is refused
-  pub each_fails : (n : ℕ) (s : S) (at : Spot) (e : PlainDocEvent × Position) (x : PlainRefusal) → events at.place ≡ Some e
-      → is_end e.0 ≡ false
+  pub each_fails : (n : ℕ) (s : S) (at : Spot) (e : PlainDocEvent × Position) (x : PlainRefusal)
+      → events at.place ≡ Some e → is_end e.0 ≡ false
       → step s at ≡ Err x → each_at is_end step events (suc n) s at ≡ Err x
   each_fails n s at e x is end r = each_going n s at e is end
       ∙ ap (λ y. y >>= λ x. each_at is_end step events n x.0 x.1) r
@@ -64,7 +63,8 @@ module _ {S : Type 0} (is_end : PlainDocEvent → Bool) (step : S → Spot → R
       ≡ Err (refused end_of_stream)
   led_ended turns lt is = led_on turns lt ∙ each_ended is_end step events (turns - gone - 1) s' next is
 
-  pub led_fails : (turns : ℕ) (e : PlainDocEvent × Position) (x : PlainRefusal) → gone < turns → events next.place ≡ Some e
+  pub led_fails : (turns : ℕ) (e : PlainDocEvent × Position) (x : PlainRefusal) → gone < turns
+      → events next.place ≡ Some e
       → is_end e.0 ≡ false → step s' next ≡ Err x → each_at is_end step events turns s at ≡ Err x
   led_fails turns e x lt is end r =
       led_on turns lt ∙ each_fails is_end step events (turns - gone - 1) s' next e x is end r

@@ -1,14 +1,14 @@
 -- What a node means is data of its shape.
-use Rattle.std.proofs.Common.{◌≡◌, ℕ, List, Some, Bool, true, refl, ◌&&◌}
-use Rattle.yaml_read.proofs.Words.{has_shape, all_have, entries_have, each_has, PlainData, PlainItems, PlainEntries}
-use Rattle.yaml_read.proofs.Words.{PlainShape, shape_at, DocNode, DocNodes, DocPairs, first_event, PlainDocEvent}
-use Rattle.yaml_read.proofs.Words.{Fields, Slots, no_slots, name_in, Handing, Means, means_node, MeansAs, means_some}
-use Rattle.yaml_read.proofs.Words.{means_newtype, means_ignored, means_target, means_void, means_scalar, means_list}
-use Rattle.yaml_read.proofs.Words.{means_mapping, means_bare, means_fields, MeanFields, means_no_fields, means_field}
-use Rattle.yaml_read.proofs.Words.{means_unknown, means_variant, means_tagged, means_any_list, means_any_mapping}
-use Rattle.yaml_read.proofs.Words.{MeansList, means_seq, means_row, MeansPairs, means_map, MeanEach, means_none}
-use Rattle.yaml_read.proofs.Words.{means_more, MeanRow, means_no_elements, means_element, MeanPairs, means_no_pairs}
-use Rattle.yaml_read.proofs.Words.{means_pair}
+use Rattle.std.specs.Cmp.Derive.{both_true}
+use Rattle.yaml_read.proofs.Words.{◌≡◌, ℕ, List, Some, Bool, true, refl, has_shape, all_have, entries_have, each_has}
+use Rattle.yaml_read.proofs.Words.{PlainData, PlainItems, PlainEntries, PlainShape, shape_at, DocNode, DocNodes}
+use Rattle.yaml_read.proofs.Words.{DocPairs, first_event, PlainDocEvent, Fields, Slots, no_slots, name_in, Handing}
+use Rattle.yaml_read.proofs.Words.{Means, means_node, MeansAs, means_some, means_newtype, means_ignored, means_target}
+use Rattle.yaml_read.proofs.Words.{means_void, means_scalar, means_list, means_mapping, means_bare, means_fields}
+use Rattle.yaml_read.proofs.Words.{MeanFields, means_no_fields, means_field, means_unknown, means_variant, means_tagged}
+use Rattle.yaml_read.proofs.Words.{means_any_list, means_any_mapping, MeansList, means_seq, means_row, MeansPairs}
+use Rattle.yaml_read.proofs.Words.{means_map, MeanEach, means_none, means_more, MeanRow, means_no_elements}
+use Rattle.yaml_read.proofs.Words.{means_element, MeanPairs, means_no_pairs, means_pair}
 use Rattle.yaml_scalar.proofs.OfShape.{is_of, of_shape, content_has}
 use Rattle.yaml_scalar.proofs.ScalarShapeLaws.{scalar-has, void-has}
 use Rattle.yaml_scalar.proofs.VariantLaws.{variant_has}
@@ -16,9 +16,6 @@ use Rattle.yaml_read.proofs.FieldLaws.{Fit, none_fit, set_fit, struct_has_shape}
 use Rattle.yaml_read.proofs.reading.Handings.{From, from_handing}
 
 module _ (table : List PlainShape) where
-  both : (a b : Bool) → a ≡ true → b ≡ true → (a && b) ≡ true
-  both a b p q = rw (p, q)
-
   module _ (root : DocNode) where
     mutual
       -- what a node means is of its shape, which may be that of a variant's content
@@ -65,23 +62,20 @@ module _ (table : List PlainShape) where
           → (e : ℕ) → shape_at table e ≡ Some s → all_have table e vs ≡ true
       each_has_shape means_none e there = refl
       each_has_shape (means_more {s} {n} {ns} {v} {vs} m ms) e there =
-          both (has_shape table e v) (all_have table e vs) (of_shape table e s v there (meaning_of m))
-          (each_has_shape ms e there)
+          both_true (of_shape table e s v there (meaning_of m)) (each_has_shape ms e there)
 
       row_has : {ids : List ℕ} {ns : DocNodes} {vs : PlainItems} {d k : ℕ} → MeanRow table root ids ns vs d k
           → each_has table ids vs ≡ true
       row_has means_no_elements = refl
       row_has (means_element {id} {s} {ids} {n} {ns} {v} {vs} there m ms) =
-          both (has_shape table id v) (each_has table ids vs) (of_shape table id s v there (meaning_of m)) (row_has ms)
+          both_true (of_shape table id s v there (meaning_of m)) (row_has ms)
 
       pairs_have : {s t : PlainShape} {ps : DocPairs} {vs : PlainEntries} {d k : ℕ} → MeanPairs table root s t ps vs d k
           → (a b : ℕ) → shape_at table a ≡ Some s → shape_at table b ≡ Some t → entries_have table a b vs ≡ true
       pairs_have means_no_pairs a b there there' = refl
       pairs_have (means_pair {s} {t} {m = x} {n = y} {ps} {u} {v} {vs} l m ms) a b there there' =
-          both (has_shape table a u) (has_shape table b v && entries_have table a b vs)
-          (of_shape table a s u there (meaning_of l))
-          (both (has_shape table b v) (entries_have table a b vs) (of_shape table b t v there' (meaning_of m))
-          (pairs_have ms a b there there'))
+          both_true (of_shape table a s u there (meaning_of l))
+          (both_true (of_shape table b t v there' (meaning_of m)) (pairs_have ms a b there there'))
 
       -- what was read of the fields stays data of their shapes
       fields_fit : {strict : Bool} {fields : Fields} {before after : Slots} {ps : DocPairs} {d k : ℕ}

@@ -1,9 +1,6 @@
 -- What reading one entry of a mapping or one element of a tuple comes to.
-use Rattle.std.proofs.Common.{◌≡◌, ℕ, zero, suc, ◌+◌, List, [], ◌∷◌, ◌++◌, Some, None, Result, Ok, Err, refl, sym}
-use Rattle.std.proofs.Common.{subst}
-use Rattle.std.specs.Prelude.{slice_get, drop, All}
-use Rattle.std.proofs.lemmas.List.Elements.{All-get_or}
-use Rattle.std.proofs.lemmas.Option.{get_or_from_slice_get, slice_get_within}
+use Rattle.yaml_read.proofs.Words.{◌≡◌, ℕ, zero, suc, ◌+◌, List, [], ◌∷◌, ◌++◌, Some, None, Result, Ok, Err, refl, sym}
+use Rattle.yaml_read.proofs.Words.{subst, slice_get, drop, All, All-get_or, get_or_from_slice_get, slice_get_within}
 use Rattle.yaml_read.proofs.Words.{PlainData, PlainShape, PlainRefusal, wrap, Way, row_step, Spot, Source, Reader}
 use Rattle.yaml_read.proofs.Words.{value_way, entry_at}
 

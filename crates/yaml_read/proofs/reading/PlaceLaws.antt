@@ -1,25 +1,23 @@
 -- Placing a fault changes no answer, no place where a reading ends, and no fault of a limit.
-use Rattle.std.proofs.Common.{◌≡◌, ℕ, Bool, true, false, Result, Ok, Err, refl, sym, ap, ◌∙◌, Option, Some, None, zero}
-use Rattle.std.proofs.Common.{suc, ◌<◌, ◌-◌, arith}
-use Rattle.yaml_read.proofs.Words.{Position, PlainShape, PlainDocEvent, PlainRefusal, out_of_memory, refused, ran_out}
-use Rattle.yaml_read.proofs.Words.{TakenBy, Way, placed, place, places, Answer, Spot, Reading, Source, place_at}
-use Rattle.yaml_read.proofs.Words.{node_at, node_step, PlainData, Walk, Question, by_node, by_shape, by_step, early}
-use Rattle.yaml_read.proofs.Words.{seen, source_of, spot_of, with_end}
-use Rattle.std.specs.Option.{is_some}
-use Rattle.yaml_read.specs.declared.de.node.source.Source.{Source as CodeSource}
+use Rattle.yaml_read.proofs.Words.{◌≡◌, ℕ, Bool, true, false, Result, Ok, Err, refl, sym, ap, ◌∙◌, Option, Some, None}
+use Rattle.yaml_read.proofs.Words.{zero, suc, ◌<◌, ◌-◌, arith, Position, PlainShape, PlainDocEvent, PlainRefusal, Way}
+use Rattle.yaml_read.proofs.Words.{out_of_memory, refused, ran_out, TakenBy, placed, place, places, Answer, Spot, Walk}
+use Rattle.yaml_read.proofs.Words.{Reading, Source, place_at, node_at, node_step, PlainData, Question, by_node, by_step}
+use Rattle.yaml_read.proofs.Words.{by_shape, early, seen, source_of, spot_of, with_end, is_some, CodeSource}
 use Rattle.yaml_read.proofs.reading.Exits.{step_late}
 use Rattle.yaml_read.proofs.reading.Loops.{enough}
 use Rattle.yaml_read.proofs.reading.Steps.{IfData}
-use Rattle.yaml_read.proofs.reading.TreeWalks.{landed}
+use Rattle.yaml_read.proofs.reading.TreeWalks.{Lands, lands, refuses}
 
 module _ (here : Bool) (mark : Position) (way : Way) where
   -- both readers place alike
-  pub landed_place : {A : Type 0} (end : ℕ) (q : Reading A) (r : Answer A) → q ≡ landed end r → place here mark way q
-      ≡ landed end (place here mark way r)
-  landed_place end q (Ok x) e = rw e
-  landed_place end q (Err y) e = rw e
+  pub lands_place : {A : Type 0} {end : ℕ} {q : Reading A} {r : Answer A} → Lands end q r
+      → Lands end (place here mark way q) (place here mark way r)
+  lands_place (lands x left) = lands x left
+  lands_place (refuses y) = refuses _
 
-  pub data_place : {A : Type 0} (Q : A → Type 0) (r : Result A PlainRefusal) → IfData Q r → IfData Q (place here mark way r)
+  pub data_place : {A : Type 0} (Q : A → Type 0) (r : Result A PlainRefusal) → IfData Q r
+      → IfData Q (place here mark way r)
   data_place Q (Ok x) h y e = h y e
   data_place Q (Err z) h y e = absurd cc
 
@@ -51,9 +49,10 @@ module _ (way : Way) (s : PlainShape) (taken : Bool) where
   place_ok (Some e) x = refl
 
   -- a fault is placed at the node's first event, where the call for the shape places it
-  pub place_here : {A : Type 0} (o : Option (PlainDocEvent × Position)) (e : PlainDocEvent) (m : Position) (y : PlainRefusal)
-      → o ≡ Some (e, m)
-      → places s taken e ≡ true → ◌≡◌ {A = Result A PlainRefusal} (place_at way s taken o (Err y)) (Err (placed true m way y))
+  pub place_here : {A : Type 0} (o : Option (PlainDocEvent × Position)) (e : PlainDocEvent) (m : Position)
+      (y : PlainRefusal) → o ≡ Some (e, m)
+      → places s taken e ≡ true → ◌≡◌ {A = Result A PlainRefusal} (place_at way s taken o (Err y))
+      (Err (placed true m way y))
   place_here o e m y is p = rw (is, p)
 
   err_is : {A : Type 0} {x y : PlainRefusal} → ◌≡◌ {A = Result A PlainRefusal} (Err x) (Err y) → x ≡ y
@@ -90,8 +89,8 @@ node_refused code q walk fuel f y some h told m =
     ∙ place_moved q.way q.shape (is_some q.taken) (seen code.events.now walk.place) f y told
 
 pub node_refused_here : (code : CodeSource) (q : Question) (walk : Walk) (fuel : ℕ) (e : PlainDocEvent) (m : Position)
-    (f y : PlainRefusal) → 0 < fuel → seen code.events.now walk.place ≡ Some (e, m) → places q.shape (is_some q.taken) e ≡ true
-    → (ran_out f ≡ false → by_step code (fuel - 1) q walk ≡ Err f)
+    (f y : PlainRefusal) → 0 < fuel → seen code.events.now walk.place ≡ Some (e, m)
+    → places q.shape (is_some q.taken) e ≡ true → (ran_out f ≡ false → by_step code (fuel - 1) q walk ≡ Err f)
     → (ran_out y ≡ false → y ≡ placed true m q.way f) → ran_out y ≡ false → by_node code fuel q walk ≡ Err y
 node_refused_here code q walk fuel e m f y some is here h told known =
     node_refused code q walk fuel f y some h

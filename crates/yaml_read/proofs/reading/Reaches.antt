@@ -1,8 +1,7 @@
 -- How many optionals may follow one another from a shape.
-use Rattle.std.proofs.Common.{◌≡◌, ℕ, ◌<◌, ◌≤◌, List, Option, Some, ap, arith}
-use Rattle.yaml_read.proofs.Words.{PlainShape, option_shape, unit_shape, row_shape, fields_shape, of_variant, shape_at}
-use Rattle.yaml_read.proofs.Words.{content_shape, PlainVariant, unit_variant, newtype_variant, tuple_variant}
-use Rattle.yaml_read.proofs.Words.{struct_variant, rank, reach}
+use Rattle.yaml_read.proofs.Words.{◌≡◌, ℕ, ◌<◌, ◌≤◌, List, Some, ap, arith, PlainShape, option_shape, row_shape}
+use Rattle.yaml_read.proofs.Words.{unit_shape, fields_shape, of_variant, shape_at, content_shape, PlainVariant, rank}
+use Rattle.yaml_read.proofs.Words.{unit_variant, newtype_variant, tuple_variant, struct_variant, reach}
 
 -- walks through optionals end: how many may follow from a shape, by its number
 pub reach_rank : (table : List PlainShape) → ((id content : ℕ) → shape_at table id ≡ Some (option_shape content)
@@ -10,10 +9,6 @@ pub reach_rank : (table : List PlainShape) → ((id content : ℕ) → shape_at 
     → (id : ℕ) (s : PlainShape) → shape_at table id ≡ Some s → reach table s ≤ rank table id
 reach_rank table falls id (option_shape c) is = let less = falls id c is in omega arith
 reach_rank table falls id _ is = omega arith
-
--- shapes that are there are the same only where they are
-shape_is : (s t : PlainShape) → ◌≡◌ {A = Option PlainShape} (Some s) (Some t) → s ≡ t
-shape_is s t e = cc
 
 module _ (table : List PlainShape) (small : (id : ℕ) → rank table id ≤ 4096)
     (falls : (id content : ℕ) → shape_at table id ≡ Some (option_shape content)
@@ -25,10 +20,9 @@ module _ (table : List PlainShape) (small : (id : ℕ) → rank table id ≤ 409
   -- so does what a variant holds
   pub low_content : (name variant : List ℕ) (content : PlainVariant) (s : PlainShape)
       → content_shape table name variant content ≡ Some s → reach table s ≤ 4096
-  low_content name variant unit_variant s is = let e = ap (reach table) (shape_is unit_shape s is) in omega (arith, e)
+  low_content name variant unit_variant s is = let e : unit_shape ≡ s = cc in omega (arith, ap (reach table) e)
   low_content name variant (newtype_variant inner) s is = low inner s is
-  low_content name variant (tuple_variant items) s is = let e =
-      ap (reach table) (shape_is (row_shape (of_variant name variant) items) s is) in omega (arith, e)
+  low_content name variant (tuple_variant items) s is =
+      let e : row_shape (of_variant name variant) items ≡ s = cc in omega (arith, ap (reach table) e)
   low_content name variant (struct_variant strict fields) s is =
-      let e = ap (reach table) (shape_is (fields_shape strict (of_variant name variant) fields) s is) in
-      omega (arith, e)
+      let e : fields_shape strict (of_variant name variant) fields ≡ s = cc in omega (arith, ap (reach table) e)

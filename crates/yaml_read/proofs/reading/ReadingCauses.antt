@@ -1,9 +1,7 @@
 -- The causes that faults of reading are told as.
-use Rattle.std.proofs.Common.{◌≡◌, Option, Result, Err, false, refl, subst}
-use Rattle.std.specs.Prelude.{◌≢◌}
-use Rattle.yaml_read.proofs.Words.{is_memory, Cause, Place, PlainData, PlainRefusal, out_of_memory, refused, cause_of}
-use Rattle.yaml_read.proofs.Words.{ran_out, NodeFault, invalid_type, ReadFault, end_of_stream}
-use Rattle.yaml_read.proofs.Words.{at_node, node_cause, fault_cause}
+use Rattle.yaml_read.proofs.Words.{◌≡◌, Option, Result, Err, false, refl, subst, ◌≢◌, is_memory, Cause, Place}
+use Rattle.yaml_read.proofs.Words.{PlainData, PlainRefusal, out_of_memory, refused, cause_of, ran_out, NodeFault}
+use Rattle.yaml_read.proofs.Words.{invalid_type, ReadFault, end_of_stream, at_node, node_cause, fault_cause}
 use Rattle.yaml_read.proofs.Words.{IsNodeFault, IsReadingFault, cut_fault}
 use Rattle.yaml_read.proofs.reading.WholeReadings.{err_is}
 

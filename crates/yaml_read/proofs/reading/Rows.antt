@@ -1,10 +1,7 @@
 -- What becomes of a row's elements, by how many there are.
-use Rattle.std.proofs.Common.{◌≡◌, ℕ, zero, suc, ◌+◌, ◌<◌, ◌≤◌, Bool, true, false, List, [], ◌∷◌, length, Result}
-use Rattle.std.proofs.Common.{Ok, Err, refl, arith, ◌==◌}
-use Rattle.std.specs.Prelude.{if◌then◌else◌, drop}
-use Rattle.std.proofs.lemmas.Bool.{eqb-true}
-use Rattle.yaml_read.proofs.Words.{items_of, sequence_text, few_text, PlainData, tuple_data, Owner, ReadFault}
-use Rattle.yaml_read.proofs.Words.{wrong_length, row_end}
+use Rattle.yaml_read.proofs.Words.{◌≡◌, ℕ, zero, suc, ◌+◌, ◌<◌, Bool, true, false, List, [], ◌∷◌, length, Result, Ok}
+use Rattle.yaml_read.proofs.Words.{Err, refl, arith, ◌==◌, if◌then◌else◌, drop, eqb-true, items_of, sequence_text}
+use Rattle.yaml_read.proofs.Words.{few_text, PlainData, tuple_data, Owner, ReadFault, wrong_length, row_end}
 
 -- too few
 pub row_short : (owner : Owner) (count : ℕ) (ids : List ℕ) (vs : List PlainData) (extra i : ℕ) → i < length ids
@@ -15,12 +12,6 @@ row_short owner count [] vs extra i lt = absurd (below_none i lt)
     below_none i lt = omega arith
 row_short owner count (x ∷ xs) vs extra zero lt = refl
 row_short owner count (x ∷ xs) vs extra (suc i) lt = row_short owner count xs vs extra i (omega arith)
-
-pub drop_all : (xs : List ℕ) (i : ℕ) → length xs ≤ i → drop i xs ≡ []
-drop_all [] zero le = refl
-drop_all [] (suc i) le = refl
-drop_all (x ∷ xs) zero le = absurd (omega arith)
-drop_all (x ∷ xs) (suc i) le = drop_all xs i (omega arith)
 
 -- exactly as many as are asked for
 pub row_whole : (owner : Owner) (count : ℕ) (ids : List ℕ) (vs : List PlainData) (extra : ℕ) → ids ≡ [] → extra ≡ 0

@@ -1,13 +1,10 @@
 -- Events that show a tree.
-use Rattle.std.proofs.Common.{◌≡◌, ℕ, suc, ◌+◌, ◌<◌, List, [], ◌∷◌, ◌++◌, length, Option, Some, Bool, true, false, ◌==◌}
-use Rattle.std.proofs.Common.{cond, refl, ap, subst, ◌∙◌, arith, length-append, append_assoc}
-use Rattle.std.proofs.lemmas.Bool.{eqb-true}
-use Rattle.yaml_read.proofs.Words.{Position, PlainDocEvent, alias_to, a_scalar, sequence_begins, sequence_ends}
-use Rattle.yaml_read.proofs.Words.{mapping_begins, mapping_ends, a_void, DocNode, DocNodes, DocPairs, nothing}
-use Rattle.yaml_read.proofs.Words.{reference, word, list, mapping, no_nodes, node, events_of, events_of_nodes}
-use Rattle.yaml_read.proofs.Words.{events_of_pairs, numbered, numbered_nodes, numbered_pairs, with_number, node_of}
-use Rattle.yaml_read.proofs.Words.{first_event, is_closing, Events, is_sequence_end, is_mapping_end}
-use Rattle.yaml_load.specs.DocTree.{no_pairs, pair}
+use Rattle.yaml_read.proofs.Words.{◌≡◌, ℕ, suc, ◌+◌, ◌<◌, List, [], ◌∷◌, ◌++◌, length, Option, Some, Bool, true, false}
+use Rattle.yaml_read.proofs.Words.{◌==◌, cond, refl, ap, subst, ◌∙◌, arith, length-append, append_assoc, eqb-true}
+use Rattle.yaml_read.proofs.Words.{Position, PlainDocEvent, sequence_ends, mapping_ends, DocNode, DocNodes, DocPairs}
+use Rattle.yaml_read.proofs.Words.{nothing, list, mapping, no_nodes, node, events_of, events_of_nodes, events_of_pairs}
+use Rattle.yaml_read.proofs.Words.{numbered, numbered_nodes, numbered_pairs, with_number, node_of, first_event}
+use Rattle.yaml_read.proofs.Words.{is_closing, Events, is_sequence_end, is_mapping_end, no_pairs, pair}
 
 -- these events stand from a place on
 abbrev pub Shows : Events → ℕ → List PlainDocEvent → Type 0
@@ -40,13 +37,11 @@ all_append events (x ∷ xs) ys a b = (a.0, all_append events xs ys a.1 b)
 mutual
   pub numbers_shown : (n : DocNode) (events : Events) (i : ℕ) → Shows events i (events_of n)
       → AllShown events (numbered n i)
-  numbers_shown nothing events i s = (s, tt)
-  numbers_shown (reference j) events i s = (s, tt)
-  numbers_shown (word w) events i s = (s, tt)
   numbers_shown (list tag ns) events i s =
       (s, nodes_shown ns events (suc i) (shows_front events (suc i) (events_of_nodes ns) (sequence_ends ∷ []) s.1))
   numbers_shown (mapping tag ps) events i s =
       (s, pairs_shown ps events (suc i) (shows_front events (suc i) (events_of_pairs ps) (mapping_ends ∷ []) s.1))
+  numbers_shown _ events i s = (s, tt)
 
   pub nodes_shown : (ns : DocNodes) (events : Events) (i : ℕ) → Shows events i (events_of_nodes ns)
       → AllShown events (numbered_nodes ns i)
@@ -88,27 +83,32 @@ pub target_shown : (events : Events) (root : DocNode) (j : ℕ) (m : DocNode) �
     → node_of root j ≡ Some m → Shows events j (events_of m)
 target_shown events root j m s e = with_number_shown events j m (numbered root 0) (numbers_shown root events 0 s) e
 
--- a node begins with no end
-pub first_token : (n : DocNode) → (t : PlainDocEvent) × (ts : List PlainDocEvent) × (events_of n ≡ t ∷ ts)
-    × (is_sequence_end t ≡ false) × (is_mapping_end t ≡ false)
-first_token nothing = (a_void, [], refl, refl, refl)
-first_token (reference j) = (alias_to j, [], refl, refl, refl)
-first_token (word w) = (a_scalar w, [], refl, refl, refl)
-first_token (list tag ns) = (sequence_begins tag, events_of_nodes ns ++ sequence_ends ∷ [], refl, refl, refl)
-first_token (mapping tag ps) = (mapping_begins tag, events_of_pairs ps ++ mapping_ends ∷ [], refl, refl, refl)
+-- a node begins with its first event
+opening : (n : DocNode) → (ts : List PlainDocEvent) × (events_of n ≡ first_event n ∷ ts)
+opening (list tag ns) = (events_of_nodes ns ++ sequence_ends ∷ [], refl)
+opening (mapping tag ps) = (events_of_pairs ps ++ mapping_ends ∷ [], refl)
+opening _ = ([], refl)
 
-pub record Starts (events : Events) (p : ℕ) : Type 0 where
-  pub token : PlainDocEvent
-  pub mark : Position
-  pub shown : events p ≡ Some (token, mark)
-  pub no_sequence_end : is_sequence_end token ≡ false
-  pub no_mapping_end : is_mapping_end token ≡ false
+-- so it has an event, which is seen where the node is shown
+pub wide : (n : DocNode) → 0 < length (events_of n)
+wide n = omega (arith, ap (length {A = PlainDocEvent}) (opening n).1)
 
-pub starts : (events : Events) (p : ℕ) (n : DocNode) → Shows events p (events_of n) → Starts events p
-starts events p n s =
-    let f = first_token n in
-    let seen = subst (Shows events p) f.2 s in
-    record { token = f.0; mark = seen.0.0; shown = seen.0.1; no_sequence_end = f.3; no_mapping_end = f.4 }
+pub begins : (events : Events) (p : ℕ) (n : DocNode) → Shows events p (events_of n)
+    → (m : Position) × (events p ≡ Some (first_event n, m))
+begins events p n s = (subst (Shows events p) (opening n).1 s).0
+
+-- no node begins with an end
+pub opens : (n : DocNode) → is_closing (first_event n) ≡ false
+opens nothing = refl
+opens _ = refl
+
+pub no_sequence_end : (n : DocNode) → is_sequence_end (first_event n) ≡ false
+no_sequence_end nothing = refl
+no_sequence_end _ = refl
+
+pub no_mapping_end : (n : DocNode) → is_mapping_end (first_event n) ≡ false
+no_mapping_end nothing = refl
+no_mapping_end _ = refl
 
 -- the first of several nodes, and what stands behind it
 pub shows_node : (events : Events) (p : ℕ) (n : DocNode) (ns : DocNodes) (tail : List PlainDocEvent)
@@ -150,34 +150,17 @@ size_pair m n ps tail =
     ∙ ap (λ k. length (events_of m) + k) (ap (length {A = PlainDocEvent})
     (append_assoc (events_of n) (events_of_pairs ps) tail) ∙ length-append (events_of n) (events_of_pairs ps ++ tail))
 
--- a node has an event
-pub wide : (n : DocNode) → 0 < length (events_of n)
-wide nothing = omega arith
-wide (reference j) = omega arith
-wide (word w) = omega arith
-wide (list tag ns) = omega arith
-wide (mapping tag ps) = omega arith
-
--- the event that a node begins with is seen where it is shown
-pub begins : (events : Events) (p : ℕ) (n : DocNode) → Shows events p (events_of n)
-    → (m : Position) × (events p ≡ Some (first_event n, m))
-begins events p nothing s = s.0
-begins events p (reference j) s = s.0
-begins events p (word w) s = s.0
-begins events p (list tag ns) s = s.0
-begins events p (mapping tag ps) s = s.0
-
--- no node begins with an end
-pub opens : (n : DocNode) → is_closing (first_event n) ≡ false
-opens nothing = refl
-opens (reference j) = refl
-opens (word w) = refl
-opens (list tag ns) = refl
-opens (mapping tag ps) = refl
-
 -- what is shown lies within
 pub shows_within : (events : Events) (size : ℕ) (within : (p : ℕ) (e : PlainDocEvent × Position) → events p ≡ Some e
     → p < size) (p : ℕ) (t : PlainDocEvent) (ts : List PlainDocEvent) → Shows events p (t ∷ ts) → p + length ts < size
 shows_within events size within p t [] s = let here = within p _ s.0.1 in omega arith
 shows_within events size within p t (u ∷ ts) s = let rest = shows_within events size within (suc p) u ts s.1 in
     omega arith
+
+-- so does a node
+pub node_within : (events : Events) (size : ℕ) (within : (p : ℕ) (e : PlainDocEvent × Position) → events p ≡ Some e
+    → p < size) (p q : ℕ) (n : DocNode) → Shows events p (events_of n) → q + 1 ≡ p + length (events_of n) → q < size
+node_within events size within p q n s is =
+    let o = opening n in
+    let last = shows_within events size within p (first_event n) o.0 (subst (Shows events p) o.1 s) in
+    omega (arith, is, ap (length {A = PlainDocEvent}) o.1)

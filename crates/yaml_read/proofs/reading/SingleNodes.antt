@@ -1,31 +1,21 @@
 -- What a single node gives, from what its reading by places gives.
-use Rattle.std.proofs.Common.{◌≡◌, ℕ, ◌+◌, ◌*◌, ◌<◌, ◌≤◌, List, map, length, Option, Some, Ok, Err, Bool}
-use Rattle.std.proofs.Common.{true, false, refl, sym, ap, subst, ◌∙◌, arith}
-use Rattle.std.specs.Prelude.{slice_get}
-use Rattle.std.specs.Option.{is_some}
-use Rattle.std.proofs.lemmas.List.{length-map}
-use Rattle.std.proofs.lemmas.Option.{slice_get_within}
-use Rattle.yaml_read.proofs.Words.{Position, PlainData, PlainShape, option_shape, shape_at, rank, doc_event_of}
-use Rattle.yaml_read.proofs.Words.{marked_events_of, DocNode, events_of, node_of, ends_of, PlainDocument, DocEvent}
-use Rattle.yaml_read.proofs.Words.{PlainRefusal, cause_of, depth, reach, nesting_depth, untaken_reach, Means, TakenBy}
-use Rattle.yaml_read.proofs.Words.{ReadsNode, NodeGives, taker, node_answer, Way, IsTreeOf, Spot, Answer, marks_of}
-use Rattle.yaml_read.proofs.Words.{read_tree, value_told, NodePlace, Reading, node_at}
+use Rattle.yaml_read.proofs.Words.{◌≡◌, ℕ, ◌+◌, ◌*◌, ◌<◌, ◌≤◌, List, map, length, Option, Some, Ok, Err, Bool, true}
+use Rattle.yaml_read.proofs.Words.{false, refl, ap, subst, ◌∙◌, arith, slice_get, is_some, Position, PlainData}
+use Rattle.yaml_read.proofs.Words.{PlainShape, option_shape, shape_at, rank, marked_events_of, DocNode, events_of}
+use Rattle.yaml_read.proofs.Words.{node_of, ends_of, PlainDocument, DocEvent, PlainRefusal, cause_of, depth, reach}
+use Rattle.yaml_read.proofs.Words.{nesting_depth, Means, TakenBy, ReadsNode, NodeGives, taker, node_answer, Way}
+use Rattle.yaml_read.proofs.Words.{IsTreeOf, Spot, Answer, marks_of, read_tree, value_told, NodePlace, Reading, node_at}
 use Rattle.yaml_read.proofs.reading.Complete.{tree_outcome}
-use Rattle.yaml_read.proofs.reading.EndLaws.{node_ends}
 use Rattle.yaml_read.proofs.reading.Outcomes.{reads, deep, many}
-use Rattle.yaml_read.proofs.reading.Shown.{Shows, target_shown}
+use Rattle.yaml_read.proofs.reading.Shown.{target_shown}
 use Rattle.yaml_read.proofs.reading.Sound.{tree_sound}
-use Rattle.yaml_read.proofs.reading.TreeLaws.{reader_tied}
-use Rattle.yaml_read.proofs.reading.TreeWalks.{landed}
-use Rattle.yaml_read.proofs.reading.WholeReadings.{shows_list, whole_source, same_ok, landed_ok, landed_err}
+use Rattle.yaml_read.proofs.reading.TreeWalks.{Lands}
+use Rattle.yaml_read.proofs.reading.WholeReadings.{whole_source, tree_shown, document_tied, reach_small, seen_at}
+use Rattle.yaml_read.proofs.reading.WholeReadings.{same_ok, lands_at, lands_ok, lands_err}
 
 is_taken : (taken : Bool) → is_some (taker taken) ≡ taken
 is_taken true = refl
 is_taken false = refl
-
-reach_small : (taken : Bool) → untaken_reach taken ≤ 4100
-reach_small true = omega arith
-reach_small false = omega arith
 
 -- where a reading of a node starts
 abbrev spot_at : NodePlace → Spot
@@ -34,13 +24,6 @@ spot_at at = record { place = at.place; left = at.follows }
 -- a fuel that is enough
 abbrev fuel_at : NodePlace → ℕ
 fuel_at at = nesting_depth * (at.follows + at.nestings + 1)
-
-landed_place : (p : ℕ) (r : Answer PlainData) (v : PlainData) (next : Spot) → landed p r ≡ Ok (v, next)
-    → (r ≡ Ok (v, next.left)) × (next.place ≡ p)
-landed_place p (Ok x) v next h =
-    let same = same_ok _ _ h in
-    (ap (λ (y : PlainData × Spot). Ok (y.0, y.1.left)) same, sym (ap (λ (y : PlainData × Spot). y.1.place) same))
-landed_place p (Err y) v next h = absurd cc
 
 module _ (table : List PlainShape) (s : PlainShape) (document : PlainDocument) (way : Way) (at : NodePlace) where
   -- the reading of the node by places
@@ -61,10 +44,8 @@ module _ (table : List PlainShape) (s : PlainShape) (document : PlainDocument) (
       }) fuel way s at.nestings around (spot_at at) ≡ r)
       → node_reading ≡ r
   seen_node es ends r around is small seen numbers gives =
-      let size : length es ≡ length document.events = sym (length-map es (λ e. (doc_event_of e.0, e.1)))
-      ∙ ap length seen in
-      let same = gives (fuel_at at) (omega (arith, small, reach_small (is_some around))) in
-      rw (seen, size, numbers, is) at same
+      subst (λ t. node_at (whole_source table document) (fuel_at at) way s at.nestings t (spot_at at) ≡ r) is
+      (seen_at table s small document es ends way at.nestings around (spot_at at) r seen numbers gives)
 
   module _ (root n : DocNode) (is : IsTreeOf document root) (there : node_of root at.place ≡ Some n) where
     -- the reading of the node in its tree
@@ -73,26 +54,23 @@ module _ (table : List PlainShape) (s : PlainShape) (document : PlainDocument) (
         (spot_at at)
 
     -- what reading by places answers is what reading in the tree answers
-    tied : node_reading ≡ landed (at.place + length (events_of n)) in_tree
+    tied : Lands (at.place + length (events_of n)) node_reading in_tree
     tied =
-        let shown = subst (Shows (slice_get document.events) 0) is.events (shows_list document.events) in
-        reader_tied (whole_source table document) (λ p e. slice_get_within document.events p e)
-        (node_ends document.events) (marks_of document.events) (λ p. refl) root shown is.known
-        (fuel_at at) way s at.nestings (taker at.tag_taken) n (spot_at at)
-        (target_shown (slice_get document.events) root at.place n shown there)
+        document_tied table document root is (fuel_at at) way s at.nestings (taker at.tag_taken) n (spot_at at)
+        (target_shown (slice_get document.events) root at.place n (tree_shown table document root is) there)
 
     value_is : (v : PlainData) (next : Spot) → node_reading ≡ Ok (v, next)
         → Ok v ≡ node_answer table s document way at root n
-    value_is v next h = sym (landed_ok _ in_tree v next (sym tied ∙ h))
+    value_is v next h = lands_ok tied v next h
 
     fault_is : (y : PlainRefusal) → node_reading ≡ Err y → Err (cause_of y) ≡ node_answer table s document way at root n
-    fault_is y h = sym (landed_err _ in_tree y (sym tied ∙ h))
+    fault_is y h = lands_err tied y h
 
     read_is : (v : PlainData) (next : Spot) (new : NodePlace) → node_reading ≡ Ok (v, next)
         → new.place ≡ next.place → new.follows ≡ next.left → new.nestings ≡ at.nestings → new.tag_taken ≡ at.tag_taken
         → ReadsNode table s root n at new v
     read_is v next new h place left nested taken =
-        let l = landed_place _ in_tree v next (sym tied ∙ h) in
+        let l = lands_at tied v next h in
         let f = tree_sound table root (marks_of document.events) (fuel_at at) way s at.nestings (taker at.tag_taken) n
         (spot_at at) (v, next.left) l.0 in
         record {

@@ -1,10 +1,8 @@
 -- Data is read of an event that stands there.
-use Rattle.std.proofs.Common.{◌≡◌, ℕ, zero, suc, Option, Some, None, Ok, Err, Bool, false}
-use Rattle.std.proofs.Common.{refl, Result, ◌+◌}
-use Rattle.std.specs.Option.{is_some}
-use Rattle.yaml_read.proofs.Words.{Position, PlainData, PlainShape, PlainDocEvent, alias_to, ReadFault, PlainRefusal}
-use Rattle.yaml_read.proofs.Words.{◌>>=◌, unless, early, TakenBy, Way, Spot, Reading, Source, pursue, place_at}
-use Rattle.yaml_read.proofs.Words.{text_at, shape_step, node_at}
+use Rattle.yaml_read.proofs.Words.{◌≡◌, ℕ, zero, suc, Option, Some, None, Ok, Err, Bool, false, refl, Result, ◌+◌}
+use Rattle.yaml_read.proofs.Words.{is_some, Position, PlainData, PlainShape, PlainDocEvent, alias_to, ReadFault}
+use Rattle.yaml_read.proofs.Words.{PlainRefusal, ◌>>=◌, unless, early, TakenBy, Way, Spot, Reading, Source, pursue}
+use Rattle.yaml_read.proofs.Words.{place_at, text_at, shape_step, node_at}
 use Rattle.yaml_shape.specs.PlainShape as shape
 
 -- a lookup that finds an event

@@ -1,7 +1,7 @@
 -- What the steps of a reading answer: what holds of their data.
-use Rattle.std.proofs.Common.{◌≡◌, ℕ, zero, suc, Some, None, Option, Result, Ok, Err, refl, subst}
-use Rattle.yaml_read.proofs.Words.{Position, PlainShape, ReadFault, PlainRefusal, refused, ◌>>=◌, ending, wrap, enter}
-use Rattle.yaml_read.proofs.Words.{follow, finish, with_shape, unless}
+use Rattle.yaml_read.proofs.Words.{◌≡◌, ℕ, zero, suc, Some, None, Option, Result, Ok, Err, refl, subst, Position}
+use Rattle.yaml_read.proofs.Words.{PlainShape, ReadFault, PlainRefusal, refused, ◌>>=◌, ending, wrap, enter, follow}
+use Rattle.yaml_read.proofs.Words.{finish, with_shape, unless}
 
 -- this holds of the answer, if it is one
 abbrev pub IfData : {E A : Type 0} → (A → Type 0) → Result A E → Type 0
@@ -38,8 +38,8 @@ module _ {A : Type 0} where
   data_enter Q (suc n) mark go h = h n refl
 
   -- an alias that is followed
-  pub data_follow : (Q : A → Type 0) (left : ℕ) (go : ℕ → Result A PlainRefusal) → ((n : ℕ) → left ≡ suc n → IfData Q (go n))
-      → IfData Q (follow left go)
+  pub data_follow : (Q : A → Type 0) (left : ℕ) (go : ℕ → Result A PlainRefusal) → ((n : ℕ) → left ≡ suc n
+      → IfData Q (go n)) → IfData Q (follow left go)
   data_follow Q zero go h = data_err Q _
   data_follow Q (suc n) go h = h n refl
 
@@ -57,8 +57,8 @@ module _ {A : Type 0} where
   data_unless Q (Some e) r h = data_err Q (refused e)
 
   -- an answer with where the reading ended
-  pub data_ending : {C : Type 0} (Q : A × C → Type 0) (end : C) (r : Result A ReadFault) → ((v : A) → r ≡ Ok v → Q (v, end))
-      → IfData Q (ending end r)
+  pub data_ending : {C : Type 0} (Q : A × C → Type 0) (end : C) (r : Result A ReadFault) → ((v : A) → r ≡ Ok v
+      → Q (v, end)) → IfData Q (ending end r)
   data_ending Q end (Err e) h = data_err Q (refused e)
   data_ending Q end (Ok v) h = data_ok Q (v, end) (h v refl)
 

@@ -1,27 +1,25 @@
 -- A tree is read to its end: with fuel that is enough it answers data or a fault of reading, never want of memory.
-use Rattle.std.proofs.Common.{◌≡◌, ℕ, zero, suc, ◌+◌, ◌*◌, ◌<◌, ◌≤◌, List, [], ◌∷◌, ◌++◌, length, Option, Some, None}
-use Rattle.std.proofs.Common.{Ok, Bool, refl, ap, subst, arith, All, IfSome, set}
-use Rattle.std.specs.Option.{is_some}
-use Rattle.std.proofs.lemmas.List.Elements.{All-head, All-tail, All-nil}
-use Rattle.yaml_read.proofs.Words.{Position, Place, items_of, entries_of, PlainData, any_data, variant_data, seq_data}
-use Rattle.yaml_read.proofs.Words.{map_data, some_data, newtype_data, ignored_data, PlainShape, shape_at, content_shape}
-use Rattle.yaml_read.proofs.Words.{AllNameWithin, NamesWithin, numbers_of, rank, sequence, tagged, DocNode, DocNodes}
-use Rattle.yaml_read.proofs.Words.{DocPairs, nothing, reference, word, list, mapping, node_of, first_event}
-use Rattle.yaml_read.proofs.Words.{scalar_answer, void_answer, tree_in, trees_in, pairs_in, Fields, Slots, no_slots}
-use Rattle.yaml_read.proofs.Words.{name_in, field_named, field_step, struct_of, Handing, as_is, as_some, as_newtype}
-use Rattle.yaml_read.proofs.Words.{as_ignored, as_bare, as_variant, as_tagged, as_refused, early, handed, depth, reach}
-use Rattle.yaml_read.proofs.Words.{untaken_reach, TakenBy, around_value, Way, element_under, value_under, places, Row}
-use Rattle.yaml_read.proofs.Words.{row_of, row_step, row_data, Spot, Answer, TreeReader, after, each_node, each_pair}
-use Rattle.yaml_read.proofs.Words.{item_of, key_of, value_of, any_key_of, field_key, field_value, target_of, row_part}
-use Rattle.yaml_read.proofs.Words.{row_by, fields_by, sequence_of, mapping_of, node_by, handed_by, read_tree}
+use Rattle.yaml_read.proofs.Words.{◌≡◌, ℕ, zero, suc, ◌+◌, ◌*◌, ◌<◌, ◌≤◌, List, [], ◌∷◌, ◌++◌, length, Option, Some}
+use Rattle.yaml_read.proofs.Words.{None, Ok, Bool, refl, ap, subst, arith, All, IfSome, set, is_some, All-head}
+use Rattle.yaml_read.proofs.Words.{All-tail, All-nil, Position, Place, items_of, entries_of, PlainData, any_data}
+use Rattle.yaml_read.proofs.Words.{variant_data, seq_data, map_data, some_data, newtype_data, ignored_data, PlainShape}
+use Rattle.yaml_read.proofs.Words.{shape_at, content_shape, AllNameWithin, NamesWithin, numbers_of, rank, sequence}
+use Rattle.yaml_read.proofs.Words.{tagged, DocNode, DocNodes, DocPairs, nothing, reference, word, list, mapping}
+use Rattle.yaml_read.proofs.Words.{node_of, first_event, scalar_answer, void_answer, tree_in, trees_in, pairs_in}
+use Rattle.yaml_read.proofs.Words.{Fields, Slots, no_slots, name_in, field_named, field_step, struct_of, Handing, as_is}
+use Rattle.yaml_read.proofs.Words.{as_some, as_newtype, as_ignored, as_bare, as_variant, as_tagged, as_refused, early}
+use Rattle.yaml_read.proofs.Words.{handed, depth, reach, untaken_reach, TakenBy, around_value, Way, element_under}
+use Rattle.yaml_read.proofs.Words.{value_under, places, Row, row_of, row_step, row_data, Spot, Answer, TreeReader}
+use Rattle.yaml_read.proofs.Words.{after, item_of, key_of, value_of, any_key_of, field_key, field_value, target_of}
+use Rattle.yaml_read.proofs.Words.{row_part, sequence_of, mapping_of, handed_by, read_tree}
+use Rattle.yaml_scalar.proofs.VariantCode.{content_all}
 use Rattle.yaml_shape.specs.PlainShape as shape
 use Rattle.yaml_tree.specs.Tree as tree
-use Rattle.yaml_scalar.proofs.VariantCode.{content_all}
 use Rattle.yaml_read.proofs.FieldLaws.{named_found}
 use Rattle.yaml_read.proofs.reading.Handings.{From, handed_from}
 use Rattle.yaml_read.proofs.reading.Reaches.{reach_rank}
-use Rattle.yaml_read.proofs.reading.TreeEnds.{Ends, ends_value, ends_fault, Any, ends_wrap, ends_pure, ends_finish}
-use Rattle.yaml_read.proofs.reading.TreeEnds.{ends_enter, ends_follow, ends_with, ends_unless, ends_place}
+use Rattle.yaml_read.proofs.reading.TreeEnds.{Ends, ends_value, ends_fault, Any, ends_wrap, ends_map, ends_pure}
+use Rattle.yaml_read.proofs.reading.TreeEnds.{ends_finish, ends_enter, ends_follow, ends_with, ends_unless, ends_place}
 use Rattle.yaml_read.proofs.reading.TreeEnds.{ends_nodes, ends_pairs}
 use Rattle.yaml_read.proofs.reading.Within.{find_all, looked, there, content_there}
 
@@ -64,28 +62,18 @@ module _ (table : List PlainShape) (root : DocNode) (marks : ℕ → Position) (
         (skip : Answer PlainData) → All IsIn ids → ((id : ℕ) → IsIn id → Ends Any left (go id)) → Ends Any left skip
         → Ends RowIn left (row_step ids vs extra go skip)
     step_ends [] vs extra left go skip a h k =
-        ends_wrap Any RowIn left (λ v. record { left = []; read = vs; extra = extra + 1 }) skip k (λ x p. a)
+        ends_wrap (λ v. record { left = []; read = vs; extra = extra + 1 }) k (λ x p. a)
     step_ends (id ∷ ids) vs extra left go skip a h k =
-        ends_wrap Any RowIn left (λ v. record { left = ids; read = vs ++ v ∷ []; extra = extra }) (go id)
+        ends_wrap (λ v. record { left = ids; read = vs ++ v ∷ []; extra = extra })
         (h id (All-head IsIn id ids a)) (λ x p. All-tail IsIn id ids a)
 
     row_part_ends : (nest most : ℕ) → 8200 * (most + nest) + 8196 < fuel → (row : Row) (n : DocNode) (at : Spot)
         → at.left ≤ most → RowIn row → Ends RowIn at.left (row_part table read way nest row n at)
     row_part_ends nest most enough row n at few a =
         step_ends row.left row.read row.extra at.left _ (Ok (ignored_data, at.left)) a
-        (λ id lt. ends_with Any at.left (shape_at table id) (shown id lt).0 _ (shown id lt).1
+        (λ id lt. ends_with (shape_at table id) _ (shown id lt).1
         (part_ends (element_under way (length row.read)) id nest most n at lt enough few))
         (ends_value ignored_data at.left (omega arith) tt)
-
-    row_ends : (owner : shape.Owner) (ids : List ℕ) (nest : ℕ) (mark : Position) (ns : DocNodes) (at : Spot)
-        → All IsIn ids → 8200 * (at.left + nest) < suc fuel → Ends Any at.left (row_by table read way owner ids nest mark ns at)
-    row_ends owner ids nest mark ns at a lt =
-        ends_enter Any at.left nest mark _ (λ n is.
-        ends_finish RowIn Any at.left (row_data owner (length ids))
-        (each_node (row_part table read way n) (row_of ids) ns at)
-        (ends_nodes RowIn at.left (row_part table read way n)
-        (row_part_ends n at.left (omega (arith, lt, is))) (row_of ids) ns at (omega arith) a)
-        (λ s x e. tt))
 
     -- ---- fields
     abbrev KeyIn : Option (ℕ × ℕ) × Way → Type 0
@@ -102,68 +90,44 @@ module _ (table : List PlainShape) (root : DocNode) (marks : ℕ → Position) (
         → 8200 * (most + nest) + 8196 < fuel → (slots : Slots) (m : DocNode) (at : Spot) → at.left ≤ most → Any slots
         → Ends KeyIn at.left (field_key read marks way strict fields nest slots m at)
     field_key_ends strict fields nest most a enough slots m at few ok =
-        ends_finish Any KeyIn at.left _ (read way shape.identifier_shape nest None m at)
-        (plain_ends way shape.identifier_shape nest most m at (All-nil IsIn) refl enough few)
+        ends_finish _ (plain_ends way shape.identifier_shape nest most m at (All-nil IsIn) refl enough few)
         (λ k x e. key_in strict fields slots (name_in k) _ a x.0
         (looked (field_named strict fields slots (name_in k) _) (value_under way (first_event m)) x e))
 
     value_step : (slots : Slots) (o : Option (ℕ × ℕ)) (left : ℕ) (go : ℕ → Answer PlainData) (skip : Answer PlainData)
         → IfSome o (λ f. IsIn f.1) → ((id : ℕ) → IsIn id → Ends Any left (go id)) → Ends Any left skip
         → Ends Any left (field_step slots o go skip)
-    value_step slots None left go skip a h k = ends_wrap Any Any left (λ v. slots) skip k (λ x p. tt)
-    value_step slots (Some f) left go skip a h k =
-        ends_wrap Any Any left (λ v. set slots f.0 (Some v)) (go f.1) (h f.1 a) (λ x p. tt)
+    value_step slots None left go skip a h k = ends_map (λ v. slots) k
+    value_step slots (Some f) left go skip a h k = ends_map (λ v. set slots f.0 (Some v)) (h f.1 a)
 
     field_value_ends : (nest most : ℕ) → 8200 * (most + nest) + 8196 < fuel → (slots : Slots)
         (k : Option (ℕ × ℕ) × Way) (n : DocNode) (at : Spot) → at.left ≤ most → Any slots → KeyIn k
         → Ends Any at.left (field_value table read nest slots k n at)
     field_value_ends nest most enough slots k n at few ok a =
         value_step slots k.0 at.left _ (Ok (ignored_data, at.left)) a
-        (λ id lt. ends_with Any at.left (shape_at table id) (shown id lt).0 _ (shown id lt).1
-        (part_ends k.1 id nest most n at lt enough few))
+        (λ id lt. ends_with (shape_at table id) _ (shown id lt).1 (part_ends k.1 id nest most n at lt enough few))
         (ends_value ignored_data at.left (omega arith) tt)
 
-    fields_ends : (strict : Bool) (fields : Fields) (nest : ℕ) (mark : Position) (ps : DocPairs) (at : Spot)
-        → All IsIn (numbers_of fields) → 8200 * (at.left + nest) < suc fuel
-        → Ends Any at.left (fields_by table read marks way strict fields nest mark ps at)
-    fields_ends strict fields nest mark ps at a lt =
-        ends_enter Any at.left nest mark _ (λ n is.
-        ends_finish Any Any at.left (struct_of table fields)
-        (each_pair (field_key read marks way strict fields n) (field_value table read n) (no_slots fields) ps at)
-        (ends_pairs Any at.left KeyIn (field_key read marks way strict fields n) (field_value table read n)
-        (field_key_ends strict fields n at.left a (omega (arith, lt, is)))
-        (field_value_ends n at.left (omega (arith, lt, is))) (no_slots fields) ps at (omega arith) tt)
-        (λ s x e. tt))
-
     -- ---- collections
-    item_ends : (w : Way) (s : PlainShape) (nest : ℕ) (vs : List PlainData) (n : DocNode) (at : Spot)
-        → Ends Any at.left (read (element_under w (length vs)) s nest None n at)
-        → Ends Any at.left (item_of read w s nest vs n at)
-    item_ends w s nest vs n at h = ends_wrap Any Any at.left (λ v. vs ++ v ∷ []) _ h (λ x p. tt)
-
     sequence_ends : (s : PlainShape) (nest : ℕ) (mark : Position) (ns : DocNodes) (at : Spot)
         → NamesWithin (length table) s → 8200 * (at.left + nest) < suc fuel
         → Ends Any at.left (sequence_of table read way s nest mark ns at)
     sequence_ends (shape.seq_shape e) nest mark ns at names lt =
         let within = All-head IsIn e [] names in
         let t = shown e within in
-        ends_enter Any at.left nest mark _ (λ n is.
-        ends_with Any at.left (shape_at table e) t.0 _ t.1
-        (ends_wrap Any Any at.left (λ vs. seq_data (items_of vs)) _
-        (ends_nodes Any at.left (item_of read way t.0 n)
-        (λ vs m to few ok. item_ends way t.0 n vs m to
+        ends_enter nest mark _ (λ n is. ends_with (shape_at table e) _ t.1 (ends_map (λ vs. seq_data (items_of vs))
+        (ends_nodes Any at.left (item_of read way t.0 n) (λ vs m to few ok. ends_map (λ v. vs ++ v ∷ [])
         (part_ends (element_under way (length vs)) e n at.left m to within (omega (arith, lt, is)) few))
-        [] ns at (omega arith) tt) (λ x p. tt)))
+        [] ns at (omega arith) tt)))
     sequence_ends (shape.row_shape owner ids) nest mark ns at names lt =
-        row_ends owner ids nest mark ns at names lt
+        ends_enter nest mark _ (λ n is. ends_finish (row_data owner (length ids))
+        (ends_nodes RowIn at.left (row_part table read way n) (row_part_ends n at.left (omega (arith, lt, is)))
+        (row_of ids) ns at (omega arith) names) (λ s x e. tt))
     sequence_ends shape.any_shape nest mark ns at names lt =
-        ends_enter Any at.left nest mark _ (λ n is.
-        ends_wrap Any Any at.left (λ vs. any_data (sequence (trees_in (items_of vs)))) _
-        (ends_nodes Any at.left (item_of read way shape.any_shape n)
-        (λ vs m to few ok. item_ends way shape.any_shape n vs m to
+        ends_enter nest mark _ (λ n is. ends_map (λ vs. any_data (sequence (trees_in (items_of vs))))
+        (ends_nodes Any at.left (item_of read way shape.any_shape n) (λ vs m to few ok. ends_map (λ v. vs ++ v ∷ [])
         (plain_ends (element_under way (length vs)) shape.any_shape n at.left m to names refl (omega (arith, lt, is))
-        few))
-        [] ns at (omega arith) tt) (λ x p. tt))
+        few)) [] ns at (omega arith) tt))
     sequence_ends s nest mark ns at names lt = ends_fault _
 
     mapping_ends : (s : PlainShape) (nest : ℕ) (mark : Position) (ps : DocPairs) (at : Spot)
@@ -174,28 +138,26 @@ module _ (table : List PlainShape) (root : DocNode) (marks : ℕ → Position) (
         let value = All-head IsIn b [] (All-tail IsIn a (b ∷ []) names) in
         let t = shown a key in
         let u = shown b value in
-        ends_enter Any at.left nest mark _ (λ n is.
-        ends_with Any at.left (shape_at table a) t.0 _ t.1
-        (ends_with Any at.left (shape_at table b) u.0 _ u.1
-        (ends_wrap Any Any at.left (λ vs. map_data (entries_of vs)) _
+        ends_enter nest mark _ (λ n is. ends_with (shape_at table a) _ t.1 (ends_with (shape_at table b) _ u.1
+        (ends_map (λ vs. map_data (entries_of vs))
         (ends_pairs Any at.left Any (key_of read way t.0 n) (value_of read u.0 n)
-        (λ vs m to few ok. ends_wrap Any Any to.left (λ k. (value_under way (first_event m), k)) _
-        (part_ends way a n at.left m to key (omega (arith, lt, is)) few) (λ x p. tt))
-        (λ vs k m to few ok p. ends_wrap Any Any to.left (λ v. vs ++ (k.1, v) ∷ []) _
-        (part_ends k.0 b n at.left m to value (omega (arith, lt, is)) few) (λ x p. tt))
-        [] ps at (omega arith) tt) (λ x p. tt))))
+        (λ vs m to few ok. ends_map (λ k. (value_under way (first_event m), k))
+        (part_ends way a n at.left m to key (omega (arith, lt, is)) few))
+        (λ vs k m to few ok p. ends_map (λ v. vs ++ (k.1, v) ∷ [])
+        (part_ends k.0 b n at.left m to value (omega (arith, lt, is)) few)) [] ps at (omega arith) tt))))
     mapping_ends (shape.fields_shape strict owner fields) nest mark ps at names lt =
-        fields_ends strict fields nest mark ps at names lt
+        ends_enter nest mark _ (λ n is. ends_finish (struct_of table fields)
+        (ends_pairs Any at.left KeyIn (field_key read marks way strict fields n) (field_value table read n)
+        (field_key_ends strict fields n at.left names (omega (arith, lt, is)))
+        (field_value_ends n at.left (omega (arith, lt, is))) (no_slots fields) ps at (omega arith) tt) (λ s x e. tt))
     mapping_ends shape.any_shape nest mark ps at names lt =
-        ends_enter Any at.left nest mark _ (λ n is.
-        ends_wrap Any Any at.left (λ vs. any_data (tree.mapping (pairs_in (entries_of vs)))) _
+        ends_enter nest mark _ (λ n is. ends_map (λ vs. any_data (tree.mapping (pairs_in (entries_of vs))))
         (ends_pairs Any at.left Any (any_key_of read way n) (value_of read shape.any_shape n)
-        (λ vs m to few ok. ends_finish Any Any to.left _ (read way shape.any_shape n None m to)
-        (plain_ends way shape.any_shape n at.left m to names refl (omega (arith, lt, is)) few)
-        (λ s x e. tt))
-        (λ vs k m to few ok p. ends_wrap Any Any to.left (λ v. vs ++ (k.1, v) ∷ []) _
-        (plain_ends k.0 shape.any_shape n at.left m to names refl (omega (arith, lt, is)) few) (λ x p. tt))
-        [] ps at (omega arith) tt) (λ x p. tt))
+        (λ vs m to few ok. ends_finish _
+        (plain_ends way shape.any_shape n at.left m to names refl (omega (arith, lt, is)) few) (λ s x e. tt))
+        (λ vs k m to few ok p. ends_map (λ v. vs ++ (k.1, v) ∷ [])
+        (plain_ends k.0 shape.any_shape n at.left m to names refl (omega (arith, lt, is)) few))
+        [] ps at (omega arith) tt))
     mapping_ends s nest mark ps at names lt = ends_fault _
 
     -- ---- nodes
@@ -206,41 +168,32 @@ module _ (table : List PlainShape) (root : DocNode) (marks : ℕ → Position) (
     target_ends s nest j left (Some n) names short enough =
         ends way s nest None n (record { place = j; left = left }) names short (omega (arith, short, enough))
 
-    node_ends : (s : PlainShape) (nest : ℕ) (taken : Option TakenBy) (n : DocNode) (at : Spot)
-        → NamesWithin (length table) s → reach table s ≤ 4096
-        → depth table s (is_some taken) nest at.left < suc fuel
-        → Ends Any at.left (node_by table read way root marks s nest taken n at)
-    node_ends s nest taken nothing at names short lt = ends_pure at.left (void_answer s)
-    node_ends s nest taken (reference j) at names short lt =
-        ends_follow Any at.left (target_of (read way) s nest (node_of root j) j)
-        (λ l is. target_ends s nest j l (node_of root j) names short (omega (arith, lt, is)))
-    node_ends s nest taken (word w) at names short lt =
-        ends_pure at.left (scalar_answer s (is_some taken) w)
-    node_ends s nest taken (list tag ns) at names short lt =
-        sequence_ends s nest (marks at.place) ns (after at) names (omega (arith, lt))
-    node_ends s nest taken (mapping tag ps) at names short lt =
-        mapping_ends s nest (marks at.place) ps (after at) names (omega (arith, lt))
-
     handed_ends : (h : Handing) (s : PlainShape) (nest : ℕ) (taken : Option TakenBy) (n : DocNode) (at : Spot)
         → From s (is_some taken) (first_event n) h → NamesWithin (length table) s → reach table s ≤ 4096
         → depth table s (is_some taken) nest at.left < suc fuel
         → Ends Any at.left (handed_by table h read way root marks s nest taken n at)
-    handed_ends as_is s nest taken n at from names short lt = node_ends s nest taken n at names short lt
+    handed_ends as_is s nest taken nothing at from names short lt = ends_pure at.left (void_answer s)
+    handed_ends as_is s nest taken (reference j) at from names short lt =
+        ends_follow at.left (target_of (read way) s nest (node_of root j) j)
+        (λ l is. target_ends s nest j l (node_of root j) names short (omega (arith, lt, is)))
+    handed_ends as_is s nest taken (word w) at from names short lt =
+        ends_pure at.left (scalar_answer s (is_some taken) w)
+    handed_ends as_is s nest taken (list tag ns) at from names short lt =
+        sequence_ends s nest (marks at.place) ns (after at) names (omega (arith, lt))
+    handed_ends as_is s nest taken (mapping tag ps) at from names short lt =
+        mapping_ends s nest (marks at.place) ps (after at) names (omega (arith, lt))
     handed_ends (as_some c) s nest taken n at from names short lt =
         let within = All-head IsIn c [] (subst (NamesWithin (length table)) from names) in
         let t = shown c within in
         let less : reach table s ≡ rank table c + 1 = ap (reach table) from in
         let below = reach_rank table falls c t.0 t.1 in
-        ends_with Any at.left (shape_at table c) t.0 _ t.1
-        (ends_wrap Any Any at.left some_data _ (ends way t.0 nest taken n at t.2 t.3
-        (omega (arith, less, below, lt))) (λ x p. tt))
+        ends_with (shape_at table c) _ t.1
+        (ends_map some_data (ends way t.0 nest taken n at t.2 t.3 (omega (arith, less, below, lt))))
     handed_ends (as_newtype c) s nest taken n at from names short lt =
         let within = All-head IsIn c [] (subst (NamesWithin (length table)) from.1 names) in
         let t = shown c within in
-        ends_enter Any at.left nest (marks at.place) _ (λ m is.
-        ends_with Any at.left (shape_at table c) t.0 _ t.1
-        (ends_wrap Any Any at.left newtype_data _ (ends way t.0 m taken n at t.2 t.3
-        (omega (arith, t.3, is, lt))) (λ x p. tt)))
+        ends_enter nest (marks at.place) _ (λ m is. ends_with (shape_at table c) _ t.1
+        (ends_map newtype_data (ends way t.0 m taken n at t.2 t.3 (omega (arith, t.3, is, lt)))))
     handed_ends as_ignored s nest taken n at from names short lt = ends_value ignored_data at.left (omega arith) tt
     handed_ends (as_bare fields) s nest taken n at from names short lt =
         ends_pure at.left (struct_of table fields (no_slots fields))
@@ -249,16 +202,15 @@ module _ (table : List PlainShape) (root : DocNode) (marks : ℕ → Position) (
         let t = content_there table small falls closed around.name around.variant content
         (content_all IsIn from.0 around.variant (place, content) from.2 all) in
         let untaken : untaken_reach (is_some taken) ≡ 4100 = ap untaken_reach from.3 in
-        ends_with Any at.left (content_shape table around.name around.variant content) t.0 _ t.1
-        (ends_wrap Any Any at.left (variant_data place) _ (ends way t.0 nest (Some around) n at t.2 t.3
-        (omega (arith, t.3, untaken, lt))) (λ x p. tt))
+        ends_with (content_shape table around.name around.variant content) _ t.1
+        (ends_map (variant_data place) (ends way t.0 nest (Some around) n at t.2 t.3
+        (omega (arith, t.3, untaken, lt))))
     handed_ends (as_tagged name) s nest taken n at from names short lt =
         let untaken : untaken_reach (is_some taken) ≡ 4100 = ap untaken_reach from.1 in
-        ends_wrap Any Any at.left (λ v. any_data (tagged name (tree_in v))) _
+        ends_map (λ v. any_data (tagged name (tree_in v)))
         (ends way shape.any_shape nest (Some around_value) n at (All-nil IsIn) (omega arith)
-        (omega (arith, untaken, lt))) (λ x p. tt)
-    handed_ends as_refused s nest taken n at from names short lt =
-        ends_fault _
+        (omega (arith, untaken, lt)))
+    handed_ends as_refused s nest taken n at from names short lt = ends_fault _
 
   -- a node
   pub tree_ends : (fuel : ℕ) (way : Way) (s : PlainShape) (nest : ℕ) (taken : Option TakenBy) (n : DocNode) (at : Spot)
@@ -267,8 +219,7 @@ module _ (table : List PlainShape) (root : DocNode) (marks : ℕ → Position) (
   unfolding read_tree
   tree_ends zero way s nest taken n at names short lt = absurd (omega arith)
   tree_ends (suc fuel) way s nest taken n at names short lt =
-      ends_place Any at.left (places s (is_some taken) (first_event n)) (marks at.place) way _
-      (ends_unless Any at.left (early s) _
+      ends_place (places s (is_some taken) (first_event n)) (marks at.place) way (ends_unless (early s)
       (handed_ends fuel (read_tree table fuel root marks) (tree_ends fuel) way
       (handed s (is_some taken) (first_event n)) s nest taken n at (handed_from s (is_some taken) (first_event n)) names
       short lt))

@@ -1,24 +1,21 @@
 -- Where events show a node, reading it by its place answers what reading the tree answers, and ends behind the node.
-use Rattle.std.proofs.Common.{◌≡◌, ℕ, zero, suc, ◌+◌, ◌<◌, [], ◌∷◌, ◌++◌, length, Option, Some, None, Ok, Err, Bool}
-use Rattle.std.proofs.Common.{true, refl, sym, subst, arith, ap, ◌∙◌}
-use Rattle.std.specs.Option.{is_some}
-use Rattle.yaml_read.proofs.Words.{Position, PlainData, any_data, variant_data, some_data, newtype_data, PlainShape}
-use Rattle.yaml_read.proofs.Words.{any_shape, shape_at, content_shape, tagged, DocNode, nothing, reference, word, list}
-use Rattle.yaml_read.proofs.Words.{mapping, events_of, events_of_nodes, events_of_pairs, node_of, first_event}
-use Rattle.yaml_read.proofs.Words.{PlainDocEvent, alias_to, sequence_ends, mapping_ends, scalar_answer, void_answer}
-use Rattle.yaml_read.proofs.Words.{◌>>=◌, ending, tree_in, Fields, no_slots, struct_of, Handing, as_is, as_some}
-use Rattle.yaml_read.proofs.Words.{as_newtype, as_ignored, as_bare, as_variant, as_tagged, as_refused, is_bare, handed}
-use Rattle.yaml_read.proofs.Words.{early, TakenBy, around_value, Way, places, place, Spot, after, TreeReader, Answer}
-use Rattle.yaml_read.proofs.Words.{sequence_of, mapping_of, target_of, node_by, handed_by, read_tree, mark_or_first}
-use Rattle.yaml_read.proofs.Words.{Source, Reading, Reader, sequence_at, mapping_at, event_at, handed_at, shape_step}
-use Rattle.yaml_read.proofs.Words.{node_at, place_at}
+use Rattle.yaml_read.proofs.Words.{◌≡◌, ℕ, zero, suc, ◌+◌, ◌<◌, [], ◌∷◌, ◌++◌, length, Option, Some, None, Ok, Bool}
+use Rattle.yaml_read.proofs.Words.{true, refl, sym, subst, arith, ap, ◌∙◌, is_some, Position, PlainData, any_data}
+use Rattle.yaml_read.proofs.Words.{variant_data, some_data, newtype_data, PlainShape, any_shape, shape_at}
+use Rattle.yaml_read.proofs.Words.{content_shape, tagged, DocNode, nothing, reference, word, list, mapping, events_of}
+use Rattle.yaml_read.proofs.Words.{events_of_nodes, events_of_pairs, node_of, first_event, PlainDocEvent, alias_to}
+use Rattle.yaml_read.proofs.Words.{sequence_ends, mapping_ends, scalar_answer, void_answer, ◌>>=◌, ending, tree_in}
+use Rattle.yaml_read.proofs.Words.{Fields, no_slots, struct_of, Handing, as_is, as_some, as_newtype, as_ignored}
+use Rattle.yaml_read.proofs.Words.{as_bare, as_variant, as_tagged, as_refused, is_bare, handed, early, TakenBy}
+use Rattle.yaml_read.proofs.Words.{around_value, Way, places, place, Spot, after, TreeReader, Answer, sequence_of}
+use Rattle.yaml_read.proofs.Words.{mapping_of, target_of, node_by, handed_by, read_tree, mark_or_first, Source, Reading}
+use Rattle.yaml_read.proofs.Words.{Reader, sequence_at, mapping_at, event_at, handed_at, shape_step, node_at, place_at}
 use Rattle.yaml_read.proofs.reading.Handings.{from_handing}
-use Rattle.yaml_read.proofs.reading.PlaceLaws.{landed_place}
+use Rattle.yaml_read.proofs.reading.PlaceLaws.{lands_place}
 use Rattle.yaml_read.proofs.reading.Shown.{Shows, target_shown, begins}
-use Rattle.yaml_read.proofs.reading.TreeWalks.{landed, landed_wrap, landed_ending, landed_enter, landed_follow}
-use Rattle.yaml_read.proofs.reading.TreeWalks.{landed_with, landed_unless}
-use Rattle.yaml_read.proofs.reading.TreeLists.{AreTied, skip_tied, sequence_tied}
-use Rattle.yaml_read.proofs.reading.TreeMappings.{mapping_tied}
+use Rattle.yaml_read.proofs.reading.TreeWalks.{Lands, lands, refuses, lands_wrap, lands_ending, lands_enter}
+use Rattle.yaml_read.proofs.reading.TreeWalks.{lands_follow, lands_with, lands_unless}
+use Rattle.yaml_read.proofs.reading.TreeParts.{AreTied, skip_tied, sequence_tied, mapping_tied}
 
 module _ (source : Source) (within : (p : ℕ) (e : PlainDocEvent × Position) → source.events p ≡ Some e
     → p < source.size)
@@ -37,32 +34,30 @@ module _ (source : Source) (within : (p : ℕ) (e : PlainDocEvent × Position) �
     -- the target of an alias
     target_tied : (s : PlainShape) (nest j left end : ℕ) (o : Option DocNode) → (n : DocNode) → node_of root j ≡ Some n
         → node_of root j ≡ o
-        → (read way s nest None (record { place = j; left = left }) >>= λ x.
-        Ok (x.0, record { place = end; left = x.1.left }))
-        ≡ landed end (target_of (tree way) s nest o j left)
+        → Lands end (read way s nest None (record { place = j; left = left }) >>= λ x.
+        Ok (x.0, record { place = end; left = x.1.left })) (target_of (tree way) s nest o j left)
     target_tied s nest j left end None n is e = absurd cc
     target_tied s nest j left end (Some m) n is e =
-        back (read way s nest None (record { place = j; left = left }))
-        (tree way s nest None m (record { place = j; left = left })) (j + length (events_of m)) end
-        (tied way s nest None m (record { place = j; left = left }) (target_shown source.events root j m root_shown e))
+        back (tied way s nest None m (record { place = j; left = left })
+        (target_shown source.events root j m root_shown e))
       where
-        back : (q : Reading PlainData) (r : Answer PlainData) (mid end : ℕ) → q ≡ landed mid r
-            → (q >>= λ x. Ok (x.0, record { place = end; left = x.1.left })) ≡ landed end r
-        back q (Ok x) mid end h = rw h
-        back q (Err y) mid end h = rw h
+        back : {mid : ℕ} {q : Reading PlainData} {r : Answer PlainData} → Lands mid q r
+            → Lands end (q >>= λ x. Ok (x.0, record { place = end; left = x.1.left })) r
+        back (lands x left) = lands x left
+        back (refuses y) = refuses y
 
     -- a node by its kind
     node_tied : (s : PlainShape) (nest : ℕ) (taken : Option TakenBy) (n : DocNode) (at : Spot) (mark : Position)
         → source.events at.place ≡ Some (first_event n, mark)
         → Shows source.events at.place (events_of n)
-        → event_at source read way s nest taken at (first_event n) mark
-        ≡ landed (at.place + length (events_of n)) (node_by source.table tree way root marks s nest taken n at)
-    node_tied s nest taken nothing at mark here sh = landed_ending (at.place + 1) at.left (void_answer s)
+        → Lands (at.place + length (events_of n)) (event_at source read way s nest taken at (first_event n) mark)
+        (node_by source.table tree way root marks s nest taken n at)
+    node_tied s nest taken nothing at mark here sh = lands_ending (at.place + 1) at.left (void_answer s)
     node_tied s nest taken (word w) at mark here sh =
-        landed_ending (at.place + 1) at.left (scalar_answer s (is_some taken) w)
+        lands_ending (at.place + 1) at.left (scalar_answer s (is_some taken) w)
     node_tied s nest taken (reference j) at mark here sh =
         let target = known at.place j mark here in
-        landed_follow (at.place + 1) at.left _ _ (λ left. target_tied s nest j left (at.place + 1)
+        lands_follow at.left (λ left. target_tied s nest j left (at.place + 1)
         (node_of root j) target.0 target.1 refl)
     node_tied s nest taken (list tag ns) at mark here sh =
         let next : suc at.place ≡ at.place + 1 = omega arith in
@@ -70,82 +65,76 @@ module _ (source : Source) (within : (p : ℕ) (e : PlainDocEvent × Position) �
         let begun : 0 < at.place + 1 = omega arith in
         let end_is : at.place + 1 + length (events_of_nodes ns ++ sequence_ends ∷ [])
         ≡ at.place + length (events_of (list tag ns)) = omega arith in
-        rw (mark_of at.place _ here) (subst (λ end. sequence_at source read way s nest (marks at.place) (after at)
-        ≡ landed end (sequence_of source.table tree way s nest (marks at.place) ns (after at))) end_is
-        (sequence_tied source within stepped read tree tied way s nest (marks at.place) ns (after at) behind begun))
+        rw (mark_of at.place _ here) (subst (λ end. Lands end (sequence_at source read way s nest (marks at.place)
+        (after at)) (sequence_of source.table tree way s nest (marks at.place) ns (after at))) end_is
+        (sequence_tied source within stepped marks marked read tree tied way s nest (marks at.place) ns
+        (after at) behind begun))
     node_tied s nest taken (mapping tag ps) at mark here sh =
         let next : suc at.place ≡ at.place + 1 = omega arith in
         let behind = subst (λ q. Shows source.events q (events_of_pairs ps ++ mapping_ends ∷ [])) next sh.1 in
         let begun : 0 < at.place + 1 = omega arith in
         let end_is : at.place + 1 + length (events_of_pairs ps ++ mapping_ends ∷ [])
         ≡ at.place + length (events_of (mapping tag ps)) = omega arith in
-        rw (mark_of at.place _ here) (subst (λ end. mapping_at source read way s nest (marks at.place) (after at)
-        ≡ landed end (mapping_of source.table tree marks way s nest (marks at.place) ps (after at))) end_is
+        rw (mark_of at.place _ here) (subst (λ end. Lands end (mapping_at source read way s nest (marks at.place)
+        (after at)) (mapping_of source.table tree marks way s nest (marks at.place) ps (after at))) end_is
         (mapping_tied source within stepped marks marked read tree tied way s nest (marks at.place) ps (after at) behind
         begun))
 
     -- a struct of which no field is there is one event
     bare_tied : (fields : Fields) (n : DocNode) (at : Spot) → is_bare (first_event n) ≡ true
-        → ending (after at) (struct_of source.table fields (no_slots fields))
-        ≡ landed (at.place + length (events_of n)) (ending at.left (struct_of source.table fields (no_slots fields)))
+        → Lands (at.place + length (events_of n)) (ending (after at) (struct_of source.table fields (no_slots fields)))
+        (ending at.left (struct_of source.table fields (no_slots fields)))
     bare_tied fields nothing at bare =
-        landed_ending (at.place + 1) at.left (struct_of source.table fields (no_slots fields))
+        lands_ending (at.place + 1) at.left (struct_of source.table fields (no_slots fields))
     bare_tied fields (word w) at bare =
-        landed_ending (at.place + 1) at.left (struct_of source.table fields (no_slots fields))
-    bare_tied fields (reference j) at bare = absurd cc
-    bare_tied fields (list tag ns) at bare = absurd cc
-    bare_tied fields (mapping tag ps) at bare = absurd cc
+        lands_ending (at.place + 1) at.left (struct_of source.table fields (no_slots fields))
+    bare_tied fields _ at bare = absurd cc
 
     -- a node as it is handed on
     handed_tied : (h : Handing) (s : PlainShape) (nest : ℕ) (taken : Option TakenBy) (n : DocNode) (at : Spot)
         (mark : Position)
         → handed s (is_some taken) (first_event n) ≡ h
         → source.events at.place ≡ Some (first_event n, mark) → Shows source.events at.place (events_of n)
-        → handed_at source h read way s nest taken at (first_event n) mark
-        ≡ landed (at.place + length (events_of n)) (handed_by source.table h tree way root marks s nest taken n at)
+        → Lands (at.place + length (events_of n)) (handed_at source h read way s nest taken at (first_event n) mark)
+        (handed_by source.table h tree way root marks s nest taken n at)
     handed_tied as_is s nest taken n at mark to here sh = node_tied s nest taken n at mark here sh
     handed_tied (as_some c) s nest taken n at mark to here sh =
-        landed_with _ (shape_at source.table c) _ _ (λ t is. landed_wrap _ some_data _ _
-        (tied way t nest taken n at sh))
+        lands_with (shape_at source.table c) (λ t. lands_wrap some_data (tied way t nest taken n at sh))
     handed_tied (as_newtype c) s nest taken n at mark to here sh =
-        rw (mark_of at.place _ here) (landed_enter _ nest (marks at.place) _ _
-        (λ m. landed_with _ (shape_at source.table c) _ _
-        (λ t is. landed_wrap _ newtype_data _ _ (tied way t m taken n at sh))))
+        rw (mark_of at.place _ here) (lands_enter nest (marks at.place) (λ m. lands_with (shape_at source.table c)
+        (λ t. lands_wrap newtype_data (tied way t m taken n at sh))))
     handed_tied as_ignored s nest taken n at mark to here sh = skip_tied source within stepped n at sh
     handed_tied (as_bare fields) s nest taken n at mark to here sh =
         bare_tied fields n at (from_handing s (is_some taken) (first_event n) (as_bare fields) to).3
     handed_tied (as_variant place around content) s nest taken n at mark to here sh =
-        landed_with _ (content_shape source.table around.name around.variant content) _ _ (λ t is.
-        landed_wrap _ (variant_data place) _ _ (tied way t nest (Some around) n at sh))
+        lands_with (content_shape source.table around.name around.variant content)
+        (λ t. lands_wrap (variant_data place) (tied way t nest (Some around) n at sh))
     handed_tied (as_tagged name) s nest taken n at mark to here sh =
-        landed_wrap _ (λ v. any_data (tagged name (tree_in v))) _ _
-        (tied way any_shape nest (Some around_value) n at sh)
-    handed_tied as_refused s nest taken n at mark to here sh = refl
+        lands_wrap (λ v. any_data (tagged name (tree_in v))) (tied way any_shape nest (Some around_value) n at sh)
+    handed_tied as_refused s nest taken n at mark to here sh = refuses _
 
     step_tied : (s : PlainShape) (nest : ℕ) (taken : Option TakenBy) (n : DocNode) (at : Spot)
         → Shows source.events at.place (events_of n)
-        → shape_step source read way s nest taken at (source.events at.place)
-        ≡ landed (at.place + length (events_of n)) (handed_by source.table
-        (handed s (is_some taken) (first_event n)) tree way root marks s nest taken n at)
+        → Lands (at.place + length (events_of n)) (shape_step source read way s nest taken at (source.events at.place))
+        (handed_by source.table (handed s (is_some taken) (first_event n)) tree way root marks s nest taken n at)
     step_tied s nest taken n at sh =
         let here = begins source.events at.place n sh in
         rw here.1 (handed_tied (handed s (is_some taken) (first_event n)) s nest taken n at here.0 refl here.1 sh)
 
   placed_tied : {A : Type 0} (way : Way) (s : PlainShape) (taken : Bool) (n : DocNode) (at : Spot) (end : ℕ)
       (q : Reading A) (r : Answer A) → Shows source.events at.place (events_of n)
-      → q ≡ landed end r → place_at way s taken (source.events at.place) q
-      ≡ landed end (place (places s taken (first_event n)) (marks at.place) way r)
+      → Lands end q r → Lands end (place_at way s taken (source.events at.place) q)
+      (place (places s taken (first_event n)) (marks at.place) way r)
   placed_tied way s taken n at end q r sh e =
       let here = begins source.events at.place n sh in
-      rw (here.1, mark_of at.place _ here.1) (landed_place (places s taken (first_event n))
-      (marks at.place) way end q r e)
+      rw (here.1, mark_of at.place _ here.1) (lands_place (places s taken (first_event n)) (marks at.place) way e)
 
   -- the readers answer the same at every depth
   pub reader_tied : (fuel : ℕ) (way : Way) → AreTied source (node_at source fuel way)
       (read_tree source.table fuel root marks way)
   unfolding node_at read_tree
-  reader_tied zero way s nest taken n at sh = refl
+  reader_tied zero way s nest taken n at sh = refuses _
   reader_tied (suc fuel) way s nest taken n at sh =
-      placed_tied way s (is_some taken) n at _ _ _ sh (landed_unless _ (early s) _ _
+      placed_tied way s (is_some taken) n at _ _ _ sh (lands_unless (early s)
       (step_tied (node_at source fuel) (read_tree source.table fuel root marks)
       (reader_tied fuel) way s nest taken n at sh))

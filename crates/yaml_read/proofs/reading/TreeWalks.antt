@@ -1,63 +1,68 @@
 -- Going over the parts of a collection by their places answers what going over the tree's parts answers.
-use Rattle.std.proofs.Common.{◌≡◌, ℕ, zero, suc, ◌+◌, ◌<◌, [], ◌∷◌, ◌++◌, length, Some, None, Option, Result, Ok, Err}
-use Rattle.std.proofs.Common.{refl, subst, ◌∙◌, arith}
-use Rattle.yaml_read.proofs.Words.{Position, PlainDocEvent, sequence_ends, mapping_ends, DocNode, DocNodes, DocPairs}
-use Rattle.yaml_read.proofs.Words.{no_nodes, node, events_of, events_of_nodes, events_of_pairs, ReadFault, ◌>>=◌}
-use Rattle.yaml_read.proofs.Words.{ending, wrap, enter, follow, finish, with_shape, unless, Spot, Answer, each_node}
-use Rattle.yaml_read.proofs.Words.{each_pair, Reading, Events, is_sequence_end, is_mapping_end, each_at, PlainShape}
-use Rattle.yaml_load.specs.DocTree.{no_pairs, pair}
+use Rattle.yaml_read.proofs.Words.{PlainRefusal, ◌≡◌, ℕ, zero, suc, ◌+◌, ◌<◌, [], ◌∷◌, ◌++◌, length, Some, None, Option}
+use Rattle.yaml_read.proofs.Words.{Result, Ok, Err, refl, subst, ◌∙◌, arith, Position, PlainDocEvent, sequence_ends}
+use Rattle.yaml_read.proofs.Words.{mapping_ends, DocNode, DocNodes, DocPairs, no_nodes, node, events_of}
+use Rattle.yaml_read.proofs.Words.{events_of_nodes, events_of_pairs, ReadFault, ◌>>=◌, ending, wrap, enter, follow}
+use Rattle.yaml_read.proofs.Words.{finish, with_shape, unless, Spot, Answer, each_node, each_pair, Reading, Events}
+use Rattle.yaml_read.proofs.Words.{is_sequence_end, is_mapping_end, each_at, PlainShape, no_pairs, pair}
 use Rattle.yaml_read.proofs.reading.Loops.{each_end, each_going}
-use Rattle.yaml_read.proofs.reading.Shown.{Shows, starts, shows_node, shows_pair, size_node, size_pair, wide}
+use Rattle.yaml_read.proofs.reading.Shown.{Shows, begins, no_sequence_end, no_mapping_end, shows_node, shows_pair}
+use Rattle.yaml_read.proofs.reading.Shown.{size_node, size_pair, wide}
 
--- what reading a tree answers, where the reading by places ends at this one
-abbrev pub landed : {A : Type 0} → ℕ → Answer A → Reading A
-landed p r = r >>= λ x. Ok (x.0, record { place = p; left = x.1 })
+-- the reading by places answers what reading the tree answers, and ends at this place
+pub data Lands {A : Type 0} (end : ℕ) : Reading A → Answer A → Type 0 where
+  lands : (x : A) (left : ℕ) → Lands end (Ok (x, record { place = end; left = left })) (Ok (x, left))
+  refuses : (y : PlainRefusal) → Lands end (Err y) (Err y)
 
 -- one part, and then the rest
-pub landed_then : {A B : Type 0} (mid end : ℕ) (q : Reading A) (r : Answer A) (f : A × Spot → Reading B)
-    (g : A × ℕ → Answer B) → q ≡ landed mid r
-    → ((x : A) (left : ℕ) → f (x, record { place = mid; left = left }) ≡ landed end (g (x, left))) → (q >>= f)
-    ≡ landed end (r >>= g)
-landed_then mid end q (Ok x) f g e h = rw e (h x.0 x.1)
-landed_then mid end q (Err y) f g e h = rw e
+lands_then : {A B : Type 0} {mid end : ℕ} {q : Reading A} {r : Answer A} (f : A × Spot → Reading B)
+    (g : A × ℕ → Answer B) → Lands mid q r
+    → ((x : A) (left : ℕ) → Lands end (f (x, record { place = mid; left = left })) (g (x, left)))
+    → Lands end (q >>= f) (r >>= g)
+lands_then f g (lands x left) h = h x left
+lands_then f g (refuses y) h = refuses y
 
-pub landed_wrap : {A B : Type 0} (end : ℕ) (f : A → B) (q : Reading A) (r : Answer A) → q ≡ landed end r → wrap f q
-    ≡ landed end (wrap f r)
-landed_wrap end f q (Ok x) e = rw e
-landed_wrap end f q (Err y) e = rw e
+pub lands_wrap : {A B : Type 0} {end : ℕ} {q : Reading A} {r : Answer A} (f : A → B) → Lands end q r
+    → Lands end (wrap f q) (wrap f r)
+lands_wrap f (lands x left) = lands (f x) left
+lands_wrap f (refuses y) = refuses y
 
-pub landed_ending : {A : Type 0} (end left : ℕ) (r : Result A ReadFault) → ending (record { place = end; left = left }) r
-    ≡ landed end (ending left r)
-landed_ending end left (Ok x) = refl
-landed_ending end left (Err y) = refl
+pub lands_ending : {A : Type 0} (end left : ℕ) (r : Result A ReadFault)
+    → Lands end (ending (record { place = end; left = left }) r) (ending left r)
+lands_ending end left (Ok x) = lands x left
+lands_ending end left (Err y) = refuses _
 
-pub landed_enter : {A : Type 0} (end nest : ℕ) (mark : Position) (f : ℕ → Reading A) (g : ℕ → Answer A)
-    → ((n : ℕ) → f n ≡ landed end (g n)) → enter nest mark f ≡ landed end (enter nest mark g)
-landed_enter end zero mark f g h = refl
-landed_enter end (suc n) mark f g h = h n
+pub lands_finish : {S A : Type 0} {end : ℕ} {q : Reading S} {r : Answer S} (f : S → Result A ReadFault) → Lands end q r
+    → Lands end (finish f q) (finish f r)
+lands_finish {end} f (lands x left) = lands_ending end left (f x)
+lands_finish f (refuses y) = refuses y
 
-pub landed_follow : {A : Type 0} (end left : ℕ) (f : ℕ → Reading A) (g : ℕ → Answer A)
-    → ((n : ℕ) → f n ≡ landed end (g n)) → follow left f ≡ landed end (follow left g)
-landed_follow end zero f g h = refl
-landed_follow end (suc n) f g h = h n
+pub lands_enter : {A : Type 0} {end : ℕ} {f : ℕ → Reading A} {g : ℕ → Answer A} (nest : ℕ) (mark : Position)
+    → ((n : ℕ) → Lands end (f n) (g n)) → Lands end (enter nest mark f) (enter nest mark g)
+lands_enter zero mark h = refuses _
+lands_enter (suc n) mark h = h n
 
-pub landed_with : {A : Type 0} (end : ℕ) (o : Option PlainShape) (f : PlainShape → Reading A)
-    (g : PlainShape → Answer A)
-    → ((s : PlainShape) → o ≡ Some s → f s ≡ landed end (g s)) → with_shape o f ≡ landed end (with_shape o g)
-landed_with end None f g h = refl
-landed_with end (Some s) f g h = h s refl
+pub lands_follow : {A : Type 0} {end : ℕ} {f : ℕ → Reading A} {g : ℕ → Answer A} (left : ℕ)
+    → ((n : ℕ) → Lands end (f n) (g n)) → Lands end (follow left f) (follow left g)
+lands_follow zero h = refuses _
+lands_follow (suc n) h = h n
 
-pub landed_unless : {A : Type 0} (end : ℕ) (o : Option ReadFault) (q : Reading A) (r : Answer A) → q ≡ landed end r
-    → unless o q ≡ landed end (unless o r)
-landed_unless end None q r h = h
-landed_unless end (Some e) q r h = refl
+pub lands_with : {A : Type 0} {end : ℕ} {f : PlainShape → Reading A} {g : PlainShape → Answer A}
+    (o : Option PlainShape) → ((s : PlainShape) → Lands end (f s) (g s)) → Lands end (with_shape o f) (with_shape o g)
+lands_with None h = refuses _
+lands_with (Some s) h = h s
+
+pub lands_unless : {A : Type 0} {end : ℕ} {q : Reading A} {r : Answer A} (o : Option ReadFault) → Lands end q r
+    → Lands end (unless o q) (unless o r)
+lands_unless None h = h
+lands_unless (Some e) h = refuses _
 
 module _ (events : Events) (size : ℕ) (within : (p : ℕ) (e : PlainDocEvent × Position) → events p ≡ Some e → p < size)
   where
     -- where a node is shown, the step by places answers what the step over the node answers, behind the node
     abbrev pub IsTied : {S T : Type 0} → (S → Spot → Reading T) → (S → DocNode → Spot → Answer T) → Type 0
-    IsTied {S} step part = (s : S) (n : DocNode) (at : Spot) → Shows events at.place (events_of n) → step s at
-        ≡ landed (at.place + length (events_of n)) (part s n at)
+    IsTied {S} step part = (s : S) (n : DocNode) (at : Spot) → Shows events at.place (events_of n)
+        → Lands (at.place + length (events_of n)) (step s at) (part s n at)
 
     no_turn : (p : ℕ) (e : PlainDocEvent × Position) → events p ≡ Some e → size < 0 + p → ⊥
     no_turn p e is big = let here = within p e is in omega arith
@@ -65,72 +70,63 @@ module _ (events : Events) (size : ℕ) (within : (p : ℕ) (e : PlainDocEvent �
     pub nodes_tied : {S : Type 0} (step : S → Spot → Reading S) (part : S → DocNode → Spot → Answer S)
         → IsTied step part → (turns : ℕ) (s : S) (ns : DocNodes) (at : Spot)
         → Shows events at.place (events_of_nodes ns ++ sequence_ends ∷ []) → size < turns + at.place
-        → each_at is_sequence_end step events turns s at
-        ≡ landed (at.place + length (events_of_nodes ns ++ sequence_ends ∷ [])) (each_node part s ns at)
+        → Lands (at.place + length (events_of_nodes ns ++ sequence_ends ∷ []))
+        (each_at is_sequence_end step events turns s at) (each_node part s ns at)
     nodes_tied step part tied zero s no_nodes at sh big = absurd (no_turn at.place _ sh.0.1 big)
     nodes_tied step part tied zero s (node n ns) at sh big =
-        absurd (no_turn at.place _ (starts events at.place n
-        (shows_node events at.place n ns (sequence_ends ∷ []) sh).0).shown big)
+        absurd (no_turn at.place _ (begins events at.place n
+        (shows_node events at.place n ns (sequence_ends ∷ []) sh).0).1 big)
     nodes_tied step part tied (suc turns) s no_nodes at sh big =
-        each_end is_sequence_end step events turns s at _ sh.0.1 refl
+        rw (each_end is_sequence_end step events turns s at _ sh.0.1 refl) (lands s at.left)
     nodes_tied step part tied (suc turns) s (node n ns) at sh big =
         let apart = shows_node events at.place n ns (sequence_ends ∷ []) sh in
-        let st = starts events at.place n apart.0 in
         let mid = at.place + length (events_of n) in
         let end_is : mid + length (events_of_nodes ns ++ sequence_ends ∷ [])
         ≡ at.place + length (events_of_nodes (node n ns) ++ sequence_ends ∷ []) =
         omega (arith, size_node n ns (sequence_ends ∷ [])) in
-        each_going is_sequence_end step events turns s at _ st.shown st.no_sequence_end
-        ∙ subst (λ end. (step s at >>= λ x. each_at is_sequence_end step events turns x.0 x.1)
-        ≡ landed end (each_node part s (node n ns) at)) end_is
-        (landed_then mid (mid + length (events_of_nodes ns ++ sequence_ends ∷ [])) (step s at) (part s n at) _ _
-        (tied s n at apart.0)
+        rw (each_going is_sequence_end step events turns s at _ (begins events at.place n apart.0).1
+        (no_sequence_end n))
+        (subst (λ end. Lands end (step s at >>= λ x. each_at is_sequence_end step events turns x.0 x.1)
+        (each_node part s (node n ns) at)) end_is (lands_then _ _ (tied s n at apart.0)
         (λ x left. nodes_tied step part tied turns x ns (record { place = mid; left = left }) apart.1
-        (omega (arith, wide n))))
+        (omega (arith, wide n)))))
 
     -- a key, and then a value from what it gave
     abbrev pub key_value : {S T : Type 0} → (S → Spot → Reading T) → (S → T → Spot → Reading S) → S → Spot → Reading S
     key_value key value s at = key s at >>= λ k. value s k.0 k.1
 
+    regroup : {A B C : Type 0} (q : Reading A) (f : A → Spot → Reading B) (g : B × Spot → Reading C)
+        → ((q >>= λ k. f k.0 k.1) >>= g) ≡ (q >>= λ k. f k.0 k.1 >>= g)
+    regroup (Ok x) f g = refl
+    regroup (Err y) f g = refl
+
     pub pairs_tied : {S T : Type 0} (key : S → Spot → Reading T) (value : S → T → Spot → Reading S)
         (key' : S → DocNode → Spot → Answer T) (value' : S → T → DocNode → Spot → Answer S)
         → IsTied key key' → ((s : S) (k : T) (n : DocNode) (at : Spot) → Shows events at.place (events_of n)
-        → value s k at ≡ landed (at.place + length (events_of n)) (value' s k n at))
+        → Lands (at.place + length (events_of n)) (value s k at) (value' s k n at))
         → (turns : ℕ) (s : S) (ps : DocPairs) (at : Spot) → Shows events at.place
         (events_of_pairs ps ++ mapping_ends ∷ []) → size < turns + at.place
-        → each_at is_mapping_end (key_value key value) events turns s at
-        ≡ landed (at.place + length (events_of_pairs ps ++ mapping_ends ∷ [])) (each_pair key' value' s ps at)
+        → Lands (at.place + length (events_of_pairs ps ++ mapping_ends ∷ []))
+        (each_at is_mapping_end (key_value key value) events turns s at) (each_pair key' value' s ps at)
     pairs_tied key value key' value' tk tv zero s no_pairs at sh big = absurd (no_turn at.place _ sh.0.1 big)
     pairs_tied key value key' value' tk tv zero s (pair m n ps) at sh big =
-        absurd (no_turn at.place _ (starts events at.place m
-        (shows_pair events at.place m n ps (mapping_ends ∷ []) sh).0).shown big)
+        absurd (no_turn at.place _ (begins events at.place m
+        (shows_pair events at.place m n ps (mapping_ends ∷ []) sh).0).1 big)
     pairs_tied key value key' value' tk tv (suc turns) s no_pairs at sh big =
-        each_end is_mapping_end (key_value key value) events turns s at _ sh.0.1 refl
+        rw (each_end is_mapping_end (key_value key value) events turns s at _ sh.0.1 refl) (lands s at.left)
     pairs_tied key value key' value' tk tv (suc turns) s (pair m n ps) at sh big =
         let apart = shows_pair events at.place m n ps (mapping_ends ∷ []) sh in
-        let st = starts events at.place m apart.0 in
         let mid = at.place + length (events_of m) in
         let mid' = mid + length (events_of n) in
         let end = mid' + length (events_of_pairs ps ++ mapping_ends ∷ []) in
         let end_is : end ≡ at.place + length (events_of_pairs (pair m n ps) ++ mapping_ends ∷ []) =
         omega (arith, size_pair m n ps (mapping_ends ∷ [])) in
-        each_going is_mapping_end (key_value key value) events turns s at _ st.shown st.no_mapping_end
-        ∙ subst (λ end. (key_value key value s at >>= λ x. each_at is_mapping_end
-        (key_value key value) events turns x.0 x.1) ≡ landed end (each_pair key' value' s (pair m n ps) at)) end_is
-        (regroup (key s at) (value s) (λ x. each_at is_mapping_end (key_value key value) events turns x.0 x.1)
-        ∙ landed_then mid end (key s at) (key' s m at) _ _ (tk s m at apart.0)
-        (λ k left. landed_then mid' end (value s k (record { place = mid; left = left }))
-        (value' s k n (record { place = mid; left = left })) _ _
-        (tv s k n (record { place = mid; left = left }) apart.1)
-        (λ x left'. pairs_tied key value key' value' tk tv turns x ps (record { place = mid'; left = left' }) apart.2
-        (omega (arith, wide m)))))
-      where
-        regroup : {A B C : Type 0} (q : Reading A) (f : A → Spot → Reading B) (g : B × Spot → Reading C)
-            → ((q >>= λ k. f k.0 k.1) >>= g) ≡ (q >>= λ k. f k.0 k.1 >>= g)
-        regroup (Ok x) f g = refl
-        regroup (Err y) f g = refl
-
-pub landed_finish : {S A : Type 0} (end : ℕ) (f : S → Result A ReadFault) (q : Reading S) (r : Answer S)
-    → q ≡ landed end r → finish f q ≡ landed end (finish f r)
-landed_finish end f q (Ok x) e = rw e (landed_ending end x.1 (f x.0))
-landed_finish end f q (Err y) e = rw e
+        let turn = each_going is_mapping_end (key_value key value) events turns s at _
+        (begins events at.place m apart.0).1 (no_mapping_end m)
+        ∙ regroup (key s at) (value s) (λ x. each_at is_mapping_end (key_value key value) events turns x.0 x.1) in
+        rw turn (subst (λ end. Lands end (key s at >>= λ k. value s k.0 k.1 >>= λ x.
+        each_at is_mapping_end (key_value key value) events turns x.0 x.1) (each_pair key' value' s (pair m n ps) at))
+        end_is (lands_then _ _ (tk s m at apart.0) (λ k left.
+        lands_then _ _ (tv s k n (record { place = mid; left = left }) apart.1) (λ x left'.
+        pairs_tied key value key' value' tk tv turns x ps (record { place = mid'; left = left' }) apart.2
+        (omega (arith, wide m))))))

@@ -1,10 +1,8 @@
 -- What a node's reading comes to under the shapes of any value and of enums.
-use Rattle.std.proofs.Common.{◌≡◌, ℕ, Bool, true, false, List, [], Some, None, Err, refl}
-use Rattle.std.proofs.Common.{Ok, ◌∷◌, ◌++◌}
-use Rattle.yaml_read.proofs.Words.{PlainData, any_shape, enum_shape, PlainVariant, PlainDocEvent, ReadFault}
-use Rattle.yaml_read.proofs.Words.{PlainRefusal, refused, Variants, variant_named, new_key, as_is, as_variant}
-use Rattle.yaml_read.proofs.Words.{as_tagged, handed, is_filled_scalar, untaken_name, Way, Spot, Source, Reader}
-use Rattle.yaml_read.proofs.Words.{any_entry_at, value_way}
+use Rattle.yaml_read.proofs.Words.{◌≡◌, ℕ, Bool, true, false, List, [], Some, None, Err, refl, Ok, ◌∷◌, ◌++◌, PlainData}
+use Rattle.yaml_read.proofs.Words.{any_shape, enum_shape, PlainVariant, PlainDocEvent, ReadFault, PlainRefusal, refused}
+use Rattle.yaml_read.proofs.Words.{Variants, variant_named, new_key, as_is, as_variant, as_tagged, handed}
+use Rattle.yaml_read.proofs.Words.{is_filled_scalar, untaken_name, Way, Spot, Source, Reader, any_entry_at, value_way}
 
 -- ---- how enums and any values are handed on
 pub any_tagged : (taken : Bool) (e : PlainDocEvent) (name : List ℕ) → untaken_name taken e ≡ Some name
@@ -39,7 +37,8 @@ module _ (source : Source) (read : Way
       → new_key vs k ≡ Err x → any_entry_at source read way nest vs at ≡ Err (refused x)
   any_repeated k middle x h again = rw (h, again) refl
 
-  pub any_no_value : (k : PlainData) (middle : Spot) (x : PlainRefusal) → read way any_shape nest None at ≡ Ok (k, middle)
+  pub any_no_value : (k : PlainData) (middle : Spot) (x : PlainRefusal)
+      → read way any_shape nest None at ≡ Ok (k, middle)
       → new_key vs k ≡ Ok k → read (value_way way (source.events at.place)) any_shape nest None middle ≡ Err x
       → any_entry_at source read way nest vs at ≡ Err x
   any_no_value k middle x h new h' = rw (h, new, h') refl

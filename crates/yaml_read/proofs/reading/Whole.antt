@@ -1,26 +1,18 @@
 -- What a document gives, from what its reading gives.
-use Rattle.std.proofs.Common.{◌≡◌, ℕ, ◌+◌, ◌*◌, ◌<◌, ◌≤◌, List, length, Some, None, Result, Ok, Err}
-use Rattle.std.proofs.Common.{false, refl, sym, ap, subst, ◌∙◌, arith, inl, inr}
-use Rattle.std.specs.Prelude.{◌≢◌, ◌⊎◌, slice_get}
-use Rattle.std.proofs.lemmas.Option.{slice_get_within}
-use Rattle.yaml_read.proofs.Words.{is_memory, Cause, PlainData, PlainShape, option_shape, shape_at, rank, DocNode}
-use Rattle.yaml_read.proofs.Words.{events_of, PlainDocument, IsEnding, PlainRefusal, out_of_memory, refused}
-use Rattle.yaml_read.proofs.Words.{end_of_stream, cause_of, ran_out, reach, Means, root_way, IsNodeFault}
-use Rattle.yaml_read.proofs.Words.{IsReadingFault, IsTreeOf, Reads, IsRefusal, DocumentGives, front_answer, cut_fault}
-use Rattle.yaml_read.proofs.Words.{PlainLimits, Spot, marks_of, whole_fuel, whole_tree, answer_of}
-use Rattle.yaml_read.proofs.Words.{value_told, Reading}
+use Rattle.yaml_read.proofs.Words.{IsReadingFault, PlainDocument, out_of_memory, end_of_stream, DocumentGives, shape_at}
+use Rattle.yaml_read.proofs.Words.{option_shape, PlainRefusal, front_answer, IsNodeFault, PlainLimits, PlainShape, List}
+use Rattle.yaml_read.proofs.Words.{whole_fuel, whole_tree, value_told, is_memory, PlainData, IsRefusal, cut_fault, Some}
+use Rattle.yaml_read.proofs.Words.{answer_of, IsEnding, cause_of, root_way, IsTreeOf, marks_of, DocNode, refused, false}
+use Rattle.yaml_read.proofs.Words.{ran_out, Reading, length, Result, subst, arith, Cause, reach, Means, Reads, None, Ok}
+use Rattle.yaml_read.proofs.Words.{refl, rank, Spot, ◌≡◌, ◌*◌, ◌<◌, ◌≤◌, Err, sym, ◌∙◌, inl, inr, ◌≢◌, ◌⊎◌, ap, ℕ}
 use Rattle.yaml_base.specs.declared.error.Cause.TheVariants.{MoreThanOneDocument, EndOfStream}
+pub use Rattle.yaml_read.proofs.reading.WholeReadings.{whole_source, whole_reading}
 use Rattle.yaml_read.proofs.reading.Outcomes.{Outcome, reads, deep, many}
 use Rattle.yaml_read.proofs.reading.Complete.{tree_outcome}
-use Rattle.yaml_read.proofs.reading.EndLaws.{node_ends}
 use Rattle.yaml_read.proofs.reading.ReadingCauses.{cut_kept, fault_is_reading, fault_of_node}
-use Rattle.yaml_read.proofs.reading.Shown.{Shows}
 use Rattle.yaml_read.proofs.reading.Sound.{tree_sound}
-use Rattle.yaml_read.proofs.reading.TreeLaws.{reader_tied}
-use Rattle.yaml_read.proofs.reading.TreeWalks.{landed}
 use Rattle.yaml_read.proofs.reading.Fronts.{first_fault}
-use Rattle.yaml_read.proofs.reading.WholeReadings.{shows_list, err_is, landed_ok, landed_err, answer_ok, told_err}
-pub use Rattle.yaml_read.proofs.reading.WholeReadings.{whole_source, whole_reading, seen_whole}
+use Rattle.yaml_read.proofs.reading.WholeReadings.{err_is, lands_ok, lands_err, answer_ok, told_err, start, whole_tied}
 
 -- what is told of a document that was cut off is what cut it off, or a fault of a node
 told_by : (r : Reading PlainData) (cut y : Cause) → y ≡ cut_fault cut (value_told r) → is_memory y ≡ false
@@ -54,44 +46,30 @@ cut_own (refused other) y ending cut ended kept known e =
     subst IsReadingFault (sym (kept (λ h. absurd cc)) ∙ e) (fault_is_reading other)
 
 module _ (limits : PlainLimits) (table : List PlainShape) (s : PlainShape) (document : PlainDocument) where
-  module _ (root : DocNode) (is : IsTreeOf document root) where
-    shown : Shows (slice_get document.events) 0 (events_of root)
-    shown = subst (Shows (slice_get document.events) 0) is.events (shows_list document.events)
-
-    -- what reading by places answers is what reading the tree answers
-    tied : whole_reading limits table document s ≡ landed (0 + length (events_of root))
-        (whole_tree limits table document.events s root)
-    tied =
-        reader_tied (whole_source table document) (λ p e. slice_get_within document.events p e)
-        (node_ends document.events) (marks_of document.events) (λ p. refl) root shown is.known
-        (whole_fuel limits (length document.events)) root_way s limits.nesting None root
-        (record { place = 0; left = limits.follows * length document.events }) shown
-
-    -- an answer is what the tree means
-    pub answer_read : (v : PlainData) → answer_of limits table s document root ≡ Ok v
-        → Reads limits table s root (length document.events) v
-    answer_read v h =
-        let r = answer_ok (whole_tree limits table document.events s root) v h in
-        let f = tree_sound table root (marks_of document.events)
-        (whole_fuel limits (length document.events)) root_way s limits.nesting None root
-        (record { place = 0; left = limits.follows * length document.events }) (v, r.0) r.1 in
-        record {
-          nestings = f.d;
-          followed = f.k;
-          means = f.meaning;
-          nests_within = f.nested;
-          follows_within = omega (arith, f.followed);
-        }
+  -- an answer is what the tree means
+  pub answer_read : (root : DocNode) → IsTreeOf document root → (v : PlainData)
+      → answer_of limits table s document root ≡ Ok v → Reads limits table s root (length document.events) v
+  answer_read root is v h =
+      let r = answer_ok (whole_tree limits table document.events s root) v h in
+      let f = tree_sound table root (marks_of document.events)
+      (whole_fuel limits (length document.events)) root_way s limits.nesting None root
+      (start limits document) (v, r.0) r.1 in
+      record {
+        nestings = f.d;
+        followed = f.k;
+        means = f.meaning;
+        nests_within = f.nested;
+        follows_within = omega (arith, f.followed);
+      }
 
   -- data that reading by places finds is the answer of the tree, and so is a fault
   pub answered : (v : PlainData) (next : Spot) → whole_reading limits table document s ≡ Ok (v, next) → (root : DocNode)
       → IsTreeOf document root → Ok v ≡ answer_of limits table s document root
-  answered v next h root is = sym (landed_ok _ (whole_tree limits table document.events s root) v next
-      (sym (tied root is) ∙ h))
+  answered v next h root is = lands_ok (whole_tied table document root is limits s) v next h
 
   pub fault_answered : (y : PlainRefusal) → whole_reading limits table document s ≡ Err y → (root : DocNode)
       → IsTreeOf document root → Err (cause_of y) ≡ answer_of limits table s document root
-  fault_answered y h root is = sym (landed_err _ (whole_tree limits table document.events s root) y (sym (tied root is) ∙ h))
+  fault_answered y h root is = lands_err (whole_tied table document root is limits s) y h
 
   -- what is told of a document that was cut off, where reading answers a fault
   pub told_cut : (refusal : PlainRefusal) (y ending : Cause)
@@ -171,7 +149,7 @@ module _ (limits : PlainLimits) (table : List PlainShape) (s : PlainShape) (docu
     outcome root v d k m =
         tree_outcome table root (marks_of document.events) small falls m root_way
         (whole_fuel limits (length document.events)) limits.nesting None
-        (record { place = 0; left = limits.follows * length document.events }) refl (omega (arith, low))
+        (start limits document) refl (omega (arith, low))
 
     -- within the limits what the tree means is answered
     pub read_answer : (root : DocNode) (v : PlainData) → Reads limits table s root (length document.events) v

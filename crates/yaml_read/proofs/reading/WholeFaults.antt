@@ -1,15 +1,13 @@
 -- The fault of a tree under a shape of a schema is one of reading.
-use Rattle.std.proofs.Common.{◌≡◌, ℕ, ◌*◌, ◌<◌, ◌≤◌, List, length, Some, None, Err, ap, ◌∙◌, arith, subst}
-use Rattle.std.proofs.lemmas.List.Elements.{All-get_or}
-use Rattle.std.proofs.lemmas.Option.{slice_get_within, get_or_from_slice_get}
-use Rattle.yaml_read.proofs.Words.{Cause, PlainShape, option_shape, shape_at, AllNameWithin, NamesWithin, rank, DocNode}
-use Rattle.yaml_read.proofs.Words.{PlainDocument, cause_of, root_way, IsReadingFault, PlainLimits, marks_of, whole_fuel}
-use Rattle.yaml_read.proofs.Words.{whole_tree, answer_of}
+use Rattle.yaml_read.proofs.Words.{◌≡◌, ℕ, ◌<◌, ◌≤◌, List, length, Some, None, Err, ap, ◌∙◌, arith, subst, All-get_or}
+use Rattle.yaml_read.proofs.Words.{slice_get_within, get_or_from_slice_get, Cause, PlainShape, option_shape, shape_at}
+use Rattle.yaml_read.proofs.Words.{AllNameWithin, NamesWithin, rank, DocNode, PlainDocument, cause_of, root_way}
+use Rattle.yaml_read.proofs.Words.{IsReadingFault, PlainLimits, marks_of, whole_fuel, whole_tree, answer_of}
 use Rattle.yaml_read.proofs.reading.Reaches.{low}
-use Rattle.yaml_read.proofs.reading.TreeEnds.{Any, ends_refused}
+use Rattle.yaml_read.proofs.reading.TreeEnds.{ends_refused}
 use Rattle.yaml_read.proofs.reading.ReadingCauses.{fault_is_reading}
 use Rattle.yaml_read.proofs.reading.TreeFaults.{tree_ends}
-use Rattle.yaml_read.proofs.reading.WholeReadings.{told_err}
+use Rattle.yaml_read.proofs.reading.WholeReadings.{start, told_err}
 
 module _ (table : List PlainShape) (small : (id : ℕ) → rank table id ≤ 4096) (falls : (id content : ℕ)
     → shape_at table id ≡ Some (option_shape content) → rank table content < rank table id)
@@ -25,10 +23,9 @@ module _ (table : List PlainShape) (small : (id : ℕ) → rank table id ≤ 409
   answer_kind id s document root at fault e =
       let short = low table small falls id s at in
       let told = told_err (whole_tree limits table document.events s root) fault e in
-      let refused = ends_refused Any (limits.follows * length document.events)
-      (whole_tree limits table document.events s root)
+      let refused = ends_refused
       (tree_ends table root (marks_of document.events) small falls closed
       (whole_fuel limits (length document.events)) root_way s limits.nesting None root
-      (record { place = 0; left = limits.follows * length document.events })
+      (start limits document)
       (names_within id s at) short (omega (arith, short))) told.0 told.1 in
       subst IsReadingFault (ap cause_of refused.1 ∙ told.2) (fault_is_reading refused.0)

@@ -1,14 +1,16 @@
 -- The reading of a document by its places from its start, and what its answer says.
-use Rattle.std.proofs.Common.{◌≡◌, ℕ, suc, ◌*◌, ◌<◌, ◌≤◌, List, [], ◌∷◌, map, length, None, Result, Ok, Err}
-use Rattle.std.proofs.Common.{false, refl, sym, ap, ◌∙◌, arith}
-use Rattle.std.specs.Prelude.{slice_get}
-use Rattle.std.proofs.lemmas.List.{length-map}
-use Rattle.yaml_read.proofs.Words.{Position, Cause, PlainData, PlainShape, doc_event_of, marked_events_of, ends_of}
-use Rattle.yaml_read.proofs.Words.{PlainDocEvent, PlainDocument, DocEvent, PlainRefusal, cause_of, depth, reach}
-use Rattle.yaml_read.proofs.Words.{root_way, PlainLimits, Spot, Answer, value_told, whole_fuel, Source, Reading, Events}
-use Rattle.yaml_read.proofs.Words.{node_at}
+use Rattle.yaml_read.proofs.Words.{◌≡◌, ℕ, suc, ◌+◌, ◌*◌, ◌<◌, ◌≤◌, List, [], ◌∷◌, map, length, Option, None, Result}
+use Rattle.yaml_read.proofs.Words.{Ok, Err, Bool, true, false, refl, sym, ap, subst, ◌∙◌, arith, slice_get, is_some}
+use Rattle.yaml_read.proofs.Words.{length-map, slice_get_within, Position, Cause, PlainData, PlainShape, doc_event_of}
+use Rattle.yaml_read.proofs.Words.{marked_events_of, ends_of, DocNode, events_of, PlainDocEvent, PlainDocument}
+use Rattle.yaml_read.proofs.Words.{DocEvent, PlainRefusal, cause_of, depth, reach, nesting_depth, untaken_reach}
+use Rattle.yaml_read.proofs.Words.{TakenBy, Way, root_way, IsTreeOf, PlainLimits, Spot, Answer, marks_of, value_told}
+use Rattle.yaml_read.proofs.Words.{whole_fuel, whole_tree, read_tree, Source, Reading, Events, node_at}
+use Rattle.yaml_read.proofs.reading.EndLaws.{node_ends}
 use Rattle.yaml_read.proofs.reading.Shown.{Shows}
-use Rattle.yaml_read.proofs.reading.TreeWalks.{landed}
+use Rattle.yaml_read.proofs.reading.TreeLaws.{reader_tied}
+use Rattle.yaml_read.proofs.reading.TreeParts.{AreTied}
+use Rattle.yaml_read.proofs.reading.TreeWalks.{Lands, lands, refuses}
 
 shift : (f : Events) (p : ℕ) (es : List PlainDocEvent) → Shows (λ q. f (suc q)) p es → Shows f (suc p) es
 shift f p [] s = tt
@@ -27,31 +29,73 @@ whole_source table document = record {
   size = length document.events;
 }
 
+-- where the reading of a document starts
+abbrev pub start : PlainLimits → PlainDocument → Spot
+start limits document = record { place = 0; left = limits.follows * length document.events }
+
 -- the reading of a document from its start, by places
 abbrev pub whole_reading : PlainLimits → List PlainShape → PlainDocument → PlainShape → Reading PlainData
 whole_reading limits table document s =
     node_at (whole_source table document) (whole_fuel limits (length document.events)) root_way s limits.nesting None
-    (record { place = 0; left = limits.follows * length document.events })
+    (start limits document)
 
--- what the walk over a document's events gives is that reading
-pub seen_whole : (limits : PlainLimits) (table : List PlainShape) (s : PlainShape) → reach table s ≤ 4096
-    → (document : PlainDocument)
-    (es : List (DocEvent × Position)) (ends : List ℕ) (r : Reading PlainData) → marked_events_of es ≡ document.events
-    → ends ≡ ends_of (map (λ e. e.0) document.events)
-    → ((fuel : ℕ) → depth table s false limits.nesting (limits.follows * length es) < fuel
-    → node_at (record {
-      table = table;
-      events = slice_get (marked_events_of es);
-      ends = slice_get ends;
-      size = length es;
-    }) fuel root_way s limits.nesting None
-    (record { place = 0; left = limits.follows * length es }) ≡ r)
-    → whole_reading limits table document s ≡ r
-seen_whole limits table s small document es ends r seen numbers gives =
-    let size : length es ≡ length document.events = sym (length-map es (λ e. (doc_event_of e.0, e.1)))
-    ∙ ap length seen in
-    let same = gives (whole_fuel limits (length es)) (omega (arith, small)) in
-    rw (seen, size, numbers) at same
+module _ (table : List PlainShape) (document : PlainDocument) (root : DocNode) (is : IsTreeOf document root) where
+  -- the events of a document show its tree
+  pub tree_shown : Shows (slice_get document.events) 0 (events_of root)
+  tree_shown = subst (Shows (slice_get document.events) 0) is.events (shows_list document.events)
+
+  -- what reading by places answers is what reading in the tree answers
+  pub document_tied : (fuel : ℕ) (way : Way) → AreTied (whole_source table document)
+      (node_at (whole_source table document) fuel way) (read_tree table fuel root (marks_of document.events) way)
+  document_tied =
+      reader_tied (whole_source table document) (λ p e. slice_get_within document.events p e)
+      (node_ends document.events) (marks_of document.events) (λ p. refl) root tree_shown is.known
+
+  pub whole_tied : (limits : PlainLimits) (s : PlainShape) → Lands (0 + length (events_of root))
+      (whole_reading limits table document s) (whole_tree limits table document.events s root)
+  whole_tied limits s =
+      document_tied (whole_fuel limits (length document.events)) root_way s limits.nesting None root
+      (start limits document) tree_shown
+
+pub reach_small : (taken : Bool) → untaken_reach taken ≤ 4100
+reach_small true = omega arith
+reach_small false = omega arith
+
+module _ (table : List PlainShape) (s : PlainShape) (small : reach table s ≤ 4096) (document : PlainDocument)
+    (es : List (DocEvent × Position)) (ends : List ℕ) where
+  -- what the walk over a document's events gives is that reading, of a node, and of the document
+  pub seen_at : (way : Way) (nest : ℕ) (taken : Option TakenBy) (at : Spot) (r : Reading PlainData)
+      → marked_events_of es ≡ document.events → ends ≡ ends_of (map (λ e. e.0) document.events)
+      → ((fuel : ℕ) → depth table s (is_some taken) nest at.left < fuel
+      → node_at (record {
+        table = table;
+        events = slice_get (marked_events_of es);
+        ends = slice_get ends;
+        size = length es;
+      }) fuel way s nest taken at ≡ r)
+      → node_at (whole_source table document) (nesting_depth * (at.left + nest + 1)) way s nest taken at ≡ r
+  seen_at way nest taken at r seen numbers gives =
+      let size : length es ≡ length document.events = sym (length-map es (λ e. (doc_event_of e.0, e.1)))
+      ∙ ap length seen in
+      let same = gives (nesting_depth * (at.left + nest + 1)) (omega (arith, small, reach_small (is_some taken))) in
+      rw (seen, size, numbers) at same
+
+  pub whole_seen : (limits : PlainLimits) (nest follows : ℕ) (r : Reading PlainData) → nest ≡ limits.nesting
+      → follows ≡ limits.follows
+      → marked_events_of es ≡ document.events → ends ≡ ends_of (map (λ e. e.0) document.events)
+      → ((fuel : ℕ) → depth table s false nest (follows * length es) < fuel
+      → node_at (record {
+        table = table;
+        events = slice_get (marked_events_of es);
+        ends = slice_get ends;
+        size = length es;
+      }) fuel root_way s nest None (record { place = 0; left = follows * length es }) ≡ r)
+      → whole_reading limits table document s ≡ r
+  whole_seen limits nest follows r n f seen numbers gives =
+      let size : length es ≡ length document.events = sym (length-map es (λ e. (doc_event_of e.0, e.1)))
+      ∙ ap length seen in
+      let same = seen_at root_way nest None (record { place = 0; left = follows * length es }) r seen numbers gives in
+      rw (size, n, f) at same
 
 pub same_ok : {E A : Type 0} (x y : A) → ◌≡◌ {A = Result A E} (Ok x) (Ok y) → x ≡ y
 same_ok x y h = cc
@@ -59,15 +103,22 @@ same_ok x y h = cc
 pub err_is : {E A : Type 0} (e f : E) → ◌≡◌ {A = Result A E} (Err e) (Err f) → e ≡ f
 err_is e f h = cc
 
-pub landed_ok : (p : ℕ) (r : Answer PlainData) (v : PlainData) (next : Spot) → landed p r ≡ Ok (v, next)
-    → value_told r ≡ Ok v
-landed_ok p (Ok x) v next h = ap (λ (y : PlainData × Spot). Ok y.0) (same_ok _ _ h)
-landed_ok p (Err y) v next h = absurd cc
+-- data that the reading by places finds, and a fault that it has, is what reading the tree answers
+pub lands_at : {p : ℕ} {q : Reading PlainData} {r : Answer PlainData} → Lands p q r → (v : PlainData) (next : Spot)
+    → q ≡ Ok (v, next) → (r ≡ Ok (v, next.left)) × (next.place ≡ p)
+lands_at (lands x left) v next h =
+    let same = same_ok _ _ h in
+    (ap (λ (y : PlainData × Spot). Ok (y.0, y.1.left)) same, sym (ap (λ (y : PlainData × Spot). y.1.place) same))
+lands_at (refuses y) v next h = absurd cc
 
-pub landed_err : (p : ℕ) (r : Answer PlainData) (y : PlainRefusal) → landed p r ≡ Err y
-    → value_told r ≡ Err (cause_of y)
-landed_err p (Ok x) y h = absurd cc
-landed_err p (Err z) y h = ap (λ f. Err (cause_of f)) (err_is _ _ h)
+pub lands_ok : {p : ℕ} {q : Reading PlainData} {r : Answer PlainData} → Lands p q r → (v : PlainData) (next : Spot)
+    → q ≡ Ok (v, next) → Ok v ≡ value_told r
+lands_ok l v next h = sym (ap value_told (lands_at l v next h).0)
+
+pub lands_err : {p : ℕ} {q : Reading PlainData} {r : Answer PlainData} → Lands p q r → (y : PlainRefusal) → q ≡ Err y
+    → Err (cause_of y) ≡ value_told r
+lands_err (lands x left) y h = absurd cc
+lands_err (refuses z) y h = sym (ap (λ f. Err (cause_of f)) (err_is _ _ h))
 
 pub answer_ok : (r : Answer PlainData) (v : PlainData) → value_told r ≡ Ok v → (left : ℕ) × (r ≡ Ok (v, left))
 answer_ok (Ok x) v h = (x.1, ap (λ w. Ok (w, x.1)) (same_ok _ _ h))

@@ -1,40 +1,22 @@
 -- Shapes that a table has, the contents of its variants, and fields that are found by their names.
-use Rattle.std.proofs.Common.{◌≡◌, ℕ, zero, suc, ◌<◌, ◌≤◌, List, [], ◌∷◌, length, Option, Some, None}
-use Rattle.std.proofs.Common.{Result, Ok, Err, Bool, true, false, refl, ap, subst, arith, All, get_or}
-use Rattle.std.proofs.Common.{bytes_eq, if◌then◌else◌}
-use Rattle.std.specs.Option.{option_map}
-use Rattle.std.proofs.lemmas.List.Elements.{All-head, All-tail, All-nil, All-get_or}
-use Rattle.std.proofs.lemmas.Option.{slice_get-get_or}
-use Rattle.yaml_read.proofs.Words.{PlainShape, shape_at, content_shape, PlainVariant, AllNameWithin, NamesWithin}
-use Rattle.yaml_read.proofs.Words.{named_in, numbers_of, rank, ReadFault, ◌>>=◌, Fields, find, reach, Way}
+use Rattle.yaml_read.proofs.Words.{sym, ◌≡◌, ℕ, ◌<◌, ◌≤◌, List, [], length, Option, Some, Result, Ok, Err, refl, ap}
+use Rattle.yaml_read.proofs.Words.{arith, All, get_or, All-head, All-nil, All-get_or, slice_get-get_or, PlainShape}
+use Rattle.yaml_read.proofs.Words.{shape_at, content_shape, PlainVariant, AllNameWithin, NamesWithin, named_in}
+use Rattle.yaml_read.proofs.Words.{numbers_of, rank, ReadFault, ◌>>=◌, Fields, find, reach, Way}
 use Rattle.yaml_shape.specs.PlainShape as shape
+use Rattle.yaml_read.proofs.FieldCode.{find_within}
+use Rattle.yaml_read.proofs.reading.PartExits.{all_at}
 use Rattle.yaml_read.proofs.reading.Reaches.{low}
 
 -- what all numbers of a struct's fields meet, that of a field that is found meets
 pub find_all : (P : ℕ → Type 0) (fields : Fields) (name : List ℕ) (f : ℕ × ℕ) → find fields name ≡ Some f
     → All P (numbers_of fields) → P f.1
-find_all P [] name f is a = absurd cc
-find_all P (g ∷ gs) name f is a =
-    chosen (bytes_eq g.0 name) (find gs name) is
-    (λ u e. find_all P gs name u e (All-tail P g.1 (numbers_of gs) a))
-  where
-    same_some : {A : Type 0} {x y : A} → Some x ≡ Some y → x ≡ y
-    same_some h = cc
-
-    chosen : (b : Bool) (o : Option (ℕ × ℕ))
-        → (if b then Some (zero, g.1) else option_map (λ x. (suc x.0, x.1)) o) ≡ Some f
-        → ((u : ℕ × ℕ) → o ≡ Some u → P u.1) → P f.1
-    chosen true o e later = subst (λ (u : ℕ × ℕ). P u.1) (same_some e) (All-head P g.1 (numbers_of gs) a)
-    chosen false None e later = absurd cc
-    chosen false (Some u) e later = subst (λ (u : ℕ × ℕ). P u.1) (same_some e) (later u refl)
+find_all P fields name f is a = all_at P (numbers_of fields) f.0 f.1 a (sym (find_within fields name f.0 f.1 is))
 
 -- what was looked up is what was answered, before its way was added
-pub looked : (r : Result (Option (ℕ × ℕ)) ReadFault) (w : Way) (x : Option (ℕ × ℕ) × Way) → (r >>= λ f. Ok (f, w)) ≡ Ok x
-    → r ≡ Ok x.0
-looked (Ok o) w x h = ap (λ (y : Option (ℕ × ℕ) × Way). Ok y.0) (same_ok h)
-  where
-    same_ok : {A : Type 0} {x y : A} → ◌≡◌ {A = Result A ReadFault} (Ok x) (Ok y) → x ≡ y
-    same_ok h = cc
+pub looked : (r : Result (Option (ℕ × ℕ)) ReadFault) (w : Way) (x : Option (ℕ × ℕ) × Way)
+    → (r >>= λ f. Ok (f, w)) ≡ Ok x → r ≡ Ok x.0
+looked (Ok o) w x h = let same : (o, w) ≡ x = cc in ap (λ (y : Option (ℕ × ℕ) × Way). Ok y.0) same
 looked (Err y) w x h = absurd cc
 
 module _ (table : List PlainShape) (small : (id : ℕ) → rank table id ≤ 4096) (falls : (id content : ℕ)

@@ -1,6 +1,6 @@
 -- What a node gives, from what its reading gives.
-use Rattle.std.proofs.Common.{sym, refl, subst, ◌∙◌, map, Ok, Err}
-use Rattle.yaml_read.proofs.Words.{Position, data_of, shape_of, PlainDocEvent, cause_of, NodeGives, way_of}
+use Rattle.yaml_read.proofs.Words.{sym, refl, subst, ◌∙◌, map, Ok, Err, Position, data_of, shape_of, PlainDocEvent}
+use Rattle.yaml_read.proofs.Words.{cause_of, NodeGives, way_of}
 use Rattle.yaml_read.proofs.reading.EndLaws.{ends_go_forward}
 use Rattle.yaml_read.proofs.reading.ReadingCauses.{known_refusal}
 use Rattle.yaml_read.proofs.reading.SingleNodes.{seen_node, node_data, node_fault, one_shape}
@@ -34,4 +34,5 @@ returns-in-None-clause-read c = λ s there. rw c.into_error.ensures (λ known.
     c.optionals_end.ensures.small c.optionals_end.ensures.falls c.shape.ensures.small c.in-Err.refusal c.args.at.now
     (λ root is. seen_node c.args.schema.now (shape_of c.shape.result.now) c.args.self.now (way_of c.args.path.now)
     c.args.at.now c.events.result.now c.ends.result.now _ _ c.taker.ensures c.shape.ensures.small
-    c.events.ensures.shown c.ends.ensures (λ fuel lt. c.in-Err.ensures.gives fuel lt (known_refusal c.in-Err.refusal known)))))
+    c.events.ensures.shown c.ends.ensures (λ fuel lt. c.in-Err.ensures.gives fuel lt
+    (known_refusal c.in-Err.refusal known)))))

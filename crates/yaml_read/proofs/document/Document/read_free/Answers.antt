@@ -1,10 +1,9 @@
 -- What a whole document gives before any walk.
-use Rattle.std.proofs.Common.{◌≡◌, sym, ap, ◌∙◌, true, false, subst}
-use Rattle.yaml_read.proofs.Words.{data_of, shape_of, takes_no_memory}
+use Rattle.yaml_read.proofs.Words.{◌≡◌, sym, ap, ◌∙◌, true, false, subst, data_of, shape_of, takes_no_memory}
 use Rattle.yaml_read.proofs.FreeLaws.{scalar_answered, absent_answered, ignored_answered, ignored_is, first_scalar}
 use Rattle.yaml_read.proofs.FreeLaws.{not_cut, if_some}
-use Rattle.yaml_read.proofs.document.Document.read_free.Goals as goal
 use Rattle.yaml_read.proofs.document.Document.read_free.Goals.{in-IgnoredAny, in_default, in-Option, in_default-matches}
+use Rattle.yaml_read.proofs.document.Document.read_free.Goals as goal
 
 pub returns-then-matches-clause-answers : goal.returns-then-matches-clause-answers
 returns-then-matches-clause-answers c = elim c.match-matches.branch [

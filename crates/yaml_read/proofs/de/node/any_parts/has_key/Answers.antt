@@ -1,8 +1,5 @@
 -- A key is there where it has a value.
-use Rattle.std.proofs.Common.{◌≡◌, ap, ◌∙◌, Some, None, Option, refl}
-use Rattle.std.specs.Option.{is_some, option_map}
-use Rattle.yaml_tree.specs.Valid.{pairs_of}
-use Rattle.yaml_tree.specs.View.{tree_of}
+use Rattle.yaml_read.proofs.Words.{◌≡◌, ap, ◌∙◌, Some, None, Option, refl, is_some, option_map, pairs_of, tree_of}
 use Rattle.yaml_read.proofs.AnyLaws.{key_there}
 use Rattle.yaml_read.proofs.de.node.any_parts.has_key.Goals as goal
 

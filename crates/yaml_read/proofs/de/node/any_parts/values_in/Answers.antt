@@ -1,8 +1,7 @@
 -- The value that comes next is put behind those so far.
-use Rattle.std.proofs.Common.{◌≡◌, [], length, sym, ap, ◌∙◌, arith}
-use Rattle.std.specs.Vec.Iter.{into_iter_items}
-use Rattle.yaml_tree.specs.View.{trees_of}
-use Rattle.yaml_read.proofs.AnyCode.{trees_then, trees_in_data, then_nothing, nothing_left, next_value}
+use Rattle.std.proofs.lemmas.List.{nil_from_length}
+use Rattle.yaml_read.proofs.Words.{◌≡◌, [], length, sym, ap, ◌∙◌, arith, into_iter_items, trees_of}
+use Rattle.yaml_read.proofs.AnyCode.{trees_then, trees_in_data, then_nothing, next_value}
 use Rattle.yaml_read.proofs.de.node.any_parts.values_in.Goals as goal
 
 pub items-preserved : goal.items-preserved
@@ -19,7 +18,7 @@ pub returns-in-None : goal.returns-in-None
 returns-in-None c =
     let values = trees_of c.items.values.items in
     let none_left : into_iter_items c.items.rest ≡ [] =
-    nothing_left (into_iter_items c.items.rest)
+    nil_from_length (into_iter_items c.items.rest)
     (omega (arith, c.in-None.ensures.len, c.in-None.ensures.cases.0, c.items.invariant.counted)) in
     sym (then_nothing values)
     ∙ (ap (λ ds. trees_then values (trees_in_data ds)) (sym none_left) ∙ c.items.invariant.gathered)

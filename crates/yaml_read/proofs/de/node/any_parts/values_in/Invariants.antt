@@ -1,7 +1,5 @@
 -- The values so far, and those that are left.
-use Rattle.std.proofs.Common.{◌≡◌, length}
-use Rattle.std.specs.Vec.Iter.{into_iter_items, into_iter_len}
-use Rattle.yaml_tree.specs.View.{trees_of}
+use Rattle.yaml_read.proofs.Words.{◌≡◌, length, into_iter_items, into_iter_len, trees_of}
 use Rattle.yaml_read.proofs.AnyCode.{trees_then, trees_in_data}
 use Rattle.yaml_read.proofs.de.node.any_parts.values_in.Given as goal
 

@@ -1,9 +1,7 @@
 -- The field here is put before those behind it.
-use Rattle.std.proofs.Common.{ap, ◌∙◌, arith, ◌≡◌, ◌-◌, ◌+◌, Some, get_or}
 use Rattle.std.proofs.lemmas.Map.Text.{hash_map_updates_str}
-use Rattle.std.specs.HashMap.{get_by}
-use Rattle.std.specs.Prelude.{bytes_eq, cond, drop}
-use Rattle.yaml_read.proofs.Words.{fields_of, find, field_view}
+use Rattle.yaml_read.proofs.Words.{ap, ◌∙◌, arith, ◌≡◌, ◌-◌, ◌+◌, Some, get_or, get_by, bytes_eq, cond, drop, fields_of}
+use Rattle.yaml_read.proofs.Words.{find, field_view}
 use Rattle.yaml_read.proofs.FieldCode.{behind_by, put_before}
 use Rattle.yaml_read.proofs.de.node.field_index.by_name.Goals as goal
 

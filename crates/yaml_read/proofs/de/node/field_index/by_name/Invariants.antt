@@ -1,8 +1,5 @@
 -- The fields behind the place are found by their names.
-use Rattle.std.proofs.Common.{◌≡◌, ℕ, ◌≤◌, List, length}
-use Rattle.std.specs.HashMap.{get_by}
-use Rattle.std.specs.Prelude.{bytes_eq, drop}
-use Rattle.yaml_read.proofs.Words.{fields_of, find, field_view}
+use Rattle.yaml_read.proofs.Words.{◌≡◌, ℕ, ◌≤◌, List, length, get_by, bytes_eq, drop, fields_of, find, field_view}
 use Rattle.yaml_read.proofs.FieldCode.{behind_by}
 use Rattle.yaml_read.proofs.de.node.field_index.by_name.Given as goal
 

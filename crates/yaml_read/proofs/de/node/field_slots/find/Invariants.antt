@@ -1,8 +1,5 @@
 -- No field so far has the name.
-use Rattle.std.proofs.Common.{◌≡◌}
-use Rattle.std.specs.Prelude.{drop}
-use Rattle.yaml_shape.specs.ShapeView.{fields_of}
-use Rattle.yaml_read.specs.Fields.{find}
+use Rattle.yaml_read.proofs.Words.{◌≡◌, drop, fields_of, find}
 use Rattle.yaml_read.proofs.FieldCode.{behind_by}
 use Rattle.yaml_read.proofs.de.node.field_slots.find.Given as goal
 

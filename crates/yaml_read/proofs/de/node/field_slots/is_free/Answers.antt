@@ -1,7 +1,5 @@
 -- A place is free where its slot is empty, or where there is none.
-use Rattle.std.proofs.Common.{◌<◌, length, refl, sym}
-use Rattle.std.proofs.lemmas.Bool.{ltb-true, ltb-false}
-use Rattle.std.proofs.lemmas.Option.{slice_get_read}
+use Rattle.yaml_read.proofs.Words.{◌<◌, length, refl, sym, ltb-true, ltb-false, slice_get_read}
 use Rattle.yaml_read.proofs.SlotCode.{free_here, free_outside}
 use Rattle.yaml_read.proofs.de.node.field_slots.is_free.Goals as goal
 

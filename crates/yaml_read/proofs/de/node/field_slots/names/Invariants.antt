@@ -1,6 +1,5 @@
 -- What was copied so far is the names so far.
-use Rattle.std.proofs.Common.{◌≡◌, take}
-use Rattle.yaml_shape.specs.ShapeView.{fields_of}
+use Rattle.yaml_read.proofs.Words.{◌≡◌, take, fields_of}
 use Rattle.yaml_shape.specs.Validity.{names_of}
 use Rattle.yaml_read.proofs.de.node.field_slots.names.Given as goal
 

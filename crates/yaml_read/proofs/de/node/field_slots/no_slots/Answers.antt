@@ -1,5 +1,5 @@
 -- The slots are as many as the fields.
-use Rattle.std.proofs.Common.{◌≡◌, length, arith}
+use Rattle.yaml_read.proofs.Words.{◌≡◌, length, arith}
 use Rattle.yaml_read.proofs.SlotCode.{empty_slots}
 use Rattle.yaml_read.proofs.de.node.field_slots.no_slots.Goals as goal
 

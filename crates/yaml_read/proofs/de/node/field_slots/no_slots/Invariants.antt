@@ -1,5 +1,5 @@
 -- What stands there is empty, and no more than there are fields.
-use Rattle.std.proofs.Common.{◌-◌, ◌≤◌, length}
+use Rattle.yaml_read.proofs.Words.{◌-◌, ◌≤◌, length}
 use Rattle.yaml_read.proofs.SlotCode.{AllEmpty}
 use Rattle.yaml_read.proofs.de.node.field_slots.no_slots.Given as goal
 

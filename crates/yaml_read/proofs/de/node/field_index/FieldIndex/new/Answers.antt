@@ -1,11 +1,9 @@
 -- Where there is a map, it was made of these fields.
-use Rattle.std.proofs.Common.{sym, ap, ◌∙◌, ◌≡◌, Some, None}
-use Rattle.std.specs.HashMap.{get_by}
-use Rattle.std.specs.Prelude.{bytes_eq}
-use Rattle.yaml_read.specs.inner.Walks.{field_view}
+use Rattle.yaml_read.proofs.Words.{sym, ap, ◌∙◌, ◌≡◌, Some, None, get_by, bytes_eq, field_view}
 use Rattle.yaml_read.proofs.FieldCode.{same_some}
+use Rattle.yaml_read.proofs.de.node.field_index.FieldIndex.new.Goals.{then-fields-gt-FEW+in_ok-by_name}
+use Rattle.yaml_read.proofs.de.node.field_index.FieldIndex.new.Goals.{else-fields-gt-FEW}
 use Rattle.yaml_read.proofs.de.node.field_index.FieldIndex.new.Goals as goal
-use Rattle.yaml_read.proofs.de.node.field_index.FieldIndex.new.Goals.{then-fields-gt-FEW+in_ok-by_name, else-fields-gt-FEW}
 
 pub invariant_of-result : goal.invariant_of-result
 invariant_of-result c = λ m is name.

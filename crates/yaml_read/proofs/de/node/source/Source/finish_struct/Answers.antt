@@ -1,9 +1,7 @@
 -- Each field's data is read from the slot that was taken for it.
-use Rattle.std.proofs.Common.{◌≡◌, Ok, map, length, refl, sym, ap, ◌∙◌, rules}
-use Rattle.std.specs.Option.{option_map}
-use Rattle.std.specs.Vec.Iter.{into_iter_items, into_iter_len}
-use Rattle.std.proofs.lemmas.Option.{slice_get_read}
-use Rattle.yaml_read.proofs.Words.{data_of, items_of, struct_data, field_of, Struct, lift, ◌>>=◌, field_data, slots_of}
+use Rattle.yaml_read.proofs.Words.{◌≡◌, Ok, map, length, refl, sym, ap, ◌∙◌, rules, option_map, into_iter_items}
+use Rattle.yaml_read.proofs.Words.{into_iter_len, slice_get_read, data_of, items_of, struct_data, field_of, Struct}
+use Rattle.yaml_read.proofs.Words.{lift, ◌>>=◌, field_data, slots_of}
 use Rattle.yaml_shape.specs.declared.data.Data.{the_lemmas}
 use Rattle.yaml_scalar.proofs.LiftLaws.{lifted_fails}
 use Rattle.yaml_read.proofs.FieldCode.{number_within}
@@ -32,8 +30,8 @@ returns-in_err-field_data c =
     (gathered_ends table c.loop-field.items.items c.args.fields.now c.loop-field.field-index c.field-item.result
     (into_iter_items c.loop-field.rest) (into_iter_items c.next.new.self) c.next.result _
     c.in_err-field_data.field-0.0 _ here slot
-    (ap (λ o. lift (field_data table (field_of c.field-item.result) (option_map data_of o))) (sym c.flatten-slot.ensures)
-    ∙ c.in_err-field_data.ensures small)
+    (ap (λ o. lift (field_data table (field_of c.field-item.result) (option_map data_of o)))
+    (sym c.flatten-slot.ensures) ∙ c.in_err-field_data.ensures small)
     c.loop-field.invariant.left))
 
 pub loop-field-preserved : goal.loop-field-preserved

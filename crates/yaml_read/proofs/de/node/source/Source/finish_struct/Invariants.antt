@@ -1,8 +1,6 @@
 -- The fields so far stand before what is left to gather.
-use Rattle.std.proofs.Common.{◌≡◌, map, length}
-use Rattle.std.specs.Prelude.{drop}
-use Rattle.std.specs.Vec.Iter.{into_iter_items, into_iter_len}
-use Rattle.yaml_read.proofs.Words.{data_of, fields_of, all_fields, slots_of}
+use Rattle.yaml_read.proofs.Words.{◌≡◌, map, length, drop, into_iter_items, into_iter_len, data_of, fields_of}
+use Rattle.yaml_read.proofs.Words.{all_fields, slots_of}
 use Rattle.yaml_read.proofs.SlotCode.{behind_these}
 use Rattle.yaml_read.proofs.de.node.source.Source.finish_struct.Given as goal
 
