@@ -1,7 +1,8 @@
 -- An alias means what its target means.
+use Rattle.std.specs.Prelude.{◌≡◌}
 use Rattle.yaml_read.proofs.Words.{follows_aliases, newtype_shape, ignored_shape, means_target, bytes_shape, PlainShape}
 use Rattle.yaml_read.proofs.Words.{first_event, means_node, PlainData, reference, DocNode, node_of, MeansAs, handed, ℕ}
-use Rattle.yaml_read.proofs.Words.{false, subst, as_is, early, Means, List, Some, None, true, refl, ◌≡◌, ◌∙◌, suc, sym}
+use Rattle.yaml_read.proofs.Words.{false, subst, as_is, early, Means, List, Some, None, true, refl, ◌∙◌, suc, sym}
 
 -- the shape hands an alias on as what it is by its kind
 handed_on : (s : PlainShape) (j : ℕ) → follows_aliases s ≡ true

@@ -1,9 +1,10 @@
 -- The values of data as the code gathers them.
+use Rattle.std.specs.Prelude.{◌≡◌, ◌∷◌, ◌++◌}
 use Rattle.std.proofs.Math.Bool.{Bool-set}
-use Rattle.yaml_read.proofs.Words.{◌≡◌, ℕ, pos, negsuc, List, [], ◌∷◌, ◌++◌, Bool, true, false, map, refl, sym, ap, ◌∙◌}
-use Rattle.yaml_read.proofs.Words.{true≢false, data_of, items_of, Data, is_number, integer_of, is_canonical, number_of}
-use Rattle.yaml_read.proofs.Words.{Trees, no_trees, tree, number, tree_of, trees_of, Integer, Number, Value, tree_in}
-use Rattle.yaml_read.proofs.Words.{trees_in, number_key, entry_key}
+use Rattle.yaml_read.proofs.Words.{ℕ, pos, negsuc, List, [], Bool, true, false, map, refl, sym, ap, ◌∙◌, true≢false}
+use Rattle.yaml_read.proofs.Words.{data_of, items_of, Data, is_number, integer_of, is_canonical, number_of, Trees}
+use Rattle.yaml_read.proofs.Words.{no_trees, tree, number, tree_of, trees_of, Integer, Number, Value, tree_in, trees_in}
+use Rattle.yaml_read.proofs.Words.{number_key, entry_key}
 use Rattle.yaml_tree.specs.declared.number.Integer.TheVariants.{Unsigned, Negative}
 use Rattle.yaml_base.specs.declared.entry_key.EntryKey.TheVariants as key
 

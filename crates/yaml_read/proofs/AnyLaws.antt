@@ -1,9 +1,10 @@
 -- A key that is new to each before it keeps the keys of a mapping distinct, and keys that are distinct are new.
+use Rattle.std.specs.Prelude.{◌≡◌, ◌∷◌, ◌++◌, ◌&&◌, ◌||◌, if◌then◌else◌}
 use Rattle.std.proofs.lemmas.Bool.{not-true}
-use Rattle.yaml_read.proofs.Words.{◌≡◌, List, [], ◌∷◌, ◌++◌, Result, Ok, Err, Bool, true, false, not, ◌&&◌, ◌||◌, refl}
-use Rattle.yaml_read.proofs.Words.{sym, ◌∙◌, ap, Some, None, is_some, if◌then◌else◌, entries_of, PlainData, tree_eq}
-use Rattle.yaml_read.proofs.Words.{tree_eq-symm, has_key, keys_distinct, value_at, with_pair, Tree, Pairs, with_last}
-use Rattle.yaml_read.proofs.Words.{ReadFault, at_node, duplicate_entry, tree_in, pairs_in, entry_key, new_key}
+use Rattle.yaml_read.proofs.Words.{List, [], Result, Ok, Err, Bool, true, false, not, refl, sym, ◌∙◌, ap, Some, None}
+use Rattle.yaml_read.proofs.Words.{is_some, entries_of, PlainData, tree_eq, tree_eq-symm, has_key, keys_distinct}
+use Rattle.yaml_read.proofs.Words.{value_at, with_pair, Tree, Pairs, with_last, ReadFault, at_node, duplicate_entry}
+use Rattle.yaml_read.proofs.Words.{tree_in, pairs_in, entry_key, new_key}
 use Rattle.yaml_tree.specs.Tree.{no_pairs, pair}
 
 -- the pairs that a list of keys with values is

@@ -1,10 +1,11 @@
 -- The fields of a struct as the code looks one up.
+use Rattle.std.specs.Prelude.{◌≡◌, ◌+◌, ◌<◌, ◌∷◌, if◌then◌else◌}
 use Rattle.std.specs.declared.alloc.Global.{Global}
-use Rattle.yaml_read.proofs.Words.{◌≡◌, ℕ, zero, suc, ◌+◌, ◌<◌, List, [], ◌∷◌, map, length, get_or, All, Option, Some}
-use Rattle.yaml_read.proofs.Words.{None, Bool, true, false, refl, sym, ap, ◌∙◌, subst, arith, add-one, String}
-use Rattle.yaml_read.proofs.Words.{string_bytes, drop, slice_get, bytes_eq, cond, if◌then◌else◌, option_map}
-use Rattle.yaml_read.proofs.Words.{slice_get_within, slice_get-get_or, slice_get-map, get_or_from_slice_get, field_of}
-use Rattle.yaml_read.proofs.Words.{fields_of, numbers_of, ShapeId, Fields, find, field_view}
+use Rattle.yaml_read.proofs.Words.{ℕ, zero, suc, List, [], map, length, get_or, All, Option, Some, None, Bool, true}
+use Rattle.yaml_read.proofs.Words.{false, refl, sym, ap, ◌∙◌, subst, arith, add-one, String, string_bytes, drop}
+use Rattle.yaml_read.proofs.Words.{slice_get, bytes_eq, cond, option_map, slice_get_within, slice_get-get_or}
+use Rattle.yaml_read.proofs.Words.{slice_get-map, get_or_from_slice_get, field_of, fields_of, numbers_of, ShapeId}
+use Rattle.yaml_read.proofs.Words.{Fields, find, field_view}
 use Rattle.yaml_read.proofs.FieldLaws.{found_later, same_place, same_number}
 
 -- the code's fields

@@ -1,11 +1,11 @@
 -- What is found and held of a struct's fields, and what becomes of it.
+use Rattle.std.specs.Prelude.{◌≡◌, ◌∷◌, if◌then◌else◌}
 use Rattle.std.specs.Cmp.Derive.{both_true}
-use Rattle.yaml_read.proofs.Words.{◌≡◌, ℕ, zero, suc, List, [], ◌∷◌, set, Option, Some, None, Result, Ok, Err, Bool}
-use Rattle.yaml_read.proofs.Words.{true, false, bytes_eq, refl, ap, subst, if◌then◌else◌, option_map, Place, items_of}
-use Rattle.yaml_read.proofs.Words.{has_shape, each_has, passes, on_option, PlainData, struct_data, none_data}
-use Rattle.yaml_read.proofs.Words.{PlainShape, option_shape, fields_shape, Owner, shape_at, numbers_of, ReadFault}
-use Rattle.yaml_read.proofs.Words.{◌>>=◌, is_option, Fields, Slots, no_slots, find, is_free, known_field, field_named}
-use Rattle.yaml_read.proofs.Words.{field_data, all_fields, struct_of}
+use Rattle.yaml_read.proofs.Words.{ℕ, zero, suc, List, [], set, Option, Some, None, Result, Ok, Err, Bool, true, false}
+use Rattle.yaml_read.proofs.Words.{bytes_eq, refl, ap, subst, option_map, Place, items_of, has_shape, each_has, passes}
+use Rattle.yaml_read.proofs.Words.{on_option, PlainData, struct_data, none_data, PlainShape, option_shape, fields_shape}
+use Rattle.yaml_read.proofs.Words.{Owner, shape_at, numbers_of, ReadFault, ◌>>=◌, is_option, Fields, Slots, no_slots}
+use Rattle.yaml_read.proofs.Words.{find, is_free, known_field, field_named, field_data, all_fields, struct_of}
 use Rattle.yaml_scalar.proofs.OfShape.{is_of}
 
 -- answers are the same only where their data is

@@ -1,13 +1,14 @@
 -- Documents that are read without a walk, and shapes that name no others.
+use Rattle.std.specs.Prelude.{◌≡◌, ◌*◌, ◌<◌, ◌≤◌, ◌∷◌, ◌||◌, if◌then◌else◌}
 use denote.Ref.{Bor}
-use Rattle.yaml_read.proofs.Words.{rules, ◌≡◌, ℕ, zero, suc, ◌*◌, ◌<◌, ◌≤◌, List, [], ◌∷◌, map, length, Option, Some}
-use Rattle.yaml_read.proofs.Words.{None, Result, Ok, Err, Bool, true, false, not, ◌||◌, if◌then◌else◌, refl, sym, ap}
-use Rattle.yaml_read.proofs.Words.{◌∙◌, arith, slice_get, IfSome, is_some, option_copied, PlainScalar, Position}
-use Rattle.yaml_read.proofs.Words.{data_of, PlainData, none_data, ignored_data, PlainShape, option_shape, ignored_shape}
-use Rattle.yaml_read.proofs.Words.{named, DocNode, word, PlainDocEvent, a_scalar, PlainDocument, is_absent}
-use Rattle.yaml_read.proofs.Words.{is_false_null, null_fault, ReadFault, scalar_answer, ending, Handing, as_is, as_some}
-use Rattle.yaml_read.proofs.Words.{handed, early, reach, TakenBy, Way, root_way, place, IsTreeOf, Spot, after, marks_of}
-use Rattle.yaml_read.proofs.Words.{whole_fuel, read_tree, IsAnswered, Source, is_leaf, node_at}
+use Rattle.yaml_read.proofs.Words.{rules, ℕ, zero, suc, List, [], map, length, Option, Some, None, Result, Ok, Err}
+use Rattle.yaml_read.proofs.Words.{Bool, true, false, not, refl, sym, ap, ◌∙◌, arith, slice_get, IfSome, is_some}
+use Rattle.yaml_read.proofs.Words.{option_copied, PlainScalar, Position, data_of, PlainData, none_data, ignored_data}
+use Rattle.yaml_read.proofs.Words.{PlainShape, option_shape, ignored_shape, named, DocNode, word, PlainDocEvent}
+use Rattle.yaml_read.proofs.Words.{a_scalar, PlainDocument, is_absent, is_false_null, null_fault, ReadFault}
+use Rattle.yaml_read.proofs.Words.{scalar_answer, ending, Handing, as_is, as_some, handed, early, reach, TakenBy, Way}
+use Rattle.yaml_read.proofs.Words.{root_way, place, IsTreeOf, Spot, after, marks_of, whole_fuel, read_tree, IsAnswered}
+use Rattle.yaml_read.proofs.Words.{Source, is_leaf, node_at}
 use Rattle.yaml_shape.specs.declared.data.Data.{the_lemmas}
 use Rattle.yaml_shape.specs.declared.data.Data.TheVariants.{Ignored}
 use Rattle.yaml_read.proofs.reading.LeafExits.{leaf_scalar}

@@ -1,14 +1,15 @@
 -- The slots of a struct as the code fills them, and as it takes the data of the fields from them.
+use Rattle.std.specs.Prelude.{◌≡◌, ◌+◌, ◌≤◌, ◌∷◌, ◌++◌}
 use Rattle.std.proofs.lemmas.List.{nil_from_length, drop_more, drop_all}
 use Rattle.std.specs.declared.alloc.Global.{Global}
 use Rattle.std.specs.Result.{IsErrAnd}
-use Rattle.yaml_read.proofs.Words.{slice_get-map, slice_get_within, get_or_from_slice_get, length-map, ◌≡◌, ℕ, zero}
-use Rattle.yaml_read.proofs.Words.{suc, ◌+◌, ◌≤◌, List, [], ◌∷◌, ◌++◌, map, length, Option, Some, None, Bool, true}
-use Rattle.yaml_read.proofs.Words.{false, Result, Ok, Err, refl, sym, ap, ◌∙◌, arith, append_assoc, append-nil, String}
-use Rattle.yaml_read.proofs.Words.{drop, slice_get, not, option_map, option_flatten, option_to_list, is_some, is_none}
-use Rattle.yaml_read.proofs.Words.{MatchOption, map-append, data_of, PlainData, PlainShape, field_of, fields_of, Data}
-use Rattle.yaml_read.proofs.Words.{ShapeId, ReadFault, PlainRefusal, ran_out, Yields, lift, ◌>>=◌, Fields, Slots}
-use Rattle.yaml_read.proofs.Words.{is_free, no_slots, field_data, all_fields, slots_of}
+use Rattle.yaml_read.proofs.Words.{slice_get-map, slice_get_within, get_or_from_slice_get, length-map, ℕ, zero, suc}
+use Rattle.yaml_read.proofs.Words.{List, [], map, length, Option, Some, None, Bool, true, false, Result, Ok, Err, refl}
+use Rattle.yaml_read.proofs.Words.{sym, ap, ◌∙◌, arith, append_assoc, append-nil, String, drop, slice_get, not}
+use Rattle.yaml_read.proofs.Words.{option_map, option_flatten, option_to_list, is_some, is_none, MatchOption}
+use Rattle.yaml_read.proofs.Words.{map-append, data_of, PlainData, PlainShape, field_of, fields_of, Data, ShapeId}
+use Rattle.yaml_read.proofs.Words.{ReadFault, PlainRefusal, ran_out, Yields, lift, ◌>>=◌, Fields, Slots, is_free}
+use Rattle.yaml_read.proofs.Words.{no_slots, field_data, all_fields, slots_of}
 use Rattle.yaml_scalar.proofs.LiftLaws.{lifted, lifted_fails}
 use Rattle.yaml_read.proofs.FieldCode.{Declared, same_some}
 

@@ -1,8 +1,8 @@
 -- Where the reading of a document starts and ends.
-use Rattle.yaml_read.proofs.Words.{◌≡◌, ℕ, ◌+◌, ◌-◌, ◌*◌, ◌≤◌, List, length, None, Ok, true, false, sym, ap, subst, ◌∙◌}
-use Rattle.yaml_read.proofs.Words.{arith, length-map, Position, PlainData, PlainShape, events_of, PlainDocEvent}
-use Rattle.yaml_read.proofs.Words.{PlainDocument, HasTree, LeavesCursor, most_steps, PlainCursor, fresh_cursor}
-use Rattle.yaml_read.proofs.Words.{IsTreeOf, PlainLimits, Spot}
+use Rattle.std.specs.Prelude.{◌≡◌, ◌+◌, ◌-◌, ◌*◌, ◌≤◌}
+use Rattle.yaml_read.proofs.Words.{ℕ, List, length, None, Ok, true, false, sym, ap, subst, ◌∙◌, arith, length-map}
+use Rattle.yaml_read.proofs.Words.{Position, PlainData, PlainShape, events_of, PlainDocEvent, PlainDocument, HasTree}
+use Rattle.yaml_read.proofs.Words.{LeavesCursor, most_steps, PlainCursor, fresh_cursor, IsTreeOf, PlainLimits, Spot}
 use Rattle.yaml_read.proofs.reading.WholeReadings.{whole_reading, whole_tied, lands_at}
 
 -- data of a document that nothing cut off is behind all its events

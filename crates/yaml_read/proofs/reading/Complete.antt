@@ -1,13 +1,14 @@
 -- What the tree means is answered within the limits, and refused only past one.
-use Rattle.yaml_read.proofs.Words.{name_in, ◌≡◌, ℕ, zero, suc, ◌+◌, ◌-◌, ◌*◌, ◌<◌, ◌≤◌, List, [], ◌∷◌, ◌++◌, Option, Ok}
-use Rattle.yaml_read.proofs.Words.{Some, None, Bool, true, refl, sym, ap, subst, ◌∙◌, arith, append_assoc, append-nil}
-use Rattle.yaml_read.proofs.Words.{length, is_some, Position, items_of, entries_of, PlainData, PlainItems, PlainEntries}
-use Rattle.yaml_read.proofs.Words.{tagged, any_data, variant_data, seq_data, map_data, some_data, newtype_data, Way}
-use Rattle.yaml_read.proofs.Words.{PlainShape, any_shape, option_shape, shape_at, content_shape, keys_distinct, tree_in}
-use Rattle.yaml_read.proofs.Words.{sequence, trees_in, pairs_in, rank, DocNode, DocNodes, DocPairs, first_event, ending}
-use Rattle.yaml_read.proofs.Words.{scalar_answer, Fields, Slots, Handing, handed, early, reach, untaken_reach, depth}
-use Rattle.yaml_read.proofs.Words.{TakenBy, parts_depth, tag_depth, nesting_depth, around_value, Means, means_node, Row}
-use Rattle.yaml_read.proofs.Words.{MeansAs, means_some, means_newtype, means_ignored, means_target, means_void, MeanRow}
+use Rattle.std.specs.Prelude.{◌≡◌, ◌+◌, ◌-◌, ◌*◌, ◌<◌, ◌≤◌, ◌∷◌, ◌++◌}
+use Rattle.yaml_read.proofs.Words.{name_in, ℕ, zero, suc, List, [], Option, Ok, Some, None, Bool, true, refl, sym, ap}
+use Rattle.yaml_read.proofs.Words.{subst, ◌∙◌, arith, append_assoc, append-nil, length, is_some, Position, items_of}
+use Rattle.yaml_read.proofs.Words.{entries_of, PlainData, PlainItems, PlainEntries, tagged, any_data, variant_data}
+use Rattle.yaml_read.proofs.Words.{seq_data, map_data, some_data, newtype_data, Way, PlainShape, any_shape}
+use Rattle.yaml_read.proofs.Words.{option_shape, shape_at, content_shape, keys_distinct, tree_in, sequence, trees_in}
+use Rattle.yaml_read.proofs.Words.{pairs_in, rank, DocNode, DocNodes, DocPairs, first_event, ending, scalar_answer}
+use Rattle.yaml_read.proofs.Words.{Fields, Slots, Handing, handed, early, reach, untaken_reach, depth, TakenBy}
+use Rattle.yaml_read.proofs.Words.{parts_depth, tag_depth, nesting_depth, around_value, Means, means_node, Row, MeansAs}
+use Rattle.yaml_read.proofs.Words.{means_some, means_newtype, means_ignored, means_target, means_void, MeanRow}
 use Rattle.yaml_read.proofs.Words.{means_scalar, means_list, means_mapping, means_bare, means_fields, MeanFields, place}
 use Rattle.yaml_read.proofs.Words.{means_no_fields, means_field, means_unknown, means_variant, means_tagged, MeansList}
 use Rattle.yaml_read.proofs.Words.{means_any_list, means_any_mapping, means_seq, means_row, MeansPairs, means_map, Spot}

@@ -1,8 +1,9 @@
 -- What a node's reading comes to under an enum, and under what its variants hold.
-use Rattle.yaml_read.proofs.Words.{◌≡◌, ℕ, ◌-◌, ◌<◌, Bool, true, false, List, [], Some, None, Option, Result, Ok, Err}
-use Rattle.yaml_read.proofs.Words.{refl, sym, ap, ◌∙◌, length, is_some, GivesReading, PlainData, by_step, place_at, Way}
-use Rattle.yaml_read.proofs.Words.{ran_out, Position, items_of, entries_of, any_data, variant_data, PlainShape, Owner}
-use Rattle.yaml_read.proofs.Words.{any_shape, fields_shape, enum_shape, content_shape, PlainVariant, sequence, tagged}
+use Rattle.std.specs.Prelude.{◌≡◌, ◌-◌, ◌<◌}
+use Rattle.yaml_read.proofs.Words.{ℕ, Bool, true, false, List, [], Some, None, Option, Result, Ok, Err, refl, sym, ap}
+use Rattle.yaml_read.proofs.Words.{◌∙◌, length, is_some, GivesReading, PlainData, by_step, place_at, Way, ran_out}
+use Rattle.yaml_read.proofs.Words.{Position, items_of, entries_of, any_data, variant_data, PlainShape, Owner, any_shape}
+use Rattle.yaml_read.proofs.Words.{fields_shape, enum_shape, content_shape, PlainVariant, sequence, tagged}
 use Rattle.yaml_read.proofs.Words.{PlainDocEvent, a_scalar, sequence_begins, mapping_begins, doc_event_of, DocEvent}
 use Rattle.yaml_read.proofs.Words.{DocStart, PlainRefusal, ending, wrap, with_shape, Variants, variant_named, tree_in}
 use Rattle.yaml_read.proofs.Words.{trees_in, pairs_in, Fields, as_variant, is_filled_scalar, as_tagged, TakenBy, Spot}

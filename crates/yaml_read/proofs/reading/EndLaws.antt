@@ -1,10 +1,11 @@
 -- The numbers of a document's events tell where its nodes end.
-use Rattle.yaml_read.proofs.Words.{◌≡◌, ℕ, zero, suc, ◌+◌, ◌-◌, ◌≤◌, List, [], ◌∷◌, ◌++◌, map, length, Some, Bool, true}
-use Rattle.yaml_read.proofs.Words.{false, ◌&&◌, ◌==◌, refl, sym, ap, subst, ◌∙◌, arith, append_assoc, length-append}
-use Rattle.yaml_read.proofs.Words.{slice_get, if◌then◌else◌, eqb-true, Position, PlainDocEvent, sequence_ends}
-use Rattle.yaml_read.proofs.Words.{mapping_ends, DocNode, DocNodes, DocPairs, list, mapping, no_nodes, node, events_of}
-use Rattle.yaml_read.proofs.Words.{events_of_nodes, events_of_pairs, is_opening, is_closing, inner_after, end_place}
-use Rattle.yaml_read.proofs.Words.{ends_from, ends_of, GoForward, Events, no_pairs, pair}
+use Rattle.std.specs.Prelude.{◌≡◌, ◌+◌, ◌-◌, ◌≤◌, ◌∷◌, ◌++◌, ◌&&◌, ◌==◌, if◌then◌else◌}
+use Rattle.yaml_read.proofs.Words.{ℕ, zero, suc, List, [], map, length, Some, Bool, true, false, refl, sym, ap, subst}
+use Rattle.yaml_read.proofs.Words.{◌∙◌, arith, append_assoc, length-append, slice_get, eqb-true, Position}
+use Rattle.yaml_read.proofs.Words.{PlainDocEvent, sequence_ends, mapping_ends, DocNode, DocNodes, DocPairs, list}
+use Rattle.yaml_read.proofs.Words.{mapping, no_nodes, node, events_of, events_of_nodes, events_of_pairs, is_opening}
+use Rattle.yaml_read.proofs.Words.{is_closing, inner_after, end_place, ends_from, ends_of, GoForward, Events, no_pairs}
+use Rattle.yaml_read.proofs.Words.{pair}
 use Rattle.yaml_read.proofs.reading.Shown.{Shows, begins}
 
 not_outer : (b : Bool) (n : ℕ) → (n + 1 == 0) ≡ b → b ≡ false

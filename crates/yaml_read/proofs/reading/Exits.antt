@@ -1,7 +1,8 @@
 -- What a node's reading comes to, once its shape and its first event are known.
-use Rattle.yaml_read.proofs.Words.{◌≡◌, ℕ, ◌-◌, ◌<◌, Bool, true, false, List, [], Some, None, Option, Result, Ok, Err}
-use Rattle.yaml_read.proofs.Words.{refl, ap, ◌∙◌, rules, length, is_some, Position, data_of, entry_of, items_of, Owner}
-use Rattle.yaml_read.proofs.Words.{entries_of, PlainData, seq_data, map_data, some_data, newtype_data, PlainShape, wrap}
+use Rattle.std.specs.Prelude.{◌≡◌, ◌-◌, ◌<◌}
+use Rattle.yaml_read.proofs.Words.{ℕ, Bool, true, false, List, [], Some, None, Option, Result, Ok, Err, refl, ap, ◌∙◌}
+use Rattle.yaml_read.proofs.Words.{rules, length, is_some, Position, data_of, entry_of, items_of, Owner, entries_of}
+use Rattle.yaml_read.proofs.Words.{PlainData, seq_data, map_data, some_data, newtype_data, PlainShape, wrap}
 use Rattle.yaml_read.proofs.Words.{option_shape, newtype_shape, seq_shape, row_shape, map_shape, shape_at, Entry, as_is}
 use Rattle.yaml_read.proofs.Words.{doc_event_of, PlainDocEvent, sequence_begins, mapping_begins, DocEvent, ReadFault}
 use Rattle.yaml_read.proofs.Words.{PlainRefusal, refused, end_of_stream, GivesReading, Yields, with_end, ending, finish}

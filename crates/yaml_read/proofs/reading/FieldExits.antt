@@ -1,9 +1,10 @@
 -- What reading a struct comes to, and what reading one of its fields does.
-use Rattle.yaml_read.proofs.Words.{◌≡◌, ℕ, ◌-◌, ◌<◌, Bool, false, List, Some, None, Option, Result, Ok, Err, refl, ap}
-use Rattle.yaml_read.proofs.Words.{◌∙◌, length, set, is_some, Position, PlainData, PlainShape, identifier_shape}
-use Rattle.yaml_read.proofs.Words.{fields_shape, shape_at, PlainDocEvent, mapping_begins, ReadFault, PlainRefusal}
-use Rattle.yaml_read.proofs.Words.{GivesReading, Yields, lift, ◌>>=◌, ending, wrap, finish, Fields, Slots, no_slots}
-use Rattle.yaml_read.proofs.Words.{name_in, field_named, struct_of, as_is, handed, is_bare, Way, place, Spot, after}
+use Rattle.std.specs.Prelude.{◌≡◌, ◌-◌, ◌<◌}
+use Rattle.yaml_read.proofs.Words.{ℕ, Bool, false, List, Some, None, Option, Result, Ok, Err, refl, ap, ◌∙◌, length}
+use Rattle.yaml_read.proofs.Words.{set, is_some, Position, PlainData, PlainShape, identifier_shape, fields_shape}
+use Rattle.yaml_read.proofs.Words.{shape_at, PlainDocEvent, mapping_begins, ReadFault, PlainRefusal, GivesReading}
+use Rattle.yaml_read.proofs.Words.{Yields, lift, ◌>>=◌, ending, wrap, finish, Fields, Slots, no_slots, name_in}
+use Rattle.yaml_read.proofs.Words.{field_named, struct_of, as_is, handed, is_bare, Way, place, Spot, after}
 use Rattle.yaml_read.proofs.Words.{mark_or_first, Source, Reading, Reader, value_way, text_at, fields_in, skip_at}
 use Rattle.yaml_read.proofs.Words.{mapping_parts, mapping_at, fields_at, field_at, field_key_at, Walk, Question}
 use Rattle.yaml_read.proofs.Words.{by_shape, source_of, reader_of, spot_of, seen, CodeSource}

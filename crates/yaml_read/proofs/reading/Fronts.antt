@@ -1,11 +1,11 @@
 -- The fault of the first events of a document is the first fault of each document that begins with them.
-use Rattle.yaml_read.proofs.Words.{map-append, ◌≡◌, ℕ, zero, suc, ◌+◌, ◌*◌, ◌<◌, List, [], ◌∷◌, ◌++◌, map, length, Some}
-use Rattle.yaml_read.proofs.Words.{None, Result, Err, Bool, true, false, refl, sym, ap, subst, ◌∙◌, arith, ◌&&◌, ◌==◌}
-use Rattle.yaml_read.proofs.Words.{if◌then◌else◌, length-append, ◌≢◌, slice_get, length-map, Position, PlainData}
-use Rattle.yaml_read.proofs.Words.{PlainShape, DocNode, ends_of, ends_from, end_place, inner_after, is_opening}
-use Rattle.yaml_read.proofs.Words.{is_closing, PlainDocEvent, PlainDocument, PlainRefusal, out_of_memory, refused}
-use Rattle.yaml_read.proofs.Words.{end_of_stream, cause_of, root_way, IsTreeOf, GoesOn, PlainLimits, whole_fuel}
-use Rattle.yaml_read.proofs.Words.{answer_within, Reading, node_at}
+use Rattle.std.specs.Prelude.{◌≡◌, ◌+◌, ◌*◌, ◌<◌, ◌∷◌, ◌++◌, ◌&&◌, ◌==◌, if◌then◌else◌, ◌≢◌}
+use Rattle.yaml_read.proofs.Words.{map-append, ℕ, zero, suc, List, [], map, length, Some, None, Result, Err, Bool, true}
+use Rattle.yaml_read.proofs.Words.{false, refl, sym, ap, subst, ◌∙◌, arith, length-append, slice_get, length-map}
+use Rattle.yaml_read.proofs.Words.{Position, PlainData, PlainShape, DocNode, ends_of, ends_from, end_place, inner_after}
+use Rattle.yaml_read.proofs.Words.{is_opening, is_closing, PlainDocEvent, PlainDocument, PlainRefusal, out_of_memory}
+use Rattle.yaml_read.proofs.Words.{refused, end_of_stream, cause_of, root_way, IsTreeOf, GoesOn, PlainLimits}
+use Rattle.yaml_read.proofs.Words.{whole_fuel, answer_within, Reading, node_at}
 use Rattle.yaml_read.proofs.reading.Growing.{Grows, alike, ended, wanted}
 use Rattle.yaml_read.proofs.reading.GrowingReadings.{grows_node}
 use Rattle.yaml_read.proofs.reading.WholeReadings.{start, whole_source, whole_reading, tree_shown, document_tied}

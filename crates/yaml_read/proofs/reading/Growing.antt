@@ -1,8 +1,9 @@
 -- What a reading of the first events answers, a reading of more events answers too, unless the events came to an end.
-use Rattle.yaml_read.proofs.Words.{◌≡◌, ℕ, zero, suc, List, [], ◌∷◌, Option, Some, None, Result, Ok, Err, Bool, true}
-use Rattle.yaml_read.proofs.Words.{false, refl, if◌then◌else◌, Position, PlainData, PlainShape, ReadFault, PlainRefusal}
-use Rattle.yaml_read.proofs.Words.{out_of_memory, refused, end_of_stream, ◌>>=◌, ending, wrap, finish, enter, follow}
-use Rattle.yaml_read.proofs.Words.{with_shape, unless, Slots, field_step, Way, place, row_step}
+use Rattle.std.specs.Prelude.{◌≡◌, ◌∷◌, if◌then◌else◌}
+use Rattle.yaml_read.proofs.Words.{ℕ, zero, suc, List, [], Option, Some, None, Result, Ok, Err, Bool, true, false, refl}
+use Rattle.yaml_read.proofs.Words.{Position, PlainData, PlainShape, ReadFault, PlainRefusal, out_of_memory, refused}
+use Rattle.yaml_read.proofs.Words.{end_of_stream, ◌>>=◌, ending, wrap, finish, enter, follow, with_shape, unless, Slots}
+use Rattle.yaml_read.proofs.Words.{field_step, Way, place, row_step}
 
 -- the second answer is the first, unless that is the end of the events, or want of memory
 pub data Grows {A : Type 0} : Result A PlainRefusal → Result A PlainRefusal → Type 0 where

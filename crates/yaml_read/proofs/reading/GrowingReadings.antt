@@ -1,16 +1,17 @@
 -- A reading by places of the first events of a document, and one of all of them.
+use Rattle.std.specs.Prelude.{if◌then◌else◌, ◌≡◌, ◌<◌, ◌≤◌, ◌+◌}
 use Rattle.yaml_read.proofs.Words.{bytes_unsupported, sequence_begins, is_sequence_end, mapping_begins, is_mapping_end}
-use Rattle.yaml_read.proofs.Words.{if◌then◌else◌, content_shape, PlainDocEvent, end_of_stream, element_under, PlainData}
-use Rattle.yaml_read.proofs.Words.{mark_or_first, newtype_data, variant_data, ignored_data, around_value, any_entry_at}
-use Rattle.yaml_read.proofs.Words.{field_key_at, sequence_at, entries_of, PlainShape, is_closing, as_newtype, some_data}
-use Rattle.yaml_read.proofs.Words.{as_ignored, as_variant, skip_event, mapping_at, shape_step, struct_of, as_tagged, []}
-use Rattle.yaml_read.proofs.Words.{value_way, handed_at, node_step, ltb-true, Position, items_of, any_data, seq_data, ℕ}
-use Rattle.yaml_read.proofs.Words.{map_data, shape_at, sequence, alias_to, trees_in, pairs_in, no_slots, row_data, zero}
-use Rattle.yaml_read.proofs.Words.{place_at, entry_at, field_at, event_at, is_some, refused, tree_in, Handing, as_some}
-use Rattle.yaml_read.proofs.Words.{TakenBy, Reading, each_at, item_at, skip_to, skip_at, text_at, node_at, Option, List}
-use Rattle.yaml_read.proofs.Words.{length, nat_lt, lt-ltb, tagged, unless, Fields, handed, places, row_of, Reader, Some}
-use Rattle.yaml_read.proofs.Words.{Events, Source, row_at, false, arith, ◌>>=◌, Slots, as_is, early, place, after, None}
-use Rattle.yaml_read.proofs.Words.{Bool, true, refl, Spot, turn, ◌≡◌, suc, ◌<◌, ◌≤◌, Err, ◌+◌, sym, ◌∙◌, Way, Row, Ok}
+use Rattle.yaml_read.proofs.Words.{content_shape, PlainDocEvent, end_of_stream, element_under, PlainData, mark_or_first}
+use Rattle.yaml_read.proofs.Words.{newtype_data, variant_data, ignored_data, around_value, any_entry_at, field_key_at}
+use Rattle.yaml_read.proofs.Words.{sequence_at, entries_of, PlainShape, is_closing, as_newtype, some_data, as_ignored}
+use Rattle.yaml_read.proofs.Words.{as_variant, skip_event, mapping_at, shape_step, struct_of, as_tagged, [], value_way}
+use Rattle.yaml_read.proofs.Words.{handed_at, node_step, ltb-true, Position, items_of, any_data, seq_data, ℕ, map_data}
+use Rattle.yaml_read.proofs.Words.{shape_at, sequence, alias_to, trees_in, pairs_in, no_slots, row_data, zero, place_at}
+use Rattle.yaml_read.proofs.Words.{entry_at, field_at, event_at, is_some, refused, tree_in, Handing, as_some, TakenBy}
+use Rattle.yaml_read.proofs.Words.{Reading, each_at, item_at, skip_to, skip_at, text_at, node_at, Option, List, length}
+use Rattle.yaml_read.proofs.Words.{nat_lt, lt-ltb, tagged, unless, Fields, handed, places, row_of, Reader, Some, Events}
+use Rattle.yaml_read.proofs.Words.{Source, row_at, false, arith, ◌>>=◌, Slots, as_is, early, place, after, None, Bool}
+use Rattle.yaml_read.proofs.Words.{true, refl, Spot, turn, suc, Err, sym, ◌∙◌, Way, Row, Ok}
 use Rattle.yaml_shape.specs.PlainShape as shape
 use Rattle.yaml_tree.specs.Tree as tree
 use Rattle.yaml_read.proofs.reading.Growing.{Grows, alike, ended, wanted, grows_bind, grows_wrap, grows_finish}

@@ -1,10 +1,11 @@
 -- What reading a scalar comes to, under a shape that reads scalars alone.
+use Rattle.std.specs.Prelude.{◌≡◌, ◌+◌, ◌-◌, ◌<◌}
 use Rattle.yaml_read.proofs.Words.{unit_struct_shape, identifier_shape, integer_shape, PlainDocEvent, scalar_answer, Ok}
 use Rattle.yaml_read.proofs.Words.{mark_or_first, PlainScalar, PlainShape, bool_shape, char_shape, unit_shape, Position}
 use Rattle.yaml_read.proofs.Words.{PlainData, str_shape, ReadFault, lent_text, alias_to, a_scalar, is_some, TakenBy, ap}
 use Rattle.yaml_read.proofs.Words.{refused, text_of, is_leaf, text_at, node_at, Option, Result, a_void, handed, placed}
 use Rattle.yaml_read.proofs.Words.{places, ending, Source, pursue, false, arith, as_is, early, place, after, zero, Bool}
-use Rattle.yaml_read.proofs.Words.{true, List, Some, None, refl, Spot, ◌≡◌, suc, ◌+◌, ◌-◌, ◌<◌, Err, sym, ◌∙◌, Way, ℕ}
+use Rattle.yaml_read.proofs.Words.{true, List, Some, None, refl, Spot, suc, Err, sym, ◌∙◌, Way, ℕ}
 use Rattle.yaml_read.proofs.reading.Loops.{pursue_fails, pursue_finds}
 
 -- a shape that reads scalars alone hands nothing on, has no fault that comes first, and places its faults

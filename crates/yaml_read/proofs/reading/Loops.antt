@@ -1,8 +1,9 @@
 -- One turn of a loop over the parts of a collection, and one step of a reading.
-use Rattle.yaml_read.proofs.Words.{◌≡◌, ℕ, zero, suc, ◌+◌, ◌-◌, ◌<◌, Bool, true, false, Some, None, Result, Ok, Err, ap}
-use Rattle.yaml_read.proofs.Words.{sym, ◌∙◌, arith, Position, PlainData, PlainDocEvent, PlainRefusal, refused}
-use Rattle.yaml_read.proofs.Words.{end_of_stream, recursion_limit_exceeded, ◌>>=◌, wrap, enter, Spot, after, Reading}
-use Rattle.yaml_read.proofs.Words.{Events, each_at, pursue}
+use Rattle.std.specs.Prelude.{◌≡◌, ◌+◌, ◌-◌, ◌<◌}
+use Rattle.yaml_read.proofs.Words.{ℕ, zero, suc, Bool, true, false, Some, None, Result, Ok, Err, ap, sym, ◌∙◌, arith}
+use Rattle.yaml_read.proofs.Words.{Position, PlainData, PlainDocEvent, PlainRefusal, refused, end_of_stream}
+use Rattle.yaml_read.proofs.Words.{recursion_limit_exceeded, ◌>>=◌, wrap, enter, Spot, after, Reading, Events, each_at}
+use Rattle.yaml_read.proofs.Words.{pursue}
 
 module _ {S : Type 0} (is_end : PlainDocEvent → Bool) (step : S → Spot → Reading S) (events : Events) where
   -- the events end within the collection

@@ -1,6 +1,7 @@
 -- What a node means is data of its shape.
+use Rattle.std.specs.Prelude.{◌≡◌}
 use Rattle.std.specs.Cmp.Derive.{both_true}
-use Rattle.yaml_read.proofs.Words.{◌≡◌, ℕ, List, Some, Bool, true, refl, has_shape, all_have, entries_have, each_has}
+use Rattle.yaml_read.proofs.Words.{ℕ, List, Some, Bool, true, refl, has_shape, all_have, entries_have, each_has}
 use Rattle.yaml_read.proofs.Words.{PlainData, PlainItems, PlainEntries, PlainShape, shape_at, DocNode, DocNodes}
 use Rattle.yaml_read.proofs.Words.{DocPairs, first_event, PlainDocEvent, Fields, Slots, no_slots, name_in, Handing}
 use Rattle.yaml_read.proofs.Words.{Means, means_node, MeansAs, means_some, means_newtype, means_ignored, means_target}

@@ -1,14 +1,15 @@
 -- A tree means at most one thing.
-use Rattle.yaml_read.proofs.Words.{◌≡◌, ℕ, suc, ◌+◌, Bool, refl, ap, ap₂, Ok, Some, sym, ◌∙◌, Result, max, set, List}
-use Rattle.yaml_read.proofs.Words.{PlainData, PlainItems, PlainEntries, no_items, no_entries, any_data, variant_data}
-use Rattle.yaml_read.proofs.Words.{ignored_data, seq_data, item, map_data, some_data, newtype_data, tuple_data}
-use Rattle.yaml_read.proofs.Words.{PlainShape, ignored_shape, sequence, tagged, DocNode, DocNodes, DocPairs, ReadFault}
-use Rattle.yaml_read.proofs.Words.{tree_in, trees_in, pairs_in, Fields, Slots, find, name_in, struct_of, Handing}
-use Rattle.yaml_read.proofs.Words.{as_ignored, Means, means_node, MeansAs, means_some, means_newtype, means_ignored}
-use Rattle.yaml_read.proofs.Words.{means_target, means_void, means_scalar, means_list, means_mapping, means_bare}
-use Rattle.yaml_read.proofs.Words.{means_fields, MeanFields, means_no_fields, means_field, means_unknown, means_variant}
-use Rattle.yaml_read.proofs.Words.{means_tagged, means_any_list, means_any_mapping, MeansList, means_seq, means_row}
-use Rattle.yaml_read.proofs.Words.{MeansPairs, means_map, MeanEach, means_none, means_more, MeanRow, means_no_elements}
+use Rattle.std.specs.Prelude.{◌≡◌, ◌+◌}
+use Rattle.yaml_read.proofs.Words.{ℕ, suc, Bool, refl, ap, ap₂, Ok, Some, sym, ◌∙◌, Result, max, set, List, PlainData}
+use Rattle.yaml_read.proofs.Words.{PlainItems, PlainEntries, no_items, no_entries, any_data, variant_data, ignored_data}
+use Rattle.yaml_read.proofs.Words.{seq_data, item, map_data, some_data, newtype_data, tuple_data, PlainShape}
+use Rattle.yaml_read.proofs.Words.{ignored_shape, sequence, tagged, DocNode, DocNodes, DocPairs, ReadFault, tree_in}
+use Rattle.yaml_read.proofs.Words.{trees_in, pairs_in, Fields, Slots, find, name_in, struct_of, Handing, as_ignored}
+use Rattle.yaml_read.proofs.Words.{Means, means_node, MeansAs, means_some, means_newtype, means_ignored, means_target}
+use Rattle.yaml_read.proofs.Words.{means_void, means_scalar, means_list, means_mapping, means_bare, means_fields}
+use Rattle.yaml_read.proofs.Words.{MeanFields, means_no_fields, means_field, means_unknown, means_variant, means_tagged}
+use Rattle.yaml_read.proofs.Words.{means_any_list, means_any_mapping, MeansList, means_seq, means_row, MeansPairs}
+use Rattle.yaml_read.proofs.Words.{means_map, MeanEach, means_none, means_more, MeanRow, means_no_elements}
 use Rattle.yaml_read.proofs.Words.{means_element, MeanPairs, means_no_pairs, means_pair}
 use Rattle.yaml_tree.specs.Tree as tree
 use Rattle.yaml_read.proofs.FieldLaws.{same_place, same_number}

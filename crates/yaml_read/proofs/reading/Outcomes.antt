@@ -1,9 +1,10 @@
 -- An answer is the data that the tree means within the limits, and the fault of a limit past one.
+use Rattle.std.specs.Prelude.{◌≡◌, ◌+◌, ◌-◌, ◌<◌, ◌≤◌, ◌∷◌}
 use Rattle.yaml_read.proofs.Words.{repetition_limit_exceeded, recursion_limit_exceeded, PlainEntries, entries_of, false}
 use Rattle.yaml_read.proofs.Words.{PlainItems, no_entries, PlainShape, with_shape, with_place, PlainData, ReadFault, []}
 use Rattle.yaml_read.proofs.Words.{Position, items_of, no_items, refused, Option, Result, follow, finish, placed, arith}
 use Rattle.yaml_read.proofs.Words.{Answer, subst, Place, entry, ◌>>=◌, enter, place, zero, List, Some, Bool, true, refl}
-use Rattle.yaml_read.proofs.Words.{item, wrap, ◌≡◌, suc, ◌+◌, ◌-◌, ◌<◌, ◌≤◌, ◌∷◌, Err, ◌∙◌, max, Way, Ok, ap, ℕ}
+use Rattle.yaml_read.proofs.Words.{item, wrap, suc, Err, ◌∙◌, max, Way, Ok, ap, ℕ}
 
 -- It is the data, and a limit is passed where one has to be.
 pub data Outcome {A : Type 0} (r : Answer A) (v : A) (nest left d k : ℕ) : Type 0 where

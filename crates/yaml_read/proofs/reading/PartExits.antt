@@ -1,8 +1,9 @@
 -- What reading one entry of a mapping or one element of a tuple comes to.
-use Rattle.yaml_read.proofs.Words.{◌≡◌, ℕ, zero, suc, ◌+◌, List, [], ◌∷◌, ◌++◌, Some, None, Result, Ok, Err, refl, sym}
-use Rattle.yaml_read.proofs.Words.{subst, slice_get, drop, All, All-get_or, get_or_from_slice_get, slice_get_within}
-use Rattle.yaml_read.proofs.Words.{PlainData, PlainShape, PlainRefusal, wrap, Way, row_step, Spot, Source, Reader}
-use Rattle.yaml_read.proofs.Words.{value_way, entry_at}
+use Rattle.std.specs.Prelude.{◌≡◌, ◌+◌, ◌∷◌, ◌++◌}
+use Rattle.yaml_read.proofs.Words.{ℕ, zero, suc, List, [], Some, None, Result, Ok, Err, refl, sym, subst, slice_get}
+use Rattle.yaml_read.proofs.Words.{drop, All, All-get_or, get_or_from_slice_get, slice_get_within, PlainData}
+use Rattle.yaml_read.proofs.Words.{PlainShape, PlainRefusal, wrap, Way, row_step, Spot, Source, Reader, value_way}
+use Rattle.yaml_read.proofs.Words.{entry_at}
 
 module _ (source : Source) (read : Way → Reader) (way : Way) (s t : PlainShape) (nest : ℕ)
     (vs : List (PlainData × PlainData)) (at : Spot) where

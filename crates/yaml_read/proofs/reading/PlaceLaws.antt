@@ -1,8 +1,9 @@
 -- Placing a fault changes no answer, no place where a reading ends, and no fault of a limit.
-use Rattle.yaml_read.proofs.Words.{◌≡◌, ℕ, Bool, true, false, Result, Ok, Err, refl, sym, ap, ◌∙◌, Option, Some, None}
-use Rattle.yaml_read.proofs.Words.{zero, suc, ◌<◌, ◌-◌, arith, Position, PlainShape, PlainDocEvent, PlainRefusal, Way}
-use Rattle.yaml_read.proofs.Words.{out_of_memory, refused, ran_out, TakenBy, placed, place, places, Answer, Spot, Walk}
-use Rattle.yaml_read.proofs.Words.{Reading, Source, place_at, node_at, node_step, PlainData, Question, by_node, by_step}
+use Rattle.std.specs.Prelude.{◌≡◌, ◌<◌, ◌-◌}
+use Rattle.yaml_read.proofs.Words.{ℕ, Bool, true, false, Result, Ok, Err, refl, sym, ap, ◌∙◌, Option, Some, None, zero}
+use Rattle.yaml_read.proofs.Words.{suc, arith, Position, PlainShape, PlainDocEvent, PlainRefusal, Way, out_of_memory}
+use Rattle.yaml_read.proofs.Words.{refused, ran_out, TakenBy, placed, place, places, Answer, Spot, Walk, Reading}
+use Rattle.yaml_read.proofs.Words.{Source, place_at, node_at, node_step, PlainData, Question, by_node, by_step}
 use Rattle.yaml_read.proofs.Words.{by_shape, early, seen, source_of, spot_of, with_end, is_some, CodeSource}
 use Rattle.yaml_read.proofs.reading.Exits.{step_late}
 use Rattle.yaml_read.proofs.reading.Loops.{enough}

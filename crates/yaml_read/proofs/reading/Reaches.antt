@@ -1,7 +1,8 @@
 -- How many optionals may follow one another from a shape.
-use Rattle.yaml_read.proofs.Words.{◌≡◌, ℕ, ◌<◌, ◌≤◌, List, Some, ap, arith, PlainShape, option_shape, row_shape}
-use Rattle.yaml_read.proofs.Words.{unit_shape, fields_shape, of_variant, shape_at, content_shape, PlainVariant, rank}
-use Rattle.yaml_read.proofs.Words.{unit_variant, newtype_variant, tuple_variant, struct_variant, reach}
+use Rattle.std.specs.Prelude.{◌≡◌, ◌<◌, ◌≤◌}
+use Rattle.yaml_read.proofs.Words.{ℕ, List, Some, ap, arith, PlainShape, option_shape, row_shape, unit_shape}
+use Rattle.yaml_read.proofs.Words.{fields_shape, of_variant, shape_at, content_shape, PlainVariant, rank, unit_variant}
+use Rattle.yaml_read.proofs.Words.{newtype_variant, tuple_variant, struct_variant, reach}
 
 -- walks through optionals end: how many may follow from a shape, by its number
 pub reach_rank : (table : List PlainShape) → ((id content : ℕ) → shape_at table id ≡ Some (option_shape content)

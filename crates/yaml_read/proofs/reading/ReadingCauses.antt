@@ -1,8 +1,9 @@
 -- The causes that faults of reading are told as.
-use Rattle.yaml_read.proofs.Words.{◌≡◌, Option, Result, Err, false, refl, subst, ◌≢◌, is_memory, Cause, Place}
-use Rattle.yaml_read.proofs.Words.{PlainData, PlainRefusal, out_of_memory, refused, cause_of, ran_out, NodeFault}
-use Rattle.yaml_read.proofs.Words.{invalid_type, ReadFault, end_of_stream, at_node, node_cause, fault_cause}
-use Rattle.yaml_read.proofs.Words.{IsNodeFault, IsReadingFault, cut_fault}
+use Rattle.std.specs.Prelude.{◌≡◌, ◌≢◌}
+use Rattle.yaml_read.proofs.Words.{Option, Result, Err, false, refl, subst, is_memory, Cause, Place, PlainData}
+use Rattle.yaml_read.proofs.Words.{PlainRefusal, out_of_memory, refused, cause_of, ran_out, NodeFault, invalid_type}
+use Rattle.yaml_read.proofs.Words.{ReadFault, end_of_stream, at_node, node_cause, fault_cause, IsNodeFault}
+use Rattle.yaml_read.proofs.Words.{IsReadingFault, cut_fault}
 use Rattle.yaml_read.proofs.reading.WholeReadings.{err_is}
 
 node_is_fault : (fault : NodeFault) (place : Option Place) → IsNodeFault (node_cause fault place)

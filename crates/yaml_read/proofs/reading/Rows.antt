@@ -1,7 +1,8 @@
 -- What becomes of a row's elements, by how many there are.
-use Rattle.yaml_read.proofs.Words.{◌≡◌, ℕ, zero, suc, ◌+◌, ◌<◌, Bool, true, false, List, [], ◌∷◌, length, Result, Ok}
-use Rattle.yaml_read.proofs.Words.{Err, refl, arith, ◌==◌, if◌then◌else◌, drop, eqb-true, items_of, sequence_text}
-use Rattle.yaml_read.proofs.Words.{few_text, PlainData, tuple_data, Owner, ReadFault, wrong_length, row_end}
+use Rattle.std.specs.Prelude.{◌≡◌, ◌+◌, ◌<◌, ◌∷◌, ◌==◌, if◌then◌else◌}
+use Rattle.yaml_read.proofs.Words.{ℕ, zero, suc, Bool, true, false, List, [], length, Result, Ok, Err, refl, arith}
+use Rattle.yaml_read.proofs.Words.{drop, eqb-true, items_of, sequence_text, few_text, PlainData, tuple_data, Owner}
+use Rattle.yaml_read.proofs.Words.{ReadFault, wrong_length, row_end}
 
 -- too few
 pub row_short : (owner : Owner) (count : ℕ) (ids : List ℕ) (vs : List PlainData) (extra i : ℕ) → i < length ids

@@ -1,10 +1,11 @@
 -- Events that show a tree.
-use Rattle.yaml_read.proofs.Words.{◌≡◌, ℕ, suc, ◌+◌, ◌<◌, List, [], ◌∷◌, ◌++◌, length, Option, Some, Bool, true, false}
-use Rattle.yaml_read.proofs.Words.{◌==◌, cond, refl, ap, subst, ◌∙◌, arith, length-append, append_assoc, eqb-true}
-use Rattle.yaml_read.proofs.Words.{Position, PlainDocEvent, sequence_ends, mapping_ends, DocNode, DocNodes, DocPairs}
-use Rattle.yaml_read.proofs.Words.{nothing, list, mapping, no_nodes, node, events_of, events_of_nodes, events_of_pairs}
-use Rattle.yaml_read.proofs.Words.{numbered, numbered_nodes, numbered_pairs, with_number, node_of, first_event}
-use Rattle.yaml_read.proofs.Words.{is_closing, Events, is_sequence_end, is_mapping_end, no_pairs, pair}
+use Rattle.std.specs.Prelude.{◌≡◌, ◌+◌, ◌<◌, ◌∷◌, ◌++◌, ◌==◌}
+use Rattle.yaml_read.proofs.Words.{ℕ, suc, List, [], length, Option, Some, Bool, true, false, cond, refl, ap, subst}
+use Rattle.yaml_read.proofs.Words.{◌∙◌, arith, length-append, append_assoc, eqb-true, Position, PlainDocEvent}
+use Rattle.yaml_read.proofs.Words.{sequence_ends, mapping_ends, DocNode, DocNodes, DocPairs, nothing, list, mapping}
+use Rattle.yaml_read.proofs.Words.{no_nodes, node, events_of, events_of_nodes, events_of_pairs, numbered}
+use Rattle.yaml_read.proofs.Words.{numbered_nodes, numbered_pairs, with_number, node_of, first_event, is_closing}
+use Rattle.yaml_read.proofs.Words.{Events, is_sequence_end, is_mapping_end, no_pairs, pair}
 
 -- these events stand from a place on
 abbrev pub Shows : Events → ℕ → List PlainDocEvent → Type 0

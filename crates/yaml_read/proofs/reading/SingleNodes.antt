@@ -1,10 +1,11 @@
 -- What a single node gives, from what its reading by places gives.
-use Rattle.yaml_read.proofs.Words.{◌≡◌, ℕ, ◌+◌, ◌*◌, ◌<◌, ◌≤◌, List, map, length, Option, Some, Ok, Err, Bool, true}
-use Rattle.yaml_read.proofs.Words.{false, refl, ap, subst, ◌∙◌, arith, slice_get, is_some, Position, PlainData}
-use Rattle.yaml_read.proofs.Words.{PlainShape, option_shape, shape_at, rank, marked_events_of, DocNode, events_of}
-use Rattle.yaml_read.proofs.Words.{node_of, ends_of, PlainDocument, DocEvent, PlainRefusal, cause_of, depth, reach}
-use Rattle.yaml_read.proofs.Words.{nesting_depth, Means, TakenBy, ReadsNode, NodeGives, taker, node_answer, Way}
-use Rattle.yaml_read.proofs.Words.{IsTreeOf, Spot, Answer, marks_of, read_tree, value_told, NodePlace, Reading, node_at}
+use Rattle.std.specs.Prelude.{◌≡◌, ◌+◌, ◌*◌, ◌<◌, ◌≤◌}
+use Rattle.yaml_read.proofs.Words.{ℕ, List, map, length, Option, Some, Ok, Err, Bool, true, false, refl, ap, subst, ◌∙◌}
+use Rattle.yaml_read.proofs.Words.{arith, slice_get, is_some, Position, PlainData, PlainShape, option_shape, shape_at}
+use Rattle.yaml_read.proofs.Words.{rank, marked_events_of, DocNode, events_of, node_of, ends_of, PlainDocument}
+use Rattle.yaml_read.proofs.Words.{DocEvent, PlainRefusal, cause_of, depth, reach, nesting_depth, Means, TakenBy}
+use Rattle.yaml_read.proofs.Words.{ReadsNode, NodeGives, taker, node_answer, Way, IsTreeOf, Spot, Answer, marks_of}
+use Rattle.yaml_read.proofs.Words.{read_tree, value_told, NodePlace, Reading, node_at}
 use Rattle.yaml_read.proofs.reading.Complete.{tree_outcome}
 use Rattle.yaml_read.proofs.reading.Outcomes.{reads, deep, many}
 use Rattle.yaml_read.proofs.reading.Shown.{target_shown}

@@ -1,14 +1,15 @@
 -- What the reader of trees answers is what the tree means.
-use Rattle.yaml_read.proofs.Words.{◌∷◌, ◌≡◌, ℕ, zero, suc, List, [], ◌+◌, length, Option, Some, None, Result, Ok, Err}
-use Rattle.yaml_read.proofs.Words.{Bool, true, false, refl, sym, subst, arith, ◌==◌, if◌then◌else◌, is_some, eqb-true}
-use Rattle.yaml_read.proofs.Words.{Owner, Position, items_of, entries_of, sequence_text, PlainData, any_data, seq_data}
-use Rattle.yaml_read.proofs.Words.{variant_data, tuple_data, map_data, some_data, newtype_data, ignored_data, any_shape}
-use Rattle.yaml_read.proofs.Words.{PlainShape, seq_shape, row_shape, map_shape, fields_shape, shape_at, sequence, word}
-use Rattle.yaml_read.proofs.Words.{tagged, content_shape, DocNode, DocNodes, DocPairs, nothing, reference, list, unless}
-use Rattle.yaml_read.proofs.Words.{mapping, node_of, first_event, ReadFault, out_of_memory, refused, end_of_stream, Way}
-use Rattle.yaml_read.proofs.Words.{wrong_length, mapping_fault, sequence_fault, scalar_answer, void_answer, tree_in}
-use Rattle.yaml_read.proofs.Words.{trees_in, no_slots, struct_of, Handing, as_is, as_some, as_newtype, as_ignored, Spot}
-use Rattle.yaml_read.proofs.Words.{as_bare, early, as_variant, as_tagged, as_refused, handed, refusal, TakenBy, Means}
+use Rattle.std.specs.Prelude.{◌∷◌, ◌≡◌, ◌+◌, ◌==◌, if◌then◌else◌}
+use Rattle.yaml_read.proofs.Words.{ℕ, zero, suc, List, [], length, Option, Some, None, Result, Ok, Err, Bool, true}
+use Rattle.yaml_read.proofs.Words.{false, refl, sym, subst, arith, is_some, eqb-true, Owner, Position, items_of}
+use Rattle.yaml_read.proofs.Words.{entries_of, sequence_text, PlainData, any_data, seq_data, variant_data, tuple_data}
+use Rattle.yaml_read.proofs.Words.{map_data, some_data, newtype_data, ignored_data, any_shape, PlainShape, seq_shape}
+use Rattle.yaml_read.proofs.Words.{row_shape, map_shape, fields_shape, shape_at, sequence, word, tagged, content_shape}
+use Rattle.yaml_read.proofs.Words.{DocNode, DocNodes, DocPairs, nothing, reference, list, unless, mapping, node_of}
+use Rattle.yaml_read.proofs.Words.{first_event, ReadFault, out_of_memory, refused, end_of_stream, Way, wrong_length}
+use Rattle.yaml_read.proofs.Words.{mapping_fault, sequence_fault, scalar_answer, void_answer, tree_in, trees_in}
+use Rattle.yaml_read.proofs.Words.{no_slots, struct_of, Handing, as_is, as_some, as_newtype, as_ignored, Spot, as_bare}
+use Rattle.yaml_read.proofs.Words.{early, as_variant, as_tagged, as_refused, handed, refusal, TakenBy, Means}
 use Rattle.yaml_read.proofs.Words.{around_value, means_node, MeansAs, means_some, means_newtype, means_ignored, places}
 use Rattle.yaml_read.proofs.Words.{means_target, means_void, means_scalar, means_list, means_mapping, means_bare, after}
 use Rattle.yaml_read.proofs.Words.{means_variant, means_tagged, means_seq, means_row, means_any_list, means_any_mapping}

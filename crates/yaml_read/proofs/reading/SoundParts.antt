@@ -1,14 +1,15 @@
 -- Nodes and pairs that are read one after another give what they mean.
-use Rattle.yaml_read.proofs.Words.{◌≡◌, ℕ, suc, ◌+◌, ◌≤◌, List, [], ◌∷◌, ◌++◌, Option, Some, None, Ok, Bool, true}
-use Rattle.yaml_read.proofs.Words.{false, sym, subst, ◌∙◌, arith, append_assoc, append-nil, length, max, set, is_some}
-use Rattle.yaml_read.proofs.Words.{items_of, entries_of, PlainData, PlainShape, any_shape, has_key, keys_distinct}
-use Rattle.yaml_read.proofs.Words.{DocNode, DocNodes, DocPairs, no_nodes, node, first_event, tree_in, new_key, TakenBy}
-use Rattle.yaml_read.proofs.Words.{Means, MeanEach, means_none, means_more, MeanPairs, means_no_pairs, means_pair, Way}
-use Rattle.yaml_read.proofs.Words.{element_under, value_under, any_key_of, Spot, behind, each_node, each_pair}
-use Rattle.yaml_read.proofs.Words.{TreeReader, item_of, key_of, value_of, with_shape, shape_at, MeanRow, row_part}
-use Rattle.yaml_read.proofs.Words.{means_no_elements, means_element, Position, Place, identifier_shape, ◌>>=◌, Fields}
-use Rattle.yaml_read.proofs.Words.{Slots, name_in, field_named, MeanFields, means_no_fields, means_field, means_unknown}
-use Rattle.yaml_read.proofs.Words.{text_place, field_key, field_value, no_pairs, pair}
+use Rattle.std.specs.Prelude.{◌≡◌, ◌+◌, ◌≤◌, ◌∷◌, ◌++◌}
+use Rattle.yaml_read.proofs.Words.{ℕ, suc, List, [], Option, Some, None, Ok, Bool, true, false, sym, subst, ◌∙◌, arith}
+use Rattle.yaml_read.proofs.Words.{append_assoc, append-nil, length, max, set, is_some, items_of, entries_of, PlainData}
+use Rattle.yaml_read.proofs.Words.{PlainShape, any_shape, has_key, keys_distinct, DocNode, DocNodes, DocPairs, no_nodes}
+use Rattle.yaml_read.proofs.Words.{node, first_event, tree_in, new_key, TakenBy, Means, MeanEach, means_none}
+use Rattle.yaml_read.proofs.Words.{means_more, MeanPairs, means_no_pairs, means_pair, Way, element_under, value_under}
+use Rattle.yaml_read.proofs.Words.{any_key_of, Spot, behind, each_node, each_pair, TreeReader, item_of, key_of}
+use Rattle.yaml_read.proofs.Words.{value_of, with_shape, shape_at, MeanRow, row_part, means_no_elements, means_element}
+use Rattle.yaml_read.proofs.Words.{Position, Place, identifier_shape, ◌>>=◌, Fields, Slots, name_in, field_named}
+use Rattle.yaml_read.proofs.Words.{MeanFields, means_no_fields, means_field, means_unknown, text_place, field_key}
+use Rattle.yaml_read.proofs.Words.{field_value, no_pairs, pair}
 use Rattle.yaml_read.proofs.AnyLaws.{pairs_of, distinct_end, key_is_new}
 use Rattle.yaml_read.proofs.FieldLaws.{named_found, named_unknown}
 use Rattle.yaml_read.proofs.reading.Steps.{IfData, data_ok, data_then, data_wrap, data_finish, data_with}

@@ -1,8 +1,9 @@
 -- Data is read of an event that stands there.
-use Rattle.yaml_read.proofs.Words.{◌≡◌, ℕ, zero, suc, Option, Some, None, Ok, Err, Bool, false, refl, Result, ◌+◌}
-use Rattle.yaml_read.proofs.Words.{is_some, Position, PlainData, PlainShape, PlainDocEvent, alias_to, ReadFault}
-use Rattle.yaml_read.proofs.Words.{PlainRefusal, ◌>>=◌, unless, early, TakenBy, Way, Spot, Reading, Source, pursue}
-use Rattle.yaml_read.proofs.Words.{place_at, text_at, shape_step, node_at}
+use Rattle.std.specs.Prelude.{◌≡◌, ◌+◌}
+use Rattle.yaml_read.proofs.Words.{ℕ, zero, suc, Option, Some, None, Ok, Err, Bool, false, refl, Result, is_some}
+use Rattle.yaml_read.proofs.Words.{Position, PlainData, PlainShape, PlainDocEvent, alias_to, ReadFault, PlainRefusal}
+use Rattle.yaml_read.proofs.Words.{◌>>=◌, unless, early, TakenBy, Way, Spot, Reading, Source, pursue, place_at, text_at}
+use Rattle.yaml_read.proofs.Words.{shape_step, node_at}
 use Rattle.yaml_shape.specs.PlainShape as shape
 
 -- a lookup that finds an event

@@ -1,7 +1,8 @@
 -- What the steps of a reading answer: what holds of their data.
-use Rattle.yaml_read.proofs.Words.{◌≡◌, ℕ, zero, suc, Some, None, Option, Result, Ok, Err, refl, subst, Position}
-use Rattle.yaml_read.proofs.Words.{PlainShape, ReadFault, PlainRefusal, refused, ◌>>=◌, ending, wrap, enter, follow}
-use Rattle.yaml_read.proofs.Words.{finish, with_shape, unless}
+use Rattle.std.specs.Prelude.{◌≡◌}
+use Rattle.yaml_read.proofs.Words.{ℕ, zero, suc, Some, None, Option, Result, Ok, Err, refl, subst, Position, PlainShape}
+use Rattle.yaml_read.proofs.Words.{ReadFault, PlainRefusal, refused, ◌>>=◌, ending, wrap, enter, follow, finish}
+use Rattle.yaml_read.proofs.Words.{with_shape, unless}
 
 -- this holds of the answer, if it is one
 abbrev pub IfData : {E A : Type 0} → (A → Type 0) → Result A E → Type 0

@@ -1,9 +1,10 @@
 -- What the steps of a reading of trees answer where its fuel is enough: data, with no more follows left than before, or
 -- a fault of reading, never want of memory.
-use Rattle.yaml_read.proofs.Words.{◌≡◌, ℕ, zero, suc, ◌≤◌, Option, Some, None, Result, Ok, Err, Bool, refl, arith}
-use Rattle.yaml_read.proofs.Words.{Position, PlainShape, DocNode, DocNodes, DocPairs, no_nodes, node, ReadFault}
-use Rattle.yaml_read.proofs.Words.{PlainRefusal, refused, ◌>>=◌, ending, wrap, finish, enter, follow, with_shape}
-use Rattle.yaml_read.proofs.Words.{unless, Way, place, Spot, Answer, behind, each_node, each_pair, no_pairs, pair}
+use Rattle.std.specs.Prelude.{◌≡◌, ◌≤◌}
+use Rattle.yaml_read.proofs.Words.{ℕ, zero, suc, Option, Some, None, Result, Ok, Err, Bool, refl, arith, Position}
+use Rattle.yaml_read.proofs.Words.{PlainShape, DocNode, DocNodes, DocPairs, no_nodes, node, ReadFault, PlainRefusal}
+use Rattle.yaml_read.proofs.Words.{refused, ◌>>=◌, ending, wrap, finish, enter, follow, with_shape, unless, Way, place}
+use Rattle.yaml_read.proofs.Words.{Spot, Answer, behind, each_node, each_pair, no_pairs, pair}
 
 -- the answer is a value of which this holds, with at most so many follows left, or a fault of reading
 pub data Ends {A : Type 0} (Q : A → Type 0) (left : ℕ) : Answer A → Type 0 where

@@ -1,17 +1,18 @@
 -- A tree is read to its end: with fuel that is enough it answers data or a fault of reading, never want of memory.
-use Rattle.yaml_read.proofs.Words.{◌≡◌, ℕ, zero, suc, ◌+◌, ◌*◌, ◌<◌, ◌≤◌, List, [], ◌∷◌, ◌++◌, length, Option, Some}
-use Rattle.yaml_read.proofs.Words.{None, Ok, Bool, refl, ap, subst, arith, All, IfSome, set, is_some, All-head}
-use Rattle.yaml_read.proofs.Words.{All-tail, All-nil, Position, Place, items_of, entries_of, PlainData, any_data}
-use Rattle.yaml_read.proofs.Words.{variant_data, seq_data, map_data, some_data, newtype_data, ignored_data, PlainShape}
-use Rattle.yaml_read.proofs.Words.{shape_at, content_shape, AllNameWithin, NamesWithin, numbers_of, rank, sequence}
-use Rattle.yaml_read.proofs.Words.{tagged, DocNode, DocNodes, DocPairs, nothing, reference, word, list, mapping}
-use Rattle.yaml_read.proofs.Words.{node_of, first_event, scalar_answer, void_answer, tree_in, trees_in, pairs_in}
-use Rattle.yaml_read.proofs.Words.{Fields, Slots, no_slots, name_in, field_named, field_step, struct_of, Handing, as_is}
-use Rattle.yaml_read.proofs.Words.{as_some, as_newtype, as_ignored, as_bare, as_variant, as_tagged, as_refused, early}
-use Rattle.yaml_read.proofs.Words.{handed, depth, reach, untaken_reach, TakenBy, around_value, Way, element_under}
-use Rattle.yaml_read.proofs.Words.{value_under, places, Row, row_of, row_step, row_data, Spot, Answer, TreeReader}
-use Rattle.yaml_read.proofs.Words.{after, item_of, key_of, value_of, any_key_of, field_key, field_value, target_of}
-use Rattle.yaml_read.proofs.Words.{row_part, sequence_of, mapping_of, handed_by, read_tree}
+use Rattle.std.specs.Prelude.{◌≡◌, ◌+◌, ◌*◌, ◌<◌, ◌≤◌, ◌∷◌, ◌++◌}
+use Rattle.yaml_read.proofs.Words.{ℕ, zero, suc, List, [], length, Option, Some, None, Ok, Bool, refl, ap, subst, arith}
+use Rattle.yaml_read.proofs.Words.{All, IfSome, set, is_some, All-head, All-tail, All-nil, Position, Place, items_of}
+use Rattle.yaml_read.proofs.Words.{entries_of, PlainData, any_data, variant_data, seq_data, map_data, some_data}
+use Rattle.yaml_read.proofs.Words.{newtype_data, ignored_data, PlainShape, shape_at, content_shape, AllNameWithin}
+use Rattle.yaml_read.proofs.Words.{NamesWithin, numbers_of, rank, sequence, tagged, DocNode, DocNodes, DocPairs}
+use Rattle.yaml_read.proofs.Words.{nothing, reference, word, list, mapping, node_of, first_event, scalar_answer}
+use Rattle.yaml_read.proofs.Words.{void_answer, tree_in, trees_in, pairs_in, Fields, Slots, no_slots, name_in}
+use Rattle.yaml_read.proofs.Words.{field_named, field_step, struct_of, Handing, as_is, as_some, as_newtype, as_ignored}
+use Rattle.yaml_read.proofs.Words.{as_bare, as_variant, as_tagged, as_refused, early, handed, depth, reach}
+use Rattle.yaml_read.proofs.Words.{untaken_reach, TakenBy, around_value, Way, element_under, value_under, places, Row}
+use Rattle.yaml_read.proofs.Words.{row_of, row_step, row_data, Spot, Answer, TreeReader, after, item_of, key_of}
+use Rattle.yaml_read.proofs.Words.{value_of, any_key_of, field_key, field_value, target_of, row_part, sequence_of}
+use Rattle.yaml_read.proofs.Words.{mapping_of, handed_by, read_tree}
 use Rattle.yaml_scalar.proofs.VariantCode.{content_all}
 use Rattle.yaml_shape.specs.PlainShape as shape
 use Rattle.yaml_tree.specs.Tree as tree

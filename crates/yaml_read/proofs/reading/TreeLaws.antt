@@ -1,15 +1,16 @@
 -- Where events show a node, reading it by its place answers what reading the tree answers, and ends behind the node.
-use Rattle.yaml_read.proofs.Words.{◌≡◌, ℕ, zero, suc, ◌+◌, ◌<◌, [], ◌∷◌, ◌++◌, length, Option, Some, None, Ok, Bool}
-use Rattle.yaml_read.proofs.Words.{true, refl, sym, subst, arith, ap, ◌∙◌, is_some, Position, PlainData, any_data}
-use Rattle.yaml_read.proofs.Words.{variant_data, some_data, newtype_data, PlainShape, any_shape, shape_at}
-use Rattle.yaml_read.proofs.Words.{content_shape, tagged, DocNode, nothing, reference, word, list, mapping, events_of}
-use Rattle.yaml_read.proofs.Words.{events_of_nodes, events_of_pairs, node_of, first_event, PlainDocEvent, alias_to}
-use Rattle.yaml_read.proofs.Words.{sequence_ends, mapping_ends, scalar_answer, void_answer, ◌>>=◌, ending, tree_in}
-use Rattle.yaml_read.proofs.Words.{Fields, no_slots, struct_of, Handing, as_is, as_some, as_newtype, as_ignored}
-use Rattle.yaml_read.proofs.Words.{as_bare, as_variant, as_tagged, as_refused, is_bare, handed, early, TakenBy}
-use Rattle.yaml_read.proofs.Words.{around_value, Way, places, place, Spot, after, TreeReader, Answer, sequence_of}
-use Rattle.yaml_read.proofs.Words.{mapping_of, target_of, node_by, handed_by, read_tree, mark_or_first, Source, Reading}
-use Rattle.yaml_read.proofs.Words.{Reader, sequence_at, mapping_at, event_at, handed_at, shape_step, node_at, place_at}
+use Rattle.std.specs.Prelude.{◌≡◌, ◌+◌, ◌<◌, ◌∷◌, ◌++◌}
+use Rattle.yaml_read.proofs.Words.{ℕ, zero, suc, [], length, Option, Some, None, Ok, Bool, true, refl, sym, subst}
+use Rattle.yaml_read.proofs.Words.{arith, ap, ◌∙◌, is_some, Position, PlainData, any_data, variant_data, some_data}
+use Rattle.yaml_read.proofs.Words.{newtype_data, PlainShape, any_shape, shape_at, content_shape, tagged, DocNode}
+use Rattle.yaml_read.proofs.Words.{nothing, reference, word, list, mapping, events_of, events_of_nodes, events_of_pairs}
+use Rattle.yaml_read.proofs.Words.{node_of, first_event, PlainDocEvent, alias_to, sequence_ends, mapping_ends}
+use Rattle.yaml_read.proofs.Words.{scalar_answer, void_answer, ◌>>=◌, ending, tree_in, Fields, no_slots, struct_of}
+use Rattle.yaml_read.proofs.Words.{Handing, as_is, as_some, as_newtype, as_ignored, as_bare, as_variant, as_tagged}
+use Rattle.yaml_read.proofs.Words.{as_refused, is_bare, handed, early, TakenBy, around_value, Way, places, place, Spot}
+use Rattle.yaml_read.proofs.Words.{after, TreeReader, Answer, sequence_of, mapping_of, target_of, node_by, handed_by}
+use Rattle.yaml_read.proofs.Words.{read_tree, mark_or_first, Source, Reading, Reader, sequence_at, mapping_at, event_at}
+use Rattle.yaml_read.proofs.Words.{handed_at, shape_step, node_at, place_at}
 use Rattle.yaml_read.proofs.reading.Handings.{from_handing}
 use Rattle.yaml_read.proofs.reading.PlaceLaws.{lands_place}
 use Rattle.yaml_read.proofs.reading.Shown.{Shows, target_shown, begins}

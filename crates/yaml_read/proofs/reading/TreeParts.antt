@@ -1,14 +1,15 @@
 -- Where events show a collection, reading it by its place answers what reading its tree answers.
+use Rattle.std.specs.Prelude.{◌++◌, ◌≡◌, ◌+◌, ◌<◌, ◌∷◌}
 use Rattle.yaml_read.proofs.Words.{identifier_shape, events_of_nodes, events_of_pairs, field_value_at, PlainDocEvent, ℕ}
 use Rattle.yaml_read.proofs.Words.{sequence_ends, element_under, mark_or_first, ignored_data, mapping_ends, sequence_of}
 use Rattle.yaml_read.proofs.Words.{fields_shape, field_key_at, sequence_at, first_event, value_under, field_value, List}
 use Rattle.yaml_read.proofs.Words.{PlainShape, with_shape, TreeReader, entries_of, text_place, mapping_of, any_key_of}
 use Rattle.yaml_read.proofs.Words.{any_key_at, mapping_at, PlainData, any_shape, seq_shape, row_shape, events_of, subst}
 use Rattle.yaml_read.proofs.Words.{map_shape, struct_of, field_key, value_way, Position, items_of, any_data, seq_data}
-use Rattle.yaml_read.proofs.Words.{shape_at, sequence, DocNodes, trees_in, row_step, row_data, row_part, map_data, ◌++◌}
+use Rattle.yaml_read.proofs.Words.{shape_at, sequence, DocNodes, trees_in, row_step, row_data, row_part, map_data}
 use Rattle.yaml_read.proofs.Words.{DocPairs, pairs_in, no_slots, value_of, DocNode, TakenBy, item_of, item_at, skip_at}
 use Rattle.yaml_read.proofs.Words.{length, Option, nat_lt, lt-ltb, row_of, Source, Reader, row_at, Fields, key_of, Some}
-use Rattle.yaml_read.proofs.Words.{arith, Slots, None, true, Spot, Bool, wrap, ◌≡◌, ◌+◌, ◌<◌, ◌∷◌, Way, set, [], Ok}
+use Rattle.yaml_read.proofs.Words.{arith, Slots, None, true, Spot, Bool, wrap, Way, set, [], Ok}
 use Rattle.yaml_tree.specs.Tree as tree_of
 use Rattle.yaml_read.proofs.reading.Shown.{Shows, begins, opens, node_within}
 use Rattle.yaml_read.proofs.reading.TreeWalks.{Lands, lands, refuses, lands_wrap, lands_enter, lands_with, lands_finish}

@@ -1,10 +1,11 @@
 -- Going over the parts of a collection by their places answers what going over the tree's parts answers.
-use Rattle.yaml_read.proofs.Words.{PlainRefusal, ◌≡◌, ℕ, zero, suc, ◌+◌, ◌<◌, [], ◌∷◌, ◌++◌, length, Some, None, Option}
-use Rattle.yaml_read.proofs.Words.{Result, Ok, Err, refl, subst, ◌∙◌, arith, Position, PlainDocEvent, sequence_ends}
-use Rattle.yaml_read.proofs.Words.{mapping_ends, DocNode, DocNodes, DocPairs, no_nodes, node, events_of}
-use Rattle.yaml_read.proofs.Words.{events_of_nodes, events_of_pairs, ReadFault, ◌>>=◌, ending, wrap, enter, follow}
-use Rattle.yaml_read.proofs.Words.{finish, with_shape, unless, Spot, Answer, each_node, each_pair, Reading, Events}
-use Rattle.yaml_read.proofs.Words.{is_sequence_end, is_mapping_end, each_at, PlainShape, no_pairs, pair}
+use Rattle.std.specs.Prelude.{◌≡◌, ◌+◌, ◌<◌, ◌∷◌, ◌++◌}
+use Rattle.yaml_read.proofs.Words.{PlainRefusal, ℕ, zero, suc, [], length, Some, None, Option, Result, Ok, Err, refl}
+use Rattle.yaml_read.proofs.Words.{subst, ◌∙◌, arith, Position, PlainDocEvent, sequence_ends, mapping_ends, DocNode}
+use Rattle.yaml_read.proofs.Words.{DocNodes, DocPairs, no_nodes, node, events_of, events_of_nodes, events_of_pairs}
+use Rattle.yaml_read.proofs.Words.{ReadFault, ◌>>=◌, ending, wrap, enter, follow, finish, with_shape, unless, Spot}
+use Rattle.yaml_read.proofs.Words.{Answer, each_node, each_pair, Reading, Events, is_sequence_end, is_mapping_end}
+use Rattle.yaml_read.proofs.Words.{each_at, PlainShape, no_pairs, pair}
 use Rattle.yaml_read.proofs.reading.Loops.{each_end, each_going}
 use Rattle.yaml_read.proofs.reading.Shown.{Shows, begins, no_sequence_end, no_mapping_end, shows_node, shows_pair}
 use Rattle.yaml_read.proofs.reading.Shown.{size_node, size_pair, wide}

@@ -1,8 +1,9 @@
 -- What a node's reading comes to under the shapes of any value and of enums.
-use Rattle.yaml_read.proofs.Words.{◌≡◌, ℕ, Bool, true, false, List, [], Some, None, Err, refl, Ok, ◌∷◌, ◌++◌, PlainData}
-use Rattle.yaml_read.proofs.Words.{any_shape, enum_shape, PlainVariant, PlainDocEvent, ReadFault, PlainRefusal, refused}
-use Rattle.yaml_read.proofs.Words.{Variants, variant_named, new_key, as_is, as_variant, as_tagged, handed}
-use Rattle.yaml_read.proofs.Words.{is_filled_scalar, untaken_name, Way, Spot, Source, Reader, any_entry_at, value_way}
+use Rattle.std.specs.Prelude.{◌≡◌, ◌∷◌, ◌++◌}
+use Rattle.yaml_read.proofs.Words.{ℕ, Bool, true, false, List, [], Some, None, Err, refl, Ok, PlainData, any_shape}
+use Rattle.yaml_read.proofs.Words.{enum_shape, PlainVariant, PlainDocEvent, ReadFault, PlainRefusal, refused, Variants}
+use Rattle.yaml_read.proofs.Words.{variant_named, new_key, as_is, as_variant, as_tagged, handed, is_filled_scalar}
+use Rattle.yaml_read.proofs.Words.{untaken_name, Way, Spot, Source, Reader, any_entry_at, value_way}
 
 -- ---- how enums and any values are handed on
 pub any_tagged : (taken : Bool) (e : PlainDocEvent) (name : List ℕ) → untaken_name taken e ≡ Some name

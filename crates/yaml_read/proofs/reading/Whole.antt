@@ -1,10 +1,11 @@
 -- What a document gives, from what its reading gives.
+use Rattle.std.specs.Prelude.{◌≡◌, ◌*◌, ◌<◌, ◌≤◌, ◌≢◌, ◌⊎◌}
 use Rattle.yaml_read.proofs.Words.{IsReadingFault, PlainDocument, out_of_memory, end_of_stream, DocumentGives, shape_at}
 use Rattle.yaml_read.proofs.Words.{option_shape, PlainRefusal, front_answer, IsNodeFault, PlainLimits, PlainShape, List}
 use Rattle.yaml_read.proofs.Words.{whole_fuel, whole_tree, value_told, is_memory, PlainData, IsRefusal, cut_fault, Some}
 use Rattle.yaml_read.proofs.Words.{answer_of, IsEnding, cause_of, root_way, IsTreeOf, marks_of, DocNode, refused, false}
 use Rattle.yaml_read.proofs.Words.{ran_out, Reading, length, Result, subst, arith, Cause, reach, Means, Reads, None, Ok}
-use Rattle.yaml_read.proofs.Words.{refl, rank, Spot, ◌≡◌, ◌*◌, ◌<◌, ◌≤◌, Err, sym, ◌∙◌, inl, inr, ◌≢◌, ◌⊎◌, ap, ℕ}
+use Rattle.yaml_read.proofs.Words.{refl, rank, Spot, Err, sym, ◌∙◌, inl, inr, ap, ℕ}
 use Rattle.yaml_base.specs.declared.error.Cause.TheVariants.{MoreThanOneDocument, EndOfStream}
 pub use Rattle.yaml_read.proofs.reading.WholeReadings.{whole_source, whole_reading}
 use Rattle.yaml_read.proofs.reading.Outcomes.{Outcome, reads, deep, many}

@@ -1,5 +1,6 @@
 -- The fault of a tree under a shape of a schema is one of reading.
-use Rattle.yaml_read.proofs.Words.{◌≡◌, ℕ, ◌<◌, ◌≤◌, List, length, Some, None, Err, ap, ◌∙◌, arith, subst, All-get_or}
+use Rattle.std.specs.Prelude.{◌≡◌, ◌<◌, ◌≤◌}
+use Rattle.yaml_read.proofs.Words.{ℕ, List, length, Some, None, Err, ap, ◌∙◌, arith, subst, All-get_or}
 use Rattle.yaml_read.proofs.Words.{slice_get_within, get_or_from_slice_get, Cause, PlainShape, option_shape, shape_at}
 use Rattle.yaml_read.proofs.Words.{AllNameWithin, NamesWithin, rank, DocNode, PlainDocument, cause_of, root_way}
 use Rattle.yaml_read.proofs.Words.{IsReadingFault, PlainLimits, marks_of, whole_fuel, whole_tree, answer_of}

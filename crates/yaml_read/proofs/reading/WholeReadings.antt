@@ -1,11 +1,12 @@
 -- The reading of a document by its places from its start, and what its answer says.
-use Rattle.yaml_read.proofs.Words.{◌≡◌, ℕ, suc, ◌+◌, ◌*◌, ◌<◌, ◌≤◌, List, [], ◌∷◌, map, length, Option, None, Result}
-use Rattle.yaml_read.proofs.Words.{Ok, Err, Bool, true, false, refl, sym, ap, subst, ◌∙◌, arith, slice_get, is_some}
-use Rattle.yaml_read.proofs.Words.{length-map, slice_get_within, Position, Cause, PlainData, PlainShape, doc_event_of}
-use Rattle.yaml_read.proofs.Words.{marked_events_of, ends_of, DocNode, events_of, PlainDocEvent, PlainDocument}
-use Rattle.yaml_read.proofs.Words.{DocEvent, PlainRefusal, cause_of, depth, reach, nesting_depth, untaken_reach}
-use Rattle.yaml_read.proofs.Words.{TakenBy, Way, root_way, IsTreeOf, PlainLimits, Spot, Answer, marks_of, value_told}
-use Rattle.yaml_read.proofs.Words.{whole_fuel, whole_tree, read_tree, Source, Reading, Events, node_at}
+use Rattle.std.specs.Prelude.{◌≡◌, ◌+◌, ◌*◌, ◌<◌, ◌≤◌, ◌∷◌}
+use Rattle.yaml_read.proofs.Words.{ℕ, suc, List, [], map, length, Option, None, Result, Ok, Err, Bool, true, false}
+use Rattle.yaml_read.proofs.Words.{refl, sym, ap, subst, ◌∙◌, arith, slice_get, is_some, length-map, slice_get_within}
+use Rattle.yaml_read.proofs.Words.{Position, Cause, PlainData, PlainShape, doc_event_of, marked_events_of, ends_of}
+use Rattle.yaml_read.proofs.Words.{DocNode, events_of, PlainDocEvent, PlainDocument, DocEvent, PlainRefusal, cause_of}
+use Rattle.yaml_read.proofs.Words.{depth, reach, nesting_depth, untaken_reach, TakenBy, Way, root_way, IsTreeOf}
+use Rattle.yaml_read.proofs.Words.{PlainLimits, Spot, Answer, marks_of, value_told, whole_fuel, whole_tree, read_tree}
+use Rattle.yaml_read.proofs.Words.{Source, Reading, Events, node_at}
 use Rattle.yaml_read.proofs.reading.EndLaws.{node_ends}
 use Rattle.yaml_read.proofs.reading.Shown.{Shows}
 use Rattle.yaml_read.proofs.reading.TreeLaws.{reader_tied}

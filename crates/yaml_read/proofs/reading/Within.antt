@@ -1,8 +1,9 @@
 -- Shapes that a table has, the contents of its variants, and fields that are found by their names.
-use Rattle.yaml_read.proofs.Words.{sym, ◌≡◌, ℕ, ◌<◌, ◌≤◌, List, [], length, Option, Some, Result, Ok, Err, refl, ap}
-use Rattle.yaml_read.proofs.Words.{arith, All, get_or, All-head, All-nil, All-get_or, slice_get-get_or, PlainShape}
-use Rattle.yaml_read.proofs.Words.{shape_at, content_shape, PlainVariant, AllNameWithin, NamesWithin, named_in}
-use Rattle.yaml_read.proofs.Words.{numbers_of, rank, ReadFault, ◌>>=◌, Fields, find, reach, Way}
+use Rattle.std.specs.Prelude.{◌≡◌, ◌<◌, ◌≤◌}
+use Rattle.yaml_read.proofs.Words.{sym, ℕ, List, [], length, Option, Some, Result, Ok, Err, refl, ap, arith, All}
+use Rattle.yaml_read.proofs.Words.{get_or, All-head, All-nil, All-get_or, slice_get-get_or, PlainShape, shape_at}
+use Rattle.yaml_read.proofs.Words.{content_shape, PlainVariant, AllNameWithin, NamesWithin, named_in, numbers_of, rank}
+use Rattle.yaml_read.proofs.Words.{ReadFault, ◌>>=◌, Fields, find, reach, Way}
 use Rattle.yaml_shape.specs.PlainShape as shape
 use Rattle.yaml_read.proofs.FieldCode.{find_within}
 use Rattle.yaml_read.proofs.reading.PartExits.{all_at}

@@ -1,7 +1,8 @@
 -- What a document gives, and how its cursor is left, from what its reading gives.
-use Rattle.yaml_read.proofs.Words.{◌≡◌, ◌*◌, Ok, Err, false, sym, ap, subst, ◌∙◌, map, length, arith, length-map}
-use Rattle.yaml_read.proofs.Words.{option_copied, Position, data_of, shape_of, doc_event_of, PlainDocEvent, IsEnding}
-use Rattle.yaml_read.proofs.Words.{DocEvent, cause_of, ran_out}
+use Rattle.std.specs.Prelude.{◌≡◌, ◌*◌}
+use Rattle.yaml_read.proofs.Words.{Ok, Err, false, sym, ap, subst, ◌∙◌, map, length, arith, length-map, option_copied}
+use Rattle.yaml_read.proofs.Words.{Position, data_of, shape_of, doc_event_of, PlainDocEvent, IsEnding, DocEvent}
+use Rattle.yaml_read.proofs.Words.{cause_of, ran_out}
 use Rattle.yaml_read.proofs.WholeEnds.{read_ends, leaves}
 use Rattle.yaml_read.proofs.reading.EndLaws.{ends_go_forward}
 use Rattle.yaml_read.proofs.reading.ReadingCauses.{known_refusal, refusal_kind}

@@ -1,5 +1,6 @@
 -- Where there is a map, it was made of these fields.
-use Rattle.yaml_read.proofs.Words.{sym, ap, ◌∙◌, ◌≡◌, Some, None, get_by, bytes_eq, field_view}
+use Rattle.std.specs.Prelude.{◌≡◌}
+use Rattle.yaml_read.proofs.Words.{sym, ap, ◌∙◌, Some, None, get_by, bytes_eq, field_view}
 use Rattle.yaml_read.proofs.FieldCode.{same_some}
 use Rattle.yaml_read.proofs.de.node.field_index.FieldIndex.new.Goals.{then-fields-gt-FEW+in_ok-by_name}
 use Rattle.yaml_read.proofs.de.node.field_index.FieldIndex.new.Goals.{else-fields-gt-FEW}
