@@ -44,10 +44,10 @@ use yaml_shape::{Data, Shape};
 /// The refusal of a collection with this mark that is nested too deep, or want of memory.
 #[cold]
 #[inline(never)]
-pub(super) fn too_deep(alloc: Global, mark: Mark) -> Refusal
-    ensures { IsRefusedBy result (recursion_limit_exceeded mark) }
+pub(super) fn too_deep(alloc: Global, mark: &Mark) -> Refusal
+    ensures { IsRefusedBy result (recursion_limit_exceeded mark.now) }
 {
-    refuse(alloc, Error::new(Cause::RecursionLimitExceeded(mark)))
+    refuse(alloc, Error::new(Cause::RecursionLimitExceeded(*mark)))
 }
 
 // The refusal of a follow past the last one, or want of memory.
@@ -62,6 +62,7 @@ fn followed_too_often(alloc: Global) -> Refusal
 impl<'s, 'de> Source<'s, 'de> {
     /// The node at the walk's place, under a shape, with so many nestings left.
     #[cycle(read)]
+    #[inline(never)]
     pub(super) fn read_node(&self, ask: &Ask<'_, '_, '_>, walk: &mut Walk) -> Result<Data<'de>>
         requires named { Named self.now (question_of ask.now) }
         requires forward { GoForward self.now.ends.now }
@@ -78,7 +79,7 @@ impl<'s, 'de> Source<'s, 'de> {
 
     /// The same, where a fault is not placed yet.
     #[cycle(read)]
-    #[inline(never)]
+    #[inline(always)]
     pub(super) fn read_unplaced(&self, ask: &Ask<'_, '_, '_>, walk: &mut Walk) -> Result<Data<'de>>
         requires named { Named self.now (question_of ask.now) }
         requires forward { GoForward self.now.ends.now }

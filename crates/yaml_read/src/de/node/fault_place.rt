@@ -26,10 +26,10 @@ use yaml_shape::{Shape, VariantShape};
 /// The fault at this place, if it has none yet, or want of memory.
 #[cold]
 #[inline(never)]
-pub(crate) fn at_place(alloc: Global, refusal: Refusal, mark: Mark, path: &Path<'_>) -> Refusal
-    ensures { ran_out result ≡ false → result ≡ placed true mark (way_of path.now) refusal }
+pub(crate) fn at_place(alloc: Global, refusal: Refusal, mark: &Mark, path: &Path<'_>) -> Refusal
+    ensures { ran_out result ≡ false → result ≡ placed true mark.now (way_of path.now) refusal }
 {
-    match refusal.into_error().fix_mark(alloc, mark, path) {
+    match refusal.into_error().fix_mark(alloc, *mark, path) {
         Ok(fault) => refuse(alloc, fault),
         Err(_) => Refusal::memory(),
     }
@@ -64,7 +64,7 @@ impl<'s, 'de> Source<'s, 'de> {
             return refusal;
         };
         if places(ask.shape, is_taken(ask.taken), event) {
-            return at_place(self.alloc, refusal, *mark, ask.path);
+            return at_place(self.alloc, refusal, mark, ask.path);
         }
         refusal
     }
@@ -91,12 +91,12 @@ impl<'s, 'de> Source<'s, 'de> {
                 return refusal;
             }
         }
-        at_place(self.alloc, refusal, event.1, ask.path)
+        at_place(self.alloc, refusal, &event.1, ask.path)
     }
 }
 
 /// The way to the value behind a key that begins with the event.
-#[inline(never)]
+#[inline(always)]
 pub(crate) fn value_path<'a>(path: &'a Path<'a>, event: &'a DocEvent<'_>) -> Path<'a>
     ensures { way_of result ≡ value_under (way_of path.now) (doc_event_of event.now) }
 {

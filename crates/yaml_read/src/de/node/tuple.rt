@@ -45,7 +45,7 @@ impl<'s, 'de> Source<'s, 'de> {
             return self.read_simple(ask, event, walk);
         };
         if ask.nest == 0 {
-            return Err(too_deep(self.alloc, *mark));
+            return Err(too_deep(self.alloc, mark));
         }
         walk.step();
         let elements = match self.read_elements(ask.path, items, ask.nest - 1, walk) {

@@ -100,6 +100,9 @@ read_further_value-returns-in-Option-clause-gives = Parts.read_further_value-ret
 pub read_further_value-returns-in_default-clause-gives : goal.read_further_value-returns-in_default-clause-gives
 read_further_value-returns-in_default-clause-gives = Parts.read_further_value-returns-in_default-clause-gives
 
+pub read_further_value-returns-in_default-2-clause-gives : goal.read_further_value-returns-in_default-2-clause-gives
+read_further_value-returns-in_default-2-clause-gives = Parts.read_further_value-returns-in_default-2-clause-gives
+
 -- sequences
 pub read_seq-returns-in_default-event : goal.read_seq-returns-in_default-event
 read_seq-returns-in_default-event = Sequences.read_seq-returns-in_default-event

@@ -1,11 +1,12 @@
 -- What the reader gives at each exit: optionals and newtypes.
-use Rattle.std.proofs.Common.{Ok, ◌≡◌, ◌+◌, ◌<◌, true, false, sym, ap, ◌∙◌, arith, rules, refl}
+use Rattle.std.proofs.Common.{Ok, ◌≡◌, ◌+◌, ◌-◌, ◌<◌, true, false, sym, ap, ◌∙◌, arith, rules, refl}
 use Rattle.std.specs.Option.{is_some}
 use Rattle.yaml_read.proofs.Words.{data_of, some_data, newtype_data, shape_of, rank, doc_event_of, is_content, reach}
 use Rattle.yaml_read.proofs.Words.{around_of, spot_of, question_of}
 use Rattle.yaml_shape.specs.declared.data.Data.{Newtype, the_lemmas}
 use Rattle.yaml_read.proofs.reading.Exits.{gives_ending_at, option_as_is, step_event, step_content, step_newtype}
 use Rattle.yaml_read.proofs.reading.Loops.{wrap_fails, wrap_finds}
+use Rattle.yaml_read.proofs.reading.PlaceLaws.{node_read, node_refused}
 use Rattle.yaml_read.proofs.de.node.source.Source.+read.Goals as goal
 
 pub read_option-returns-then-not-is_content-clause-gives : goal.read_option-returns-then-not-is_content-clause-gives
@@ -28,8 +29,10 @@ read_option-returns-clause-gives t c = λ fuel lt.
     rw (step_content c.args.self.now fuel (question_of c.args.ask.now) c.args.walk.now c.args.content.0 _ _ _
     c.requires.option c.in-Some.ensures.found present
     c.shape.ensures.found
-    ∙ wrap_finds some_data _ _ _ (c.in-Ok.ensures.gives fuel (omega (arith, option, c.shape.ensures.reach))))
-    (gives_ending_at data_of (spot_of c.read_node.new.walk) (spot_of c.read_node.new.walk) c.some.result
+    ∙ wrap_finds some_data _ _ _ (node_read c.args.self.now _ c.args.walk.now fuel _
+    (omega (arith, option, c.shape.ensures.reach))
+    (c.in-Ok.ensures.gives (fuel - 1) (omega (arith, option, c.shape.ensures.reach)))))
+    (gives_ending_at data_of (spot_of c.read_unplaced.new.walk) (spot_of c.read_unplaced.new.walk) c.some.result
     (Ok (some_data (data_of c.in-Ok.data))) refl c.some.ensures)
 
 pub read_option-returns-in-Err-clause-gives : goal.read_option-returns-in-Err-clause-gives
@@ -43,7 +46,10 @@ read_option-returns-in-Err-clause-gives t c = λ fuel lt fault.
     step_content c.args.self.now fuel (question_of c.args.ask.now) c.args.walk.now c.args.content.0 _ _ _
     c.requires.option c.in-Some.ensures.found present
     c.shape.ensures.found
-    ∙ wrap_fails some_data _ _ (c.in-Err.ensures.gives fuel (omega (arith, option, c.shape.ensures.reach)) fault)
+    ∙ wrap_fails some_data _ _ (node_refused c.args.self.now _ c.args.walk.now fuel c.in-Err.refusal
+    c.placed_fault.result (omega (arith, option, c.shape.ensures.reach))
+    (c.in-Err.ensures.gives (fuel - 1) (omega (arith, option, c.shape.ensures.reach)))
+    (c.placed_fault.ensures fault) fault)
 
 pub read_newtype-returns-in_ok-new-in-Ok-clause-gives : goal.read_newtype-returns-in_ok-new-in-Ok-clause-gives
 read_newtype-returns-in_ok-new-in-Ok-clause-gives t c = λ fuel name lt.

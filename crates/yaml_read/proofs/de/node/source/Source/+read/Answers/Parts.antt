@@ -91,3 +91,7 @@ read_further_value-returns-in-Option-clause-gives t c = λ fuel lt.
 pub read_further_value-returns-in_default-clause-gives : goal.read_further_value-returns-in_default-clause-gives
 read_further_value-returns-in_default-clause-gives t c =
     λ fuel lt. rw c.value_path-inner.ensures at (c.read_further.ensures.gives fuel lt)
+
+pub read_further_value-returns-in_default-2-clause-gives : goal.read_further_value-returns-in_default-2-clause-gives
+read_further_value-returns-in_default-2-clause-gives t c =
+    λ fuel lt. rw c.value_path-inner.ensures at (c.read_node.ensures.gives fuel lt)
