@@ -14,7 +14,6 @@ pub mod LoadingLaws
 pub mod LoadingTurns
 pub mod NodeSizes
 pub mod NumberedNodes
-pub mod OnTrees
 pub mod OpenEndsLaws
 pub mod PlainWalks
 pub mod SettledEnds

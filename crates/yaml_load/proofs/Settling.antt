@@ -2,9 +2,8 @@
 use Rattle.std.specs.Prelude.{◌≡◌, ◌+◌, ◌<◌, ◌∷◌}
 use Rattle.std.proofs.lemmas.List.{length-drop}
 use Rattle.yaml_load.proofs.Words.{Events, Marked, ℕ, zero, suc, List, [], length, get_or, set, drop, sym, ◌∙◌, ap}
-use Rattle.yaml_load.proofs.Words.{arith, add-one, Option, Some, drop-cons, drop-set-add, get_or-drop, Position}
-use Rattle.yaml_load.proofs.Words.{doc_event_of, marked_events_of, Find, alias_to, DocEvent, Settled, aimed, settle}
-use Rattle.yaml_load.proofs.Words.{settled}
+use Rattle.yaml_load.proofs.Words.{arith, add-one, Some, drop-cons, drop-set-add, get_or-drop, Position, doc_event_of}
+use Rattle.yaml_load.proofs.Words.{marked_events_of, Find, alias_to, DocEvent, Settled, aimed, settled}
 use Rattle.yaml_load.specs.declared.doc_event.DocEvent.TheVariants as event
 
 -- an event that is set at a place
@@ -22,24 +21,18 @@ pub aimed_behind : (events : Events) (from place target : ℕ) (y : DocEvent × 
     → marked_events_of (drop from (set events (from + place) (event.Alias target, y.1)))
     ≡ aimed place target (marked_events_of (drop from events))
 aimed_behind events from place target y l is =
-    ap marked_events_of (drop-set-add from events place (event.Alias target, y.1))
-    ∙ aimed_set (drop from events) place target y (omega (arith, length-drop from events))
-    (is ∙ sym (get_or-drop from events place y))
+    rw drop-set-add (aimed_set (drop from events) place target y (omega (arith, length-drop from events))
+    (is ∙ sym (get_or-drop from events place y)))
 
 -- the aliases from one on
 aliases_from : (aliases : List (List ℕ × ℕ)) (i : ℕ) (x : List ℕ × ℕ) → i < length aliases → x ≡ get_or aliases i x
     → drop i aliases ≡ x ∷ drop (i + 1) aliases
-aliases_from aliases i x l is =
-    drop-cons aliases i x l ∙ ap (λ z. z ∷ drop (suc i) aliases) (sym is)
-    ∙ ap (λ n. x ∷ drop n aliases) (sym (add-one i))
+aliases_from aliases i x l is = rw (drop-cons aliases i x l, ← is, ← add-one)
 
-module _ (find : Find) (aliases : List (List ℕ × ℕ)) (i : ℕ) (x : List ℕ × ℕ) (l : i < length aliases)
-    (is : x ≡ get_or aliases i x) where
-  -- the next alias is known
-  pub settled_more : (target : ℕ) (old new : Marked) (all : Settled) → Some target ≡ find x.0 x.1 → new
-      ≡ aimed x.1 target old
-      → settled find (drop i aliases) old ≡ all → settled find (drop (i + 1) aliases) new ≡ all
-  settled_more target old new all found are h =
-      ap (settled find (drop (i + 1) aliases)) are
-      ∙ ap (λ (o : Option ℕ). settle o x.1 old (settled find (drop (i + 1) aliases))) found
-      ∙ ap (λ xs. settled find xs old) (sym (aliases_from aliases i x l is)) ∙ h
+-- the next alias is known
+pub settled_more : (find : Find) (aliases : List (List ℕ × ℕ)) (i : ℕ) (x : List ℕ × ℕ) → i < length aliases
+    → x ≡ get_or aliases i x → (target : ℕ) (old new : Marked) (all : Settled) → Some target ≡ find x.0 x.1
+    → new ≡ aimed x.1 target old
+    → settled find (drop i aliases) old ≡ all → settled find (drop (i + 1) aliases) new ≡ all
+settled_more find aliases i x l is target old new all found are h =
+    rw (are) (rw (aliases_from aliases i x l is, ← found) at h)

@@ -17,7 +17,7 @@ both_none _ _ h = absurd cc
 same_number : (m n : ℕ) → ◌≡◌ {A = Option ℕ} (Some m) (Some n) → m ≡ n
 same_number m n h = cc
 
-either_some : (o p : Option ℕ) (n : ℕ) → greater o p ≡ Some n → (o ≡ Some n) ⊎ (p ≡ Some n)
+pub either_some : (o p : Option ℕ) (n : ℕ) → greater o p ≡ Some n → (o ≡ Some n) ⊎ (p ≡ Some n)
 either_some None p n h = inr h
 either_some (Some m) None n h = inl h
 either_some (Some m) (Some k) n h =
