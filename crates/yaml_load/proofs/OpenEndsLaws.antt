@@ -7,7 +7,7 @@ use Rattle.yaml_load.proofs.Words.{PlainDocEvent, EndsView, HasNumbers, bounded_
 use Rattle.yaml_load.proofs.FilledEnds.{All-reverse, AreIn, in_set, filled_push, filled_passes, filled_deeper}
 use Rattle.yaml_load.proofs.FilledEnds.{filled_outer, one_longer, filled_at_end}
 
-module _ (front : List ℕ) (seen : List PlainDocEvent) (old : EndsView) (h : HasNumbers front seen old)
+module _ {front : List ℕ} {seen : List PlainDocEvent} {old : EndsView} (h : HasNumbers front seen old)
     (e : PlainDocEvent) where
   abbrev size : ℕ
   size = length seen

@@ -1,12 +1,12 @@
 -- The documents of a whole stream are those of its trees.
 use Rattle.std.specs.Prelude.{◌≡◌, ◌∷◌, ◌++◌}
-use Rattle.yaml_load.proofs.Words.{List, [], map, refl, sym, ◌∙◌, ap, subst, cond, append-nil, Bool, true, false}
-use Rattle.yaml_load.proofs.Words.{Option, Some, None, is_some, Position, PlainEvent, stream_start, stream_end}
-use Rattle.yaml_load.proofs.Words.{document_start, document_end, PlainFault, documents_events, stream_events, Node}
-use Rattle.yaml_load.proofs.Words.{node_events, target, anchors_of, DocNode, events_of, Input, known_events}
-use Rattle.yaml_load.proofs.Words.{unknown_mark, body, behind, is_ended, is_document_start, anchors_in, ending_of}
-use Rattle.yaml_load.proofs.Words.{document_from, documents_of, after_starts, void_documents, last_mark, events_in}
-use Rattle.yaml_load.proofs.Words.{resolved, alias_to, PlainDocEvent, IsDocumentOf, AreDocumentsOf, AreStreamDocuments}
+use Rattle.yaml_load.proofs.Words.{List, [], map, refl, sym, ◌∙◌, ap, subst, append-nil, Bool, true, false, Option}
+use Rattle.yaml_load.proofs.Words.{Some, None, is_some, Position, PlainEvent, stream_start, stream_end, document_start}
+use Rattle.yaml_load.proofs.Words.{document_end, PlainFault, documents_events, stream_events, Node, node_events, target}
+use Rattle.yaml_load.proofs.Words.{anchors_of, DocNode, events_of, Input, known_events, unknown_mark, body, behind}
+use Rattle.yaml_load.proofs.Words.{is_ended, anchors_in, ending_of, document_from, documents_of, after_starts}
+use Rattle.yaml_load.proofs.Words.{void_documents, last_mark, events_in, resolved, alias_to, PlainDocEvent}
+use Rattle.yaml_load.proofs.Words.{IsDocumentOf, AreDocumentsOf, AreStreamDocuments}
 use Rattle.yaml_load.proofs.DocumentLaws.{starts_behind}
 use Rattle.yaml_load.proofs.PlainWalks.{events_in-body, events_in-behind, is_ended-plain, anchors_in-plain, known-plain}
 use Rattle.yaml_load.proofs.PlainWalks.{missing-plain, plain_body, plain_behind, plain_ended, body_node, behind_node}
@@ -67,19 +67,14 @@ document_of_root root rest more is =
 documents_of_roots : (roots : List Node) (input : Input) → events_in input ≡ documents_events roots
     → AreDocumentsOf roots (map (document_from None) (after_starts false input))
 documents_of_roots [] (e ∷ []) is =
-    let end : e.0 ≡ stream_end = cc in
-    subst (λ (x : PlainEvent). AreDocumentsOf [] (map (document_from None) (cond (is_document_start x) ([] ∷ []) [])))
-    (sym end) tt
+    let end : e.0 ≡ stream_end = cc in rw end tt
 documents_of_roots (root ∷ roots) (e ∷ rest) is =
     let start : e.0 ≡ document_start = cc in
     let node : events_in rest ≡ node_events root (document_end ∷ documents_events roots) = cc in
     let ended = is_ended-plain rest ∙ ap plain_ended node ∙ ended_node root (document_end ∷ documents_events roots) in
     let later = events_in-behind rest ∙ ap plain_behind node
     ∙ behind_node root (document_end ∷ documents_events roots) in
-    let starts : after_starts false (e ∷ rest) ≡ rest ∷ after_starts false (behind rest) =
-    ap (λ x. cond (is_document_start x) (rest ∷ after_starts true rest) (after_starts false rest)) start
-    ∙ ap (λ s. rest ∷ s) (starts_behind rest ended) in
-    subst (λ s. AreDocumentsOf (root ∷ roots) (map (document_from None) s)) (sym starts)
+    rw (start, starts_behind rest ended)
     (document_of_root root rest (documents_events roots) node, documents_of_roots roots (behind rest) later)
 documents_of_roots _ _ is = absurd cc
 
@@ -96,24 +91,11 @@ pub documents_of_stream : (roots : List Node) (input : Input) → events_in inpu
     → AreStreamDocuments roots (last_mark input) (documents_of input None)
 documents_of_stream [] (s ∷ (e ∷ [])) is =
     let start : s.0 ≡ stream_start = cc in
-    let end : e.0 ≡ stream_end = cc in (
-      e.1,
-      refl,
-      ap (λ x. map (document_from None) (cond (is_document_start x) ((e ∷ []) ∷ after_starts true (e ∷ []))
-          (after_starts false (e ∷ [])))
-          ++ void_documents (cond (is_document_start x) ((e ∷ []) ∷ after_starts true (e ∷ []))
-          (after_starts false (e ∷ []))) (Some e.1)) start
-          ∙ ap (λ x. map (document_from None) (cond (is_document_start x) ([] ∷ []) [])
-          ++ void_documents (cond (is_document_start x) ([] ∷ []) []) (Some e.1)) end,
-    )
+    let end : e.0 ≡ stream_end = cc in (e.1, refl, rw (start, end))
 documents_of_stream (root ∷ roots) (s ∷ input) is =
     let start : s.0 ≡ stream_start = cc in
     let rest : events_in input ≡ documents_events (root ∷ roots) = cc in
-    let skip : after_starts false (s ∷ input) ≡ after_starts false input =
-    ap (λ x. cond (is_document_start x) (input ∷ after_starts true input) (after_starts false input)) start in
-    subst (λ starts. AreDocumentsOf (root ∷ roots) (map (document_from None) starts
-    ++ void_documents starts (last_mark (s ∷ input))))
-    (sym skip)
-    (documents_alone roots root (after_starts false input) (last_mark (s ∷ input))
+    rw start
+    (documents_alone roots root (after_starts false input) _
     (documents_of_roots (root ∷ roots) input rest))
 documents_of_stream _ _ is = absurd cc
