@@ -83,10 +83,8 @@ documents_in_front : (events more : Events) (ends : List ℕ) (cuts : List Cut) 
 documents_in_front events more ends [] h = refl
 documents_in_front events more ends (cut ∷ cuts) h =
     let first = h 0 cut (omega arith) in
-    rw (
-      range_of_front events more cut.from cut.to first.0 first.1,
-      documents_in_front events more ends cuts (All-tail (λ (c : Cut). HasEnds events ends c.from c.to) cut cuts h),
-    )
+    let others = All-tail (λ (c : Cut). HasEnds events ends c.from c.to) cut cuts h in
+    rw (range_of_front events more cut.from cut.to first.0 first.1, documents_in_front events more ends cuts others)
 
 -- and the one behind is added
 pub documents_added : (events more : Events) (ends : List ℕ) (cuts : List Cut) (cut : Cut) → AreCuts events ends cuts

@@ -35,11 +35,8 @@ module _ {front : List ℕ} {seen : List PlainDocEvent} {old : EndsView} (h : Ha
   passes new place p o c within n u =
       let inside = All-reverse (λ (s : ℕ). s < length old.numbers) old.unended within in
       made new (old.numbers ++ size ∷ []) old.unended (rw p at n) u (longer old.numbers size refl)
-      (λ later. rw (
-        filled_push (reverse old.unended) 0 (size + 1) later old.numbers size inside,
-        append_assoc,
-        ← filled_passes e later (reverse old.unended) 0 size old.numbers o c,
-      ) (rw o at (h.all (e ∷ later))))
+      (λ later. rw (filled_push, append_assoc, ← filled_passes e later (reverse old.unended) 0 size old.numbers o c)
+      (rw o at (h.all (e ∷ later))))
 
   pub begins : (new : EndsView) (place : ℕ) → place ≡ size → is_opening e ≡ true → AreIn old.numbers old.unended
       → new.numbers ≡ old.numbers ++ place ∷ [] → new.unended ≡ old.unended ++ length old.numbers ∷ []
@@ -52,12 +49,8 @@ module _ {front : List ℕ} {seen : List PlainDocEvent} {old : EndsView} (h : Ha
       let v = end_place 0 (size + 1) later in
       let all : filled (reverse old.unended) 1 (size + 1) later (set (old.numbers ++ size ∷ []) (length old.numbers) v)
       ++ ends_from (size + 1) later ≡ front ++ ends_of (seen ++ e ∷ later) =
-      rw (
-        set-append_seam old.numbers size [] v,
-        filled_push (reverse old.unended) 1 (size + 1) later old.numbers v inside,
-        append_assoc,
-        ← filled_deeper e later (reverse old.unended) 0 size old.numbers o,
-      ) (rw o at (h.all (e ∷ later))) in
+      let deeper = filled_deeper e later (reverse old.unended) 0 size old.numbers o in
+      rw (set-append_seam old.numbers size [] v, filled_push, append_assoc, ← deeper) (rw o at (h.all (e ∷ later))) in
       rw reverse-append all)
 
   pub ends : (new : EndsView) (place start : ℕ) (rest : List ℕ) → place ≡ size → is_opening e ≡ false
@@ -69,17 +62,13 @@ module _ {front : List ℕ} {seen : List PlainDocEvent} {old : EndsView} (h : Ha
       let turned : reverse old.unended ≡ start ∷ reverse rest = ap reverse was ∙ reverse-append rest (start ∷ []) in
       let inside = All-tail (λ (s : ℕ). s < length old.numbers) start (reverse rest)
       (rw turned at (All-reverse (λ (s : ℕ). s < length old.numbers) old.unended within)) in
+      let still = in_set old.numbers (reverse rest) start size inside in
       made new (numbers ++ size ∷ []) rest (rw p at n) u (longer numbers size (length-set old.numbers start size))
       (λ later.
       let all : filled (reverse rest) 1 size (e ∷ later) (set old.numbers start (end_place 0 size (e ∷ later)))
       ++ size ∷ ends_from (size + 1) later ≡ front ++ ends_of (seen ++ e ∷ later) =
       rw (turned, o) at (h.all (e ∷ later)) in
-      rw (
-        filled_push (reverse rest) 0 (size + 1) later numbers size
-            (in_set old.numbers (reverse rest) start size inside),
-        append_assoc,
-        ← filled_outer e later (reverse rest) 0 size numbers o c,
-      ) (rw c at all))
+      rw (filled_push, append_assoc, ← filled_outer e later (reverse rest) 0 size numbers o c) (rw c at all))
 
   -- a stray end, where nothing is open
   pub stray_ends : (new : EndsView) (place : ℕ) → place ≡ size → is_opening e ≡ false → old.unended ≡ []

@@ -39,13 +39,9 @@ mutual
   anchors_pairs (pair k v ps) i rest =
       let end : i + size_of k + size_of v + pairs_size ps ≡ i + pairs_size (pair k v ps) =
       omega (arith, size_pair k v ps) in
-      simp (
-        append_assoc,
-        ← end,
-        anchors_node k i (node_events v (pairs_events ps rest)),
-        anchors_node v (i + size_of k) (pairs_events ps rest),
-        anchors_pairs ps (i + size_of k + size_of v) rest,
-      )
+      let key = anchors_node k i (node_events v (pairs_events ps rest)) in
+      let value = anchors_node v (i + size_of k) (pairs_events ps rest) in
+      simp (append_assoc, ← end, key, value, anchors_pairs ps (i + size_of k + size_of v) rest)
 
 -- where an event is an alias, this holds of its target
 abbrev pub Refers : (ℕ → Type 0) → PlainDocEvent → Type 0
@@ -152,15 +148,7 @@ module _ (find : Find) where
       record {
         known = simp (h.known, k.known, l.known, append_assoc, end);
         missing = rw (h.missing, k.missing, l.missing, end);
-        size = omega (
-          arith,
-          h.size,
-          k.size,
-          l.size,
-          end,
-          length-append (events_of u) (events_of_pairs ts),
-          length-append (events_of t) (events_of u ++ events_of_pairs ts),
-        );
+        size = omega (arith, h.size, k.size, l.size, end, length-append {A = PlainDocEvent});
         named = each_append _ (anchors_of m i) _ (numbers_in_front (numbered t i) _ _ h.named)
             (numbers_behind (numbered t i) _ _ (each_append _ (anchors_of n (i + size_of m)) _
             (numbers_in_front (numbered u x) _ _
@@ -183,28 +171,16 @@ module _ (find : Find) where
 
     told_all : (ns : Nodes) (i : ℕ) (rest : List PlainEvent) → ToldNodes ns (resolved_nodes find ns i) i rest
     told_all no_nodes i rest =
-        let e : i ≡ i + 0 = omega arith in
-        record {
-          known = ap (λ j. plain_known find j rest) e;
-          missing = ap (λ j. plain_missing find j rest) e;
-          size = refl;
-          named = tt;
-          refers = tt;
-        }
+        let e : i + 0 ≡ i = omega arith in
+        rw e (record { known = refl; missing = refl; size = e; named = tt; refers = tt })
     told_all (node n ns) i rest =
         told_nodes n ns (resolved_from find n i) (resolved_nodes find ns (i + size_of n)) i rest
         (told_node n i (nodes_events ns rest)) (told_all ns (i + size_of n) rest)
 
     told_each : (ps : NodePairs) (i : ℕ) (rest : List PlainEvent) → ToldPairs ps (resolved_pairs find ps i) i rest
     told_each no_pairs i rest =
-        let e : i ≡ i + 0 = omega arith in
-        record {
-          known = ap (λ j. plain_known find j rest) e;
-          missing = ap (λ j. plain_missing find j rest) e;
-          size = refl;
-          named = tt;
-          refers = tt;
-        }
+        let e : i + 0 ≡ i = omega arith in
+        rw e (record { known = refl; missing = refl; size = e; named = tt; refers = tt })
     told_each (pair m n ps) i rest =
         told_pairs m n ps (resolved_from find m i) (resolved_from find n (i + size_of m))
         (resolved_pairs find ps (i + size_of m + size_of n)) i rest
