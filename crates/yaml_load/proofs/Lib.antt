@@ -8,7 +8,6 @@ pub mod FilledEnds
 pub mod FinishLaws
 pub mod Gatherings
 pub mod Intakes
-pub mod LastAnchor
 pub mod LoadingEnds
 pub mod LoadingLaws
 pub mod LoadingTurns
@@ -18,7 +17,6 @@ pub mod OpenEndsLaws
 pub mod PlainWalks
 pub mod SettledEnds
 pub mod SettledLaws
-pub mod Settling
 pub mod SortedAnchors
 pub mod StreamEndings
 pub mod StreamLaws

@@ -1,11 +1,14 @@
 -- Where the aliases of a draft have got their targets, its events are those of the document.
-use Rattle.std.specs.Prelude.{◌≡◌, ◌+◌, ◌∷◌, ◌++◌}
+use Rattle.std.specs.Prelude.{◌≡◌, ◌+◌, ◌∷◌, ◌++◌, ◌<◌}
 use Rattle.yaml_load.proofs.Words.{Marked, ℕ, List, [], length, take, refl, ap, arith, append-nil, append_assoc, Option}
 use Rattle.yaml_load.proofs.Words.{Some, None, All, IsTrue, option_map, inl, inr, slice_get, take-append_seam, All-tail}
 use Rattle.yaml_load.proofs.Words.{Position, PlainEvent, alias, Find, Input, becomes, known_events, unknown_mark}
 use Rattle.yaml_load.proofs.Words.{PlainDocEvent, alias_to, AreTaken, IsTaken, Settled, Waiting, aimed, is_of_node}
-use Rattle.yaml_load.proofs.Words.{settle, settled}
+use Rattle.yaml_load.proofs.Words.{settle, settled, Events, zero, suc, get_or, set, drop, sym, ◌∙◌, add-one, drop-cons}
+use Rattle.yaml_load.proofs.Words.{drop-set-add, get_or-drop, doc_event_of, marked_events_of, DocEvent}
 use Rattle.yaml_load.proofs.FilledEnds.{one_longer}
+use Rattle.std.proofs.lemmas.List.{length-drop}
+use Rattle.yaml_load.specs.declared.doc_event.DocEvent.TheVariants as event
 
 abbrev pub ToNodes : Input → Type 0
 ToNodes seen = All (λ e. IsTrue (is_of_node e.0)) seen
@@ -94,3 +97,34 @@ pub settled_whole : (find : Find) (seen : Input) (events now : Marked) (waiting 
     → IsSettled find 0 seen [] (now, o)
 settled_whole find seen events now waiting o nodes taken is =
     rw is at (settled_from find seen 0 [] events waiting refl nodes taken)
+
+-- an event that is set at a place
+aimed_set : (events : Events) (place target : ℕ) (y : DocEvent × Position) → place < length events → y
+    ≡ get_or events place y
+    → marked_events_of (set events place (event.Alias target, y.1)) ≡ aimed place target (marked_events_of events)
+aimed_set [] place target y l is = absurd (omega arith)
+aimed_set (x ∷ events) zero target y l is =
+    ap (λ (z : DocEvent × Position). (alias_to target, z.1) ∷ marked_events_of events) is
+aimed_set (x ∷ events) (suc place) target y l is =
+    ap (λ es. (doc_event_of x.0, x.1) ∷ es) (aimed_set events place target y (omega arith) is)
+
+pub aimed_behind : (events : Events) (from place target : ℕ) (y : DocEvent × Position) → from + place < length events
+    → y ≡ get_or events (from + place) y
+    → marked_events_of (drop from (set events (from + place) (event.Alias target, y.1)))
+    ≡ aimed place target (marked_events_of (drop from events))
+aimed_behind events from place target y l is =
+    rw drop-set-add (aimed_set (drop from events) place target y (omega (arith, length-drop from events))
+    (is ∙ sym (get_or-drop from events place y)))
+
+-- the aliases from one on
+aliases_from : (aliases : List (List ℕ × ℕ)) (i : ℕ) (x : List ℕ × ℕ) → i < length aliases → x ≡ get_or aliases i x
+    → drop i aliases ≡ x ∷ drop (i + 1) aliases
+aliases_from aliases i x l is = rw (drop-cons aliases i x l, ← is, ← add-one)
+
+-- the next alias is known
+pub settled_more : (find : Find) (aliases : List (List ℕ × ℕ)) (i : ℕ) (x : List ℕ × ℕ) → i < length aliases
+    → x ≡ get_or aliases i x → (target : ℕ) (old new : Marked) (all : Settled) → Some target ≡ find x.0 x.1
+    → new ≡ aimed x.1 target old
+    → settled find (drop i aliases) old ≡ all → settled find (drop (i + 1) aliases) new ≡ all
+settled_more find aliases i x l is target old new all found are h =
+    rw (are) (rw (aliases_from aliases i x l is, ← found) at h)
