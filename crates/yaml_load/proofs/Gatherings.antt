@@ -1,11 +1,10 @@
 -- Ranges of a list of events keep their documents when events are put behind.
 use Rattle.std.specs.Prelude.{◌≡◌, ◌+◌, ◌-◌, ◌≤◌, ◌∷◌, ◌++◌}
-use Rattle.yaml_load.proofs.Words.{Events, ℕ, suc, List, [], map, length, take, drop, take_all, slice_range, refl, sym}
-use Rattle.yaml_load.proofs.Words.{◌∙◌, ap, arith, length-append, length-drop, append_assoc, length-map, take-append-le}
-use Rattle.yaml_load.proofs.Words.{drop-append-le, map-append, All-append, All-cons, All-nil, All-tail}
-use Rattle.yaml_load.proofs.Words.{drop-append_seam, Position, doc_event_of, marked_events_of, ends_from, ends_of}
-use Rattle.yaml_load.proofs.Words.{AreCuts, HasEnds, documents_in, ending_in, plain_doc_events, PlainDocEvent}
-use Rattle.yaml_load.proofs.Words.{PlainDocument, DocEvent, Cut}
+use Rattle.yaml_load.proofs.Words.{All-push, Events, ℕ, suc, List, [], map, length, take, drop, take_all, slice_range}
+use Rattle.yaml_load.proofs.Words.{refl, sym, ◌∙◌, ap, arith, length-append, length-drop, append_assoc, length-map}
+use Rattle.yaml_load.proofs.Words.{take-append-le, drop-append-le, map-append, All-tail, drop-append_seam, Position}
+use Rattle.yaml_load.proofs.Words.{doc_event_of, marked_events_of, ends_from, ends_of, AreCuts, HasEnds, documents_in}
+use Rattle.yaml_load.proofs.Words.{ending_in, plain_doc_events, PlainDocEvent, PlainDocument, DocEvent, Cut}
 
 -- a range of the front
 range_of_front : {X : Type 0} (xs ys : List X) (from to : ℕ) → from ≤ to → to ≤ length xs
@@ -65,18 +64,6 @@ has_ends_behind events more ends numbers from to long are begin end =
           ∙ ap (λ es. ends_of (plain_doc_events es)) (sym (range_behind events more from to begin end)),
     )
 
--- the ranges with one more
-pub cuts_added : (events more : Events) (ends numbers : List ℕ) (cuts : List Cut) (cut : Cut) → length ends
-    ≡ length events
-    → numbers ≡ ends_of (plain_doc_events more) → cut.from ≡ length events → cut.to ≡ length (events ++ more)
-    → AreCuts events ends cuts → AreCuts (events ++ more) (ends ++ numbers) (cuts ++ cut ∷ [])
-cuts_added events more ends numbers cuts cut long are begin end h =
-    All-append (λ (c : Cut). HasEnds (events ++ more) (ends ++ numbers) c.from c.to) cuts (cut ∷ [])
-    (λ k d l. has_ends_more events more ends numbers _ _ (h k d l))
-    (All-cons (λ (c : Cut). HasEnds (events ++ more) (ends ++ numbers) c.from c.to) cut []
-    (has_ends_behind events more ends numbers cut.from cut.to long are begin end)
-    (All-nil (λ (c : Cut). HasEnds (events ++ more) (ends ++ numbers) c.from c.to)))
-
 -- the documents in front stay
 documents_in_front : (events more : Events) (ends : List ℕ) (cuts : List Cut) → AreCuts events ends cuts
     → documents_in (events ++ more) cuts ≡ documents_in events cuts
@@ -86,21 +73,16 @@ documents_in_front events more ends (cut ∷ cuts) h =
     let others = All-tail (λ (c : Cut). HasEnds events ends c.from c.to) cut cuts h in
     rw (range_of_front events more cut.from cut.to first.0 first.1, documents_in_front events more ends cuts others)
 
--- and the one behind is added
-pub documents_added : (events more : Events) (ends : List ℕ) (cuts : List Cut) (cut : Cut) → AreCuts events ends cuts
-    → cut.from ≡ length events → cut.to ≡ length (events ++ more)
-    → documents_in (events ++ more) (cuts ++ cut ∷ [])
-    ≡ documents_in events cuts ++ record { events = marked_events_of more; ending = ending_in cut.error } ∷ []
-documents_added events more ends cuts cut h begin end =
-    rw (map-append, documents_in_front events more ends cuts h, range_behind events more cut.from cut.to begin end)
-
--- the same, of what a call made of the lists
+-- what a call made of the lists, one range more
 pub cuts_pushed : (events more whole : Events) (ends numbers all : List ℕ) (cuts pushed : List Cut) (cut : Cut)
     → whole ≡ events ++ more → all ≡ ends ++ numbers → pushed ≡ cuts ++ cut ∷ [] → length ends ≡ length events
     → numbers ≡ ends_of (plain_doc_events more) → cut.from ≡ length events → cut.to ≡ length whole
     → AreCuts events ends cuts → AreCuts whole all pushed
 cuts_pushed events more whole ends numbers all cuts pushed cut w a p long are begin end h =
-    rw (w, a, p) (cuts_added events more ends numbers cuts cut long are begin (end ∙ ap length w) h)
+    let after = has_ends_behind events more ends numbers cut.from cut.to long are begin (end ∙ ap length w) in
+    rw (w, a, p)
+    (All-push (λ (c : Cut). HasEnds (events ++ more) (ends ++ numbers) c.from c.to) cuts cut
+    (λ k d l. has_ends_more events more ends numbers _ _ (h k d l)) after)
 
 pub documents_pushed : (events more whole : Events) (ends : List ℕ) (cuts pushed : List Cut) (cut : Cut)
     → whole ≡ events ++ more → pushed ≡ cuts ++ cut ∷ [] → cut.from ≡ length events → cut.to ≡ length whole
@@ -108,7 +90,8 @@ pub documents_pushed : (events more whole : Events) (ends : List ℕ) (cuts push
     → documents_in whole pushed
     ≡ documents_in events cuts ++ record { events = marked_events_of more; ending = ending_in cut.error } ∷ []
 documents_pushed events more whole ends cuts pushed cut w p begin end h =
-    rw (w, p) (documents_added events more ends cuts cut h begin (end ∙ ap length w))
+    let after = range_behind events more cut.from cut.to begin (end ∙ ap length w) in
+    rw (w, p, map-append, documents_in_front events more ends cuts h, after)
 
 -- as many numbers as events
 pub long_pushed : (events more whole : Events) (ends numbers all : List ℕ) → whole ≡ events ++ more → all

@@ -2,12 +2,15 @@
 use Rattle.std.specs.Prelude.{◌≡◌, ◌+◌, ◌-◌, ◌∷◌, ◌++◌}
 use Rattle.std.proofs.lemmas.List.{length-append}
 use Rattle.std.specs.Option.{option_map}
-use Rattle.yaml_load.proofs.Words.{◌∙◌, ℕ, List, [], Option, Some, None, Bool, true, ap, arith, sym, subst, All}
+use Rattle.yaml_load.proofs.Words.{false, ◌∙◌, ℕ, List, [], Option, Some, None, Bool, true, ap, arith, sym, subst, All}
 use Rattle.yaml_load.proofs.Words.{append_assoc, append-nil, is_some, length, map-append, slice_get, Position}
 use Rattle.yaml_load.proofs.Words.{PlainEvent, PlainFault, State, before_stream, next_state, run, Open, IsWellFormed}
 use Rattle.yaml_load.proofs.Words.{Input, documents_of, last_mark, events_in, PlainDocument, IsDocument, Moves, is_done}
 use Rattle.yaml_load.proofs.Words.{is_open, state_of, Phase, Draft, IsBetween, HasTaken, IsOnWay, IsReady, Takes}
 use Rattle.yaml_load.proofs.Words.{run_append}
+use Rattle.std.specs.Bool.{beq}
+use Rattle.yaml_load.proofs.LoadingEnds.{flags_differ}
+use Rattle.yaml_load.proofs.WrongPlaces.{right_end}
 use Rattle.yaml_load.proofs.LoadingLaws.{ready}
 use Rattle.yaml_load.proofs.LoadingTurns.{inside_phase, open_faulted, turns}
 use Rattle.yaml_load.proofs.SettledLaws.{get_behind}
@@ -52,14 +55,18 @@ module _ {phase : Phase} {outer : List Open} {end : Option Position} {count : �
   pub ready_in : is_open phase ≡ true → IsReady old
   ready_in opened = ready (way_to_end true None opened)
 
-  -- what closing the draft makes of it
-  pub closed : (new : Draft) (inside : Bool) (fault : Option PlainFault) → is_open phase ≡ inside
-      → (is_done phase ≡ is_some fault → ⊥)
+  -- what closing the draft makes of it, where the stream has ended or a fault is there, and not both
+  pub closed : (new : Draft) (inside after faulted : Bool) (fault : Option PlainFault) → inside ≡ is_open phase
+      → after ≡ is_done phase → faulted ≡ is_some fault → beq after faulted ≡ false
       → ((all : Input) → end ≡ last_mark all → (inside ≡ true → is_some fault ≡ true)
       → IsOnWay inside fault all [] old → IsBetween (documents_of all fault) new)
-      → IsBetween (documents_of taken fault) new
-  closed new inside fault is other closes =
-      closes taken had.last (λ held. open_faulted phase (is_some fault) other (is ∙ held)) (way_to_end inside fault is)
+      → IsBetween (documents_of taken fault) new × IsWellFormed (is_some fault) (events_in taken)
+  closed new inside after faulted fault is a f differ closes =
+      let other : is_done phase ≡ is_some fault → ⊥ = λ same. flags_differ _ _ differ (a ∙ same ∙ sym f) in (
+        closes taken had.last (λ held. open_faulted phase (is_some fault) other (sym is ∙ held))
+            (way_to_end inside fault (sym is)),
+        right_end (is_some fault) phase outer (events_in taken) had.ran other,
+      )
 
 -- the documents of a stream have their trees, and are cut off by what may cut them off
 pub all_documents : (taken : Input) (fault : Option PlainFault) (shown : List PlainDocument)

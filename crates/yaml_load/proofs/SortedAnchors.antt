@@ -71,10 +71,7 @@ module _ (alias : Named) where
       find_some alias n others there.0 r.0 there.1 (ap number_of there.2 ∙ r.2)
       (All-permutation (λ (x : Named). Bounded n (number_of x)) named others moved (rw is at (all_at_most named)))
 
-  -- sorted anchors have the same targets
-  pub same_target : (named others : List Named) → IsPermutation named others → greatest_of named ≡ greatest_of others
-  same_target named others moved = sym (same_by named others (greatest_of named) moved refl)
-
--- the same of all anchors
+-- sorted anchors have the same targets
 pub same_find : (named others : List Named) → IsPermutation named others → find_in named ≡ find_in others
-same_find named others moved = λ i anchor place. same_target (anchor, place) named others moved i
+same_find named others moved = λ i anchor place.
+    (sym (same_by (anchor, place) named others (find_in named anchor place) moved refl)) i

@@ -1,11 +1,10 @@
 -- The draft is closed behind the last event, or the end is wrong.
 use Rattle.std.specs.Prelude.{◌≡◌}
 use Rattle.yaml_load.proofs.Words.{rules, ◌∙◌, ap, is_some, length, subst, sym, length-map, Input, documents_of}
-use Rattle.yaml_load.proofs.Words.{events_in, plain_marked, is_done, IsWellFormed, IsWrongAt, NotAStream, PlainEvent}
-use Rattle.yaml_load.proofs.Words.{Position}
+use Rattle.yaml_load.proofs.Words.{events_in, plain_marked, IsWellFormed, IsWrongAt, NotAStream, PlainEvent, Position}
 use Rattle.yaml_load.proofs.Intakes.{all_documents, closed, ready_in}
-use Rattle.yaml_load.proofs.LoadingEnds.{flags_differ, flags_same}
-use Rattle.yaml_load.proofs.WrongPlaces.{right_end, wrong_end, wrong_not_well_formed}
+use Rattle.yaml_load.proofs.LoadingEnds.{flags_same}
+use Rattle.yaml_load.proofs.WrongPlaces.{wrong_end, wrong_not_well_formed}
 use Rattle.yaml_load.proofs.loader.builder.LoaderBuilder.finish.Goals as goal
 
 pub returns-then-is_after-is_some : goal.returns-then-is_after-is_some
@@ -33,25 +32,14 @@ close-requires c = λ inside. ready_in (c.self.invariant (search rules)) (sym c.
 
 pub share-requires : goal.share-requires
 share-requires c =
-    let b = c.self.inside in
-    let had = c.self.invariant (search rules) in
-    let taken = plain_marked b.taken.items in
-    let other : is_done b.phase ≡ is_some c.args.fault → ⊥ =
-    λ same. flags_differ _ _ c.if-is_after-is_some.false (c.is_after.ensures ∙ same ∙ sym c.is_some.ensures) in
-    let between = closed had c.close.new.self c.is_inside.result c.args.fault (sym c.is_inside.ensures) other
-    c.in_ok-close.ensures in
-    let accepted = right_end (is_some c.args.fault) b.phase b.outer.items (events_in taken) had.ran other in
-    record { cuts = between.cuts; documents = all_documents taken c.args.fault _ between.shown accepted }
+    let (between, accepted) = closed (c.self.invariant (search rules)) c.close.new.self c.is_inside.result _ _ c.args.fault
+    c.is_inside.ensures c.is_after.ensures c.is_some.ensures c.if-is_after-is_some.false c.in_ok-close.ensures in
+    record { cuts = between.cuts; documents = all_documents _ c.args.fault _ between.shown accepted }
 
 pub returns : goal.returns
 returns c =
-    let b = c.self.inside in
-    let had = c.self.invariant (search rules) in
-    let other : is_done b.phase ≡ is_some c.args.fault → ⊥ =
-    λ same. flags_differ _ _ c.if-is_after-is_some.false (c.is_after.ensures ∙ same ∙ sym c.is_some.ensures) in
-    let between = closed had c.close.new.self c.is_inside.result c.args.fault (sym c.is_inside.ensures) other
-    c.in_ok-close.ensures in
-    let accepted = right_end (is_some c.args.fault) b.phase b.outer.items _ had.ran other in
+    let (between, accepted) = closed (c.self.invariant (search rules)) c.close.new.self c.is_inside.result _ _ c.args.fault
+    c.is_inside.ensures c.is_after.ensures c.is_some.ensures c.if-is_after-is_some.false c.in_ok-close.ensures in
     record {
       accepted = subst (λ (v : Input). IsWellFormed (is_some c.args.fault) (events_in v)) c.self.view_is accepted;
       documents = c.into_iter.ensures.rest ∙ c.in_ok-share.ensures ∙ between.shown
