@@ -52,7 +52,8 @@ with_document : (fault : PlainFault) (input : Input) (ended : Bool) → is_ended
     → IsBehind fault ended (from_here fault true input)
     → EndAtFault fault (document_from (Some fault) input ∷ from_here fault true input)
 with_document fault input true is more =
-    in_front fault (document_from (Some fault) input) (from_here fault true input) (before_document input (Some fault) is) more
+    in_front fault (document_from (Some fault) input) (from_here fault true input)
+    (before_document input (Some fault) is) more
 with_document fault input false is none =
     subst (λ ds. EndAtFault fault (document_from (Some fault) input ∷ ds)) (sym none) (at_document input fault is)
 
@@ -94,15 +95,6 @@ abbrev Holds : Find → Input → ℕ → ℕ → Position → Option PlainDocEv
 Holds find input place number mark made = (source : PlainEvent) × (slice_get input place ≡ Some (source, mark)) ×
     (becomes find number source ≡ made)
 
--- the parts of an event that is there
-abbrev event_in : Option (PlainDocEvent × Position) → PlainDocEvent → PlainDocEvent
-event_in (Some x) d = x.0
-event_in None d = d
-
-abbrev mark_in : Option (PlainDocEvent × Position) → Position → Position
-mark_in (Some x) m = x.1
-mark_in None m = m
-
 known_here : (find : Find) (i : ℕ) (e : PlainEvent × Position) (input : Input) (made : Option PlainDocEvent)
     → becomes find i e.0 ≡ made
     → ((p number : ℕ) (d : PlainDocEvent) (mark : Position) → number ≡ (i + 1) + p
@@ -113,8 +105,9 @@ known_here : (find : Find) (i : ℕ) (e : PlainEvent × Position) (input : Input
 known_here find i e input None is more p number d mark n here = absurd (cc)
 known_here find i e input (Some f) is more zero number d mark n here =
     let same : number ≡ i = omega arith in
-    let marked : e.1 ≡ mark = ap (λ o. mark_in o mark) here in
-    let made : f ≡ d = ap (λ o. event_in o d) here in
+    let both : ◌≡◌ {A = PlainDocEvent × Position} (f, e.1) (d, mark) = cc in
+    let marked : e.1 ≡ mark = ap (λ (x : PlainDocEvent × Position). x.1) both in
+    let made : f ≡ d = ap (λ (x : PlainDocEvent × Position). x.0) both in
     (e.0, ap (λ m. Some (e.0, m)) marked, ap (λ k. becomes find k e.0) same ∙ is ∙ ap Some made)
 known_here find i e input (Some f) is more (suc p) number d mark n here = more p number d mark (omega arith) here
 

@@ -26,7 +26,8 @@ no_documents (s ∷ starts) end documents is none = absurd (let e = sym none ∙
 module _ (all : Input) (old : Draft) (h : IsClosedDraft None all [] old) (none : old.cuts.items ≡ []) where
   -- the document of an empty stream is the only one
   alone : h.documents ++ map void_document (option_to_list (last_mark all)) ≡ documents_of all None
-  alone = no_documents (after_starts false all) (last_mark all) h.documents (sym (append-nil h.documents) ∙ h.complete.0)
+  alone =
+      no_documents (after_starts false all) (last_mark all) h.documents (sym (append-nil _) ∙ h.complete.0)
       (sym h.between.shown ∙ ap (documents_in old.events.items) none)
 
   pub all_void : (new : Draft) (mark : Position) → Some mark ≡ last_mark all
@@ -39,16 +40,11 @@ pub fault_closes : {opened which : Bool} {fault f : Option PlainFault} (all : In
     → IsOnWay opened fault all [] old → IsBetween (documents_of all fault) new
 fault_closes all old new o is made way = rw is (made (rw (o, is) at way))
 
-closed_none : (opened : Bool) (fault : Option PlainFault) → fault ≡ None → (opened ≡ true → is_some fault ≡ true)
+-- without a fault no document is open
+pub closed_none : (opened : Bool) (fault : Option PlainFault) → fault ≡ None → (opened ≡ true → is_some fault ≡ true)
     → opened ≡ false
 closed_none true fault is known = absurd (let some = sym (ap is_some is) ∙ known refl in cc)
 closed_none false fault is known = refl
-
-pub none_closes : (opened : Bool) (fault : Option PlainFault) (all : Input) (old new : Draft)
-    → (opened ≡ true → is_some fault ≡ true)
-    → fault ≡ None → (IsClosedDraft None all [] old → IsBetween (documents_of all None) new)
-    → IsOnWay opened fault all [] old → IsBetween (documents_of all fault) new
-none_closes opened fault all old new known is made = fault_closes all old new (closed_none opened fault is known) is made
 
 -- two flags that are compared
 pub flags_same : (a b : Bool) → beq a b ≡ true → a ≡ b

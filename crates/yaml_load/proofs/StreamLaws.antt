@@ -36,7 +36,8 @@ told_document None root input ended fault is e h refers =
     let there = is_there (unknown_mark (target root) 0 input) (rw (missing-plain (target root) 0 input, is) h) in
     (there.0, ap (λ m. ending_of m ended fault) there.1)
 told_document (Some t) root input ended fault is e h refers =
-    let none = is_missing (unknown_mark (target root) 0 input) (rw (missing-plain (target root) 0 input, is) h.missing) in
+    let none =
+    is_missing (unknown_mark (target root) 0 input) (rw (missing-plain (target root) 0 input, is) h.missing) in
     let same : map (λ (x : PlainDocEvent × Position). x.0) (known_events (target root) 0 input) ≡ events_of t =
     rw (known-plain (target root) 0 input, is, h.known, append-nil) in
     record {

@@ -74,11 +74,13 @@ module _ (find : Find) where
 
   abbrev ToldNodes : Nodes → Option DocNodes → ℕ → List PlainEvent → Type 0
   ToldNodes ns o i rest =
-      Told events_of_nodes numbered_nodes (anchors_of_nodes ns i) find o i (i + nodes_size ns) (nodes_events ns rest) rest
+      Told events_of_nodes numbered_nodes (anchors_of_nodes ns i) find o i (i + nodes_size ns)
+      (nodes_events ns rest) rest
 
   abbrev ToldPairs : NodePairs → Option DocPairs → ℕ → List PlainEvent → Type 0
   ToldPairs ps o i rest =
-      Told events_of_pairs numbered_pairs (anchors_of_pairs ps i) find o i (i + pairs_size ps) (pairs_events ps rest) rest
+      Told events_of_pairs numbered_pairs (anchors_of_pairs ps i) find o i (i + pairs_size ps)
+      (pairs_events ps rest) rest
 
   told_alias : (o : Option ℕ) (i : ℕ) (a : List ℕ) (rest : List PlainEvent) → find a i ≡ o
       → ToldNode (alias_node a) (option_map reference o) i rest

@@ -30,10 +30,10 @@ weaker P Q (Err e) goes h = goes e h
 pub returns : goal.returns
 returns c =
     let given = plain_events c.args.events.items in
-    let none =
-    nil_from_length (into_iter_items c.events.rest) (omega (arith, c.events.rest.rest.ok, c.in_default.ensures.cases.0)) in
+    let empty = c.in_default.ensures.cases.0 in
+    let none = nil_from_length (into_iter_items c.events.rest) (omega (arith, c.events.rest.rest.ok, empty)) in
     let all : c.events.builder ≡ plain_marked c.args.events.items =
-    sym (c.events.invariant.all ∙ ap (λ (l : _). c.events.builder ++ plain_marked l) none ∙ append-nil c.events.builder) in
+    sym (c.events.invariant.all ∙ ap (λ (l : _). c.events.builder ++ plain_marked l) none ∙ append-nil _) in
     let plain : events_in c.events.builder ≡ given = ap events_in all ∙ events_of_marked c.args.events.items in
     let same = c.events.invariant.same in
     let wrong =

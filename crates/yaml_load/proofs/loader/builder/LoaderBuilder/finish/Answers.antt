@@ -32,14 +32,16 @@ close-requires c = λ inside. ready_in (c.self.invariant (search rules)) (sym c.
 
 pub share-requires : goal.share-requires
 share-requires c =
-    let (between, accepted) = closed (c.self.invariant (search rules)) c.close.new.self c.is_inside.result _ _ c.args.fault
-    c.is_inside.ensures c.is_after.ensures c.is_some.ensures c.if-is_after-is_some.false c.in_ok-close.ensures in
+    let (between, accepted) =
+    closed (c.self.invariant (search rules)) c.close.new.self c.is_inside.result _ _ c.args.fault c.is_inside.ensures
+    c.is_after.ensures c.is_some.ensures c.if-is_after-is_some.false c.in_ok-close.ensures in
     record { cuts = between.cuts; documents = all_documents _ c.args.fault _ between.shown accepted }
 
 pub returns : goal.returns
 returns c =
-    let (between, accepted) = closed (c.self.invariant (search rules)) c.close.new.self c.is_inside.result _ _ c.args.fault
-    c.is_inside.ensures c.is_after.ensures c.is_some.ensures c.if-is_after-is_some.false c.in_ok-close.ensures in
+    let (between, accepted) =
+    closed (c.self.invariant (search rules)) c.close.new.self c.is_inside.result _ _ c.args.fault c.is_inside.ensures
+    c.is_after.ensures c.is_some.ensures c.if-is_after-is_some.false c.in_ok-close.ensures in
     record {
       accepted = subst (λ (v : Input). IsWellFormed (is_some c.args.fault) (events_in v)) c.self.view_is accepted;
       documents = c.into_iter.ensures.rest ∙ c.in_ok-share.ensures ∙ between.shown

@@ -26,7 +26,8 @@ invariant_of-self-2 c = λ _.
     let more : plain_marked c.with-taken.result.items ≡ plain_marked b.taken.items
     ++ (event_of c.args.event, c.args.mark) ∷ [] =
     ap plain_marked c.with-taken.ensures ∙ map-append _ b.taken.items (x ∷ []) in
-    subst (λ (v : Input). HasTaken c.in-Some.after c.take.new.outer.items (Some c.args.mark) (b.count + 1) v c.take.new.self)
-    (sym more)
-    (taken_on (c.self.invariant (search rules)) c.in-Some.after c.take.new.outer.items (event_of c.args.event) c.args.mark
-    c.take.new.self (rw c.in-Some.is at c.in_ok-after.ensures.0) (rw c.in-Some.is at c.in_ok-after.ensures.1))
+    let outer = c.take.new.outer.items in
+    let after = c.in-Some.after in
+    subst (λ (v : Input). HasTaken after outer (Some c.args.mark) (b.count + 1) v c.take.new.self) (sym more)
+    (taken_on (c.self.invariant (search rules)) after outer (event_of c.args.event) c.args.mark c.take.new.self
+    (rw c.in-Some.is at c.in_ok-after.ensures.0) (rw c.in-Some.is at c.in_ok-after.ensures.1))
