@@ -98,7 +98,8 @@ wrong_behind faulted front rest e h = (
 
 -- the same among events of which some were taken and some are left
 pub wrong_amid : (faulted : Bool) (events : List (Event × Position)) (taken : Input)
-    (left rest : List (Event × Position)) (x : Event × Position) → plain_marked events ≡ taken ++ plain_marked left → left ≡ x ∷ rest
+    (left rest : List (Event × Position)) (x : Event × Position)
+    → plain_marked events ≡ taken ++ plain_marked left → left ≡ x ∷ rest
     → IsWrongNext (events_in taken) (event_of x.0) → IsWrongAt faulted (plain_events events) (length taken)
 wrong_amid faulted events taken left rest x all is wrong =
     let later = events_in (plain_marked rest) in
