@@ -1,5 +1,5 @@
 -- What cuts documents off, and what they hold up to there.
-use Rattle.std.specs.Prelude.{◌≡◌, ◌+◌, ◌∷◌, ◌++◌, ◌||◌, not}
+use Rattle.std.specs.Prelude.{◌≡◌, ◌+◌, ◌∷◌, ◌++◌}
 use Rattle.yaml_load.proofs.Words.{ℕ, zero, suc, List, [], map, length, refl, sym, ◌∙◌, ap, subst, cond, arith, Bool}
 use Rattle.yaml_load.proofs.Words.{true, false, Option, Some, None, All, inl, inr, slice_get, cases_Bool, Position}
 use Rattle.yaml_load.proofs.Words.{PlainEvent, PlainFault, Input, Find, find_in, known_events, unknown_mark, body}
@@ -25,15 +25,11 @@ at_unended None fault = refl
 
 before_document : (start : Input) (fault : Option PlainFault) → is_ended start ≡ true
     → IsBeforeFault (document_from fault start).ending
-before_document start fault ended =
-    subst (λ b. IsBeforeFault (ending_of (unknown_of start) b fault)) (sym ended) (before_ended
-    (unknown_of start) fault)
+before_document start fault ended = rw ended (before_ended (unknown_of start) fault)
 
 at_document : (start : Input) (fault : PlainFault) → is_ended start ≡ false
     → IsAtFault fault (document_from (Some fault) start).ending
-at_document start fault unended =
-    subst (λ b. IsAtFault fault (ending_of (unknown_of start) b (Some fault))) (sym unended) (at_unended
-    (unknown_of start) fault)
+at_document start fault unended = rw unended (at_unended (unknown_of start) fault)
 
 in_front : (fault : PlainFault) (d : PlainDocument) (ds : List PlainDocument) → IsBeforeFault d.ending
     → EndAtFault fault ds
@@ -56,8 +52,8 @@ with_document : (fault : PlainFault) (input : Input) (ended : Bool) → is_ended
     → IsBehind fault ended (from_here fault true input)
     → EndAtFault fault (document_from (Some fault) input ∷ from_here fault true input)
 with_document fault input true is more =
-    in_front fault (document_from (Some fault) input) (from_here fault true input) (before_document input
-    (Some fault) is) more
+    in_front fault (document_from (Some fault) input) (from_here fault true input)
+    (before_document input (Some fault) is) more
 with_document fault input false is none =
     subst (λ ds. EndAtFault fault (document_from (Some fault) input ∷ ds)) (sym none) (at_document input fault is)
 
@@ -65,32 +61,18 @@ mutual
   -- between documents
   between : (fault : PlainFault) (input : Input) → EndAtFault fault (from_here fault false input)
   between fault [] = refl
-  between fault (e ∷ input) =
-      elim (cases_Bool (is_document_start e.0)) [
-        | inl yes_ ↦
-            subst (λ b. EndAtFault fault (map (document_from (Some fault)) (cond b (input ∷ after_starts true input)
-            (after_starts false input))
-            ++ cond (is_open_after b input) [] (failed_document fault ∷ [])))
-            (sym yes_) (with_document fault input (is_ended input) refl (behind_one fault input))
-        | inr no_ ↦
-            subst (λ b. EndAtFault fault (map (document_from (Some fault)) (cond b (input ∷ after_starts true input)
-            (after_starts false input))
-            ++ cond (is_open_after b input) [] (failed_document fault ∷ [])))
-            (sym no_) (between fault input)
-      ]
+  between fault (e ∷ input) = elim (cases_Bool (is_document_start e.0)) [
+    | inl yes_ ↦ rw yes_ (with_document fault input (is_ended input) refl (behind_one fault input))
+    | inr no_ ↦ rw no_ (between fault input)
+  ]
 
   -- within a document
   behind_one : (fault : PlainFault) (input : Input) → IsBehind fault (is_ended input) (from_here fault true input)
   behind_one fault [] = refl
-  behind_one fault (e ∷ input) =
-      elim (cases_Bool (is_document_end e.0)) [
-        | inl yes_ ↦
-            subst (λ b. IsBehind fault (b || is_ended input) (from_here fault (not b) input)) (sym yes_)
-            (between fault input)
-        | inr no_ ↦
-            subst (λ b. IsBehind fault (b || is_ended input) (from_here fault (not b) input)) (sym no_)
-            (behind_one fault input)
-      ]
+  behind_one fault (e ∷ input) = elim (cases_Bool (is_document_end e.0)) [
+    | inl yes_ ↦ rw yes_ (between fault input)
+    | inr no_ ↦ rw no_ (behind_one fault input)
+  ]
 
 -- the parser's fault comes in the last document
 pub fault_last : (input : Input) (fault : PlainFault) → EndAtFault fault (documents_of input (Some fault))
@@ -113,15 +95,6 @@ abbrev Holds : Find → Input → ℕ → ℕ → Position → Option PlainDocEv
 Holds find input place number mark made = (source : PlainEvent) × (slice_get input place ≡ Some (source, mark)) ×
     (becomes find number source ≡ made)
 
--- the parts of an event that is there
-abbrev event_in : Option (PlainDocEvent × Position) → PlainDocEvent → PlainDocEvent
-event_in (Some x) d = x.0
-event_in None d = d
-
-abbrev mark_in : Option (PlainDocEvent × Position) → Position → Position
-mark_in (Some x) m = x.1
-mark_in None m = m
-
 known_here : (find : Find) (i : ℕ) (e : PlainEvent × Position) (input : Input) (made : Option PlainDocEvent)
     → becomes find i e.0 ≡ made
     → ((p number : ℕ) (d : PlainDocEvent) (mark : Position) → number ≡ (i + 1) + p
@@ -132,8 +105,9 @@ known_here : (find : Find) (i : ℕ) (e : PlainEvent × Position) (input : Input
 known_here find i e input None is more p number d mark n here = absurd (cc)
 known_here find i e input (Some f) is more zero number d mark n here =
     let same : number ≡ i = omega arith in
-    let marked : e.1 ≡ mark = ap (λ o. mark_in o mark) here in
-    let made : f ≡ d = ap (λ o. event_in o d) here in
+    let both : ◌≡◌ {A = PlainDocEvent × Position} (f, e.1) (d, mark) = cc in
+    let marked : e.1 ≡ mark = ap (λ (x : PlainDocEvent × Position). x.1) both in
+    let made : f ≡ d = ap (λ (x : PlainDocEvent × Position). x.0) both in
     (e.0, ap (λ m. Some (e.0, m)) marked, ap (λ k. becomes find k e.0) same ∙ is ∙ ap Some made)
 known_here find i e input (Some f) is more (suc p) number d mark n here = more p number d mark (omega arith) here
 
@@ -179,30 +153,25 @@ in_body : (input : Input) (place : ℕ) (x : PlainEvent × Position) → slice_g
 in_body [] place x here = here
 in_body (e ∷ input) place x here = grind (arith, in_more e input (in_body input) place x)
 
-holds_start : (find : Find) (start : Input) (place number : ℕ) (mark : Position) (made : Option PlainDocEvent)
-    → Holds find (body start) place number mark made → Holds find start place number mark made
-holds_start find start place number mark made h = (h.0, in_body start place (h.0, mark) h.1, h.2)
-
 -- an unknown anchor is the first unknown mark
 unknown_is : (unknown : Option Position) (ended : Bool) (fault : Option PlainFault) (mark : Position)
     → ending_of unknown ended fault ≡ Some (UnknownAnchor mark) → unknown ≡ Some mark
 unknown_is (Some m) ended fault mark h = cc
-unknown_is None true fault mark h = absurd (cc)
-unknown_is None false None mark h = absurd (cc)
-unknown_is None false (Some f) mark h = absurd (cc)
+unknown_is None false (Some f) mark h = absurd cc
+unknown_is _ _ _ mark h = absurd cc
 
 front_of : (start : Input) (fault : Option PlainFault)
     → HoldsFront (find_in (anchors_in 0 (body start))) start (document_from fault start)
 front_of start fault =
     let find : Find = find_in (anchors_in 0 (body start)) in
     record {
-      events = λ p d mark here. holds_start find start p p mark (Some d) (known_at find 0 (body start) p p d mark
-          (omega arith) here);
+      events = λ p d mark here.
+          let h = known_at find 0 (body start) p p d mark (omega arith) here in
+          (h.0, in_body start p (h.0, mark) h.1, h.2);
       anchor = λ mark cut.
-          holds_start find start (length (known_events find 0 (body start))) (length (known_events find 0
-          (body start))) mark None
-          (unknown_at find 0 (body start) (length (known_events find 0 (body start))) mark (omega arith)
-          (unknown_is (unknown_of start) (is_ended start) fault mark cut));
+          let found = unknown_is (unknown_of start) (is_ended start) fault mark cut in
+          let h = unknown_at find 0 (body start) _ mark (omega arith) found in
+          (h.0, in_body start _ (h.0, mark) h.1, h.2);
     }
 
 fronts_of : (starts : List Input) (fault : Option PlainFault) (more : List PlainDocument)

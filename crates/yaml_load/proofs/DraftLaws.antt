@@ -1,6 +1,6 @@
 -- What was seen of a document is what its draft holds.
 use Rattle.std.specs.Prelude.{◌≡◌, ◌+◌, ◌<◌, ◌≤◌, ◌∷◌, ◌++◌}
-use Rattle.yaml_load.proofs.Words.{Events, Marked, ℕ, suc, List, [], length, sym, ◌∙◌, ap, subst, arith, append_assoc}
+use Rattle.yaml_load.proofs.Words.{Events, Marked, ℕ, suc, List, [], length, sym, ◌∙◌, ap, arith, append_assoc}
 use Rattle.yaml_load.proofs.Words.{append-nil, length-append, All, IsTrue, true, Option, Some, None, option_map, inl}
 use Rattle.yaml_load.proofs.Words.{inr, refl, le-ltb, length-map, map-append, All-cons, All-push, Position, PlainEvent}
 use Rattle.yaml_load.proofs.Words.{alias, anchor_at, greater, greatest_below, number_below, doc_event_of}
@@ -16,9 +16,7 @@ anchors_in-push place [] e =
     append-nil (anchor_at (anchor_of e.0) place) ∙ ap (anchor_at (anchor_of e.0)) n
 anchors_in-push place (x ∷ seen) e =
     let n : place + 1 + length seen ≡ place + suc (length seen) = omega arith in
-    ap (λ xs. anchor_at (anchor_of x.0) place ++ xs)
-    (anchors_in-push (place + 1) seen e ∙ ap (λ k. anchors_in (place + 1) seen ++ anchor_at (anchor_of e.0) k) n)
-    ∙ sym (append_assoc (anchor_at (anchor_of x.0) place) (anchors_in (place + 1) seen) _)
+    rw (append_assoc, anchors_in-push (place + 1) seen e, n)
 
 -- an event that is taken is taken by each search that finds as much
 taken_same : (find more : Find) (place : ℕ) (e : PlainEvent) (d : PlainDocEvent) (waiting : Waiting)
@@ -31,16 +29,10 @@ all_taken_same : (find more : Find) (place : ℕ) (seen : Input) (events : Marke
     → ((a : List ℕ) (p : ℕ) → p < place + length seen → more a p ≡ find a p)
     → AreTaken find place seen events waiting → AreTaken more place seen events waiting
 all_taken_same find more place [] events waiting h t = t
-all_taken_same find more place (e ∷ seen) events waiting h (d, here, later, left, is, rest, es, ws) = (
-  d,
-  here,
-  later,
-  left,
-  taken_same find more place e.0 d here (λ a. h a place (omega arith)) is,
-  all_taken_same find more (place + 1) seen later left (λ a p l. h a p (omega arith)) rest,
-  es,
-  ws,
-)
+all_taken_same find more place (e ∷ seen) events waiting h (d, here, later, left, is, rest, es, ws) =
+    let first = taken_same find more place e.0 d here (λ a. h a place (omega arith)) is in
+    let others = all_taken_same find more (place + 1) seen later left (λ a p l. h a p (omega arith)) rest in
+    (d, here, later, left, first, others, es, ws)
 
 -- one event more is taken
 taken_more : (find : Find) (place : ℕ) (seen : Input) (events : Marked) (waiting here : Waiting)
@@ -48,27 +40,12 @@ taken_more : (find : Find) (place : ℕ) (seen : Input) (events : Marked) (waiti
     → IsTaken find (place + length seen) e.0 d here
     → AreTaken find place (seen ++ e ∷ []) (events ++ (d, e.1) ∷ []) (waiting ++ here)
 taken_more find place [] events waiting here e d (none, empty) is =
-    let n : place + 0 ≡ place = omega arith in (
-      d,
-      here,
-      [],
-      [],
-      subst (λ k. IsTaken find k e.0 d here) n is,
-      (refl, refl),
-      ap (λ es. es ++ (d, e.1) ∷ []) none,
-      ap (λ ws. ws ++ here) empty ∙ sym (append-nil here),
-    )
+    let n : place + 0 ≡ place = omega arith in
+    (d, here, [], [], rw n at is, (refl, refl), rw none, rw (empty, append-nil))
 taken_more find place (x ∷ seen) events waiting here e d (d', here', later, left, was, rest, es, ws) is =
-    let n : place + suc (length seen) ≡ place + 1 + length seen = omega arith in (
-      d',
-      here',
-      later ++ (d, e.1) ∷ [],
-      left ++ here,
-      was,
-      taken_more find (place + 1) seen later left here e d rest (subst (λ k. IsTaken find k e.0 d here) n is),
-      ap (λ xs. xs ++ (d, e.1) ∷ []) es,
-      ap (λ xs. xs ++ here) ws ∙ append_assoc here' left here,
-    )
+    let n : place + suc (length seen) ≡ place + 1 + length seen = omega arith in
+    let others = taken_more find (place + 1) seen later left here e d rest (rw n at is) in
+    (d', here', later ++ (d, e.1) ∷ [], left ++ here, was, others, rw es, rw (ws, append_assoc))
 
 -- as many events stand for those that were seen
 taken_long : (find : Find) (place : ℕ) (seen : Input) (events : Marked) (waiting : Waiting)
@@ -102,11 +79,9 @@ found_before p k anchor [] None l = refl
 found_before p k anchor [] (Some x) l = ap (λ n. greater n None) (number_behind p k anchor x l)
 found_before p k anchor (y ∷ named) o l = ap (greater (number_below p anchor y)) (found_before p k anchor named o l)
 
-module _ (events : Events) (numbers : List ℕ) (seen : Input) (old : Draft) (h : IsDraft events numbers seen old) where
+module _ {events : Events} {numbers : List ℕ} {seen : Input} {old : Draft} (h : IsDraft events numbers seen old) where
   now_long : length h.now ≡ length seen
-  now_long =
-      sym (length-map h.now (λ (e : DocEvent × Position). (doc_event_of e.0, e.1)))
-      ∙ taken_long (find_in (anchors_in 0 seen)) 0 seen _ _ h.taken
+  now_long = sym (length-map h.now _) ∙ taken_long (find_in (anchors_in 0 seen)) 0 seen _ _ h.taken
 
   pub drafts_long : length (drafts_of seen) ≡ length seen
   drafts_long = length-map seen (λ (e : PlainEvent × Position). drafted e.0)
@@ -131,18 +106,11 @@ module _ (events : Events) (numbers : List ℕ) (seen : Input) (old : Draft) (h 
   -- one event more
   module _ (new : Draft) (e : PlainEvent) (mark : Position) (d : DocEvent) (here : Waiting)
       (node : is_of_node e ≡ true) where
-    again : (a : List ℕ) (p : ℕ) → p < 0 + length seen
+    again : (a : List ℕ) (p : ℕ) → p ≤ length seen
         → find_in (anchors_in 0 (seen ++ (e, mark) ∷ [])) a p ≡ find_in (anchors_in 0 seen) a p
     again a p l =
-        ap (greatest_below p a) (anchors_in-push 0 seen (e, mark))
-        ∙ found_before p (0 + length seen) a (anchors_in 0 seen) (anchor_of e) (omega arith)
-
-    here_again : (a : List ℕ)
-        → find_in (anchors_in 0 (seen ++ (e, mark) ∷ [])) a (length seen)
-        ≡ find_in (anchors_in 0 seen) a (length seen)
-    here_again a =
-        ap (greatest_below (length seen) a) (anchors_in-push 0 seen (e, mark))
-        ∙ found_before (length seen) (0 + length seen) a (anchors_in 0 seen) (anchor_of e) (omega arith)
+        rw (anchors_in-push 0 seen (e, mark))
+        (found_before p (0 + length seen) a (anchors_in 0 seen) (anchor_of e) (omega arith))
 
     pub draft_more : new.from ≡ old.from → new.events.items ≡ old.events.items ++ (d, mark) ∷ []
         → IsTaken (find_in (anchors_in 0 seen)) (length seen) e (doc_event_of d) here
@@ -151,27 +119,19 @@ module _ (events : Events) (numbers : List ℕ) (seen : Input) (old : Draft) (h 
         → HasNumbers numbers (drafts_of seen ++ drafted e ∷ []) new.ends
         → IsDraft events numbers (seen ++ (e, mark) ∷ []) new
     draft_more from pushed is named aliases ends =
+        let find = find_in (anchors_in 0 seen) in
         let more = find_in (anchors_in 0 (seen ++ (e, mark) ∷ [])) in
-        let shown : marked_events_of (h.now ++ (d, mark) ∷ []) ≡ marked_events_of h.now ++ (doc_event_of d, mark) ∷ [] =
-        map-append (λ (x : DocEvent × Position). (doc_event_of x.0, x.1)) h.now ((d, mark) ∷ []) in
+        let still = taken_same find more (length seen) e _ here (λ a. again a (length seen) (omega arith)) is in
         let taken =
         taken_more more 0 seen (marked_events_of h.now) old.anchors.aliases.items here (e, mark) (doc_event_of d)
-        (all_taken_same (find_in (anchors_in 0 seen)) more 0 seen
-        (marked_events_of h.now) old.anchors.aliases.items again
-        h.taken)
-        (subst (λ k. IsTaken more k e (doc_event_of d) here) from_none
-        (taken_same (find_in (anchors_in 0 seen)) more (length seen) e (doc_event_of d) here here_again is)) in
+        (all_taken_same find more 0 seen _ _ (λ a p l. again a p (omega arith)) h.taken) (rw from_none at still) in
         record {
           nodes = All-push (λ (x : PlainEvent × Position). IsTrue (is_of_node x.0)) seen (e, mark) h.nodes node;
           long = h.long;
           from = from ∙ h.from;
           now = h.now ++ (d, mark) ∷ [];
-          whole = pushed ∙ ap (λ es. es ++ (d, mark) ∷ []) h.whole ∙ append_assoc events h.now ((d, mark) ∷ []);
-          taken = rw (shown, aliases) taken;
-          ends =
-              subst (λ es. HasNumbers numbers es new.ends)
-              (sym (map-append (λ (x : PlainEvent × Position). drafted x.0) seen ((e, mark) ∷ []))) ends;
-          named = named ∙ ap (λ xs. xs ++ anchor_at (anchor_of e) (length seen)) h.named
-              ∙ ap (λ k. anchors_in 0 seen ++ anchor_at (anchor_of e) k) from_none
-              ∙ sym (anchors_in-push 0 seen (e, mark));
+          whole = rw (pushed, h.whole, append_assoc);
+          taken = rw (map-append, aliases) taken;
+          ends = rw map-append ends;
+          named = rw (anchors_in-push 0 seen (e, mark), named, h.named, ← from_none);
         }

@@ -1,16 +1,15 @@
 -- The numbers of open collections, as they are filled in, by the next event.
 use Rattle.std.specs.Prelude.{◌≡◌, ◌+◌, ◌-◌, ◌==◌, ◌<◌, ◌∷◌, ◌++◌}
-use Rattle.yaml_load.proofs.Words.{ℕ, List, [], length, set, reverse, All, true, false, refl, sym, ◌∙◌, ap, subst}
-use Rattle.yaml_load.proofs.Words.{arith, append_assoc, length-append, length-set, ne_eqb, set-append_left}
-use Rattle.yaml_load.proofs.Words.{reverse-append, All-push, All-tail, end_place, ends_from, is_closing, is_opening}
-use Rattle.yaml_load.proofs.Words.{PlainDocEvent, sequence_begins, mapping_begins, filled}
+use Rattle.yaml_load.proofs.Words.{ℕ, List, [], length, set, reverse, All, true, false, refl, ◌∙◌, ap, arith}
+use Rattle.yaml_load.proofs.Words.{length-append, length-set, ne_eqb, set-append_left, reverse-append, All-push}
+use Rattle.yaml_load.proofs.Words.{All-tail, end_place, is_closing, is_opening, PlainDocEvent, sequence_begins}
+use Rattle.yaml_load.proofs.Words.{mapping_begins, filled}
 
 -- in reverse
 pub All-reverse : {X : Type 0} (P : X → Type 0) (xs : List X) → All P xs → All P (reverse xs)
 All-reverse P [] h = h
 All-reverse P (x ∷ xs) h =
-    subst (All P) (sym (reverse-append (x ∷ []) xs))
-    (All-push P (reverse xs) x (All-reverse P xs (All-tail P x xs h)) (h 0 x (omega arith)))
+    rw (reverse-append (x ∷ []) xs) (All-push P _ x (All-reverse P xs (All-tail P x xs h)) (h 0 x (omega arith)))
 
 -- the starts lie within the numbers
 abbrev pub AreIn : List ℕ → List ℕ → Type 0
@@ -31,28 +30,14 @@ filled_push (s ∷ starts) inner place later numbers n h =
     ∙ filled_push starts (inner + 1) place later (set numbers s v) n
     (in_set numbers starts s v (All-tail (λ (x : ℕ). x < length numbers) s starts h))
 
--- where an open collection ends, by the next event
-end_passes : (inner place : ℕ) (e : PlainDocEvent) (later : List PlainDocEvent) → is_opening e ≡ false → is_closing e
-    ≡ false
-    → end_place inner place (e ∷ later) ≡ end_place inner (place + 1) later
-end_passes inner place e later o c = rw (c, o)
-
-end_deeper : (inner place : ℕ) (e : PlainDocEvent) (later : List PlainDocEvent) → is_opening e ≡ true → is_closing e
-    ≡ false
-    → end_place inner place (e ∷ later) ≡ end_place (inner + 1) (place + 1) later
-end_deeper inner place e later o c = rw (c, o)
-
+-- one more than a number
 less_one : (n : ℕ) → n + 1 - 1 ≡ n
 less_one n = omega arith
 
 more_than_none : (n : ℕ) → (n + 1 == 0) ≡ false
 more_than_none n = ne_eqb (n + 1) 0 (λ h. omega arith)
 
-end_outer : (inner place : ℕ) (e : PlainDocEvent) (later : List PlainDocEvent) → is_opening e ≡ false → is_closing e
-    ≡ true
-    → end_place (inner + 1) place (e ∷ later) ≡ end_place inner (place + 1) later
-end_outer inner place e later o c = rw (c, o, less_one inner, more_than_none inner)
-
+-- where an open collection ends, by the next event
 pub end_here : (place : ℕ) (e : PlainDocEvent) (later : List PlainDocEvent) → is_closing e ≡ true
     → end_place 0 place (e ∷ later) ≡ place
 end_here place e later c = rw c
@@ -69,36 +54,21 @@ module _ (e : PlainDocEvent) (later : List PlainDocEvent) where
       → filled starts inner place (e ∷ later) numbers ≡ filled starts inner (place + 1) later numbers
   filled_passes [] inner place numbers o c = refl
   filled_passes (s ∷ starts) inner place numbers o c =
-      ap (λ n. filled starts (inner + 1) place (e ∷ later) (set numbers s n)) (end_passes inner place e later o c)
-      ∙ filled_passes starts (inner + 1) place (set numbers s (end_place inner (place + 1) later)) o c
+      rw (c, o) (filled_passes starts (inner + 1) place (set numbers s (end_place inner (place + 1) later)) o c)
 
   pub filled_deeper : (starts : List ℕ) (inner place : ℕ) (numbers : List ℕ) → is_opening e ≡ true
       → filled starts inner place (e ∷ later) numbers ≡ filled starts (inner + 1) (place + 1) later numbers
   filled_deeper [] inner place numbers o = refl
   filled_deeper (s ∷ starts) inner place numbers o =
-      ap (λ n. filled starts (inner + 1) place (e ∷ later) (set numbers s n))
-      (end_deeper inner place e later o (opens_alone e o))
-      ∙ filled_deeper starts (inner + 1) place (set numbers s (end_place (inner + 1) (place + 1) later)) o
+      rw (opens_alone e o, o)
+      (filled_deeper starts (inner + 1) place (set numbers s (end_place (inner + 1) (place + 1) later)) o)
 
   pub filled_outer : (starts : List ℕ) (inner place : ℕ) (numbers : List ℕ) → is_opening e ≡ false → is_closing e ≡ true
       → filled starts (inner + 1) place (e ∷ later) numbers ≡ filled starts inner (place + 1) later numbers
   filled_outer [] inner place numbers o c = refl
   filled_outer (s ∷ starts) inner place numbers o c =
-      ap (λ n. filled starts (inner + 1 + 1) place (e ∷ later) (set numbers s n)) (end_outer inner place e later o c)
-      ∙ filled_outer starts (inner + 1) place (set numbers s (end_place inner (place + 1) later)) o c
-
--- the number of the next event
-pub number_passes : (place : ℕ) (e : PlainDocEvent) (later : List PlainDocEvent) → is_opening e ≡ false
-    → ends_from place (e ∷ later) ≡ place ∷ ends_from (place + 1) later
-number_passes place e later o = rw o
-
-pub number_opens : (place : ℕ) (e : PlainDocEvent) (later : List PlainDocEvent) → is_opening e ≡ true
-    → ends_from place (e ∷ later) ≡ end_place 0 (place + 1) later ∷ ends_from (place + 1) later
-number_opens place e later o = rw o
-
--- what is put behind a list, in two ways
-pub behind : {X : Type 0} (xs ys : List X) (x : X) → (xs ++ x ∷ []) ++ ys ≡ xs ++ x ∷ ys
-behind xs ys x = append_assoc xs (x ∷ []) ys
+      rw (c, o, less_one inner, more_than_none inner)
+      (filled_outer starts (inner + 1) place (set numbers s (end_place inner (place + 1) later)) o c)
 
 pub one_longer : {X : Type 0} (xs : List X) (x : X) → length (xs ++ x ∷ []) ≡ length xs + 1
 one_longer xs x = length-append xs (x ∷ [])

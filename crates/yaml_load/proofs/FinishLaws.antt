@@ -1,16 +1,16 @@
 -- Where a document ends, its draft becomes the last of the documents.
 use Rattle.std.specs.Prelude.{◌≡◌, ◌+◌, ◌<◌, ◌∷◌, ◌++◌}
 use Rattle.yaml_load.proofs.Words.{Events, Marked, ℕ, List, [], map, length, take, drop, min, false, refl, sym, ◌∙◌, ap}
-use Rattle.yaml_load.proofs.Words.{subst, arith, append-nil, length-take, length-drop, Option, Some, None, option_map}
+use Rattle.yaml_load.proofs.Words.{arith, append-nil, length-take, length-drop, Option, Some, None, option_map}
 use Rattle.yaml_load.proofs.Words.{slice_get, drop-append_seam, take-add, take-append_seam, take-append-add, length-map}
 use Rattle.yaml_load.proofs.Words.{take-append-drop, take-map, Position, PlainFault, Cause, doc_event_of}
 use Rattle.yaml_load.proofs.Words.{marked_events_of, Find, Input, anchors_in, document_of, ending_of, find_in}
 use Rattle.yaml_load.proofs.Words.{known_events, unknown_mark, ends_of, AreCuts, documents_in, ending_in}
 use Rattle.yaml_load.proofs.Words.{plain_doc_events, PlainDocEvent, PlainDocument, DocEvent, Cut, Draft, IsBetween}
-use Rattle.yaml_load.proofs.Words.{IsDraft, drafts_of, settled, EndsView, bounded_from}
+use Rattle.yaml_load.proofs.Words.{IsDraft, drafts_of, settled, bounded_from}
 use Rattle.yaml_load.proofs.Gatherings.{cuts_pushed, documents_pushed, long_pushed, plain_doc_events-marked}
 use Rattle.yaml_load.proofs.SettledEnds.{ends_of_cut, ends_of_whole}
-use Rattle.yaml_load.proofs.SettledLaws.{settled_whole}
+use Rattle.yaml_load.proofs.SettledLaws.{IsSettled, settled_whole}
 
 abbrev held : Marked → Option Cause → PlainDocument
 held events ending = record { events = events; ending = ending }
@@ -19,8 +19,10 @@ held events ending = record { events = events; ending = ending }
 marked_long : (events : Events) → length (marked_events_of events) ≡ length events
 marked_long events = length-map events (λ (e : DocEvent × Position). (doc_event_of e.0, e.1))
 
-marked_taken : (at : ℕ) (events : Events) → take at (marked_events_of events) ≡ marked_events_of (take at events)
-marked_taken at events = take-map (λ (e : DocEvent × Position). (doc_event_of e.0, e.1)) at events
+-- the numbers of shown events
+shown_ends : (events : Events) (shown : Marked) → marked_events_of events ≡ shown
+    → ends_of (map (λ (e : PlainDocEvent × Position). e.0) shown) ≡ ends_of (plain_doc_events events)
+shown_ends events shown is = rw (← is, plain_doc_events-marked events)
 
 -- numbers behind others, each of them bounded
 bounded_behind : (bound : ℕ) (front numbers : List ℕ) → bounded_from bound (length front) (front ++ numbers)
@@ -51,16 +53,16 @@ between_more events more numbers ends old documents new cut long cuts shown whol
           ∙ ap (λ ds. ds ++ held (marked_events_of more) (ending_in cut.error) ∷ []) shown;
     }
 
-module _ (events : Events) (numbers : List ℕ) (seen : Input) (old : Draft) (h : IsDraft events numbers seen old) where
+module _ {events : Events} {numbers : List ℕ} {seen : Input} {old : Draft} (h : IsDraft events numbers seen old) where
   abbrev find : Find
   find = find_in (anchors_in 0 seen)
 
   -- the events of all documents, and in them the document's
   front_is : take old.from old.events.items ≡ events
-  front_is = ap (take old.from) h.whole ∙ ap (λ n. take n (events ++ h.now)) h.from ∙ take-append_seam events h.now
+  front_is = rw (h.whole, h.from, take-append_seam events h.now)
 
   now_is : drop old.from old.events.items ≡ h.now
-  now_is = ap (drop old.from) h.whole ∙ ap (λ n. drop n (events ++ h.now)) h.from ∙ drop-append_seam events h.now
+  now_is = rw (h.whole, h.from, drop-append_seam events h.now)
 
   abbrev Closed : Draft → Cut → Type 0
   Closed new cut = (new.ends.unended ≡ []) × (new.anchors.named.items ≡ []) × (new.anchors.aliases.items ≡ [])
@@ -68,81 +70,61 @@ module _ (events : Events) (numbers : List ℕ) (seen : Input) (old : Draft) (h 
 
   -- a document of which these events are known
   closed : (new : Draft) (cut : Cut) (more : Events) (ends : List ℕ) (unknown : Option Position)
-      (fault : Option PlainFault)
-      → AreCuts events numbers old.cuts.items → Closed new cut
+      (fault : Option PlainFault) → AreCuts events numbers old.cuts.items → Closed new cut
       → new.events.items ≡ events ++ more → marked_events_of more ≡ known_events find 0 seen
       → new.ends.numbers ≡ numbers ++ ends → ends ≡ ends_of (plain_doc_events more)
       → unknown ≡ unknown_mark find 0 seen → ending_in cut.error ≡ ending_of unknown false fault
       → IsBetween (documents_in events old.cuts.items ++ document_of (anchors_in 0 seen) seen false fault ∷ []) new
   closed new cut more ends unknown fault cuts (u, n, a, p, from, to) whole shown all are mark ending =
-      subst (λ d. IsBetween (documents_in events old.cuts.items ++ d ∷ []) new)
-      (ap (λ es. held es (ending_in cut.error)) shown
-      ∙ ap (held (known_events find 0 seen)) (ending ∙ ap (λ m. ending_of m false fault) mark))
-      (between_more events more numbers ends old.cuts.items (documents_in events old.cuts.items) new cut h.long cuts
-      refl whole all are
-      u n a p (from ∙ h.from) to)
+      rw (← shown, ← mark, ← ending)
+      (between_more events more numbers ends old.cuts.items _ new cut h.long cuts refl whole all are u n a p
+      (from ∙ h.from) to)
 
   -- what the aliases made of the events
-  module _ (settled_events : Events) (o : Option ℕ)
+  module _ (late : Events) (o : Option ℕ)
       (is : settled (find_in old.anchors.named.items) old.anchors.aliases.items
-      (marked_events_of (drop old.from old.events.items))
-      ≡ (marked_events_of (drop old.from settled_events), o))
-      (front : take old.from settled_events ≡ take old.from old.events.items) where
-    abbrev more : Events
-    more = drop old.from settled_events
-
-    same : settled find old.anchors.aliases.items (marked_events_of h.now) ≡ (marked_events_of more, o)
+      (marked_events_of (drop old.from old.events.items)) ≡ (marked_events_of late, o)) where
+    same : IsSettled find 0 seen [] (marked_events_of late, o)
     same =
-        ap (λ es. settled find old.anchors.aliases.items es) (sym (ap marked_events_of now_is))
-        ∙ ap (λ ns. settled (find_in ns) old.anchors.aliases.items (marked_events_of (drop old.from old.events.items)))
-        (sym h.named)
-        ∙ is
-
-    whole_is : settled_events ≡ events ++ more
-    whole_is = sym (take-append-drop old.from settled_events) ∙ ap (λ es. es ++ more) (front ∙ front_is)
+        let is' : settled find old.anchors.aliases.items (marked_events_of h.now) ≡ (marked_events_of late, o) =
+        rw (← now_is, ← h.named) is in
+        settled_whole find seen (marked_events_of h.now) (marked_events_of late) old.anchors.aliases.items o h.nodes
+        h.taken is'
 
   -- every alias is known
   pub closed_whole : (new : Draft) (cut : Cut) (fault : Option PlainFault) → AreCuts events numbers old.cuts.items
       → settled (find_in old.anchors.named.items) old.anchors.aliases.items
       (marked_events_of (drop old.from old.events.items))
       ≡ (marked_events_of (drop old.from new.events.items), None)
-      → take old.from new.events.items ≡ take old.from old.events.items → new.ends.numbers
-      ≡ numbers ++ ends_of (drafts_of seen)
+      → take old.from new.events.items ≡ take old.from old.events.items
+      → new.ends.numbers ≡ numbers ++ ends_of (drafts_of seen)
       → Closed new cut → ending_in cut.error ≡ ending_of None false fault
       → IsBetween (documents_in events old.cuts.items ++ document_of (anchors_in 0 seen) seen false fault ∷ []) new
   closed_whole new cut fault cuts is front all c ending =
-      let found = settled_whole find seen (marked_events_of h.now) (marked_events_of (drop old.from new.events.items))
-      old.anchors.aliases.items None h.nodes h.taken
-      (same new.events.items None is front) in
-      closed new cut (drop old.from new.events.items) (ends_of (drafts_of seen)) None fault cuts c
-      (whole_is new.events.items None is front) found.0 all
-      (sym (ends_of_whole find seen found.1)
-      ∙ ap (λ (es : Marked). ends_of (map (λ (e : PlainDocEvent × Position). e.0) es)) (sym found.0)
-      ∙ ap ends_of (plain_doc_events-marked (drop old.from new.events.items)))
-      (sym found.1) ending
+      let late = drop old.from new.events.items in
+      let found = same late None is in
+      closed new cut late (ends_of (drafts_of seen)) None fault cuts c
+      (sym (take-append-drop old.from new.events.items) ∙ ap (λ es. es ++ late) (front ∙ front_is)) found.0 all
+      (sym (ends_of_whole find seen found.1) ∙ shown_ends late _ found.0) (sym found.1) ending
 
   -- an alias is unknown, and the document is cut off there
   pub closed_cut : (new : Draft) (cut : Cut) (fault : Option PlainFault) (settled_events : Events) (at : ℕ)
-      (mark : Position)
-      (all : List ℕ) → AreCuts events numbers old.cuts.items
+      (mark : Position) (all : List ℕ) → AreCuts events numbers old.cuts.items
       → settled (find_in old.anchors.named.items) old.anchors.aliases.items
       (marked_events_of (drop old.from old.events.items))
       ≡ (marked_events_of (drop old.from settled_events), Some at)
       → take old.from settled_events ≡ take old.from old.events.items → old.from + at < length settled_events
       → Some mark ≡ option_map (λ (e : PlainDocEvent × Position). e.1)
       (slice_get (marked_events_of (drop old.from settled_events)) at)
-      → new.events.items ≡ take (old.from + at) settled_events
-      → all ≡ numbers ++ ends_of (drafts_of seen) → new.ends.numbers
-      ≡ bounded_from at old.from (take (old.from + at) all)
+      → new.events.items ≡ take (old.from + at) settled_events → all ≡ numbers ++ ends_of (drafts_of seen)
+      → new.ends.numbers ≡ bounded_from at old.from (take (old.from + at) all)
       → Closed new cut → ending_in cut.error ≡ ending_of (Some mark) false fault
       → IsBetween (documents_in events old.cuts.items ++ document_of (anchors_in 0 seen) seen false fault ∷ []) new
   closed_cut new cut fault settled_events at mark all cuts is front within marked taken numbered bounded c ending =
       let late = drop old.from settled_events in
-      let found = settled_whole find seen (marked_events_of h.now) (marked_events_of late)
-      old.anchors.aliases.items (Some at) h.nodes h.taken
-      (same settled_events (Some at) is front) in
-      let known : marked_events_of (take at late) ≡ known_events find 0 seen =
-      sym (marked_taken at late) ∙ found.0 in
+      let found = same late (Some at) is in
+      let ends = take at (ends_of (drafts_of seen)) in
+      let known : marked_events_of (take at late) ≡ known_events find 0 seen = sym (take-map _ at late) ∙ found.0 in
       let begin : old.from ≡ length numbers = h.from ∙ sym h.long in
       let size : at ≡ length (known_events find 0 seen) =
       omega (
@@ -152,29 +134,17 @@ module _ (events : Events) (numbers : List ℕ) (seen : Input) (old : Draft) (h 
         length-take at late,
         length-drop old.from settled_events,
       ) in
-      closed new cut (take at late) (map (min at) (take at (ends_of (drafts_of seen)))) (Some mark) fault cuts c
+      closed new cut (take at late) (map (min at) ends) (Some mark) fault cuts c
       (taken ∙ take-add old.from at settled_events ∙ ap (λ es. es ++ take at late) (front ∙ front_is)) known
-      (bounded ∙ ap (λ ns. bounded_from at old.from (take (old.from + at) ns)) numbered
-      ∙ ap (λ n. bounded_from at n (take (n + at) (numbers ++ ends_of (drafts_of seen)))) begin
-      ∙ ap (bounded_from at (length numbers)) (take-append-add numbers (ends_of (drafts_of seen)) at)
-      ∙ bounded_behind at numbers (take at (ends_of (drafts_of seen))))
-      (sym (ends_of_cut find seen at size)
-      ∙ ap (λ (es : Marked). ends_of (map (λ (e : PlainDocEvent × Position). e.0) es)) (sym known)
-      ∙ ap ends_of (plain_doc_events-marked (take at late)))
-      (marked ∙ sym found.1) ending
+      (rw (bounded, numbered, begin, take-append-add) (bounded_behind at numbers ends))
+      (sym (ends_of_cut find seen at size) ∙ shown_ends (take at late) _ known) (marked ∙ sym found.1) ending
 
 -- a document without events behind others
-pub failed_more : (old : Draft) (documents : List PlainDocument) (h : IsBetween documents old) (new : Draft) (cut : Cut)
-    (ending : Option Cause)
-    → new.events ≡ old.events → new.ends ≡ old.ends → new.anchors ≡ old.anchors → new.cuts.items
-    ≡ old.cuts.items ++ cut ∷ []
-    → cut.from ≡ length old.events.items → cut.to ≡ cut.from → ending_in cut.error ≡ ending
-    → IsBetween (documents ++ held [] ending ∷ []) new
-failed_more old documents h new cut ending events ends anchors pushed begin end is =
-    let same = ap (λ (x : _). x.items) events in
-    subst (λ e. IsBetween (documents ++ held [] e ∷ []) new) is
-    (between_more old.events.items [] old.ends.numbers [] old.cuts.items documents new cut h.long h.cuts h.shown
-    (same ∙ sym (append-nil old.events.items))
-    (ap (λ (x : EndsView). x.numbers) ends ∙ sym (append-nil old.ends.numbers)) refl
-    (ap (λ (x : EndsView). x.unended) ends ∙ h.unended) (ap (λ (x : _). x.named.items) anchors ∙ h.named)
-    (ap (λ (x : _). x.aliases.items) anchors ∙ h.aliases) pushed begin (end ∙ begin ∙ ap length (sym same)))
+pub failed_more : {old : Draft} {documents : List PlainDocument} (h : IsBetween documents old) (new : Draft) (cut : Cut)
+    → new.events ≡ old.events → new.ends ≡ old.ends → new.anchors ≡ old.anchors
+    → new.cuts.items ≡ old.cuts.items ++ cut ∷ [] → cut.from ≡ length old.events.items → cut.to ≡ cut.from
+    → IsBetween (documents ++ held [] (ending_in cut.error) ∷ []) new
+failed_more {old} h new cut events ends anchors pushed begin end =
+    between_more old.events.items [] old.ends.numbers [] old.cuts.items _ new cut h.long h.cuts h.shown
+    (rw (events, append-nil)) (rw (ends, append-nil)) refl (rw ends h.unended) (rw anchors h.named)
+    (rw anchors h.aliases) pushed begin (rw events (end ∙ begin))

@@ -1,11 +1,10 @@
 -- Ranges of a list of events keep their documents when events are put behind.
 use Rattle.std.specs.Prelude.{◌≡◌, ◌+◌, ◌-◌, ◌≤◌, ◌∷◌, ◌++◌}
-use Rattle.yaml_load.proofs.Words.{Events, ℕ, suc, List, [], map, length, take, drop, take_all, slice_range, refl, sym}
-use Rattle.yaml_load.proofs.Words.{◌∙◌, ap, subst, arith, length-append, length-drop, append_assoc, Option, length-map}
-use Rattle.yaml_load.proofs.Words.{take-append-le, drop-append-le, map-append, All-append, All-cons, All-nil, All-tail}
-use Rattle.yaml_load.proofs.Words.{drop-append_seam, Position, Cause, doc_event_of, marked_events_of, ends_from}
-use Rattle.yaml_load.proofs.Words.{ends_of, AreCuts, HasEnds, document_in, documents_in, ending_in, plain_doc_events}
-use Rattle.yaml_load.proofs.Words.{PlainDocEvent, PlainDocument, DocEvent, Cut}
+use Rattle.yaml_load.proofs.Words.{All-push, Events, ℕ, suc, List, [], map, length, take, drop, take_all, slice_range}
+use Rattle.yaml_load.proofs.Words.{refl, sym, ◌∙◌, ap, arith, length-append, length-drop, append_assoc, length-map}
+use Rattle.yaml_load.proofs.Words.{take-append-le, drop-append-le, map-append, All-tail, drop-append_seam, Position}
+use Rattle.yaml_load.proofs.Words.{doc_event_of, marked_events_of, ends_from, ends_of, AreCuts, HasEnds, documents_in}
+use Rattle.yaml_load.proofs.Words.{ending_in, plain_doc_events, PlainDocEvent, PlainDocument, DocEvent, Cut}
 
 -- a range of the front
 range_of_front : {X : Type 0} (xs ys : List X) (from to : ℕ) → from ≤ to → to ≤ length xs
@@ -33,6 +32,12 @@ pub plain_doc_events-marked : (events : Events)
 plain_doc_events-marked [] = refl
 plain_doc_events-marked (e ∷ events) = ap (λ es. doc_event_of e.0 ∷ es) (plain_doc_events-marked events)
 
+length-ends_of : (numbers : List ℕ) (more : Events) → numbers ≡ ends_of (plain_doc_events more)
+    → length numbers ≡ length more
+length-ends_of numbers more are =
+    ap length are ∙ length-ends_from 0 (plain_doc_events more)
+    ∙ length-map more (λ (e : DocEvent × Position). doc_event_of e.0)
+
 -- a range in front stays right
 has_ends_more : (events more : Events) (ends numbers : List ℕ) (from to : ℕ) → HasEnds events ends from to
     → HasEnds (events ++ more) (ends ++ numbers) from to
@@ -49,9 +54,7 @@ has_ends_behind : (events more : Events) (ends numbers : List ℕ) (from to : �
     → numbers ≡ ends_of (plain_doc_events more) → from ≡ length events → to ≡ length (events ++ more)
     → HasEnds (events ++ more) (ends ++ numbers) from to
 has_ends_behind events more ends numbers from to long are begin end =
-    let many : length numbers ≡ length more =
-    ap length are ∙ length-ends_from 0 (plain_doc_events more)
-    ∙ length-map more (λ (e : DocEvent × Position). doc_event_of e.0) in
+    let many = length-ends_of numbers more are in
     let whole : to ≡ length (ends ++ numbers) =
     omega (arith, length-append events more, length-append ends numbers) in (
       omega (arith, length-append events more),
@@ -61,53 +64,25 @@ has_ends_behind events more ends numbers from to long are begin end =
           ∙ ap (λ es. ends_of (plain_doc_events es)) (sym (range_behind events more from to begin end)),
     )
 
--- the ranges with one more
-pub cuts_added : (events more : Events) (ends numbers : List ℕ) (cuts : List Cut) (cut : Cut) → length ends
-    ≡ length events
-    → numbers ≡ ends_of (plain_doc_events more) → cut.from ≡ length events → cut.to ≡ length (events ++ more)
-    → AreCuts events ends cuts → AreCuts (events ++ more) (ends ++ numbers) (cuts ++ cut ∷ [])
-cuts_added events more ends numbers cuts cut long are begin end h =
-    All-append (λ (c : Cut). HasEnds (events ++ more) (ends ++ numbers) c.from c.to) cuts (cut ∷ [])
-    (λ k d l. has_ends_more events more ends numbers _ _ (h k d l))
-    (All-cons (λ (c : Cut). HasEnds (events ++ more) (ends ++ numbers) c.from c.to) cut []
-    (has_ends_behind events more ends numbers cut.from cut.to long are begin end)
-    (All-nil (λ (c : Cut). HasEnds (events ++ more) (ends ++ numbers) c.from c.to)))
-
-abbrev held : Events → Option Cause → PlainDocument
-held events ending = record { events = marked_events_of events; ending = ending }
-
 -- the documents in front stay
 documents_in_front : (events more : Events) (ends : List ℕ) (cuts : List Cut) → AreCuts events ends cuts
     → documents_in (events ++ more) cuts ≡ documents_in events cuts
 documents_in_front events more ends [] h = refl
 documents_in_front events more ends (cut ∷ cuts) h =
     let first = h 0 cut (omega arith) in
-    ap (λ (es : Events). held es (ending_in cut.error) ∷ documents_in (events ++ more) cuts)
-    (range_of_front events more cut.from cut.to first.0 first.1)
-    ∙ ap (λ ds. document_in events cut ∷ ds)
-    (documents_in_front events more ends cuts (All-tail (λ (c : Cut). HasEnds events ends c.from c.to) cut cuts h))
+    let others = All-tail (λ (c : Cut). HasEnds events ends c.from c.to) cut cuts h in
+    rw (range_of_front events more cut.from cut.to first.0 first.1, documents_in_front events more ends cuts others)
 
--- and the one behind is added
-pub documents_added : (events more : Events) (ends : List ℕ) (cuts : List Cut) (cut : Cut) → AreCuts events ends cuts
-    → cut.from ≡ length events → cut.to ≡ length (events ++ more)
-    → documents_in (events ++ more) (cuts ++ cut ∷ [])
-    ≡ documents_in events cuts ++ record { events = marked_events_of more; ending = ending_in cut.error } ∷ []
-documents_added events more ends cuts cut h begin end =
-    map-append (document_in (events ++ more)) cuts (cut ∷ [])
-    ∙ ap (λ ds. ds ++ document_in (events ++ more) cut ∷ []) (documents_in_front events more ends cuts h)
-    ∙ ap (λ (es : Events). documents_in events cuts ++ held es (ending_in cut.error) ∷ [])
-    (range_behind events more cut.from cut.to begin end)
-
--- the same, of what a call made of the lists
+-- what a call made of the lists, one range more
 pub cuts_pushed : (events more whole : Events) (ends numbers all : List ℕ) (cuts pushed : List Cut) (cut : Cut)
     → whole ≡ events ++ more → all ≡ ends ++ numbers → pushed ≡ cuts ++ cut ∷ [] → length ends ≡ length events
     → numbers ≡ ends_of (plain_doc_events more) → cut.from ≡ length events → cut.to ≡ length whole
     → AreCuts events ends cuts → AreCuts whole all pushed
 cuts_pushed events more whole ends numbers all cuts pushed cut w a p long are begin end h =
-    subst (λ es. AreCuts es all pushed) (sym w)
-    (subst (λ ns. AreCuts (events ++ more) ns pushed) (sym a)
-    (subst (AreCuts (events ++ more) (ends ++ numbers)) (sym p)
-    (cuts_added events more ends numbers cuts cut long are begin (end ∙ ap length w) h)))
+    let after = has_ends_behind events more ends numbers cut.from cut.to long are begin (end ∙ ap length w) in
+    rw (w, a, p)
+    (All-push (λ (c : Cut). HasEnds (events ++ more) (ends ++ numbers) c.from c.to) cuts cut
+    (λ k d l. has_ends_more events more ends numbers _ _ (h k d l)) after)
 
 pub documents_pushed : (events more whole : Events) (ends : List ℕ) (cuts pushed : List Cut) (cut : Cut)
     → whole ≡ events ++ more → pushed ≡ cuts ++ cut ∷ [] → cut.from ≡ length events → cut.to ≡ length whole
@@ -115,17 +90,15 @@ pub documents_pushed : (events more whole : Events) (ends : List ℕ) (cuts push
     → documents_in whole pushed
     ≡ documents_in events cuts ++ record { events = marked_events_of more; ending = ending_in cut.error } ∷ []
 documents_pushed events more whole ends cuts pushed cut w p begin end h =
-    ap (λ es. documents_in es pushed) w ∙ ap (documents_in (events ++ more)) p
-    ∙ documents_added events more ends cuts cut h begin (end ∙ ap length w)
+    let after = range_behind events more cut.from cut.to begin (end ∙ ap length w) in
+    rw (w, p, map-append, documents_in_front events more ends cuts h, after)
 
 -- as many numbers as events
 pub long_pushed : (events more whole : Events) (ends numbers all : List ℕ) → whole ≡ events ++ more → all
     ≡ ends ++ numbers
     → length ends ≡ length events → numbers ≡ ends_of (plain_doc_events more) → length all ≡ length whole
 long_pushed events more whole ends numbers all w a long are =
-    let many : length numbers ≡ length more =
-    ap length are ∙ length-ends_from 0 (plain_doc_events more)
-    ∙ length-map more (λ (e : DocEvent × Position). doc_event_of e.0) in
+    let many = length-ends_of numbers more are in
     omega (arith, ap length w, ap length a, length-append events more, length-append ends numbers)
 
 -- one document more, and those of the ranges left
@@ -134,6 +107,4 @@ pub documents_left : (events shared : Events) (cut : Cut) (before after all : Li
     → doc ≡ record { events = marked_events_of (slice_range shared cut.from cut.to); ending = ending_in cut.error }
     → before ++ documents_in events left ≡ all → after ++ documents_in events later ≡ all
 documents_left events shared cut before after all doc left later s l a d found =
-    ap (λ ds. ds ++ documents_in events later) a ∙ append_assoc before (doc ∷ []) (documents_in events later)
-    ∙ ap (λ x. before ++ x ∷ documents_in events later) (d ∙ ap (λ (es : Events). document_in es cut) s)
-    ∙ ap (λ cs. before ++ documents_in events cs) (sym l) ∙ found
+    rw (a, append_assoc, d, s) (rw l at found)

@@ -2,13 +2,16 @@
 use Rattle.std.specs.Prelude.{◌≡◌, ◌+◌, ◌-◌, ◌∷◌, ◌++◌}
 use Rattle.std.proofs.lemmas.List.{length-append}
 use Rattle.std.specs.Option.{option_map}
-use Rattle.yaml_load.proofs.Words.{◌∙◌, ℕ, List, [], Option, Some, None, Bool, true, ap, arith, sym, subst, refl, All}
+use Rattle.yaml_load.proofs.Words.{false, ◌∙◌, ℕ, List, [], Option, Some, None, Bool, true, ap, arith, sym, subst, All}
 use Rattle.yaml_load.proofs.Words.{append_assoc, append-nil, is_some, length, map-append, slice_get, Position}
 use Rattle.yaml_load.proofs.Words.{PlainEvent, PlainFault, State, before_stream, next_state, run, Open, IsWellFormed}
 use Rattle.yaml_load.proofs.Words.{Input, documents_of, last_mark, events_in, PlainDocument, IsDocument, Moves, is_done}
 use Rattle.yaml_load.proofs.Words.{is_open, state_of, Phase, Draft, IsBetween, HasTaken, IsOnWay, IsReady, Takes}
-use Rattle.yaml_load.proofs.Words.{is_inside, open_before, open_behind, run_append}
-use Rattle.yaml_load.proofs.LoadingLaws.{on_way, ready_if}
+use Rattle.yaml_load.proofs.Words.{run_append}
+use Rattle.std.specs.Bool.{beq}
+use Rattle.yaml_load.proofs.LoadingEnds.{flags_differ}
+use Rattle.yaml_load.proofs.WrongPlaces.{right_end}
+use Rattle.yaml_load.proofs.LoadingLaws.{ready}
 use Rattle.yaml_load.proofs.LoadingTurns.{inside_phase, open_faulted, turns}
 use Rattle.yaml_load.proofs.SettledLaws.{get_behind}
 use Rattle.yaml_load.proofs.StreamEndings.{all_endings}
@@ -27,54 +30,43 @@ last_on taken x =
     sym (ap (λ i. option_map (λ (e : PlainEvent × Position). e.1) (slice_get (taken ++ x ∷ []) i)) at
     ∙ ap (option_map (λ (e : PlainEvent × Position). e.1)) (get_behind taken [] x))
 
-pub taken_on : (phase after : Phase) (outer behind : List Open) (end : Option Position) (count : ℕ) (taken : Input)
-    (e : PlainEvent) (mark : Position) (old new : Draft) → HasTaken phase outer end count taken old
-    → Moves phase outer e behind (Some after) → Takes e mark old new
-    → HasTaken after behind (Some mark) (count + 1) (taken ++ (e, mark) ∷ []) new
-taken_on phase after outer behind end count taken e mark old new had moves takes =
-    let x : PlainEvent × Position = (e, mark) in
-    let state = state_of phase outer in
-    let turn = turns state e (state_of after behind) moves.0 in
-    record {
-      clean = moves.1;
-      ran = ran_on taken x state had.ran ∙ moves.0;
-      last = last_on taken x;
-      counted = omega (arith, had.counted, length-append taken (x ∷ []));
-      way = λ fault rest.
-          subst (λ all. IsOnWay (is_inside (state_of after behind)) fault all rest new)
-          (sym (append_assoc taken (x ∷ []) rest))
-          (on_way (open_behind e) (is_inside (state_of after behind)) fault (taken ++ x ∷ rest) rest new (sym turn.1)
-          (takes fault (taken ++ x ∷ rest) (x ∷ rest) rest refl
-          (on_way (is_inside state) (open_before e) fault (taken ++ x ∷ rest) (x ∷ rest) old turn.0
-          (had.way fault (x ∷ rest)))));
-    }
+module _ {phase : Phase} {outer : List Open} {end : Option Position} {count : ℕ} {taken : Input} {old : Draft}
+    (had : HasTaken phase outer end count taken old) where
+  pub taken_on : (after : Phase) (behind : List Open) (e : PlainEvent) (mark : Position) (new : Draft)
+      → Moves phase outer e behind (Some after) → Takes e mark old new
+      → HasTaken after behind (Some mark) (count + 1) (taken ++ (e, mark) ∷ []) new
+  taken_on after behind e mark new moves takes =
+      let x : PlainEvent × Position = (e, mark) in
+      let turn = turns (state_of phase outer) e (state_of after behind) moves.0 in
+      record {
+        clean = moves.1;
+        ran = ran_on taken x (state_of phase outer) had.ran ∙ moves.0;
+        last = last_on taken x;
+        counted = omega (arith, had.counted, length-append taken (x ∷ []));
+        way = λ fault rest. rw (append_assoc taken (x ∷ []) rest, turn.1)
+            (takes fault (taken ++ x ∷ rest) rest (rw turn.0 at (had.way fault (x ∷ rest))));
+      }
 
--- where a document is open its draft is ready
-pub ready_in : (phase : Phase) (outer : List Open) (end : Option Position) (count : ℕ) (taken : Input) (d : Draft)
-    → HasTaken phase outer end count taken d → is_open phase ≡ true → IsReady d
-ready_in phase outer end count taken d had opened =
-    ready_if (is_inside (state_of phase outer)) None (taken ++ []) [] d (had.way None [])
-    (inside_phase phase outer ∙ opened)
+  -- the draft at the end of the events
+  way_to_end : (inside : Bool) (fault : Option PlainFault) → is_open phase ≡ inside → IsOnWay inside fault taken [] old
+  way_to_end inside fault is = rw (append-nil, inside_phase phase outer, is) at (had.way fault [])
 
--- the draft at the end of the events
-pub way_to_end : (phase : Phase) (outer : List Open) (end : Option Position) (count : ℕ) (taken : Input) (d : Draft)
-    (inside : Bool) (fault : Option PlainFault) → HasTaken phase outer end count taken d → is_open phase ≡ inside
-    → IsOnWay inside fault taken [] d
-way_to_end phase outer end count taken d inside fault had is =
-    subst (λ all. IsOnWay inside fault all [] d) (append-nil taken)
-    (on_way (is_inside (state_of phase outer)) inside fault (taken ++ []) [] d (inside_phase phase outer ∙ is)
-    (had.way fault []))
+  -- where a document is open the draft is ready
+  pub ready_in : is_open phase ≡ true → IsReady old
+  ready_in opened = ready (way_to_end true None opened)
 
--- what closing the draft makes of it
-pub closed : (phase : Phase) (outer : List Open) (end : Option Position) (count : ℕ) (taken : Input) (old new : Draft)
-    (inside : Bool) (fault : Option PlainFault) → HasTaken phase outer end count taken old → is_open phase ≡ inside
-    → (is_done phase ≡ is_some fault → ⊥)
-    → ((all : Input) → end ≡ last_mark all → (inside ≡ true → is_some fault ≡ true) → IsOnWay inside fault all [] old
-    → IsBetween (documents_of all fault) new)
-    → IsBetween (documents_of taken fault) new
-closed phase outer end count taken old new inside fault had is other closes =
-    closes taken had.last (λ held. open_faulted phase (is_some fault) other (is ∙ held))
-    (way_to_end phase outer end count taken old inside fault had is)
+  -- what closing the draft makes of it, where the stream has ended or a fault is there, and not both
+  pub closed : (new : Draft) (inside after faulted : Bool) (fault : Option PlainFault) → inside ≡ is_open phase
+      → after ≡ is_done phase → faulted ≡ is_some fault → beq after faulted ≡ false
+      → ((all : Input) → end ≡ last_mark all → (inside ≡ true → is_some fault ≡ true)
+      → IsOnWay inside fault all [] old → IsBetween (documents_of all fault) new)
+      → IsBetween (documents_of taken fault) new × IsWellFormed (is_some fault) (events_in taken)
+  closed new inside after faulted fault is a f differ closes =
+      let other : is_done phase ≡ is_some fault → ⊥ = λ same. flags_differ _ _ differ (a ∙ same ∙ sym f) in (
+        closes taken had.last (λ held. open_faulted phase (is_some fault) other (sym is ∙ held))
+            (way_to_end inside fault (sym is)),
+        right_end (is_some fault) phase outer (events_in taken) had.ran other,
+      )
 
 -- the documents of a stream have their trees, and are cut off by what may cut them off
 pub all_documents : (taken : Input) (fault : Option PlainFault) (shown : List PlainDocument)

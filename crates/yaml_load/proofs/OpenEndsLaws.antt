@@ -1,13 +1,13 @@
 -- The numbers of open collections are filled in as their events go by.
 use Rattle.std.specs.Prelude.{◌≡◌, ◌+◌, ◌<◌, ◌≤◌, ◌∷◌, ◌++◌}
 use Rattle.yaml_load.proofs.Words.{ℕ, zero, suc, List, [], map, length, set, reverse, min, true, false, refl, sym, ◌∙◌}
-use Rattle.yaml_load.proofs.Words.{ap, subst, arith, append-nil, length-set, get_or, set-append_seam, reverse-append}
-use Rattle.yaml_load.proofs.Words.{All-tail, end_place, ends_from, ends_of, is_closing, is_opening, PlainDocEvent}
-use Rattle.yaml_load.proofs.Words.{EndsView, HasNumbers, bounded_from, filled}
-use Rattle.yaml_load.proofs.FilledEnds.{All-reverse, AreIn, in_set, filled_push, end_here, filled_passes, filled_deeper}
-use Rattle.yaml_load.proofs.FilledEnds.{filled_outer, number_passes, number_opens, behind, one_longer, filled_at_end}
+use Rattle.yaml_load.proofs.Words.{ap, subst, arith, append-nil, append_assoc, length-set, get_or, set-append_seam}
+use Rattle.yaml_load.proofs.Words.{reverse-append, All-tail, end_place, ends_from, ends_of, is_closing, is_opening}
+use Rattle.yaml_load.proofs.Words.{PlainDocEvent, EndsView, HasNumbers, bounded_from, filled}
+use Rattle.yaml_load.proofs.FilledEnds.{All-reverse, AreIn, in_set, filled_push, filled_passes, filled_deeper}
+use Rattle.yaml_load.proofs.FilledEnds.{filled_outer, one_longer, filled_at_end}
 
-module _ (front : List ℕ) (seen : List PlainDocEvent) (old : EndsView) (h : HasNumbers front seen old)
+module _ {front : List ℕ} {seen : List PlainDocEvent} {old : EndsView} (h : HasNumbers front seen old)
     (e : PlainDocEvent) where
   abbrev size : ℕ
   size = length seen
@@ -26,92 +26,56 @@ module _ (front : List ℕ) (seen : List PlainDocEvent) (old : EndsView) (h : Ha
       → HasNumbers front (seen ++ e ∷ []) new
   made new numbers unended n u l c = record {
     long = ap length n ∙ l;
-    all = λ later. rw (n, u, one_longer seen e) (c later
-        ∙ ap (λ es. front ++ ends_of es) (sym (behind seen later e)));
+    all = λ later. rw (n, u, one_longer seen e, append_assoc seen (e ∷ []) later) (c later);
   }
-
-  passed : is_opening e ≡ false → is_closing e ≡ false → AreIn old.numbers (reverse old.unended)
-      → Counted (old.numbers ++ size ∷ []) (reverse old.unended)
-  passed o c within later =
-      let starts = reverse old.unended in
-      ap (λ ns. ns ++ ends_from (size + 1) later) (filled_push starts 0 (size + 1) later old.numbers size within)
-      ∙ behind (filled starts 0 (size + 1) later old.numbers) (ends_from (size + 1) later) size
-      ∙ ap (λ ns. ns ++ size ∷ ends_from (size + 1) later) (sym (filled_passes e later starts 0 size old.numbers o c))
-      ∙ ap (λ ns. filled starts 0 size (e ∷ later) old.numbers ++ ns) (sym (number_passes size e later o))
-      ∙ h.all (e ∷ later)
 
   pub passes : (new : EndsView) (place : ℕ) → place ≡ size → is_opening e ≡ false → is_closing e ≡ false
       → AreIn old.numbers old.unended
       → new.numbers ≡ old.numbers ++ place ∷ [] → new.unended ≡ old.unended → HasNumbers front (seen ++ e ∷ []) new
   passes new place p o c within n u =
-      made new (old.numbers ++ size ∷ []) old.unended (n ∙ ap (λ i. old.numbers ++ i ∷ []) p) u
-      (longer old.numbers size refl)
-      (passed o c (All-reverse (λ (s : ℕ). s < length old.numbers) old.unended within))
-
-  begun : is_opening e ≡ true → AreIn old.numbers (reverse old.unended)
-      → Counted (old.numbers ++ size ∷ []) (length old.numbers ∷ reverse old.unended)
-  begun o within later =
-      let starts = reverse old.unended in
-      let v = end_place 0 (size + 1) later in
-      ap (λ ns. filled starts 1 (size + 1) later ns ++ ends_from (size + 1) later)
-      (set-append_seam old.numbers size [] v)
-      ∙ ap (λ ns. ns ++ ends_from (size + 1) later) (filled_push starts 1 (size + 1) later old.numbers v within)
-      ∙ behind (filled starts 1 (size + 1) later old.numbers) (ends_from (size + 1) later) v
-      ∙ ap (λ ns. ns ++ v ∷ ends_from (size + 1) later) (sym (filled_deeper e later starts 0 size old.numbers o))
-      ∙ ap (λ ns. filled starts 0 size (e ∷ later) old.numbers ++ ns) (sym (number_opens size e later o))
-      ∙ h.all (e ∷ later)
+      let inside = All-reverse (λ (s : ℕ). s < length old.numbers) old.unended within in
+      made new (old.numbers ++ size ∷ []) old.unended (rw p at n) u (longer old.numbers size refl)
+      (λ later. rw (filled_push, append_assoc, ← filled_passes e later (reverse old.unended) 0 size old.numbers o c)
+      (rw o at (h.all (e ∷ later))))
 
   pub begins : (new : EndsView) (place : ℕ) → place ≡ size → is_opening e ≡ true → AreIn old.numbers old.unended
       → new.numbers ≡ old.numbers ++ place ∷ [] → new.unended ≡ old.unended ++ length old.numbers ∷ []
       → HasNumbers front (seen ++ e ∷ []) new
   begins new place p o within n u =
-      let counted = subst (Counted (old.numbers ++ size ∷ []))
-      (sym (reverse-append old.unended (length old.numbers ∷ [])))
-      (begun o (All-reverse (λ (s : ℕ). s < length old.numbers) old.unended within)) in
-      made new (old.numbers ++ size ∷ []) (old.unended ++ length old.numbers ∷ [])
-      (n ∙ ap (λ i. old.numbers ++ i ∷ []) p) u (longer old.numbers size refl) counted
+      let inside = All-reverse (λ (s : ℕ). s < length old.numbers) old.unended within in
+      made new (old.numbers ++ size ∷ []) (old.unended ++ length old.numbers ∷ []) (rw p at n) u
+      (longer old.numbers size refl)
+      (λ later.
+      let v = end_place 0 (size + 1) later in
+      let all : filled (reverse old.unended) 1 (size + 1) later (set (old.numbers ++ size ∷ []) (length old.numbers) v)
+      ++ ends_from (size + 1) later ≡ front ++ ends_of (seen ++ e ∷ later) =
+      let deeper = filled_deeper e later (reverse old.unended) 0 size old.numbers o in
+      rw (set-append_seam old.numbers size [] v, filled_push, append_assoc, ← deeper) (rw o at (h.all (e ∷ later))) in
+      rw reverse-append all)
 
-  ended : (start : ℕ) (rest : List ℕ) → reverse old.unended ≡ start ∷ rest → is_opening e ≡ false → is_closing e ≡ true
-      → AreIn old.numbers rest → Counted (set old.numbers start size ++ size ∷ []) rest
-  ended start rest is o c within later =
-      let numbers = set old.numbers start size in
-      ap (λ ns. ns ++ ends_from (size + 1) later)
-      (filled_push rest 0 (size + 1) later numbers size (in_set old.numbers rest start size within))
-      ∙ behind (filled rest 0 (size + 1) later numbers) (ends_from (size + 1) later) size
-      ∙ ap (λ ns. ns ++ size ∷ ends_from (size + 1) later) (sym (filled_outer e later rest 0 size numbers o c))
-      ∙ ap (λ n. filled rest 1 size (e ∷ later) (set old.numbers start n) ++ size ∷ ends_from (size + 1) later)
-      (sym (end_here size e later c))
-      ∙ ap (λ ss. filled ss 0 size (e ∷ later) old.numbers ++ size ∷ ends_from (size + 1) later) (sym is)
-      ∙ ap (λ ns. filled (reverse old.unended) 0 size (e ∷ later) old.numbers ++ ns)
-      (sym (number_passes size e later o))
-      ∙ h.all (e ∷ later)
-
-  pub ends : (new : EndsView) (place start : ℕ) (rest : List ℕ) → place ≡ size → is_opening e ≡ false → is_closing e
-      ≡ true
-      → AreIn old.numbers old.unended → old.unended ≡ rest ++ start ∷ []
+  pub ends : (new : EndsView) (place start : ℕ) (rest : List ℕ) → place ≡ size → is_opening e ≡ false
+      → is_closing e ≡ true → AreIn old.numbers old.unended → old.unended ≡ rest ++ start ∷ []
       → new.numbers ≡ set old.numbers start place ++ place ∷ [] → new.unended ≡ rest
       → HasNumbers front (seen ++ e ∷ []) new
   ends new place start rest p o c within was n u =
+      let numbers = set old.numbers start size in
       let turned : reverse old.unended ≡ start ∷ reverse rest = ap reverse was ∙ reverse-append rest (start ∷ []) in
       let inside = All-tail (λ (s : ℕ). s < length old.numbers) start (reverse rest)
-      (subst (AreIn old.numbers) turned (All-reverse (λ (s : ℕ). s < length old.numbers) old.unended within)) in
-      made new (set old.numbers start size ++ size ∷ []) rest (n ∙ ap (λ i. set old.numbers start i ++ i ∷ []) p) u
-      (longer (set old.numbers start size) size (length-set old.numbers start size))
-      (ended start (reverse rest) turned o c inside)
+      (rw turned at (All-reverse (λ (s : ℕ). s < length old.numbers) old.unended within)) in
+      let still = in_set old.numbers (reverse rest) start size inside in
+      made new (numbers ++ size ∷ []) rest (rw p at n) u (longer numbers size (length-set old.numbers start size))
+      (λ later.
+      let all : filled (reverse rest) 1 size (e ∷ later) (set old.numbers start (end_place 0 size (e ∷ later)))
+      ++ size ∷ ends_from (size + 1) later ≡ front ++ ends_of (seen ++ e ∷ later) =
+      rw (turned, o) at (h.all (e ∷ later)) in
+      rw (filled_push, append_assoc, ← filled_outer e later (reverse rest) 0 size numbers o c) (rw c at all))
 
   -- a stray end, where nothing is open
-  strays : is_opening e ≡ false → reverse old.unended ≡ [] → Counted (old.numbers ++ size ∷ []) []
-  strays o is later =
-      behind old.numbers (ends_from (size + 1) later) size
-      ∙ ap (λ ns. old.numbers ++ ns) (sym (number_passes size e later o))
-      ∙ ap (λ ss. filled ss 0 size (e ∷ later) old.numbers ++ ends_from size (e ∷ later)) (sym is)
-      ∙ h.all (e ∷ later)
-
   pub stray_ends : (new : EndsView) (place : ℕ) → place ≡ size → is_opening e ≡ false → old.unended ≡ []
       → new.numbers ≡ old.numbers ++ place ∷ [] → new.unended ≡ [] → HasNumbers front (seen ++ e ∷ []) new
   stray_ends new place p o was n u =
-      made new (old.numbers ++ size ∷ []) [] (n ∙ ap (λ i. old.numbers ++ i ∷ []) p) u
-      (longer old.numbers size refl) (strays o (ap reverse was))
+      made new (old.numbers ++ size ∷ []) [] (rw p at n) u (longer old.numbers size refl)
+      (λ later. rw append_assoc (rw (was, o) at (h.all (e ∷ later))))
 
 -- one open collection more is ended
 pub finish_more : (old new rest : List ℕ) (start place : ℕ) (numbers set_ all : List ℕ) → old ≡ rest ++ start ∷ [] → new
@@ -119,9 +83,8 @@ pub finish_more : (old new rest : List ℕ) (start place : ℕ) (numbers set_ al
     → set_ ≡ set numbers start place → filled (reverse old) 0 place [] numbers ≡ all
     → filled (reverse new) 0 place [] set_ ≡ all
 finish_more old new rest start place numbers set_ all was is s found =
-    ap (λ us. filled (reverse us) 0 place [] set_) is ∙ ap (filled (reverse rest) 0 place []) s
-    ∙ filled_at_end (reverse rest) 0 1 place (set numbers start place)
-    ∙ ap (λ us. filled us 0 place [] numbers) (sym (ap reverse was ∙ reverse-append rest (start ∷ []))) ∙ found
+    rw (is, s, filled_at_end (reverse rest) 0 1 place (set numbers start place))
+    (rw (was, reverse-append rest (start ∷ [])) at found)
 
 -- and then the numbers are those of the events
 pub finished : (front : List ℕ) (seen : List PlainDocEvent) (old : EndsView) (place : ℕ) (unended numbers : List ℕ)
@@ -139,8 +102,7 @@ pub none_seen : (front : List ℕ) (ends_ : EndsView) → ends_.numbers ≡ fron
     → HasNumbers front [] ends_
 none_seen front ends_ n u = record {
   long = omega (arith, ap length n);
-  all = λ later.
-      ap (λ us. filled (reverse us) 0 0 later ends_.numbers ++ ends_of later) u ∙ ap (λ ns. ns ++ ends_of later) n;
+  all = λ later. rw (u, n);
 }
 
 -- the elements of a list with one behind it

@@ -83,15 +83,9 @@ ends_cut_by : (o : Option PlainDocEvent) (e : PlainEvent) (mark : Position) (kno
 ends_cut_by None e mark known drafts place a here later = refl
 ends_cut_by (Some d) e mark known drafts place a here later =
     let n : place + 1 + length known ≡ place + suc (length known) = omega arith in
-    let first : cond (is_opening d) (end_place 0 (place + 1) (bare known)) place
-    ≡ min (place + suc (length known)) (cond (is_opening (drafted e)) (end_place 0 (place + 1) drafts) place) =
-    ap (λ b. cond b (end_place 0 (place + 1) (bare known)) place) a.0
-    ∙ number_cut (is_opening (drafted e)) (end_place 0 (place + 1) (bare known)) (end_place 0 (place + 1) drafts) place
-    (place + suc (length known)) (here ∙ ap (λ k. min k (end_place 0 (place + 1) drafts)) n) (omega arith) in
-    ap (λ x. x ∷ ends_from (place + 1) (bare known)) first
-    ∙ ap (λ xs. min (place + suc (length known)) (cond (is_opening (drafted e)) (end_place 0 (place + 1) drafts) place)
-    ∷ xs)
-    (later ∙ ap (λ k. map (min k) (take (length known) (ends_from (place + 1) drafts))) n)
+    let first = number_cut (is_opening (drafted e)) _ (end_place 0 (place + 1) drafts) place
+    (place + suc (length known)) (rw n at here) (omega arith) in
+    rw (a.0, first, rw n at later)
 
 ends_cut : (find : Find) (seen : Input) (from place : ℕ)
     → ends_from place (bare (known_events find from seen))
@@ -138,8 +132,7 @@ pub ends_of_cut : (find : Find) (seen : Input) (at : ℕ) → at ≡ length (kno
 ends_of_cut find seen at n =
     let known = length (known_events find 0 seen) in
     let z : 0 + known ≡ known = omega arith in
-    ends_cut find seen 0 0 ∙ ap (λ k. map (min k) (take known (ends_of (drafts_of seen)))) z
-    ∙ ap (λ k. map (min k) (take k (ends_of (drafts_of seen)))) (sym n)
+    rw (n, ends_cut find seen 0 0, z)
 
 pub ends_of_whole : (find : Find) (seen : Input) → unknown_mark find 0 seen ≡ None
     → ends_of (bare (known_events find 0 seen)) ≡ ends_of (drafts_of seen)

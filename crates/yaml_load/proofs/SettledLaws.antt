@@ -1,18 +1,20 @@
 -- Where the aliases of a draft have got their targets, its events are those of the document.
-use Rattle.std.specs.Prelude.{◌≡◌, ◌+◌, ◌∷◌, ◌++◌}
-use Rattle.yaml_load.proofs.Words.{Marked, ℕ, List, [], length, take, refl, sym, ◌∙◌, ap, subst, arith, append-nil}
-use Rattle.yaml_load.proofs.Words.{Option, Some, None, All, IsTrue, option_map, inl, inr, slice_get, take-append_seam}
-use Rattle.yaml_load.proofs.Words.{All-tail, Position, PlainEvent, stream_start, stream_end, document_start}
-use Rattle.yaml_load.proofs.Words.{document_end, alias, Find, Input, becomes, known_events, or_mark, then_events}
-use Rattle.yaml_load.proofs.Words.{unknown_mark, PlainDocEvent, alias_to, AreTaken, IsTaken, Settled, Waiting, aimed}
-use Rattle.yaml_load.proofs.Words.{is_of_node, settle, settled}
-use Rattle.yaml_load.proofs.FilledEnds.{behind, one_longer}
+use Rattle.std.specs.Prelude.{◌≡◌, ◌+◌, ◌∷◌, ◌++◌, ◌<◌}
+use Rattle.yaml_load.proofs.Words.{Marked, ℕ, List, [], length, take, refl, ap, arith, append-nil, append_assoc, Option}
+use Rattle.yaml_load.proofs.Words.{Some, None, All, IsTrue, option_map, inl, inr, slice_get, take-append_seam, All-tail}
+use Rattle.yaml_load.proofs.Words.{Position, PlainEvent, alias, Find, Input, becomes, known_events, unknown_mark}
+use Rattle.yaml_load.proofs.Words.{PlainDocEvent, alias_to, AreTaken, IsTaken, Settled, Waiting, aimed, is_of_node}
+use Rattle.yaml_load.proofs.Words.{settle, settled, Events, zero, suc, get_or, set, drop, sym, ◌∙◌, add-one, drop-cons}
+use Rattle.yaml_load.proofs.Words.{drop-set-add, get_or-drop, doc_event_of, marked_events_of, DocEvent}
+use Rattle.yaml_load.proofs.FilledEnds.{one_longer}
+use Rattle.std.proofs.lemmas.List.{length-drop}
+use Rattle.yaml_load.specs.declared.doc_event.DocEvent.TheVariants as event
 
 abbrev pub ToNodes : Input → Type 0
 ToNodes seen = All (λ e. IsTrue (is_of_node e.0)) seen
 
 -- what settled events are: those of the document, or, where an alias is unknown, its front is
-abbrev IsSettled : Find → ℕ → Input → Marked → Settled → Type 0
+abbrev pub IsSettled : Find → ℕ → Input → Marked → Settled → Type 0
 IsSettled find place seen front (events, None) =
     (events ≡ front ++ known_events find place seen) × (unknown_mark find place seen ≡ None)
 IsSettled find place seen front (events, Some at) =
@@ -34,16 +36,8 @@ settled_step : (find : Find) (place : ℕ) (seen : Input) (front : Marked) (e : 
     (d : PlainDocEvent)
     (r : Settled) → becomes find place e ≡ Some d → IsSettled find (place + 1) seen (front ++ (d, mark) ∷ []) r
     → IsSettled find place ((e, mark) ∷ seen) front r
-settled_step find place seen front e mark d (events, None) is h = (
-  h.0 ∙ behind front (known_events find (place + 1) seen) (d, mark)
-      ∙ ap (λ o. front ++ then_events o mark (known_events find (place + 1) seen)) (sym is),
-  ap (λ o. or_mark o mark (unknown_mark find (place + 1) seen)) is ∙ h.1,
-)
-settled_step find place seen front e mark d (events, Some at) is h = (
-  h.0 ∙ behind front (known_events find (place + 1) seen) (d, mark)
-      ∙ ap (λ o. front ++ then_events o mark (known_events find (place + 1) seen)) (sym is),
-  ap (λ o. or_mark o mark (unknown_mark find (place + 1) seen)) is ∙ h.1,
-)
+settled_step find place seen front e mark d (events, None) is h = rw is (rw append_assoc at h)
+settled_step find place seen front e mark d (events, Some at) is h = rw is (rw append_assoc at h)
 
 -- an alias that waits, by its target
 settled_waiting : (find : Find) (seen : Input) (front later : Marked) (left : Waiting) (a : List ℕ) (mark : Position)
@@ -53,22 +47,12 @@ settled_waiting : (find : Find) (seen : Input) (front later : Marked) (left : Wa
     (settled find left ((front ++ (d, mark) ∷ []) ++ later)))
     → IsSettled find place ((alias a, mark) ∷ seen) front
     (settle o place (front ++ (alias_to 0, mark) ∷ later) (settled find left))
-settled_waiting find seen front later left a mark None place at is next = (
-  ap (λ n. take n (front ++ (alias_to 0, mark) ∷ later)) at ∙ take-append_seam front ((alias_to 0, mark) ∷ later)
-      ∙ sym (append-nil front)
-      ∙ ap (λ t. front ++ then_events (option_map alias_to t) mark (known_events find (place + 1) seen)) (sym is),
-  ap (λ t. or_mark (option_map alias_to t) mark (unknown_mark find (place + 1) seen)) is
-      ∙ sym (ap (option_map (λ (e : PlainDocEvent × Position). e.1))
-      (ap (slice_get (front ++ (alias_to 0, mark) ∷ later)) at ∙ get_behind front later (alias_to 0, mark))),
-)
+settled_waiting find seen front later left a mark None place at is next =
+    rw (is, at, take-append_seam, append-nil, get_behind) (refl, refl)
 settled_waiting find seen front later left a mark (Some target) place at is next =
-    let es : aimed place target (front ++ (alias_to 0, mark) ∷ later) ≡ (front ++ (alias_to target, mark) ∷ [])
-    ++ later =
-    ap (λ n. aimed n target (front ++ (alias_to 0, mark) ∷ later)) at
-    ∙ aimed_at front later (alias_to 0, mark) target
-    ∙ sym (behind front later (alias_to target, mark)) in
-    subst (λ x. IsSettled find place ((alias a, mark) ∷ seen) front (settled find left x)) (sym es)
-    (settled_step find place seen front (alias a) mark (alias_to target) _ (ap (option_map alias_to) is)
+    let es : aimed place target (front ++ (alias_to 0, mark) ∷ later)
+    ≡ (front ++ (alias_to target, mark) ∷ []) ++ later = rw (at, aimed_at, append_assoc) in
+    rw es (settled_step find place seen front (alias a) mark (alias_to target) _ (ap (option_map alias_to) is)
     (next (alias_to target)))
 
 -- an event that is what it becomes
@@ -78,9 +62,7 @@ settled_known : (find : Find) (seen : Input) (front later : Marked) (left : Wait
     (settled find left ((front ++ (d, mark) ∷ []) ++ later))
     → IsSettled find place ((e, mark) ∷ seen) front (settled find left (front ++ (d, mark) ∷ later))
 settled_known find seen front later left e mark d place is next =
-    settled_step find place seen front e mark d _ is
-    (subst (λ es. IsSettled find (place + 1) seen (front ++ (d, mark) ∷ []) (settled find left es))
-    (behind front later (d, mark)) next)
+    settled_step find place seen front e mark d _ is (rw append_assoc at next)
 
 -- one event, and those behind it
 settled_one : (find : Find) (seen : Input) (front later : Marked) (left here : Waiting) (e : PlainEvent)
@@ -93,12 +75,8 @@ settled_one find seen front later left here (alias a) mark d place at node (inl 
     rw (w.0, w.1) (settled_waiting find seen front later left a mark (find a place) place at refl next)
 settled_one find seen front later left here (alias a) mark d place at node (inr k) next =
     rw k.1 (settled_known find seen front later left (alias a) mark d place k.0 (next d))
-settled_one find seen front later left here stream_start mark d place at node is next = absurd cc
-settled_one find seen front later left here stream_end mark d place at node is next = absurd cc
-settled_one find seen front later left here document_start mark d place at node is next = absurd cc
-settled_one find seen front later left here document_end mark d place at node is next = absurd cc
 settled_one find seen front later left here e mark d place at node is next =
-    rw is.1 (settled_known find seen front later left e mark d place (ap Some (sym is.0)) (next d))
+    rw is.1 (settled_known find seen front later left e mark d place (cc) (next d))
 
 pub nodes_left : (e : PlainEvent × Position) (seen : Input) → ToNodes (e ∷ seen) → ToNodes seen
 nodes_left e seen nodes = All-tail (λ (x : PlainEvent × Position). IsTrue (is_of_node x.0)) e seen nodes
@@ -118,4 +96,35 @@ pub settled_whole : (find : Find) (seen : Input) (events now : Marked) (waiting 
     → ToNodes seen → AreTaken find 0 seen events waiting → settled find waiting events ≡ (now, o)
     → IsSettled find 0 seen [] (now, o)
 settled_whole find seen events now waiting o nodes taken is =
-    subst (IsSettled find 0 seen []) is (settled_from find seen 0 [] events waiting refl nodes taken)
+    rw is at (settled_from find seen 0 [] events waiting refl nodes taken)
+
+-- an event that is set at a place
+aimed_set : (events : Events) (place target : ℕ) (y : DocEvent × Position) → place < length events → y
+    ≡ get_or events place y
+    → marked_events_of (set events place (event.Alias target, y.1)) ≡ aimed place target (marked_events_of events)
+aimed_set [] place target y l is = absurd (omega arith)
+aimed_set (x ∷ events) zero target y l is =
+    ap (λ (z : DocEvent × Position). (alias_to target, z.1) ∷ marked_events_of events) is
+aimed_set (x ∷ events) (suc place) target y l is =
+    ap (λ es. (doc_event_of x.0, x.1) ∷ es) (aimed_set events place target y (omega arith) is)
+
+pub aimed_behind : (events : Events) (from place target : ℕ) (y : DocEvent × Position) → from + place < length events
+    → y ≡ get_or events (from + place) y
+    → marked_events_of (drop from (set events (from + place) (event.Alias target, y.1)))
+    ≡ aimed place target (marked_events_of (drop from events))
+aimed_behind events from place target y l is =
+    rw drop-set-add (aimed_set (drop from events) place target y (omega (arith, length-drop from events))
+    (is ∙ sym (get_or-drop from events place y)))
+
+-- the aliases from one on
+aliases_from : (aliases : List (List ℕ × ℕ)) (i : ℕ) (x : List ℕ × ℕ) → i < length aliases → x ≡ get_or aliases i x
+    → drop i aliases ≡ x ∷ drop (i + 1) aliases
+aliases_from aliases i x l is = rw (drop-cons aliases i x l, ← is, ← add-one)
+
+-- the next alias is known
+pub settled_more : (find : Find) (aliases : List (List ℕ × ℕ)) (i : ℕ) (x : List ℕ × ℕ) → i < length aliases
+    → x ≡ get_or aliases i x → (target : ℕ) (old new : Marked) (all : Settled) → Some target ≡ find x.0 x.1
+    → new ≡ aimed x.1 target old
+    → settled find (drop i aliases) old ≡ all → settled find (drop (i + 1) aliases) new ≡ all
+settled_more find aliases i x l is target old new all found are h =
+    rw (are) (rw (aliases_from aliases i x l is, ← found) at h)

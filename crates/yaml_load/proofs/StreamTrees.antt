@@ -1,14 +1,13 @@
 -- Each document of a stream that nothing cut off has a tree, and a stream has a document.
 use Rattle.std.specs.Prelude.{◌≡◌, ◌∷◌, ◌++◌, ◌≢◌}
-use Rattle.yaml_load.proofs.Words.{arith, List, [], map, refl, sym, ◌∙◌, ap, subst, cond, Bool, true, false, Option}
-use Rattle.yaml_load.proofs.Words.{Some, None, is_some, All, inl, inr, cases_Bool, All-append, All-cons, All-nil}
-use Rattle.yaml_load.proofs.Words.{Position, PlainEvent, stream_start, stream_end, document_start, document_end}
-use Rattle.yaml_load.proofs.Words.{PlainFault, documents_events, stream_events, IsWellFormed, Node, node_events}
-use Rattle.yaml_load.proofs.Words.{DocNode, IsTreeOf, nothing, Input, find_in, unknown_mark, body, behind, is_ended}
-use Rattle.yaml_load.proofs.Words.{is_document_start, anchors_in, ending_of, document_from, documents_of, after_starts}
-use Rattle.yaml_load.proofs.Words.{last_mark, void_document, failed_document, further_document, is_open_after}
-use Rattle.yaml_load.proofs.Words.{events_in, resolved, alias_to, a_void, PlainDocument, IsDocumentOf, AreDocumentsOf}
-use Rattle.yaml_load.proofs.Words.{AreStreamDocuments, HasTree}
+use Rattle.yaml_load.proofs.Words.{arith, List, [], map, refl, sym, ◌∙◌, ap, cond, Bool, true, false, Option, Some}
+use Rattle.yaml_load.proofs.Words.{None, is_some, All, inl, inr, cases_Bool, All-append, All-cons, All-nil, Position}
+use Rattle.yaml_load.proofs.Words.{PlainEvent, stream_start, stream_end, document_start, document_end, PlainFault}
+use Rattle.yaml_load.proofs.Words.{documents_events, stream_events, IsWellFormed, Node, node_events, DocNode, IsTreeOf}
+use Rattle.yaml_load.proofs.Words.{subst, nothing, Input, find_in, unknown_mark, body, behind, is_ended, anchors_in}
+use Rattle.yaml_load.proofs.Words.{ending_of, document_from, documents_of, after_starts, last_mark, void_document}
+use Rattle.yaml_load.proofs.Words.{failed_document, further_document, is_open_after, events_in, resolved, alias_to}
+use Rattle.yaml_load.proofs.Words.{a_void, PlainDocument, IsDocumentOf, AreDocumentsOf, AreStreamDocuments, HasTree}
 use Rattle.yaml_load.proofs.DocumentLaws.{starts_behind, no_starts}
 use Rattle.yaml_load.proofs.PlainWalks.{events_in-body, events_in-behind, is_ended-plain, plain_body, plain_behind}
 use Rattle.yaml_load.proofs.PlainWalks.{plain_ended, body_node, behind_node}
@@ -49,8 +48,7 @@ nothing_known mark = record {
 trees_of_stream : (roots : List Node) (last : Option Position) (documents : List PlainDocument)
     → AreStreamDocuments roots last documents → All HasTree documents
 trees_of_stream [] last documents h =
-    subst (All HasTree) (sym h.2) (All-cons HasTree (void_document h.0) [] (λ whole. (nothing, nothing_known h.0))
-    (All-nil HasTree))
+    rw h.2 (All-cons HasTree (void_document h.0) [] (λ whole. (nothing, nothing_known h.0)) (All-nil HasTree))
 trees_of_stream (root ∷ roots) last documents h = trees_of_roots (root ∷ roots) documents h
 
 never_whole : (unknown : Option Position) (fault : PlainFault) → ending_of unknown false (Some fault) ≡ None → ⊥
@@ -60,11 +58,8 @@ never_whole (Some mark) fault h = cc
 -- a document that the parser's fault cut off
 cut_by_fault : (rest : Input) (fault : PlainFault) → is_ended rest ≡ false → HasTree (document_from (Some fault) rest)
 cut_by_fault rest fault unended =
-    let cut : ending_of (unknown_mark (find_in (anchors_in 0 (body rest))) 0 (body rest)) (is_ended rest) (Some fault)
-    ≡ ending_of (unknown_mark (find_in (anchors_in 0 (body rest))) 0 (body rest)) false (Some fault) =
-    ap (λ b. ending_of (unknown_mark (find_in (anchors_in 0 (body rest))) 0 (body rest)) b (Some fault)) unended in
     λ whole. absurd (never_whole (unknown_mark (find_in (anchors_in 0 (body rest))) 0 (body rest)) fault
-    (sym cut ∙ whole))
+    (rw unended at whole))
 
 -- the documents of a beginning of a stream
 trees_of_beginning : (roots : List Node) (input : Input) (more : List PlainEvent) (fault : PlainFault)
@@ -72,15 +67,11 @@ trees_of_beginning : (roots : List Node) (input : Input) (more : List PlainEvent
     → All HasTree (map (document_from (Some fault)) (after_starts false input))
 trees_of_beginning roots [] more fault is = All-nil HasTree
 trees_of_beginning [] (e ∷ []) more fault is =
-    let end : e.0 ≡ stream_end = cc in
-    subst (λ (x : PlainEvent). All HasTree (map (document_from (Some fault)) (cond (is_document_start x) ([] ∷ []) [])))
-    (sym end) (All-nil HasTree)
+    let end : e.0 ≡ stream_end = cc in rw end (All-nil HasTree)
 trees_of_beginning [] (e ∷ (f ∷ input)) more fault is = absurd (cc)
 trees_of_beginning (root ∷ roots) (e ∷ rest) more fault is =
     let start : e.0 ≡ document_start = cc in
     let node : events_in rest ++ more ≡ node_events root (document_end ∷ documents_events roots) = cc in
-    let begin : after_starts false (e ∷ rest) ≡ rest ∷ after_starts true rest =
-    ap (λ x. cond (is_document_start x) (rest ∷ after_starts true rest) (after_starts false rest)) start in
     elim (cases_Bool (is_ended rest)) [
       | inl ended ↦
           let plain : plain_ended (events_in rest) ≡ true = sym (is_ended-plain rest) ∙ ended in
@@ -90,16 +81,17 @@ trees_of_beginning (root ∷ roots) (e ∷ rest) more fault is =
           let later : events_in (behind rest) ++ more ≡ documents_events roots =
           ap (λ es. es ++ more) (events_in-behind rest) ∙ sym (behind_ended (events_in rest) more plain)
           ∙ ap plain_behind node ∙ behind_node root (document_end ∷ documents_events roots) in
-          subst (λ s. All HasTree (map (document_from (Some fault)) s))
-          (sym (begin ∙ ap (λ s. rest ∷ s) (starts_behind rest ended)))
+          let starts : after_starts false (e ∷ rest) ≡ rest ∷ after_starts false (behind rest) =
+          rw (start, starts_behind rest ended) in
+          subst (λ s. All HasTree (map (document_from (Some fault)) s)) (sym starts)
           (All-cons HasTree (document_from (Some fault) rest)
           (map (document_from (Some fault)) (after_starts false (behind rest)))
           (tree_of_root (resolved root) (document_from (Some fault) rest)
           (document_of_body root rest (Some fault) events ended))
           (trees_of_beginning roots (behind rest) more fault later))
       | inr unended ↦
-          subst (λ s. All HasTree (map (document_from (Some fault)) s))
-          (sym (begin ∙ ap (λ s. rest ∷ s) (no_starts rest unended)))
+          let starts : after_starts false (e ∷ rest) ≡ rest ∷ [] = rw (start, no_starts rest unended) in
+          subst (λ s. All HasTree (map (document_from (Some fault)) s)) (sym starts)
           (All-cons HasTree (document_from (Some fault) rest) [] (cut_by_fault rest fault unended) (All-nil HasTree))
     ]
 
@@ -111,12 +103,9 @@ trees_of_fault roots [] more fault is =
 trees_of_fault roots (s ∷ input) more fault is =
     let start : s.0 ≡ stream_start = cc in
     let rest : events_in input ++ more ≡ documents_events roots = cc in
-    let skip : after_starts false (s ∷ input) ≡ after_starts false input =
-    ap (λ x. cond (is_document_start x) (input ∷ after_starts true input) (after_starts false input)) start in
     All-append HasTree (map (document_from (Some fault)) (after_starts false (s ∷ input)))
     (further_document (s ∷ input) (Some fault))
-    (subst (λ starts. All HasTree (map (document_from (Some fault)) starts)) (sym skip)
-    (trees_of_beginning roots input more fault rest))
+    (rw start (trees_of_beginning roots input more fault rest))
     (all_failed HasTree fault (is_open_after false (s ∷ input)) (λ whole. absurd cc))
 
 -- each document that nothing cut off has a tree

@@ -1,10 +1,9 @@
 -- The words that several proofs cite, in one place.
-pub use Rattle.std.proofs.Common.{All, Bool, Err, IfErr, IfOk, IfSome, IsTrue, List, None, Ok, Option, Result, Some, []}
+pub use Rattle.std.proofs.Common.{All, Bool, Err, IfErr, IfSome, IsTrue, List, None, Ok, Option, Result, Some, []}
 pub use Rattle.std.proofs.Common.{add-one, ap, append-nil, append_assoc, arith, cond, drop, false, get_or, inl, inr}
 pub use Rattle.std.proofs.Common.{is_lt, is_some, length, length-append, length-drop, length-set, length-take, map, max}
-pub use Rattle.std.proofs.Common.{min, nat_lt, not, of_calls, option_map, refl, reverse, rules, set, slice_range, subst}
-pub use Rattle.std.proofs.Common.{suc, sym, take, take_all, true, zero, ℕ, ◌&&◌, ◌++◌, ◌+◌, ◌-◌, ◌<◌, ◌==◌, ◌||◌, ◌∙◌}
-pub use Rattle.std.proofs.Common.{◌∷◌, ◌≡◌, ◌≢◌, ◌≤◌, ◌⊎◌}
+pub use Rattle.std.proofs.Common.{min, nat_lt, of_calls, option_map, refl, reverse, rules, set, slice_range, subst, suc}
+pub use Rattle.std.proofs.Common.{sym, take, take_all, true, zero, ℕ, ◌∙◌}
 pub use Rattle.std.proofs.Math.Seq.{drop-append_seam, drop-cons, set-append_seam, take-add, take-append-add}
 pub use Rattle.std.proofs.Math.Seq.{take-append_seam, take-length}
 pub use Rattle.std.proofs.lemmas.Bool.{cases_Bool, cases_eq, cases_lt, eq-eqb, eqb-true, le-ltb, lt-ltb, ltb-false}
@@ -49,12 +48,11 @@ pub use Rattle.yaml_load.specs.Words.{Input, IsBeforeFault, IsBetween, IsDocumen
 pub use Rattle.yaml_load.specs.Words.{IsTaken, IsWellFormed, IsWrongAt, IsWrongNext, Moves, Node, NotAStream}
 pub use Rattle.yaml_load.specs.Words.{PlainDocEvent, PlainDocument, PlainFault, Position, Waiting, after_starts, alias}
 pub use Rattle.yaml_load.specs.Words.{alias_to, anchor_at, anchors_in, bounded_from, document_end, document_of}
-pub use Rattle.yaml_load.specs.Words.{document_of_range, document_start, documents_in, documents_of, ending_in}
-pub use Rattle.yaml_load.specs.Words.{ending_of, ends_of, event_of, events_in, failed_document, find_in, is_closing}
-pub use Rattle.yaml_load.specs.Words.{is_done, is_open, is_opening, last_mark, mapping_end, mapping_start}
-pub use Rattle.yaml_load.specs.Words.{marked_events_of, plain_events, plain_marked, scalar, scalar_of, sequence_end}
-pub use Rattle.yaml_load.specs.Words.{sequence_start, settled, state_of, stream_end, stream_events, stream_start}
-pub use Rattle.yaml_load.specs.Words.{void_document, within}
+pub use Rattle.yaml_load.specs.Words.{document_start, documents_in, documents_of, ending_in, ending_of, ends_of}
+pub use Rattle.yaml_load.specs.Words.{event_of, events_in, failed_document, find_in, is_closing, is_done, is_open}
+pub use Rattle.yaml_load.specs.Words.{is_opening, last_mark, mapping_end, mapping_start, marked_events_of, plain_events}
+pub use Rattle.yaml_load.specs.Words.{plain_marked, scalar, scalar_of, sequence_end, sequence_start, settled, state_of}
+pub use Rattle.yaml_load.specs.Words.{stream_end, stream_events, stream_start, void_document, within}
 pub use Rattle.yaml_load.specs.declared.doc_event.DocEvent.{DocEvent}
 pub use Rattle.yaml_load.specs.declared.doc_event.DocEvent.TheVariants.{Alias, Void}
 pub use Rattle.yaml_load.specs.declared.loader.check.Phase.{Phase}

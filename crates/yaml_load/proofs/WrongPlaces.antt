@@ -1,5 +1,5 @@
 -- Where the machine stops, the list of events goes wrong.
-use Rattle.std.specs.Prelude.{◌≡◌, ◌+◌, ◌∷◌, ◌++◌}
+use Rattle.std.specs.Prelude.{◌↔◌, ◌≡◌, ◌+◌, ◌∷◌, ◌++◌}
 use Rattle.std.proofs.lemmas.List.{length-append}
 use Rattle.std.proofs.lemmas.Simd.{map-map}
 use Rattle.yaml_load.proofs.Words.{ℕ, List, [], length, take, drop, Some, None, Bool, true, false, refl, sym, ◌∙◌, ap}
@@ -18,23 +18,6 @@ events_of_marked events =
 not_some : (es : List PlainEvent) → run (Some before_stream) es ≡ None → IsBeginning es → ⊥
 not_some es e g = let found = (goes_on_run es).0 g in let is = found.1 in cc
 
--- the end, of a whole stream
-pub whole_at_end : (es : List PlainEvent) (s : State) → run (Some before_stream) es ≡ Some s → s ≡ after_stream
-    → IsStream es
-whole_at_end es s ran e = (whole_run es).1 (ran ∙ ap Some e)
-
-pub cut_at_end : (es : List PlainEvent) (s : State) → run (Some before_stream) es ≡ Some s → (s ≡ after_stream → ⊥)
-    → IsBeginning es × (IsStream es → ⊥)
-cut_at_end es s ran e = ((goes_on_run es).1 (s, ran), λ w. let whole = (whole_run es).0 w in e (cc))
-
-pub wrong_whole : (es : List PlainEvent) (s : State) → run (Some before_stream) es ≡ Some s → s ≡ after_stream
-    → IsWellFormed true es → ⊥
-wrong_whole es s ran e w = w.1 (whole_at_end es s ran e)
-
-pub wrong_cut : (es : List PlainEvent) (s : State) → run (Some before_stream) es ≡ Some s → (s ≡ after_stream → ⊥)
-    → IsWellFormed false es → ⊥
-wrong_cut es s ran e w = (cut_at_end es s ran e).1 w
-
 -- the front of a beginning of a stream is one too
 pub beginning_taken : (events : List PlainEvent) (k : ℕ) → IsBeginning events → IsBeginning (take k events)
 beginning_taken events k h = (
@@ -47,11 +30,8 @@ beginning_taken events k h = (
 )
 
 -- a stream is a beginning of one
-pub stream_begins : (events : List PlainEvent) → IsStream events → IsBeginning events
-stream_begins events h = ([], (h.0, append-nil events ∙ h.1))
-
 well_formed_begins : (faulted : Bool) (events : List PlainEvent) → IsWellFormed faulted events → IsBeginning events
-well_formed_begins false events h = stream_begins events h
+well_formed_begins false events h = ([], (h.0, append-nil events ∙ h.1))
 well_formed_begins true events h = h.0
 
 -- where a list goes wrong, it is not well-formed
@@ -61,40 +41,40 @@ wrong_not_well_formed faulted events place (begins, inl early) h =
     early.1 (beginning_taken events (place + 1) (well_formed_begins faulted events h))
 wrong_not_well_formed faulted events place (begins, inr late) h = late.1 h
 
--- a phase behind the end of the stream, and any other one
-done_state : (p : Phase) (opened : List Open) → is_done p ≡ true → state_of p opened ≡ after_stream
-done_state After opened h = refl
-done_state _ opened h = absurd cc
-
-undone_state : (p : Phase) (opened : List Open) → is_done p ≡ false → state_of p opened ≡ after_stream → ⊥
-undone_state After opened h e = absurd cc
-undone_state _ opened h e = absurd cc
+-- the phase behind the end of the stream is that of the last state
+at_end : (p : Phase) (opened : List Open) → (is_done p ≡ true) ↔ (state_of p opened ≡ after_stream)
+at_end After opened = (λ h. refl, λ e. refl)
+at_end _ opened = (λ h. absurd cc, λ e. absurd cc)
 
 -- at the end of the events the phase says whether they are right
-not_right : (faulted : Bool) (p : Phase) (opened : List Open) (es : List PlainEvent) → run (Some before_stream) es
-    ≡ Some (state_of p opened)
-    → is_done p ≡ faulted → IsWellFormed faulted es → ⊥
-not_right true p opened es ran h = wrong_whole es (state_of p opened) ran (done_state p opened h)
-not_right false p opened es ran h = wrong_cut es (state_of p opened) ran (undone_state p opened h)
+not_right : (faulted done : Bool) (events : List PlainEvent) → (done ≡ true) ↔ IsStream events → done ≡ faulted
+    → IsWellFormed faulted events → ⊥
+not_right true done events ends h w = w.1 (ends.0 h)
+not_right false done events ends h w = let d = ends.1 w in cc
 
-right : (faulted done : Bool) (p : Phase) (opened : List Open) (es : List PlainEvent) → run (Some before_stream) es
-    ≡ Some (state_of p opened)
-    → is_done p ≡ done → (done ≡ faulted → ⊥) → IsWellFormed faulted es
-right true true p opened es ran h other = absurd (other refl)
-right true false p opened es ran h other = cut_at_end es (state_of p opened) ran (undone_state p opened h)
-right false true p opened es ran h other = whole_at_end es (state_of p opened) ran (done_state p opened h)
-right false false p opened es ran h other = absurd (other refl)
+right : (faulted done : Bool) (events : List PlainEvent) → IsBeginning events → (done ≡ true) ↔ IsStream events
+    → (done ≡ faulted → ⊥) → IsWellFormed faulted events
+right true false events begins ends other = (begins, λ w. let d = ends.1 w in cc)
+right false true events begins ends other = ends.0 refl
+right _ _ events begins ends other = absurd (other refl)
 
 module _ (faulted : Bool) (p : Phase) (opened : List Open) (events : List PlainEvent)
     (ran : run (Some before_stream) events ≡ Some (state_of p opened)) where
-  pub wrong_end : is_done p ≡ faulted → IsWrongAt faulted events (length events)
-  wrong_end h = (
-    subst IsBeginning (sym (take-length events)) ((goes_on_run events).1 (state_of p opened, ran)),
-    inr (refl, not_right faulted p opened events ran h),
+  begins : IsBeginning events
+  begins = (goes_on_run events).1 (state_of p opened, ran)
+
+  ends : (is_done p ≡ true) ↔ IsStream events
+  ends = (
+    λ h. (whole_run events).1 (ran ∙ ap Some ((at_end p opened).0 h)),
+    λ w. (at_end p opened).1 (let whole = (whole_run events).0 w in cc),
   )
 
+  pub wrong_end : is_done p ≡ faulted → IsWrongAt faulted events (length events)
+  wrong_end h =
+      (subst IsBeginning (sym (take-length events)) begins, inr (refl, not_right faulted (is_done p) events ends h))
+
   pub right_end : (is_done p ≡ faulted → ⊥) → IsWellFormed faulted events
-  right_end h = right faulted (is_done p) p opened events ran refl h
+  right_end h = right faulted (is_done p) events begins ends h
 
 -- the event behind a beginning of a stream is wrong where the machine stops there
 pub wrong_next : (events : List PlainEvent) (e : PlainEvent) (s : State)
@@ -117,8 +97,9 @@ wrong_behind faulted front rest e h = (
 )
 
 -- the same among events of which some were taken and some are left
-pub wrong_amid : (faulted : Bool) (events : List (Event × Position)) (taken : Input) (left rest : List (Event × Position))
-    (x : Event × Position) → plain_marked events ≡ taken ++ plain_marked left → left ≡ x ∷ rest
+pub wrong_amid : (faulted : Bool) (events : List (Event × Position)) (taken : Input)
+    (left rest : List (Event × Position)) (x : Event × Position)
+    → plain_marked events ≡ taken ++ plain_marked left → left ≡ x ∷ rest
     → IsWrongNext (events_in taken) (event_of x.0) → IsWrongAt faulted (plain_events events) (length taken)
 wrong_amid faulted events taken left rest x all is wrong =
     let later = events_in (plain_marked rest) in

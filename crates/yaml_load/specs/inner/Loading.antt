@@ -70,8 +70,8 @@ IsOnWay false fault all left d = IsClosedDraft fault all left d
 
 -- a draft goes over an event
 abbrev pub Takes : PlainEvent → Position → Draft → Draft → Type 0
-Takes e mark old new = (fault : Option PlainFault) (all left rest : Input) → left ≡ (e, mark) ∷ rest
-    → IsOnWay (open_before e) fault all left old → IsOnWay (open_behind e) fault all rest new
+Takes e mark old new = (fault : Option PlainFault) (all rest : Input)
+    → IsOnWay (open_before e) fault all ((e, mark) ∷ rest) old → IsOnWay (open_behind e) fault all rest new
 
 -- An event leads from a phase to another, and the draft goes over it; or it may not stand there. What the collections
 -- around the innermost wait for stands beside each phase.

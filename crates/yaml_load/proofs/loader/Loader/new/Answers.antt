@@ -1,8 +1,9 @@
 -- The list goes wrong where the builder refuses an event, or the end; else the builder took all of it.
 use Rattle.std.specs.Prelude.{◌≡◌, ◌++◌}
-use Rattle.yaml_load.proofs.Words.{◌∙◌, Err, IfErr, IfOk, Ok, Result, ap, append-nil, arith, is_some, length, subst}
-use Rattle.yaml_load.proofs.Words.{sym, into_iter_items, IsWellFormed, events_in, plain_events, plain_marked, IsWrongAt}
-use Rattle.yaml_load.proofs.Words.{nil_from_length}
+use Rattle.yaml_load.proofs.Words.{◌∙◌, Err, IfErr, Ok, Result, ap, append-nil, arith, is_some, length, sym}
+use Rattle.yaml_load.proofs.Words.{into_iter_items, events_in, plain_events, plain_marked, IsWrongAt, nil_from_length}
+use Rattle.yaml_load.proofs.Words.{ℕ, NotAStream, false}
+use Rattle.yaml_base.specs.Answer.{is_memory}
 use Rattle.yaml_load.proofs.WrongPlaces.{events_of_marked, wrong_amid, wrong_not_well_formed}
 use Rattle.yaml_load.proofs.loader.Loader.new.Goals as goal
 
@@ -21,40 +22,28 @@ returns-in-Err-clause-refused c = λ other good.
     let wrong = returns-in-Err-clause-wrong c other in
     wrong_not_well_formed (is_some c.args.fault) (plain_events c.args.events.items) wrong.0 wrong.2 good
 
-pub returns-clause-accepted : goal.returns-clause-accepted
-returns-clause-accepted c =
-    let none =
-    nil_from_length (into_iter_items c.events.rest) (omega (arith, c.events.rest.rest.ok, c.in_default.ensures.cases.0)) in
-    let all : c.events.builder ≡ plain_marked c.args.events.items =
-    sym (c.events.invariant.all ∙ ap (λ (l : _). c.events.builder ++ plain_marked l) none ∙ append-nil c.events.builder) in
-    let plain = ap events_in all ∙ events_of_marked c.args.events.items in
-    subst (λ (es : _). IfOk c.finish.result (λ _. IsWellFormed (is_some c.args.fault) es)) plain
-    (subst (λ (f : _). IfOk c.finish.result (λ _. IsWellFormed (is_some f) (events_in c.events.builder)))
-    c.events.invariant.same c.finish.ensures.accepted)
-
 -- what is known of a fault is known of it in weaker words
 weaker : {T E : Type 0} (P Q : E → Type 0) (r : Result T E) → ((e : E) → P e → Q e) → IfErr r P → IfErr r Q
 weaker P Q (Ok x) goes h = tt
 weaker P Q (Err e) goes h = goes e h
 
-pub returns-clause-wrong : goal.returns-clause-wrong
-returns-clause-wrong c =
-    let none =
-    nil_from_length (into_iter_items c.events.rest) (omega (arith, c.events.rest.rest.ok, c.in_default.ensures.cases.0)) in
+pub returns : goal.returns
+returns c =
+    let given = plain_events c.args.events.items in
+    let empty = c.in_default.ensures.cases.0 in
+    let none = nil_from_length (into_iter_items c.events.rest) (omega (arith, c.events.rest.rest.ok, empty)) in
     let all : c.events.builder ≡ plain_marked c.args.events.items =
-    sym (c.events.invariant.all ∙ ap (λ (l : _). c.events.builder ++ plain_marked l) none ∙ append-nil c.events.builder) in
-    let plain = ap events_in all ∙ events_of_marked c.args.events.items in
-    weaker _ _ c.finish.result (λ cause told other. (
-      length c.events.builder,
-      (told other).0,
-      subst (λ (es : _). IsWrongAt (is_some c.args.fault) es (length c.events.builder)) plain
-          (subst (λ (f : _). IsWrongAt (is_some f) (events_in c.events.builder) (length c.events.builder))
-          c.events.invariant.same (told other).1),
-    )) c.finish.ensures.wrong
-
-pub returns-clause-refused : goal.returns-clause-refused
-returns-clause-refused c =
-    weaker _ _ c.finish.result (λ cause told other good.
-    let wrong = told other in
-    wrong_not_well_formed (is_some c.args.fault) (plain_events c.args.events.items) wrong.0 wrong.2 good)
-    (returns-clause-wrong c)
+    sym (c.events.invariant.all ∙ ap (λ (l : _). c.events.builder ++ plain_marked l) none ∙ append-nil _) in
+    let plain : events_in c.events.builder ≡ given = ap events_in all ∙ events_of_marked c.args.events.items in
+    let same = c.events.invariant.same in
+    let wrong =
+    weaker _ (λ cause. is_memory cause ≡ false → (place : ℕ) × (cause ≡ NotAStream place)
+    × IsWrongAt (is_some c.args.fault) given place) c.finish.result (λ cause told other.
+    (length c.events.builder, (told other).0, rw (plain, same) at (told other).1)) c.finish.ensures.wrong in
+    record {
+      accepted = rw (plain, same) at c.finish.ensures.accepted;
+      documents = rw (all, same) at c.finish.ensures.documents;
+      refused = weaker _ _ c.finish.result (λ cause told other good.
+          wrong_not_well_formed (is_some c.args.fault) given (told other).0 (told other).2 good) wrong;
+      wrong = wrong;
+    }

@@ -2,7 +2,7 @@
 use Rattle.std.specs.Prelude.{◌+◌, ◌<◌}
 use Rattle.yaml_load.proofs.Words.{◌∙◌, arith, length, length-set, subst, sym, drop, take-set-le, marked_events_of}
 use Rattle.yaml_load.proofs.Words.{find_in, Alias}
-use Rattle.yaml_load.proofs.Settling.{aimed_behind, settled_more}
+use Rattle.yaml_load.proofs.SettledLaws.{aimed_behind, settled_more}
 use Rattle.yaml_load.proofs.loader.resolve.resolve.Goals as goal
 
 pub aliases-preserved : goal.aliases-preserved

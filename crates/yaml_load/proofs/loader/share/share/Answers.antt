@@ -1,28 +1,25 @@
 -- The range that comes next lies within the events, and its document is put behind those so far.
-use Rattle.yaml_load.proofs.Words.{All, ap, sym, subst, arith, into_iter_items, All-tail, AreCuts, HasEnds, document_in}
-use Rattle.yaml_load.proofs.Words.{document_of_range, documents_in, IsDocument, Cut}
+use Rattle.std.specs.Prelude.{◌∷◌}
+use Rattle.yaml_load.proofs.Words.{All, ap, subst, arith, into_iter_items, All-tail, AreCuts, HasEnds, document_in}
+use Rattle.yaml_load.proofs.Words.{documents_in, IsDocument, Cut}
 use Rattle.yaml_load.proofs.Gatherings.{documents_left}
 use Rattle.yaml_load.proofs.loader.share.share.Goals as goal
 
-pub new-requires-in-Some-clause-ends : goal.new-requires-in-Some-clause-ends
-new-requires-in-Some-clause-ends c =
+pub new-requires-in-Some : goal.new-requires-in-Some
+new-requires-in-Some c =
     let events = c.in_ok-events.events.value.items in
     let ends = c.in_ok-ends.ends.value.items in
     let cut = c.in-Some.cut in
-    let cuts = subst (AreCuts events ends) c.in-Some.ensures.items c.cuts.invariant.cuts in
+    let cuts : AreCuts events ends (cut ∷ into_iter_items c.next.new.self) =
+    rw c.in-Some.ensures.items at c.cuts.invariant.cuts in
+    let kept : All IsDocument (documents_in events (cut ∷ into_iter_items c.next.new.self)) =
+    rw c.in-Some.ensures.items at c.cuts.invariant.kept in
     let here : HasEnds events ends cut.from cut.to = cuts 0 cut (omega arith) in
-    subst (λ es. HasEnds es c.in_ok-clone-2.field-0.value.items cut.from cut.to)
-    (ap (λ (v : _). v.items) (sym c.in_ok-clone.ensures.cases))
-    (subst (λ ns. HasEnds events ns cut.from cut.to) (ap (λ (v : _). v.items) (sym c.in_ok-clone-2.ensures.cases)) here)
-
-pub new-requires-in-Some-clause-document : goal.new-requires-in-Some-clause-document
-new-requires-in-Some-clause-document c =
-    let events = c.in_ok-events.events.value.items in
-    let cut = c.in-Some.cut in
-    let kept = subst (λ cuts. All IsDocument (documents_in events cuts)) c.in-Some.ensures.items
-    c.cuts.invariant.kept in
-    subst (λ es. IsDocument (document_of_range es cut.from cut.to cut.error))
-    (ap (λ (v : _). v.items) (sym c.in_ok-clone.ensures.cases)) (kept 0 (document_in events cut) (omega arith))
+    let document = kept 0 (document_in events cut) (omega arith) in
+    record {
+      ends = rw (c.in_ok-clone.ensures.cases, c.in_ok-clone-2.ensures.cases) here;
+      document = rw c.in_ok-clone.ensures.cases document;
+    }
 
 pub cuts-preserved : goal.cuts-preserved
 cuts-preserved c =

@@ -1,6 +1,6 @@
 -- The anchor named last is the one in front of the alias.
 use Rattle.yaml_load.proofs.Words.{◌∙◌, [], ap, append-nil, inr, option_map, refl, sym, alias_to}
-use Rattle.yaml_load.proofs.LastAnchor.{last_found}
+use Rattle.yaml_load.proofs.AnchorSearch.{last_found}
 use Rattle.yaml_load.proofs.loader.anchors.Anchors.refer.Goals as goal
 
 pub returns-then-eq-clause-taken : goal.returns-then-eq-clause-taken

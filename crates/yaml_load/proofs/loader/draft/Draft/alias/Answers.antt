@@ -9,6 +9,7 @@ returns c =
     λ outer clean. (
       c.in-Some.ensures.alias outer c.args.anchor clean,
       takes e c.args.mark c.args.self.now _ _ c.place-place.result refl c.place-place.ensures refl refl
-          (rw c.in_ok-reserve.ensures.items at c.push_reserved.ensures.items) (c.in_ok-target.ensures.named ∙ sym (append-nil _)) c.in_ok-target.ensures.taken
+          (rw c.in_ok-reserve.ensures.items at c.push_reserved.ensures.items)
+          (c.in_ok-target.ensures.named ∙ sym (append-nil _)) c.in_ok-target.ensures.taken
           (λ front seen h at. c.in_ok-pass.ensures.numbers front seen (drafted e) h at refl refl),
     )

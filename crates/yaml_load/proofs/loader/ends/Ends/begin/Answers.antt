@@ -10,8 +10,7 @@ returns c =
     let counted : c.len-start.result ≡ length i.numbers.items = omega (arith, i.numbers.ok, c.len-start.ensures) in
     record {
       numbers = λ front seen e h p o.
-          begins front seen (record { numbers = i.numbers.items; unended = i.unended.items })
-          (subst (HasNumbers front seen) (sym c.self.view_is) h) e _ c.args.place p o c.self.invariant
+          begins (subst (HasNumbers front seen) (sym c.self.view_is) h) e _ c.args.place p o c.self.invariant
           c.in_ok-push.ensures.items
           (c.in_ok-push-2.ensures.items ∙ ap (λ n. i.unended.items ++ n ∷ []) counted);
     }

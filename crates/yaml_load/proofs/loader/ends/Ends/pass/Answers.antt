@@ -5,7 +5,5 @@ use Rattle.yaml_load.proofs.loader.ends.Ends.pass.Goals as goal
 
 pub returns-clause-numbers : goal.returns-clause-numbers
 returns-clause-numbers c = λ front seen e h p o q.
-    let i = c.self.inside in
-    passes front seen (record { numbers = i.numbers.items; unended = i.unended.items })
-    (subst (HasNumbers front seen) (sym c.self.view_is) h) e _ c.args.place p o q c.self.invariant
+    passes (subst (HasNumbers front seen) (sym c.self.view_is) h) e _ c.args.place p o q c.self.invariant
     c.in_ok-push.ensures.items refl
