@@ -40,19 +40,14 @@ module _ (table : List PlainShape) (events all : Events) (ends all_ends : ℕ �
     grows_each (suc n) (suc m) s at lt =
         by_turn (events at.place) refl (λ t to. grows_each n m t to (omega (arith, lt)))
       where
-        going : (b : Bool)
-            → ((t : S) (to : Spot) → Grows (each_at is_end step events n t to) (each_at is_end other all m t to))
-            → Grows (if b then Ok (s, after at) else (step s at >>= λ x. each_at is_end step events n x.0 x.1))
-            (if b then Ok (s, after at) else (other s at >>= λ x. each_at is_end other all m x.0 x.1))
-        going true later = alike _
-        going false later = grows_bind (grows s at) (λ x e. later x.0 x.1)
-
         by_turn : (o : Option (PlainDocEvent × Position)) → events at.place ≡ o
             → ((t : S) (to : Spot) → Grows (each_at is_end step events n t to) (each_at is_end other all m t to))
             → Grows (turn is_end step (each_at is_end step events n) s at o)
             (turn is_end other (each_at is_end other all m) s at (all at.place))
         by_turn None is later = ended _
-        by_turn (Some e) is later = rw (more at.place e is) (going (is_end e.0) later)
+        by_turn (Some e) is later =
+            rw (more at.place e is)
+            (grows_if (is_end e.0) (alike _) (grows_bind (grows s at) (λ x e. later x.0 x.1)))
 
   -- ---- steps over nodes
   grows_skip_to : (p left : ℕ) (o : Option ℕ) → ends p ≡ o
@@ -85,135 +80,109 @@ module _ (table : List PlainShape) (events all : Events) (ends all_ends : ℕ �
       → read way s nest taken at ≡ Ok x → Stands (events at.place))
       (called : (way : Way) (nest : ℕ) (at : Spot) (x : PlainData × Spot)
       → read way shape.identifier_shape nest None at ≡ Ok x
-      → Stands (events (text_at at.place (events at.place)))) where
-    grows_item : (way : Way) (s : PlainShape) (nest : ℕ) (vs : List PlainData) (at : Spot)
-        → Grows (item_at read way s nest vs at) (item_at other way s nest vs at)
-    grows_item way s nest vs at = grows_wrap _ (grows (element_under way (length vs)) s nest None at)
-
+      → Stands (events (text_at at.place (events at.place)))) (way : Way) where
     -- the way to a value behind a key that was read
-    same_way : (way : Way) (at : Spot) → Stands (events at.place)
+    same_way : (s : PlainShape) (nest : ℕ) (at : Spot) (x : PlainData × Spot) → read way s nest None at ≡ Ok x
         → value_way way (events at.place) ≡ value_way way (all at.place)
-    same_way way at e = rw (e.1, more at.place e.0 e.1) refl
-
-    grows_entry : (way : Way) (s t : PlainShape) (nest : ℕ) (vs : List (PlainData × PlainData)) (at : Spot)
-        → Grows (entry_at front read way s t nest vs at) (entry_at full other way s t nest vs at)
-    grows_entry way s t nest vs at =
-        grows_bind (grows_bind (grows way s nest None at)
-        (λ x e. rw (same_way way at (began way s nest None at x e)) (alike _)))
-        (λ k e. grows_wrap _ (grows k.0.0 t nest None k.1))
-
-    grows_any_entry : (way : Way) (nest : ℕ) (vs : List (PlainData × PlainData)) (at : Spot)
-        → Grows (any_entry_at front read way nest vs at) (any_entry_at full other way nest vs at)
-    grows_any_entry way nest vs at =
-        grows_bind (grows_bind (grows way shape.any_shape nest None at)
-        (λ x e. rw (same_way way at (began way shape.any_shape nest None at x e)) (alike _)))
-        (λ k e. grows_wrap _ (grows k.0.0 shape.any_shape nest None k.1))
-
-    grows_row_part : (way : Way) (nest : ℕ) (row : Row) (at : Spot)
-        → Grows (row_at front read way nest row at) (row_at full other way nest row at)
-    grows_row_part way nest row at =
-        grows_row row.left row.read row.extra (λ id. grows_with (shape_at table id)
-        (λ s. grows (element_under way (length row.read)) s nest None at)) (grows_skip at)
+    same_way s nest at x h = let e = began way s nest None at x h in rw (e.1, more at.place e.0 e.1) refl
 
     -- the mark of a name that was read
-    same_mark : (at : Spot) → Stands (events at.place) → Stands (events (text_at at.place (events at.place)))
+    same_mark : (nest : ℕ) (at : Spot) (x : PlainData × Spot) → read way shape.identifier_shape nest None at ≡ Ok x
         → mark_or_first (events (text_at at.place (events at.place)))
         ≡ mark_or_first (all (text_at at.place (all at.place)))
-    same_mark at e t =
+    same_mark nest at x h =
+        let e = began way shape.identifier_shape nest None at x h in
+        let t = called way nest at x h in
         let here : all at.place ≡ events at.place = more at.place e.0 e.1 ∙ sym e.1 in
         rw (here, t.1, more (text_at at.place (events at.place)) t.0 t.1) refl
 
-    grows_field_key : (way : Way) (strict : Bool) (fields : Fields) (nest : ℕ) (slots : Slots) (at : Spot)
-        → Grows (field_key_at front read way strict fields nest slots at)
-        (field_key_at full other way strict fields nest slots at)
-    grows_field_key way strict fields nest slots at =
-        grows_bind (grows way shape.identifier_shape nest None at) (λ x e.
-        let here = began way shape.identifier_shape nest None at x e in
-        rw (same_way way at here, same_mark at here (called way nest at x e)) (alike _))
+    grows_item : (s : PlainShape) (nest : ℕ) (vs : List PlainData) (at : Spot)
+        → Grows (item_at read way s nest vs at) (item_at other way s nest vs at)
+    grows_item s nest vs at = grows_wrap _ (grows (element_under way (length vs)) s nest None at)
 
-    grows_field_part : (way : Way) (strict : Bool) (fields : Fields) (nest : ℕ) (slots : Slots) (at : Spot)
-        → Grows (field_at front read way strict fields nest slots at)
-        (field_at full other way strict fields nest slots at)
-    grows_field_part way strict fields nest slots at =
-        grows_bind (grows_field_key way strict fields nest slots at) (λ k e. grows_field slots k.0.0
-        (λ id. grows_with (shape_at table id) (λ s. grows k.0.1 s nest None k.1)) (grows_skip k.1))
-
-    grows_sequence : (way : Way) (s : PlainShape) (nest : ℕ) (mark : Position) (at : Spot)
+    grows_sequence : (s : PlainShape) (nest : ℕ) (mark : Position) (at : Spot)
         → Grows (sequence_at front read way s nest mark at) (sequence_at full other way s nest mark at)
-    grows_sequence way (shape.seq_shape e) nest mark at =
+    grows_sequence (shape.seq_shape e) nest mark at =
         grows_enter nest mark (λ n. grows_with (shape_at table e) (λ s. grows_wrap (λ vs. seq_data (items_of vs))
-        (grows_each is_sequence_end (grows_item way s n) size whole [] at larger)))
-    grows_sequence way (shape.row_shape owner ids) nest mark at =
-        grows_enter nest mark (λ n. grows_finish (row_data owner (length ids))
-        (grows_each is_sequence_end (grows_row_part way n) size whole (row_of ids) at larger))
-    grows_sequence way shape.any_shape nest mark at =
+        (grows_each is_sequence_end (grows_item s n) size whole [] at larger)))
+    grows_sequence (shape.row_shape owner ids) nest mark at =
+        grows_enter nest mark (λ n. grows_finish (row_data owner (length ids)) (grows_each
+        {step = row_at front read way n} {other = row_at full other way n} is_sequence_end (λ row at.
+        grows_row row.left row.read row.extra (λ id. grows_with (shape_at table id)
+        (λ s. grows (element_under way (length row.read)) s n None at)) (grows_skip at))
+        size whole (row_of ids) at larger))
+    grows_sequence shape.any_shape nest mark at =
         grows_enter nest mark (λ n. grows_wrap (λ vs. any_data (sequence (trees_in (items_of vs))))
-        (grows_each is_sequence_end (grows_item way shape.any_shape n) size whole [] at larger))
-    grows_sequence way s nest mark at = alike _
+        (grows_each is_sequence_end (grows_item shape.any_shape n) size whole [] at larger))
+    grows_sequence s nest mark at = alike _
 
-    grows_mapping : (way : Way) (s : PlainShape) (nest : ℕ) (mark : Position) (at : Spot)
+    grows_mapping : (s : PlainShape) (nest : ℕ) (mark : Position) (at : Spot)
         → Grows (mapping_at front read way s nest mark at) (mapping_at full other way s nest mark at)
-    grows_mapping way (shape.map_shape a b) nest mark at =
+    grows_mapping (shape.map_shape a b) nest mark at =
         grows_enter nest mark (λ n. grows_with (shape_at table a) (λ s. grows_with (shape_at table b) (λ t.
-        grows_wrap (λ vs. map_data (entries_of vs))
-        (grows_each is_mapping_end (grows_entry way s t n) size whole [] at larger))))
-    grows_mapping way (shape.fields_shape strict owner fields) nest mark at =
-        grows_enter nest mark (λ n. grows_finish (struct_of table fields)
-        (grows_each is_mapping_end (grows_field_part way strict fields n) size whole (no_slots fields) at larger))
-    grows_mapping way shape.any_shape nest mark at =
+        grows_wrap (λ vs. map_data (entries_of vs)) (grows_each {step = entry_at front read way s t n}
+        {other = entry_at full other way s t n} is_mapping_end (λ vs at.
+        grows_bind (grows_bind (grows way s n None at) (λ x e. rw (same_way s n at x e) (alike _)))
+        (λ k e. grows_wrap _ (grows k.0.0 t n None k.1))) size whole [] at larger))))
+    grows_mapping (shape.fields_shape strict owner fields) nest mark at =
+        grows_enter nest mark (λ n. grows_finish (struct_of table fields) (grows_each
+        {step = field_at front read way strict fields n} {other = field_at full other way strict fields n}
+        is_mapping_end (λ slots at. grows_bind (grows_bind (grows way shape.identifier_shape n None at)
+        (λ x e. rw (same_way shape.identifier_shape n at x e, same_mark n at x e) (alike _)))
+        (λ k e. grows_field slots k.0.0 (λ id. grows_with (shape_at table id) (λ s. grows k.0.1 s n None k.1))
+        (grows_skip k.1))) size whole (no_slots fields) at larger))
+    grows_mapping shape.any_shape nest mark at =
         grows_enter nest mark (λ n. grows_wrap (λ vs. any_data (tree.mapping (pairs_in (entries_of vs))))
-        (grows_each is_mapping_end (grows_any_entry way n) size whole [] at larger))
-    grows_mapping way s nest mark at = alike _
+        (grows_each {step = any_entry_at front read way n} {other = any_entry_at full other way n} is_mapping_end
+        (λ vs at. grows_bind (grows_bind (grows way shape.any_shape n None at)
+        (λ x e. rw (same_way shape.any_shape n at x e) (alike _)))
+        (λ k e. grows_wrap _ (grows k.0.0 shape.any_shape n None k.1))) size whole [] at larger))
+    grows_mapping s nest mark at = alike _
 
-    grows_event : (way : Way) (s : PlainShape) (nest : ℕ) (taken : Option TakenBy) (at : Spot) (e : PlainDocEvent)
+    grows_event : (s : PlainShape) (nest : ℕ) (taken : Option TakenBy) (at : Spot) (e : PlainDocEvent)
         (mark : Position) → Grows (event_at front read way s nest taken at e mark)
         (event_at full other way s nest taken at e mark)
-    grows_event way s nest taken at (alias_to j) mark =
+    grows_event s nest taken at (alias_to j) mark =
         grows_follow at.left (λ n. grows_bind (grows way s nest None (record { place = j; left = n })) (λ x e. alike _))
-    grows_event way s nest taken at (sequence_begins tag) mark = grows_sequence way s nest mark (after at)
-    grows_event way s nest taken at (mapping_begins tag) mark = grows_mapping way s nest mark (after at)
-    grows_event way s nest taken at _ mark = alike _
+    grows_event s nest taken at (sequence_begins tag) mark = grows_sequence s nest mark (after at)
+    grows_event s nest taken at (mapping_begins tag) mark = grows_mapping s nest mark (after at)
+    grows_event s nest taken at _ mark = alike _
 
-    grows_handed : (h : Handing) (way : Way) (s : PlainShape) (nest : ℕ) (taken : Option TakenBy) (at : Spot)
+    grows_handed : (h : Handing) (s : PlainShape) (nest : ℕ) (taken : Option TakenBy) (at : Spot)
         (e : PlainDocEvent) (mark : Position) → Grows (handed_at front h read way s nest taken at e mark)
         (handed_at full h other way s nest taken at e mark)
-    grows_handed as_is way s nest taken at e mark = grows_event way s nest taken at e mark
-    grows_handed (as_some c) way s nest taken at e mark =
+    grows_handed as_is s nest taken at e mark = grows_event s nest taken at e mark
+    grows_handed (as_some c) s nest taken at e mark =
         grows_with (shape_at table c) (λ t. grows_wrap some_data (grows way t nest taken at))
-    grows_handed (as_newtype c) way s nest taken at e mark =
-        grows_enter nest mark (λ m. grows_with (shape_at table c)
-        (λ t. grows_wrap newtype_data (grows way t m taken at)))
-    grows_handed as_ignored way s nest taken at e mark = grows_skip at
-    grows_handed (as_variant place around content) way s nest taken at e mark =
+    grows_handed (as_newtype c) s nest taken at e mark = grows_enter nest mark (λ m.
+        grows_with (shape_at table c) (λ t. grows_wrap newtype_data (grows way t m taken at)))
+    grows_handed as_ignored s nest taken at e mark = grows_skip at
+    grows_handed (as_variant place around content) s nest taken at e mark =
         grows_with (content_shape table around.name around.variant content)
         (λ t. grows_wrap (variant_data place) (grows way t nest (Some around) at))
-    grows_handed (as_tagged name) way s nest taken at e mark =
+    grows_handed (as_tagged name) s nest taken at e mark =
         grows_wrap (λ v. any_data (tagged name (tree_in v))) (grows way shape.any_shape nest (Some around_value) at)
-    grows_handed _ way s nest taken at e mark = alike _
+    grows_handed _ s nest taken at e mark = alike _
 
-    grows_step : (way : Way) (s : PlainShape) (nest : ℕ) (taken : Option TakenBy) (at : Spot)
+    grows_step : (s : PlainShape) (nest : ℕ) (taken : Option TakenBy) (at : Spot)
         → Grows (place_at way s (is_some taken) (events at.place) (node_step front read way s nest taken at))
         (place_at way s (is_some taken) (all at.place) (node_step full other way s nest taken at))
-    grows_step way s nest taken at = by_event (events at.place) refl
+    grows_step s nest taken at = by_event (events at.place) refl
       where
-        by_bytes : (o : Option (PlainDocEvent × Position)) → Grows {A = PlainData × Spot}
-            (Err (refused bytes_unsupported))
-            (place_at way shape.bytes_shape (is_some taken) o (Err (refused bytes_unsupported)))
-        by_bytes None = alike _
-        by_bytes (Some e) = alike _
-
-        by_shape : (s : PlainShape) → Grows (unless (early s) (Err (refused end_of_stream)))
-            (place_at way s (is_some taken) (all at.place) (node_step full other way s nest taken at))
-        by_shape shape.bytes_shape = by_bytes (all at.place)
-        by_shape _ = ended _
+        by_shape : (s : PlainShape) (o : Option (PlainDocEvent × Position))
+            → Grows (unless (early s) (Err (refused end_of_stream)))
+            (place_at way s (is_some taken) o (unless (early s) (shape_step full other way s nest taken at o)))
+        by_shape shape.bytes_shape None = alike _
+        by_shape shape.bytes_shape (Some e) = alike _
+        by_shape _ o = ended _
 
         by_event : (o : Option (PlainDocEvent × Position)) → events at.place ≡ o
             → Grows (place_at way s (is_some taken) o (unless (early s) (shape_step front read way s nest taken at o)))
             (place_at way s (is_some taken) (all at.place) (node_step full other way s nest taken at))
-        by_event None is = by_shape s
+        by_event None is = by_shape s (all at.place)
         by_event (Some e) is = rw (more at.place e is)
             (grows_place (places s (is_some taken) e.0) e.1 way (grows_unless (early s)
-            (grows_handed (handed s (is_some taken) e.0) way s nest taken at e.0 e.1)))
+            (grows_handed (handed s (is_some taken) e.0) s nest taken at e.0 e.1)))
 
   -- a node
   pub grows_node : (fuel : ℕ) (way : Way) (s : PlainShape) (nest : ℕ) (taken : Option TakenBy) (at : Spot)

@@ -2,7 +2,7 @@
 use Rattle.std.specs.Prelude.{◌≡◌, ◌+◌, ◌-◌, ◌<◌}
 use Rattle.yaml_read.proofs.Words.{ℕ, zero, suc, Bool, true, false, Some, None, Result, Ok, Err, ap, sym, ◌∙◌, arith}
 use Rattle.yaml_read.proofs.Words.{Position, PlainData, PlainDocEvent, PlainRefusal, refused, end_of_stream}
-use Rattle.yaml_read.proofs.Words.{recursion_limit_exceeded, ◌>>=◌, wrap, enter, Spot, after, Reading, Events, each_at}
+use Rattle.yaml_read.proofs.Words.{◌>>=◌, wrap, enter, Spot, after, Reading, Events, each_at}
 use Rattle.yaml_read.proofs.Words.{pursue}
 
 module _ {S : Type 0} (is_end : PlainDocEvent → Bool) (step : S → Spot → Reading S) (events : Events) where
@@ -106,6 +106,3 @@ module _ {A : Type 0} (mark : Position) (go : ℕ → Result A PlainRefusal) whe
   pub entered : (nest : ℕ) → 0 < nest → enter nest mark go ≡ go (nest - 1)
   entered zero lt = absurd (omega arith)
   entered (suc n) lt = ap go (sym (enough n))
-
-  pub too_deep : (nest : ℕ) → nest ≡ 0 → enter nest mark go ≡ Err (refused (recursion_limit_exceeded mark))
-  too_deep nest h = rw h

@@ -1,7 +1,7 @@
 -- Where events show a node, reading it by its place answers what reading the tree answers, and ends behind the node.
 use Rattle.std.specs.Prelude.{◌≡◌, ◌+◌, ◌<◌, ◌∷◌, ◌++◌}
 use Rattle.yaml_read.proofs.Words.{ℕ, zero, suc, [], length, Option, Some, None, Ok, Bool, true, refl, sym, subst}
-use Rattle.yaml_read.proofs.Words.{arith, ap, ◌∙◌, is_some, Position, PlainData, any_data, variant_data, some_data}
+use Rattle.yaml_read.proofs.Words.{add-one, List, arith, ap, ◌∙◌, is_some, Position, PlainData, any_data, variant_data, some_data}
 use Rattle.yaml_read.proofs.Words.{newtype_data, PlainShape, any_shape, shape_at, content_shape, tagged, DocNode}
 use Rattle.yaml_read.proofs.Words.{nothing, reference, word, list, mapping, events_of, events_of_nodes, events_of_pairs}
 use Rattle.yaml_read.proofs.Words.{node_of, first_event, PlainDocEvent, alias_to, sequence_ends, mapping_ends}
@@ -47,6 +47,14 @@ module _ (source : Source) (within : (p : ℕ) (e : PlainDocEvent × Position) �
         back (lands x left) = lands x left
         back (refuses y) = refuses y
 
+    -- a collection, behind its first event
+    collection_tied : {q : Reading PlainData} {r : Answer PlainData} (p : ℕ) (ts : List PlainDocEvent)
+        → Shows source.events (suc p) ts
+        → (Shows source.events (p + 1) ts → 0 < p + 1 → Lands (p + 1 + length ts) q r) → Lands (p + suc (length ts)) q r
+    collection_tied {q} {r} p ts sh h =
+        let behind = subst (λ p. Shows source.events p ts) (sym (add-one p)) sh in
+        subst (λ end. Lands end q r) (omega arith) (h behind (omega arith))
+
     -- a node by its kind
     node_tied : (s : PlainShape) (nest : ℕ) (taken : Option TakenBy) (n : DocNode) (at : Spot) (mark : Position)
         → source.events at.place ≡ Some (first_event n, mark)
@@ -61,25 +69,11 @@ module _ (source : Source) (within : (p : ℕ) (e : PlainDocEvent × Position) �
         lands_follow at.left (λ left. target_tied s nest j left (at.place + 1)
         (node_of root j) target.0 target.1 refl)
     node_tied s nest taken (list tag ns) at mark here sh =
-        let next : suc at.place ≡ at.place + 1 = omega arith in
-        let behind = subst (λ q. Shows source.events q (events_of_nodes ns ++ sequence_ends ∷ [])) next sh.1 in
-        let begun : 0 < at.place + 1 = omega arith in
-        let end_is : at.place + 1 + length (events_of_nodes ns ++ sequence_ends ∷ [])
-        ≡ at.place + length (events_of (list tag ns)) = omega arith in
-        rw (mark_of at.place _ here) (subst (λ end. Lands end (sequence_at source read way s nest (marks at.place)
-        (after at)) (sequence_of source.table tree way s nest (marks at.place) ns (after at))) end_is
-        (sequence_tied source within stepped marks marked read tree tied way s nest (marks at.place) ns
-        (after at) behind begun))
+        rw (mark_of at.place _ here) (collection_tied at.place (events_of_nodes ns ++ sequence_ends ∷ []) sh.1
+        (sequence_tied source within stepped marks marked read tree tied way s nest (marks at.place) ns (after at)))
     node_tied s nest taken (mapping tag ps) at mark here sh =
-        let next : suc at.place ≡ at.place + 1 = omega arith in
-        let behind = subst (λ q. Shows source.events q (events_of_pairs ps ++ mapping_ends ∷ [])) next sh.1 in
-        let begun : 0 < at.place + 1 = omega arith in
-        let end_is : at.place + 1 + length (events_of_pairs ps ++ mapping_ends ∷ [])
-        ≡ at.place + length (events_of (mapping tag ps)) = omega arith in
-        rw (mark_of at.place _ here) (subst (λ end. Lands end (mapping_at source read way s nest (marks at.place)
-        (after at)) (mapping_of source.table tree marks way s nest (marks at.place) ps (after at))) end_is
-        (mapping_tied source within stepped marks marked read tree tied way s nest (marks at.place) ps (after at) behind
-        begun))
+        rw (mark_of at.place _ here) (collection_tied at.place (events_of_pairs ps ++ mapping_ends ∷ []) sh.1
+        (mapping_tied source within stepped marks marked read tree tied way s nest (marks at.place) ps (after at)))
 
     -- a struct of which no field is there is one event
     bare_tied : (fields : Fields) (n : DocNode) (at : Spot) → is_bare (first_event n) ≡ true

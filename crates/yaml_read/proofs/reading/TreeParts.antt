@@ -74,38 +74,13 @@ module _ (source : Source) (within : (p : ℕ) (e : PlainDocEvent × Position) �
         source.size [] ns at sh (omega arith)))
     sequence_tied _ nest mark ns at sh lt = refuses _
 
-    -- a key, and the way to its value
-    key_tied : (s : PlainShape) (nest : ℕ) (m : DocNode) (at : Spot) → Shows source.events at.place (events_of m)
-        → Lands (at.place + length (events_of m))
-        (wrap {B = Way × PlainData} (λ k. (value_way way (source.events at.place), k)) (read way s nest None at))
-        (wrap {B = Way × PlainData} (λ k. (value_under way (first_event m), k)) (tree way s nest None m at))
-    key_tied s nest m at h =
-        rw (begins source.events at.place m h).1 (lands_wrap _ (tied way s nest None m at h))
-
-    -- a key of any values, and the way to its value
-    any_key_tied : (nest : ℕ) (vs : List (PlainData × PlainData)) (m : DocNode) (at : Spot)
-        → Shows source.events at.place (events_of m)
-        → Lands (at.place + length (events_of m)) (any_key_at source read way nest vs at)
-        (any_key_of tree way nest vs m at)
-    any_key_tied nest vs m at h =
-        rw (begins source.events at.place m h).1 (lands_finish _ (tied way any_shape nest None m at h))
-
-    -- the key of a field, with the way to its value
-    field_key_tied : (strict : Bool) (fields : Fields) (nest : ℕ) (slots : Slots) (m : DocNode) (at : Spot)
-        → Shows source.events at.place (events_of m)
-        → Lands (at.place + length (events_of m)) (field_key_at source read way strict fields nest slots at)
-        (field_key tree marks way strict fields nest slots m at)
-    field_key_tied strict fields nest slots m at h =
-        rw ((begins source.events at.place m h).1, marked (text_place (first_event m) at.place))
-        (lands_finish _ (tied way identifier_shape nest None m at h))
-
     -- the value of a field, or of a name that is none
-    field_value_tied : (nest : ℕ) (slots : Slots) (o : Option (ℕ × ℕ)) (w : Way) (n : DocNode) (at : Spot)
+    field_value_tied : (nest : ℕ) (slots : Slots) (k : Option (ℕ × ℕ) × Way) (n : DocNode) (at : Spot)
         → Shows source.events at.place (events_of n)
-        → Lands (at.place + length (events_of n)) (field_value_at source read nest slots (o, w) at)
-        (field_value source.table tree nest slots (o, w) n at)
-    field_value_tied nest slots None w n at h = lands_wrap (λ v. slots) (skip_tied n at h)
-    field_value_tied nest slots (Some f) w n at h =
+        → Lands (at.place + length (events_of n)) (field_value_at source read nest slots k at)
+        (field_value source.table tree nest slots k n at)
+    field_value_tied nest slots (None, w) n at h = lands_wrap (λ v. slots) (skip_tied n at h)
+    field_value_tied nest slots (Some f, w) n at h =
         lands_wrap (λ v. set slots f.0 (Some v)) (lands_with (shape_at source.table f.1)
         (λ s. tied w s nest None n at h))
 
@@ -119,20 +94,23 @@ module _ (source : Source) (within : (p : ℕ) (e : PlainDocEvent × Position) �
         (λ t. lands_wrap (λ vs. map_data (entries_of vs)) (pairs_tied source.events source.size within
         (λ vs q. wrap {B = Way × PlainData} (λ k. (value_way way (source.events q.place), k)) (read way s n None q))
         (λ vs k q. wrap (λ v. vs ++ (k.1, v) ∷ []) (read k.0 t n None q)) (key_of tree way s n) (value_of tree t n)
-        (λ vs m q h. key_tied s n m q h) (λ vs k m q h. lands_wrap (λ v. vs ++ (k.1, v) ∷ [])
+        (λ vs m q h. rw (begins source.events q.place m h).1 (lands_wrap _ (tied way s n None m q h)))
+        (λ vs k m q h. lands_wrap (λ v. vs ++ (k.1, v) ∷ [])
         (tied k.0 t n None m q h)) source.size [] ps at sh (omega arith)))))
     mapping_tied (fields_shape strict owner fields) nest mark ps at sh lt =
         lands_enter nest mark (λ n. lands_finish (struct_of source.table fields)
         (pairs_tied source.events source.size within
         (field_key_at source read way strict fields n) (field_value_at source read n)
         (field_key tree marks way strict fields n) (field_value source.table tree n)
-        (λ slots m q h. field_key_tied strict fields n slots m q h)
-        (λ slots k m q h. field_value_tied n slots k.0 k.1 m q h) source.size (no_slots fields) ps at sh (omega arith)))
+        (λ slots m q h. rw ((begins source.events q.place m h).1, marked (text_place (first_event m) q.place))
+        (lands_finish _ (tied way identifier_shape n None m q h)))
+        (field_value_tied n) source.size (no_slots fields) ps at sh (omega arith)))
     mapping_tied any_shape nest mark ps at sh lt =
         lands_enter nest mark (λ n. lands_wrap (λ vs. any_data (tree_of.mapping (pairs_in (entries_of vs))))
         (pairs_tied source.events source.size within (any_key_at source read way n)
         (λ vs k q. wrap (λ v. vs ++ (k.1, v) ∷ []) (read k.0 any_shape n None q)) (any_key_of tree way n)
         (value_of tree any_shape n)
-        (λ vs m q h. any_key_tied n vs m q h) (λ vs k m q h. lands_wrap (λ v. vs ++ (k.1, v) ∷ [])
+        (λ vs m q h. rw (begins source.events q.place m h).1 (lands_finish _ (tied way any_shape n None m q h)))
+        (λ vs k m q h. lands_wrap (λ v. vs ++ (k.1, v) ∷ [])
         (tied k.0 any_shape n None m q h)) source.size [] ps at sh (omega arith)))
     mapping_tied _ nest mark ps at sh lt = refuses _
