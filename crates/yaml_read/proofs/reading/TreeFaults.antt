@@ -68,14 +68,6 @@ module _ (table : List PlainShape) (root : DocNode) (marks : ℕ → Position) (
         ends_wrap (λ v. record { left = ids; read = vs ++ v ∷ []; extra = extra })
         (h id (All-head IsIn id ids a)) (λ x p. All-tail IsIn id ids a)
 
-    row_part_ends : (nest most : ℕ) → 8200 * (most + nest) + 8196 < fuel → (row : Row) (n : DocNode) (at : Spot)
-        → at.left ≤ most → RowIn row → Ends RowIn at.left (row_part table read way nest row n at)
-    row_part_ends nest most enough row n at few a =
-        step_ends row.left row.read row.extra at.left _ (Ok (ignored_data, at.left)) a
-        (λ id lt. ends_with (shape_at table id) _ (shown id lt).1
-        (part_ends (element_under way (length row.read)) id nest most n at lt enough few))
-        (ends_value ignored_data at.left (omega arith) tt)
-
     -- ---- fields
     abbrev KeyIn : Option (ℕ × ℕ) × Way → Type 0
     KeyIn k = IfSome k.0 (λ f. IsIn f.1)
@@ -87,27 +79,11 @@ module _ (table : List PlainShape) (root : DocNode) (marks : ℕ → Position) (
     key_in strict fields slots name key a (Some f) is =
         find_all IsIn fields name f (named_found strict fields slots name key f is).0 a
 
-    field_key_ends : (strict : Bool) (fields : Fields) (nest most : ℕ) → All IsIn (numbers_of fields)
-        → 8200 * (most + nest) + 8196 < fuel → (slots : Slots) (m : DocNode) (at : Spot) → at.left ≤ most → Any slots
-        → Ends KeyIn at.left (field_key read marks way strict fields nest slots m at)
-    field_key_ends strict fields nest most a enough slots m at few ok =
-        ends_finish _ (plain_ends way shape.identifier_shape nest most m at (All-nil IsIn) refl enough few)
-        (λ k x e. key_in strict fields slots (name_in k) _ a x.0
-        (looked (field_named strict fields slots (name_in k) _) (value_under way (first_event m)) x e))
-
     value_step : (slots : Slots) (o : Option (ℕ × ℕ)) (left : ℕ) (go : ℕ → Answer PlainData) (skip : Answer PlainData)
         → IfSome o (λ f. IsIn f.1) → ((id : ℕ) → IsIn id → Ends Any left (go id)) → Ends Any left skip
         → Ends Any left (field_step slots o go skip)
     value_step slots None left go skip a h k = ends_map (λ v. slots) k
     value_step slots (Some f) left go skip a h k = ends_map (λ v. set slots f.0 (Some v)) (h f.1 a)
-
-    field_value_ends : (nest most : ℕ) → 8200 * (most + nest) + 8196 < fuel → (slots : Slots)
-        (k : Option (ℕ × ℕ) × Way) (n : DocNode) (at : Spot) → at.left ≤ most → Any slots → KeyIn k
-        → Ends Any at.left (field_value table read nest slots k n at)
-    field_value_ends nest most enough slots k n at few ok a =
-        value_step slots k.0 at.left _ (Ok (ignored_data, at.left)) a
-        (λ id lt. ends_with (shape_at table id) _ (shown id lt).1 (part_ends k.1 id nest most n at lt enough few))
-        (ends_value ignored_data at.left (omega arith) tt)
 
     -- ---- collections
     sequence_ends : (s : PlainShape) (nest : ℕ) (mark : Position) (ns : DocNodes) (at : Spot)
@@ -122,8 +98,11 @@ module _ (table : List PlainShape) (root : DocNode) (marks : ℕ → Position) (
         [] ns at (omega arith) tt)))
     sequence_ends (shape.row_shape owner ids) nest mark ns at names lt =
         ends_enter nest mark _ (λ n is. ends_finish (row_data owner (length ids))
-        (ends_nodes RowIn at.left (row_part table read way n) (row_part_ends n at.left (omega (arith, lt, is)))
-        (row_of ids) ns at (omega arith) names) (λ s x e. tt))
+        (ends_nodes RowIn at.left (row_part table read way n) (λ row m to few a.
+        step_ends row.left row.read row.extra to.left _ _ a
+        (λ id here. ends_with (shape_at table id) _ (shown id here).1
+        (part_ends (element_under way (length row.read)) id n at.left m to here (omega (arith, lt, is)) few))
+        (ends_value ignored_data to.left (omega arith) tt)) (row_of ids) ns at (omega arith) names) (λ s x e. tt))
     sequence_ends shape.any_shape nest mark ns at names lt =
         ends_enter nest mark _ (λ n is. ends_map (λ vs. any_data (sequence (trees_in (items_of vs))))
         (ends_nodes Any at.left (item_of read way shape.any_shape n) (λ vs m to few ok. ends_map (λ v. vs ++ v ∷ [])
@@ -149,8 +128,14 @@ module _ (table : List PlainShape) (root : DocNode) (marks : ℕ → Position) (
     mapping_ends (shape.fields_shape strict owner fields) nest mark ps at names lt =
         ends_enter nest mark _ (λ n is. ends_finish (struct_of table fields)
         (ends_pairs Any at.left KeyIn (field_key read marks way strict fields n) (field_value table read n)
-        (field_key_ends strict fields n at.left names (omega (arith, lt, is)))
-        (field_value_ends n at.left (omega (arith, lt, is))) (no_slots fields) ps at (omega arith) tt) (λ s x e. tt))
+        (λ slots m to few ok. ends_finish _
+        (plain_ends way shape.identifier_shape n at.left m to (All-nil IsIn) refl (omega (arith, lt, is)) few)
+        (λ k x e. key_in strict fields slots (name_in k) _ names x.0
+        (looked (field_named strict fields slots (name_in k) _) (value_under way (first_event m)) x e)))
+        (λ slots k m to few ok a. value_step slots k.0 to.left _ _ a
+        (λ id here. ends_with (shape_at table id) _ (shown id here).1
+        (part_ends k.1 id n at.left m to here (omega (arith, lt, is)) few))
+        (ends_value ignored_data to.left (omega arith) tt)) (no_slots fields) ps at (omega arith) tt) (λ s x e. tt))
     mapping_ends shape.any_shape nest mark ps at names lt =
         ends_enter nest mark _ (λ n is. ends_map (λ vs. any_data (tree.mapping (pairs_in (entries_of vs))))
         (ends_pairs Any at.left Any (any_key_of read way n) (value_of read shape.any_shape n)
