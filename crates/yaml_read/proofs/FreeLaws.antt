@@ -86,15 +86,6 @@ unfolding node_at
 scalar_read source way s nest taken at zero w m v lt is late to answer = absurd (omega arith)
 scalar_read source way s nest taken at (suc fuel) w m v lt is late to answer = rw (is, late, to, answer) refl
 
--- an optional is not handed on to its content, where the scalar stands for nothing
-absent_as_is : (a b : Bool) (x y : Handing) → a ≡ true → (if not (a || b) then x else y) ≡ y
-absent_as_is true b x y h = refl
-absent_as_is false b x y h = absurd cc
-
-absent_gives : (a : Bool) (v : PlainData) (y : ReadFault) → a ≡ true → (if a then Ok v else Err y) ≡ Ok v
-absent_gives true v y h = refl
-absent_gives false v y h = absurd cc
-
 -- a document whose first event is such a scalar, and that has a tree, gives an absent optional
 pub absent_answered : (s : PlainShape) (c : ℕ) (document : PlainDocument) (w : PlainScalar) (mark : Position)
     (v : PlainData) → s ≡ option_shape c → v ≡ none_data → document.ending ≡ None
@@ -106,7 +97,6 @@ absent_answered s c document w mark v same none whole first absent = record {
       (scalar_read (whole_source table document) root_way (option_shape c) limits.nesting None
       (start limits document)
       (whole_fuel limits (length document.events)) w mark none_data (omega arith) first refl
-      (absent_as_is (is_absent false w) (is_false_null false w) (as_some c) as_is absent)
-      (absent_gives (is_absent false w) none_data (null_fault w) absent))
+      (rw absent refl) (rw absent refl))
       root tree);
 }

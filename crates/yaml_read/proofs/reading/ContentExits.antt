@@ -35,8 +35,7 @@ module _ (code : CodeSource) (fuel : ℕ) (q : Question) (walk : Walk) where
   enum_content name variants e m tag number content o k is h found =
       step_handed code fuel q walk e m (as_variant number (record { name = name; variant = tag }) content) is
       (rw (o, k) (variant_handed name variants e tag number content h found))
-      ∙ with_wrap (variant_data number) (content_shape code.schema.now name tag content) (λ t. by_node code fuel
-      (taken_as q t (record { name = name; variant = tag })) walk)
+      ∙ with_wrap (variant_data number) (content_shape code.schema.now name tag content) _
 
   -- a node without a tag of its own, and a text within what another's tag holds
   pub enum_plain : (name : List ℕ) (variants : Variants) (e : PlainDocEvent) (m : Position)
@@ -124,10 +123,7 @@ module _ (code : CodeSource) (fuel : ℕ) (q : Question) (walk : Walk) where
       (sequence_parts (source_of code) (item_at (reader_of fuel code) q.way any_shape (q.nest - 1))
       (length code.events.now) [] (after (spot_of walk)))
   any_list_step e tag m o is start own some =
-      any_plain_step e m o is own
-      ∙ rw (o, start) (entered m (λ n. wrap (λ vs. any_data (sequence (trees_in (items_of vs))))
-      (sequence_parts (source_of code) (item_at (reader_of fuel code) q.way any_shape n) (length code.events.now) []
-      (after (spot_of walk)))) q.nest some)
+      any_plain_step e m o is own ∙ rw (o, start) (entered m _ q.nest some)
 
   pub any_mapping_step : (e : PlainDocEvent) (tag : Option (List ℕ)) (m : Position) → q.shape ≡ any_shape
       → Some (e, m) ≡ seen code.events.now walk.place → e ≡ mapping_begins tag
@@ -136,10 +132,7 @@ module _ (code : CodeSource) (fuel : ℕ) (q : Question) (walk : Walk) where
       (mapping_parts (source_of code) (any_entry_at (source_of code) (reader_of fuel code) q.way (q.nest - 1))
       (length code.events.now) [] (after (spot_of walk)))
   any_mapping_step e tag m o is start own some =
-      any_plain_step e m o is own
-      ∙ rw (o, start) (entered m (λ n. wrap (λ vs. any_data (tree.mapping (pairs_in (entries_of vs))))
-      (mapping_parts (source_of code) (any_entry_at (source_of code) (reader_of fuel code) q.way n)
-      (length code.events.now) [] (after (spot_of walk)))) q.nest some)
+      any_plain_step e m o is own ∙ rw (o, start) (entered m _ q.nest some)
 
 -- what is made of what was made of an answer
 pub wrap_onto_finds : {A B C D : Type 0} (f : A → B) (g : B → D) (r : Result (A × C) PlainRefusal) (v : B) (c : C)

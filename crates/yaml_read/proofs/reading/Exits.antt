@@ -90,9 +90,7 @@ module _ (code : CodeSource) (fuel : ℕ) (q : Question) (walk : Walk) where
       (seen code.events.now walk.place)
       ≡ wrap newtype_data (reader_of fuel code q.way t (q.nest - 1) q.taken (spot_of walk))
   step_newtype name c t e m is some there =
-      rw (← is) (entered m (λ n. with_shape (shape_at code.schema.now c)
-      (λ t. wrap newtype_data (reader_of fuel code q.way t n q.taken (spot_of walk))))
-      q.nest some ∙ (rw there))
+      rw (← is) (entered m _ q.nest some ∙ (rw there))
 
   -- a sequence
   pub step_seq : (e : ℕ) (t : PlainShape) (tag : Option (List ℕ)) (m : Position) → q.shape ≡ seq_shape e
@@ -103,10 +101,7 @@ module _ (code : CodeSource) (fuel : ℕ) (q : Question) (walk : Walk) where
       (sequence_parts (source_of code) (item_at (reader_of fuel code) q.way t (q.nest - 1)) (length code.events.now) []
       (after (spot_of walk)))
   step_seq e t tag m o is some there =
-      rw (← is, o) (entered m (λ n. with_shape (shape_at code.schema.now e)
-      (λ s. wrap (λ vs. seq_data (items_of vs))
-      (sequence_parts (source_of code) (item_at (reader_of fuel code) q.way s n) (length code.events.now) []
-      (after (spot_of walk))))) q.nest some ∙ (rw there))
+      rw (← is, o) (entered m _ q.nest some ∙ (rw there))
 
   -- a row
   pub step_row : (owner : Owner) (ids : List ℕ) (tag : Option (List ℕ)) (m : Position) → q.shape ≡ row_shape owner ids
@@ -116,9 +111,7 @@ module _ (code : CodeSource) (fuel : ℕ) (q : Question) (walk : Walk) where
       (sequence_parts (source_of code) (row_at (source_of code) (reader_of fuel code) q.way (q.nest - 1))
       (length code.events.now) (row_of ids) (after (spot_of walk)))
   step_row owner ids tag m o is some =
-      rw (← is, o) (entered m (λ n. finish (row_data owner (length ids))
-      (sequence_parts (source_of code) (row_at (source_of code) (reader_of fuel code) q.way n) (length code.events.now)
-      (row_of ids) (after (spot_of walk)))) q.nest some)
+      rw (← is, o) (entered m _ q.nest some)
 
   -- a mapping
   pub step_map : (a b : ℕ) (t u : PlainShape) (tag : Option (List ℕ)) (m : Position) → q.shape ≡ map_shape a b
@@ -129,12 +122,7 @@ module _ (code : CodeSource) (fuel : ℕ) (q : Question) (walk : Walk) where
       (entry_at (source_of code) (reader_of fuel code) q.way t u (q.nest - 1)) (length code.events.now) []
       (after (spot_of walk)))
   step_map a b t u tag m o is some there there' =
-      rw (← is, o) (entered m (λ n. with_shape (shape_at code.schema.now a)
-      (λ s. with_shape (shape_at code.schema.now b) (λ t.
-      wrap (λ vs. map_data (entries_of vs))
-      (mapping_parts (source_of code) (entry_at (source_of code) (reader_of fuel code) q.way s t n)
-      (length code.events.now) []
-      (after (spot_of walk)))))) q.nest some ∙ (rw (there, there')))
+      rw (← is, o) (entered m _ q.nest some ∙ (rw (there, there')))
 
 pub finish_fails : {S A C : Type 0} (f : S → Result A ReadFault) (r : Result (S × C) PlainRefusal) (x : PlainRefusal)
     → r ≡ Err x → ◌≡◌ {A = Result (A × C) PlainRefusal} (finish f r) (Err x)

@@ -38,9 +38,7 @@ step_struct code fuel q walk strict fields tag m o is some =
     (fields_as_is q.shape (strict, fields) (is_some q.taken) (mapping_begins tag) o refl)
     ∙ fields_mapping (source_of code) (reader_of fuel code) q.way q.shape strict fields q.nest m (after (spot_of walk))
     o
-    ∙ entered m (λ n. finish (struct_of code.schema.now fields) (mapping_parts (source_of code)
-    (field_at (source_of code) (reader_of fuel code) q.way strict fields n) (length code.events.now)
-    (no_slots fields) (after (spot_of walk)))) q.nest some
+    ∙ entered m _ q.nest some
 
 -- what a name is looked up as, with the way to the value, and where the reading ended
 abbrev pub keyed : Way → Spot → Result (Option (ℕ × ℕ)) ReadFault → Reading (Option (ℕ × ℕ) × Way)

@@ -1,23 +1,26 @@
--- A reading by places of the first events of a document, and one of all of them.
-use Rattle.std.specs.Prelude.{if◌then◌else◌, ◌≡◌, ◌<◌, ◌≤◌, ◌+◌}
-use Rattle.yaml_read.proofs.Words.{bytes_unsupported, sequence_begins, is_sequence_end, mapping_begins, is_mapping_end}
-use Rattle.yaml_read.proofs.Words.{content_shape, PlainDocEvent, end_of_stream, element_under, PlainData, mark_or_first}
-use Rattle.yaml_read.proofs.Words.{newtype_data, variant_data, ignored_data, around_value, any_entry_at, field_key_at}
-use Rattle.yaml_read.proofs.Words.{sequence_at, entries_of, PlainShape, is_closing, as_newtype, some_data, as_ignored}
-use Rattle.yaml_read.proofs.Words.{as_variant, skip_event, mapping_at, shape_step, struct_of, as_tagged, [], value_way}
-use Rattle.yaml_read.proofs.Words.{handed_at, node_step, ltb-true, Position, items_of, any_data, seq_data, ℕ, map_data}
-use Rattle.yaml_read.proofs.Words.{shape_at, sequence, alias_to, trees_in, pairs_in, no_slots, row_data, zero, place_at}
-use Rattle.yaml_read.proofs.Words.{entry_at, field_at, event_at, is_some, refused, tree_in, Handing, as_some, TakenBy}
-use Rattle.yaml_read.proofs.Words.{Reading, each_at, item_at, skip_to, skip_at, text_at, node_at, Option, List, length}
-use Rattle.yaml_read.proofs.Words.{nat_lt, lt-ltb, tagged, unless, Fields, handed, places, row_of, Reader, Some, Events}
-use Rattle.yaml_read.proofs.Words.{Source, row_at, false, arith, ◌>>=◌, Slots, as_is, early, place, after, None, Bool}
-use Rattle.yaml_read.proofs.Words.{true, refl, Spot, turn, suc, Err, sym, ◌∙◌, Way, Row, Ok}
+-- A reading by places of the first events of a document, and one of all of them, which has its faults.
+use Rattle.std.specs.Prelude.{if◌then◌else◌, ◌≡◌, ◌<◌, ◌≤◌, ◌+◌, ◌*◌, ◌∷◌, ◌++◌, ◌&&◌, ◌==◌, ◌≢◌}
+use Rattle.yaml_read.proofs.Words.{is_sequence_end, sequence_begins, is_mapping_end, mapping_begins, PlainDocEvent, Err}
+use Rattle.yaml_read.proofs.Words.{PlainDocument, answer_within, content_shape, element_under, end_of_stream, PlainData}
+use Rattle.yaml_read.proofs.Words.{length-append, mark_or_first, out_of_memory, PlainRefusal, any_entry_at, PlainLimits}
+use Rattle.yaml_read.proofs.Words.{around_value, ignored_data, newtype_data, variant_data, inner_after, sequence_at, Ok}
+use Rattle.yaml_read.proofs.Words.{PlainShape, as_ignored, as_newtype, as_variant, entries_of, is_closing, is_opening}
+use Rattle.yaml_read.proofs.Words.{length-map, map-append, mapping_at, shape_step, skip_event, whole_fuel, as_tagged, ℕ}
+use Rattle.yaml_read.proofs.Words.{end_place, ends_from, handed_at, node_step, slice_get, some_data, struct_of, DocNode}
+use Rattle.yaml_read.proofs.Words.{value_way, IsTreeOf, Position, alias_to, any_data, cause_of, entry_at, event_at, Way}
+use Rattle.yaml_read.proofs.Words.{field_at, items_of, ltb-true, map_data, no_slots, pairs_in, place_at, root_way, Bool}
+use Rattle.yaml_read.proofs.Words.{row_data, seq_data, sequence, shape_at, trees_in, Handing, Reading, TakenBy, as_some}
+use Rattle.yaml_read.proofs.Words.{each_at, ends_of, is_some, item_at, node_at, refused, skip_at, skip_to, text_at, map}
+use Rattle.yaml_read.proofs.Words.{tree_in, Events, GoesOn, Option, Reader, Result, Source, handed, length, lt-ltb, suc}
+use Rattle.yaml_read.proofs.Words.{nat_lt, places, row_at, row_of, tagged, unless, after, arith, as_is, early, false}
+use Rattle.yaml_read.proofs.Words.{place, subst, List, None, Some, Spot, refl, true, turn, zero, sym, ◌∙◌, [], ap}
 use Rattle.yaml_shape.specs.PlainShape as shape
 use Rattle.yaml_tree.specs.Tree as tree
 use Rattle.yaml_read.proofs.reading.Growing.{Grows, alike, ended, wanted, grows_bind, grows_wrap, grows_finish}
 use Rattle.yaml_read.proofs.reading.Growing.{grows_enter, grows_follow, grows_with, grows_unless, grows_if, grows_place}
-use Rattle.yaml_read.proofs.reading.Growing.{grows_row, grows_field}
-use Rattle.yaml_read.proofs.reading.Started.{Stands, started, named}
+use Rattle.yaml_read.proofs.reading.Growing.{grows_row, grows_field, Stands, started, named}
+use Rattle.yaml_read.proofs.reading.WholeReadings.{start, whole_source, whole_reading, tree_shown, document_tied}
+use Rattle.yaml_read.proofs.reading.WholeReadings.{err_is, lands_err}
 
 -- the first events, and all of them
 module _ (table : List PlainShape) (events all : Events) (ends all_ends : ℕ → Option ℕ) (size whole : ℕ)
@@ -192,3 +195,66 @@ module _ (table : List PlainShape) (events all : Events) (ends all_ends : ℕ �
   grows_node (suc fuel) way s nest taken at =
       grows_step (node_at front fuel) (node_at full fuel) (grows_node fuel) (started front fuel)
       (named front fuel) way s nest taken at
+
+-- an element of a list stands in each list that begins with it
+stands_on : {A : Type 0} (xs ys : List A) (p : ℕ) (x : A) → slice_get xs p ≡ Some x → slice_get (xs ++ ys) p ≡ Some x
+stands_on [] ys p x h = absurd cc
+stands_on (y ∷ xs) ys zero x h = h
+stands_on (y ∷ xs) ys (suc p) x h = stands_on xs ys p x h
+
+-- a collection that ends among the first events ends there
+end_on : (es more : List PlainDocEvent) (inner place : ℕ) → end_place inner place es < place + length es
+    → end_place inner place (es ++ more) ≡ end_place inner place es
+end_on [] more inner place lt = absurd (omega arith)
+end_on (e ∷ es) more inner place lt =
+    chosen (is_closing e && (inner == 0)) _ _ lt (λ below. end_on es more (inner_after e inner) (place + 1) below)
+  where
+    chosen : (b : Bool) (p q : ℕ) → (if b then place else p) < place + length (e ∷ es)
+        → (p < place + 1 + length es → q ≡ p) → (if b then place else q) ≡ (if b then place else p)
+    chosen true p q lt later = refl
+    chosen false p q lt later = later (omega (arith, lt))
+
+ends_on : (es more : List PlainDocEvent) (q p end : ℕ) → slice_get (ends_from q es) p ≡ Some end → end < q + length es
+    → slice_get (ends_from q (es ++ more)) p ≡ Some end
+ends_on [] more q p end h lt = absurd cc
+ends_on (e ∷ es) more q zero end h lt = chosen (is_opening e) h
+  where
+    chosen : (b : Bool) → Some (if b then end_place 0 (q + 1) es else q) ≡ Some end
+        → Some (if b then end_place 0 (q + 1) (es ++ more) else q) ≡ Some end
+    chosen true h =
+        let is : end_place 0 (q + 1) es ≡ end = cc in
+        ap Some (end_on es more 0 (q + 1) (omega (arith, is, lt)) ∙ is)
+    chosen false h = h
+ends_on (e ∷ es) more q (suc p) end h lt = ends_on es more (q + 1) p end h (omega arith)
+
+stays : {A : Type 0} (r q : Result A PlainRefusal) (y : PlainRefusal) → Grows r q → r ≡ Err y
+    → y ≢ refused end_of_stream → y ≢ out_of_memory → q ≡ Err y
+stays _ q y (alike r) h end memory = h
+stays _ q y (ended r) h end memory = absurd (end (sym (err_is _ _ h)))
+stays _ q y (wanted r) h end memory = absurd (memory (sym (err_is _ _ h)))
+
+module _ (limits : PlainLimits) (table : List PlainShape) (s : PlainShape) (document whole : PlainDocument)
+    (root : DocNode) (is : IsTreeOf whole root) (on : GoesOn document whole) where
+  -- the same reading over the events of the whole document
+  grown : Grows (whole_reading limits table document s) (node_at (whole_source table whole)
+      (whole_fuel limits (length document.events)) root_way s limits.nesting None (start limits document))
+  grown =
+      grows_node table _ _ _ _ _ _
+      (λ p e h. subst (λ es. slice_get es p ≡ Some e) (sym on.events) (stands_on document.events on.rest p e h))
+      (λ p end h lt.
+      subst (λ es. slice_get (ends_of es) p ≡ Some end)
+      (sym (ap (λ (es : List (PlainDocEvent × Position)). map (λ e. e.0) es) on.events
+      ∙ map-append (λ (e : PlainDocEvent × Position). e.0) document.events on.rest))
+      (ends_on (map (λ e. e.0) document.events) (map (λ e. e.0) on.rest) 0 p end h
+      (omega (arith, lt, length-map document.events (λ (e : PlainDocEvent × Position). e.0)))))
+      (omega (arith, ap length on.events, length-append document.events on.rest))
+      (whole_fuel limits (length document.events)) root_way s limits.nesting None
+      (start limits document)
+
+  pub first_fault : (y : PlainRefusal) → whole_reading limits table document s ≡ Err y → y ≢ refused end_of_stream
+      → y ≢ out_of_memory
+      → answer_within limits.nesting (limits.follows * length document.events) table s whole root ≡ Err (cause_of y)
+  first_fault y h end memory =
+      sym (lands_err (document_tied table whole root is (whole_fuel limits (length document.events)) root_way s
+      limits.nesting None root (start limits document) (tree_shown table whole root is)) y
+      (stays _ _ y grown h end memory))

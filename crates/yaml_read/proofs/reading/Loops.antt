@@ -26,20 +26,6 @@ module _ {S : Type 0} (is_end : PlainDocEvent → Bool) (step : S → Spot → R
   unfolding each_at
   each_going n s at e is end = rw (is, end)
 
-  -- it is refused
-  pub each_fails : (n : ℕ) (s : S) (at : Spot) (e : PlainDocEvent × Position) (x : PlainRefusal)
-      → events at.place ≡ Some e → is_end e.0 ≡ false
-      → step s at ≡ Err x → each_at is_end step events (suc n) s at ≡ Err x
-  each_fails n s at e x is end r = each_going n s at e is end
-      ∙ ap (λ y. y >>= λ x. each_at is_end step events n x.0 x.1) r
-
-  -- it is read
-  pub each_more : (n : ℕ) (s s' : S) (at next : Spot) (e : PlainDocEvent × Position) → events at.place ≡ Some e
-      → is_end e.0 ≡ false
-      → step s at ≡ Ok (s', next) → each_at is_end step events (suc n) s at ≡ each_at is_end step events n s' next
-  each_more n s s' at next e is end r = each_going n s at e is end
-      ∙ ap (λ y. y >>= λ x. each_at is_end step events n x.0 x.1) r
-
 -- so many turns of a loop lead from one state and spot to another
 abbrev pub Leads : {S : Type 0} → (PlainDocEvent → Bool) → (S → Spot → Reading S) → Events → ℕ → S → Spot → S → Spot
     → Type 0
@@ -68,7 +54,8 @@ module _ {S : Type 0} (is_end : PlainDocEvent → Bool) (step : S → Spot → R
       → events next.place ≡ Some e
       → is_end e.0 ≡ false → step s' next ≡ Err x → each_at is_end step events turns s at ≡ Err x
   led_fails turns e x lt is end r =
-      led_on turns lt ∙ each_fails is_end step events (turns - gone - 1) s' next e x is end r
+      led_on turns lt ∙ each_going is_end step events (turns - gone - 1) s' next e is end
+      ∙ ap (λ y. y >>= λ x. each_at is_end step events (turns - gone - 1) x.0 x.1) r
 
   -- a turn more, to a state and a number of turns that may be written otherwise
   pub led_more : (e : PlainDocEvent × Position) (t t' : S) (there : Spot) (far : ℕ) → events next.place ≡ Some e
@@ -77,7 +64,8 @@ module _ {S : Type 0} (is_end : PlainDocEvent → Bool) (step : S → Spot → R
   led_more e t t' there far is end r same more = λ n.
       let split : n + far ≡ suc n + gone = omega (arith, more) in
       ap (λ (m : ℕ). each_at is_end step events m s at) split ∙ led (suc n)
-      ∙ each_more is_end step events n s' t next there e is end r ∙ ap (λ u. each_at is_end step events n u there) same
+      ∙ each_going is_end step events n s' next e is end ∙ ap (λ y. y >>= λ x. each_at is_end step events n x.0 x.1) r
+      ∙ ap (λ u. each_at is_end step events n u there) same
 
 pub wrap_fails : {A B C : Type 0} (f : A → B) (r : Result (A × C) PlainRefusal) (x : PlainRefusal) → r ≡ Err x
     → ◌≡◌ {A = Result (B × C) PlainRefusal} (wrap f r) (Err x)

@@ -60,15 +60,12 @@ module _ (way : Way) (s : PlainShape) (taken : Bool) where
   err_is h = cc
 
   -- a fault is placed alike, whatever the answer would have been, and it is want of memory as before
-  pub place_moved : {A B : Type 0} (e : Option (PlainDocEvent × Position)) (f y : PlainRefusal)
-      → place_at {A = A} way s taken e (Err f) ≡ Err y → place_at {A = B} way s taken e (Err f) ≡ Err y
-  place_moved None f y h = ap Err (err_is h)
-  place_moved (Some e) f y h = ap Err (err_is h)
-
-  pub place_memory : {A : Type 0} (e : Option (PlainDocEvent × Position)) (f y : PlainRefusal)
-      → place_at {A = A} way s taken e (Err f) ≡ Err y → ran_out f ≡ ran_out y
-  place_memory None f y h = ap ran_out (err_is h)
-  place_memory (Some e) f y h = sym (placed_memory (places s taken e.0) e.1 way f) ∙ ap ran_out (err_is h)
+  place_moved : {A B : Type 0} (e : Option (PlainDocEvent × Position)) (f y : PlainRefusal)
+      → place_at {A = A} way s taken e (Err f) ≡ Err y
+      → (place_at {A = B} way s taken e (Err f) ≡ Err y) × (ran_out f ≡ ran_out y)
+  place_moved None f y h = (ap Err (err_is h), ap ran_out (err_is h))
+  place_moved (Some e) f y h =
+      (ap Err (err_is h), sym (placed_memory (places s taken e.0) e.1 way f) ∙ ap ran_out (err_is h))
 
 -- what the step of a node reads is what the node is read as
 pub node_read : (code : CodeSource) (q : Question) (walk : Walk) (fuel : ℕ) (x : PlainData × Spot) → 0 < fuel
@@ -84,10 +81,9 @@ pub node_refused : (code : CodeSource) (q : Question) (walk : Walk) (fuel : ℕ)
     → place_at {A = Spot} q.way q.shape (is_some q.taken) (seen code.events.now walk.place) (Err f) ≡ Err y
     → ran_out y ≡ false → by_node code fuel q walk ≡ Err y
 node_refused code q walk fuel f y some h told m =
+    let moved = place_moved q.way q.shape (is_some q.taken) (seen code.events.now walk.place) f y told in
     node_unfolds (source_of code) q.way q.shape q.nest q.taken (spot_of walk) fuel some
-    ∙ ap (place_at q.way q.shape (is_some q.taken) (seen code.events.now walk.place))
-    (h (place_memory q.way q.shape (is_some q.taken) (seen code.events.now walk.place) f y told ∙ m))
-    ∙ place_moved q.way q.shape (is_some q.taken) (seen code.events.now walk.place) f y told
+    ∙ ap (place_at q.way q.shape (is_some q.taken) (seen code.events.now walk.place)) (h (moved.1 ∙ m)) ∙ moved.0
 
 pub node_refused_here : (code : CodeSource) (q : Question) (walk : Walk) (fuel : ℕ) (e : PlainDocEvent) (m : Position)
     (f y : PlainRefusal) → 0 < fuel → seen code.events.now walk.place ≡ Some (e, m)

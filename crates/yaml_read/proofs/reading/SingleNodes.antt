@@ -11,8 +11,8 @@ use Rattle.yaml_read.proofs.reading.Outcomes.{reads, deep, many}
 use Rattle.yaml_read.proofs.reading.Shown.{target_shown}
 use Rattle.yaml_read.proofs.reading.Sound.{tree_sound}
 use Rattle.yaml_read.proofs.reading.TreeWalks.{Lands}
-use Rattle.yaml_read.proofs.reading.WholeReadings.{whole_source, tree_shown, document_tied, reach_small, seen_at}
-use Rattle.yaml_read.proofs.reading.WholeReadings.{same_ok, lands_at, lands_ok, lands_err}
+use Rattle.yaml_read.proofs.reading.WholeReadings.{walk_source, whole_source, tree_shown, document_tied, reach_small}
+use Rattle.yaml_read.proofs.reading.WholeReadings.{seen_at, same_ok, lands_at, lands_ok, lands_err}
 
 is_taken : (taken : Bool) → is_some (taker taken) ≡ taken
 is_taken true = refl
@@ -37,12 +37,7 @@ module _ (table : List PlainShape) (s : PlainShape) (document : PlainDocument) (
       → around ≡ taker at.tag_taken → reach table s ≤ 4096
       → marked_events_of es ≡ document.events → ends ≡ ends_of (map (λ e. e.0) document.events)
       → ((fuel : ℕ) → depth table s (is_some around) at.nestings at.follows < fuel
-      → node_at (record {
-        table = table;
-        events = slice_get (marked_events_of es);
-        ends = slice_get ends;
-        size = length es;
-      }) fuel way s at.nestings around (spot_at at) ≡ r)
+      → node_at (walk_source table es ends) fuel way s at.nestings around (spot_at at) ≡ r)
       → node_reading ≡ r
   seen_node es ends r around is small seen numbers gives =
       subst (λ t. node_at (whole_source table document) (fuel_at at) way s at.nestings t (spot_at at) ≡ r) is

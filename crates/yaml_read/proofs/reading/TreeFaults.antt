@@ -18,11 +18,10 @@ use Rattle.yaml_shape.specs.PlainShape as shape
 use Rattle.yaml_tree.specs.Tree as tree
 use Rattle.yaml_read.proofs.FieldLaws.{named_found}
 use Rattle.yaml_read.proofs.reading.Handings.{From, handed_from}
-use Rattle.yaml_read.proofs.reading.Reaches.{reach_rank}
+use Rattle.yaml_read.proofs.reading.Reaches.{content_there, find_all, looked, reach_rank, there}
 use Rattle.yaml_read.proofs.reading.TreeEnds.{Ends, ends_value, ends_fault, Any, ends_wrap, ends_map, ends_pure}
 use Rattle.yaml_read.proofs.reading.TreeEnds.{ends_finish, ends_enter, ends_follow, ends_with, ends_unless, ends_place}
 use Rattle.yaml_read.proofs.reading.TreeEnds.{ends_nodes, ends_pairs}
-use Rattle.yaml_read.proofs.reading.Within.{find_all, looked, there, content_there}
 
 module _ (table : List PlainShape) (root : DocNode) (marks : ℕ → Position) (small : (id : ℕ) → rank table id ≤ 4096)
     (falls : (id content : ℕ) → shape_at table id ≡ Some (shape.option_shape content)

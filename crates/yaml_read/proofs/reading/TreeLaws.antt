@@ -1,22 +1,34 @@
 -- Where events show a node, reading it by its place answers what reading the tree answers, and ends behind the node.
-use Rattle.std.specs.Prelude.{◌≡◌, ◌+◌, ◌<◌, ◌∷◌, ◌++◌}
-use Rattle.yaml_read.proofs.Words.{ℕ, zero, suc, [], length, Option, Some, None, Ok, Bool, true, refl, sym, subst}
-use Rattle.yaml_read.proofs.Words.{add-one, List, arith, ap, ◌∙◌, is_some, Position, PlainData, any_data, variant_data, some_data}
-use Rattle.yaml_read.proofs.Words.{newtype_data, PlainShape, any_shape, shape_at, content_shape, tagged, DocNode}
-use Rattle.yaml_read.proofs.Words.{nothing, reference, word, list, mapping, events_of, events_of_nodes, events_of_pairs}
-use Rattle.yaml_read.proofs.Words.{node_of, first_event, PlainDocEvent, alias_to, sequence_ends, mapping_ends}
-use Rattle.yaml_read.proofs.Words.{scalar_answer, void_answer, ◌>>=◌, ending, tree_in, Fields, no_slots, struct_of}
-use Rattle.yaml_read.proofs.Words.{Handing, as_is, as_some, as_newtype, as_ignored, as_bare, as_variant, as_tagged}
-use Rattle.yaml_read.proofs.Words.{as_refused, is_bare, handed, early, TakenBy, around_value, Way, places, place, Spot}
-use Rattle.yaml_read.proofs.Words.{after, TreeReader, Answer, sequence_of, mapping_of, target_of, node_by, handed_by}
-use Rattle.yaml_read.proofs.Words.{read_tree, mark_or_first, Source, Reading, Reader, sequence_at, mapping_at, event_at}
-use Rattle.yaml_read.proofs.Words.{handed_at, shape_step, node_at, place_at}
+use Rattle.std.specs.Prelude.{◌++◌, ◌≡◌, ◌+◌, ◌<◌, ◌∷◌}
+use Rattle.yaml_read.proofs.Words.{identifier_shape, events_of_nodes, events_of_pairs, field_value_at, PlainDocEvent, ℕ}
+use Rattle.yaml_read.proofs.Words.{content_shape, element_under, mark_or_first, scalar_answer, sequence_ends, PlainData}
+use Rattle.yaml_read.proofs.Words.{around_value, field_key_at, fields_shape, ignored_data, mapping_ends, newtype_data}
+use Rattle.yaml_read.proofs.Words.{variant_data, field_value, first_event, sequence_at, sequence_of, value_under, Slots}
+use Rattle.yaml_read.proofs.Words.{void_answer, PlainShape, TreeReader, any_key_at, any_key_of, as_ignored, as_newtype}
+use Rattle.yaml_read.proofs.Words.{as_refused, as_variant, entries_of, mapping_at, mapping_of, shape_step, text_place}
+use Rattle.yaml_read.proofs.Words.{with_shape, any_shape, as_tagged, events_of, field_key, handed_at, handed_by, Answer}
+use Rattle.yaml_read.proofs.Words.{map_shape, read_tree, reference, row_shape, seq_shape, some_data, struct_of, DocNode}
+use Rattle.yaml_read.proofs.Words.{target_of, value_way, DocNodes, DocPairs, Position, alias_to, any_data, event_at, Ok}
+use Rattle.yaml_read.proofs.Words.{items_of, map_data, no_slots, pairs_in, place_at, row_data, row_part, row_step, Bool}
+use Rattle.yaml_read.proofs.Words.{seq_data, sequence, shape_at, trees_in, value_of, Handing, Reading, TakenBy, add-one}
+use Rattle.yaml_read.proofs.Words.{as_bare, as_some, is_bare, is_some, item_at, item_of, mapping, node_at, node_by, Way}
+use Rattle.yaml_read.proofs.Words.{node_of, nothing, skip_at, tree_in, Fields, Option, Reader, Source, ending, handed}
+use Rattle.yaml_read.proofs.Words.{key_of, length, lt-ltb, nat_lt, places, row_at, row_of, tagged, after, arith, as_is}
+use Rattle.yaml_read.proofs.Words.{early, place, subst, ◌>>=◌, List, None, Some, Spot, list, refl, true, word, wrap, []}
+use Rattle.yaml_read.proofs.Words.{zero, set, suc, sym, ◌∙◌, ap}
+use Rattle.yaml_tree.specs.Tree as tree_of
+use Rattle.yaml_read.proofs.reading.Shown.{Shows, begins, opens, node_within, target_shown}
+use Rattle.yaml_read.proofs.reading.TreeWalks.{Lands, lands, refuses, lands_wrap, lands_enter, lands_with, lands_finish}
+use Rattle.yaml_read.proofs.reading.TreeWalks.{nodes_tied, pairs_tied, lands_ending, lands_follow, lands_unless}
 use Rattle.yaml_read.proofs.reading.Handings.{from_handing}
 use Rattle.yaml_read.proofs.reading.PlaceLaws.{lands_place}
-use Rattle.yaml_read.proofs.reading.Shown.{Shows, target_shown, begins}
-use Rattle.yaml_read.proofs.reading.TreeWalks.{Lands, lands, refuses, lands_wrap, lands_ending, lands_enter}
-use Rattle.yaml_read.proofs.reading.TreeWalks.{lands_follow, lands_with, lands_unless}
-use Rattle.yaml_read.proofs.reading.TreeParts.{AreTied, skip_tied, sequence_tied, mapping_tied}
+
+module _ (source : Source) where
+  -- a reader by places answers what a reader of trees answers
+  abbrev pub AreTied : Reader → TreeReader → Type 0
+  AreTied read tree = (s : PlainShape) (nest : ℕ) (taken : Option TakenBy) (n : DocNode) (at : Spot)
+      → Shows source.events at.place (events_of n)
+      → Lands (at.place + length (events_of n)) (read s nest taken at) (tree s nest taken n at)
 
 module _ (source : Source) (within : (p : ℕ) (e : PlainDocEvent × Position) → source.events p ≡ Some e
     → p < source.size)
@@ -30,8 +42,95 @@ module _ (source : Source) (within : (p : ℕ) (e : PlainDocEvent × Position) �
   mark_of : (p : ℕ) (e : PlainDocEvent × Position) → source.events p ≡ Some e → e.1 ≡ marks p
   mark_of p e h = sym (ap mark_or_first h) ∙ marked p
 
+  -- a node that is stepped over
+  pub skip_tied : (n : DocNode) (at : Spot) → Shows source.events at.place (events_of n)
+      → Lands (at.place + length (events_of n)) (skip_at source at) (Ok (ignored_data, at.left))
+  skip_tied n at sh =
+      let here = begins source.events at.place n sh in
+      let end = stepped at.place n sh in
+      let lies : end.0 < source.size =
+      node_within source.events source.size within at.place end.0 n sh end.2 in
+      let below : nat_lt end.0 source.size ≡ true = lt-ltb end.0 source.size lies in
+      rw (here.1, opens n, end.1, below) (subst (λ q. Lands q
+      (Ok (ignored_data, record { place = end.0 + 1; left = at.left })) (Ok (ignored_data, at.left))) end.2
+      (lands ignored_data at.left))
+
   module _ (read : Way → Reader) (tree : Way → TreeReader) (tied : (w : Way) → AreTied source (read w) (tree w))
       (way : Way) where
+    -- the elements of a row
+    row_tied : (w : Way) (ids : List ℕ) (vs : List PlainData) (extra nest : ℕ) (m : DocNode) (at : Spot)
+        → Shows source.events at.place (events_of m)
+        → Lands (at.place + length (events_of m)) (row_step ids vs extra
+        (λ id. with_shape (shape_at source.table id) (λ s. read w s nest None at)) (skip_at source at))
+        (row_step ids vs extra (λ id. with_shape (shape_at source.table id) (λ s. tree w s nest None m at))
+        (Ok (ignored_data, at.left)))
+    row_tied w [] vs extra nest m at h = lands_wrap _ (skip_tied m at h)
+    row_tied w (id ∷ ids) vs extra nest m at h =
+        lands_wrap _ (lands_with (shape_at source.table id) (λ s. tied w s nest None m at h))
+
+    -- a sequence behind its start
+    pub sequence_tied : (s : PlainShape) (nest : ℕ) (mark : Position) (ns : DocNodes) (at : Spot)
+        → Shows source.events at.place (events_of_nodes ns ++ sequence_ends ∷ []) → 0 < at.place
+        → Lands (at.place + length (events_of_nodes ns ++ sequence_ends ∷ []))
+        (sequence_at source read way s nest mark at) (sequence_of source.table tree way s nest mark ns at)
+    sequence_tied (seq_shape e) nest mark ns at sh lt =
+        lands_enter nest mark (λ n. lands_with (shape_at source.table e) (λ s. lands_wrap (λ vs. seq_data (items_of vs))
+        (nodes_tied source.events source.size within (item_at read way s n) (item_of tree way s n)
+        (λ vs m a h. lands_wrap (λ v. vs ++ v ∷ []) (tied (element_under way (length vs)) s n None m a h))
+        source.size [] ns at sh (omega arith))))
+    sequence_tied (row_shape owner ids) nest mark ns at sh lt =
+        lands_enter nest mark (λ n. lands_finish (row_data owner (length ids))
+        (nodes_tied source.events source.size within (row_at source read way n) (row_part source.table tree way n)
+        (λ row m a h. row_tied (element_under way (length row.read)) row.left row.read row.extra n m a h) source.size
+        (row_of ids) ns at sh (omega arith)))
+    sequence_tied any_shape nest mark ns at sh lt =
+        lands_enter nest mark (λ n. lands_wrap (λ vs. any_data (sequence (trees_in (items_of vs))))
+        (nodes_tied source.events source.size within (item_at read way any_shape n) (item_of tree way any_shape n)
+        (λ vs m a h. lands_wrap (λ v. vs ++ v ∷ []) (tied (element_under way (length vs)) any_shape n None m a h))
+        source.size [] ns at sh (omega arith)))
+    sequence_tied _ nest mark ns at sh lt = refuses _
+
+    -- the value of a field, or of a name that is none
+    field_value_tied : (nest : ℕ) (slots : Slots) (k : Option (ℕ × ℕ) × Way) (n : DocNode) (at : Spot)
+        → Shows source.events at.place (events_of n)
+        → Lands (at.place + length (events_of n)) (field_value_at source read nest slots k at)
+        (field_value source.table tree nest slots k n at)
+    field_value_tied nest slots (None, w) n at h = lands_wrap (λ v. slots) (skip_tied n at h)
+    field_value_tied nest slots (Some f, w) n at h =
+        lands_wrap (λ v. set slots f.0 (Some v)) (lands_with (shape_at source.table f.1)
+        (λ s. tied w s nest None n at h))
+
+    -- a mapping behind its start
+    pub mapping_tied : (s : PlainShape) (nest : ℕ) (mark : Position) (ps : DocPairs) (at : Spot)
+        → Shows source.events at.place (events_of_pairs ps ++ mapping_ends ∷ []) → 0 < at.place
+        → Lands (at.place + length (events_of_pairs ps ++ mapping_ends ∷ []))
+        (mapping_at source read way s nest mark at) (mapping_of source.table tree marks way s nest mark ps at)
+    mapping_tied (map_shape a b) nest mark ps at sh lt =
+        lands_enter nest mark (λ n. lands_with (shape_at source.table a) (λ s. lands_with (shape_at source.table b)
+        (λ t. lands_wrap (λ vs. map_data (entries_of vs)) (pairs_tied source.events source.size within
+        (λ vs q. wrap {B = Way × PlainData} (λ k. (value_way way (source.events q.place), k)) (read way s n None q))
+        (λ vs k q. wrap (λ v. vs ++ (k.1, v) ∷ []) (read k.0 t n None q)) (key_of tree way s n) (value_of tree t n)
+        (λ vs m q h. rw (begins source.events q.place m h).1 (lands_wrap _ (tied way s n None m q h)))
+        (λ vs k m q h. lands_wrap (λ v. vs ++ (k.1, v) ∷ [])
+        (tied k.0 t n None m q h)) source.size [] ps at sh (omega arith)))))
+    mapping_tied (fields_shape strict owner fields) nest mark ps at sh lt =
+        lands_enter nest mark (λ n. lands_finish (struct_of source.table fields)
+        (pairs_tied source.events source.size within
+        (field_key_at source read way strict fields n) (field_value_at source read n)
+        (field_key tree marks way strict fields n) (field_value source.table tree n)
+        (λ slots m q h. rw ((begins source.events q.place m h).1, marked (text_place (first_event m) q.place))
+        (lands_finish _ (tied way identifier_shape n None m q h)))
+        (field_value_tied n) source.size (no_slots fields) ps at sh (omega arith)))
+    mapping_tied any_shape nest mark ps at sh lt =
+        lands_enter nest mark (λ n. lands_wrap (λ vs. any_data (tree_of.mapping (pairs_in (entries_of vs))))
+        (pairs_tied source.events source.size within (any_key_at source read way n)
+        (λ vs k q. wrap (λ v. vs ++ (k.1, v) ∷ []) (read k.0 any_shape n None q)) (any_key_of tree way n)
+        (value_of tree any_shape n)
+        (λ vs m q h. rw (begins source.events q.place m h).1 (lands_finish _ (tied way any_shape n None m q h)))
+        (λ vs k m q h. lands_wrap (λ v. vs ++ (k.1, v) ∷ [])
+        (tied k.0 any_shape n None m q h)) source.size [] ps at sh (omega arith)))
+    mapping_tied _ nest mark ps at sh lt = refuses _
+
     -- the target of an alias
     target_tied : (s : PlainShape) (nest j left end : ℕ) (o : Option DocNode) → (n : DocNode) → node_of root j ≡ Some n
         → node_of root j ≡ o
@@ -70,10 +169,10 @@ module _ (source : Source) (within : (p : ℕ) (e : PlainDocEvent × Position) �
         (node_of root j) target.0 target.1 refl)
     node_tied s nest taken (list tag ns) at mark here sh =
         rw (mark_of at.place _ here) (collection_tied at.place (events_of_nodes ns ++ sequence_ends ∷ []) sh.1
-        (sequence_tied source within stepped marks marked read tree tied way s nest (marks at.place) ns (after at)))
+        (sequence_tied s nest (marks at.place) ns (after at)))
     node_tied s nest taken (mapping tag ps) at mark here sh =
         rw (mark_of at.place _ here) (collection_tied at.place (events_of_pairs ps ++ mapping_ends ∷ []) sh.1
-        (mapping_tied source within stepped marks marked read tree tied way s nest (marks at.place) ps (after at)))
+        (mapping_tied s nest (marks at.place) ps (after at)))
 
     -- a struct of which no field is there is one event
     bare_tied : (fields : Fields) (n : DocNode) (at : Spot) → is_bare (first_event n) ≡ true
@@ -98,7 +197,7 @@ module _ (source : Source) (within : (p : ℕ) (e : PlainDocEvent × Position) �
     handed_tied (as_newtype c) s nest taken n at mark to here sh =
         rw (mark_of at.place _ here) (lands_enter nest (marks at.place) (λ m. lands_with (shape_at source.table c)
         (λ t. lands_wrap newtype_data (tied way t m taken n at sh))))
-    handed_tied as_ignored s nest taken n at mark to here sh = skip_tied source within stepped n at sh
+    handed_tied as_ignored s nest taken n at mark to here sh = skip_tied n at sh
     handed_tied (as_bare fields) s nest taken n at mark to here sh =
         bare_tied fields n at (from_handing s (is_some taken) (first_event n) (as_bare fields) to).3
     handed_tied (as_variant place around content) s nest taken n at mark to here sh =

@@ -1,19 +1,23 @@
 -- What a document gives, from what its reading gives.
 use Rattle.std.specs.Prelude.{◌≡◌, ◌*◌, ◌<◌, ◌≤◌, ◌≢◌, ◌⊎◌}
-use Rattle.yaml_read.proofs.Words.{IsReadingFault, PlainDocument, out_of_memory, end_of_stream, DocumentGives, shape_at}
-use Rattle.yaml_read.proofs.Words.{option_shape, PlainRefusal, front_answer, IsNodeFault, PlainLimits, PlainShape, List}
-use Rattle.yaml_read.proofs.Words.{whole_fuel, whole_tree, value_told, is_memory, PlainData, IsRefusal, cut_fault, Some}
-use Rattle.yaml_read.proofs.Words.{answer_of, IsEnding, cause_of, root_way, IsTreeOf, marks_of, DocNode, refused, false}
-use Rattle.yaml_read.proofs.Words.{ran_out, Reading, length, Result, subst, arith, Cause, reach, Means, Reads, None, Ok}
-use Rattle.yaml_read.proofs.Words.{refl, rank, Spot, Err, sym, ◌∙◌, inl, inr, ap, ℕ}
+use Rattle.yaml_read.proofs.Words.{get_or_from_slice_get, slice_get_within, IsReadingFault, AllNameWithin, PlainRefusal}
+use Rattle.yaml_read.proofs.Words.{DocumentGives, PlainDocument, end_of_stream, out_of_memory, front_answer, All-get_or}
+use Rattle.yaml_read.proofs.Words.{option_shape, IsNodeFault, NamesWithin, PlainLimits, PlainShape, value_told, DocNode}
+use Rattle.yaml_read.proofs.Words.{whole_fuel, whole_tree, IsRefusal, PlainData, answer_of, cut_fault, is_memory, Cause}
+use Rattle.yaml_read.proofs.Words.{IsEnding, IsTreeOf, cause_of, marks_of, root_way, shape_at, Reading, ran_out, Result}
+use Rattle.yaml_read.proofs.Words.{refused, length, Means, Reads, arith, false, reach, subst, List, None, Some, Spot, ℕ}
+use Rattle.yaml_read.proofs.Words.{rank, refl, Err, inl, inr, sym, ◌∙◌, Ok, ap}
 use Rattle.yaml_base.specs.declared.error.Cause.TheVariants.{MoreThanOneDocument, EndOfStream}
 pub use Rattle.yaml_read.proofs.reading.WholeReadings.{whole_source, whole_reading}
 use Rattle.yaml_read.proofs.reading.Outcomes.{Outcome, reads, deep, many}
 use Rattle.yaml_read.proofs.reading.Complete.{tree_outcome}
-use Rattle.yaml_read.proofs.reading.ReadingCauses.{cut_kept, fault_is_reading, fault_of_node}
+use Rattle.yaml_read.proofs.reading.WholeReadings.{cut_kept, fault_is_reading, fault_of_node, err_is, lands_ok}
+use Rattle.yaml_read.proofs.reading.WholeReadings.{lands_err, answer_ok, told_err, start, whole_tied}
 use Rattle.yaml_read.proofs.reading.Sound.{tree_sound}
-use Rattle.yaml_read.proofs.reading.Fronts.{first_fault}
-use Rattle.yaml_read.proofs.reading.WholeReadings.{err_is, lands_ok, lands_err, answer_ok, told_err, start, whole_tied}
+use Rattle.yaml_read.proofs.reading.GrowingReadings.{first_fault}
+use Rattle.yaml_read.proofs.reading.Reaches.{low}
+use Rattle.yaml_read.proofs.reading.TreeEnds.{ends_refused}
+use Rattle.yaml_read.proofs.reading.TreeFaults.{tree_ends}
 
 -- what is told of a document that was cut off is what cut it off, or a fault of a node
 told_by : (r : Reading PlainData) (cut y : Cause) → y ≡ cut_fault cut (value_told r) → is_memory y ≡ false
@@ -195,3 +199,24 @@ module _ (limits : PlainLimits) (table : List PlainShape) (s : PlainShape) (docu
       exact = exact;
       cut = λ fault is. let bad = sym whole ∙ is in absurd cc;
     }
+
+module _ (table : List PlainShape) (small : (id : ℕ) → rank table id ≤ 4096) (falls : (id content : ℕ)
+    → shape_at table id ≡ Some (option_shape content) → rank table content < rank table id)
+    (closed : AllNameWithin (length table) table) (limits : PlainLimits) where
+  -- the names of a shape of the table are in the table
+  names_within : (id : ℕ) (s : PlainShape) → shape_at table id ≡ Some s → NamesWithin (length table) s
+  names_within id s at =
+      subst (NamesWithin (length table)) (get_or_from_slice_get table id s s at)
+      (All-get_or (NamesWithin (length table)) table id s (slice_get_within table id s at) closed)
+
+  pub answer_kind : (id : ℕ) (s : PlainShape) (document : PlainDocument) (root : DocNode) → shape_at table id ≡ Some s
+      → (fault : Cause) → answer_of limits table s document root ≡ Err fault → IsReadingFault fault
+  answer_kind id s document root at fault e =
+      let short = low table small falls id s at in
+      let told = told_err (whole_tree limits table document.events s root) fault e in
+      let refused = ends_refused
+      (tree_ends table root (marks_of document.events) small falls closed
+      (whole_fuel limits (length document.events)) root_way s limits.nesting None root
+      (start limits document)
+      (names_within id s at) short (omega (arith, short))) told.0 told.1 in
+      subst IsReadingFault (ap cause_of refused.1 ∙ told.2) (fault_is_reading refused.0)
