@@ -99,8 +99,7 @@ pairs_more (w ∷ vs) k v = ap (pair (tree_in w.0) (tree_in w.1)) (pairs_more vs
 
 -- a new key with its value, behind those that were read
 pub pairs_grow : (vs : List (PlainData × PlainData)) (k v : PlainData) (ps : Pairs) → pairs_of vs ≡ ps
-    → has_key (tree_in k) ps ≡ false
-    → pairs_of (vs ++ (k, v) ∷ []) ≡ with_pair (tree_in k) (tree_in v) ps
+    → has_key (tree_in k) ps ≡ false → pairs_of (vs ++ (k, v) ∷ []) ≡ with_pair (tree_in k) (tree_in v) ps
 pairs_grow vs k v ps same new =
     pairs_more vs k v ∙ (ap (λ qs. with_last qs (tree_in k) (tree_in v)) same
     ∙ sym (pair_behind (tree_in k) (tree_in v) ps new))

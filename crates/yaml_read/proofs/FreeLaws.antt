@@ -23,10 +23,8 @@ pub scalar_answered : (s : PlainShape) (document : PlainDocument) (w : PlainScal
 scalar_answered s document w mark v leaf whole first is = record {
   whole = whole;
   answer = λ limits table root tree.
-      answered limits table s document v _
-      (leaf_scalar (whole_source table document) root_way s limits.nesting None
-      (start limits document)
-      (whole_fuel limits (length document.events)) w mark (omega arith) leaf first
+      answered limits table s document v _ (leaf_scalar (whole_source table document) root_way s limits.nesting None
+      (start limits document) (whole_fuel limits (length document.events)) w mark (omega arith) leaf first
       ∙ ap (λ (r : Result PlainData ReadFault). place true mark root_way
       (ending (record { place = 1; left = limits.follows * length document.events }) r)) is) root tree;
 }
@@ -94,8 +92,7 @@ absent_answered s c document w mark v same none whole first absent = record {
   whole = whole;
   answer = λ limits table root tree. rw (same, none)
       (answered limits table (option_shape c) document none_data _
-      (scalar_read (whole_source table document) root_way (option_shape c) limits.nesting None
-      (start limits document)
+      (scalar_read (whole_source table document) root_way (option_shape c) limits.nesting None (start limits document)
       (whole_fuel limits (length document.events)) w mark none_data (omega arith) first refl
       (rw absent refl) (rw absent refl))
       root tree);

@@ -82,8 +82,7 @@ first_end n q rest = chosen n
 -- the same behind other events
 behind_others : (before : List PlainDocEvent) (q : ℕ) (n : DocNode) (after : List PlainDocEvent)
     → EndsAt (ends_from q (before ++ (events_of n ++ after))) (length before) (q + length before + length (events_of n))
-behind_others [] q n after =
-    subst (EndsAt (ends_from q (events_of n ++ after)) 0) (omega arith) (first_end n q after)
+behind_others [] q n after = subst (EndsAt (ends_from q (events_of n ++ after)) 0) (omega arith) (first_end n q after)
 behind_others (e ∷ before) q n after =
     subst (EndsAt (ends_from (q + 1) (before ++ (events_of n ++ after))) (length before)) (omega arith)
     (behind_others before (q + 1) n after)

@@ -58,17 +58,14 @@ module _ (source : Source) (read : Way → Reader) (way : Way) (strict : Bool) (
 
   pub known_name : (place id : ℕ) (s : PlainShape) (w : Way) (middle : Spot)
       → field_key_at source read way strict fields nest slots at ≡ Ok ((Some (place, id), w), middle)
-      → shape_at source.table id ≡ Some s
-      → field_at source read way strict fields nest slots at
+      → shape_at source.table id ≡ Some s → field_at source read way strict fields nest slots at
       ≡ wrap (λ v. set slots place (Some v)) (read w s nest None middle)
   known_name place id s w middle h there = rw (h, there) refl
 
   -- the name that was read is looked up
   pub key_looked_up : (k : PlainData) (middle : Spot) (mark : Position) → read way identifier_shape nest None at
-      ≡ Ok (k, middle)
-      → mark ≡ mark_or_first (source.events (text_at at.place (source.events at.place)))
-      → field_key_at source read way strict fields nest slots at
-      ≡ keyed (value_way way (source.events at.place)) middle
+      ≡ Ok (k, middle) → mark ≡ mark_or_first (source.events (text_at at.place (source.events at.place)))
+      → field_key_at source read way strict fields nest slots at ≡ keyed (value_way way (source.events at.place)) middle
       (field_named strict fields slots (name_in k) (record { mark = mark; path = way.text }))
   key_looked_up k middle mark h m =
       rw (h, m) (over (value_way way (source.events at.place)) (field_named strict fields slots (name_in k) _))

@@ -1,19 +1,18 @@
 -- A reading by places of the first events of a document, and one of all of them, which has its faults.
 use Rattle.std.specs.Prelude.{if◌then◌else◌, ◌≡◌, ◌<◌, ◌≤◌, ◌+◌, ◌*◌, ◌∷◌, ◌++◌, ◌&&◌, ◌==◌, ◌≢◌}
 use Rattle.yaml_read.proofs.Words.{is_sequence_end, sequence_begins, is_mapping_end, mapping_begins, PlainDocEvent, Err}
-use Rattle.yaml_read.proofs.Words.{PlainDocument, answer_within, content_shape, element_under, end_of_stream, PlainData}
-use Rattle.yaml_read.proofs.Words.{length-append, mark_or_first, out_of_memory, PlainRefusal, any_entry_at, PlainLimits}
-use Rattle.yaml_read.proofs.Words.{around_value, ignored_data, newtype_data, variant_data, inner_after, sequence_at, Ok}
-use Rattle.yaml_read.proofs.Words.{PlainShape, as_ignored, as_newtype, as_variant, entries_of, is_closing, is_opening}
-use Rattle.yaml_read.proofs.Words.{length-map, map-append, mapping_at, shape_step, skip_event, whole_fuel, as_tagged, ℕ}
-use Rattle.yaml_read.proofs.Words.{end_place, ends_from, handed_at, node_step, slice_get, some_data, struct_of, DocNode}
-use Rattle.yaml_read.proofs.Words.{value_way, IsTreeOf, Position, alias_to, any_data, cause_of, entry_at, event_at, Way}
-use Rattle.yaml_read.proofs.Words.{field_at, items_of, ltb-true, map_data, no_slots, pairs_in, place_at, root_way, Bool}
-use Rattle.yaml_read.proofs.Words.{row_data, seq_data, sequence, shape_at, trees_in, Handing, Reading, TakenBy, as_some}
-use Rattle.yaml_read.proofs.Words.{each_at, ends_of, is_some, item_at, node_at, refused, skip_at, skip_to, text_at, map}
-use Rattle.yaml_read.proofs.Words.{tree_in, Events, GoesOn, Option, Reader, Result, Source, handed, length, lt-ltb, suc}
-use Rattle.yaml_read.proofs.Words.{nat_lt, places, row_at, row_of, tagged, unless, after, arith, as_is, early, false}
-use Rattle.yaml_read.proofs.Words.{place, subst, List, None, Some, Spot, refl, true, turn, zero, sym, ◌∙◌, [], ap}
+use Rattle.yaml_read.proofs.Words.{PlainDocument, answer_within, element_under, end_of_stream, length-append, PlainData}
+use Rattle.yaml_read.proofs.Words.{mark_or_first, out_of_memory, PlainRefusal, any_entry_at, around_value, ignored_data}
+use Rattle.yaml_read.proofs.Words.{newtype_data, PlainLimits, inner_after, sequence_at, PlainShape, as_ignored, DocNode}
+use Rattle.yaml_read.proofs.Words.{as_newtype, as_variant, is_closing, is_opening, length-map, map-append, mapping_at}
+use Rattle.yaml_read.proofs.Words.{shape_step, skip_event, whole_fuel, as_tagged, end_place, ends_from, handed_at, Bool}
+use Rattle.yaml_read.proofs.Words.{node_step, slice_get, some_data, value_way, IsTreeOf, Position, alias_to, cause_of}
+use Rattle.yaml_read.proofs.Words.{entry_at, event_at, field_at, ltb-true, no_slots, place_at, root_way, Handing, after}
+use Rattle.yaml_read.proofs.Words.{Reading, TakenBy, as_some, each_at, ends_of, is_some, item_at, node_at, refused, Way}
+use Rattle.yaml_read.proofs.Words.{skip_at, skip_to, text_at, Events, GoesOn, Option, Reader, Result, Source, handed, ℕ}
+use Rattle.yaml_read.proofs.Words.{length, lt-ltb, nat_lt, row_at, row_of, unless, arith, as_is, early, false, place}
+use Rattle.yaml_read.proofs.Words.{subst, List, None, Some, Spot, refl, true, turn, zero, map, suc, sym, ◌∙◌, Ok, []}
+use Rattle.yaml_read.proofs.Words.{ap}
 use Rattle.yaml_shape.specs.PlainShape as shape
 use Rattle.yaml_tree.specs.Tree as tree
 use Rattle.yaml_read.proofs.reading.Growing.{Grows, alike, ended, wanted, grows_bind, grows_wrap, grows_finish}
@@ -49,8 +48,7 @@ module _ (table : List PlainShape) (events all : Events) (ends all_ends : ℕ �
             (turn is_end other (each_at is_end other all m) s at (all at.place))
         by_turn None is later = ended _
         by_turn (Some e) is later =
-            rw (more at.place e is)
-            (grows_if (is_end e.0) (alike _) (grows_bind (grows s at) (λ x e. later x.0 x.1)))
+            rw (more at.place e is) (grows_if (is_end e.0) (alike _) (grows_bind (grows s at) (λ x e. later x.0 x.1)))
 
   -- ---- steps over nodes
   grows_skip_to : (p left : ℕ) (o : Option ℕ) → ends p ≡ o
@@ -106,36 +104,36 @@ module _ (table : List PlainShape) (events all : Events) (ends all_ends : ℕ �
     grows_sequence : (s : PlainShape) (nest : ℕ) (mark : Position) (at : Spot)
         → Grows (sequence_at front read way s nest mark at) (sequence_at full other way s nest mark at)
     grows_sequence (shape.seq_shape e) nest mark at =
-        grows_enter nest mark (λ n. grows_with (shape_at table e) (λ s. grows_wrap (λ vs. seq_data (items_of vs))
+        grows_enter nest mark (λ n. grows_with _ (λ s. grows_wrap _
         (grows_each is_sequence_end (grows_item s n) size whole [] at larger)))
     grows_sequence (shape.row_shape owner ids) nest mark at =
-        grows_enter nest mark (λ n. grows_finish (row_data owner (length ids)) (grows_each
+        grows_enter nest mark (λ n. grows_finish _ (grows_each
         {step = row_at front read way n} {other = row_at full other way n} is_sequence_end (λ row at.
-        grows_row row.left row.read row.extra (λ id. grows_with (shape_at table id)
+        grows_row row.left row.read row.extra (λ id. grows_with _
         (λ s. grows (element_under way (length row.read)) s n None at)) (grows_skip at))
         size whole (row_of ids) at larger))
     grows_sequence shape.any_shape nest mark at =
-        grows_enter nest mark (λ n. grows_wrap (λ vs. any_data (sequence (trees_in (items_of vs))))
+        grows_enter nest mark (λ n. grows_wrap _
         (grows_each is_sequence_end (grows_item shape.any_shape n) size whole [] at larger))
     grows_sequence s nest mark at = alike _
 
     grows_mapping : (s : PlainShape) (nest : ℕ) (mark : Position) (at : Spot)
         → Grows (mapping_at front read way s nest mark at) (mapping_at full other way s nest mark at)
     grows_mapping (shape.map_shape a b) nest mark at =
-        grows_enter nest mark (λ n. grows_with (shape_at table a) (λ s. grows_with (shape_at table b) (λ t.
-        grows_wrap (λ vs. map_data (entries_of vs)) (grows_each {step = entry_at front read way s t n}
+        grows_enter nest mark (λ n. grows_with _ (λ s. grows_with _ (λ t.
+        grows_wrap _ (grows_each {step = entry_at front read way s t n}
         {other = entry_at full other way s t n} is_mapping_end (λ vs at.
         grows_bind (grows_bind (grows way s n None at) (λ x e. rw (same_way s n at x e) (alike _)))
         (λ k e. grows_wrap _ (grows k.0.0 t n None k.1))) size whole [] at larger))))
     grows_mapping (shape.fields_shape strict owner fields) nest mark at =
-        grows_enter nest mark (λ n. grows_finish (struct_of table fields) (grows_each
+        grows_enter nest mark (λ n. grows_finish _ (grows_each
         {step = field_at front read way strict fields n} {other = field_at full other way strict fields n}
         is_mapping_end (λ slots at. grows_bind (grows_bind (grows way shape.identifier_shape n None at)
         (λ x e. rw (same_way shape.identifier_shape n at x e, same_mark n at x e) (alike _)))
-        (λ k e. grows_field slots k.0.0 (λ id. grows_with (shape_at table id) (λ s. grows k.0.1 s n None k.1))
+        (λ k e. grows_field slots k.0.0 (λ id. grows_with _ (λ s. grows k.0.1 s n None k.1))
         (grows_skip k.1))) size whole (no_slots fields) at larger))
     grows_mapping shape.any_shape nest mark at =
-        grows_enter nest mark (λ n. grows_wrap (λ vs. any_data (tree.mapping (pairs_in (entries_of vs))))
+        grows_enter nest mark (λ n. grows_wrap _
         (grows_each {step = any_entry_at front read way n} {other = any_entry_at full other way n} is_mapping_end
         (λ vs at. grows_bind (grows_bind (grows way shape.any_shape n None at)
         (λ x e. rw (same_way shape.any_shape n at x e) (alike _)))
@@ -156,15 +154,14 @@ module _ (table : List PlainShape) (events all : Events) (ends all_ends : ℕ �
         (handed_at full h other way s nest taken at e mark)
     grows_handed as_is s nest taken at e mark = grows_event s nest taken at e mark
     grows_handed (as_some c) s nest taken at e mark =
-        grows_with (shape_at table c) (λ t. grows_wrap some_data (grows way t nest taken at))
+        grows_with _ (λ t. grows_wrap some_data (grows way t nest taken at))
     grows_handed (as_newtype c) s nest taken at e mark = grows_enter nest mark (λ m.
-        grows_with (shape_at table c) (λ t. grows_wrap newtype_data (grows way t m taken at)))
+        grows_with _ (λ t. grows_wrap newtype_data (grows way t m taken at)))
     grows_handed as_ignored s nest taken at e mark = grows_skip at
     grows_handed (as_variant place around content) s nest taken at e mark =
-        grows_with (content_shape table around.name around.variant content)
-        (λ t. grows_wrap (variant_data place) (grows way t nest (Some around) at))
+        grows_with _ (λ t. grows_wrap _ (grows way t nest (Some around) at))
     grows_handed (as_tagged name) s nest taken at e mark =
-        grows_wrap (λ v. any_data (tagged name (tree_in v))) (grows way shape.any_shape nest (Some around_value) at)
+        grows_wrap _ (grows way shape.any_shape nest (Some around_value) at)
     grows_handed _ s nest taken at e mark = alike _
 
     grows_step : (s : PlainShape) (nest : ℕ) (taken : Option TakenBy) (at : Spot)
@@ -184,7 +181,7 @@ module _ (table : List PlainShape) (events all : Events) (ends all_ends : ℕ �
             (place_at way s (is_some taken) (all at.place) (node_step full other way s nest taken at))
         by_event None is = by_shape s (all at.place)
         by_event (Some e) is = rw (more at.place e is)
-            (grows_place (places s (is_some taken) e.0) e.1 way (grows_unless (early s)
+            (grows_place _ e.1 way (grows_unless (early s)
             (grows_handed (handed s (is_some taken) e.0) s nest taken at e.0 e.1)))
 
   -- a node
@@ -241,15 +238,13 @@ module _ (limits : PlainLimits) (table : List PlainShape) (s : PlainShape) (docu
   grown =
       grows_node table _ _ _ _ _ _
       (λ p e h. subst (λ es. slice_get es p ≡ Some e) (sym on.events) (stands_on document.events on.rest p e h))
-      (λ p end h lt.
-      subst (λ es. slice_get (ends_of es) p ≡ Some end)
+      (λ p end h lt. subst (λ es. slice_get (ends_of es) p ≡ Some end)
       (sym (ap (λ (es : List (PlainDocEvent × Position)). map (λ e. e.0) es) on.events
       ∙ map-append (λ (e : PlainDocEvent × Position). e.0) document.events on.rest))
       (ends_on (map (λ e. e.0) document.events) (map (λ e. e.0) on.rest) 0 p end h
       (omega (arith, lt, length-map document.events (λ (e : PlainDocEvent × Position). e.0)))))
       (omega (arith, ap length on.events, length-append document.events on.rest))
-      (whole_fuel limits (length document.events)) root_way s limits.nesting None
-      (start limits document)
+      (whole_fuel limits (length document.events)) root_way s limits.nesting None (start limits document)
 
   pub first_fault : (y : PlainRefusal) → whole_reading limits table document s ≡ Err y → y ≢ refused end_of_stream
       → y ≢ out_of_memory

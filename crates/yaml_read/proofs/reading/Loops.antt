@@ -14,15 +14,13 @@ module _ {S : Type 0} (is_end : PlainDocEvent → Bool) (step : S → Spot → R
 
   -- the collection ends
   pub each_end : (n : ℕ) (s : S) (at : Spot) (e : PlainDocEvent × Position) → events at.place ≡ Some e → is_end e.0
-      ≡ true
-      → each_at is_end step events (suc n) s at ≡ Ok (s, after at)
+      ≡ true → each_at is_end step events (suc n) s at ≡ Ok (s, after at)
   unfolding each_at
   each_end n s at e is end = rw (is, end)
 
   -- a part follows
   pub each_going : (n : ℕ) (s : S) (at : Spot) (e : PlainDocEvent × Position) → events at.place ≡ Some e → is_end e.0
-      ≡ false
-      → each_at is_end step events (suc n) s at ≡ (step s at >>= λ x. each_at is_end step events n x.0 x.1)
+      ≡ false → each_at is_end step events (suc n) s at ≡ (step s at >>= λ x. each_at is_end step events n x.0 x.1)
   unfolding each_at
   each_going n s at e is end = rw (is, end)
 
@@ -42,8 +40,7 @@ module _ {S : Type 0} (is_end : PlainDocEvent → Bool) (step : S → Spot → R
 
   -- the loop is at its end, the events end, or a part is refused
   pub led_end : (turns : ℕ) (e : PlainDocEvent × Position) → gone < turns → events next.place ≡ Some e → is_end e.0 ≡
-      true
-      → each_at is_end step events turns s at ≡ Ok (s', after next)
+      true → each_at is_end step events turns s at ≡ Ok (s', after next)
   led_end turns e lt is end = led_on turns lt ∙ each_end is_end step events (turns - gone - 1) s' next e is end
 
   pub led_ended : (turns : ℕ) → gone < turns → events next.place ≡ None → each_at is_end step events turns s at
@@ -79,8 +76,7 @@ pub enough : (n : ℕ) → suc n - 1 ≡ n
 enough n = omega arith
 
 pub pursue_fails : (read : Spot → Reading PlainData) (j p n : ℕ) (x : PlainRefusal) → 0 < n
-    → read (record { place = j; left = n - 1 }) ≡ Err x
-    → pursue read j p n ≡ Err x
+    → read (record { place = j; left = n - 1 }) ≡ Err x → pursue read j p n ≡ Err x
 pursue_fails read j p zero x lt h = absurd (omega arith)
 pursue_fails read j p (suc n) x lt h = rw (rw (enough n) at h)
 

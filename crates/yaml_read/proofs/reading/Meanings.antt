@@ -159,14 +159,12 @@ module _ (table : List PlainShape) where
     mutual
       -- what a node means is of its shape, which may be that of a variant's content
       pub meaning_of : {s : PlainShape} {n : DocNode} {taken : Bool} {v : PlainData} {d k : ℕ}
-          → Means table root s n taken v d k
-          → is_of table s v ≡ true
+          → Means table root s n taken v d k → is_of table s v ≡ true
       meaning_of (means_node {s} {h} {n} {taken} late to m) =
           as_has m (first_event n) (from_handing s taken (first_event n) h to)
 
       as_has : {h : Handing} {s : PlainShape} {n : DocNode} {taken : Bool} {v : PlainData} {d k : ℕ}
-          → MeansAs table root h s n taken v d k
-          → (e : PlainDocEvent) → From s taken e h → is_of table s v ≡ true
+          → MeansAs table root h s n taken v d k → (e : PlainDocEvent) → From s taken e h → is_of table s v ≡ true
       as_has (means_some {s} {t} {c} {n} {taken} {v} there m) e from =
           rw from (of_shape table c t v there (meaning_of m))
       as_has (means_newtype {s} {t} {c} {n} {taken} {v} there m) e from =
@@ -227,8 +225,7 @@ module _ (table : List PlainShape) where
 
     -- what a node means under a shape of the table is data of the shape with its number
     pub meaning_has : {s : PlainShape} {n : DocNode} {taken : Bool} {v : PlainData} {d k : ℕ}
-        → Means table root s n taken v d k
-        → (id : ℕ) → shape_at table id ≡ Some s → has_shape table id v ≡ true
+        → Means table root s n taken v d k → (id : ℕ) → shape_at table id ≡ Some s → has_shape table id v ≡ true
     meaning_has {s} {v} m id is = of_shape table id s v is (meaning_of m)
 
 -- the shape hands an alias on as what it is by its kind

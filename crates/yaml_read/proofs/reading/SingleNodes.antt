@@ -29,16 +29,14 @@ fuel_at at = nesting_depth * (at.follows + at.nestings + 1)
 module _ (table : List PlainShape) (s : PlainShape) (document : PlainDocument) (way : Way) (at : NodePlace) where
   -- the reading of the node by places
   abbrev pub node_reading : Reading PlainData
-  node_reading =
-      node_at (whole_source table document) (fuel_at at) way s at.nestings (taker at.tag_taken) (spot_at at)
+  node_reading = node_at (whole_source table document) (fuel_at at) way s at.nestings (taker at.tag_taken) (spot_at at)
 
   -- what the walk over a document's events gives is that reading
   pub seen_node : (es : List (DocEvent × Position)) (ends : List ℕ) (r : Reading PlainData) (around : Option TakenBy)
       → around ≡ taker at.tag_taken → reach table s ≤ 4096
       → marked_events_of es ≡ document.events → ends ≡ ends_of (map (λ e. e.0) document.events)
       → ((fuel : ℕ) → depth table s (is_some around) at.nestings at.follows < fuel
-      → node_at (walk_source table es ends) fuel way s at.nestings around (spot_at at) ≡ r)
-      → node_reading ≡ r
+      → node_at (walk_source table es ends) fuel way s at.nestings around (spot_at at) ≡ r) → node_reading ≡ r
   seen_node es ends r around is small seen numbers gives =
       subst (λ t. node_at (whole_source table document) (fuel_at at) way s at.nestings t (spot_at at) ≡ r) is
       (seen_at table s small document es ends way at.nestings around (spot_at at) r seen numbers gives)

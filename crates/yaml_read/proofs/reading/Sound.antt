@@ -1,23 +1,22 @@
 -- What the reader of trees answers is what the tree means.
 use Rattle.std.specs.Prelude.{◌≡◌, ◌+◌, ◌≤◌, ◌∷◌, ◌++◌, ◌==◌, if◌then◌else◌}
 use Rattle.yaml_read.proofs.Words.{means_any_mapping, means_no_elements, identifier_shape, means_no_fields, field_named}
-use Rattle.yaml_read.proofs.Words.{means_any_list, means_no_pairs, sequence_fault, content_shape, element_under, Fields}
-use Rattle.yaml_read.proofs.Words.{end_of_stream, keys_distinct, mapping_fault, means_element, means_ignored, MeanPairs}
-use Rattle.yaml_read.proofs.Words.{means_mapping, means_newtype, means_unknown, means_variant, out_of_memory, PlainData}
-use Rattle.yaml_read.proofs.Words.{scalar_answer, around_value, fields_shape, ignored_data, means_fields, means_scalar}
-use Rattle.yaml_read.proofs.Words.{means_tagged, means_target, field_value, first_event, means_field, sequence_of, Bool}
-use Rattle.yaml_read.proofs.Words.{value_under, void_answer, MeanFields, PlainShape, TreeReader, any_key_of, as_ignored}
-use Rattle.yaml_read.proofs.Words.{as_newtype, as_refused, as_variant, entries_of, mapping_of, means_bare, means_list}
-use Rattle.yaml_read.proofs.Words.{means_more, means_node, means_none, means_pair, means_some, means_void, text_place}
-use Rattle.yaml_read.proofs.Words.{tuple_data, any_shape, as_tagged, each_node, each_pair, field_key, handed_by, Option}
-use Rattle.yaml_read.proofs.Words.{map_shape, means_map, means_row, means_seq, read_tree, reference, row_shape, DocNode}
-use Rattle.yaml_read.proofs.Words.{seq_shape, struct_of, target_of, DocNodes, DocPairs, MeanEach, Position, items_of, ℕ}
-use Rattle.yaml_read.proofs.Words.{no_nodes, no_pairs, no_slots, row_part, shape_at, value_of, Handing, MeanRow, behind}
-use Rattle.yaml_read.proofs.Words.{MeansAs, TakenBy, as_bare, as_some, has_key, is_some, item_of, mapping, name_in, Way}
-use Rattle.yaml_read.proofs.Words.{new_key, node_by, node_of, nothing, refusal, refused, row_end, tree_in, handed, List}
-use Rattle.yaml_read.proofs.Words.{key_of, length, places, unless, Means, Owner, Place, Slots, after, arith, as_is, set}
-use Rattle.yaml_read.proofs.Words.{early, false, subst, ◌>>=◌, None, Some, Spot, list, node, pair, refl, true, word, Ok}
-use Rattle.yaml_read.proofs.Words.{zero, suc, sym, ◌∙◌, []}
+use Rattle.yaml_read.proofs.Words.{means_any_list, means_no_pairs, sequence_fault, element_under, end_of_stream, Fields}
+use Rattle.yaml_read.proofs.Words.{keys_distinct, mapping_fault, means_element, means_ignored, means_mapping, MeanPairs}
+use Rattle.yaml_read.proofs.Words.{means_newtype, means_unknown, means_variant, out_of_memory, scalar_answer, PlainData}
+use Rattle.yaml_read.proofs.Words.{around_value, fields_shape, ignored_data, means_fields, means_scalar, means_tagged}
+use Rattle.yaml_read.proofs.Words.{means_target, field_value, first_event, means_field, sequence_of, value_under, Means}
+use Rattle.yaml_read.proofs.Words.{void_answer, MeanFields, PlainShape, TreeReader, any_key_of, as_ignored, as_newtype}
+use Rattle.yaml_read.proofs.Words.{as_refused, as_variant, entries_of, mapping_of, means_bare, means_list, means_more}
+use Rattle.yaml_read.proofs.Words.{means_node, means_none, means_pair, means_some, means_void, text_place, tuple_data}
+use Rattle.yaml_read.proofs.Words.{any_shape, as_tagged, each_node, each_pair, field_key, handed_by, map_shape, DocNode}
+use Rattle.yaml_read.proofs.Words.{means_map, means_row, means_seq, read_tree, reference, row_shape, seq_shape, Handing}
+use Rattle.yaml_read.proofs.Words.{struct_of, target_of, DocNodes, DocPairs, MeanEach, Position, items_of, no_nodes, Ok}
+use Rattle.yaml_read.proofs.Words.{no_pairs, no_slots, row_part, value_of, MeanRow, MeansAs, TakenBy, as_bare, as_some}
+use Rattle.yaml_read.proofs.Words.{has_key, is_some, item_of, mapping, name_in, new_key, node_by, node_of, nothing, Way}
+use Rattle.yaml_read.proofs.Words.{refusal, refused, row_end, tree_in, Option, behind, handed, key_of, length, unless}
+use Rattle.yaml_read.proofs.Words.{Owner, Place, Slots, after, arith, as_is, early, false, subst, ◌>>=◌, Bool, List, []}
+use Rattle.yaml_read.proofs.Words.{None, Some, Spot, list, node, pair, refl, true, word, zero, set, suc, sym, ◌∙◌, ℕ}
 use Rattle.yaml_tree.specs.Tree as tree_of
 use Rattle.yaml_read.proofs.AnyLaws.{pairs_of, distinct_end, key_is_new}
 use Rattle.yaml_read.proofs.FieldLaws.{named_found, named_unknown}
@@ -67,7 +66,7 @@ module _ (table : List PlainShape) (root : DocNode) (marks : ℕ → Position) w
         let later = rows_sound nest ns [] vs (extra + 1) (behind at n at.left) y is none e in
         let one : extra + 1 ≡ 0 = later.0 in absurd (omega arith)
     rows_sound nest (node n ns) (id ∷ ids) vs extra at =
-        data_then _ _ _ (data_wrap _ _ _ (data_with _ (shape_at table id) _ (λ s there x is y is' none e.
+        data_then _ _ _ (data_wrap _ _ _ (data_with _ _ _ (λ s there x is y is' none e.
         let later = rows_sound nest ns ids (vs ++ x.0 ∷ []) extra (behind at n x.1) y is' none e in (
           later.0,
           more_gathered vs x.0 later.1 (λ ws g.
@@ -91,8 +90,7 @@ module _ (table : List PlainShape) (root : DocNode) (marks : ℕ → Position) w
 
     -- pairs of any values, whose keys stay distinct
     pub any_pairs_sound : (nest : ℕ) (ps : DocPairs) (vs : List (PlainData × PlainData)) (at : Spot)
-        → keys_distinct (pairs_of vs) ≡ true
-        → IfData (λ x. (keys_distinct (pairs_of x.0) ≡ true)
+        → keys_distinct (pairs_of vs) ≡ true → IfData (λ x. (keys_distinct (pairs_of x.0) ≡ true)
         × Gathered (λ ws. MeanPairs table root any_shape any_shape ps (entries_of ws)) vs x.0 nest at.left x.1)
         (each_pair (any_key_of read way nest) (value_of read any_shape nest) vs ps at)
     any_pairs_sound nest no_pairs vs at apart =
@@ -135,7 +133,7 @@ module _ (table : List PlainShape) (root : DocNode) (marks : ℕ → Position) w
     field_sound strict fields nest m n ps slots at later k is key (Some field) found =
         let w = value_under way (first_event m) in
         let mid = behind at m k.1 in
-        data_then _ _ _ (data_wrap _ _ _ (data_with _ (shape_at table field.1) _ (λ s there x is' y is''.
+        data_then _ _ _ (data_wrap _ _ _ (data_with _ _ _ (λ s there x is' y is''.
         let free = named_found strict fields slots (name_in k.0) key field found in
         found_pair (sound way identifier_shape nest None m at k is) (sound w s nest None n mid x is')
         (later (set slots field.0 (Some x.0)) (behind mid n x.1) y is'')
@@ -159,16 +157,13 @@ module _ (table : List PlainShape) (root : DocNode) (marks : ℕ → Position) w
         → IfData (λ x. Found (MeansAs table root as_is s (list tag ns) taken x.0) nest at.left x.1)
         (sequence_of table read way s nest mark ns at)
     sequence_sound (seq_shape e) nest taken tag ns mark at =
-        data_enter _ nest mark _ (λ n nested. data_with _ (shape_at table e) _
-        (λ s there. data_wrap _ _ _ (λ x is.
-        found_deeper (all_found (nodes_sound s n ns [] at x is)) nested
-        (λ d k m. means_list (means_seq there m)))))
+        data_enter _ nest mark _ (λ n nested. data_with _ _ _ (λ s there. data_wrap _ _ _ (λ x is.
+        found_deeper (all_found (nodes_sound s n ns [] at x is)) nested (λ d k m. means_list (means_seq there m)))))
     sequence_sound (row_shape owner ids) nest taken tag ns mark at =
         data_enter _ nest mark _ (λ n nested. data_finish _ _ _ (λ x is v is'.
         let whole = row_ok owner (length ids) x.0.left x.0.read x.0.extra v is' in
         subst (λ w. Found (MeansAs table root as_is (row_shape owner ids) (list tag ns) taken w) nest at.left x.1)
-        whole.2
-        (found_deeper (all_found (rows_sound n ns ids [] 0 at x is whole.0 whole.1).1)
+        whole.2 (found_deeper (all_found (rows_sound n ns ids [] 0 at x is whole.0 whole.1).1)
         nested (λ d k m. means_list (means_row m)))))
     sequence_sound any_shape nest taken tag ns mark at =
         data_enter _ nest mark _ (λ n nested. data_wrap _ _ _ (λ x is.
@@ -177,12 +172,11 @@ module _ (table : List PlainShape) (root : DocNode) (marks : ℕ → Position) w
     sequence_sound s nest taken tag ns mark at = data_err _ (refused (sequence_fault s))
 
     mapping_sound : (s : PlainShape) (nest : ℕ) (taken : Bool) (tag : Option (List ℕ)) (ps : DocPairs) (mark : Position)
-        (at : Spot)
-        → IfData (λ x. Found (MeansAs table root as_is s (mapping tag ps) taken x.0) nest at.left x.1)
+        (at : Spot) → IfData (λ x. Found (MeansAs table root as_is s (mapping tag ps) taken x.0) nest at.left x.1)
         (mapping_of table read marks way s nest mark ps at)
     mapping_sound (map_shape a b) nest taken tag ps mark at =
-        data_enter _ nest mark _ (λ n nested. data_with _ (shape_at table a) _
-        (λ s there. data_with _ (shape_at table b) _ (λ t there'. data_wrap _ _ _ (λ x is.
+        data_enter _ nest mark _ (λ n nested. data_with _ _ _
+        (λ s there. data_with _ _ _ (λ t there'. data_wrap _ _ _ (λ x is.
         found_deeper (all_found (pairs_sound s t n ps [] at x is)) nested
         (λ d k m. means_mapping (means_map there there' m))))))
     mapping_sound (fields_shape strict owner fields) nest taken tag ps mark at =
@@ -220,8 +214,7 @@ module _ (table : List PlainShape) (root : DocNode) (marks : ℕ → Position) w
         data_follow _ at.left (target_of (read way) s nest (node_of root j) j) (λ left e x h.
         subst (λ l. Found (MeansAs table root as_is s (reference j) (is_some taken) x.0) nest l x.1) (sym e)
         (target_sound s nest j left (is_some taken) (node_of root j) refl x h))
-    node_sound s nest taken (list tag ns) at =
-        sequence_sound s nest (is_some taken) tag ns (marks at.place) (after at)
+    node_sound s nest taken (list tag ns) at = sequence_sound s nest (is_some taken) tag ns (marks at.place) (after at)
     node_sound s nest taken (mapping tag ps) at =
         mapping_sound s nest (is_some taken) tag ps (marks at.place) (after at)
 
@@ -230,20 +223,17 @@ module _ (table : List PlainShape) (root : DocNode) (marks : ℕ → Position) w
         (handed_by table h read way root marks s nest taken n at)
     handed_sound as_is s nest taken n at = node_sound s nest taken n at
     handed_sound (as_some c) s nest taken n at =
-        data_with _ (shape_at table c) _ (λ t there. data_wrap _ _ _ (λ x e.
+        data_with _ _ _ (λ t there. data_wrap _ _ _ (λ x e.
         found_as (sound way t nest taken n at x e) (λ d k m. means_some there m)))
     handed_sound (as_newtype c) s nest taken n at =
-        data_enter _ nest (marks at.place) _ (λ m nested. data_with _ (shape_at table c) _
-        (λ t there. data_wrap _ _ _ (λ x e.
+        data_enter _ nest (marks at.place) _ (λ m nested. data_with _ _ _ (λ t there. data_wrap _ _ _ (λ x e.
         found_deeper (sound way t m taken n at x e) nested (λ d k m. means_newtype there m))))
     handed_sound as_ignored s nest taken n at =
         data_ok _ (ignored_data, at.left) (found_free nest at.left means_ignored)
     handed_sound (as_bare fields) s nest taken n at =
-        data_ending _ at.left (struct_of table fields (no_slots fields))
-        (λ v e. found_free nest at.left (means_bare e))
+        data_ending _ at.left (struct_of table fields (no_slots fields)) (λ v e. found_free nest at.left (means_bare e))
     handed_sound (as_variant place around content) s nest taken n at =
-        data_with _ (content_shape table around.name around.variant content) _ (λ t there.
-        data_wrap _ _ _ (λ x e.
+        data_with _ _ _ (λ t there. data_wrap _ _ _ (λ x e.
         found_as (sound way t nest (Some around) n at x e) (λ d k m. means_variant there m)))
     handed_sound (as_tagged name) s nest taken n at =
         data_wrap _ _ _ (λ x e.
@@ -263,5 +253,4 @@ module _ (table : List PlainShape) (root : DocNode) (marks : ℕ → Position) w
   unfolding read_tree
   tree_sound zero way s nest taken n at = data_err _ out_of_memory
   tree_sound (suc fuel) way s nest taken n at =
-      data_place (places s (is_some taken) (first_event n)) (marks at.place) way _ _
-      (step_sound (read_tree table fuel root marks) (tree_sound fuel) way s nest taken n at)
+      data_place _ _ way _ _ (step_sound (read_tree table fuel root marks) (tree_sound fuel) way s nest taken n at)

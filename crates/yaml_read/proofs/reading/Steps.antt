@@ -33,8 +33,7 @@ module _ {A B C : Type 0} where
 module _ {A : Type 0} where
   -- a collection that is gone into
   pub data_enter : (Q : A → Type 0) (nest : ℕ) (mark : Position) (go : ℕ → Result A PlainRefusal)
-      → ((n : ℕ) → nest ≡ suc n → IfData Q (go n))
-      → IfData Q (enter nest mark go)
+      → ((n : ℕ) → nest ≡ suc n → IfData Q (go n)) → IfData Q (enter nest mark go)
   data_enter Q zero mark go h = data_err Q _
   data_enter Q (suc n) mark go h = h n refl
 
@@ -46,8 +45,7 @@ module _ {A : Type 0} where
 
   -- a shape that is looked up
   pub data_with : (Q : A → Type 0) (o : Option PlainShape) (go : PlainShape → Result A PlainRefusal)
-      → ((s : PlainShape) → o ≡ Some s → IfData Q (go s))
-      → IfData Q (with_shape o go)
+      → ((s : PlainShape) → o ≡ Some s → IfData Q (go s)) → IfData Q (with_shape o go)
   data_with Q None go h = data_err Q _
   data_with Q (Some s) go h = h s refl
 
@@ -66,8 +64,7 @@ module _ {A : Type 0} where
 module _ {S A C : Type 0} where
   -- what is made of the state at the end
   pub data_finish : (Q : A × C → Type 0) (f : S → Result A ReadFault) (r : Result (S × C) PlainRefusal)
-      → IfData (λ x. IfData (λ v. Q (v, x.1)) (f x.0)) r
-      → IfData Q (finish f r)
+      → IfData (λ x. IfData (λ v. Q (v, x.1)) (f x.0)) r → IfData Q (finish f r)
   data_finish Q f r h = data_then Q r _ (λ x e. data_ending Q x.1 (f x.0) (h x e))
 
 -- a meaning, with counts within what is left
@@ -85,8 +82,7 @@ found_free nest left m = record { d = 0; k = 0; meaning = m; nested = omega arit
 -- what is made of a meaning, as deep as that, and one nesting deeper
 pub found_as : {M N : ℕ → ℕ → Type 0} {nest left left' : ℕ} → Found M nest left left'
     → ((d k : ℕ) → M d k → N d k) → Found N nest left left'
-found_as f go =
-    record { d = f.d; k = f.k; meaning = go f.d f.k f.meaning; nested = f.nested; followed = f.followed }
+found_as f go = record { d = f.d; k = f.k; meaning = go f.d f.k f.meaning; nested = f.nested; followed = f.followed }
 
 pub found_deeper : {M N : ℕ → ℕ → Type 0} {nest n left left' : ℕ} → Found M n left left' → nest ≡ suc n
     → ((d k : ℕ) → M d k → N (suc d) k) → Found N nest left left'

@@ -1,21 +1,19 @@
 -- Where events show a node, reading it by its place answers what reading the tree answers, and ends behind the node.
 use Rattle.std.specs.Prelude.{◌++◌, ◌≡◌, ◌+◌, ◌<◌, ◌∷◌}
 use Rattle.yaml_read.proofs.Words.{identifier_shape, events_of_nodes, events_of_pairs, field_value_at, PlainDocEvent, ℕ}
-use Rattle.yaml_read.proofs.Words.{content_shape, element_under, mark_or_first, scalar_answer, sequence_ends, PlainData}
-use Rattle.yaml_read.proofs.Words.{around_value, field_key_at, fields_shape, ignored_data, mapping_ends, newtype_data}
-use Rattle.yaml_read.proofs.Words.{variant_data, field_value, first_event, sequence_at, sequence_of, value_under, Slots}
-use Rattle.yaml_read.proofs.Words.{void_answer, PlainShape, TreeReader, any_key_at, any_key_of, as_ignored, as_newtype}
-use Rattle.yaml_read.proofs.Words.{as_refused, as_variant, entries_of, mapping_at, mapping_of, shape_step, text_place}
-use Rattle.yaml_read.proofs.Words.{with_shape, any_shape, as_tagged, events_of, field_key, handed_at, handed_by, Answer}
-use Rattle.yaml_read.proofs.Words.{map_shape, read_tree, reference, row_shape, seq_shape, some_data, struct_of, DocNode}
-use Rattle.yaml_read.proofs.Words.{target_of, value_way, DocNodes, DocPairs, Position, alias_to, any_data, event_at, Ok}
-use Rattle.yaml_read.proofs.Words.{items_of, map_data, no_slots, pairs_in, place_at, row_data, row_part, row_step, Bool}
-use Rattle.yaml_read.proofs.Words.{seq_data, sequence, shape_at, trees_in, value_of, Handing, Reading, TakenBy, add-one}
-use Rattle.yaml_read.proofs.Words.{as_bare, as_some, is_bare, is_some, item_at, item_of, mapping, node_at, node_by, Way}
-use Rattle.yaml_read.proofs.Words.{node_of, nothing, skip_at, tree_in, Fields, Option, Reader, Source, ending, handed}
-use Rattle.yaml_read.proofs.Words.{key_of, length, lt-ltb, nat_lt, places, row_at, row_of, tagged, after, arith, as_is}
-use Rattle.yaml_read.proofs.Words.{early, place, subst, ◌>>=◌, List, None, Some, Spot, list, refl, true, word, wrap, []}
-use Rattle.yaml_read.proofs.Words.{zero, set, suc, sym, ◌∙◌, ap}
+use Rattle.yaml_read.proofs.Words.{element_under, mark_or_first, scalar_answer, sequence_ends, around_value, PlainShape}
+use Rattle.yaml_read.proofs.Words.{field_key_at, fields_shape, ignored_data, mapping_ends, newtype_data, field_value}
+use Rattle.yaml_read.proofs.Words.{first_event, sequence_at, sequence_of, void_answer, TreeReader, any_key_at, DocNodes}
+use Rattle.yaml_read.proofs.Words.{any_key_of, as_ignored, as_newtype, as_refused, as_variant, mapping_at, mapping_of}
+use Rattle.yaml_read.proofs.Words.{shape_step, text_place, with_shape, PlainData, any_shape, as_tagged, events_of, Bool}
+use Rattle.yaml_read.proofs.Words.{field_key, handed_at, handed_by, map_shape, read_tree, reference, row_shape, DocNode}
+use Rattle.yaml_read.proofs.Words.{seq_shape, some_data, struct_of, target_of, value_way, DocPairs, Position, alias_to}
+use Rattle.yaml_read.proofs.Words.{event_at, no_slots, place_at, row_part, row_step, shape_at, value_of, Handing, Slots}
+use Rattle.yaml_read.proofs.Words.{Reading, TakenBy, add-one, as_bare, as_some, is_bare, is_some, item_at, item_of, Way}
+use Rattle.yaml_read.proofs.Words.{mapping, node_at, node_by, node_of, nothing, skip_at, Answer, Fields, Option, Reader}
+use Rattle.yaml_read.proofs.Words.{Source, ending, handed, key_of, length, lt-ltb, nat_lt, places, row_at, row_of, List}
+use Rattle.yaml_read.proofs.Words.{after, arith, as_is, early, place, subst, ◌>>=◌, None, Some, Spot, list, refl, true}
+use Rattle.yaml_read.proofs.Words.{word, wrap, zero, suc, sym, ◌∙◌, Ok, [], ap}
 use Rattle.yaml_tree.specs.Tree as tree_of
 use Rattle.yaml_read.proofs.reading.Shown.{Shows, begins, opens, node_within, target_shown}
 use Rattle.yaml_read.proofs.reading.TreeWalks.{Lands, lands, refuses, lands_wrap, lands_enter, lands_with, lands_finish}
@@ -59,14 +57,12 @@ module _ (source : Source) (within : (p : ℕ) (e : PlainDocEvent × Position) �
       (way : Way) where
     -- the elements of a row
     row_tied : (w : Way) (ids : List ℕ) (vs : List PlainData) (extra nest : ℕ) (m : DocNode) (at : Spot)
-        → Shows source.events at.place (events_of m)
-        → Lands (at.place + length (events_of m)) (row_step ids vs extra
+        → Shows source.events at.place (events_of m) → Lands (at.place + length (events_of m)) (row_step ids vs extra
         (λ id. with_shape (shape_at source.table id) (λ s. read w s nest None at)) (skip_at source at))
         (row_step ids vs extra (λ id. with_shape (shape_at source.table id) (λ s. tree w s nest None m at))
         (Ok (ignored_data, at.left)))
     row_tied w [] vs extra nest m at h = lands_wrap _ (skip_tied m at h)
-    row_tied w (id ∷ ids) vs extra nest m at h =
-        lands_wrap _ (lands_with (shape_at source.table id) (λ s. tied w s nest None m at h))
+    row_tied w (id ∷ ids) vs extra nest m at h = lands_wrap _ (lands_with _ (λ s. tied w s nest None m at h))
 
     -- a sequence behind its start
     pub sequence_tied : (s : PlainShape) (nest : ℕ) (mark : Position) (ns : DocNodes) (at : Spot)
@@ -74,19 +70,19 @@ module _ (source : Source) (within : (p : ℕ) (e : PlainDocEvent × Position) �
         → Lands (at.place + length (events_of_nodes ns ++ sequence_ends ∷ []))
         (sequence_at source read way s nest mark at) (sequence_of source.table tree way s nest mark ns at)
     sequence_tied (seq_shape e) nest mark ns at sh lt =
-        lands_enter nest mark (λ n. lands_with (shape_at source.table e) (λ s. lands_wrap (λ vs. seq_data (items_of vs))
+        lands_enter nest mark (λ n. lands_with _ (λ s. lands_wrap _
         (nodes_tied source.events source.size within (item_at read way s n) (item_of tree way s n)
-        (λ vs m a h. lands_wrap (λ v. vs ++ v ∷ []) (tied (element_under way (length vs)) s n None m a h))
+        (λ vs m a h. lands_wrap _ (tied (element_under way (length vs)) s n None m a h))
         source.size [] ns at sh (omega arith))))
     sequence_tied (row_shape owner ids) nest mark ns at sh lt =
-        lands_enter nest mark (λ n. lands_finish (row_data owner (length ids))
+        lands_enter nest mark (λ n. lands_finish _
         (nodes_tied source.events source.size within (row_at source read way n) (row_part source.table tree way n)
         (λ row m a h. row_tied (element_under way (length row.read)) row.left row.read row.extra n m a h) source.size
         (row_of ids) ns at sh (omega arith)))
     sequence_tied any_shape nest mark ns at sh lt =
-        lands_enter nest mark (λ n. lands_wrap (λ vs. any_data (sequence (trees_in (items_of vs))))
+        lands_enter nest mark (λ n. lands_wrap _
         (nodes_tied source.events source.size within (item_at read way any_shape n) (item_of tree way any_shape n)
-        (λ vs m a h. lands_wrap (λ v. vs ++ v ∷ []) (tied (element_under way (length vs)) any_shape n None m a h))
+        (λ vs m a h. lands_wrap _ (tied (element_under way (length vs)) any_shape n None m a h))
         source.size [] ns at sh (omega arith)))
     sequence_tied _ nest mark ns at sh lt = refuses _
 
@@ -95,10 +91,8 @@ module _ (source : Source) (within : (p : ℕ) (e : PlainDocEvent × Position) �
         → Shows source.events at.place (events_of n)
         → Lands (at.place + length (events_of n)) (field_value_at source read nest slots k at)
         (field_value source.table tree nest slots k n at)
-    field_value_tied nest slots (None, w) n at h = lands_wrap (λ v. slots) (skip_tied n at h)
-    field_value_tied nest slots (Some f, w) n at h =
-        lands_wrap (λ v. set slots f.0 (Some v)) (lands_with (shape_at source.table f.1)
-        (λ s. tied w s nest None n at h))
+    field_value_tied nest slots (None, w) n at h = lands_wrap _ (skip_tied n at h)
+    field_value_tied nest slots (Some f, w) n at h = lands_wrap _ (lands_with _ (λ s. tied w s nest None n at h))
 
     -- a mapping behind its start
     pub mapping_tied : (s : PlainShape) (nest : ℕ) (mark : Position) (ps : DocPairs) (at : Spot)
@@ -106,35 +100,31 @@ module _ (source : Source) (within : (p : ℕ) (e : PlainDocEvent × Position) �
         → Lands (at.place + length (events_of_pairs ps ++ mapping_ends ∷ []))
         (mapping_at source read way s nest mark at) (mapping_of source.table tree marks way s nest mark ps at)
     mapping_tied (map_shape a b) nest mark ps at sh lt =
-        lands_enter nest mark (λ n. lands_with (shape_at source.table a) (λ s. lands_with (shape_at source.table b)
-        (λ t. lands_wrap (λ vs. map_data (entries_of vs)) (pairs_tied source.events source.size within
+        lands_enter nest mark (λ n. lands_with _ (λ s. lands_with _
+        (λ t. lands_wrap _ (pairs_tied source.events source.size within
         (λ vs q. wrap {B = Way × PlainData} (λ k. (value_way way (source.events q.place), k)) (read way s n None q))
         (λ vs k q. wrap (λ v. vs ++ (k.1, v) ∷ []) (read k.0 t n None q)) (key_of tree way s n) (value_of tree t n)
         (λ vs m q h. rw (begins source.events q.place m h).1 (lands_wrap _ (tied way s n None m q h)))
-        (λ vs k m q h. lands_wrap (λ v. vs ++ (k.1, v) ∷ [])
-        (tied k.0 t n None m q h)) source.size [] ps at sh (omega arith)))))
+        (λ vs k m q h. lands_wrap _ (tied k.0 t n None m q h)) source.size [] ps at sh (omega arith)))))
     mapping_tied (fields_shape strict owner fields) nest mark ps at sh lt =
-        lands_enter nest mark (λ n. lands_finish (struct_of source.table fields)
-        (pairs_tied source.events source.size within
+        lands_enter nest mark (λ n. lands_finish _ (pairs_tied source.events source.size within
         (field_key_at source read way strict fields n) (field_value_at source read n)
         (field_key tree marks way strict fields n) (field_value source.table tree n)
         (λ slots m q h. rw ((begins source.events q.place m h).1, marked (text_place (first_event m) q.place))
         (lands_finish _ (tied way identifier_shape n None m q h)))
         (field_value_tied n) source.size (no_slots fields) ps at sh (omega arith)))
     mapping_tied any_shape nest mark ps at sh lt =
-        lands_enter nest mark (λ n. lands_wrap (λ vs. any_data (tree_of.mapping (pairs_in (entries_of vs))))
+        lands_enter nest mark (λ n. lands_wrap _
         (pairs_tied source.events source.size within (any_key_at source read way n)
         (λ vs k q. wrap (λ v. vs ++ (k.1, v) ∷ []) (read k.0 any_shape n None q)) (any_key_of tree way n)
         (value_of tree any_shape n)
         (λ vs m q h. rw (begins source.events q.place m h).1 (lands_finish _ (tied way any_shape n None m q h)))
-        (λ vs k m q h. lands_wrap (λ v. vs ++ (k.1, v) ∷ [])
-        (tied k.0 any_shape n None m q h)) source.size [] ps at sh (omega arith)))
+        (λ vs k m q h. lands_wrap _ (tied k.0 any_shape n None m q h)) source.size [] ps at sh (omega arith)))
     mapping_tied _ nest mark ps at sh lt = refuses _
 
     -- the target of an alias
     target_tied : (s : PlainShape) (nest j left end : ℕ) (o : Option DocNode) → (n : DocNode) → node_of root j ≡ Some n
-        → node_of root j ≡ o
-        → Lands end (read way s nest None (record { place = j; left = left }) >>= λ x.
+        → node_of root j ≡ o → Lands end (read way s nest None (record { place = j; left = left }) >>= λ x.
         Ok (x.0, record { place = end; left = x.1.left })) (target_of (tree way) s nest o j left)
     target_tied s nest j left end None n is e = absurd cc
     target_tied s nest j left end (Some m) n is e =
@@ -156,8 +146,7 @@ module _ (source : Source) (within : (p : ℕ) (e : PlainDocEvent × Position) �
 
     -- a node by its kind
     node_tied : (s : PlainShape) (nest : ℕ) (taken : Option TakenBy) (n : DocNode) (at : Spot) (mark : Position)
-        → source.events at.place ≡ Some (first_event n, mark)
-        → Shows source.events at.place (events_of n)
+        → source.events at.place ≡ Some (first_event n, mark) → Shows source.events at.place (events_of n)
         → Lands (at.place + length (events_of n)) (event_at source read way s nest taken at (first_event n) mark)
         (node_by source.table tree way root marks s nest taken n at)
     node_tied s nest taken nothing at mark here sh = lands_ending (at.place + 1) at.left (void_answer s)
@@ -165,8 +154,7 @@ module _ (source : Source) (within : (p : ℕ) (e : PlainDocEvent × Position) �
         lands_ending (at.place + 1) at.left (scalar_answer s (is_some taken) w)
     node_tied s nest taken (reference j) at mark here sh =
         let target = known at.place j mark here in
-        lands_follow at.left (λ left. target_tied s nest j left (at.place + 1)
-        (node_of root j) target.0 target.1 refl)
+        lands_follow at.left (λ left. target_tied s nest j left (at.place + 1) (node_of root j) target.0 target.1 refl)
     node_tied s nest taken (list tag ns) at mark here sh =
         rw (mark_of at.place _ here) (collection_tied at.place (events_of_nodes ns ++ sequence_ends ∷ []) sh.1
         (sequence_tied s nest (marks at.place) ns (after at)))
@@ -186,25 +174,23 @@ module _ (source : Source) (within : (p : ℕ) (e : PlainDocEvent × Position) �
 
     -- a node as it is handed on
     handed_tied : (h : Handing) (s : PlainShape) (nest : ℕ) (taken : Option TakenBy) (n : DocNode) (at : Spot)
-        (mark : Position)
-        → handed s (is_some taken) (first_event n) ≡ h
+        (mark : Position) → handed s (is_some taken) (first_event n) ≡ h
         → source.events at.place ≡ Some (first_event n, mark) → Shows source.events at.place (events_of n)
         → Lands (at.place + length (events_of n)) (handed_at source h read way s nest taken at (first_event n) mark)
         (handed_by source.table h tree way root marks s nest taken n at)
     handed_tied as_is s nest taken n at mark to here sh = node_tied s nest taken n at mark here sh
     handed_tied (as_some c) s nest taken n at mark to here sh =
-        lands_with (shape_at source.table c) (λ t. lands_wrap some_data (tied way t nest taken n at sh))
+        lands_with _ (λ t. lands_wrap some_data (tied way t nest taken n at sh))
     handed_tied (as_newtype c) s nest taken n at mark to here sh =
-        rw (mark_of at.place _ here) (lands_enter nest (marks at.place) (λ m. lands_with (shape_at source.table c)
+        rw (mark_of at.place _ here) (lands_enter nest (marks at.place) (λ m. lands_with _
         (λ t. lands_wrap newtype_data (tied way t m taken n at sh))))
     handed_tied as_ignored s nest taken n at mark to here sh = skip_tied n at sh
     handed_tied (as_bare fields) s nest taken n at mark to here sh =
         bare_tied fields n at (from_handing s (is_some taken) (first_event n) (as_bare fields) to).3
     handed_tied (as_variant place around content) s nest taken n at mark to here sh =
-        lands_with (content_shape source.table around.name around.variant content)
-        (λ t. lands_wrap (variant_data place) (tied way t nest (Some around) n at sh))
+        lands_with _ (λ t. lands_wrap _ (tied way t nest (Some around) n at sh))
     handed_tied (as_tagged name) s nest taken n at mark to here sh =
-        lands_wrap (λ v. any_data (tagged name (tree_in v))) (tied way any_shape nest (Some around_value) n at sh)
+        lands_wrap _ (tied way any_shape nest (Some around_value) n at sh)
     handed_tied as_refused s nest taken n at mark to here sh = refuses _
 
     step_tied : (s : PlainShape) (nest : ℕ) (taken : Option TakenBy) (n : DocNode) (at : Spot)
@@ -221,7 +207,7 @@ module _ (source : Source) (within : (p : ℕ) (e : PlainDocEvent × Position) �
       (place (places s taken (first_event n)) (marks at.place) way r)
   placed_tied way s taken n at end q r sh e =
       let here = begins source.events at.place n sh in
-      rw (here.1, mark_of at.place _ here.1) (lands_place (places s taken (first_event n)) (marks at.place) way e)
+      rw (here.1, mark_of at.place _ here.1) (lands_place _ _ way e)
 
   -- the readers answer the same at every depth
   pub reader_tied : (fuel : ℕ) (way : Way) → AreTied source (node_at source fuel way)

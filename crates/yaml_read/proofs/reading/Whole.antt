@@ -128,8 +128,7 @@ module _ (limits : PlainLimits) (table : List PlainShape) (s : PlainShape) (docu
         let first = front_is (front_answer limits table s document) ending y told
         (λ h. other (sym mine ∙ (h ∙ same))) in
         let read = told_err (whole_reading limits table document s) y first.0 in
-        first_fault limits table s document whole root tree on read.0 read.1
-        (λ h. first.1 (sym read.2 ∙ ap cause_of h))
+        first_fault limits table s document whole root tree on read.0 read.1 (λ h. first.1 (sym read.2 ∙ ap cause_of h))
         (λ h. let bad = sym known ∙ ap is_memory (sym read.2 ∙ ap cause_of h) in absurd cc)
         ∙ ap Err (read.2 ∙ mine);
     exact = λ root is. absurd (uncut root is);
@@ -167,8 +166,7 @@ module _ (limits : PlainLimits) (table : List PlainShape) (s : PlainShape) (docu
 
     -- a refusal of what has a meaning is one that the limits ask for
     answer_refusal : (root : DocNode) (v : PlainData) (d k : ℕ) (y : Cause) → Means table root s root false v d k
-        → answer_of limits table s document root ≡ Err y
-        → IsRefusal limits (length document.events) d k y
+        → answer_of limits table s document root ≡ Err y → IsRefusal limits (length document.events) d k y
     answer_refusal root v d k y m h =
         let f = told_err (whole_tree limits table document.events s root) y h in
         elim (outcome root v d k m) [
@@ -216,7 +214,6 @@ module _ (table : List PlainShape) (small : (id : ℕ) → rank table id ≤ 409
       let told = told_err (whole_tree limits table document.events s root) fault e in
       let refused = ends_refused
       (tree_ends table root (marks_of document.events) small falls closed
-      (whole_fuel limits (length document.events)) root_way s limits.nesting None root
-      (start limits document)
+      (whole_fuel limits (length document.events)) root_way s limits.nesting None root (start limits document)
       (names_within id s at) short (omega (arith, short))) told.0 told.1 in
       subst IsReadingFault (ap cause_of refused.1 ∙ told.2) (fault_is_reading refused.0)

@@ -87,8 +87,7 @@ module _ (table : List PlainShape) (s : PlainShape) (small : reach table s ≤ 4
       → marked_events_of es ≡ document.events → ends ≡ ends_of (map (λ e. e.0) document.events)
       → ((fuel : ℕ) → depth table s false nest (follows * length es) < fuel
       → node_at (walk_source table es ends) fuel root_way s nest None
-      (record { place = 0; left = follows * length es }) ≡ r)
-      → whole_reading limits table document s ≡ r
+      (record { place = 0; left = follows * length es }) ≡ r) → whole_reading limits table document s ≡ r
   whole_seen limits nest follows r n f seen numbers gives =
       let size : length es ≡ length document.events = sym (length-map es (λ e. (doc_event_of e.0, e.1)))
       ∙ ap length seen in
