@@ -1,15 +1,15 @@
 -- What a node's reading comes to, once its shape and its first event are known.
 use Rattle.std.specs.Prelude.{◌≡◌, ◌-◌, ◌<◌}
-use Rattle.yaml_read.proofs.Words.{ℕ, Bool, true, false, List, [], Some, None, Option, Result, Ok, Err, refl, ap, ◌∙◌}
-use Rattle.yaml_read.proofs.Words.{rules, length, is_some, Position, data_of, entry_of, items_of, Owner, entries_of}
-use Rattle.yaml_read.proofs.Words.{PlainData, seq_data, map_data, some_data, newtype_data, PlainShape, wrap}
-use Rattle.yaml_read.proofs.Words.{option_shape, newtype_shape, seq_shape, row_shape, map_shape, shape_at, Entry, as_is}
-use Rattle.yaml_read.proofs.Words.{doc_event_of, PlainDocEvent, sequence_begins, mapping_begins, DocEvent, ReadFault}
-use Rattle.yaml_read.proofs.Words.{PlainRefusal, refused, end_of_stream, GivesReading, Yields, with_end, ending, finish}
-use Rattle.yaml_read.proofs.Words.{with_shape, Handing, handed, early, is_content, row_of, row_data, Spot, after, Walk}
-use Rattle.yaml_read.proofs.Words.{is_sequence_end, is_mapping_end, item_at, entry_at, row_at, sequence_parts, Question}
-use Rattle.yaml_read.proofs.Words.{mapping_parts, handed_at, shape_step, by_step, by_shape, by_event, source_of, seen}
-use Rattle.yaml_read.proofs.Words.{reader_of, spot_of, Reading, CodeSource}
+use Rattle.yaml_read.proofs.Words.{is_sequence_end, sequence_begins, is_mapping_end, mapping_begins, sequence_parts, Ok}
+use Rattle.yaml_read.proofs.Words.{PlainDocEvent, end_of_stream, mapping_parts, newtype_shape, GivesReading, CodeSource}
+use Rattle.yaml_read.proofs.Words.{PlainRefusal, doc_event_of, newtype_data, option_shape, PlainShape, entries_of, Bool}
+use Rattle.yaml_read.proofs.Words.{is_content, shape_step, PlainData, ReadFault, handed_at, map_shape, reader_of, Entry}
+use Rattle.yaml_read.proofs.Words.{row_shape, seq_shape, some_data, source_of, DocEvent, Position, Question, by_event}
+use Rattle.yaml_read.proofs.Words.{by_shape, entry_at, entry_of, items_of, map_data, row_data, seq_data, shape_at, List}
+use Rattle.yaml_read.proofs.Words.{with_end, Handing, Reading, by_step, data_of, is_some, item_at, refused, spot_of, []}
+use Rattle.yaml_read.proofs.Words.{Option, Result, Yields, ending, finish, handed, length, row_at, row_of, Owner, after}
+use Rattle.yaml_read.proofs.Words.{as_is, early, false, rules, None, Some, Spot, Walk, refl, seen, true, wrap, Err, ◌∙◌}
+use Rattle.yaml_read.proofs.Words.{ap, ℕ}
 use Rattle.yaml_shape.specs.declared.data.Entry.{the_lemmas}
 use Rattle.yaml_load.specs.declared.doc_event.DocEvent.TheVariants as event
 use Rattle.yaml_read.proofs.reading.Loops.{entered}

@@ -1,9 +1,8 @@
 -- One turn of a loop over the parts of a collection, and one step of a reading.
 use Rattle.std.specs.Prelude.{◌≡◌, ◌+◌, ◌-◌, ◌<◌}
-use Rattle.yaml_read.proofs.Words.{ℕ, zero, suc, Bool, true, false, Some, None, Result, Ok, Err, ap, sym, ◌∙◌, arith}
-use Rattle.yaml_read.proofs.Words.{Position, PlainData, PlainDocEvent, PlainRefusal, refused, end_of_stream}
-use Rattle.yaml_read.proofs.Words.{◌>>=◌, wrap, enter, Spot, after, Reading, Events, each_at}
-use Rattle.yaml_read.proofs.Words.{pursue}
+use Rattle.yaml_read.proofs.Words.{PlainDocEvent, end_of_stream, PlainRefusal, PlainData, Position, Reading, each_at, ℕ}
+use Rattle.yaml_read.proofs.Words.{refused, Events, Result, pursue, after, arith, enter, false, ◌>>=◌, Bool, None, Some}
+use Rattle.yaml_read.proofs.Words.{Spot, true, wrap, zero, Err, suc, sym, ◌∙◌, Ok, ap}
 
 module _ {S : Type 0} (is_end : PlainDocEvent → Bool) (step : S → Spot → Reading S) (events : Events) where
   -- the events end within the collection

@@ -5,11 +5,11 @@ use Rattle.yaml_read.proofs.Words.{newtype_data, field_named, field_value, first
 use Rattle.yaml_read.proofs.Words.{PlainShape, TreeReader, any_key_of, as_ignored, as_newtype, as_refused, as_variant}
 use Rattle.yaml_read.proofs.Words.{field_step, mapping_of, numbers_of, PlainData, as_tagged, field_key, handed_by, Bool}
 use Rattle.yaml_read.proofs.Words.{read_tree, reference, some_data, struct_of, target_of, All-head, All-tail, DocNodes}
-use Rattle.yaml_read.proofs.Words.{DocPairs, Position, no_slots, row_data, row_part, row_step, shape_at, value_of, List}
-use Rattle.yaml_read.proofs.Words.{All-nil, DocNode, Handing, TakenBy, as_bare, as_some, is_some, item_of, mapping, All}
-use Rattle.yaml_read.proofs.Words.{name_in, node_of, nothing, Answer, Fields, IfSome, Option, handed, key_of, length, ℕ}
-use Rattle.yaml_read.proofs.Words.{row_of, Slots, after, arith, as_is, depth, early, reach, subst, None, Some, Spot, Ok}
-use Rattle.yaml_read.proofs.Words.{list, rank, refl, word, zero, Row, Way, suc, [], ap}
+use Rattle.yaml_read.proofs.Words.{DocPairs, Position, no_slots, row_step, shape_at, value_of, All-nil, DocNode, Answer}
+use Rattle.yaml_read.proofs.Words.{Handing, TakenBy, as_bare, as_some, is_some, mapping, name_in, node_of, nothing, All}
+use Rattle.yaml_read.proofs.Words.{Fields, IfSome, Option, handed, key_of, length, row_of, Slots, after, arith, as_is}
+use Rattle.yaml_read.proofs.Words.{depth, early, reach, subst, List, None, Some, Spot, list, rank, refl, word, zero, Ok}
+use Rattle.yaml_read.proofs.Words.{Row, Way, suc, [], ap, ℕ}
 use Rattle.yaml_scalar.proofs.VariantCode.{content_all}
 use Rattle.yaml_shape.specs.PlainShape as shape
 use Rattle.yaml_tree.specs.Tree as tree
@@ -88,18 +88,15 @@ module _ (table : List PlainShape) (root : DocNode) (marks : ℕ → Position) (
         let within = All-head IsIn e [] names in
         let t = shown e within in
         ends_enter nest mark _ (λ n is. ends_with _ _ t.1 (ends_map _
-        (ends_nodes Any at.left (item_of read way t.0 n) (λ vs m to few ok. ends_map _
-        (part_ends (element_under way (length vs)) e n at.left m to within (omega (arith, lt, is)) few))
-        [] ns at (omega arith) tt)))
+        (ends_nodes Any at.left _ (λ vs m to few ok. ends_map _ (part_ends (element_under way (length vs)) e n at.left m
+        to within (omega (arith, lt, is)) few)) [] ns at (omega arith) tt)))
     sequence_ends (shape.row_shape owner ids) nest mark ns at names lt =
-        ends_enter nest mark _ (λ n is. ends_finish (row_data owner (length ids))
-        (ends_nodes RowIn at.left (row_part table read way n) (λ row m to few a.
+        ends_enter nest mark _ (λ n is. ends_finish _ (ends_nodes RowIn at.left _ (λ row m to few a.
         step_ends row.left row.read row.extra to.left _ _ a (λ id here. ends_with _ _ (shown id here).1
         (part_ends (element_under way (length row.read)) id n at.left m to here (omega (arith, lt, is)) few))
         (ends_value ignored_data to.left (omega arith) tt)) (row_of ids) ns at (omega arith) names) (λ s x e. tt))
     sequence_ends shape.any_shape nest mark ns at names lt =
-        ends_enter nest mark _ (λ n is. ends_map _
-        (ends_nodes Any at.left (item_of read way shape.any_shape n) (λ vs m to few ok. ends_map _
+        ends_enter nest mark _ (λ n is. ends_map _ (ends_nodes Any at.left _ (λ vs m to few ok. ends_map _
         (plain_ends (element_under way (length vs)) shape.any_shape n at.left m to names refl (omega (arith, lt, is))
         few)) [] ns at (omega arith) tt))
     sequence_ends s nest mark ns at names lt = ends_fault _

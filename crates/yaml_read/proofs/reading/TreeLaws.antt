@@ -4,16 +4,16 @@ use Rattle.yaml_read.proofs.Words.{identifier_shape, events_of_nodes, events_of_
 use Rattle.yaml_read.proofs.Words.{element_under, mark_or_first, scalar_answer, sequence_ends, around_value, PlainShape}
 use Rattle.yaml_read.proofs.Words.{field_key_at, fields_shape, ignored_data, mapping_ends, newtype_data, field_value}
 use Rattle.yaml_read.proofs.Words.{first_event, sequence_at, sequence_of, void_answer, TreeReader, any_key_at, DocNodes}
-use Rattle.yaml_read.proofs.Words.{any_key_of, as_ignored, as_newtype, as_refused, as_variant, mapping_at, mapping_of}
-use Rattle.yaml_read.proofs.Words.{shape_step, text_place, with_shape, PlainData, any_shape, as_tagged, events_of, Bool}
-use Rattle.yaml_read.proofs.Words.{field_key, handed_at, handed_by, map_shape, read_tree, reference, row_shape, DocNode}
-use Rattle.yaml_read.proofs.Words.{seq_shape, some_data, struct_of, target_of, value_way, DocPairs, Position, alias_to}
-use Rattle.yaml_read.proofs.Words.{event_at, no_slots, place_at, row_part, row_step, shape_at, value_of, Handing, Slots}
-use Rattle.yaml_read.proofs.Words.{Reading, TakenBy, add-one, as_bare, as_some, is_bare, is_some, item_at, item_of, Way}
-use Rattle.yaml_read.proofs.Words.{mapping, node_at, node_by, node_of, nothing, skip_at, Answer, Fields, Option, Reader}
-use Rattle.yaml_read.proofs.Words.{Source, ending, handed, key_of, length, lt-ltb, nat_lt, places, row_at, row_of, List}
-use Rattle.yaml_read.proofs.Words.{after, arith, as_is, early, place, subst, ◌>>=◌, None, Some, Spot, list, refl, true}
-use Rattle.yaml_read.proofs.Words.{word, wrap, zero, suc, sym, ◌∙◌, Ok, [], ap}
+use Rattle.yaml_read.proofs.Words.{any_key_of, as_ignored, as_newtype, as_refused, as_variant, entries_of, mapping_at}
+use Rattle.yaml_read.proofs.Words.{mapping_of, shape_step, text_place, with_shape, PlainData, any_shape, as_tagged, Way}
+use Rattle.yaml_read.proofs.Words.{events_of, field_key, handed_at, handed_by, map_shape, read_tree, reference, DocNode}
+use Rattle.yaml_read.proofs.Words.{row_shape, seq_shape, some_data, struct_of, target_of, value_way, DocPairs, Position}
+use Rattle.yaml_read.proofs.Words.{alias_to, event_at, map_data, no_slots, place_at, row_step, shape_at, value_of, Bool}
+use Rattle.yaml_read.proofs.Words.{Handing, Reading, TakenBy, add-one, as_bare, as_some, is_bare, is_some, mapping, suc}
+use Rattle.yaml_read.proofs.Words.{node_at, node_by, node_of, nothing, skip_at, Answer, Fields, Option, Reader, Source}
+use Rattle.yaml_read.proofs.Words.{ending, handed, key_of, length, lt-ltb, nat_lt, places, row_of, Slots, after, arith}
+use Rattle.yaml_read.proofs.Words.{as_is, early, place, subst, ◌>>=◌, List, None, Some, Spot, list, refl, true, word}
+use Rattle.yaml_read.proofs.Words.{wrap, zero, sym, ◌∙◌, Ok, [], ap}
 use Rattle.yaml_tree.specs.Tree as tree_of
 use Rattle.yaml_read.proofs.reading.Shown.{Shows, begins, opens, node_within, target_shown}
 use Rattle.yaml_read.proofs.reading.TreeWalks.{Lands, lands, refuses, lands_wrap, lands_enter, lands_with, lands_finish}
@@ -71,17 +71,15 @@ module _ (source : Source) (within : (p : ℕ) (e : PlainDocEvent × Position) �
         (sequence_at source read way s nest mark at) (sequence_of source.table tree way s nest mark ns at)
     sequence_tied (seq_shape e) nest mark ns at sh lt =
         lands_enter nest mark (λ n. lands_with _ (λ s. lands_wrap _
-        (nodes_tied source.events source.size within (item_at read way s n) (item_of tree way s n)
+        (nodes_tied source.events source.size within _ _
         (λ vs m a h. lands_wrap _ (tied (element_under way (length vs)) s n None m a h))
         source.size [] ns at sh (omega arith))))
     sequence_tied (row_shape owner ids) nest mark ns at sh lt =
-        lands_enter nest mark (λ n. lands_finish _
-        (nodes_tied source.events source.size within (row_at source read way n) (row_part source.table tree way n)
+        lands_enter nest mark (λ n. lands_finish _ (nodes_tied source.events source.size within _ _
         (λ row m a h. row_tied (element_under way (length row.read)) row.left row.read row.extra n m a h) source.size
         (row_of ids) ns at sh (omega arith)))
     sequence_tied any_shape nest mark ns at sh lt =
-        lands_enter nest mark (λ n. lands_wrap _
-        (nodes_tied source.events source.size within (item_at read way any_shape n) (item_of tree way any_shape n)
+        lands_enter nest mark (λ n. lands_wrap _ (nodes_tied source.events source.size within _ _
         (λ vs m a h. lands_wrap _ (tied (element_under way (length vs)) any_shape n None m a h))
         source.size [] ns at sh (omega arith)))
     sequence_tied _ nest mark ns at sh lt = refuses _
@@ -100,8 +98,8 @@ module _ (source : Source) (within : (p : ℕ) (e : PlainDocEvent × Position) �
         → Lands (at.place + length (events_of_pairs ps ++ mapping_ends ∷ []))
         (mapping_at source read way s nest mark at) (mapping_of source.table tree marks way s nest mark ps at)
     mapping_tied (map_shape a b) nest mark ps at sh lt =
-        lands_enter nest mark (λ n. lands_with _ (λ s. lands_with _
-        (λ t. lands_wrap _ (pairs_tied source.events source.size within
+        lands_enter nest mark (λ n. lands_with (shape_at source.table a) (λ s. lands_with (shape_at source.table b)
+        (λ t. lands_wrap (λ vs. map_data (entries_of vs)) (pairs_tied source.events source.size within
         (λ vs q. wrap {B = Way × PlainData} (λ k. (value_way way (source.events q.place), k)) (read way s n None q))
         (λ vs k q. wrap (λ v. vs ++ (k.1, v) ∷ []) (read k.0 t n None q)) (key_of tree way s n) (value_of tree t n)
         (λ vs m q h. rw (begins source.events q.place m h).1 (lands_wrap _ (tied way s n None m q h)))
@@ -123,13 +121,12 @@ module _ (source : Source) (within : (p : ℕ) (e : PlainDocEvent × Position) �
     mapping_tied _ nest mark ps at sh lt = refuses _
 
     -- the target of an alias
-    target_tied : (s : PlainShape) (nest j left end : ℕ) (o : Option DocNode) → (n : DocNode) → node_of root j ≡ Some n
-        → node_of root j ≡ o → Lands end (read way s nest None (record { place = j; left = left }) >>= λ x.
-        Ok (x.0, record { place = end; left = x.1.left })) (target_of (tree way) s nest o j left)
-    target_tied s nest j left end None n is e = absurd cc
-    target_tied s nest j left end (Some m) n is e =
-        back (tied way s nest None m (record { place = j; left = left })
-        (target_shown source.events root j m root_shown e))
+    target_tied : (s : PlainShape) (nest j left end : ℕ) (n : DocNode) → node_of root j ≡ Some n
+        → Lands end (read way s nest None (record { place = j; left = left }) >>= λ x.
+        Ok (x.0, record { place = end; left = x.1.left })) (target_of (tree way) s nest (node_of root j) j left)
+    target_tied s nest j left end n is =
+        rw is (back (tied way s nest None n (record { place = j; left = left })
+        (target_shown source.events root j n root_shown is)))
       where
         back : {mid : ℕ} {q : Reading PlainData} {r : Answer PlainData} → Lands mid q r
             → Lands end (q >>= λ x. Ok (x.0, record { place = end; left = x.1.left })) r
@@ -154,7 +151,7 @@ module _ (source : Source) (within : (p : ℕ) (e : PlainDocEvent × Position) �
         lands_ending (at.place + 1) at.left (scalar_answer s (is_some taken) w)
     node_tied s nest taken (reference j) at mark here sh =
         let target = known at.place j mark here in
-        lands_follow at.left (λ left. target_tied s nest j left (at.place + 1) (node_of root j) target.0 target.1 refl)
+        lands_follow at.left (λ left. target_tied s nest j left (at.place + 1) target.0 target.1)
     node_tied s nest taken (list tag ns) at mark here sh =
         rw (mark_of at.place _ here) (collection_tied at.place (events_of_nodes ns ++ sequence_ends ∷ []) sh.1
         (sequence_tied s nest (marks at.place) ns (after at)))

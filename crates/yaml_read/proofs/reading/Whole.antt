@@ -4,9 +4,9 @@ use Rattle.yaml_read.proofs.Words.{get_or_from_slice_get, slice_get_within, IsRe
 use Rattle.yaml_read.proofs.Words.{DocumentGives, PlainDocument, end_of_stream, out_of_memory, front_answer, All-get_or}
 use Rattle.yaml_read.proofs.Words.{option_shape, IsNodeFault, NamesWithin, PlainLimits, PlainShape, value_told, DocNode}
 use Rattle.yaml_read.proofs.Words.{whole_fuel, whole_tree, IsRefusal, PlainData, answer_of, cut_fault, is_memory, Cause}
-use Rattle.yaml_read.proofs.Words.{IsEnding, IsTreeOf, cause_of, marks_of, root_way, shape_at, Reading, ran_out, Result}
-use Rattle.yaml_read.proofs.Words.{refused, length, Means, Reads, arith, false, reach, subst, List, None, Some, Spot, ℕ}
-use Rattle.yaml_read.proofs.Words.{rank, refl, Err, inl, inr, sym, ◌∙◌, Ok, ap}
+use Rattle.yaml_read.proofs.Words.{IsEnding, IsTreeOf, cause_of, marks_of, shape_at, Reading, ran_out, refused, Result}
+use Rattle.yaml_read.proofs.Words.{length, Means, Reads, arith, false, reach, subst, List, None, Some, Spot, rank, refl}
+use Rattle.yaml_read.proofs.Words.{Err, inl, inr, sym, ◌∙◌, Ok, ap, ℕ}
 use Rattle.yaml_base.specs.declared.error.Cause.TheVariants.{MoreThanOneDocument, EndOfStream}
 pub use Rattle.yaml_read.proofs.reading.WholeReadings.{whole_source, whole_reading}
 use Rattle.yaml_read.proofs.reading.Outcomes.{Outcome, reads, deep, many}
@@ -56,9 +56,7 @@ module _ (limits : PlainLimits) (table : List PlainShape) (s : PlainShape) (docu
       → answer_of limits table s document root ≡ Ok v → Reads limits table s root (length document.events) v
   answer_read root is v h =
       let r = answer_ok (whole_tree limits table document.events s root) v h in
-      let f = tree_sound table root (marks_of document.events)
-      (whole_fuel limits (length document.events)) root_way s limits.nesting None root
-      (start limits document) (v, r.0) r.1 in
+      let f = tree_sound table root _ _ _ _ _ _ _ _ (v, r.0) r.1 in
       record {
         nestings = f.d;
         followed = f.k;
@@ -151,9 +149,7 @@ module _ (limits : PlainLimits) (table : List PlainShape) (s : PlainShape) (docu
         → Outcome (whole_tree limits table document.events s root) v limits.nesting
         (limits.follows * length document.events) d k
     outcome root v d k m =
-        tree_outcome table root (marks_of document.events) small falls m root_way
-        (whole_fuel limits (length document.events)) limits.nesting None
-        (start limits document) refl (omega (arith, low))
+        tree_outcome table root _ small falls m _ _ _ None _ refl (omega (arith, low))
 
     -- within the limits what the tree means is answered
     pub read_answer : (root : DocNode) (v : PlainData) → Reads limits table s root (length document.events) v
@@ -213,7 +209,6 @@ module _ (table : List PlainShape) (small : (id : ℕ) → rank table id ≤ 409
       let short = low table small falls id s at in
       let told = told_err (whole_tree limits table document.events s root) fault e in
       let refused = ends_refused
-      (tree_ends table root (marks_of document.events) small falls closed
-      (whole_fuel limits (length document.events)) root_way s limits.nesting None root (start limits document)
-      (names_within id s at) short (omega (arith, short))) told.0 told.1 in
+      (tree_ends table root (marks_of document.events) small falls closed (whole_fuel limits (length document.events)) _
+      s limits.nesting None root _ (names_within id s at) short (omega (arith, short))) told.0 told.1 in
       subst IsReadingFault (ap cause_of refused.1 ∙ told.2) (fault_is_reading refused.0)
