@@ -1,10 +1,10 @@
 -- A key that is new to each before it keeps the keys of a mapping distinct, and keys that are distinct are new.
 use Rattle.std.specs.Prelude.{◌≡◌, ◌∷◌, ◌++◌, ◌&&◌, ◌||◌, if◌then◌else◌}
 use Rattle.std.proofs.lemmas.Bool.{not-true}
-use Rattle.yaml_read.proofs.Words.{List, [], Result, Ok, Err, Bool, true, false, not, refl, sym, ◌∙◌, ap, Some, None}
-use Rattle.yaml_read.proofs.Words.{is_some, entries_of, PlainData, tree_eq, tree_eq-symm, has_key, keys_distinct}
-use Rattle.yaml_read.proofs.Words.{value_at, with_pair, Tree, Pairs, with_last, ReadFault, at_node, duplicate_entry}
-use Rattle.yaml_read.proofs.Words.{tree_in, pairs_in, entry_key, new_key}
+use Rattle.yaml_read.proofs.Words.{duplicate_entry, keys_distinct, tree_eq-symm, entries_of, PlainData, ReadFault, Bool}
+use Rattle.yaml_read.proofs.Words.{entry_key, with_last, with_pair, pairs_in, value_at, at_node, has_key, is_some, List}
+use Rattle.yaml_read.proofs.Words.{new_key, tree_eq, tree_in, Result, Pairs, false, None, Some, Tree, refl, true, Err}
+use Rattle.yaml_read.proofs.Words.{not, sym, ◌∙◌, Ok, [], ap}
 use Rattle.yaml_tree.specs.Tree.{no_pairs, pair}
 
 -- the pairs that a list of keys with values is
@@ -34,29 +34,22 @@ distinct_end (w ∷ vs) k v d h =
     let apart = both_hold (not (has_key (tree_in w.0) (pairs_of vs))) (keys_distinct (pairs_of vs)) d in
     let n = neither (tree_eq (tree_in k) (tree_in w.0)) (has_key (tree_in k) (pairs_of vs)) h in
     let other : tree_eq (tree_in w.0) (tree_in k) ≡ false = tree_eq-symm (tree_in w.0) (tree_in k) ∙ n.0 in
-    rw (
-      apart_end vs (tree_in w.0) k v
-          (not-true (has_key (tree_in w.0) (pairs_of vs)) apart.0) other,
-      distinct_end vs k v apart.1 n.1,
-    ) refl
+    rw (apart_end vs (tree_in w.0) k v (not-true _ apart.0) other, distinct_end vs k v apart.1 n.1) refl
 
 -- a key that stands nowhere among pairs is not that of one
 in_middle : (vs more : List (PlainData × PlainData)) (j : Tree) (k v : PlainData)
     → has_key j (pairs_of (vs ++ (k, v) ∷ more)) ≡ false → tree_eq j (tree_in k) ≡ false
-in_middle [] more j k v h = (neither (tree_eq j (tree_in k)) (has_key j (pairs_of more)) h).0
-in_middle (w ∷ vs) more j k v h =
-    in_middle vs more j k v (neither (tree_eq j (tree_in w.0)) (has_key j (pairs_of (vs ++ (k, v) ∷ more))) h).1
+in_middle [] more j k v h = (neither _ _ h).0
+in_middle (w ∷ vs) more j k v h = in_middle vs more j k v (neither _ _ h).1
 
 -- among distinct keys each is new to those before it
 pub first_apart : (vs more : List (PlainData × PlainData)) (k v : PlainData)
     → keys_distinct (pairs_of (vs ++ (k, v) ∷ more)) ≡ true → has_key (tree_in k) (pairs_of vs) ≡ false
 first_apart [] more k v d = refl
 first_apart (w ∷ vs) more k v d =
-    let apart = both_hold (not (has_key (tree_in w.0) (pairs_of (vs ++ (k, v) ∷ more))))
-    (keys_distinct (pairs_of (vs ++ (k, v) ∷ more))) d in
+    let apart = both_hold _ _ d in
     let other : tree_eq (tree_in k) (tree_in w.0) ≡ false =
-    tree_eq-symm (tree_in k) (tree_in w.0)
-    ∙ in_middle vs more (tree_in w.0) k v (not-true (has_key (tree_in w.0) (pairs_of (vs ++ (k, v) ∷ more))) apart.0) in
+    tree_eq-symm (tree_in k) (tree_in w.0) ∙ in_middle vs more (tree_in w.0) k v (not-true _ apart.0) in
     rw (other, first_apart vs more k v apart.1) refl
 
 -- a key that is taken for new is new
@@ -99,8 +92,7 @@ pairs_more (w ∷ vs) k v = ap (pair (tree_in w.0) (tree_in w.1)) (pairs_more vs
 
 -- a new key with its value, behind those that were read
 pub pairs_grow : (vs : List (PlainData × PlainData)) (k v : PlainData) (ps : Pairs) → pairs_of vs ≡ ps
-    → has_key (tree_in k) ps ≡ false
-    → pairs_of (vs ++ (k, v) ∷ []) ≡ with_pair (tree_in k) (tree_in v) ps
+    → has_key (tree_in k) ps ≡ false → pairs_of (vs ++ (k, v) ∷ []) ≡ with_pair (tree_in k) (tree_in v) ps
 pairs_grow vs k v ps same new =
     pairs_more vs k v ∙ (ap (λ qs. with_last qs (tree_in k) (tree_in v)) same
     ∙ sym (pair_behind (tree_in k) (tree_in v) ps new))

@@ -81,8 +81,7 @@ pub put_before : (fields : Declared) (name : List ℕ) (place : ℕ) (d e : Stri
     (behind : Option (ℕ × ShapeId)) → place < length fields
     → field_view behind ≡ behind_by (place + 1) (find (drop (place + 1) (fields_of fields)) name)
     → field_view (cond (bytes_eq (string_bytes (get_or fields place d).0) name)
-    (Some (place, (get_or fields place e).1)) behind)
-    ≡ behind_by place (find (drop place (fields_of fields)) name)
+    (Some (place, (get_or fields place e).1)) behind) ≡ behind_by place (find (drop place (fields_of fields)) name)
 put_before fields name place d e behind within h = chosen (bytes_eq (string_bytes (get_or fields place d).0) name) refl
   where
     one : get_or fields place e ≡ get_or fields place d

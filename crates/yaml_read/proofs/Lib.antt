@@ -1,5 +1,4 @@
 -- Lemmas of this crate.
-pub mod AliasLaws
 pub mod AnyCode
 pub mod AnyLaws
 pub mod FieldCode
@@ -7,6 +6,5 @@ pub mod FieldLaws
 pub mod FreeLaws
 pub mod KindLaws
 pub mod SlotCode
-pub mod WholeEnds
 pub mod Words
 pub mod reading

@@ -30,8 +30,7 @@ free_here (t ∷ slots) zero s r h e = tested s r e ∙ sym (ap (λ o. is_none (
     tested (Some d) false e = refl
 free_here (t ∷ slots) (suc place) s r h e = free_here slots place s r h e
 
-pub free_outside : (slots : CodeSlots) (place : ℕ) → length slots ≤ place
-    → true ≡ is_free (slots_of slots) place
+pub free_outside : (slots : CodeSlots) (place : ℕ) → length slots ≤ place → true ≡ is_free (slots_of slots) place
 free_outside [] place h = refl
 free_outside (t ∷ slots) zero h = absurd (omega arith)
 free_outside (t ∷ slots) (suc place) h = free_outside slots place (omega arith)
@@ -117,8 +116,7 @@ module _ (table : List PlainShape) where
   -- the step of the code over one field: it takes a slot, and reads the field's data from it
   pub gathered_next : (before : List Data) (fields : Declared) (place : ℕ) (f : String Global × ShapeId)
       (old new : CodeSlots) (r : Option (Option Data)) (count : ℕ) (v : Data)
-      (whole : Result (List PlainData) ReadFault)
-      → slice_get fields place ≡ Some f → Taken old r new count
+      (whole : Result (List PlainData) ReadFault) → slice_get fields place ≡ Some f → Taken old r new count
       → lift (field_data table (field_of f) (option_map data_of (option_flatten r))) ≡ Ok (data_of v)
       → behind_these (map data_of before) (drop place (fields_of fields)) (slots_of old) ≡ whole
       → behind_these (map data_of (before ++ v ∷ [])) (drop (place + 1) (fields_of fields)) (slots_of new) ≡ whole
@@ -132,11 +130,9 @@ module _ (table : List PlainShape) where
 
   pub gathered_ends : (before : List Data) (fields : Declared) (place : ℕ) (f : String Global × ShapeId)
       (old new : CodeSlots) (r : Option (Option Data)) (count : ℕ) (y : PlainRefusal)
-      (whole : Result (List PlainData) ReadFault)
-      → slice_get fields place ≡ Some f → Taken old r new count
+      (whole : Result (List PlainData) ReadFault) → slice_get fields place ≡ Some f → Taken old r new count
       → lift (field_data table (field_of f) (option_map data_of (option_flatten r))) ≡ Err y
-      → behind_these (map data_of before) (drop place (fields_of fields)) (slots_of old) ≡ whole
-      → lift whole ≡ Err y
+      → behind_these (map data_of before) (drop place (fields_of fields)) (slots_of old) ≡ whole → lift whole ≡ Err y
   gathered_ends before fields place f old new r count y whole here t read left =
       ap lift (sym left ∙ ap (λ fs. behind_these (map data_of before) fs (slots_of old))
       (drop_seen fields place f here))

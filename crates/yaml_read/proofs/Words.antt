@@ -1,10 +1,9 @@
 -- The words of definitions that several proofs cite, and std's lemmas that they cite, in one place.
-pub use Rattle.std.proofs.Common.{◌≡◌, ◌∙◌, ℕ, suc, List, Some, None, true, false, refl, sym, subst, pos, negsuc, arith}
-pub use Rattle.std.proofs.Common.{length, [], ◌∷◌, ◌++◌, Bool, map, ap, true≢false, Result, Ok, Err, not, ◌&&◌, ◌||◌}
-pub use Rattle.std.proofs.Common.{if◌then◌else◌, zero, ◌+◌, ◌<◌, get_or, All, Option, add-one, String, string_bytes}
-pub use Rattle.std.proofs.Common.{drop, bytes_eq, cond, set, rules, ◌*◌, ◌≤◌, IfSome, append_assoc, append-nil, ◌-◌}
-pub use Rattle.std.proofs.Common.{take, ap₂, ◌==◌, length-append, inl, inr}
-pub use Rattle.std.specs.Prelude.{slice_get, ◌≢◌, nat_lt, max, ◌⊎◌}
+pub use Rattle.std.proofs.Common.{◌∙◌, ℕ, suc, List, Some, None, true, false, refl, sym, subst, pos, negsuc, arith, []}
+pub use Rattle.std.proofs.Common.{length, Bool, map, ap, true≢false, Result, Ok, Err, not, zero, get_or, All, Option}
+pub use Rattle.std.proofs.Common.{add-one, String, string_bytes, drop, bytes_eq, cond, set, rules, IfSome, append_assoc}
+pub use Rattle.std.proofs.Common.{append-nil, take, ap₂, length-append, inl, inr}
+pub use Rattle.std.specs.Prelude.{slice_get, nat_lt, max}
 pub use Rattle.std.specs.Option.{is_some, option_map, option_copied, option_flatten, option_to_list, is_none}
 pub use Rattle.std.specs.Option.{MatchOption}
 pub use Rattle.std.specs.HashMap.{get_by}
@@ -48,10 +47,9 @@ pub use Rattle.yaml_shape.specs.declared.data.Data.{Data, Map, Seq, Struct, Tupl
 pub use Rattle.yaml_shape.specs.declared.data.Entry.{Entry}
 pub use Rattle.yaml_shape.specs.declared.shape.ShapeId.{ShapeId}
 pub use Rattle.yaml_load.specs.DocEventView.{doc_event_of, doc_scalar_of, marked_events_of}
-pub use Rattle.yaml_load.specs.DocTree.{DocNode, DocNodes, DocPairs, events_of, events_of_nodes, events_of_pairs}
-pub use Rattle.yaml_load.specs.DocTree.{first_event, list, mapping, no_nodes, node, node_of, nothing, numbered}
-pub use Rattle.yaml_load.specs.DocTree.{numbered_nodes, numbered_pairs, reference, with_number, word}
-pub use Rattle.yaml_load.specs.DocTree.{no_pairs, pair}
+pub use Rattle.yaml_load.specs.DocTree.{DocNode, DocNodes, DocPairs, events_of, events_of_nodes, events_of_pairs, list}
+pub use Rattle.yaml_load.specs.DocTree.{first_event, mapping, no_nodes, node, node_of, nothing, numbered, reference}
+pub use Rattle.yaml_load.specs.DocTree.{numbered_nodes, numbered_pairs, with_number, word, no_pairs, pair}
 pub use Rattle.yaml_load.specs.Ends.{GoForward, end_place, ends_from, ends_of, inner_after, is_closing, is_opening}
 pub use Rattle.yaml_load.specs.PlainDocEvent.{PlainDocEvent, a_scalar, a_void, alias_to, mapping_begins, mapping_ends}
 pub use Rattle.yaml_load.specs.PlainDocEvent.{sequence_begins, sequence_ends}
@@ -60,10 +58,9 @@ pub use Rattle.yaml_load.specs.StreamLaw.{HasTree, IsEnding}
 pub use Rattle.yaml_load.specs.declared.doc_event.DocEvent.{DocEvent}
 pub use Rattle.yaml_load.specs.declared.doc_event.DocStart.{DocStart}
 pub use Rattle.yaml_scalar.specs.Presence.{is_absent, is_false_null, null_fault}
-pub use Rattle.yaml_scalar.specs.ReadFault.{NodeFault, PlainRefusal, ReadFault, at_node, bytes_unsupported, cause_of}
-pub use Rattle.yaml_scalar.specs.ReadFault.{duplicate_entry, end_of_stream, fault_cause, invalid_type, node_cause}
-pub use Rattle.yaml_scalar.specs.ReadFault.{out_of_memory, ran_out, recursion_limit_exceeded, refused}
-pub use Rattle.yaml_scalar.specs.ReadFault.{repetition_limit_exceeded}
+pub use Rattle.yaml_scalar.specs.ReadFault.{NodeFault, PlainRefusal, ReadFault, at_node, cause_of, duplicate_entry}
+pub use Rattle.yaml_scalar.specs.ReadFault.{end_of_stream, fault_cause, invalid_type, node_cause, out_of_memory}
+pub use Rattle.yaml_scalar.specs.ReadFault.{ran_out, recursion_limit_exceeded, refused, repetition_limit_exceeded}
 pub use Rattle.yaml_scalar.specs.ReadingGives.{GivesReading, Yields, lift}
 pub use Rattle.yaml_scalar.specs.ScalarFound.{mapping_fault, sequence_fault, wrong_length}
 pub use Rattle.yaml_scalar.specs.ScalarShapes.{lent_text, scalar_answer, takes_no_memory, text_of, void_answer}
@@ -93,24 +90,24 @@ pub use Rattle.yaml_read.specs.Places.{way_of, with_place}
 pub use Rattle.yaml_read.specs.PlainCursor.{PlainCursor, fresh_cursor}
 pub use Rattle.yaml_read.specs.ReadingFaults.{IsNodeFault, IsReadingFault}
 pub use Rattle.yaml_read.specs.Reads.{DocumentGives, GoesOn, IsRefusal, IsTreeOf, Reads, cut_fault, front_answer}
-pub use Rattle.yaml_read.specs.Rows.{Row, one_more, row_data, row_end, row_of, row_step}
+pub use Rattle.yaml_read.specs.Rows.{Row, row_data, row_end, row_of, row_step}
 pub use Rattle.yaml_read.specs.TreeReader.{Answer, PlainLimits, Spot, TreeReader, after, answer_of, answer_within}
-pub use Rattle.yaml_read.specs.TreeReader.{any_key_of, behind, default_limits, each_node, each_pair, field_key}
-pub use Rattle.yaml_read.specs.TreeReader.{field_value, fields_by, handed_by, item_of, key_of, mapping_of}
-pub use Rattle.yaml_read.specs.TreeReader.{mark_or_first, marks_of, node_by, row_by, row_part, sequence_of, target_of}
-pub use Rattle.yaml_read.specs.TreeReader.{value_of, value_told, whole_fuel, whole_tree}
+pub use Rattle.yaml_read.specs.TreeReader.{any_key_of, behind, default_limits, each_node, each_pair, field_key, item_of}
+pub use Rattle.yaml_read.specs.TreeReader.{field_value, handed_by, key_of, mapping_of, mark_or_first, marks_of, node_by}
+pub use Rattle.yaml_read.specs.TreeReader.{row_part, sequence_of, target_of, value_of, value_told, whole_fuel}
+pub use Rattle.yaml_read.specs.TreeReader.{whole_tree}
 unfoldable pub use Rattle.yaml_read.specs.TreeReader.{read_tree}
 pub use Rattle.yaml_read.specs.declared.node_place.NodePlace.{NodePlace}
 pub use Rattle.yaml_read.specs.declared.walk.Walk.{Walk}
 pub use Rattle.yaml_read.specs.inner.Answered.{IsAnswered}
 pub use Rattle.yaml_read.specs.inner.Questions.{Question, by_event, by_node, by_shape, by_step, question_of, taken_as}
-pub use Rattle.yaml_read.specs.inner.Reader.{Events, Reader, Reading, Source, any_entry_at, any_key_at, entry_at}
+pub use Rattle.yaml_read.specs.inner.Reader.{Events, Reader, Reading, Source, any_entry_at, any_key_at, entry_at, takes}
 pub use Rattle.yaml_read.specs.inner.Reader.{event_at, field_at, field_key_at, field_value_at, fields_at, fields_in}
 pub use Rattle.yaml_read.specs.inner.Reader.{handed_at, is_leaf, is_mapping_end, is_sequence_end, item_at, mapping_at}
-pub use Rattle.yaml_read.specs.inner.Reader.{mapping_parts, node_step, other_answer, place_at, pursue, row_at, rows_at}
-pub use Rattle.yaml_read.specs.inner.Reader.{sequence_at, sequence_parts, shape_step, skip_at, skip_event, skip_to}
-pub use Rattle.yaml_read.specs.inner.Reader.{takes, text_at, turn, value_way}
+pub use Rattle.yaml_read.specs.inner.Reader.{mapping_parts, node_step, other_answer, place_at, pursue, row_at, skip_at}
+pub use Rattle.yaml_read.specs.inner.Reader.{sequence_at, sequence_parts, shape_step, skip_event, skip_to, text_at}
+pub use Rattle.yaml_read.specs.inner.Reader.{turn, value_way}
 unfoldable pub use Rattle.yaml_read.specs.inner.Reader.{each_at, node_at}
-pub use Rattle.yaml_read.specs.inner.Walks.{IsAmong, around_of, field_view, owner_of, plain_around, potential}
-pub use Rattle.yaml_read.specs.inner.Walks.{reader_of, row_view, seen, slots_of, source_of, spot_of}
+pub use Rattle.yaml_read.specs.inner.Walks.{IsAmong, around_of, field_view, owner_of, plain_around, potential, row_view}
+pub use Rattle.yaml_read.specs.inner.Walks.{reader_of, seen, slots_of, source_of, spot_of}
 pub use Rattle.yaml_read.specs.declared.de.node.source.Source.{Source as CodeSource}

@@ -1,22 +1,20 @@
 -- What the tree means is answered within the limits, and refused only past one.
 use Rattle.std.specs.Prelude.{◌≡◌, ◌+◌, ◌-◌, ◌*◌, ◌<◌, ◌≤◌, ◌∷◌, ◌++◌}
-use Rattle.yaml_read.proofs.Words.{name_in, ℕ, zero, suc, List, [], Option, Ok, Some, None, Bool, true, refl, sym, ap}
-use Rattle.yaml_read.proofs.Words.{subst, ◌∙◌, arith, append_assoc, append-nil, length, is_some, Position, items_of}
-use Rattle.yaml_read.proofs.Words.{entries_of, PlainData, PlainItems, PlainEntries, tagged, any_data, variant_data}
-use Rattle.yaml_read.proofs.Words.{seq_data, map_data, some_data, newtype_data, Way, PlainShape, any_shape}
-use Rattle.yaml_read.proofs.Words.{option_shape, shape_at, content_shape, keys_distinct, tree_in, sequence, trees_in}
-use Rattle.yaml_read.proofs.Words.{pairs_in, rank, DocNode, DocNodes, DocPairs, first_event, ending, scalar_answer}
-use Rattle.yaml_read.proofs.Words.{Fields, Slots, Handing, handed, early, reach, untaken_reach, depth, TakenBy}
-use Rattle.yaml_read.proofs.Words.{parts_depth, tag_depth, nesting_depth, around_value, Means, means_node, Row, MeansAs}
-use Rattle.yaml_read.proofs.Words.{means_some, means_newtype, means_ignored, means_target, means_void, MeanRow}
-use Rattle.yaml_read.proofs.Words.{means_scalar, means_list, means_mapping, means_bare, means_fields, MeanFields, place}
-use Rattle.yaml_read.proofs.Words.{means_no_fields, means_field, means_unknown, means_variant, means_tagged, MeansList}
-use Rattle.yaml_read.proofs.Words.{means_any_list, means_any_mapping, means_seq, means_row, MeansPairs, means_map, Spot}
-use Rattle.yaml_read.proofs.Words.{MeanEach, means_none, means_more, means_no_elements, means_element, MeanPairs, after}
-use Rattle.yaml_read.proofs.Words.{means_no_pairs, means_pair, element_under, value_under, places, field_key, behind}
-use Rattle.yaml_read.proofs.Words.{field_value, any_key_of, each_node, each_pair, TreeReader, item_of, key_of, Place}
-use Rattle.yaml_read.proofs.Words.{value_of, row_part, sequence_of, mapping_of, target_of, handed_by, read_tree, ◌>>=◌}
-use Rattle.yaml_read.proofs.Words.{struct_of, text_place, row_data, tuple_data, set}
+use Rattle.yaml_read.proofs.Words.{means_any_mapping, means_no_elements, means_no_fields, means_any_list, element_under}
+use Rattle.yaml_read.proofs.Words.{means_no_pairs, keys_distinct, means_element, means_ignored, means_mapping, DocNodes}
+use Rattle.yaml_read.proofs.Words.{means_newtype, means_unknown, means_variant, nesting_depth, scalar_answer, MeanPairs}
+use Rattle.yaml_read.proofs.Words.{untaken_reach, PlainEntries, append_assoc, around_value, means_fields, means_scalar}
+use Rattle.yaml_read.proofs.Words.{means_tagged, means_target, newtype_data, option_shape, field_value, first_event, Ok}
+use Rattle.yaml_read.proofs.Words.{means_field, parts_depth, sequence_of, value_under, MeanFields, MeansPairs, DocPairs}
+use Rattle.yaml_read.proofs.Words.{PlainItems, PlainShape, TreeReader, any_key_of, append-nil, mapping_of, means_bare}
+use Rattle.yaml_read.proofs.Words.{means_list, means_more, means_node, means_none, means_pair, means_some, means_void}
+use Rattle.yaml_read.proofs.Words.{text_place, tuple_data, MeansList, PlainData, any_shape, each_node, each_pair, Means}
+use Rattle.yaml_read.proofs.Words.{field_key, handed_by, means_map, means_row, means_seq, read_tree, some_data, DocNode}
+use Rattle.yaml_read.proofs.Words.{tag_depth, target_of, MeanEach, Position, any_data, map_data, pairs_in, row_part, []}
+use Rattle.yaml_read.proofs.Words.{seq_data, sequence, shape_at, trees_in, value_of, Handing, MeanRow, MeansAs, TakenBy}
+use Rattle.yaml_read.proofs.Words.{is_some, item_of, name_in, Fields, Option, behind, ending, handed, key_of, length, ℕ}
+use Rattle.yaml_read.proofs.Words.{places, Place, Slots, after, arith, depth, early, place, reach, subst, ◌>>=◌, Bool}
+use Rattle.yaml_read.proofs.Words.{List, None, Some, Spot, rank, refl, true, zero, Row, Way, suc, sym, ◌∙◌, ap}
 use Rattle.yaml_tree.specs.Tree as tree_of
 use Rattle.yaml_read.proofs.AnyLaws.{pairs_of, first_apart, new_is_key}
 use Rattle.yaml_read.proofs.reading.Handings.{From, from_handing}
@@ -51,8 +49,7 @@ module _ (table : List PlainShape) (root : DocNode) (marks : ℕ → Position) (
     tree_outcome m way zero nest around at is lt = absurd (omega arith)
     tree_outcome (means_node {s} {h} {n} {taken} late to m) way (suc fuel) nest around at is lt =
         let to' : handed s (is_some around) (first_event n) ≡ h = ap (λ b. handed s b (first_event n)) is ∙ to in
-        rw (at_node fuel way s nest around n at h late to')
-        (placed_outcome (places s (is_some around) (first_event n)) (marks at.place) way
+        rw (at_node fuel way s nest around n at h late to') (placed_outcome _ _ way
         (as_outcome m way fuel nest around at is (from_handing s taken (first_event n) h to) (omega arith)))
 
     as_outcome : {h : Handing} {s : PlainShape} {n : DocNode} {taken : Bool} {v : PlainData} {d k : ℕ}
@@ -63,23 +60,21 @@ module _ (table : List PlainShape) (root : DocNode) (marks : ℕ → Position) (
     as_outcome (means_some {s} {t} {c} there m) way fuel nest around at is from lt =
         let less : reach table s ≡ rank table c + 1 = ap (reach table) from in
         let low = reach_rank table falls c t there in
-        looked_up (shape_at table c) _ there
+        looked_up _ _ there
         (wrapped some_data (tree_outcome m way fuel nest around at is (omega (arith, less, low, lt))))
     as_outcome (means_newtype {t} {c} there m) way fuel nest around at is from lt =
-        entered nest (marks at.place) _ (λ n' one. looked_up (shape_at table c) _ there (wrapped newtype_data
+        entered nest (marks at.place) _ (λ n' one. looked_up _ _ there (wrapped newtype_data
         (tree_outcome m way fuel n' around at is (omega (arith, low table small falls c t there, lt, one)))))
     as_outcome means_ignored way fuel nest around at is from lt = here refl
     as_outcome (means_bare e) way fuel nest around at is from lt = here (ap (ending at.left) e)
     as_outcome (means_variant {place} {around = outer} {content} {t} {taken} there m) way fuel nest around at is from
         lt =
         let untaken : untaken_reach taken ≡ tag_depth = ap untaken_reach from.3 in
-        looked_up (content_shape table outer.name outer.variant content) _ there
-        (wrapped (variant_data place) (tree_outcome m way fuel nest (Some outer) at refl
+        looked_up _ _ there (wrapped _ (tree_outcome m way fuel nest (Some outer) at refl
         (omega (arith, low_content table small falls outer.name outer.variant content t there, untaken, lt))))
     as_outcome (means_tagged {name} {taken} m) way fuel nest around at is from lt =
         let untaken : untaken_reach taken ≡ tag_depth = ap untaken_reach from.1 in
-        wrapped (λ v. any_data (tagged name (tree_in v)))
-        (tree_outcome m way fuel nest (Some around_value) at refl (omega (arith, untaken, lt)))
+        wrapped _ (tree_outcome m way fuel nest (Some around_value) at refl (omega (arith, untaken, lt)))
     as_outcome (means_target {s} {j} {n} e m) way fuel nest around at is from lt =
         rw e (followed at.left (target_of (read_tree table fuel root marks way) s nest (Some n) j)
         (λ left one. tree_outcome m way fuel nest None (record { place = j; left = left }) refl
@@ -96,36 +91,29 @@ module _ (table : List PlainShape) (root : DocNode) (marks : ℕ → Position) (
         → (way : Way) (fuel nest : ℕ) (at : Spot) (mark : Position) → nesting_depth * (at.left + nest) < suc fuel
         → Outcome (sequence_of table (reader fuel) way s nest mark ns (after at)) v nest at.left (suc d) k
     list_outcome (means_seq {e} {s} {vs} there m) way fuel nest at mark lt =
-        entered nest mark _ (λ n is. looked_up (shape_at table e) _ there
-        (given (ap seq_data (items_listed vs)) (wrapped (λ vs. seq_data (items_of vs))
+        entered nest mark _ (λ n is. looked_up _ _ there (given (ap seq_data (items_listed vs)) (wrapped _
         (each_outcome m way fuel n [] (after at) (low table small falls e s there) (omega arith)))))
     list_outcome (means_row {owner} {ids} {vs} m) way fuel nest at mark lt =
-        entered nest mark _ (λ n is. finished (row_data owner (length ids))
-        (elements_outcome m way fuel n [] (after at) (omega (arith, is, lt)))
+        entered nest mark _ (λ n is. finished _ (elements_outcome m way fuel n [] (after at) (omega (arith, is, lt)))
         (ap (λ ws. Ok (tuple_data ws)) (items_listed vs)))
     list_outcome (means_any_list {vs} m) way fuel nest at mark lt =
-        entered nest mark _ (λ n is. given (ap (λ ws. any_data (sequence (trees_in ws))) (items_listed vs))
-        (wrapped (λ vs. any_data (sequence (trees_in (items_of vs))))
+        entered nest mark _ (λ n is. given (ap (λ ws. any_data (sequence (trees_in ws))) (items_listed vs)) (wrapped _
         (each_outcome m way fuel n [] (after at) (omega arith) (omega (arith, is, lt)))))
 
     mapping_outcome : {s : PlainShape} {ps : DocPairs} {v : PlainData} {d k : ℕ} → MeansPairs table root s ps v d k
         → (way : Way) (fuel nest : ℕ) (at : Spot) (mark : Position) → nesting_depth * (at.left + nest) < suc fuel
         → Outcome (mapping_of table (reader fuel) marks way s nest mark ps (after at)) v nest at.left (suc d) k
     mapping_outcome (means_map {a} {b} {s} {t} {vs} there there' m) way fuel nest at mark lt =
-        entered nest mark _ (λ n is. looked_up (shape_at table a) _ there (looked_up (shape_at table b) _ there'
-        (given (ap map_data (entries_listed vs)) (wrapped (λ vs. map_data (entries_of vs))
+        entered nest mark _ (λ n is. looked_up _ _ there (looked_up _ _ there'
+        (given (ap map_data (entries_listed vs)) (wrapped _
         (pairs_outcome m way fuel n [] (after at) (low table small falls a s there) (low table small falls b t there')
         (omega arith))))))
     mapping_outcome (means_fields {fields} m made) way fuel nest at mark lt =
-        entered nest mark _ (λ n is. finished (struct_of table fields)
-        (fields_outcome m way fuel n (after at) (omega (arith, is, lt))) made)
+        entered nest mark _ (λ n is. finished _ (fields_outcome m way fuel n (after at) (omega (arith, is, lt))) made)
     mapping_outcome (means_any_mapping {vs} m apart) way fuel nest at mark lt =
-        entered nest mark _ (λ n is.
-        given (ap (λ ws. any_data (tree_of.mapping (pairs_in ws))) (entries_listed vs))
-        (wrapped (λ vs. any_data (tree_of.mapping (pairs_in (entries_of vs))))
-        (any_pairs_outcome m way fuel n [] (after at)
-        (subst (λ ws. keys_distinct (pairs_in ws) ≡ true) (sym (entries_listed vs)) apart)
-        (omega (arith, is, lt)))))
+        entered nest mark _ (λ n is. given (ap (λ ws. any_data (tree_of.mapping (pairs_in ws))) (entries_listed vs))
+        (wrapped _ (any_pairs_outcome m way fuel n [] (after at)
+        (subst (λ ws. keys_distinct (pairs_in ws) ≡ true) (sym (entries_listed vs)) apart) (omega (arith, is, lt)))))
 
     each_outcome : {s : PlainShape} {ns : DocNodes} {vs : PlainItems} {d k : ℕ} → MeanEach table root s ns vs d k
         → (way : Way) (fuel nest : ℕ) (before : List PlainData) (at : Spot)
@@ -134,7 +122,7 @@ module _ (table : List PlainShape) (root : DocNode) (marks : ℕ → Position) (
     each_outcome means_none way fuel nest before at few lt =
         here (ap (λ vs. Ok (vs, at.left)) (sym (append-nil before)))
     each_outcome (means_more {n} {v} {vs} {k} m ms) way fuel nest before at few lt =
-        given (append_assoc before (v ∷ []) (list_of vs)) (bound _ (wrapped (λ v. before ++ v ∷ [])
+        given (append_assoc before (v ∷ []) (list_of vs)) (bound _ (wrapped _
         (tree_outcome m (element_under way (length before)) fuel nest None at refl (omega arith)))
         (each_outcome ms way fuel nest (before ++ v ∷ []) (behind at n (at.left - k)) few (omega arith)))
 
@@ -147,9 +135,8 @@ module _ (table : List PlainShape) (root : DocNode) (marks : ℕ → Position) (
         here (ap (λ vs. Ok (record { left = []; read = vs; extra = 0 }, at.left)) (sym (append-nil before)))
     elements_outcome (means_element {id} {s} {ids} {n} {v} {vs} {k} there m ms) way fuel nest before at lt =
         given (ap {B = Row} (λ ws. record { left = []; read = ws; extra = 0 })
-        (append_assoc before (v ∷ []) (list_of vs)))
-        (bound _ (wrapped (λ v. record { left = ids; read = before ++ v ∷ []; extra = 0 })
-        (looked_up (shape_at table id) _ there (tree_outcome m (element_under way (length before)) fuel nest None at
+        (append_assoc before (v ∷ []) (list_of vs))) (bound _ (wrapped _
+        (looked_up _ _ there (tree_outcome m (element_under way (length before)) fuel nest None at
         refl (omega (arith, low table small falls id s there)))))
         (elements_outcome ms way fuel nest (before ++ v ∷ []) (behind at n (at.left - k)) (omega arith)))
 
@@ -165,8 +152,8 @@ module _ (table : List PlainShape) (root : DocNode) (marks : ℕ → Position) (
         let mid = behind at x (at.left - k) in
         let w = value_under way (first_event x) in
         given (append_assoc before ((u, v) ∷ []) (entry_list_of vs))
-        (bound _ (wrapped (λ k. (w, k)) (tree_outcome l way fuel nest None at refl (omega arith)))
-        (bound _ (wrapped (λ v. before ++ (u, v) ∷ []) (tree_outcome m w fuel nest None mid refl (omega arith)))
+        (bound _ (wrapped _ (tree_outcome l way fuel nest None at refl (omega arith)))
+        (bound _ (wrapped _ (tree_outcome m w fuel nest None mid refl (omega arith)))
         (pairs_outcome ms way fuel nest (before ++ (u, v) ∷ []) (behind mid y (at.left - k - k')) few few'
         (omega arith))))
 
@@ -185,7 +172,7 @@ module _ (table : List PlainShape) (root : DocNode) (marks : ℕ → Position) (
         given (append_assoc before ((u, v) ∷ []) (entry_list_of vs))
         (bound _ (finished _ (tree_outcome l way fuel nest None at refl (omega arith))
         (ap (λ o. o >>= λ k. Ok (w, k)) new))
-        (bound _ (wrapped (λ v. before ++ (u, v) ∷ []) (tree_outcome m w fuel nest None mid refl (omega arith)))
+        (bound _ (wrapped _ (tree_outcome m w fuel nest None mid refl (omega arith)))
         (any_pairs_outcome ms way fuel nest (before ++ (u, v) ∷ []) (behind mid y (at.left - k - k'))
         (subst (λ ws. keys_distinct (pairs_of ws) ≡ true)
         (sym (append_assoc before ((u, v) ∷ []) (entry_list_of vs))) apart) (omega arith))))
@@ -193,8 +180,7 @@ module _ (table : List PlainShape) (root : DocNode) (marks : ℕ → Position) (
     -- from what was read before, what is read after is the answer
     fields_outcome : {strict : Bool} {fields : Fields} {slots done : Slots} {ps : DocPairs} {d k : ℕ}
         → MeanFields table root strict fields slots ps done d k → (way : Way) (fuel nest : ℕ) (at : Spot)
-        → parts_depth nest at.left < fuel
-        → Outcome (each_pair (field_key (reader fuel) marks way strict fields nest)
+        → parts_depth nest at.left < fuel → Outcome (each_pair (field_key (reader fuel) marks way strict fields nest)
         (field_value table (reader fuel) nest) slots ps at) done nest at.left d k
     fields_outcome means_no_fields way fuel nest at lt = here refl
     fields_outcome (means_field {strict} {fields} {before = slots} {m = x} {n = y} {u} {place} {id} {s} {k} {k'} l found
@@ -204,8 +190,7 @@ module _ (table : List PlainShape) (root : DocNode) (marks : ℕ → Position) (
         let key : Place = record { mark = marks (text_place (first_event x) at.place); path = way.text } in
         let named = found_named strict fields slots (name_in u) key place id found free in
         bound _ (finished _ (tree_outcome l way fuel nest None at refl (omega arith))
-        (ap (λ o. o >>= λ f. Ok (f, w)) named))
-        (bound _ (wrapped (λ v. set slots place (Some v)) (looked_up (shape_at table id) _ there
+        (ap (λ o. o >>= λ f. Ok (f, w)) named)) (bound _ (wrapped _ (looked_up _ _ there
         (tree_outcome m w fuel nest None mid refl (omega (arith, low table small falls id s there)))))
         (fields_outcome ms way fuel nest (behind mid y (at.left - k - k')) (omega arith)))
     fields_outcome (means_unknown {strict} {fields} {before = slots} {m = x} {n = y} {u} {k} loose l found ms) way fuel

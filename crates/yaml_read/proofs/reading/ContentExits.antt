@@ -35,15 +35,13 @@ module _ (code : CodeSource) (fuel : ℕ) (q : Question) (walk : Walk) where
   enum_content name variants e m tag number content o k is h found =
       step_handed code fuel q walk e m (as_variant number (record { name = name; variant = tag }) content) is
       (rw (o, k) (variant_handed name variants e tag number content h found))
-      ∙ with_wrap (variant_data number) (content_shape code.schema.now name tag content) (λ t. by_node code fuel
-      (taken_as q t (record { name = name; variant = tag })) walk)
+      ∙ with_wrap (variant_data number) (content_shape code.schema.now name tag content) _
 
   -- a node without a tag of its own, and a text within what another's tag holds
   pub enum_plain : (name : List ℕ) (variants : Variants) (e : PlainDocEvent) (m : Position)
       → q.shape ≡ enum_shape name variants → q.taken ≡ None → Some (e, m) ≡ seen code.events.now walk.place
       → untaken_name false e ≡ None → by_shape code fuel q walk ≡ by_event code fuel q walk e m
-  enum_plain name variants e m o k is h =
-      step_event code fuel q walk e m is (rw (o, k) (enum_as_is name variants e h))
+  enum_plain name variants e m o k is h = step_event code fuel q walk e m is (rw (o, k) (enum_as_is name variants e h))
 
   pub enum_taken : (name : List ℕ) (variants : Variants) (around : TakenBy) (e : PlainDocEvent) (m : Position)
       → q.shape ≡ enum_shape name variants → q.taken ≡ Some around → Some (e, m) ≡ seen code.events.now walk.place
@@ -81,8 +79,7 @@ content_steps view p result code fuel o q around walk t is h = rw is h
 -- a node with a tag that is no collection of the variant's own
 module _ (source : Source) (read : Way → Reader) (way : Way) (nest : ℕ) (around : TakenBy) (at : Spot) where
   pub other_in_fields : (strict : Bool) (owner : Owner) (fields : Fields) (e : PlainDocEvent) (m : Position)
-      (tag : List ℕ)
-      → untaken_name false e ≡ Some tag → takes (fields_shape strict owner fields) e ≡ false
+      (tag : List ℕ) → untaken_name false e ≡ Some tag → takes (fields_shape strict owner fields) e ≡ false
       → event_at source read way (fields_shape strict owner fields) nest (Some around) at e m
       ≡ ending (after at) (other_answer (fields_shape strict owner fields) e)
   other_in_fields strict owner fields (a_scalar w) m tag h other = refl
@@ -123,11 +120,7 @@ module _ (code : CodeSource) (fuel : ℕ) (q : Question) (walk : Walk) where
       → by_shape code fuel q walk ≡ wrap (λ vs. any_data (sequence (trees_in (items_of vs))))
       (sequence_parts (source_of code) (item_at (reader_of fuel code) q.way any_shape (q.nest - 1))
       (length code.events.now) [] (after (spot_of walk)))
-  any_list_step e tag m o is start own some =
-      any_plain_step e m o is own
-      ∙ rw (o, start) (entered m (λ n. wrap (λ vs. any_data (sequence (trees_in (items_of vs))))
-      (sequence_parts (source_of code) (item_at (reader_of fuel code) q.way any_shape n) (length code.events.now) []
-      (after (spot_of walk)))) q.nest some)
+  any_list_step e tag m o is start own some = any_plain_step e m o is own ∙ rw (o, start) (entered m _ q.nest some)
 
   pub any_mapping_step : (e : PlainDocEvent) (tag : Option (List ℕ)) (m : Position) → q.shape ≡ any_shape
       → Some (e, m) ≡ seen code.events.now walk.place → e ≡ mapping_begins tag
@@ -135,11 +128,7 @@ module _ (code : CodeSource) (fuel : ℕ) (q : Question) (walk : Walk) where
       → by_shape code fuel q walk ≡ wrap (λ vs. any_data (tree.mapping (pairs_in (entries_of vs))))
       (mapping_parts (source_of code) (any_entry_at (source_of code) (reader_of fuel code) q.way (q.nest - 1))
       (length code.events.now) [] (after (spot_of walk)))
-  any_mapping_step e tag m o is start own some =
-      any_plain_step e m o is own
-      ∙ rw (o, start) (entered m (λ n. wrap (λ vs. any_data (tree.mapping (pairs_in (entries_of vs))))
-      (mapping_parts (source_of code) (any_entry_at (source_of code) (reader_of fuel code) q.way n)
-      (length code.events.now) [] (after (spot_of walk)))) q.nest some)
+  any_mapping_step e tag m o is start own some = any_plain_step e m o is own ∙ rw (o, start) (entered m _ q.nest some)
 
 -- what is made of what was made of an answer
 pub wrap_onto_finds : {A B C D : Type 0} (f : A → B) (g : B → D) (r : Result (A × C) PlainRefusal) (v : B) (c : C)

@@ -15,49 +15,48 @@ not_outer false n h = refl
 back : (n : ℕ) → n + 1 - 1 ≡ n
 back n = omega arith
 
+-- behind these events as many collections are open as before them
+abbrev Passed : List PlainDocEvent → Type 0
+Passed ts = (inner place : ℕ) (rest : List PlainDocEvent)
+    → end_place inner place (ts ++ rest) ≡ end_place inner (place + length ts) rest
+
+none_passed : Passed []
+none_passed inner place rest = ap (λ p. end_place inner p rest) (omega arith)
+
+both_passed : (xs ys : List PlainDocEvent) → Passed xs → Passed ys → Passed (xs ++ ys)
+both_passed xs ys x y inner place rest =
+    ap (end_place inner place) (append_assoc xs ys rest) ∙ x inner place (ys ++ rest)
+    ∙ y inner (place + length xs) rest ∙ ap (λ p. end_place inner p rest) (omega (arith, length-append xs ys))
+
 -- an inner collection ends
-closed : (e : PlainDocEvent) (inner place : ℕ) (rest : List PlainDocEvent) → is_closing e ≡ true
-    → is_opening e ≡ false
-    → end_place (inner + 1) place (e ∷ rest) ≡ end_place inner (place + 1) rest
-closed e inner place rest c o = let no = not_outer (inner + 1 == 0) inner refl in rw (c, no, o, back inner)
+closed : (e : PlainDocEvent) (ts rest : List PlainDocEvent) (inner place : ℕ) → is_closing e ≡ true
+    → is_opening e ≡ false → Passed ts
+    → end_place (inner + 1) place ((ts ++ e ∷ []) ++ rest) ≡ end_place inner (place + length (ts ++ e ∷ [])) rest
+closed e ts rest inner place c o passed =
+    let no = not_outer (inner + 1 == 0) inner refl in
+    let ends : end_place (inner + 1) (place + length ts) (e ∷ rest) ≡ end_place inner (place + length ts + 1) rest =
+    rw (c, no, o, back inner) in
+    ap (end_place (inner + 1) place) (append_assoc ts (e ∷ []) rest) ∙ passed (inner + 1) place (e ∷ rest) ∙ ends
+    ∙ ap (λ p. end_place inner p rest) (omega (arith, length-append ts (e ∷ [])))
 
 mutual
-  over_node : (n : DocNode) (inner place : ℕ) (rest : List PlainDocEvent) → end_place inner place (events_of n ++ rest)
-      ≡ end_place inner (place + length (events_of n)) rest
+  over_node : (n : DocNode) → Passed (events_of n)
   over_node (list tag ns) inner place rest =
-      ap (end_place (inner + 1) (place + 1)) (append_assoc (events_of_nodes ns) (sequence_ends ∷ []) rest)
-      ∙ over_nodes ns (inner + 1) (place + 1) (sequence_ends ∷ rest)
-      ∙ closed sequence_ends inner (place + 1 + length (events_of_nodes ns)) rest refl refl
-      ∙ ap (λ p. end_place inner p rest) (omega (arith, length-append (events_of_nodes ns) (sequence_ends ∷ [])))
+      closed sequence_ends (events_of_nodes ns) rest inner (place + 1) refl refl (over_nodes ns)
+      ∙ ap (λ p. end_place inner p rest) (omega arith)
   over_node (mapping tag ps) inner place rest =
-      ap (end_place (inner + 1) (place + 1)) (append_assoc (events_of_pairs ps) (mapping_ends ∷ []) rest)
-      ∙ over_pairs ps (inner + 1) (place + 1) (mapping_ends ∷ rest)
-      ∙ closed mapping_ends inner (place + 1 + length (events_of_pairs ps)) rest refl refl
-      ∙ ap (λ p. end_place inner p rest) (omega (arith, length-append (events_of_pairs ps) (mapping_ends ∷ [])))
+      closed mapping_ends (events_of_pairs ps) rest inner (place + 1) refl refl (over_pairs ps)
+      ∙ ap (λ p. end_place inner p rest) (omega arith)
   over_node _ inner place rest = refl
 
-  over_nodes : (ns : DocNodes) (inner place : ℕ) (rest : List PlainDocEvent)
-      → end_place inner place (events_of_nodes ns ++ rest) ≡ end_place inner (place + length (events_of_nodes ns)) rest
-  over_nodes no_nodes inner place rest = ap (λ p. end_place inner p rest) (omega arith)
-  over_nodes (node n ns) inner place rest =
-      ap (end_place inner place) (append_assoc (events_of n) (events_of_nodes ns) rest)
-      ∙ over_node n inner place (events_of_nodes ns ++ rest) ∙ over_nodes ns inner (place + length (events_of n)) rest
-      ∙ ap (λ p. end_place inner p rest) (omega (arith, length-append (events_of n) (events_of_nodes ns)))
+  over_nodes : (ns : DocNodes) → Passed (events_of_nodes ns)
+  over_nodes no_nodes = none_passed
+  over_nodes (node n ns) = both_passed (events_of n) (events_of_nodes ns) (over_node n) (over_nodes ns)
 
-  over_pairs : (ps : DocPairs) (inner place : ℕ) (rest : List PlainDocEvent)
-      → end_place inner place (events_of_pairs ps ++ rest) ≡ end_place inner (place + length (events_of_pairs ps)) rest
-  over_pairs no_pairs inner place rest = ap (λ p. end_place inner p rest) (omega arith)
-  over_pairs (pair m n ps) inner place rest =
-      ap (end_place inner place) (append_assoc (events_of m) (events_of n ++ events_of_pairs ps) rest)
-      ∙ over_node m inner place ((events_of n ++ events_of_pairs ps) ++ rest)
-      ∙ ap (end_place inner (place + length (events_of m))) (append_assoc (events_of n) (events_of_pairs ps) rest)
-      ∙ over_node n inner (place + length (events_of m)) (events_of_pairs ps ++ rest)
-      ∙ over_pairs ps inner (place + length (events_of m) + length (events_of n)) rest
-      ∙ ap (λ p. end_place inner p rest) (omega (
-        arith,
-        length-append (events_of m) (events_of n ++ events_of_pairs ps),
-        length-append (events_of n) (events_of_pairs ps),
-      ))
+  over_pairs : (ps : DocPairs) → Passed (events_of_pairs ps)
+  over_pairs no_pairs = none_passed
+  over_pairs (pair m n ps) = both_passed (events_of m) (events_of n ++ events_of_pairs ps) (over_node m)
+      (both_passed (events_of n) (events_of_pairs ps) (over_node n) (over_pairs ps))
 
 -- the number at this place is that of the node's last event
 abbrev pub EndsAt : List ℕ → ℕ → ℕ → Type 0
@@ -65,36 +64,35 @@ EndsAt ends p size = (end : ℕ) × (slice_get ends p ≡ Some end) × (end + 1 
 
 first_end : (n : DocNode) (q : ℕ) (rest : List PlainDocEvent)
     → EndsAt (ends_from q (events_of n ++ rest)) 0 (q + length (events_of n))
-first_end (list tag ns) q rest = (
-  q + 1 + length (events_of_nodes ns),
-  ap Some (ap (end_place 0 (q + 1)) (append_assoc (events_of_nodes ns) (sequence_ends ∷ []) rest)
-      ∙ over_nodes ns 0 (q + 1) (sequence_ends ∷ rest)),
-  omega (arith, length-append (events_of_nodes ns) (sequence_ends ∷ [])),
-)
-first_end (mapping tag ps) q rest = (
-  q + 1 + length (events_of_pairs ps),
-  ap Some (ap (end_place 0 (q + 1)) (append_assoc (events_of_pairs ps) (mapping_ends ∷ []) rest)
-      ∙ over_pairs ps 0 (q + 1) (mapping_ends ∷ rest)),
-  omega (arith, length-append (events_of_pairs ps) (mapping_ends ∷ [])),
-)
-first_end _ q rest = (q, refl, refl)
+first_end n q rest = chosen n
+  where
+    collection : (e : PlainDocEvent) (ts : List PlainDocEvent) → is_closing e ≡ true → Passed ts → (end : ℕ)
+        × (Some (end_place 0 (q + 1) ((ts ++ e ∷ []) ++ rest)) ≡ Some end) × (end + 1 ≡ q + suc (length (ts ++ e ∷ [])))
+    collection e ts c passed = (
+      q + 1 + length ts,
+      ap Some (ap (end_place 0 (q + 1)) (append_assoc ts (e ∷ []) rest) ∙ passed 0 (q + 1) (e ∷ rest) ∙ (rw c)),
+      omega (arith, length-append ts (e ∷ [])),
+    )
+
+    chosen : (n : DocNode) → EndsAt (ends_from q (events_of n ++ rest)) 0 (q + length (events_of n))
+    chosen (list tag ns) = collection sequence_ends (events_of_nodes ns) refl (over_nodes ns)
+    chosen (mapping tag ps) = collection mapping_ends (events_of_pairs ps) refl (over_pairs ps)
+    chosen _ = (q, refl, refl)
 
 -- the same behind other events
 behind_others : (before : List PlainDocEvent) (q : ℕ) (n : DocNode) (after : List PlainDocEvent)
     → EndsAt (ends_from q (before ++ (events_of n ++ after))) (length before) (q + length before + length (events_of n))
-behind_others [] q n after =
-    let found = first_end n q after in
-    (found.0, found.1, omega (arith, found.2))
+behind_others [] q n after = subst (EndsAt (ends_from q (events_of n ++ after)) 0) (omega arith) (first_end n q after)
 behind_others (e ∷ before) q n after =
-    let found = behind_others before (q + 1) n after in
-    (found.0, found.1, omega (arith, found.2))
+    subst (EndsAt (ends_from (q + 1) (before ++ (events_of n ++ after))) (length before)) (omega arith)
+    (behind_others before (q + 1) n after)
 
 -- the number of a node's first event is the place of its last
 pub node_among : (before : List PlainDocEvent) (n : DocNode) (after : List PlainDocEvent)
     → EndsAt (ends_of (before ++ (events_of n ++ after))) (length before) (length before + length (events_of n))
 node_among before n after =
-    let found = behind_others before 0 n after in
-    (found.0, found.1, omega (arith, found.2))
+    subst (EndsAt (ends_of (before ++ (events_of n ++ after))) (length before)) (omega arith)
+    (behind_others before 0 n after)
 
 unshift : (f : Events) (p : ℕ) (ts : List PlainDocEvent) → Shows f (suc p) ts → Shows (λ q. f (suc q)) p ts
 unshift f p [] s = tt
@@ -118,11 +116,10 @@ node_end [] q p n s = let bad = (begins (slice_get []) p n s).1 in absurd cc
 node_end (e ∷ es) q zero n s =
     let front = prefix (e ∷ es) (events_of n) s in
     let found = subst (λ l. EndsAt (ends_from q l) 0 (q + length (events_of n))) (sym front.1)
-    (first_end n q front.0) in
-    (found.0, found.1, omega (arith, found.2))
+    (first_end n q front.0) in subst (EndsAt (ends_from q (events_only (e ∷ es))) 0) (omega arith) found
 node_end (e ∷ es) q (suc p) n s =
-    let found = node_end es (q + 1) p n (unshift (slice_get (e ∷ es)) p (events_of n) s) in
-    (found.0, found.1, omega (arith, found.2))
+    subst (EndsAt (ends_from (q + 1) (events_only es)) p) (omega arith)
+    (node_end es (q + 1) p n (unshift (slice_get (e ∷ es)) p (events_of n) s))
 
 -- where a node is shown, the number of its first event is that of its last
 pub node_ends : (es : List (PlainDocEvent × Position)) (p : ℕ) (n : DocNode) → Shows (slice_get es) p (events_of n)

@@ -1,15 +1,15 @@
 -- What a node's reading comes to, once its shape and its first event are known.
 use Rattle.std.specs.Prelude.{◌≡◌, ◌-◌, ◌<◌}
-use Rattle.yaml_read.proofs.Words.{ℕ, Bool, true, false, List, [], Some, None, Option, Result, Ok, Err, refl, ap, ◌∙◌}
-use Rattle.yaml_read.proofs.Words.{rules, length, is_some, Position, data_of, entry_of, items_of, Owner, entries_of}
-use Rattle.yaml_read.proofs.Words.{PlainData, seq_data, map_data, some_data, newtype_data, PlainShape, wrap}
-use Rattle.yaml_read.proofs.Words.{option_shape, newtype_shape, seq_shape, row_shape, map_shape, shape_at, Entry, as_is}
-use Rattle.yaml_read.proofs.Words.{doc_event_of, PlainDocEvent, sequence_begins, mapping_begins, DocEvent, ReadFault}
-use Rattle.yaml_read.proofs.Words.{PlainRefusal, refused, end_of_stream, GivesReading, Yields, with_end, ending, finish}
-use Rattle.yaml_read.proofs.Words.{with_shape, Handing, handed, early, is_content, row_of, row_data, Spot, after, Walk}
-use Rattle.yaml_read.proofs.Words.{is_sequence_end, is_mapping_end, item_at, entry_at, row_at, sequence_parts, Question}
-use Rattle.yaml_read.proofs.Words.{mapping_parts, handed_at, shape_step, by_step, by_shape, by_event, source_of, seen}
-use Rattle.yaml_read.proofs.Words.{reader_of, spot_of, Reading, CodeSource}
+use Rattle.yaml_read.proofs.Words.{is_sequence_end, sequence_begins, is_mapping_end, mapping_begins, sequence_parts, Ok}
+use Rattle.yaml_read.proofs.Words.{PlainDocEvent, end_of_stream, mapping_parts, newtype_shape, GivesReading, CodeSource}
+use Rattle.yaml_read.proofs.Words.{PlainRefusal, doc_event_of, newtype_data, option_shape, PlainShape, entries_of, Bool}
+use Rattle.yaml_read.proofs.Words.{is_content, shape_step, PlainData, ReadFault, handed_at, map_shape, reader_of, Entry}
+use Rattle.yaml_read.proofs.Words.{row_shape, seq_shape, some_data, source_of, DocEvent, Position, Question, by_event}
+use Rattle.yaml_read.proofs.Words.{by_shape, entry_at, entry_of, items_of, map_data, row_data, seq_data, shape_at, List}
+use Rattle.yaml_read.proofs.Words.{with_end, Handing, Reading, by_step, data_of, is_some, item_at, refused, spot_of, []}
+use Rattle.yaml_read.proofs.Words.{Option, Result, Yields, ending, finish, handed, length, row_at, row_of, Owner, after}
+use Rattle.yaml_read.proofs.Words.{as_is, early, false, rules, None, Some, Spot, Walk, refl, seen, true, wrap, Err, ◌∙◌}
+use Rattle.yaml_read.proofs.Words.{ap, ℕ}
 use Rattle.yaml_shape.specs.declared.data.Entry.{the_lemmas}
 use Rattle.yaml_load.specs.declared.doc_event.DocEvent.TheVariants as event
 use Rattle.yaml_read.proofs.reading.Loops.{entered}
@@ -60,8 +60,7 @@ module _ (code : CodeSource) (fuel : ℕ) (q : Question) (walk : Walk) where
 
   -- a node is read as it is handed on
   pub step_handed : (e : PlainDocEvent) (m : Position) (h : Handing) → Some (e, m) ≡ seen code.events.now walk.place
-      → handed q.shape (is_some q.taken) e ≡ h
-      → by_shape code fuel q walk
+      → handed q.shape (is_some q.taken) e ≡ h → by_shape code fuel q walk
       ≡ handed_at (source_of code) h (reader_of fuel code) q.way q.shape q.nest q.taken (spot_of walk) e m
   step_handed e m h is to = rw (← is, to)
 
@@ -72,8 +71,7 @@ module _ (code : CodeSource) (fuel : ℕ) (q : Question) (walk : Walk) where
 
   -- an optional that is present
   pub step_content : (c : ℕ) (t : PlainShape) (e : PlainDocEvent) (m : Position) → q.shape ≡ option_shape c → Some
-      (e, m)
-      ≡ seen code.events.now walk.place
+      (e, m) ≡ seen code.events.now walk.place
       → is_content (is_some q.taken) e ≡ true → shape_at code.schema.now c ≡ Some t
       → by_shape code fuel q walk ≡ wrap some_data (reader_of fuel code q.way t q.nest q.taken (spot_of walk))
   step_content c t e m o is here there = rw (← is, o, here, there)
@@ -84,65 +82,43 @@ module _ (code : CodeSource) (fuel : ℕ) (q : Question) (walk : Walk) where
 
   -- a newtype
   pub step_newtype : (name : List ℕ) (c : ℕ) (t : PlainShape) (e : PlainDocEvent) (m : Position) → Some (e, m)
-      ≡ seen code.events.now walk.place → 0 < q.nest
-      → shape_at code.schema.now c ≡ Some t
+      ≡ seen code.events.now walk.place → 0 < q.nest → shape_at code.schema.now c ≡ Some t
       → shape_step (source_of code) (reader_of fuel code) q.way (newtype_shape name c) q.nest q.taken (spot_of walk)
       (seen code.events.now walk.place)
       ≡ wrap newtype_data (reader_of fuel code q.way t (q.nest - 1) q.taken (spot_of walk))
-  step_newtype name c t e m is some there =
-      rw (← is) (entered m (λ n. with_shape (shape_at code.schema.now c)
-      (λ t. wrap newtype_data (reader_of fuel code q.way t n q.taken (spot_of walk))))
-      q.nest some ∙ (rw there))
+  step_newtype name c t e m is some there = rw (← is) (entered m _ q.nest some ∙ (rw there))
 
   -- a sequence
   pub step_seq : (e : ℕ) (t : PlainShape) (tag : Option (List ℕ)) (m : Position) → q.shape ≡ seq_shape e
       → Some (sequence_begins tag, m) ≡ seen code.events.now walk.place → 0 < q.nest
-      → shape_at code.schema.now e ≡ Some t
-      → by_shape code fuel q walk
-      ≡ wrap (λ vs. seq_data (items_of vs))
+      → shape_at code.schema.now e ≡ Some t → by_shape code fuel q walk ≡ wrap (λ vs. seq_data (items_of vs))
       (sequence_parts (source_of code) (item_at (reader_of fuel code) q.way t (q.nest - 1)) (length code.events.now) []
       (after (spot_of walk)))
-  step_seq e t tag m o is some there =
-      rw (← is, o) (entered m (λ n. with_shape (shape_at code.schema.now e)
-      (λ s. wrap (λ vs. seq_data (items_of vs))
-      (sequence_parts (source_of code) (item_at (reader_of fuel code) q.way s n) (length code.events.now) []
-      (after (spot_of walk))))) q.nest some ∙ (rw there))
+  step_seq e t tag m o is some there = rw (← is, o) (entered m _ q.nest some ∙ (rw there))
 
   -- a row
   pub step_row : (owner : Owner) (ids : List ℕ) (tag : Option (List ℕ)) (m : Position) → q.shape ≡ row_shape owner ids
-      → Some (sequence_begins tag, m) ≡ seen code.events.now walk.place → 0 < q.nest
-      → by_shape code fuel q walk
+      → Some (sequence_begins tag, m) ≡ seen code.events.now walk.place → 0 < q.nest → by_shape code fuel q walk
       ≡ finish (row_data owner (length ids))
       (sequence_parts (source_of code) (row_at (source_of code) (reader_of fuel code) q.way (q.nest - 1))
       (length code.events.now) (row_of ids) (after (spot_of walk)))
-  step_row owner ids tag m o is some =
-      rw (← is, o) (entered m (λ n. finish (row_data owner (length ids))
-      (sequence_parts (source_of code) (row_at (source_of code) (reader_of fuel code) q.way n) (length code.events.now)
-      (row_of ids) (after (spot_of walk)))) q.nest some)
+  step_row owner ids tag m o is some = rw (← is, o) (entered m _ q.nest some)
 
   -- a mapping
   pub step_map : (a b : ℕ) (t u : PlainShape) (tag : Option (List ℕ)) (m : Position) → q.shape ≡ map_shape a b
       → Some (mapping_begins tag, m) ≡ seen code.events.now walk.place → 0 < q.nest
-      → shape_at code.schema.now a ≡ Some t → shape_at code.schema.now b ≡ Some u
-      → by_shape code fuel q walk
+      → shape_at code.schema.now a ≡ Some t → shape_at code.schema.now b ≡ Some u → by_shape code fuel q walk
       ≡ wrap (λ vs. map_data (entries_of vs)) (mapping_parts (source_of code)
       (entry_at (source_of code) (reader_of fuel code) q.way t u (q.nest - 1)) (length code.events.now) []
       (after (spot_of walk)))
-  step_map a b t u tag m o is some there there' =
-      rw (← is, o) (entered m (λ n. with_shape (shape_at code.schema.now a)
-      (λ s. with_shape (shape_at code.schema.now b) (λ t.
-      wrap (λ vs. map_data (entries_of vs))
-      (mapping_parts (source_of code) (entry_at (source_of code) (reader_of fuel code) q.way s t n)
-      (length code.events.now) []
-      (after (spot_of walk)))))) q.nest some ∙ (rw (there, there')))
+  step_map a b t u tag m o is some there there' = rw (← is, o) (entered m _ q.nest some ∙ (rw (there, there')))
 
 pub finish_fails : {S A C : Type 0} (f : S → Result A ReadFault) (r : Result (S × C) PlainRefusal) (x : PlainRefusal)
     → r ≡ Err x → ◌≡◌ {A = Result (A × C) PlainRefusal} (finish f r) (Err x)
 finish_fails f r x h = rw h
 
 pub gives_finish : {X S : Type 0} (view : X → PlainData) (f : S → Result PlainData ReadFault)
-    (result : Result X PlainRefusal)
-    (r : Result (S × Spot) PlainRefusal) (s : S) (p : Spot) → r ≡ Ok (s, p)
+    (result : Result X PlainRefusal) (r : Result (S × Spot) PlainRefusal) (s : S) (p : Spot) → r ≡ Ok (s, p)
     → Yields view result (f s) → GivesReading {X = X} {Y = PlainData × Spot} (λ x. (view x, p)) result (finish f r)
 gives_finish view f (Ok x) r s p e g = rw (e, g)
 gives_finish view f (Err y) r s p e g = λ m. rw (e, g m)

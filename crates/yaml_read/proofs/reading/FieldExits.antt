@@ -38,9 +38,7 @@ step_struct code fuel q walk strict fields tag m o is some =
     (fields_as_is q.shape (strict, fields) (is_some q.taken) (mapping_begins tag) o refl)
     ∙ fields_mapping (source_of code) (reader_of fuel code) q.way q.shape strict fields q.nest m (after (spot_of walk))
     o
-    ∙ entered m (λ n. finish (struct_of code.schema.now fields) (mapping_parts (source_of code)
-    (field_at (source_of code) (reader_of fuel code) q.way strict fields n) (length code.events.now)
-    (no_slots fields) (after (spot_of walk)))) q.nest some
+    ∙ entered m _ q.nest some
 
 -- what a name is looked up as, with the way to the value, and where the reading ended
 abbrev pub keyed : Way → Spot → Result (Option (ℕ × ℕ)) ReadFault → Reading (Option (ℕ × ℕ) × Way)
@@ -60,17 +58,14 @@ module _ (source : Source) (read : Way → Reader) (way : Way) (strict : Bool) (
 
   pub known_name : (place id : ℕ) (s : PlainShape) (w : Way) (middle : Spot)
       → field_key_at source read way strict fields nest slots at ≡ Ok ((Some (place, id), w), middle)
-      → shape_at source.table id ≡ Some s
-      → field_at source read way strict fields nest slots at
+      → shape_at source.table id ≡ Some s → field_at source read way strict fields nest slots at
       ≡ wrap (λ v. set slots place (Some v)) (read w s nest None middle)
   known_name place id s w middle h there = rw (h, there) refl
 
   -- the name that was read is looked up
   pub key_looked_up : (k : PlainData) (middle : Spot) (mark : Position) → read way identifier_shape nest None at
-      ≡ Ok (k, middle)
-      → mark ≡ mark_or_first (source.events (text_at at.place (source.events at.place)))
-      → field_key_at source read way strict fields nest slots at
-      ≡ keyed (value_way way (source.events at.place)) middle
+      ≡ Ok (k, middle) → mark ≡ mark_or_first (source.events (text_at at.place (source.events at.place)))
+      → field_key_at source read way strict fields nest slots at ≡ keyed (value_way way (source.events at.place)) middle
       (field_named strict fields slots (name_in k) (record { mark = mark; path = way.text }))
   key_looked_up k middle mark h m =
       rw (h, m) (over (value_way way (source.events at.place)) (field_named strict fields slots (name_in k) _))

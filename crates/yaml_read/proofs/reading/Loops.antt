@@ -1,9 +1,8 @@
 -- One turn of a loop over the parts of a collection, and one step of a reading.
 use Rattle.std.specs.Prelude.{◌≡◌, ◌+◌, ◌-◌, ◌<◌}
-use Rattle.yaml_read.proofs.Words.{ℕ, zero, suc, Bool, true, false, Some, None, Result, Ok, Err, ap, sym, ◌∙◌, arith}
-use Rattle.yaml_read.proofs.Words.{Position, PlainData, PlainDocEvent, PlainRefusal, refused, end_of_stream}
-use Rattle.yaml_read.proofs.Words.{recursion_limit_exceeded, ◌>>=◌, wrap, enter, Spot, after, Reading, Events, each_at}
-use Rattle.yaml_read.proofs.Words.{pursue}
+use Rattle.yaml_read.proofs.Words.{PlainDocEvent, end_of_stream, PlainRefusal, PlainData, Position, Reading, each_at, ℕ}
+use Rattle.yaml_read.proofs.Words.{refused, Events, Result, pursue, after, arith, enter, false, ◌>>=◌, Bool, None, Some}
+use Rattle.yaml_read.proofs.Words.{Spot, true, wrap, zero, Err, suc, sym, ◌∙◌, Ok, ap}
 
 module _ {S : Type 0} (is_end : PlainDocEvent → Bool) (step : S → Spot → Reading S) (events : Events) where
   -- the events end within the collection
@@ -14,31 +13,15 @@ module _ {S : Type 0} (is_end : PlainDocEvent → Bool) (step : S → Spot → R
 
   -- the collection ends
   pub each_end : (n : ℕ) (s : S) (at : Spot) (e : PlainDocEvent × Position) → events at.place ≡ Some e → is_end e.0
-      ≡ true
-      → each_at is_end step events (suc n) s at ≡ Ok (s, after at)
+      ≡ true → each_at is_end step events (suc n) s at ≡ Ok (s, after at)
   unfolding each_at
   each_end n s at e is end = rw (is, end)
 
   -- a part follows
   pub each_going : (n : ℕ) (s : S) (at : Spot) (e : PlainDocEvent × Position) → events at.place ≡ Some e → is_end e.0
-      ≡ false
-      → each_at is_end step events (suc n) s at ≡ (step s at >>= λ x. each_at is_end step events n x.0 x.1)
+      ≡ false → each_at is_end step events (suc n) s at ≡ (step s at >>= λ x. each_at is_end step events n x.0 x.1)
   unfolding each_at
   each_going n s at e is end = rw (is, end)
-
-  -- it is refused
-  pub each_fails : (n : ℕ) (s : S) (at : Spot) (e : PlainDocEvent × Position) (x : PlainRefusal)
-      → events at.place ≡ Some e → is_end e.0 ≡ false
-      → step s at ≡ Err x → each_at is_end step events (suc n) s at ≡ Err x
-  each_fails n s at e x is end r = each_going n s at e is end
-      ∙ ap (λ y. y >>= λ x. each_at is_end step events n x.0 x.1) r
-
-  -- it is read
-  pub each_more : (n : ℕ) (s s' : S) (at next : Spot) (e : PlainDocEvent × Position) → events at.place ≡ Some e
-      → is_end e.0 ≡ false
-      → step s at ≡ Ok (s', next) → each_at is_end step events (suc n) s at ≡ each_at is_end step events n s' next
-  each_more n s s' at next e is end r = each_going n s at e is end
-      ∙ ap (λ y. y >>= λ x. each_at is_end step events n x.0 x.1) r
 
 -- so many turns of a loop lead from one state and spot to another
 abbrev pub Leads : {S : Type 0} → (PlainDocEvent → Bool) → (S → Spot → Reading S) → Events → ℕ → S → Spot → S → Spot
@@ -56,8 +39,7 @@ module _ {S : Type 0} (is_end : PlainDocEvent → Bool) (step : S → Spot → R
 
   -- the loop is at its end, the events end, or a part is refused
   pub led_end : (turns : ℕ) (e : PlainDocEvent × Position) → gone < turns → events next.place ≡ Some e → is_end e.0 ≡
-      true
-      → each_at is_end step events turns s at ≡ Ok (s', after next)
+      true → each_at is_end step events turns s at ≡ Ok (s', after next)
   led_end turns e lt is end = led_on turns lt ∙ each_end is_end step events (turns - gone - 1) s' next e is end
 
   pub led_ended : (turns : ℕ) → gone < turns → events next.place ≡ None → each_at is_end step events turns s at
@@ -68,7 +50,8 @@ module _ {S : Type 0} (is_end : PlainDocEvent → Bool) (step : S → Spot → R
       → events next.place ≡ Some e
       → is_end e.0 ≡ false → step s' next ≡ Err x → each_at is_end step events turns s at ≡ Err x
   led_fails turns e x lt is end r =
-      led_on turns lt ∙ each_fails is_end step events (turns - gone - 1) s' next e x is end r
+      led_on turns lt ∙ each_going is_end step events (turns - gone - 1) s' next e is end
+      ∙ ap (λ y. y >>= λ x. each_at is_end step events (turns - gone - 1) x.0 x.1) r
 
   -- a turn more, to a state and a number of turns that may be written otherwise
   pub led_more : (e : PlainDocEvent × Position) (t t' : S) (there : Spot) (far : ℕ) → events next.place ≡ Some e
@@ -77,7 +60,8 @@ module _ {S : Type 0} (is_end : PlainDocEvent → Bool) (step : S → Spot → R
   led_more e t t' there far is end r same more = λ n.
       let split : n + far ≡ suc n + gone = omega (arith, more) in
       ap (λ (m : ℕ). each_at is_end step events m s at) split ∙ led (suc n)
-      ∙ each_more is_end step events n s' t next there e is end r ∙ ap (λ u. each_at is_end step events n u there) same
+      ∙ each_going is_end step events n s' next e is end ∙ ap (λ y. y >>= λ x. each_at is_end step events n x.0 x.1) r
+      ∙ ap (λ u. each_at is_end step events n u there) same
 
 pub wrap_fails : {A B C : Type 0} (f : A → B) (r : Result (A × C) PlainRefusal) (x : PlainRefusal) → r ≡ Err x
     → ◌≡◌ {A = Result (B × C) PlainRefusal} (wrap f r) (Err x)
@@ -91,8 +75,7 @@ pub enough : (n : ℕ) → suc n - 1 ≡ n
 enough n = omega arith
 
 pub pursue_fails : (read : Spot → Reading PlainData) (j p n : ℕ) (x : PlainRefusal) → 0 < n
-    → read (record { place = j; left = n - 1 }) ≡ Err x
-    → pursue read j p n ≡ Err x
+    → read (record { place = j; left = n - 1 }) ≡ Err x → pursue read j p n ≡ Err x
 pursue_fails read j p zero x lt h = absurd (omega arith)
 pursue_fails read j p (suc n) x lt h = rw (rw (enough n) at h)
 
@@ -106,6 +89,3 @@ module _ {A : Type 0} (mark : Position) (go : ℕ → Result A PlainRefusal) whe
   pub entered : (nest : ℕ) → 0 < nest → enter nest mark go ≡ go (nest - 1)
   entered zero lt = absurd (omega arith)
   entered (suc n) lt = ap go (sym (enough n))
-
-  pub too_deep : (nest : ℕ) → nest ≡ 0 → enter nest mark go ≡ Err (refused (recursion_limit_exceeded mark))
-  too_deep nest h = rw h

@@ -1,18 +1,25 @@
--- A tree means at most one thing.
+-- What a tree means: at most one thing, which is data of its shape, and for an alias what its target means.
 use Rattle.std.specs.Prelude.{◌≡◌, ◌+◌}
-use Rattle.yaml_read.proofs.Words.{ℕ, suc, Bool, refl, ap, ap₂, Ok, Some, sym, ◌∙◌, Result, max, set, List, PlainData}
-use Rattle.yaml_read.proofs.Words.{PlainItems, PlainEntries, no_items, no_entries, any_data, variant_data, ignored_data}
-use Rattle.yaml_read.proofs.Words.{seq_data, item, map_data, some_data, newtype_data, tuple_data, PlainShape}
-use Rattle.yaml_read.proofs.Words.{ignored_shape, sequence, tagged, DocNode, DocNodes, DocPairs, ReadFault, tree_in}
-use Rattle.yaml_read.proofs.Words.{trees_in, pairs_in, Fields, Slots, find, name_in, struct_of, Handing, as_ignored}
-use Rattle.yaml_read.proofs.Words.{Means, means_node, MeansAs, means_some, means_newtype, means_ignored, means_target}
-use Rattle.yaml_read.proofs.Words.{means_void, means_scalar, means_list, means_mapping, means_bare, means_fields}
-use Rattle.yaml_read.proofs.Words.{MeanFields, means_no_fields, means_field, means_unknown, means_variant, means_tagged}
-use Rattle.yaml_read.proofs.Words.{means_any_list, means_any_mapping, MeansList, means_seq, means_row, MeansPairs}
-use Rattle.yaml_read.proofs.Words.{means_map, MeanEach, means_none, means_more, MeanRow, means_no_elements}
-use Rattle.yaml_read.proofs.Words.{means_element, MeanPairs, means_no_pairs, means_pair}
+use Rattle.std.specs.Cmp.Derive.{both_true}
+use Rattle.yaml_read.proofs.Words.{means_any_mapping, means_no_elements, follows_aliases, means_no_fields, PlainEntries}
+use Rattle.yaml_read.proofs.Words.{means_any_list, means_no_pairs, PlainDocEvent, ignored_shape, means_element, DocNode}
+use Rattle.yaml_read.proofs.Words.{means_ignored, means_mapping, means_newtype, means_unknown, means_variant, MeanPairs}
+use Rattle.yaml_read.proofs.Words.{newtype_shape, entries_have, ignored_data, means_fields, means_scalar, means_tagged}
+use Rattle.yaml_read.proofs.Words.{means_target, newtype_data, variant_data, bytes_shape, first_event, means_field, ap₂}
+use Rattle.yaml_read.proofs.Words.{MeanFields, MeansPairs, PlainItems, PlainShape, as_ignored, means_bare, means_list}
+use Rattle.yaml_read.proofs.Words.{means_more, means_node, means_none, means_pair, means_some, means_void, no_entries}
+use Rattle.yaml_read.proofs.Words.{tuple_data, MeansList, PlainData, ReadFault, has_shape, means_map, means_row, Fields}
+use Rattle.yaml_read.proofs.Words.{means_seq, reference, some_data, struct_of, DocNodes, DocPairs, MeanEach, all_have}
+use Rattle.yaml_read.proofs.Words.{any_data, each_has, map_data, no_items, no_slots, pairs_in, seq_data, sequence, Bool}
+use Rattle.yaml_read.proofs.Words.{shape_at, trees_in, Handing, MeanRow, MeansAs, name_in, node_of, tree_in, Result, Ok}
+use Rattle.yaml_read.proofs.Words.{handed, tagged, Means, Slots, as_is, early, false, subst, List, None, Some, find, ap}
+use Rattle.yaml_read.proofs.Words.{item, refl, true, max, set, suc, sym, ◌∙◌, ℕ}
 use Rattle.yaml_tree.specs.Tree as tree
-use Rattle.yaml_read.proofs.FieldLaws.{same_place, same_number}
+use Rattle.yaml_read.proofs.FieldLaws.{same_place, same_number, Fit, none_fit, set_fit, struct_has_shape}
+use Rattle.yaml_scalar.proofs.OfShape.{is_of, of_shape, content_has}
+use Rattle.yaml_scalar.proofs.ScalarShapeLaws.{scalar-has, void-has}
+use Rattle.yaml_scalar.proofs.VariantLaws.{variant_has}
+use Rattle.yaml_read.proofs.reading.Handings.{From, from_handing}
 
 -- the same data, with the same counts
 pub record Same {A : Type 0} (v v' : A) (d d' k k' : ℕ) : Type 0 where
@@ -146,3 +153,113 @@ module _ (table : List PlainShape) (root : DocNode) where
   pub ignored_is_free : {n : DocNode} {taken : Bool} {v : PlainData} {d k : ℕ}
       → Means table root ignored_shape n taken v d k → (v ≡ ignored_data) × (d ≡ 0) × (k ≡ 0)
   ignored_is_free (means_node late to m) = free_as (sym to) m
+
+module _ (table : List PlainShape) where
+  module _ (root : DocNode) where
+    mutual
+      -- what a node means is of its shape, which may be that of a variant's content
+      pub meaning_of : {s : PlainShape} {n : DocNode} {taken : Bool} {v : PlainData} {d k : ℕ}
+          → Means table root s n taken v d k → is_of table s v ≡ true
+      meaning_of (means_node {s} {h} {n} {taken} late to m) =
+          as_has m (first_event n) (from_handing s taken (first_event n) h to)
+
+      as_has : {h : Handing} {s : PlainShape} {n : DocNode} {taken : Bool} {v : PlainData} {d k : ℕ}
+          → MeansAs table root h s n taken v d k → (e : PlainDocEvent) → From s taken e h → is_of table s v ≡ true
+      as_has (means_some {s} {t} {c} {n} {taken} {v} there m) e from =
+          rw from (of_shape table c t v there (meaning_of m))
+      as_has (means_newtype {s} {t} {c} {n} {taken} {v} there m) e from =
+          rw (from.1) (of_shape table c t v there (meaning_of m))
+      as_has (means_ignored {s} {n} {taken}) e from = rw from refl
+      as_has (means_bare {fields} {s} {n} {taken} {v} made) e from =
+          rw from.2 (struct_has_shape table from.0 from.1 fields (no_slots fields) v (none_fit table fields) made)
+      as_has (means_variant {place} {around} {content} {s} {t} {n} {taken} {v} there m) e from =
+          rw (from.1) (variant_has table around.name from.0 around.variant (place, content) v from.2
+          (content_has table around.name around.variant content t v there (meaning_of m)))
+      as_has (means_tagged {name} {s} {n} {taken} {v} m) e from = rw (from.0) refl
+      as_has (means_target e m) ev from = meaning_of m
+      as_has (means_void {s} {taken} {v} e) ev from = void-has table s v e
+      as_has (means_scalar {s} {w} {taken} {v} e) ev from = scalar-has table s taken w v e
+      as_has (means_list m) e from = list_has m
+      as_has (means_mapping m) e from = mapping_has m
+
+      list_has : {s : PlainShape} {ns : DocNodes} {v : PlainData} {d k : ℕ} → MeansList table root s ns v d k
+          → is_of table s v ≡ true
+      list_has (means_seq {e} there m) = each_has_shape m e there
+      list_has (means_row m) = row_has m
+      list_has (means_any_list m) = refl
+
+      mapping_has : {s : PlainShape} {ps : DocPairs} {v : PlainData} {d k : ℕ} → MeansPairs table root s ps v d k
+          → is_of table s v ≡ true
+      mapping_has (means_map {a} {b} there there' m) = pairs_have m a b there there'
+      mapping_has (means_fields {strict} {owner} {fields} {slots} {v} m made) =
+          struct_has_shape table strict owner fields slots v (fields_fit m (none_fit table fields)) made
+      mapping_has (means_any_mapping m apart) = refl
+
+      each_has_shape : {s : PlainShape} {ns : DocNodes} {vs : PlainItems} {d k : ℕ} → MeanEach table root s ns vs d k
+          → (e : ℕ) → shape_at table e ≡ Some s → all_have table e vs ≡ true
+      each_has_shape means_none e there = refl
+      each_has_shape (means_more {s} {n} {ns} {v} {vs} m ms) e there =
+          both_true (of_shape table e s v there (meaning_of m)) (each_has_shape ms e there)
+
+      row_has : {ids : List ℕ} {ns : DocNodes} {vs : PlainItems} {d k : ℕ} → MeanRow table root ids ns vs d k
+          → each_has table ids vs ≡ true
+      row_has means_no_elements = refl
+      row_has (means_element {id} {s} {ids} {n} {ns} {v} {vs} there m ms) =
+          both_true (of_shape table id s v there (meaning_of m)) (row_has ms)
+
+      pairs_have : {s t : PlainShape} {ps : DocPairs} {vs : PlainEntries} {d k : ℕ} → MeanPairs table root s t ps vs d k
+          → (a b : ℕ) → shape_at table a ≡ Some s → shape_at table b ≡ Some t → entries_have table a b vs ≡ true
+      pairs_have means_no_pairs a b there there' = refl
+      pairs_have (means_pair {s} {t} {m = x} {n = y} {ps} {u} {v} {vs} l m ms) a b there there' =
+          both_true (of_shape table a s u there (meaning_of l))
+          (both_true (of_shape table b t v there' (meaning_of m)) (pairs_have ms a b there there'))
+
+      -- what was read of the fields stays data of their shapes
+      fields_fit : {strict : Bool} {fields : Fields} {before after : Slots} {ps : DocPairs} {d k : ℕ}
+          → MeanFields table root strict fields before ps after d k → Fit table fields before → Fit table fields after
+      fields_fit means_no_fields fit = fit
+      fields_fit (means_field {fields} {before} {u} {v} {place} {id} {s} l found free there m ms) fit =
+          fields_fit ms (set_fit table fields before (name_in u) place id v found
+          (of_shape table id s v there (meaning_of m)) fit)
+      fields_fit (means_unknown loose l found ms) fit = fields_fit ms fit
+
+    -- what a node means under a shape of the table is data of the shape with its number
+    pub meaning_has : {s : PlainShape} {n : DocNode} {taken : Bool} {v : PlainData} {d k : ℕ}
+        → Means table root s n taken v d k → (id : ℕ) → shape_at table id ≡ Some s → has_shape table id v ≡ true
+    meaning_has {s} {v} m id is = of_shape table id s v is (meaning_of m)
+
+-- the shape hands an alias on as what it is by its kind
+handed_on : (s : PlainShape) (j : ℕ) → follows_aliases s ≡ true
+    → (early s ≡ None) × (handed s false (first_event (reference j)) ≡ as_is)
+handed_on bytes_shape j h = absurd cc
+handed_on (newtype_shape name inner) j h = absurd cc
+handed_on ignored_shape j h = absurd cc
+handed_on _ j h = (refl, refl)
+
+module _ (table : List PlainShape) (root : DocNode) (s : PlainShape) (j : ℕ) (v : PlainData) where
+  -- the target, with what it means
+  pub record Target (d k : ℕ) : Type 0 where
+    pub node : DocNode
+    pub rest : ℕ
+    pub there : node_of root j ≡ Some node
+    pub more : k ≡ suc rest
+    pub means : Means table root s node false v d rest
+
+  of_target : {d k : ℕ} → MeansAs table root as_is s (reference j) false v d k → Target d k
+  of_target (means_target {n = n} {k = rest} there means) = record {
+    node = n;
+    rest = rest;
+    there = there;
+    more = refl;
+    means = means;
+  }
+
+  pub target_of : (d k : ℕ) → follows_aliases s ≡ true → Means table root s (reference j) false v d k → Target d k
+  target_of d k follows (means_node {h = h} early is means) =
+      let same : h ≡ as_is = sym is ∙ (handed_on s j follows).1 in
+      of_target (subst (λ h. MeansAs table root h s (reference j) false v d k) same means)
+
+  pub alias_means : (n : DocNode) (d k : ℕ) → follows_aliases s ≡ true → node_of root j ≡ Some n
+      → Means table root s n false v d k → Means table root s (reference j) false v d (suc k)
+  alias_means n d k follows there means =
+      let on = handed_on s j follows in means_node on.0 on.1 (means_target there means)

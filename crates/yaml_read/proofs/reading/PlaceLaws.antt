@@ -1,10 +1,10 @@
 -- Placing a fault changes no answer, no place where a reading ends, and no fault of a limit.
 use Rattle.std.specs.Prelude.{◌≡◌, ◌<◌, ◌-◌}
-use Rattle.yaml_read.proofs.Words.{ℕ, Bool, true, false, Result, Ok, Err, refl, sym, ap, ◌∙◌, Option, Some, None, zero}
-use Rattle.yaml_read.proofs.Words.{suc, arith, Position, PlainShape, PlainDocEvent, PlainRefusal, Way, out_of_memory}
-use Rattle.yaml_read.proofs.Words.{refused, ran_out, TakenBy, placed, place, places, Answer, Spot, Walk, Reading}
-use Rattle.yaml_read.proofs.Words.{Source, place_at, node_at, node_step, PlainData, Question, by_node, by_step}
-use Rattle.yaml_read.proofs.Words.{by_shape, early, seen, source_of, spot_of, with_end, is_some, CodeSource}
+use Rattle.yaml_read.proofs.Words.{PlainDocEvent, out_of_memory, PlainRefusal, CodeSource, PlainShape, PlainData, arith}
+use Rattle.yaml_read.proofs.Words.{node_step, Position, Question, by_shape, place_at, with_end, Reading, TakenBy, early}
+use Rattle.yaml_read.proofs.Words.{by_node, by_step, is_some, node_at, ran_out, refused, Answer, Option, Result, Source}
+use Rattle.yaml_read.proofs.Words.{placed, places, false, place, Bool, None, Some, Spot, Walk, refl, seen, true, zero}
+use Rattle.yaml_read.proofs.Words.{Err, Way, suc, sym, ◌∙◌, Ok, ap, ℕ}
 use Rattle.yaml_read.proofs.reading.Exits.{step_late}
 use Rattle.yaml_read.proofs.reading.Loops.{enough}
 use Rattle.yaml_read.proofs.reading.Steps.{IfData}
@@ -60,23 +60,18 @@ module _ (way : Way) (s : PlainShape) (taken : Bool) where
   err_is h = cc
 
   -- a fault is placed alike, whatever the answer would have been, and it is want of memory as before
-  pub place_moved : {A B : Type 0} (e : Option (PlainDocEvent × Position)) (f y : PlainRefusal)
-      → place_at {A = A} way s taken e (Err f) ≡ Err y → place_at {A = B} way s taken e (Err f) ≡ Err y
-  place_moved None f y h = ap Err (err_is h)
-  place_moved (Some e) f y h = ap Err (err_is h)
-
-  pub place_memory : {A : Type 0} (e : Option (PlainDocEvent × Position)) (f y : PlainRefusal)
-      → place_at {A = A} way s taken e (Err f) ≡ Err y → ran_out f ≡ ran_out y
-  place_memory None f y h = ap ran_out (err_is h)
-  place_memory (Some e) f y h = sym (placed_memory (places s taken e.0) e.1 way f) ∙ ap ran_out (err_is h)
+  place_moved : {A B : Type 0} (e : Option (PlainDocEvent × Position)) (f y : PlainRefusal)
+      → place_at {A = A} way s taken e (Err f) ≡ Err y
+      → (place_at {A = B} way s taken e (Err f) ≡ Err y) × (ran_out f ≡ ran_out y)
+  place_moved None f y h = (ap Err (err_is h), ap ran_out (err_is h))
+  place_moved (Some e) f y h =
+      (ap Err (err_is h), sym (placed_memory (places s taken e.0) e.1 way f) ∙ ap ran_out (err_is h))
 
 -- what the step of a node reads is what the node is read as
 pub node_read : (code : CodeSource) (q : Question) (walk : Walk) (fuel : ℕ) (x : PlainData × Spot) → 0 < fuel
     → by_step code (fuel - 1) q walk ≡ Ok x → by_node code fuel q walk ≡ Ok x
 node_read code q walk fuel x some h =
-    node_unfolds (source_of code) q.way q.shape q.nest q.taken (spot_of walk) fuel some
-    ∙ ap (place_at q.way q.shape (is_some q.taken) (seen code.events.now walk.place)) h
-    ∙ place_ok q.way q.shape (is_some q.taken) (seen code.events.now walk.place) x
+    node_unfolds _ _ _ _ _ _ fuel some ∙ ap (place_at q.way q.shape _ _) h ∙ place_ok q.way _ _ _ x
 
 -- and its fault is that of the node, once it is placed
 pub node_refused : (code : CodeSource) (q : Question) (walk : Walk) (fuel : ℕ) (f y : PlainRefusal) → 0 < fuel
@@ -84,19 +79,15 @@ pub node_refused : (code : CodeSource) (q : Question) (walk : Walk) (fuel : ℕ)
     → place_at {A = Spot} q.way q.shape (is_some q.taken) (seen code.events.now walk.place) (Err f) ≡ Err y
     → ran_out y ≡ false → by_node code fuel q walk ≡ Err y
 node_refused code q walk fuel f y some h told m =
-    node_unfolds (source_of code) q.way q.shape q.nest q.taken (spot_of walk) fuel some
-    ∙ ap (place_at q.way q.shape (is_some q.taken) (seen code.events.now walk.place))
-    (h (place_memory q.way q.shape (is_some q.taken) (seen code.events.now walk.place) f y told ∙ m))
-    ∙ place_moved q.way q.shape (is_some q.taken) (seen code.events.now walk.place) f y told
+    let moved = place_moved q.way q.shape _ _ f y told in
+    node_unfolds _ _ _ _ _ _ fuel some ∙ ap (place_at q.way q.shape _ _) (h (moved.1 ∙ m)) ∙ moved.0
 
 pub node_refused_here : (code : CodeSource) (q : Question) (walk : Walk) (fuel : ℕ) (e : PlainDocEvent) (m : Position)
     (f y : PlainRefusal) → 0 < fuel → seen code.events.now walk.place ≡ Some (e, m)
     → places q.shape (is_some q.taken) e ≡ true → (ran_out f ≡ false → by_step code (fuel - 1) q walk ≡ Err f)
     → (ran_out y ≡ false → y ≡ placed true m q.way f) → ran_out y ≡ false → by_node code fuel q walk ≡ Err y
 node_refused_here code q walk fuel e m f y some is here h told known =
-    node_refused code q walk fuel f y some h
-    (place_here q.way q.shape (is_some q.taken) (seen code.events.now walk.place) e m f is here
-    ∙ ap Err (sym (told known))) known
+    node_refused code q walk fuel f y some h (place_here q.way _ _ _ e m f is here ∙ ap Err (sym (told known))) known
 
 -- a reading whose call places no fault
 unplaced : (way : Way) (s : PlainShape) (taken : Bool) (o : Option (PlainDocEvent × Position)) (r : Reading PlainData)
@@ -111,6 +102,5 @@ pub node_unplaced : (code : CodeSource) (q : Question) (walk : Walk) (fuel : ℕ
     → ((e : PlainDocEvent) → places q.shape (is_some q.taken) e ≡ false)
     → by_node code fuel q walk ≡ by_shape code (fuel - 1) q walk
 node_unplaced code q walk fuel some late none =
-    node_unfolds (source_of code) q.way q.shape q.nest q.taken (spot_of walk) fuel some
-    ∙ unplaced q.way q.shape (is_some q.taken) (seen code.events.now walk.place) (by_step code (fuel - 1) q walk) none
+    node_unfolds _ _ _ _ _ _ fuel some ∙ unplaced q.way _ _ _ (by_step code (fuel - 1) q walk) none
     ∙ step_late code (fuel - 1) q walk late

@@ -1,11 +1,11 @@
 -- Events that show a tree.
 use Rattle.std.specs.Prelude.{◌≡◌, ◌+◌, ◌<◌, ◌∷◌, ◌++◌, ◌==◌}
-use Rattle.yaml_read.proofs.Words.{ℕ, suc, List, [], length, Option, Some, Bool, true, false, cond, refl, ap, subst}
-use Rattle.yaml_read.proofs.Words.{◌∙◌, arith, length-append, append_assoc, eqb-true, Position, PlainDocEvent}
-use Rattle.yaml_read.proofs.Words.{sequence_ends, mapping_ends, DocNode, DocNodes, DocPairs, nothing, list, mapping}
-use Rattle.yaml_read.proofs.Words.{no_nodes, node, events_of, events_of_nodes, events_of_pairs, numbered}
-use Rattle.yaml_read.proofs.Words.{numbered_nodes, numbered_pairs, with_number, node_of, first_event, is_closing}
-use Rattle.yaml_read.proofs.Words.{Events, is_sequence_end, is_mapping_end, no_pairs, pair}
+use Rattle.yaml_read.proofs.Words.{events_of_nodes, events_of_pairs, is_sequence_end, is_mapping_end, numbered_nodes, ℕ}
+use Rattle.yaml_read.proofs.Words.{numbered_pairs, PlainDocEvent, length-append, sequence_ends, append_assoc, events_of}
+use Rattle.yaml_read.proofs.Words.{mapping_ends, first_event, with_number, is_closing, DocNodes, DocPairs, Position, []}
+use Rattle.yaml_read.proofs.Words.{eqb-true, no_nodes, no_pairs, numbered, DocNode, mapping, node_of, nothing, Events}
+use Rattle.yaml_read.proofs.Words.{length, arith, false, subst, Bool, List, Some, cond, list, node, pair, refl, true}
+use Rattle.yaml_read.proofs.Words.{suc, ◌∙◌, ap}
 
 -- these events stand from a place on
 abbrev pub Shows : Events → ℕ → List PlainDocEvent → Type 0
@@ -15,74 +15,63 @@ Shows events p (t ∷ ts) = ((m : Position) × (events p ≡ Some (t, m))) × Sh
 shift : (p n : ℕ) → suc p + n ≡ p + suc n
 shift p n = omega arith
 
-pub shows_front : (events : Events) (p : ℕ) (xs ys : List PlainDocEvent) → Shows events p (xs ++ ys) → Shows events p xs
-shows_front events p [] ys s = tt
-shows_front events p (x ∷ xs) ys s = (s.0, shows_front events (suc p) xs ys s.1)
+module _ (events : Events) where
+  -- each of two lists is shown where both are, one behind the other
+  pub shows_both : (p : ℕ) (xs ys : List PlainDocEvent) → Shows events p (xs ++ ys)
+      → Shows events p xs × Shows events (p + length xs) ys
+  shows_both p [] ys s = (tt, subst (λ q. Shows events q ys) (omega arith) s)
+  shows_both p (x ∷ xs) ys s =
+      let b = shows_both (suc p) xs ys s.1 in
+      ((s.0, b.0), subst (λ q. Shows events q ys) (shift p (length xs)) b.1)
 
-pub shows_rest : (events : Events) (p : ℕ) (xs ys : List PlainDocEvent) → Shows events p (xs ++ ys)
-    → Shows events (p + length xs) ys
-shows_rest events p [] ys s = subst (λ q. Shows events q ys) (omega arith) s
-shows_rest events p (x ∷ xs) ys s = subst (λ q. Shows events q ys) (shift p (length xs))
-    (shows_rest events (suc p) xs ys s.1)
+  -- each numbered node is shown from its number on
+  abbrev AllShown : List (ℕ × DocNode) → Type 0
+  AllShown [] = Unit {0}
+  AllShown (x ∷ xs) = Shows events x.0 (events_of x.1) × AllShown xs
 
--- each numbered node is shown from its number on
-abbrev pub AllShown : Events → List (ℕ × DocNode) → Type 0
-AllShown events [] = Unit {0}
-AllShown events (x ∷ xs) = Shows events x.0 (events_of x.1) × AllShown events xs
+  all_append : (xs ys : List (ℕ × DocNode)) → AllShown xs → AllShown ys → AllShown (xs ++ ys)
+  all_append [] ys a b = b
+  all_append (x ∷ xs) ys a b = (a.0, all_append xs ys a.1 b)
 
-all_append : (events : Events) (xs ys : List (ℕ × DocNode)) → AllShown events xs → AllShown events ys
-    → AllShown events (xs ++ ys)
-all_append events [] ys a b = b
-all_append events (x ∷ xs) ys a b = (a.0, all_append events xs ys a.1 b)
+  mutual
+    numbers_shown : (n : DocNode) (i : ℕ) → Shows events i (events_of n) → AllShown (numbered n i)
+    numbers_shown (list tag ns) i s =
+        (s, nodes_shown ns (suc i) (shows_both (suc i) (events_of_nodes ns) (sequence_ends ∷ []) s.1).0)
+    numbers_shown (mapping tag ps) i s =
+        (s, pairs_shown ps (suc i) (shows_both (suc i) (events_of_pairs ps) (mapping_ends ∷ []) s.1).0)
+    numbers_shown _ i s = (s, tt)
 
-mutual
-  pub numbers_shown : (n : DocNode) (events : Events) (i : ℕ) → Shows events i (events_of n)
-      → AllShown events (numbered n i)
-  numbers_shown (list tag ns) events i s =
-      (s, nodes_shown ns events (suc i) (shows_front events (suc i) (events_of_nodes ns) (sequence_ends ∷ []) s.1))
-  numbers_shown (mapping tag ps) events i s =
-      (s, pairs_shown ps events (suc i) (shows_front events (suc i) (events_of_pairs ps) (mapping_ends ∷ []) s.1))
-  numbers_shown _ events i s = (s, tt)
+    nodes_shown : (ns : DocNodes) (i : ℕ) → Shows events i (events_of_nodes ns) → AllShown (numbered_nodes ns i)
+    nodes_shown no_nodes i s = tt
+    nodes_shown (node n ns) i s =
+        let b = shows_both i (events_of n) (events_of_nodes ns) s in
+        all_append (numbered n i) _ (numbers_shown n i b.0) (nodes_shown ns (i + length (events_of n)) b.1)
 
-  pub nodes_shown : (ns : DocNodes) (events : Events) (i : ℕ) → Shows events i (events_of_nodes ns)
-      → AllShown events (numbered_nodes ns i)
-  nodes_shown no_nodes events i s = tt
-  nodes_shown (node n ns) events i s =
-      all_append events (numbered n i) _ (numbers_shown n events i
-      (shows_front events i (events_of n) (events_of_nodes ns) s))
-      (nodes_shown ns events (i + length (events_of n)) (shows_rest events i (events_of n) (events_of_nodes ns) s))
+    pairs_shown : (ps : DocPairs) (i : ℕ) → Shows events i (events_of_pairs ps) → AllShown (numbered_pairs ps i)
+    pairs_shown no_pairs i s = tt
+    pairs_shown (pair k v ps) i s =
+        let j = i + length (events_of k) in
+        let b = shows_both i (events_of k) (events_of v ++ events_of_pairs ps) s in
+        let c = shows_both j (events_of v) (events_of_pairs ps) b.1 in
+        all_append (numbered k i) _ (numbers_shown k i b.0)
+        (all_append (numbered v j) _ (numbers_shown v j c.0) (pairs_shown ps (j + length (events_of v)) c.1))
 
-  pub pairs_shown : (ps : DocPairs) (events : Events) (i : ℕ) → Shows events i (events_of_pairs ps)
-      → AllShown events (numbered_pairs ps i)
-  pairs_shown no_pairs events i s = tt
-  pairs_shown (pair k v ps) events i s =
-      let rest = shows_rest events i (events_of k) (events_of v ++ events_of_pairs ps) s in
-      all_append events (numbered k i) _ (numbers_shown k events i
-      (shows_front events i (events_of k) (events_of v ++ events_of_pairs ps) s))
-      (all_append events (numbered v (i + length (events_of k))) _
-      (numbers_shown v events (i + length (events_of k))
-      (shows_front events (i + length (events_of k)) (events_of v) (events_of_pairs ps) rest))
-      (pairs_shown ps events (i + length (events_of k) + length (events_of v))
-      (shows_rest events (i + length (events_of k)) (events_of v) (events_of_pairs ps) rest)))
+  with_number_shown : (j : ℕ) (m : DocNode) (xs : List (ℕ × DocNode)) → AllShown xs
+      → with_number j xs ≡ Some m → Shows events j (events_of m)
+  with_number_shown j m [] a e = absurd cc
+  with_number_shown j m (x ∷ xs) a e = chosen (x.0 == j) refl (with_number_shown j m xs a.1) e
+    where
+      chosen : (b : Bool) → (x.0 == j) ≡ b → (with_number j xs ≡ Some m → Shows events j (events_of m))
+          → cond b (Some x.1) (with_number j xs) ≡ Some m → Shows events j (events_of m)
+      chosen true is later e =
+          let same : x.1 ≡ m = cc in
+          subst (λ n. Shows events j (events_of n)) same
+          (subst (λ p. Shows events p (events_of x.1)) (eqb-true x.0 j is) a.0)
+      chosen false is later e = later e
 
-picked : (events : Events) (j i : ℕ) (n m : DocNode) (o : Option DocNode) (b : Bool) → (i == j) ≡ b
-    → Shows events i (events_of n) → (o ≡ Some m → Shows events j (events_of m)) → cond b (Some n) o ≡ Some m
-    → Shows events j (events_of m)
-picked events j i n m o true is s f e =
-    let same : n ≡ m = cc in
-    let here : i ≡ j = eqb-true i j is in
-    subst (λ x. Shows events j (events_of x)) same (subst (λ x. Shows events x (events_of n)) here s)
-picked events j i n m o false is s f e = f e
-
-pub with_number_shown : (events : Events) (j : ℕ) (m : DocNode) (xs : List (ℕ × DocNode)) → AllShown events xs
-    → with_number j xs ≡ Some m → Shows events j (events_of m)
-with_number_shown events j m [] a e = absurd (cc)
-with_number_shown events j m (x ∷ xs) a e = picked events j x.0 x.1 m (with_number j xs) (x.0 == j) refl a.0
-    (with_number_shown events j m xs a.1) e
-
-pub target_shown : (events : Events) (root : DocNode) (j : ℕ) (m : DocNode) → Shows events 0 (events_of root)
-    → node_of root j ≡ Some m → Shows events j (events_of m)
-target_shown events root j m s e = with_number_shown events j m (numbered root 0) (numbers_shown root events 0 s) e
+  pub target_shown : (root : DocNode) (j : ℕ) (m : DocNode) → Shows events 0 (events_of root)
+      → node_of root j ≡ Some m → Shows events j (events_of m)
+  target_shown root j m s e = with_number_shown j m (numbered root 0) (numbers_shown root 0 s) e
 
 -- a node begins with its first event
 opening : (n : DocNode) → (ts : List PlainDocEvent) × (events_of n ≡ first_event n ∷ ts)
@@ -116,10 +105,8 @@ pub shows_node : (events : Events) (p : ℕ) (n : DocNode) (ns : DocNodes) (tail
     → Shows events p (events_of_nodes (node n ns) ++ tail)
     → Shows events p (events_of n) × Shows events (p + length (events_of n)) (events_of_nodes ns ++ tail)
 shows_node events p n ns tail s =
-    let apart = subst (Shows events p) (append_assoc (events_of n) (events_of_nodes ns) tail) s in (
-      shows_front events p (events_of n) (events_of_nodes ns ++ tail) apart,
-      shows_rest events p (events_of n) (events_of_nodes ns ++ tail) apart,
-    )
+    shows_both events p (events_of n) (events_of_nodes ns ++ tail)
+    (subst (Shows events p) (append_assoc (events_of n) (events_of_nodes ns) tail) s)
 
 -- the first of several pairs, and what stands behind it
 pub shows_pair : (events : Events) (p : ℕ) (m n : DocNode) (ps : DocPairs) (tail : List PlainDocEvent)
@@ -128,13 +115,10 @@ pub shows_pair : (events : Events) (p : ℕ) (m n : DocNode) (ps : DocPairs) (ta
     × Shows events (p + length (events_of m) + length (events_of n)) (events_of_pairs ps ++ tail)
 shows_pair events p m n ps tail s =
     let q = p + length (events_of m) in
-    let apart = subst (Shows events p) (append_assoc (events_of m) (events_of n ++ events_of_pairs ps) tail) s in
-    let rest = subst (Shows events q) (append_assoc (events_of n) (events_of_pairs ps) tail)
-    (shows_rest events p (events_of m) ((events_of n ++ events_of_pairs ps) ++ tail) apart) in (
-      shows_front events p (events_of m) ((events_of n ++ events_of_pairs ps) ++ tail) apart,
-      shows_front events q (events_of n) (events_of_pairs ps ++ tail) rest,
-      shows_rest events q (events_of n) (events_of_pairs ps ++ tail) rest,
-    )
+    let b = shows_both events p (events_of m) ((events_of n ++ events_of_pairs ps) ++ tail)
+    (subst (Shows events p) (append_assoc (events_of m) (events_of n ++ events_of_pairs ps) tail) s) in
+    let c = shows_both events q (events_of n) (events_of_pairs ps ++ tail)
+    (subst (Shows events q) (append_assoc (events_of n) (events_of_pairs ps) tail) b.1) in (b.0, c.0, c.1)
 
 -- how many events several nodes have
 pub size_node : (n : DocNode) (ns : DocNodes) (tail : List PlainDocEvent) → length (events_of_nodes (node n ns) ++ tail)

@@ -1,18 +1,18 @@
 -- What a single node gives, from what its reading by places gives.
 use Rattle.std.specs.Prelude.{◌≡◌, ◌+◌, ◌*◌, ◌<◌, ◌≤◌}
-use Rattle.yaml_read.proofs.Words.{ℕ, List, map, length, Option, Some, Ok, Err, Bool, true, false, refl, ap, subst, ◌∙◌}
-use Rattle.yaml_read.proofs.Words.{arith, slice_get, is_some, Position, PlainData, PlainShape, option_shape, shape_at}
-use Rattle.yaml_read.proofs.Words.{rank, marked_events_of, DocNode, events_of, node_of, ends_of, PlainDocument}
-use Rattle.yaml_read.proofs.Words.{DocEvent, PlainRefusal, cause_of, depth, reach, nesting_depth, Means, TakenBy}
-use Rattle.yaml_read.proofs.Words.{ReadsNode, NodeGives, taker, node_answer, Way, IsTreeOf, Spot, Answer, marks_of}
-use Rattle.yaml_read.proofs.Words.{read_tree, value_told, NodePlace, Reading, node_at}
+use Rattle.yaml_read.proofs.Words.{marked_events_of, PlainDocument, nesting_depth, PlainRefusal, option_shape, DocEvent}
+use Rattle.yaml_read.proofs.Words.{node_answer, PlainShape, value_told, NodeGives, NodePlace, PlainData, ReadsNode, Err}
+use Rattle.yaml_read.proofs.Words.{events_of, read_tree, IsTreeOf, Position, cause_of, marks_of, shape_at, DocNode, Way}
+use Rattle.yaml_read.proofs.Words.{Reading, TakenBy, ends_of, is_some, node_at, node_of, Answer, Option, length, Means}
+use Rattle.yaml_read.proofs.Words.{arith, depth, false, reach, subst, taker, Bool, List, Some, Spot, rank, refl, true}
+use Rattle.yaml_read.proofs.Words.{map, ◌∙◌, Ok, ap, ℕ}
 use Rattle.yaml_read.proofs.reading.Complete.{tree_outcome}
 use Rattle.yaml_read.proofs.reading.Outcomes.{reads, deep, many}
 use Rattle.yaml_read.proofs.reading.Shown.{target_shown}
 use Rattle.yaml_read.proofs.reading.Sound.{tree_sound}
 use Rattle.yaml_read.proofs.reading.TreeWalks.{Lands}
-use Rattle.yaml_read.proofs.reading.WholeReadings.{whole_source, tree_shown, document_tied, reach_small, seen_at}
-use Rattle.yaml_read.proofs.reading.WholeReadings.{same_ok, lands_at, lands_ok, lands_err}
+use Rattle.yaml_read.proofs.reading.WholeReadings.{walk_source, whole_source, tree_shown, document_tied, reach_small}
+use Rattle.yaml_read.proofs.reading.WholeReadings.{seen_at, same_ok, lands_at, lands_ok, lands_err}
 
 is_taken : (taken : Bool) → is_some (taker taken) ≡ taken
 is_taken true = refl
@@ -29,21 +29,14 @@ fuel_at at = nesting_depth * (at.follows + at.nestings + 1)
 module _ (table : List PlainShape) (s : PlainShape) (document : PlainDocument) (way : Way) (at : NodePlace) where
   -- the reading of the node by places
   abbrev pub node_reading : Reading PlainData
-  node_reading =
-      node_at (whole_source table document) (fuel_at at) way s at.nestings (taker at.tag_taken) (spot_at at)
+  node_reading = node_at (whole_source table document) (fuel_at at) way s at.nestings (taker at.tag_taken) (spot_at at)
 
   -- what the walk over a document's events gives is that reading
   pub seen_node : (es : List (DocEvent × Position)) (ends : List ℕ) (r : Reading PlainData) (around : Option TakenBy)
       → around ≡ taker at.tag_taken → reach table s ≤ 4096
       → marked_events_of es ≡ document.events → ends ≡ ends_of (map (λ e. e.0) document.events)
       → ((fuel : ℕ) → depth table s (is_some around) at.nestings at.follows < fuel
-      → node_at (record {
-        table = table;
-        events = slice_get (marked_events_of es);
-        ends = slice_get ends;
-        size = length es;
-      }) fuel way s at.nestings around (spot_at at) ≡ r)
-      → node_reading ≡ r
+      → node_at (walk_source table es ends) fuel way s at.nestings around (spot_at at) ≡ r) → node_reading ≡ r
   seen_node es ends r around is small seen numbers gives =
       subst (λ t. node_at (whole_source table document) (fuel_at at) way s at.nestings t (spot_at at) ≡ r) is
       (seen_at table s small document es ends way at.nestings around (spot_at at) r seen numbers gives)
@@ -57,8 +50,8 @@ module _ (table : List PlainShape) (s : PlainShape) (document : PlainDocument) (
     -- what reading by places answers is what reading in the tree answers
     tied : Lands (at.place + length (events_of n)) node_reading in_tree
     tied =
-        document_tied table document root is (fuel_at at) way s at.nestings (taker at.tag_taken) n (spot_at at)
-        (target_shown (slice_get document.events) root at.place n (tree_shown table document root is) there)
+        document_tied table document root is _ _ _ _ _ n _
+        (target_shown _ root at.place n (tree_shown table document root is) there)
 
     value_is : (v : PlainData) (next : Spot) → node_reading ≡ Ok (v, next)
         → Ok v ≡ node_answer table s document way at root n
@@ -72,8 +65,7 @@ module _ (table : List PlainShape) (s : PlainShape) (document : PlainDocument) (
         → ReadsNode table s root n at new v
     read_is v next new h place left nested taken =
         let l = lands_at tied v next h in
-        let f = tree_sound table root (marks_of document.events) (fuel_at at) way s at.nestings (taker at.tag_taken) n
-        (spot_at at) (v, next.left) l.0 in
+        let f = tree_sound table root _ _ _ _ _ _ _ _ (v, next.left) l.0 in
         record {
           nestings = f.d;
           followed = f.k;
@@ -91,8 +83,8 @@ module _ (table : List PlainShape) (s : PlainShape) (document : PlainDocument) (
         → (v : PlainData) (d k : ℕ) → Means table root s n at.tag_taken v d k → d ≤ at.nestings → k ≤ at.follows
         → node_answer table s document way at root n ≡ Ok v
     meant small falls low v d k m nested followed =
-        elim (tree_outcome table root (marks_of document.events) small falls m way (fuel_at at) at.nestings
-        (taker at.tag_taken) (spot_at at) (is_taken at.tag_taken) (omega (arith, low, reach_small at.tag_taken))) [
+        elim (tree_outcome table root (marks_of document.events) small falls m way (fuel_at at) at.nestings _
+        (spot_at at) (is_taken at.tag_taken) (omega (arith, low, reach_small at.tag_taken))) [
           | reads a b e ↦ ap value_told e
           | deep p a e ↦ absurd (omega (arith, nested))
           | many a e ↦ absurd (omega (arith, followed))

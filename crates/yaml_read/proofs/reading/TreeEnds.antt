@@ -97,7 +97,6 @@ module _ {S : Type 0} (Q : S → Type 0) (most : ℕ) where
   ends_pairs P key value h g s (pair m n ps) at few q =
       ends_bind
       (λ k. value s k.0 n (behind at m k.1) >>= λ x. each_pair key value x.0 ps (behind (behind at m k.1) n x.1))
-      (h s m at few q) (λ k l lt p.
-      ends_bind (λ x. each_pair key value x.0 ps (behind (behind at m l) n x.1))
+      (h s m at few q) (λ k l lt p. ends_bind (λ x. each_pair key value x.0 ps (behind (behind at m l) n x.1))
       (g s k n (behind at m l) (omega (arith, lt, few)) q p) (λ x l' lt' p'.
       ends_pairs P key value h g x ps (behind (behind at m l) n l') (omega (arith, lt, lt', few)) p'))

@@ -1,28 +1,24 @@
 -- A tree is read to its end: with fuel that is enough it answers data or a fault of reading, never want of memory.
 use Rattle.std.specs.Prelude.{◌≡◌, ◌+◌, ◌*◌, ◌<◌, ◌≤◌, ◌∷◌, ◌++◌}
-use Rattle.yaml_read.proofs.Words.{ℕ, zero, suc, List, [], length, Option, Some, None, Ok, Bool, refl, ap, subst, arith}
-use Rattle.yaml_read.proofs.Words.{All, IfSome, set, is_some, All-head, All-tail, All-nil, Position, Place, items_of}
-use Rattle.yaml_read.proofs.Words.{entries_of, PlainData, any_data, variant_data, seq_data, map_data, some_data}
-use Rattle.yaml_read.proofs.Words.{newtype_data, ignored_data, PlainShape, shape_at, content_shape, AllNameWithin}
-use Rattle.yaml_read.proofs.Words.{NamesWithin, numbers_of, rank, sequence, tagged, DocNode, DocNodes, DocPairs}
-use Rattle.yaml_read.proofs.Words.{nothing, reference, word, list, mapping, node_of, first_event, scalar_answer}
-use Rattle.yaml_read.proofs.Words.{void_answer, tree_in, trees_in, pairs_in, Fields, Slots, no_slots, name_in}
-use Rattle.yaml_read.proofs.Words.{field_named, field_step, struct_of, Handing, as_is, as_some, as_newtype, as_ignored}
-use Rattle.yaml_read.proofs.Words.{as_bare, as_variant, as_tagged, as_refused, early, handed, depth, reach}
-use Rattle.yaml_read.proofs.Words.{untaken_reach, TakenBy, around_value, Way, element_under, value_under, places, Row}
-use Rattle.yaml_read.proofs.Words.{row_of, row_step, row_data, Spot, Answer, TreeReader, after, item_of, key_of}
-use Rattle.yaml_read.proofs.Words.{value_of, any_key_of, field_key, field_value, target_of, row_part, sequence_of}
-use Rattle.yaml_read.proofs.Words.{mapping_of, handed_by, read_tree}
+use Rattle.yaml_read.proofs.Words.{AllNameWithin, element_under, untaken_reach, around_value, ignored_data, NamesWithin}
+use Rattle.yaml_read.proofs.Words.{newtype_data, field_named, field_value, first_event, sequence_of, value_under, Place}
+use Rattle.yaml_read.proofs.Words.{PlainShape, TreeReader, any_key_of, as_ignored, as_newtype, as_refused, as_variant}
+use Rattle.yaml_read.proofs.Words.{field_step, mapping_of, numbers_of, PlainData, as_tagged, field_key, handed_by, Bool}
+use Rattle.yaml_read.proofs.Words.{read_tree, reference, some_data, struct_of, target_of, All-head, All-tail, DocNodes}
+use Rattle.yaml_read.proofs.Words.{DocPairs, Position, no_slots, row_step, shape_at, value_of, All-nil, DocNode, Answer}
+use Rattle.yaml_read.proofs.Words.{Handing, TakenBy, as_bare, as_some, is_some, mapping, name_in, node_of, nothing, All}
+use Rattle.yaml_read.proofs.Words.{Fields, IfSome, Option, handed, key_of, length, row_of, Slots, after, arith, as_is}
+use Rattle.yaml_read.proofs.Words.{depth, early, reach, subst, List, None, Some, Spot, list, rank, refl, word, zero, Ok}
+use Rattle.yaml_read.proofs.Words.{Row, Way, suc, [], ap, ℕ}
 use Rattle.yaml_scalar.proofs.VariantCode.{content_all}
 use Rattle.yaml_shape.specs.PlainShape as shape
 use Rattle.yaml_tree.specs.Tree as tree
 use Rattle.yaml_read.proofs.FieldLaws.{named_found}
 use Rattle.yaml_read.proofs.reading.Handings.{From, handed_from}
-use Rattle.yaml_read.proofs.reading.Reaches.{reach_rank}
+use Rattle.yaml_read.proofs.reading.Reaches.{content_there, find_all, looked, reach_rank, there}
 use Rattle.yaml_read.proofs.reading.TreeEnds.{Ends, ends_value, ends_fault, Any, ends_wrap, ends_map, ends_pure}
 use Rattle.yaml_read.proofs.reading.TreeEnds.{ends_finish, ends_enter, ends_follow, ends_with, ends_unless, ends_place}
 use Rattle.yaml_read.proofs.reading.TreeEnds.{ends_nodes, ends_pairs}
-use Rattle.yaml_read.proofs.reading.Within.{find_all, looked, there, content_there}
 
 module _ (table : List PlainShape) (root : DocNode) (marks : ℕ → Position) (small : (id : ℕ) → rank table id ≤ 4096)
     (falls : (id content : ℕ) → shape_at table id ≡ Some (shape.option_shape content)
@@ -42,8 +38,7 @@ module _ (table : List PlainShape) (root : DocNode) (marks : ℕ → Position) (
       (way : Way) where
     -- a node of a collection, whose shape's number is in the table
     part_ends : (w : Way) (c nest most : ℕ) (n : DocNode) (at : Spot) (lt : IsIn c)
-        → 8200 * (most + nest) + 8196 < fuel → at.left ≤ most
-        → Ends Any at.left (read w (shown c lt).0 nest None n at)
+        → 8200 * (most + nest) + 8196 < fuel → at.left ≤ most → Ends Any at.left (read w (shown c lt).0 nest None n at)
     part_ends w c nest most n at lt enough few =
         let t = shown c lt in
         ends w t.0 nest None n at t.2 t.3 (omega (arith, t.3, enough, few))
@@ -68,14 +63,6 @@ module _ (table : List PlainShape) (root : DocNode) (marks : ℕ → Position) (
         ends_wrap (λ v. record { left = ids; read = vs ++ v ∷ []; extra = extra })
         (h id (All-head IsIn id ids a)) (λ x p. All-tail IsIn id ids a)
 
-    row_part_ends : (nest most : ℕ) → 8200 * (most + nest) + 8196 < fuel → (row : Row) (n : DocNode) (at : Spot)
-        → at.left ≤ most → RowIn row → Ends RowIn at.left (row_part table read way nest row n at)
-    row_part_ends nest most enough row n at few a =
-        step_ends row.left row.read row.extra at.left _ (Ok (ignored_data, at.left)) a
-        (λ id lt. ends_with (shape_at table id) _ (shown id lt).1
-        (part_ends (element_under way (length row.read)) id nest most n at lt enough few))
-        (ends_value ignored_data at.left (omega arith) tt)
-
     -- ---- fields
     abbrev KeyIn : Option (ℕ × ℕ) × Way → Type 0
     KeyIn k = IfSome k.0 (λ f. IsIn f.1)
@@ -87,27 +74,11 @@ module _ (table : List PlainShape) (root : DocNode) (marks : ℕ → Position) (
     key_in strict fields slots name key a (Some f) is =
         find_all IsIn fields name f (named_found strict fields slots name key f is).0 a
 
-    field_key_ends : (strict : Bool) (fields : Fields) (nest most : ℕ) → All IsIn (numbers_of fields)
-        → 8200 * (most + nest) + 8196 < fuel → (slots : Slots) (m : DocNode) (at : Spot) → at.left ≤ most → Any slots
-        → Ends KeyIn at.left (field_key read marks way strict fields nest slots m at)
-    field_key_ends strict fields nest most a enough slots m at few ok =
-        ends_finish _ (plain_ends way shape.identifier_shape nest most m at (All-nil IsIn) refl enough few)
-        (λ k x e. key_in strict fields slots (name_in k) _ a x.0
-        (looked (field_named strict fields slots (name_in k) _) (value_under way (first_event m)) x e))
-
     value_step : (slots : Slots) (o : Option (ℕ × ℕ)) (left : ℕ) (go : ℕ → Answer PlainData) (skip : Answer PlainData)
         → IfSome o (λ f. IsIn f.1) → ((id : ℕ) → IsIn id → Ends Any left (go id)) → Ends Any left skip
         → Ends Any left (field_step slots o go skip)
-    value_step slots None left go skip a h k = ends_map (λ v. slots) k
-    value_step slots (Some f) left go skip a h k = ends_map (λ v. set slots f.0 (Some v)) (h f.1 a)
-
-    field_value_ends : (nest most : ℕ) → 8200 * (most + nest) + 8196 < fuel → (slots : Slots)
-        (k : Option (ℕ × ℕ) × Way) (n : DocNode) (at : Spot) → at.left ≤ most → Any slots → KeyIn k
-        → Ends Any at.left (field_value table read nest slots k n at)
-    field_value_ends nest most enough slots k n at few ok a =
-        value_step slots k.0 at.left _ (Ok (ignored_data, at.left)) a
-        (λ id lt. ends_with (shape_at table id) _ (shown id lt).1 (part_ends k.1 id nest most n at lt enough few))
-        (ends_value ignored_data at.left (omega arith) tt)
+    value_step slots None left go skip a h k = ends_map _ k
+    value_step slots (Some f) left go skip a h k = ends_map _ (h f.1 a)
 
     -- ---- collections
     sequence_ends : (s : PlainShape) (nest : ℕ) (mark : Position) (ns : DocNodes) (at : Spot)
@@ -116,17 +87,16 @@ module _ (table : List PlainShape) (root : DocNode) (marks : ℕ → Position) (
     sequence_ends (shape.seq_shape e) nest mark ns at names lt =
         let within = All-head IsIn e [] names in
         let t = shown e within in
-        ends_enter nest mark _ (λ n is. ends_with (shape_at table e) _ t.1 (ends_map (λ vs. seq_data (items_of vs))
-        (ends_nodes Any at.left (item_of read way t.0 n) (λ vs m to few ok. ends_map (λ v. vs ++ v ∷ [])
-        (part_ends (element_under way (length vs)) e n at.left m to within (omega (arith, lt, is)) few))
-        [] ns at (omega arith) tt)))
+        ends_enter nest mark _ (λ n is. ends_with _ _ t.1 (ends_map _
+        (ends_nodes Any at.left _ (λ vs m to few ok. ends_map _ (part_ends (element_under way (length vs)) e n at.left m
+        to within (omega (arith, lt, is)) few)) [] ns at (omega arith) tt)))
     sequence_ends (shape.row_shape owner ids) nest mark ns at names lt =
-        ends_enter nest mark _ (λ n is. ends_finish (row_data owner (length ids))
-        (ends_nodes RowIn at.left (row_part table read way n) (row_part_ends n at.left (omega (arith, lt, is)))
-        (row_of ids) ns at (omega arith) names) (λ s x e. tt))
+        ends_enter nest mark _ (λ n is. ends_finish _ (ends_nodes RowIn at.left _ (λ row m to few a.
+        step_ends row.left row.read row.extra to.left _ _ a (λ id here. ends_with _ _ (shown id here).1
+        (part_ends (element_under way (length row.read)) id n at.left m to here (omega (arith, lt, is)) few))
+        (ends_value ignored_data to.left (omega arith) tt)) (row_of ids) ns at (omega arith) names) (λ s x e. tt))
     sequence_ends shape.any_shape nest mark ns at names lt =
-        ends_enter nest mark _ (λ n is. ends_map (λ vs. any_data (sequence (trees_in (items_of vs))))
-        (ends_nodes Any at.left (item_of read way shape.any_shape n) (λ vs m to few ok. ends_map (λ v. vs ++ v ∷ [])
+        ends_enter nest mark _ (λ n is. ends_map _ (ends_nodes Any at.left _ (λ vs m to few ok. ends_map _
         (plain_ends (element_under way (length vs)) shape.any_shape n at.left m to names refl (omega (arith, lt, is))
         few)) [] ns at (omega arith) tt))
     sequence_ends s nest mark ns at names lt = ends_fault _
@@ -139,24 +109,26 @@ module _ (table : List PlainShape) (root : DocNode) (marks : ℕ → Position) (
         let value = All-head IsIn b [] (All-tail IsIn a (b ∷ []) names) in
         let t = shown a key in
         let u = shown b value in
-        ends_enter nest mark _ (λ n is. ends_with (shape_at table a) _ t.1 (ends_with (shape_at table b) _ u.1
-        (ends_map (λ vs. map_data (entries_of vs))
-        (ends_pairs Any at.left Any (key_of read way t.0 n) (value_of read u.0 n)
-        (λ vs m to few ok. ends_map (λ k. (value_under way (first_event m), k))
-        (part_ends way a n at.left m to key (omega (arith, lt, is)) few))
-        (λ vs k m to few ok p. ends_map (λ v. vs ++ (k.1, v) ∷ [])
+        ends_enter nest mark _ (λ n is. ends_with _ _ t.1 (ends_with _ _ u.1 (ends_map _
+        (ends_pairs Any at.left Any (key_of read way t.0 n) (value_of read u.0 n) (λ vs m to few ok. ends_map _
+        (part_ends way a n at.left m to key (omega (arith, lt, is)) few)) (λ vs k m to few ok p. ends_map _
         (part_ends k.0 b n at.left m to value (omega (arith, lt, is)) few)) [] ps at (omega arith) tt))))
     mapping_ends (shape.fields_shape strict owner fields) nest mark ps at names lt =
         ends_enter nest mark _ (λ n is. ends_finish (struct_of table fields)
         (ends_pairs Any at.left KeyIn (field_key read marks way strict fields n) (field_value table read n)
-        (field_key_ends strict fields n at.left names (omega (arith, lt, is)))
-        (field_value_ends n at.left (omega (arith, lt, is))) (no_slots fields) ps at (omega arith) tt) (λ s x e. tt))
+        (λ slots m to few ok. ends_finish _
+        (plain_ends way shape.identifier_shape n at.left m to (All-nil IsIn) refl (omega (arith, lt, is)) few)
+        (λ k x e. key_in strict fields slots (name_in k) _ names x.0
+        (looked (field_named strict fields slots (name_in k) _) (value_under way (first_event m)) x e)))
+        (λ slots k m to few ok a. value_step slots k.0 to.left _ _ a (λ id here. ends_with _ _ (shown id here).1
+        (part_ends k.1 id n at.left m to here (omega (arith, lt, is)) few))
+        (ends_value ignored_data to.left (omega arith) tt)) (no_slots fields) ps at (omega arith) tt) (λ s x e. tt))
     mapping_ends shape.any_shape nest mark ps at names lt =
-        ends_enter nest mark _ (λ n is. ends_map (λ vs. any_data (tree.mapping (pairs_in (entries_of vs))))
+        ends_enter nest mark _ (λ n is. ends_map _
         (ends_pairs Any at.left Any (any_key_of read way n) (value_of read shape.any_shape n)
         (λ vs m to few ok. ends_finish _
         (plain_ends way shape.any_shape n at.left m to names refl (omega (arith, lt, is)) few) (λ s x e. tt))
-        (λ vs k m to few ok p. ends_map (λ v. vs ++ (k.1, v) ∷ [])
+        (λ vs k m to few ok p. ends_map _
         (plain_ends k.0 shape.any_shape n at.left m to names refl (omega (arith, lt, is)) few))
         [] ps at (omega arith) tt))
     mapping_ends s nest mark ps at names lt = ends_fault _
@@ -173,12 +145,11 @@ module _ (table : List PlainShape) (root : DocNode) (marks : ℕ → Position) (
         → From s (is_some taken) (first_event n) h → NamesWithin (length table) s → reach table s ≤ 4096
         → depth table s (is_some taken) nest at.left < suc fuel
         → Ends Any at.left (handed_by table h read way root marks s nest taken n at)
-    handed_ends as_is s nest taken nothing at from names short lt = ends_pure at.left (void_answer s)
+    handed_ends as_is s nest taken nothing at from names short lt = ends_pure at.left _
     handed_ends as_is s nest taken (reference j) at from names short lt =
         ends_follow at.left (target_of (read way) s nest (node_of root j) j)
         (λ l is. target_ends s nest j l (node_of root j) names short (omega (arith, lt, is)))
-    handed_ends as_is s nest taken (word w) at from names short lt =
-        ends_pure at.left (scalar_answer s (is_some taken) w)
+    handed_ends as_is s nest taken (word w) at from names short lt = ends_pure at.left _
     handed_ends as_is s nest taken (list tag ns) at from names short lt =
         sequence_ends s nest (marks at.place) ns (after at) names (omega (arith, lt))
     handed_ends as_is s nest taken (mapping tag ps) at from names short lt =
@@ -188,28 +159,23 @@ module _ (table : List PlainShape) (root : DocNode) (marks : ℕ → Position) (
         let t = shown c within in
         let less : reach table s ≡ rank table c + 1 = ap (reach table) from in
         let below = reach_rank table falls c t.0 t.1 in
-        ends_with (shape_at table c) _ t.1
-        (ends_map some_data (ends way t.0 nest taken n at t.2 t.3 (omega (arith, less, below, lt))))
+        ends_with _ _ t.1 (ends_map some_data (ends way t.0 nest taken n at t.2 t.3 (omega (arith, less, below, lt))))
     handed_ends (as_newtype c) s nest taken n at from names short lt =
         let within = All-head IsIn c [] (subst (NamesWithin (length table)) from.1 names) in
         let t = shown c within in
-        ends_enter nest (marks at.place) _ (λ m is. ends_with (shape_at table c) _ t.1
+        ends_enter nest (marks at.place) _ (λ m is. ends_with _ _ t.1
         (ends_map newtype_data (ends way t.0 m taken n at t.2 t.3 (omega (arith, t.3, is, lt)))))
     handed_ends as_ignored s nest taken n at from names short lt = ends_value ignored_data at.left (omega arith) tt
-    handed_ends (as_bare fields) s nest taken n at from names short lt =
-        ends_pure at.left (struct_of table fields (no_slots fields))
+    handed_ends (as_bare fields) s nest taken n at from names short lt = ends_pure at.left _
     handed_ends (as_variant place around content) s nest taken n at from names short lt =
         let all = subst (NamesWithin (length table)) from.1 names in
         let t = content_there table small falls closed around.name around.variant content
         (content_all IsIn from.0 around.variant (place, content) from.2 all) in
         let untaken : untaken_reach (is_some taken) ≡ 4100 = ap untaken_reach from.3 in
-        ends_with (content_shape table around.name around.variant content) _ t.1
-        (ends_map (variant_data place) (ends way t.0 nest (Some around) n at t.2 t.3
-        (omega (arith, t.3, untaken, lt))))
+        ends_with _ _ t.1 (ends_map _ (ends way t.0 nest (Some around) n at t.2 t.3 (omega (arith, t.3, untaken, lt))))
     handed_ends (as_tagged name) s nest taken n at from names short lt =
         let untaken : untaken_reach (is_some taken) ≡ 4100 = ap untaken_reach from.1 in
-        ends_map (λ v. any_data (tagged name (tree_in v)))
-        (ends way shape.any_shape nest (Some around_value) n at (All-nil IsIn) (omega arith)
+        ends_map _ (ends way shape.any_shape nest (Some around_value) n at (All-nil IsIn) (omega arith)
         (omega (arith, untaken, lt)))
     handed_ends as_refused s nest taken n at from names short lt = ends_fault _
 
@@ -220,7 +186,6 @@ module _ (table : List PlainShape) (root : DocNode) (marks : ℕ → Position) (
   unfolding read_tree
   tree_ends zero way s nest taken n at names short lt = absurd (omega arith)
   tree_ends (suc fuel) way s nest taken n at names short lt =
-      ends_place (places s (is_some taken) (first_event n)) (marks at.place) way (ends_unless (early s)
-      (handed_ends fuel (read_tree table fuel root marks) (tree_ends fuel) way
+      ends_place _ _ way (ends_unless (early s) (handed_ends fuel (read_tree table fuel root marks) (tree_ends fuel) way
       (handed s (is_some taken) (first_event n)) s nest taken n at (handed_from s (is_some taken) (first_event n)) names
       short lt))

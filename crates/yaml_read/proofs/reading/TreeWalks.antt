@@ -1,14 +1,14 @@
 -- Going over the parts of a collection by their places answers what going over the tree's parts answers.
 use Rattle.std.specs.Prelude.{◌≡◌, ◌+◌, ◌<◌, ◌∷◌, ◌++◌}
-use Rattle.yaml_read.proofs.Words.{PlainRefusal, ℕ, zero, suc, [], length, Some, None, Option, Result, Ok, Err, refl}
-use Rattle.yaml_read.proofs.Words.{subst, ◌∙◌, arith, Position, PlainDocEvent, sequence_ends, mapping_ends, DocNode}
-use Rattle.yaml_read.proofs.Words.{DocNodes, DocPairs, no_nodes, node, events_of, events_of_nodes, events_of_pairs}
-use Rattle.yaml_read.proofs.Words.{ReadFault, ◌>>=◌, ending, wrap, enter, follow, finish, with_shape, unless, Spot}
-use Rattle.yaml_read.proofs.Words.{Answer, each_node, each_pair, Reading, Events, is_sequence_end, is_mapping_end}
-use Rattle.yaml_read.proofs.Words.{each_at, PlainShape, no_pairs, pair}
+use Rattle.yaml_read.proofs.Words.{events_of_nodes, events_of_pairs, is_sequence_end, is_mapping_end, PlainDocEvent, Ok}
+use Rattle.yaml_read.proofs.Words.{sequence_ends, PlainRefusal, mapping_ends, PlainShape, with_shape, ReadFault, Answer}
+use Rattle.yaml_read.proofs.Words.{each_node, each_pair, events_of, DocNodes, DocPairs, Position, no_nodes, no_pairs, ℕ}
+use Rattle.yaml_read.proofs.Words.{DocNode, Reading, each_at, Events, Option, Result, ending, finish, follow, length}
+use Rattle.yaml_read.proofs.Words.{unless, arith, enter, subst, ◌>>=◌, List, None, Some, Spot, node, pair, refl, wrap}
+use Rattle.yaml_read.proofs.Words.{zero, Err, suc, ◌∙◌, []}
 use Rattle.yaml_read.proofs.reading.Loops.{each_end, each_going}
-use Rattle.yaml_read.proofs.reading.Shown.{Shows, begins, no_sequence_end, no_mapping_end, shows_node, shows_pair}
-use Rattle.yaml_read.proofs.reading.Shown.{size_node, size_pair, wide}
+use Rattle.yaml_read.proofs.reading.Shown.{Shows, begins, no_sequence_end, no_mapping_end, shows_node, shows_pair, wide}
+use Rattle.yaml_read.proofs.reading.Shown.{size_node, size_pair}
 
 -- the reading by places answers what reading the tree answers, and ends at this place
 pub data Lands {A : Type 0} (end : ℕ) : Reading A → Answer A → Type 0 where
@@ -65,18 +65,16 @@ module _ (events : Events) (size : ℕ) (within : (p : ℕ) (e : PlainDocEvent �
     IsTied {S} step part = (s : S) (n : DocNode) (at : Spot) → Shows events at.place (events_of n)
         → Lands (at.place + length (events_of n)) (step s at) (part s n at)
 
-    no_turn : (p : ℕ) (e : PlainDocEvent × Position) → events p ≡ Some e → size < 0 + p → ⊥
-    no_turn p e is big = let here = within p e is in omega arith
+    no_turn : (xs : List PlainDocEvent) (e : PlainDocEvent) (p : ℕ) → Shows events p (xs ++ e ∷ []) → size < 0 + p → ⊥
+    no_turn [] e p sh big = let here = within p _ sh.0.1 in omega arith
+    no_turn (x ∷ xs) e p sh big = let here = within p _ sh.0.1 in omega arith
 
     pub nodes_tied : {S : Type 0} (step : S → Spot → Reading S) (part : S → DocNode → Spot → Answer S)
         → IsTied step part → (turns : ℕ) (s : S) (ns : DocNodes) (at : Spot)
         → Shows events at.place (events_of_nodes ns ++ sequence_ends ∷ []) → size < turns + at.place
         → Lands (at.place + length (events_of_nodes ns ++ sequence_ends ∷ []))
         (each_at is_sequence_end step events turns s at) (each_node part s ns at)
-    nodes_tied step part tied zero s no_nodes at sh big = absurd (no_turn at.place _ sh.0.1 big)
-    nodes_tied step part tied zero s (node n ns) at sh big =
-        absurd (no_turn at.place _ (begins events at.place n
-        (shows_node events at.place n ns (sequence_ends ∷ []) sh).0).1 big)
+    nodes_tied step part tied zero s ns at sh big = absurd (no_turn (events_of_nodes ns) sequence_ends at.place sh big)
     nodes_tied step part tied (suc turns) s no_nodes at sh big =
         rw (each_end is_sequence_end step events turns s at _ sh.0.1 refl) (lands s at.left)
     nodes_tied step part tied (suc turns) s (node n ns) at sh big =
@@ -109,10 +107,8 @@ module _ (events : Events) (size : ℕ) (within : (p : ℕ) (e : PlainDocEvent �
         (events_of_pairs ps ++ mapping_ends ∷ []) → size < turns + at.place
         → Lands (at.place + length (events_of_pairs ps ++ mapping_ends ∷ []))
         (each_at is_mapping_end (key_value key value) events turns s at) (each_pair key' value' s ps at)
-    pairs_tied key value key' value' tk tv zero s no_pairs at sh big = absurd (no_turn at.place _ sh.0.1 big)
-    pairs_tied key value key' value' tk tv zero s (pair m n ps) at sh big =
-        absurd (no_turn at.place _ (begins events at.place m
-        (shows_pair events at.place m n ps (mapping_ends ∷ []) sh).0).1 big)
+    pairs_tied key value key' value' tk tv zero s ps at sh big =
+        absurd (no_turn (events_of_pairs ps) mapping_ends at.place sh big)
     pairs_tied key value key' value' tk tv (suc turns) s no_pairs at sh big =
         rw (each_end is_mapping_end (key_value key value) events turns s at _ sh.0.1 refl) (lands s at.left)
     pairs_tied key value key' value' tk tv (suc turns) s (pair m n ps) at sh big =

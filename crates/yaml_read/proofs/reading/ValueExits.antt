@@ -14,8 +14,7 @@ pub any_as_is : (taken : Bool) (e : PlainDocEvent) → untaken_name taken e ≡ 
 any_as_is taken e h = rw h refl
 
 pub variant_handed : (name : List ℕ) (variants : Variants) (e : PlainDocEvent) (tag : List ℕ) (place : ℕ)
-    (content : PlainVariant)
-    → untaken_name false e ≡ Some tag → variant_named variants tag ≡ Some (place, content)
+    (content : PlainVariant) → untaken_name false e ≡ Some tag → variant_named variants tag ≡ Some (place, content)
     → handed (enum_shape name variants) false e ≡ as_variant place (record { name = name; variant = tag }) content
 variant_handed name variants e tag place content h found = rw (h, found) refl
 

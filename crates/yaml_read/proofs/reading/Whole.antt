@@ -1,19 +1,23 @@
 -- What a document gives, from what its reading gives.
 use Rattle.std.specs.Prelude.{◌≡◌, ◌*◌, ◌<◌, ◌≤◌, ◌≢◌, ◌⊎◌}
-use Rattle.yaml_read.proofs.Words.{IsReadingFault, PlainDocument, out_of_memory, end_of_stream, DocumentGives, shape_at}
-use Rattle.yaml_read.proofs.Words.{option_shape, PlainRefusal, front_answer, IsNodeFault, PlainLimits, PlainShape, List}
-use Rattle.yaml_read.proofs.Words.{whole_fuel, whole_tree, value_told, is_memory, PlainData, IsRefusal, cut_fault, Some}
-use Rattle.yaml_read.proofs.Words.{answer_of, IsEnding, cause_of, root_way, IsTreeOf, marks_of, DocNode, refused, false}
-use Rattle.yaml_read.proofs.Words.{ran_out, Reading, length, Result, subst, arith, Cause, reach, Means, Reads, None, Ok}
-use Rattle.yaml_read.proofs.Words.{refl, rank, Spot, Err, sym, ◌∙◌, inl, inr, ap, ℕ}
+use Rattle.yaml_read.proofs.Words.{get_or_from_slice_get, slice_get_within, IsReadingFault, AllNameWithin, PlainRefusal}
+use Rattle.yaml_read.proofs.Words.{DocumentGives, PlainDocument, end_of_stream, out_of_memory, front_answer, All-get_or}
+use Rattle.yaml_read.proofs.Words.{option_shape, IsNodeFault, NamesWithin, PlainLimits, PlainShape, value_told, DocNode}
+use Rattle.yaml_read.proofs.Words.{whole_fuel, whole_tree, IsRefusal, PlainData, answer_of, cut_fault, is_memory, Cause}
+use Rattle.yaml_read.proofs.Words.{IsEnding, IsTreeOf, cause_of, marks_of, shape_at, Reading, ran_out, refused, Result}
+use Rattle.yaml_read.proofs.Words.{length, Means, Reads, arith, false, reach, subst, List, None, Some, Spot, rank, refl}
+use Rattle.yaml_read.proofs.Words.{Err, inl, inr, sym, ◌∙◌, Ok, ap, ℕ}
 use Rattle.yaml_base.specs.declared.error.Cause.TheVariants.{MoreThanOneDocument, EndOfStream}
 pub use Rattle.yaml_read.proofs.reading.WholeReadings.{whole_source, whole_reading}
 use Rattle.yaml_read.proofs.reading.Outcomes.{Outcome, reads, deep, many}
 use Rattle.yaml_read.proofs.reading.Complete.{tree_outcome}
-use Rattle.yaml_read.proofs.reading.ReadingCauses.{cut_kept, fault_is_reading, fault_of_node}
+use Rattle.yaml_read.proofs.reading.WholeReadings.{cut_kept, fault_is_reading, fault_of_node, err_is, lands_ok}
+use Rattle.yaml_read.proofs.reading.WholeReadings.{lands_err, answer_ok, told_err, start, whole_tied}
 use Rattle.yaml_read.proofs.reading.Sound.{tree_sound}
-use Rattle.yaml_read.proofs.reading.Fronts.{first_fault}
-use Rattle.yaml_read.proofs.reading.WholeReadings.{err_is, lands_ok, lands_err, answer_ok, told_err, start, whole_tied}
+use Rattle.yaml_read.proofs.reading.GrowingReadings.{first_fault}
+use Rattle.yaml_read.proofs.reading.Reaches.{low}
+use Rattle.yaml_read.proofs.reading.TreeEnds.{ends_refused}
+use Rattle.yaml_read.proofs.reading.TreeFaults.{tree_ends}
 
 -- what is told of a document that was cut off is what cut it off, or a fault of a node
 told_by : (r : Reading PlainData) (cut y : Cause) → y ≡ cut_fault cut (value_told r) → is_memory y ≡ false
@@ -52,9 +56,7 @@ module _ (limits : PlainLimits) (table : List PlainShape) (s : PlainShape) (docu
       → answer_of limits table s document root ≡ Ok v → Reads limits table s root (length document.events) v
   answer_read root is v h =
       let r = answer_ok (whole_tree limits table document.events s root) v h in
-      let f = tree_sound table root (marks_of document.events)
-      (whole_fuel limits (length document.events)) root_way s limits.nesting None root
-      (start limits document) (v, r.0) r.1 in
+      let f = tree_sound table root _ _ _ _ _ _ _ _ (v, r.0) r.1 in
       record {
         nestings = f.d;
         followed = f.k;
@@ -124,8 +126,7 @@ module _ (limits : PlainLimits) (table : List PlainShape) (s : PlainShape) (docu
         let first = front_is (front_answer limits table s document) ending y told
         (λ h. other (sym mine ∙ (h ∙ same))) in
         let read = told_err (whole_reading limits table document s) y first.0 in
-        first_fault limits table s document whole root tree on read.0 read.1
-        (λ h. first.1 (sym read.2 ∙ ap cause_of h))
+        first_fault limits table s document whole root tree on read.0 read.1 (λ h. first.1 (sym read.2 ∙ ap cause_of h))
         (λ h. let bad = sym known ∙ ap is_memory (sym read.2 ∙ ap cause_of h) in absurd cc)
         ∙ ap Err (read.2 ∙ mine);
     exact = λ root is. absurd (uncut root is);
@@ -148,9 +149,7 @@ module _ (limits : PlainLimits) (table : List PlainShape) (s : PlainShape) (docu
         → Outcome (whole_tree limits table document.events s root) v limits.nesting
         (limits.follows * length document.events) d k
     outcome root v d k m =
-        tree_outcome table root (marks_of document.events) small falls m root_way
-        (whole_fuel limits (length document.events)) limits.nesting None
-        (start limits document) refl (omega (arith, low))
+        tree_outcome table root _ small falls m _ _ _ None _ refl (omega (arith, low))
 
     -- within the limits what the tree means is answered
     pub read_answer : (root : DocNode) (v : PlainData) → Reads limits table s root (length document.events) v
@@ -163,8 +162,7 @@ module _ (limits : PlainLimits) (table : List PlainShape) (s : PlainShape) (docu
 
     -- a refusal of what has a meaning is one that the limits ask for
     answer_refusal : (root : DocNode) (v : PlainData) (d k : ℕ) (y : Cause) → Means table root s root false v d k
-        → answer_of limits table s document root ≡ Err y
-        → IsRefusal limits (length document.events) d k y
+        → answer_of limits table s document root ≡ Err y → IsRefusal limits (length document.events) d k y
     answer_refusal root v d k y m h =
         let f = told_err (whole_tree limits table document.events s root) y h in
         elim (outcome root v d k m) [
@@ -195,3 +193,22 @@ module _ (limits : PlainLimits) (table : List PlainShape) (s : PlainShape) (docu
       exact = exact;
       cut = λ fault is. let bad = sym whole ∙ is in absurd cc;
     }
+
+module _ (table : List PlainShape) (small : (id : ℕ) → rank table id ≤ 4096) (falls : (id content : ℕ)
+    → shape_at table id ≡ Some (option_shape content) → rank table content < rank table id)
+    (closed : AllNameWithin (length table) table) (limits : PlainLimits) where
+  -- the names of a shape of the table are in the table
+  names_within : (id : ℕ) (s : PlainShape) → shape_at table id ≡ Some s → NamesWithin (length table) s
+  names_within id s at =
+      subst (NamesWithin (length table)) (get_or_from_slice_get table id s s at)
+      (All-get_or (NamesWithin (length table)) table id s (slice_get_within table id s at) closed)
+
+  pub answer_kind : (id : ℕ) (s : PlainShape) (document : PlainDocument) (root : DocNode) → shape_at table id ≡ Some s
+      → (fault : Cause) → answer_of limits table s document root ≡ Err fault → IsReadingFault fault
+  answer_kind id s document root at fault e =
+      let short = low table small falls id s at in
+      let told = told_err (whole_tree limits table document.events s root) fault e in
+      let refused = ends_refused
+      (tree_ends table root (marks_of document.events) small falls closed (whole_fuel limits (length document.events)) _
+      s limits.nesting None root _ (names_within id s at) short (omega (arith, short))) told.0 told.1 in
+      subst IsReadingFault (ap cause_of refused.1 ∙ told.2) (fault_is_reading refused.0)

@@ -1,16 +1,17 @@
 -- The reading of a document by its places from its start, and what its answer says.
-use Rattle.std.specs.Prelude.{◌≡◌, ◌+◌, ◌*◌, ◌<◌, ◌≤◌, ◌∷◌}
-use Rattle.yaml_read.proofs.Words.{ℕ, suc, List, [], map, length, Option, None, Result, Ok, Err, Bool, true, false}
-use Rattle.yaml_read.proofs.Words.{refl, sym, ap, subst, ◌∙◌, arith, slice_get, is_some, length-map, slice_get_within}
-use Rattle.yaml_read.proofs.Words.{Position, Cause, PlainData, PlainShape, doc_event_of, marked_events_of, ends_of}
-use Rattle.yaml_read.proofs.Words.{DocNode, events_of, PlainDocEvent, PlainDocument, DocEvent, PlainRefusal, cause_of}
-use Rattle.yaml_read.proofs.Words.{depth, reach, nesting_depth, untaken_reach, TakenBy, Way, root_way, IsTreeOf}
-use Rattle.yaml_read.proofs.Words.{PlainLimits, Spot, Answer, marks_of, value_told, whole_fuel, whole_tree, read_tree}
-use Rattle.yaml_read.proofs.Words.{Source, Reading, Events, node_at}
+use Rattle.std.specs.Prelude.{◌≡◌, ◌+◌, ◌*◌, ◌<◌, ◌≤◌, ◌∷◌, ◌-◌, ◌≢◌}
+use Rattle.yaml_read.proofs.Words.{marked_events_of, slice_get_within, IsReadingFault, PlainDocEvent, PlainDocument, Ok}
+use Rattle.yaml_read.proofs.Words.{end_of_stream, nesting_depth, out_of_memory, untaken_reach, LeavesCursor, PlainShape}
+use Rattle.yaml_read.proofs.Words.{PlainRefusal, doc_event_of, fresh_cursor, invalid_type, IsNodeFault, PlainCursor, []}
+use Rattle.yaml_read.proofs.Words.{PlainLimits, fault_cause, length-map, most_steps, node_cause, value_told, whole_fuel}
+use Rattle.yaml_read.proofs.Words.{whole_tree, NodeFault, PlainData, ReadFault, cut_fault, events_of, is_memory, Answer}
+use Rattle.yaml_read.proofs.Words.{read_tree, slice_get, DocEvent, IsTreeOf, Position, cause_of, marks_of, root_way, ap}
+use Rattle.yaml_read.proofs.Words.{DocNode, HasTree, Reading, TakenBy, at_node, ends_of, is_some, node_at, ran_out, Err}
+use Rattle.yaml_read.proofs.Words.{refused, Events, Option, Result, Source, length, Cause, Place, arith, depth, false}
+use Rattle.yaml_read.proofs.Words.{reach, subst, Bool, List, None, Spot, refl, true, Way, map, suc, sym, ◌∙◌, ℕ}
 use Rattle.yaml_read.proofs.reading.EndLaws.{node_ends}
 use Rattle.yaml_read.proofs.reading.Shown.{Shows}
-use Rattle.yaml_read.proofs.reading.TreeLaws.{reader_tied}
-use Rattle.yaml_read.proofs.reading.TreeParts.{AreTied}
+use Rattle.yaml_read.proofs.reading.TreeLaws.{AreTied, reader_tied}
 use Rattle.yaml_read.proofs.reading.TreeWalks.{Lands, lands, refuses}
 
 shift : (f : Events) (p : ℕ) (es : List PlainDocEvent) → Shows (λ q. f (suc q)) p es → Shows f (suc p) es
@@ -29,6 +30,11 @@ whole_source table document = record {
   ends = slice_get (ends_of (map (λ e. e.0) document.events));
   size = length document.events;
 }
+
+-- and of its events as the code has them
+abbrev pub walk_source : List PlainShape → List (DocEvent × Position) → List ℕ → Source
+walk_source table es ends =
+    record { table = table; events = slice_get (marked_events_of es); ends = slice_get ends; size = length es }
 
 -- where the reading of a document starts
 abbrev pub start : PlainLimits → PlainDocument → Spot
@@ -68,12 +74,7 @@ module _ (table : List PlainShape) (s : PlainShape) (small : reach table s ≤ 4
   pub seen_at : (way : Way) (nest : ℕ) (taken : Option TakenBy) (at : Spot) (r : Reading PlainData)
       → marked_events_of es ≡ document.events → ends ≡ ends_of (map (λ e. e.0) document.events)
       → ((fuel : ℕ) → depth table s (is_some taken) nest at.left < fuel
-      → node_at (record {
-        table = table;
-        events = slice_get (marked_events_of es);
-        ends = slice_get ends;
-        size = length es;
-      }) fuel way s nest taken at ≡ r)
+      → node_at (walk_source table es ends) fuel way s nest taken at ≡ r)
       → node_at (whole_source table document) (nesting_depth * (at.left + nest + 1)) way s nest taken at ≡ r
   seen_at way nest taken at r seen numbers gives =
       let size : length es ≡ length document.events = sym (length-map es (λ e. (doc_event_of e.0, e.1)))
@@ -85,13 +86,8 @@ module _ (table : List PlainShape) (s : PlainShape) (small : reach table s ≤ 4
       → follows ≡ limits.follows
       → marked_events_of es ≡ document.events → ends ≡ ends_of (map (λ e. e.0) document.events)
       → ((fuel : ℕ) → depth table s false nest (follows * length es) < fuel
-      → node_at (record {
-        table = table;
-        events = slice_get (marked_events_of es);
-        ends = slice_get ends;
-        size = length es;
-      }) fuel root_way s nest None (record { place = 0; left = follows * length es }) ≡ r)
-      → whole_reading limits table document s ≡ r
+      → node_at (walk_source table es ends) fuel root_way s nest None
+      (record { place = 0; left = follows * length es }) ≡ r) → whole_reading limits table document s ≡ r
   whole_seen limits nest follows r n f seen numbers gives =
       let size : length es ≡ length document.events = sym (length-map es (λ e. (doc_event_of e.0, e.1)))
       ∙ ap length seen in
@@ -130,3 +126,69 @@ pub told_err : {A C : Type 0} (r : Result (A × C) PlainRefusal) (y : Cause) →
     → (f : PlainRefusal) × (r ≡ Err f) × (cause_of f ≡ y)
 told_err (Ok x) y h = absurd cc
 told_err (Err f) y h = (f, refl, err_is _ _ h)
+
+-- data of a document that nothing cut off is behind all its events
+pub read_ends : (limits : PlainLimits) (table : List PlainShape) (s : PlainShape) (document : PlainDocument)
+    (v : PlainData) (next : Spot)
+    → whole_reading limits table document s ≡ Ok (v, next) → HasTree document → document.ending ≡ None
+    → next.place ≡ length document.events
+read_ends limits table s document v next h tree whole =
+    let root = (tree whole).0 in
+    let is : IsTreeOf document root = (tree whole).1 in
+    let here = lands_at (whole_tied table document root is limits s) v next h in
+    let size : length (events_of root) ≡ length document.events =
+    ap length (sym is.events) ∙ length-map document.events (λ (e : PlainDocEvent × Position). e.0) in
+    omega (arith, here.1, size)
+
+-- how a fresh cursor is left by a walk from the start that answers data
+pub leaves : (limits : PlainLimits) (document : PlainDocument) (old new : PlainCursor) (n place steps : ℕ) → old
+    ≡ fresh_cursor → n ≡ length document.events
+    → new.place ≡ place → new.refused ≡ false → new.steps ≡ steps → place ≤ steps
+    → steps ≤ 2 * (n - 0) + 2 * (n * (limits.follows * n))
+    → place ≡ length document.events → LeavesCursor limits document old new true
+leaves limits document old new n place steps fresh size at opened counted under most_ over = record {
+  used = λ stale. absurd (stale fresh);
+  most = λ h. subst (λ m. new.steps ≤ most_steps limits m) size (omega (arith, counted, most_));
+  over = λ h a. (omega (arith, over, counted, under), at ∙ over);
+  opened = λ h a. opened;
+  closed = λ h a. absurd cc;
+}
+
+node_is_fault : (fault : NodeFault) (place : Option Place) → IsNodeFault (node_cause fault place)
+node_is_fault (invalid_type found expected) place = tt
+node_is_fault _ place = tt
+
+node_is_reading : (fault : NodeFault) (place : Option Place) → IsReadingFault (node_cause fault place)
+node_is_reading (invalid_type found expected) place = tt
+node_is_reading _ place = tt
+
+-- each is one of reading, and of a node unless the events ended
+pub fault_is_reading : (fault : ReadFault) → IsReadingFault (fault_cause fault)
+fault_is_reading (at_node fault place) = node_is_reading fault place
+fault_is_reading _ = tt
+
+pub fault_of_node : (fault : ReadFault) → fault ≢ end_of_stream → IsNodeFault (fault_cause fault)
+fault_of_node end_of_stream other = absurd (other refl)
+fault_of_node (at_node fault place) other = node_is_fault fault place
+fault_of_node _ other = tt
+
+-- a refusal that is told as no want of memory is none, and its cause is one of reading
+pub known_refusal : (refusal : PlainRefusal) → is_memory (cause_of refusal) ≡ false → ran_out refusal ≡ false
+known_refusal out_of_memory h = absurd cc
+known_refusal (refused fault) h = refl
+
+pub refusal_kind : (refusal : PlainRefusal) → ran_out refusal ≡ false → (fault : Cause)
+    → ◌≡◌ {A = Result PlainData Cause} (Err (cause_of refusal)) (Err fault) → IsReadingFault fault
+refusal_kind out_of_memory h fault e = absurd cc
+refusal_kind (refused own) h fault e = subst IsReadingFault (err_is (fault_cause own) fault e) (fault_is_reading own)
+
+-- where a document was cut off it is told, unless the events ended
+pub cut_kept : (cut : Cause) (fault : ReadFault) → fault ≢ end_of_stream
+    → cut_fault cut (Err (fault_cause fault)) ≡ fault_cause fault
+cut_kept cut end_of_stream other = absurd (other refl)
+cut_kept cut (at_node fault place) other = kept fault
+  where
+    kept : (fault : NodeFault) → cut_fault cut (Err (node_cause fault place)) ≡ node_cause fault place
+    kept (invalid_type found expected) = refl
+    kept _ = refl
+cut_kept cut _ other = refl

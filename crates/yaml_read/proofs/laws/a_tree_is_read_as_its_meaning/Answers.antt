@@ -1,8 +1,7 @@
 -- What a tree is read as is what it means, and each fault of it is one of reading.
 use Rattle.yaml_base.specs.declared.error.Cause.TheVariants.{Memory}
 use Rattle.yaml_read.proofs.reading.Reaches.{low}
-use Rattle.yaml_read.proofs.reading.Whole.{answer_read, read_answer}
-use Rattle.yaml_read.proofs.reading.WholeFaults.{answer_kind}
+use Rattle.yaml_read.proofs.reading.Whole.{answer_read, read_answer, answer_kind}
 use Rattle.yaml_read.proofs.laws.a_tree_is_read_as_its_meaning.Goals as goal
 
 pub returns-clause-meaning : goal.returns-clause-meaning

@@ -1,5 +1,5 @@
 -- An alias means what its target means.
-use Rattle.yaml_read.proofs.AliasLaws.{alias_means, target_of}
+use Rattle.yaml_read.proofs.reading.Meanings.{alias_means, target_of}
 use Rattle.yaml_read.proofs.laws.an_alias_means_its_target.Goals as goal
 
 pub returns-clause-target : goal.returns-clause-target
