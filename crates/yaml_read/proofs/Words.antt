@@ -108,6 +108,6 @@ pub use Rattle.yaml_read.specs.inner.Reader.{mapping_parts, node_step, other_ans
 pub use Rattle.yaml_read.specs.inner.Reader.{sequence_at, sequence_parts, shape_step, skip_event, skip_to, text_at}
 pub use Rattle.yaml_read.specs.inner.Reader.{turn, value_way}
 unfoldable pub use Rattle.yaml_read.specs.inner.Reader.{each_at, node_at}
-pub use Rattle.yaml_read.specs.inner.Walks.{IsAmong, around_of, field_view, owner_of, plain_around, potential, row_view}
+pub use Rattle.yaml_read.specs.inner.Walks.{IsAmong, around_of, field_view, owner_of, plain_around, potential, row_owner, row_view}
 pub use Rattle.yaml_read.specs.inner.Walks.{reader_of, seen, slots_of, source_of, spot_of}
 pub use Rattle.yaml_read.specs.declared.de.node.source.Source.{Source as CodeSource}

@@ -5,7 +5,7 @@ use Rattle.std.specs.Option.{is_some}
 use Rattle.std.specs.Prelude.{drop}
 use Rattle.std.proofs.lemmas.List.{map-append, length-map}
 use Rattle.yaml_read.proofs.Words.{data_of, shape_at, shape_of, ids_of, doc_event_of, with_shape, way_of, element_under}
-use Rattle.yaml_read.proofs.Words.{row_data, Spot, after, is_sequence_end, skip_at, around_of, owner_of, source_of}
+use Rattle.yaml_read.proofs.Words.{row_data, Spot, after, is_sequence_end, skip_at, around_of, row_owner, source_of}
 use Rattle.yaml_read.proofs.Words.{spot_of, reader_of, row_view, question_of}
 use Rattle.yaml_read.proofs.reading.Exits.{same_spot, not_sequence_end, row_as_is, step_event, step_row, finish_fails}
 use Rattle.yaml_read.proofs.reading.Exits.{gives_finish}
@@ -14,36 +14,39 @@ use Rattle.yaml_read.proofs.reading.Loops.{led_end, led_ended, led_fails, led_mo
 use Rattle.yaml_read.proofs.de.node.source.Source.+read.Goals as goal
 
 pub read_tuple-returns-in_default-event : goal.read_tuple-returns-in_default-event
-read_tuple-returns-in_default-event t c = record {
-  gives = λ fuel lt. rw (step_event c.args.self.now fuel (question_of c.args.ask.now) c.args.walk.now _ _
-      c.in-Some.ensures.found
-      (row_as_is (shape_of c.args.ask.now.shape.now) (owner_of c.args.owner) (ids_of c.args.items.now)
-      (is_some (around_of c.args.ask.now.taken)) _ c.requires.tuple)) (c.read_simple.ensures.gives fuel _ lt);
-  moves = c.read_simple.ensures.moves;
-  cost = c.read_simple.ensures.cost;
-}
+read_tuple-returns-in_default-event t c =
+    let shape = shape_of c.args.ask.now.shape.now in record {
+      gives = λ fuel lt. rw (step_event c.args.self.now fuel (question_of c.args.ask.now) c.args.walk.now _ _
+          c.in-Some.ensures.found (row_as_is shape (row_owner shape) (ids_of c.args.items.now)
+          (is_some (around_of c.args.ask.now.taken)) _ c.requires.tuple)) (c.read_simple.ensures.gives fuel _ lt);
+      moves = c.read_simple.ensures.moves;
+      cost = c.read_simple.ensures.cost;
+    }
 
 pub read_tuple-returns-clause-gives : goal.read_tuple-returns-clause-gives
 read_tuple-returns-clause-gives t c = λ fuel lt.
+    let owner = row_owner (shape_of c.args.ask.now.shape.now) in
     let some : 0 < c.args.ask.now.nest = omega (arith, c.if-ask-eq0.false) in
     let left = c.step.ensures.left in
     rw (step_row c.args.self.now fuel (question_of c.args.ask.now) c.args.walk.now
-    (owner_of c.args.owner) (ids_of c.args.items.now) _ _ c.requires.tuple
+    owner (ids_of c.args.items.now) _ _ c.requires.tuple
     (rw c.in-SequenceStart.is at c.in-Some.ensures.found) some)
-    (gives_finish data_of (row_data (owner_of c.args.owner) (length (ids_of c.args.items.now))) c.finish.result _ _
+    (gives_finish data_of (row_data owner (length (ids_of c.args.items.now))) c.finish.result _ _
     (spot_of c.read_elements.new.walk)
     (rw (same_spot (spot_of c.step.new.self) (after (spot_of c.args.walk.now)) c.step.ensures.place
     c.step.ensures.left) at (c.in-Ok.ensures.gives fuel (length c.args.self.now.events.now)
-    (omega (arith, some, left)) (omega (arith, c.step.ensures.place)))) c.finish.ensures)
+    (omega (arith, some, left)) (omega (arith, c.step.ensures.place))))
+    (rw c.row_owner.ensures at c.finish.ensures))
 
 pub read_tuple-returns-in-Err-clause-gives : goal.read_tuple-returns-in-Err-clause-gives
 read_tuple-returns-in-Err-clause-gives t c = λ fuel lt fault.
+    let owner = row_owner (shape_of c.args.ask.now.shape.now) in
     let some : 0 < c.args.ask.now.nest = omega (arith, c.if-ask-eq0.false) in
     let left = c.step.ensures.left in
     step_row c.args.self.now fuel (question_of c.args.ask.now) c.args.walk.now
-    (owner_of c.args.owner) (ids_of c.args.items.now) _ _ c.requires.tuple
+    owner (ids_of c.args.items.now) _ _ c.requires.tuple
     (rw c.in-SequenceStart.is at c.in-Some.ensures.found) some
-    ∙ finish_fails (row_data (owner_of c.args.owner) (length (ids_of c.args.items.now))) _ _
+    ∙ finish_fails (row_data owner (length (ids_of c.args.items.now))) _ _
     (rw (same_spot (spot_of c.step.new.self) (after (spot_of c.args.walk.now)) c.step.ensures.place c.step.ensures.left)
     at (c.in-Err.ensures.gives fuel (length c.args.self.now.events.now) (omega (arith, some, left))
     (omega (arith, c.step.ensures.place)) fault))
