@@ -5,7 +5,7 @@
 #     bash bench/integers.sh [TYPE..]
 #
 # TYPE is u64, i64, i32 or i128, by default each. The script makes a program of its own over copies of the crates, and
-# `rt` proves and builds it, which takes a minute where the crates are proved, and much longer where they are not.
+# `rt` proves and builds it, which takes some minutes, and much longer where the crates are not proved yet.
 set -eu
 export LC_ALL=C
 root=$(cd "$(dirname "$0")/.." && pwd)

@@ -6,7 +6,7 @@
 #
 # NESTINGS is by default 128, the most that a reading goes where no limit is named; with 1 the rows are what the program
 # takes by itself. The script makes a program of its own over copies of the crates, and `rt` proves and builds it, which
-# takes a minute where the crates are proved, and much longer where they are not.
+# takes some minutes, and much longer where the crates are not proved yet.
 set -eu
 export LC_ALL=C
 root=$(cd "$(dirname "$0")/.." && pwd)
