@@ -19,8 +19,6 @@ pub mod Shown
 pub mod SingleNodes
 pub mod Sound
 pub mod Steps
-pub mod TreeEnds
-pub mod TreeFaults
 pub mod TreeLaws
 pub mod TreeWalks
 pub mod ValueExits

@@ -7,20 +7,13 @@ use Rattle.yaml_read.proofs.Words.{placed, places, false, place, Bool, None, Som
 use Rattle.yaml_read.proofs.Words.{Err, Way, suc, sym, ◌∙◌, Ok, ap, ℕ}
 use Rattle.yaml_read.proofs.reading.Exits.{step_late}
 use Rattle.yaml_read.proofs.reading.Loops.{enough}
-use Rattle.yaml_read.proofs.reading.Steps.{IfData}
 use Rattle.yaml_read.proofs.reading.TreeWalks.{Lands, lands, refuses}
 
-module _ (here : Bool) (mark : Position) (way : Way) where
-  -- both readers place alike
-  pub lands_place : {A : Type 0} {end : ℕ} {q : Reading A} {r : Answer A} → Lands end q r
-      → Lands end (place here mark way q) (place here mark way r)
-  lands_place (lands x left) = lands x left
-  lands_place (refuses y) = refuses _
-
-  pub data_place : {A : Type 0} (Q : A → Type 0) (r : Result A PlainRefusal) → IfData Q r
-      → IfData Q (place here mark way r)
-  data_place Q (Ok x) h y e = h y e
-  data_place Q (Err z) h y e = absurd cc
+-- both readers place alike
+pub lands_place : {A : Type 0} {end : ℕ} {q : Reading A} {r : Answer A} (here : Bool) (mark : Position) (way : Way)
+    → Lands end q r → Lands end (place here mark way q) (place here mark way r)
+lands_place here mark way (lands x left) = lands x left
+lands_place here mark way (refuses y) = refuses _
 
 -- want of memory stays, and nothing else becomes it
 pub placed_memory : (here : Bool) (mark : Position) (way : Way) (y : PlainRefusal)

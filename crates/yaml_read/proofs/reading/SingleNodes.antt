@@ -13,6 +13,7 @@ use Rattle.yaml_read.proofs.reading.Sound.{tree_sound}
 use Rattle.yaml_read.proofs.reading.TreeWalks.{Lands}
 use Rattle.yaml_read.proofs.reading.WholeReadings.{walk_source, whole_source, tree_shown, document_tied, reach_small}
 use Rattle.yaml_read.proofs.reading.WholeReadings.{seen_at, same_ok, lands_at, lands_ok, lands_err}
+use Rattle.yaml_read.proofs.reading.Steps.{value_in}
 
 is_taken : (taken : Bool) → is_some (taker taken) ≡ taken
 is_taken true = refl
@@ -65,7 +66,8 @@ module _ (table : List PlainShape) (s : PlainShape) (document : PlainDocument) (
         → ReadsNode table s root n at new v
     read_is v next new h place left nested taken =
         let l = lands_at tied v next h in
-        let f = tree_sound table root _ _ _ _ _ _ _ _ (v, next.left) l.0 in
+        let f = value_in (tree_sound table root _ ⊥ (λ e. absurd e) _ _ _ _ _ _ _ (λ e. absurd e) (λ e. absurd e)) v _
+        l.0 in
         record {
           nestings = f.d;
           followed = f.k;

@@ -1,23 +1,21 @@
 -- What a document gives, from what its reading gives.
 use Rattle.std.specs.Prelude.{◌≡◌, ◌*◌, ◌<◌, ◌≤◌, ◌≢◌, ◌⊎◌}
-use Rattle.yaml_read.proofs.Words.{get_or_from_slice_get, slice_get_within, IsReadingFault, AllNameWithin, PlainRefusal}
-use Rattle.yaml_read.proofs.Words.{DocumentGives, PlainDocument, end_of_stream, out_of_memory, front_answer, All-get_or}
-use Rattle.yaml_read.proofs.Words.{option_shape, IsNodeFault, NamesWithin, PlainLimits, PlainShape, value_told, DocNode}
-use Rattle.yaml_read.proofs.Words.{whole_fuel, whole_tree, IsRefusal, PlainData, answer_of, cut_fault, is_memory, Cause}
-use Rattle.yaml_read.proofs.Words.{IsEnding, IsTreeOf, cause_of, marks_of, shape_at, Reading, ran_out, refused, Result}
-use Rattle.yaml_read.proofs.Words.{length, Means, Reads, arith, false, reach, subst, List, None, Some, Spot, rank, refl}
-use Rattle.yaml_read.proofs.Words.{Err, inl, inr, sym, ◌∙◌, Ok, ap, ℕ}
+use Rattle.yaml_read.proofs.Words.{IsReadingFault, DocumentGives, PlainDocument, end_of_stream, out_of_memory, IsEnding}
+use Rattle.yaml_read.proofs.Words.{PlainRefusal, front_answer, option_shape, IsNodeFault, PlainLimits, PlainShape, List}
+use Rattle.yaml_read.proofs.Words.{value_told, whole_fuel, whole_tree, IsRefusal, PlainData, answer_of, cut_fault, None}
+use Rattle.yaml_read.proofs.Words.{is_memory, IsTreeOf, cause_of, marks_of, shape_at, DocNode, Reading, ran_out, Result}
+use Rattle.yaml_read.proofs.Words.{refused, length, Cause, Means, Reads, arith, false, reach, subst, Some, Spot, rank}
+use Rattle.yaml_read.proofs.Words.{refl, Err, inl, inr, sym, ◌∙◌, Ok, ap, ℕ}
 use Rattle.yaml_base.specs.declared.error.Cause.TheVariants.{MoreThanOneDocument, EndOfStream}
 pub use Rattle.yaml_read.proofs.reading.WholeReadings.{whole_source, whole_reading}
 use Rattle.yaml_read.proofs.reading.Outcomes.{Outcome, reads, deep, many}
 use Rattle.yaml_read.proofs.reading.Complete.{tree_outcome}
 use Rattle.yaml_read.proofs.reading.WholeReadings.{cut_kept, fault_is_reading, fault_of_node, err_is, lands_ok}
-use Rattle.yaml_read.proofs.reading.WholeReadings.{lands_err, answer_ok, told_err, start, whole_tied}
+use Rattle.yaml_read.proofs.reading.WholeReadings.{lands_err, answer_ok, told_err, whole_tied}
 use Rattle.yaml_read.proofs.reading.Sound.{tree_sound}
 use Rattle.yaml_read.proofs.reading.GrowingReadings.{first_fault}
-use Rattle.yaml_read.proofs.reading.Reaches.{low}
-use Rattle.yaml_read.proofs.reading.TreeEnds.{ends_refused}
-use Rattle.yaml_read.proofs.reading.TreeFaults.{tree_ends}
+use Rattle.yaml_read.proofs.reading.Reaches.{IsWhole, fits_there}
+use Rattle.yaml_read.proofs.reading.Steps.{value_in, fault_in}
 
 -- what is told of a document that was cut off is what cut it off, or a fault of a node
 told_by : (r : Reading PlainData) (cut y : Cause) → y ≡ cut_fault cut (value_told r) → is_memory y ≡ false
@@ -56,7 +54,7 @@ module _ (limits : PlainLimits) (table : List PlainShape) (s : PlainShape) (docu
       → answer_of limits table s document root ≡ Ok v → Reads limits table s root (length document.events) v
   answer_read root is v h =
       let r = answer_ok (whole_tree limits table document.events s root) v h in
-      let f = tree_sound table root _ _ _ _ _ _ _ _ (v, r.0) r.1 in
+      let f = value_in (tree_sound table root _ ⊥ (λ e. absurd e) _ _ _ _ _ _ _ (λ e. absurd e) (λ e. absurd e)) v _ r.1 in
       record {
         nestings = f.d;
         followed = f.k;
@@ -194,21 +192,14 @@ module _ (limits : PlainLimits) (table : List PlainShape) (s : PlainShape) (docu
       cut = λ fault is. let bad = sym whole ∙ is in absurd cc;
     }
 
-module _ (table : List PlainShape) (small : (id : ℕ) → rank table id ≤ 4096) (falls : (id content : ℕ)
-    → shape_at table id ≡ Some (option_shape content) → rank table content < rank table id)
-    (closed : AllNameWithin (length table) table) (limits : PlainLimits) where
-  -- the names of a shape of the table are in the table
-  names_within : (id : ℕ) (s : PlainShape) → shape_at table id ≡ Some s → NamesWithin (length table) s
-  names_within id s at =
-      subst (NamesWithin (length table)) (get_or_from_slice_get table id s s at)
-      (All-get_or (NamesWithin (length table)) table id s (slice_get_within table id s at) closed)
-
-  pub answer_kind : (id : ℕ) (s : PlainShape) (document : PlainDocument) (root : DocNode) → shape_at table id ≡ Some s
-      → (fault : Cause) → answer_of limits table s document root ≡ Err fault → IsReadingFault fault
-  answer_kind id s document root at fault e =
-      let short = low table small falls id s at in
-      let told = told_err (whole_tree limits table document.events s root) fault e in
-      let refused = ends_refused
-      (tree_ends table root (marks_of document.events) small falls closed (whole_fuel limits (length document.events)) _
-      s limits.nesting None root _ (names_within id s at) short (omega (arith, short))) told.0 told.1 in
-      subst IsReadingFault (ap cause_of refused.1 ∙ told.2) (fault_is_reading refused.0)
+-- what the tree of a whole document is refused by is a fault of reading
+pub answer_kind : (table : List PlainShape) → IsWhole table → (limits : PlainLimits) (id : ℕ) (s : PlainShape)
+    (document : PlainDocument) (root : DocNode) → shape_at table id ≡ Some s → (fault : Cause)
+    → answer_of limits table s document root ≡ Err fault → IsReadingFault fault
+answer_kind table whole limits id s document root at fault e =
+    let fits = fits_there whole id s at in
+    let told = told_err (whole_tree limits table document.events s root) fault e in
+    let refused = fault_in (tree_sound table root (marks_of document.events) (IsWhole table) (λ w. w)
+    (whole_fuel limits (length document.events)) _ s limits.nesting None root _ (λ w. fits)
+    (λ w. omega (arith, fits.short))) whole told.0 told.1 in
+    subst IsReadingFault (ap cause_of refused.1 ∙ told.2) (fault_is_reading refused.0)
