@@ -20,7 +20,6 @@ pub mod SingleNodes
 pub mod Sound
 pub mod Steps
 pub mod TreeLaws
-pub mod TreeWalks
 pub mod ValueExits
 pub mod Whole
 pub mod WholeReadings

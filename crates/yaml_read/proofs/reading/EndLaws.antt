@@ -1,19 +1,12 @@
 -- The numbers of a document's events tell where its nodes end.
 use Rattle.std.specs.Prelude.{◌≡◌, ◌+◌, ◌-◌, ◌≤◌, ◌∷◌, ◌++◌, ◌&&◌, ◌==◌, if◌then◌else◌}
-use Rattle.yaml_read.proofs.Words.{ℕ, zero, suc, List, [], map, length, Some, Bool, true, false, refl, sym, ap, subst}
-use Rattle.yaml_read.proofs.Words.{◌∙◌, arith, append_assoc, length-append, slice_get, eqb-true, Position}
-use Rattle.yaml_read.proofs.Words.{PlainDocEvent, sequence_ends, mapping_ends, DocNode, DocNodes, DocPairs, list}
-use Rattle.yaml_read.proofs.Words.{mapping, no_nodes, node, events_of, events_of_nodes, events_of_pairs, is_opening}
-use Rattle.yaml_read.proofs.Words.{is_closing, inner_after, end_place, ends_from, ends_of, GoForward, Events, no_pairs}
-use Rattle.yaml_read.proofs.Words.{pair}
+use Rattle.yaml_read.proofs.Words.{events_of_nodes, events_of_pairs, length-append, PlainDocEvent, sequence_ends, false}
+use Rattle.yaml_read.proofs.Words.{append_assoc, mapping_ends, inner_after, is_opening, is_closing, slice_get, Position}
+use Rattle.yaml_read.proofs.Words.{events_of, end_place, ends_from, GoForward, DocNodes, DocPairs, no_nodes, no_pairs}
+use Rattle.yaml_read.proofs.Words.{DocNode, mapping, ends_of, length, Events, subst, arith, zero, List, Some, Bool, suc}
+use Rattle.yaml_read.proofs.Words.{true, refl, list, node, pair, map, sym, ◌∙◌, [], ap, ℕ}
+use Rattle.std.proofs.lemmas.Bool.{ne_eqb}
 use Rattle.yaml_read.proofs.reading.Shown.{Shows, begins}
-
-not_outer : (b : Bool) (n : ℕ) → (n + 1 == 0) ≡ b → b ≡ false
-not_outer true n h = let bad = eqb-true (n + 1) 0 h in absurd (omega arith)
-not_outer false n h = refl
-
-back : (n : ℕ) → n + 1 - 1 ≡ n
-back n = omega arith
 
 -- behind these events as many collections are open as before them
 abbrev Passed : List PlainDocEvent → Type 0
@@ -33,9 +26,10 @@ closed : (e : PlainDocEvent) (ts rest : List PlainDocEvent) (inner place : ℕ) 
     → is_opening e ≡ false → Passed ts
     → end_place (inner + 1) place ((ts ++ e ∷ []) ++ rest) ≡ end_place inner (place + length (ts ++ e ∷ [])) rest
 closed e ts rest inner place c o passed =
-    let no = not_outer (inner + 1 == 0) inner refl in
+    let no = ne_eqb (inner + 1) 0 (λ z. absurd (omega arith)) in
+    let back : inner + 1 - 1 ≡ inner = omega arith in
     let ends : end_place (inner + 1) (place + length ts) (e ∷ rest) ≡ end_place inner (place + length ts + 1) rest =
-    rw (c, no, o, back inner) in
+    rw (c, no, o, back) in
     ap (end_place (inner + 1) place) (append_assoc ts (e ∷ []) rest) ∙ passed (inner + 1) place (e ∷ rest) ∙ ends
     ∙ ap (λ p. end_place inner p rest) (omega (arith, length-append ts (e ∷ [])))
 

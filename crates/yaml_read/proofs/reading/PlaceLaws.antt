@@ -2,18 +2,11 @@
 use Rattle.std.specs.Prelude.{◌≡◌, ◌<◌, ◌-◌}
 use Rattle.yaml_read.proofs.Words.{PlainDocEvent, out_of_memory, PlainRefusal, CodeSource, PlainShape, PlainData, arith}
 use Rattle.yaml_read.proofs.Words.{node_step, Position, Question, by_shape, place_at, with_end, Reading, TakenBy, early}
-use Rattle.yaml_read.proofs.Words.{by_node, by_step, is_some, node_at, ran_out, refused, Answer, Option, Result, Source}
-use Rattle.yaml_read.proofs.Words.{placed, places, false, place, Bool, None, Some, Spot, Walk, refl, seen, true, zero}
-use Rattle.yaml_read.proofs.Words.{Err, Way, suc, sym, ◌∙◌, Ok, ap, ℕ}
+use Rattle.yaml_read.proofs.Words.{by_node, by_step, is_some, node_at, ran_out, refused, Option, Result, Source, placed}
+use Rattle.yaml_read.proofs.Words.{places, false, place, Bool, None, Some, Spot, Walk, refl, seen, true, zero, Err, Way}
+use Rattle.yaml_read.proofs.Words.{suc, sym, ◌∙◌, Ok, ap, ℕ}
 use Rattle.yaml_read.proofs.reading.Exits.{step_late}
 use Rattle.yaml_read.proofs.reading.Loops.{enough}
-use Rattle.yaml_read.proofs.reading.TreeWalks.{Lands, lands, refuses}
-
--- both readers place alike
-pub lands_place : {A : Type 0} {end : ℕ} {q : Reading A} {r : Answer A} (here : Bool) (mark : Position) (way : Way)
-    → Lands end q r → Lands end (place here mark way q) (place here mark way r)
-lands_place here mark way (lands x left) = lands x left
-lands_place here mark way (refuses y) = refuses _
 
 -- want of memory stays, and nothing else becomes it
 pub placed_memory : (here : Bool) (mark : Position) (way : Way) (y : PlainRefusal)

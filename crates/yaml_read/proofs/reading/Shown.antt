@@ -1,11 +1,10 @@
 -- Events that show a tree.
 use Rattle.std.specs.Prelude.{◌≡◌, ◌+◌, ◌<◌, ◌∷◌, ◌++◌, ◌==◌}
 use Rattle.yaml_read.proofs.Words.{events_of_nodes, events_of_pairs, is_sequence_end, is_mapping_end, numbered_nodes, ℕ}
-use Rattle.yaml_read.proofs.Words.{numbered_pairs, PlainDocEvent, length-append, sequence_ends, append_assoc, events_of}
-use Rattle.yaml_read.proofs.Words.{mapping_ends, first_event, with_number, is_closing, DocNodes, DocPairs, Position, []}
-use Rattle.yaml_read.proofs.Words.{eqb-true, no_nodes, no_pairs, numbered, DocNode, mapping, node_of, nothing, Events}
-use Rattle.yaml_read.proofs.Words.{length, arith, false, subst, Bool, List, Some, cond, list, node, pair, refl, true}
-use Rattle.yaml_read.proofs.Words.{suc, ◌∙◌, ap}
+use Rattle.yaml_read.proofs.Words.{numbered_pairs, PlainDocEvent, sequence_ends, append_assoc, mapping_ends, is_closing}
+use Rattle.yaml_read.proofs.Words.{first_event, with_number, events_of, DocNodes, DocPairs, Position, eqb-true, DocNode}
+use Rattle.yaml_read.proofs.Words.{no_nodes, no_pairs, numbered, mapping, node_of, nothing, Events, length, arith, Bool}
+use Rattle.yaml_read.proofs.Words.{false, subst, List, Some, cond, list, node, pair, refl, true, suc, [], ap}
 
 -- these events stand from a place on
 abbrev pub Shows : Events → ℕ → List PlainDocEvent → Type 0
@@ -88,52 +87,16 @@ pub begins : (events : Events) (p : ℕ) (n : DocNode) → Shows events p (event
 begins events p n s = (subst (Shows events p) (opening n).1 s).0
 
 -- no node begins with an end
-pub opens : (n : DocNode) → is_closing (first_event n) ≡ false
-opens nothing = refl
-opens _ = refl
+pub opens : (n : DocNode) → (is_closing (first_event n) ≡ false) × (is_sequence_end (first_event n) ≡ false)
+    × (is_mapping_end (first_event n) ≡ false)
+opens nothing = (refl, refl, refl)
+opens _ = (refl, refl, refl)
 
-pub no_sequence_end : (n : DocNode) → is_sequence_end (first_event n) ≡ false
-no_sequence_end nothing = refl
-no_sequence_end _ = refl
-
-pub no_mapping_end : (n : DocNode) → is_mapping_end (first_event n) ≡ false
-no_mapping_end nothing = refl
-no_mapping_end _ = refl
-
--- the first of several nodes, and what stands behind it
-pub shows_node : (events : Events) (p : ℕ) (n : DocNode) (ns : DocNodes) (tail : List PlainDocEvent)
-    → Shows events p (events_of_nodes (node n ns) ++ tail)
-    → Shows events p (events_of n) × Shows events (p + length (events_of n)) (events_of_nodes ns ++ tail)
-shows_node events p n ns tail s =
-    shows_both events p (events_of n) (events_of_nodes ns ++ tail)
-    (subst (Shows events p) (append_assoc (events_of n) (events_of_nodes ns) tail) s)
-
--- the first of several pairs, and what stands behind it
-pub shows_pair : (events : Events) (p : ℕ) (m n : DocNode) (ps : DocPairs) (tail : List PlainDocEvent)
-    → Shows events p (events_of_pairs (pair m n ps) ++ tail)
-    → Shows events p (events_of m) × Shows events (p + length (events_of m)) (events_of n)
-    × Shows events (p + length (events_of m) + length (events_of n)) (events_of_pairs ps ++ tail)
-shows_pair events p m n ps tail s =
-    let q = p + length (events_of m) in
-    let b = shows_both events p (events_of m) ((events_of n ++ events_of_pairs ps) ++ tail)
-    (subst (Shows events p) (append_assoc (events_of m) (events_of n ++ events_of_pairs ps) tail) s) in
-    let c = shows_both events q (events_of n) (events_of_pairs ps ++ tail)
-    (subst (Shows events q) (append_assoc (events_of n) (events_of_pairs ps) tail) b.1) in (b.0, c.0, c.1)
-
--- how many events several nodes have
-pub size_node : (n : DocNode) (ns : DocNodes) (tail : List PlainDocEvent) → length (events_of_nodes (node n ns) ++ tail)
-    ≡ length (events_of n) + length (events_of_nodes ns ++ tail)
-size_node n ns tail = ap (length {A = PlainDocEvent}) (append_assoc (events_of n) (events_of_nodes ns) tail)
-    ∙ length-append (events_of n) (events_of_nodes ns ++ tail)
-
-pub size_pair : (m n : DocNode) (ps : DocPairs) (tail : List PlainDocEvent)
-    → length (events_of_pairs (pair m n ps) ++ tail) ≡ length (events_of m) +
-    (length (events_of n) + length (events_of_pairs ps ++ tail))
-size_pair m n ps tail =
-    ap (length {A = PlainDocEvent}) (append_assoc (events_of m) (events_of n ++ events_of_pairs ps) tail)
-    ∙ length-append (events_of m) ((events_of n ++ events_of_pairs ps) ++ tail)
-    ∙ ap (λ k. length (events_of m) + k) (ap (length {A = PlainDocEvent})
-    (append_assoc (events_of n) (events_of_pairs ps) tail) ∙ length-append (events_of n) (events_of_pairs ps ++ tail))
+-- the first of several parts, and what stands behind it
+pub shows_next : (events : Events) (p : ℕ) (xs ys tail : List PlainDocEvent) → Shows events p ((xs ++ ys) ++ tail)
+    → Shows events p xs × Shows events (p + length xs) (ys ++ tail)
+shows_next events p xs ys tail s =
+    shows_both events p xs (ys ++ tail) (subst (Shows events p) (append_assoc xs ys tail) s)
 
 -- what is shown lies within
 pub shows_within : (events : Events) (size : ℕ) (within : (p : ℕ) (e : PlainDocEvent × Position) → events p ≡ Some e

@@ -54,7 +54,7 @@ module _ (limits : PlainLimits) (table : List PlainShape) (s : PlainShape) (docu
       → answer_of limits table s document root ≡ Ok v → Reads limits table s root (length document.events) v
   answer_read root is v h =
       let r = answer_ok (whole_tree limits table document.events s root) v h in
-      let f = value_in (tree_sound table root _ ⊥ (λ e. absurd e) _ _ _ _ _ _ _ (λ e. absurd e) (λ e. absurd e)) v _ r.1 in
+      let f = value_in (tree_sound table root _ ⊥ absurd _ _ _ _ _ _ _ absurd absurd) v _ r.1 in
       record {
         nestings = f.d;
         followed = f.k;
@@ -72,33 +72,27 @@ module _ (limits : PlainLimits) (table : List PlainShape) (s : PlainShape) (docu
       → IsTreeOf document root → Err (cause_of y) ≡ answer_of limits table s document root
   fault_answered y h root is = lands_err (whole_tied table document root is limits s) y h
 
+  cut_as : (ending : Cause) (r : Reading PlainData) → whole_reading limits table document s ≡ r
+      → cut_fault ending (value_told r) ≡ cut_fault ending (front_answer limits table s document)
+  cut_as ending r e = ap (λ (r : Reading PlainData). cut_fault ending (value_told r)) (sym e)
+
   -- what is told of a document that was cut off, where reading answers a fault
   pub told_cut : (refusal : PlainRefusal) (y ending : Cause)
       → (ran_out refusal ≡ false → whole_reading limits table document s ≡ Err refusal)
       → (refusal ≡ refused end_of_stream → is_memory y ≡ false → y ≡ ending)
       → (refusal ≢ refused end_of_stream → y ≡ cause_of refusal)
       → is_memory y ≡ false → y ≡ cut_fault ending (front_answer limits table s document)
-  told_cut refusal y ending seen ended kept fault = by refusal seen ended kept
-    where
-      read_as : (f : PlainRefusal) → whole_reading limits table document s ≡ Err f
-          → cut_fault ending (Err (cause_of f)) ≡ cut_fault ending (front_answer limits table s document)
-      read_as f e = ap (λ (r : Reading PlainData). cut_fault ending (value_told r)) (sym e)
-
-      by : (refusal : PlainRefusal) → (ran_out refusal ≡ false → whole_reading limits table document s ≡ Err refusal)
-          → (refusal ≡ refused end_of_stream → is_memory y ≡ false → y ≡ ending)
-          → (refusal ≢ refused end_of_stream → y ≡ cause_of refusal)
-          → y ≡ cut_fault ending (front_answer limits table s document)
-      by out_of_memory seen ended kept =
-          let bad = sym fault ∙ ap is_memory (kept (λ e. absurd cc)) in absurd cc
-      by (refused end_of_stream) seen ended kept = ended refl fault ∙ read_as (refused end_of_stream) (seen refl)
-      by (refused other) seen ended kept =
-          let apart : other ≢ end_of_stream = λ h. absurd cc in
-          kept (λ e. absurd cc) ∙ sym (cut_kept ending other apart) ∙ read_as (refused other) (seen refl)
+  told_cut out_of_memory y ending seen ended kept fault =
+      let bad = sym fault ∙ ap is_memory (kept (λ e. absurd cc)) in absurd cc
+  told_cut (refused end_of_stream) y ending seen ended kept fault = ended refl fault ∙ cut_as ending _ (seen refl)
+  told_cut (refused other) y ending seen ended kept fault =
+      let apart : other ≢ end_of_stream = λ h. absurd cc in
+      kept (λ e. absurd cc) ∙ sym (cut_kept ending other apart) ∙ cut_as ending _ (seen refl)
 
   -- and where it answers data
   pub data_cut : (v : PlainData) (next : Spot) (ending : Cause) → whole_reading limits table document s ≡ Ok (v, next)
       → ending ≡ cut_fault ending (front_answer limits table s document)
-  data_cut v next ending e = ap (λ (r : Reading PlainData). cut_fault ending (value_told r)) (sym e)
+  data_cut v next ending e = cut_as ending (Ok (v, next)) e
 
   -- a document that was cut off is refused by what cut it off, or by a fault that reading answers
   pub cut_gives : (y ending : Cause) → document.ending ≡ Some ending → y ≢ MoreThanOneDocument

@@ -11,8 +11,7 @@ use Rattle.yaml_read.proofs.Words.{refused, Events, Option, Result, Source, leng
 use Rattle.yaml_read.proofs.Words.{reach, subst, Bool, List, None, Spot, refl, true, Way, map, suc, sym, ◌∙◌, ℕ}
 use Rattle.yaml_read.proofs.reading.EndLaws.{node_ends}
 use Rattle.yaml_read.proofs.reading.Shown.{Shows}
-use Rattle.yaml_read.proofs.reading.TreeLaws.{AreTied, reader_tied}
-use Rattle.yaml_read.proofs.reading.TreeWalks.{Lands, lands, refuses}
+use Rattle.yaml_read.proofs.reading.TreeLaws.{AreTied, reader_tied, Lands, lands, refuses}
 
 shift : (f : Events) (p : ℕ) (es : List PlainDocEvent) → Shows (λ q. f (suc q)) p es → Shows f (suc p) es
 shift f p [] s = tt
@@ -70,6 +69,9 @@ reach_small false = omega arith
 
 module _ (table : List PlainShape) (s : PlainShape) (small : reach table s ≤ 4096) (document : PlainDocument)
     (es : List (DocEvent × Position)) (ends : List ℕ) where
+  same_size : marked_events_of es ≡ document.events → length es ≡ length document.events
+  same_size seen = sym (length-map es (λ e. (doc_event_of e.0, e.1))) ∙ ap length seen
+
   -- what the walk over a document's events gives is that reading, of a node, and of the document
   pub seen_at : (way : Way) (nest : ℕ) (taken : Option TakenBy) (at : Spot) (r : Reading PlainData)
       → marked_events_of es ≡ document.events → ends ≡ ends_of (map (λ e. e.0) document.events)
@@ -77,10 +79,8 @@ module _ (table : List PlainShape) (s : PlainShape) (small : reach table s ≤ 4
       → node_at (walk_source table es ends) fuel way s nest taken at ≡ r)
       → node_at (whole_source table document) (nesting_depth * (at.left + nest + 1)) way s nest taken at ≡ r
   seen_at way nest taken at r seen numbers gives =
-      let size : length es ≡ length document.events = sym (length-map es (λ e. (doc_event_of e.0, e.1)))
-      ∙ ap length seen in
       let same = gives (nesting_depth * (at.left + nest + 1)) (omega (arith, small, reach_small (is_some taken))) in
-      rw (seen, size, numbers) at same
+      rw (seen, same_size seen, numbers) at same
 
   pub whole_seen : (limits : PlainLimits) (nest follows : ℕ) (r : Reading PlainData) → nest ≡ limits.nesting
       → follows ≡ limits.follows
@@ -89,10 +89,8 @@ module _ (table : List PlainShape) (s : PlainShape) (small : reach table s ≤ 4
       → node_at (walk_source table es ends) fuel root_way s nest None
       (record { place = 0; left = follows * length es }) ≡ r) → whole_reading limits table document s ≡ r
   whole_seen limits nest follows r n f seen numbers gives =
-      let size : length es ≡ length document.events = sym (length-map es (λ e. (doc_event_of e.0, e.1)))
-      ∙ ap length seen in
       let same = seen_at root_way nest None (record { place = 0; left = follows * length es }) r seen numbers gives in
-      rw (size, n, f) at same
+      rw (same_size seen, n, f) at same
 
 pub same_ok : {E A : Type 0} (x y : A) → ◌≡◌ {A = Result A E} (Ok x) (Ok y) → x ≡ y
 same_ok x y h = cc
@@ -154,22 +152,19 @@ leaves limits document old new n place steps fresh size at opened counted under 
   closed = λ h a. absurd cc;
 }
 
-node_is_fault : (fault : NodeFault) (place : Option Place) → IsNodeFault (node_cause fault place)
-node_is_fault (invalid_type found expected) place = tt
-node_is_fault _ place = tt
-
-node_is_reading : (fault : NodeFault) (place : Option Place) → IsReadingFault (node_cause fault place)
-node_is_reading (invalid_type found expected) place = tt
-node_is_reading _ place = tt
+node_is : (fault : NodeFault) (place : Option Place) → IsNodeFault (node_cause fault place)
+    × IsReadingFault (node_cause fault place)
+node_is (invalid_type found expected) place = (tt, tt)
+node_is _ place = (tt, tt)
 
 -- each is one of reading, and of a node unless the events ended
 pub fault_is_reading : (fault : ReadFault) → IsReadingFault (fault_cause fault)
-fault_is_reading (at_node fault place) = node_is_reading fault place
+fault_is_reading (at_node fault place) = (node_is fault place).1
 fault_is_reading _ = tt
 
 pub fault_of_node : (fault : ReadFault) → fault ≢ end_of_stream → IsNodeFault (fault_cause fault)
 fault_of_node end_of_stream other = absurd (other refl)
-fault_of_node (at_node fault place) other = node_is_fault fault place
+fault_of_node (at_node fault place) other = (node_is fault place).0
 fault_of_node _ other = tt
 
 -- a refusal that is told as no want of memory is none, and its cause is one of reading
