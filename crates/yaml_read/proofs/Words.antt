@@ -77,7 +77,7 @@ pub use Rattle.yaml_read.specs.Handing.{as_tagged, as_variant, depth, early, enu
 pub use Rattle.yaml_read.specs.Handing.{is_filled_scalar, most_optionals, nesting_depth, parts_depth, reach, refusal}
 pub use Rattle.yaml_read.specs.Handing.{tag_depth, untaken_reach, variant_by}
 pub use Rattle.yaml_read.specs.Kinds.{is_option}
-pub use Rattle.yaml_read.specs.Meaning.{MeanEach, MeanFields, MeanPairs, MeanRow, Means, MeansAs, MeansList, MeansPairs}
+pub use Rattle.yaml_read.specs.Meaning.{MeanEach, MeanFields, MeanPairs, MeanRow, Means, MeansAs}
 pub use Rattle.yaml_read.specs.Meaning.{means_any_list, means_any_mapping, means_bare, means_element, means_field}
 pub use Rattle.yaml_read.specs.Meaning.{means_fields, means_ignored, means_list, means_map, means_mapping, means_more}
 pub use Rattle.yaml_read.specs.Meaning.{means_newtype, means_no_elements, means_no_fields, means_no_pairs, means_node}
@@ -93,7 +93,7 @@ pub use Rattle.yaml_read.specs.Reads.{DocumentGives, GoesOn, IsRefusal, IsTreeOf
 pub use Rattle.yaml_read.specs.Rows.{Row, row_data, row_end, row_of, row_step}
 pub use Rattle.yaml_read.specs.TreeReader.{Answer, PlainLimits, Spot, TreeReader, after, answer_of, answer_within}
 pub use Rattle.yaml_read.specs.TreeReader.{any_key_of, behind, default_limits, each_node, each_pair, field_key, item_of}
-pub use Rattle.yaml_read.specs.TreeReader.{field_value, handed_by, key_of, mapping_of, mark_or_first, marks_of, node_by}
+pub use Rattle.yaml_read.specs.TreeReader.{field_value, handed_by, key_of, mapping_of, mark_or_first, marks_of}
 pub use Rattle.yaml_read.specs.TreeReader.{row_part, sequence_of, target_of, value_of, value_told, whole_fuel}
 pub use Rattle.yaml_read.specs.TreeReader.{whole_tree}
 unfoldable pub use Rattle.yaml_read.specs.TreeReader.{read_tree}

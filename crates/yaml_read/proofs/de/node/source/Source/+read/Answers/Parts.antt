@@ -6,7 +6,7 @@ use Rattle.yaml_read.proofs.Words.{value_under, place, placed, places, Spot, aft
 use Rattle.yaml_read.proofs.Words.{Question, lift, question_of, scalar_answer}
 use Rattle.yaml_read.proofs.reading.Exits.{gives_with_end, same_spot, step_late}
 use Rattle.yaml_read.proofs.reading.LeafExits.{leaf_alias, leaf_scalar}
-use Rattle.yaml_read.proofs.reading.PlaceLaws.{placed_memory, place_end, node_read, node_refused_here, node_unplaced}
+use Rattle.yaml_read.proofs.reading.PlaceLaws.{placed_memory, place_end, node_read, node_unplaced}
 use Rattle.yaml_read.proofs.de.node.source.Source.+read.Goals as goal
 
 pub read_part-returns-in-Ok-clause-gives : goal.read_part-returns-in-Ok-clause-gives
