@@ -11,17 +11,13 @@ pub mod Intakes
 pub mod LoadingEnds
 pub mod LoadingLaws
 pub mod LoadingTurns
-pub mod NodeSizes
-pub mod NumberedNodes
 pub mod OpenEndsLaws
 pub mod PlainWalks
 pub mod SettledEnds
 pub mod SettledLaws
 pub mod SortedAnchors
 pub mod StreamEndings
-pub mod StreamLaws
 pub mod StreamTrees
-pub mod Targets
 pub mod ToldNodes
 pub mod Words
 pub mod WrongPlaces
