@@ -15,7 +15,6 @@ pub mod OpenEndsLaws
 pub mod PlainWalks
 pub mod SettledEnds
 pub mod SettledLaws
-pub mod SortedAnchors
 pub mod StreamEndings
 pub mod StreamTrees
 pub mod ToldNodes

@@ -1,19 +1,18 @@
 -- What the events of a tree become: those of the resolved tree, and each target in it is a node of it.
-use Rattle.std.specs.Prelude.{◌≡◌, ◌+◌, ◌∷◌, ◌++◌, ◌==◌, ◌&&◌}
+use Rattle.std.specs.Prelude.{◌≡◌, ◌+◌, ◌∷◌, ◌++◌, ◌==◌, ◌&&◌, ◌⊎◌}
 use Rattle.yaml_load.proofs.Words.{ℕ, zero, suc, List, [], map, length, refl, sym, ◌∙◌, ap, subst, Bool, true, false}
-use Rattle.yaml_load.proofs.Words.{cond, nat_lt, bytes_eq, inl, inr, Option, Some, None, option_map, slice_get, eq-eqb}
-use Rattle.yaml_load.proofs.Words.{add-one, append-nil, map-append, PlainEvent, Position, sequence_start, sequence_end}
-use Rattle.yaml_load.proofs.Words.{mapping_start, mapping_end, Node, alias_node, scalar_node, sequence_node}
-use Rattle.yaml_load.proofs.Words.{mapping_node, Nodes, no_nodes, node, NodePairs, no_pairs, pair, node_events}
-use Rattle.yaml_load.proofs.Words.{nodes_events, pairs_events, size_of, anchor_at, anchors_of, anchors_of_nodes}
-use Rattle.yaml_load.proofs.Words.{anchors_of_pairs, number_below, greatest_below, target, becomes, DocNode, node_of}
-use Rattle.yaml_load.proofs.Words.{with_number, reference, word, list, mapping, DocNodes, DocPairs, events_of}
-use Rattle.yaml_load.proofs.Words.{events_of_nodes, events_of_pairs, numbered, numbered_nodes, numbered_pairs, Find}
-use Rattle.yaml_load.proofs.Words.{PlainDocEvent, alias, alias_to, node_then_nodes, pair_then_pairs, resolved_from}
-use Rattle.yaml_load.proofs.Words.{resolved_nodes, resolved_pairs, without_anchor}
+use Rattle.yaml_load.proofs.Words.{cond, arith, cases_lt, greater, max, nat_lt, bytes_eq, inl, inr, Option, Some, None}
+use Rattle.yaml_load.proofs.Words.{option_map, slice_get, eq-eqb, add-one, append-nil, map-append, PlainEvent, Position}
+use Rattle.yaml_load.proofs.Words.{sequence_start, sequence_end, mapping_start, mapping_end, Node, alias_node}
+use Rattle.yaml_load.proofs.Words.{scalar_node, sequence_node, mapping_node, Nodes, no_nodes, node, NodePairs, no_pairs}
+use Rattle.yaml_load.proofs.Words.{pair, node_events, nodes_events, pairs_events, size_of, anchor_at, anchors_of}
+use Rattle.yaml_load.proofs.Words.{anchors_of_nodes, anchors_of_pairs, number_below, greatest_below, target, becomes}
+use Rattle.yaml_load.proofs.Words.{DocNode, node_of, with_number, reference, word, list, mapping, DocNodes, DocPairs}
+use Rattle.yaml_load.proofs.Words.{events_of, events_of_nodes, events_of_pairs, numbered, numbered_nodes}
+use Rattle.yaml_load.proofs.Words.{numbered_pairs, Find, PlainDocEvent, alias, alias_to, node_then_nodes}
+use Rattle.yaml_load.proofs.Words.{pair_then_pairs, resolved_from, resolved_nodes, resolved_pairs, without_anchor}
 use Rattle.yaml_load.proofs.PlainWalks.{Missing, after_node, after_nodes, after_pairs, each_at, each_at-append, made}
 use Rattle.yaml_load.proofs.PlainWalks.{made_at, made_long, missing_behind, missing_in_front, name_at}
-use Rattle.yaml_load.proofs.SortedAnchors.{either_some}
 
 -- a node has the number
 abbrev HasNumber : List (ℕ × DocNode) → ℕ → Type 0
@@ -205,6 +204,16 @@ module _ (find : Find) where
         rw (after_node (node_events v (pairs_events ps [])) k, after_node (pairs_events ps []) v)
         (told_pairs _ _ _ i (node_events k []) (node_events v []) _ _ _ _ (told_node k i)
         (told_node v (i + size_of k)) (told_each ps (i + size_of k + size_of v)))
+
+either_some : (o p : Option ℕ) (n : ℕ) → greater o p ≡ Some n → (o ≡ Some n) ⊎ (p ≡ Some n)
+either_some None p n h = inr h
+either_some (Some m) None n h = inl h
+either_some (Some m) (Some k) n h =
+    let e : max m k ≡ n = cc in
+    elim (cases_lt m k) [
+      | inl below ↦ let f : k ≡ n = omega arith in inr (ap Some f)
+      | inr above ↦ let f : m ≡ n = omega arith in inl (ap Some f)
+    ]
 
 number_chosen : (b : Bool) (n j : ℕ) → cond b (Some n) None ≡ Some j → n ≡ j
 number_chosen true n j h = cc
