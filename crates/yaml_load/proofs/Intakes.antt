@@ -9,9 +9,8 @@ use Rattle.yaml_load.proofs.Words.{Input, documents_of, last_mark, events_in, Pl
 use Rattle.yaml_load.proofs.Words.{is_open, state_of, Phase, Draft, IsBetween, HasTaken, IsOnWay, IsReady, Takes}
 use Rattle.yaml_load.proofs.Words.{run_append}
 use Rattle.std.specs.Bool.{beq}
-use Rattle.yaml_load.proofs.LoadingEnds.{flags_differ}
 use Rattle.yaml_load.proofs.WrongPlaces.{right_end}
-use Rattle.yaml_load.proofs.LoadingLaws.{ready}
+use Rattle.yaml_load.proofs.LoadingLaws.{flags_differ, ready}
 use Rattle.yaml_load.proofs.LoadingTurns.{inside_phase, open_faulted, turns}
 use Rattle.yaml_load.proofs.SettledLaws.{get_behind}
 use Rattle.yaml_load.proofs.StreamEndings.{all_endings}

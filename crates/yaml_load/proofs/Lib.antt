@@ -8,7 +8,6 @@ pub mod FilledEnds
 pub mod FinishLaws
 pub mod Gatherings
 pub mod Intakes
-pub mod LoadingEnds
 pub mod LoadingLaws
 pub mod LoadingTurns
 pub mod OpenEndsLaws

@@ -1,11 +1,12 @@
 -- The numbers of open collections are filled in as their events go by.
 use Rattle.std.specs.Prelude.{◌≡◌, ◌+◌, ◌<◌, ◌≤◌, ◌∷◌, ◌++◌}
 use Rattle.yaml_load.proofs.Words.{ℕ, zero, suc, List, [], map, length, set, reverse, min, true, false, refl, sym, ◌∙◌}
-use Rattle.yaml_load.proofs.Words.{ap, subst, arith, append-nil, append_assoc, length-set, get_or, set-append_seam}
-use Rattle.yaml_load.proofs.Words.{reverse-append, All-tail, end_place, ends_from, ends_of, is_closing, is_opening}
+use Rattle.yaml_load.proofs.Words.{ap, arith, append-nil, append_assoc, length-set, get_or, set-append_seam}
+use Rattle.yaml_load.proofs.Words.{reverse-append, Some, end_place, ends_from, ends_of, is_closing, is_opening}
 use Rattle.yaml_load.proofs.Words.{PlainDocEvent, EndsView, HasNumbers, bounded_from, filled}
-use Rattle.yaml_load.proofs.FilledEnds.{All-reverse, AreIn, in_set, filled_push, filled_passes, filled_deeper}
-use Rattle.yaml_load.proofs.FilledEnds.{filled_outer, one_longer, filled_at_end}
+use Rattle.std.proofs.lemmas.List.Elements.{All-pop, All-rest}
+use Rattle.std.proofs.lemmas.List.Sorted.{All-permutation, IsPermutation-reverse}
+use Rattle.yaml_load.proofs.FilledEnds.{AreIn, in_set, filled_push, filled_next, opens_alone, one_longer, filled_at_end}
 
 module _ {front : List ℕ} {seen : List PlainDocEvent} {old : EndsView} (h : HasNumbers front seen old)
     (e : PlainDocEvent) where
@@ -15,6 +16,9 @@ module _ {front : List ℕ} {seen : List PlainDocEvent} {old : EndsView} (h : Ha
   longer : (numbers : List ℕ) (n : ℕ) → length numbers ≡ length old.numbers
       → length (numbers ++ n ∷ []) ≡ length front + length (seen ++ e ∷ [])
   longer numbers n l = omega (arith, l, h.long, one_longer numbers n, one_longer seen e)
+
+  in_reverse : AreIn old.numbers old.unended → AreIn old.numbers (reverse old.unended)
+  in_reverse = All-permutation (λ (s : ℕ). s < length old.numbers) _ _ (IsPermutation-reverse old.unended)
 
   -- the numbers behind one event more
   abbrev Counted : List ℕ → List ℕ → Type 0
@@ -33,24 +37,25 @@ module _ {front : List ℕ} {seen : List PlainDocEvent} {old : EndsView} (h : Ha
       → AreIn old.numbers old.unended
       → new.numbers ≡ old.numbers ++ place ∷ [] → new.unended ≡ old.unended → HasNumbers front (seen ++ e ∷ []) new
   passes new place p o c within n u =
-      let inside = All-reverse (λ (s : ℕ). s < length old.numbers) old.unended within in
+      let inside = in_reverse within in
       made new (old.numbers ++ size ∷ []) old.unended (rw p at n) u (longer old.numbers size refl)
-      (λ later. rw (filled_push, append_assoc, ← filled_passes e later (reverse old.unended) 0 size old.numbers o c)
-      (rw o at (h.all (e ∷ later))))
+      (λ later.
+      let next = rw (o, c) at (filled_next e later (reverse old.unended) 0 size old.numbers (rw c)) in
+      rw (filled_push, append_assoc, ← next) (rw o at (h.all (e ∷ later))))
 
   pub begins : (new : EndsView) (place : ℕ) → place ≡ size → is_opening e ≡ true → AreIn old.numbers old.unended
       → new.numbers ≡ old.numbers ++ place ∷ [] → new.unended ≡ old.unended ++ length old.numbers ∷ []
       → HasNumbers front (seen ++ e ∷ []) new
   begins new place p o within n u =
-      let inside = All-reverse (λ (s : ℕ). s < length old.numbers) old.unended within in
+      let inside = in_reverse within in
       made new (old.numbers ++ size ∷ []) (old.unended ++ length old.numbers ∷ []) (rw p at n) u
       (longer old.numbers size refl)
       (λ later.
       let v = end_place 0 (size + 1) later in
       let all : filled (reverse old.unended) 1 (size + 1) later (set (old.numbers ++ size ∷ []) (length old.numbers) v)
       ++ ends_from (size + 1) later ≡ front ++ ends_of (seen ++ e ∷ later) =
-      let deeper = filled_deeper e later (reverse old.unended) 0 size old.numbers o in
-      rw (set-append_seam old.numbers size [] v, filled_push, append_assoc, ← deeper) (rw o at (h.all (e ∷ later))) in
+      let next = rw o at (filled_next e later (reverse old.unended) 0 size old.numbers (rw (opens_alone e o))) in
+      rw (set-append_seam old.numbers size [] v, filled_push, append_assoc, ← next) (rw o at (h.all (e ∷ later))) in
       rw reverse-append all)
 
   pub ends : (new : EndsView) (place start : ℕ) (rest : List ℕ) → place ≡ size → is_opening e ≡ false
@@ -60,15 +65,15 @@ module _ {front : List ℕ} {seen : List PlainDocEvent} {old : EndsView} (h : Ha
   ends new place start rest p o c within was n u =
       let numbers = set old.numbers start size in
       let turned : reverse old.unended ≡ start ∷ reverse rest = ap reverse was ∙ reverse-append rest (start ∷ []) in
-      let inside = All-tail (λ (s : ℕ). s < length old.numbers) start (reverse rest)
-      (rw turned at (All-reverse (λ (s : ℕ). s < length old.numbers) old.unended within)) in
+      let inside = All-rest (λ (s : ℕ). s < length old.numbers) start (reverse rest) _ turned (in_reverse within) in
       let still = in_set old.numbers (reverse rest) start size inside in
       made new (numbers ++ size ∷ []) rest (rw p at n) u (longer numbers size (length-set old.numbers start size))
       (λ later.
       let all : filled (reverse rest) 1 size (e ∷ later) (set old.numbers start (end_place 0 size (e ∷ later)))
       ++ size ∷ ends_from (size + 1) later ≡ front ++ ends_of (seen ++ e ∷ later) =
       rw (turned, o) at (h.all (e ∷ later)) in
-      rw (filled_push, append_assoc, ← filled_outer e later (reverse rest) 0 size numbers o c) (rw c at all))
+      let next = rw (o, c) at (filled_next e later (reverse rest) 1 size numbers (rw c)) in
+      rw (filled_push, append_assoc, ← next) (rw c at all))
 
   -- a stray end, where nothing is open
   pub stray_ends : (new : EndsView) (place : ℕ) → place ≡ size → is_opening e ≡ false → old.unended ≡ []
@@ -105,29 +110,10 @@ none_seen front ends_ n u = record {
   all = λ later. rw (u, n);
 }
 
--- the elements of a list with one behind it
-get_or-seam : (xs : List ℕ) (x : ℕ) → get_or (xs ++ x ∷ []) (length xs) x ≡ x
-get_or-seam [] x = refl
-get_or-seam (y ∷ xs) x = get_or-seam xs x
-
-get_or-front : (xs : List ℕ) (x k d : ℕ) → k < length xs → get_or (xs ++ x ∷ []) k d ≡ get_or xs k d
-get_or-front [] x k d l = absurd (omega arith)
-get_or-front (y ∷ xs) x zero d l = refl
-get_or-front (y ∷ xs) x (suc k) d l = get_or-front xs x k d (omega arith)
-
 -- the last start, and those in front of it, lie within the numbers
 pub last_in : (numbers rest unended : List ℕ) (start : ℕ) → unended ≡ rest ++ start ∷ [] → AreIn numbers unended
-    → start < length numbers
-last_in numbers rest unended start is h =
-    let here = subst (AreIn numbers) is h (length rest) start (omega (arith, one_longer rest start)) in
-    subst (λ n. n < length numbers) (get_or-seam rest start) here
-
-pub in_front : (numbers set_ rest unended : List ℕ) (start : ℕ) → unended ≡ rest ++ start ∷ []
-    → length set_ ≡ length numbers → AreIn numbers unended → AreIn set_ rest
-in_front numbers set_ rest unended start is same h k d l =
-    let here = subst (AreIn numbers) is h k d (omega (arith, one_longer rest start)) in
-    let below = subst (λ n. n < length numbers) (get_or-front rest start k d l) here in
-    omega (arith, same)
+    → AreIn numbers rest × (start < length numbers)
+last_in numbers rest unended start is h = All-pop (λ (s : ℕ). s < length numbers) unended rest (Some start) is h
 
 -- a number is bounded, and those behind it
 pub bounded_more : (bound at : ℕ) (numbers : List ℕ) (n d : ℕ) → at < length numbers → n
