@@ -4,7 +4,6 @@ pub mod AnchorSearch
 pub mod CutLaws
 pub mod DocumentLaws
 pub mod DraftLaws
-pub mod FilledEnds
 pub mod FinishLaws
 pub mod Gatherings
 pub mod Intakes

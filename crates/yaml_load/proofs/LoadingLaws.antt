@@ -1,5 +1,6 @@
 -- Each event that may stand where it stands leads the draft on, and where no event is left its documents are all.
 use Rattle.std.specs.Prelude.{◌≡◌, ◌+◌, ◌∷◌, ◌++◌}
+use Rattle.std.specs.Bool.{beq}
 use Rattle.yaml_load.proofs.Words.{ℕ, length, List, [], refl, sym, ◌∙◌, ap, subst, arith, append_assoc, append-nil}
 use Rattle.yaml_load.proofs.Words.{Option, Some, None, true, false, Position, PlainEvent, stream_start, document_start}
 use Rattle.yaml_load.proofs.Words.{document_end, PlainFault, anchor_at, doc_event_of, Input, anchor_of, anchors_in}
@@ -11,7 +12,6 @@ use Rattle.yaml_load.proofs.Words.{option_to_list, after_starts, documents_of, l
 use Rattle.yaml_load.proofs.Words.{PlainDocument, IsOnWay}
 use Rattle.yaml_load.proofs.SettledLaws.{ToNodes, nodes_left}
 use Rattle.yaml_load.proofs.DraftLaws.{aliases_in_range, as_many, begins_within, draft_more, drafts_long, whole_long}
-use Rattle.std.specs.Bool.{beq}
 
 abbrev NodeFacts : PlainEvent → Type 0
 NodeFacts e = (open_before e ≡ true) × (open_behind e ≡ true) × (is_document_end e ≡ false)

@@ -1,16 +1,17 @@
 -- What the events of a tree become: those of the resolved tree, and each target in it is a node of it.
-use Rattle.std.specs.Prelude.{◌≡◌, ◌+◌, ◌∷◌, ◌++◌, ◌==◌, ◌&&◌, ◌⊎◌}
+use Rattle.std.specs.Prelude.{◌≡◌, ◌+◌, ◌∷◌, ◌++◌, ◌==◌, ◌&&◌}
 use Rattle.yaml_load.proofs.Words.{ℕ, zero, suc, List, [], map, length, refl, sym, ◌∙◌, ap, subst, Bool, true, false}
-use Rattle.yaml_load.proofs.Words.{cond, arith, cases_lt, greater, max, nat_lt, bytes_eq, inl, inr, Option, Some, None}
-use Rattle.yaml_load.proofs.Words.{option_map, slice_get, eq-eqb, add-one, append-nil, map-append, PlainEvent, Position}
-use Rattle.yaml_load.proofs.Words.{sequence_start, sequence_end, mapping_start, mapping_end, Node, alias_node}
-use Rattle.yaml_load.proofs.Words.{scalar_node, sequence_node, mapping_node, Nodes, no_nodes, node, NodePairs, no_pairs}
-use Rattle.yaml_load.proofs.Words.{pair, node_events, nodes_events, pairs_events, size_of, anchor_at, anchors_of}
-use Rattle.yaml_load.proofs.Words.{anchors_of_nodes, anchors_of_pairs, number_below, greatest_below, target, becomes}
-use Rattle.yaml_load.proofs.Words.{DocNode, node_of, with_number, reference, word, list, mapping, DocNodes, DocPairs}
-use Rattle.yaml_load.proofs.Words.{events_of, events_of_nodes, events_of_pairs, numbered, numbered_nodes}
-use Rattle.yaml_load.proofs.Words.{numbered_pairs, Find, PlainDocEvent, alias, alias_to, node_then_nodes}
-use Rattle.yaml_load.proofs.Words.{pair_then_pairs, resolved_from, resolved_nodes, resolved_pairs, without_anchor}
+use Rattle.yaml_load.proofs.Words.{IfSome, cond, arith, cases_lt, greater, max, nat_lt, bytes_eq, inl, inr, Option}
+use Rattle.yaml_load.proofs.Words.{Some, None, option_map, slice_get, eq-eqb, add-one, append-nil, map-append}
+use Rattle.yaml_load.proofs.Words.{PlainEvent, Position, sequence_start, sequence_end, mapping_start, mapping_end, Node}
+use Rattle.yaml_load.proofs.Words.{alias_node, scalar_node, sequence_node, mapping_node, Nodes, no_nodes, node}
+use Rattle.yaml_load.proofs.Words.{NodePairs, no_pairs, pair, node_events, nodes_events, pairs_events, size_of}
+use Rattle.yaml_load.proofs.Words.{anchor_at, anchors_of, anchors_of_nodes, anchors_of_pairs, number_below}
+use Rattle.yaml_load.proofs.Words.{greatest_below, target, becomes, DocNode, node_of, with_number, reference, word}
+use Rattle.yaml_load.proofs.Words.{list, mapping, DocNodes, DocPairs, events_of, events_of_nodes, events_of_pairs}
+use Rattle.yaml_load.proofs.Words.{numbered, numbered_nodes, numbered_pairs, Find, PlainDocEvent, alias, alias_to}
+use Rattle.yaml_load.proofs.Words.{node_then_nodes, pair_then_pairs, resolved_from, resolved_nodes, resolved_pairs}
+use Rattle.yaml_load.proofs.Words.{without_anchor}
 use Rattle.yaml_load.proofs.PlainWalks.{Missing, after_node, after_nodes, after_pairs, each_at, each_at-append, made}
 use Rattle.yaml_load.proofs.PlainWalks.{made_at, made_long, missing_behind, missing_in_front, name_at}
 
@@ -205,29 +206,25 @@ module _ (find : Find) where
         (told_pairs _ _ _ i (node_events k []) (node_events v []) _ _ _ _ (told_node k i)
         (told_node v (i + size_of k)) (told_each ps (i + size_of k + size_of v)))
 
-either_some : (o p : Option ℕ) (n : ℕ) → greater o p ≡ Some n → (o ≡ Some n) ⊎ (p ≡ Some n)
-either_some None p n h = inr h
-either_some (Some m) None n h = inl h
-either_some (Some m) (Some k) n h =
-    let e : max m k ≡ n = cc in
-    elim (cases_lt m k) [
-      | inl below ↦ let f : k ≡ n = omega arith in inr (ap Some f)
-      | inr above ↦ let f : m ≡ n = omega arith in inl (ap Some f)
-    ]
+-- what holds of numbers holds of the greatest of several
+if_greater : (P : ℕ → Type 0) (o p : Option ℕ) → IfSome o P → IfSome p P → IfSome (greater o p) P
+if_greater P None p h k = k
+if_greater P (Some m) None h k = h
+if_greater P (Some m) (Some n) h k = elim (cases_lt m n) [
+  | inl below ↦ let e : n ≡ max m n = omega arith in subst P e k
+  | inr above ↦ let e : m ≡ max m n = omega arith in subst P e h
+]
 
-number_chosen : (b : Bool) (n j : ℕ) → cond b (Some n) None ≡ Some j → n ≡ j
-number_chosen true n j h = cc
-number_chosen false n j h = absurd cc
+if_chosen : (P : ℕ → Type 0) (b : Bool) (n : ℕ) → P n → IfSome (cond b (Some n) None) P
+if_chosen P true n h = h
+if_chosen P false n h = tt
 
--- the greatest number of several is one of them
-found_number : (P : ℕ → Type 0) (bound : ℕ) (anchor : List ℕ) (anchors : List (List ℕ × ℕ)) (j : ℕ)
-    → Each (λ (a : List ℕ × ℕ). P a.1) anchors → greatest_below bound anchor anchors ≡ Some j → P j
-found_number P bound anchor [] j h is = absurd cc
-found_number P bound anchor (x ∷ xs) j h is =
-    elim (either_some (number_below bound anchor x) (greatest_below bound anchor xs) j is) [
-      | inl here ↦ subst P (number_chosen (bytes_eq x.0 anchor && nat_lt x.1 bound) x.1 j here) h.0
-      | inr later ↦ found_number P bound anchor xs j h.1 later
-    ]
+if_greatest : (P : ℕ → Type 0) (bound : ℕ) (anchor : List ℕ) (anchors : List (List ℕ × ℕ))
+    → Each (λ (a : List ℕ × ℕ). P a.1) anchors → IfSome (greatest_below bound anchor anchors) P
+if_greatest P bound anchor [] h = tt
+if_greatest P bound anchor (x ∷ xs) h =
+    if_greater P (number_below bound anchor x) (greatest_below bound anchor xs)
+    (if_chosen P (bytes_eq x.0 anchor && nat_lt x.1 bound) x.1 h.0) (if_greatest P bound anchor xs h.1)
 
 -- the number is that of a node of the tree
 abbrev pub IsNode : DocNode → ℕ → Type 0
@@ -244,7 +241,8 @@ pub targets_known : (root : Node) (t : DocNode)
 targets_known root t told =
     each_more _ _ (events_of t)
     (refers_more (IsFound (target root)) (IsNode t)
-    (λ j f. found_number (IsNode t) f.1 f.0 (anchors_of root 0) j told.named f.2)) told.refers
+    (λ j f. subst (λ o. IfSome o (IsNode t)) f.2 (if_greatest (IsNode t) f.1 f.0 (anchors_of root 0) told.named)))
+    told.refers
 
 -- an event of a list at a place
 pub event_at : (P : PlainDocEvent → Type 0) (events : List (PlainDocEvent × Position)) (p : ℕ) (e : PlainDocEvent)

@@ -2,8 +2,7 @@
 use Rattle.std.specs.Prelude.{◌∷◌}
 use Rattle.yaml_load.proofs.Words.{refl, ap, arith, length, set, reverse, [], ◌∙◌, length-append, length-set, rules}
 use Rattle.yaml_load.proofs.Words.{EndsView, filled}
-use Rattle.yaml_load.proofs.FilledEnds.{in_set}
-use Rattle.yaml_load.proofs.OpenEndsLaws.{finish_more, finished, last_in}
+use Rattle.yaml_load.proofs.OpenEndsLaws.{finish_more, finished, in_set, last_in}
 use Rattle.yaml_load.proofs.loader.ends.Ends.finish.Goals as goal
 
 pub unended-init : goal.unended-init
