@@ -16,9 +16,7 @@ use Rattle.yaml_read.proofs.Words.{handed, tagged, Means, Slots, as_is, early, f
 use Rattle.yaml_read.proofs.Words.{item, refl, true, max, set, suc, sym, ◌∙◌, ℕ}
 use Rattle.yaml_tree.specs.Tree as tree
 use Rattle.yaml_read.proofs.FieldLaws.{same_place, same_number, Fit, none_fit, set_fit, struct_has_shape}
-use Rattle.yaml_scalar.proofs.OfShape.{is_of, of_shape, content_has}
-use Rattle.yaml_scalar.proofs.ScalarShapeLaws.{scalar-has, void-has}
-use Rattle.yaml_scalar.proofs.VariantLaws.{variant_has}
+use Rattle.yaml_scalar.proofs.OfShape.{is_of, of_shape, content_has, variant_has, scalar-has, void-has}
 use Rattle.yaml_read.proofs.reading.Handings.{From, from_handing}
 
 -- the same data, with the same counts
