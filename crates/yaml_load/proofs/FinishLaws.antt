@@ -54,8 +54,14 @@ between_more events more numbers ends old documents new cut long cuts shown whol
           (All-push (λ (c : Cut). HasEnds (events ++ more) (numbers ++ ends) c.from c.to) old cut
           (λ k d l. has_ends_more events more numbers ends _ _ (cuts k d l))
           (has_ends_behind events more numbers ends cut.from cut.to long are begin to));
-      shown = rw (whole, pushed, map-append, documents_in_front events more numbers old cuts, shown,
-          range_behind events more cut.from cut.to begin to);
+      shown = rw (
+        whole,
+        pushed,
+        map-append,
+        documents_in_front events more numbers old cuts,
+        shown,
+        range_behind events more cut.from cut.to begin to,
+      );
     }
 
 module _ {events : Events} {numbers : List ℕ} {seen : Input} {old : Draft} (h : IsDraft events numbers seen old) where
