@@ -4,24 +4,16 @@
 #
 #     bash bench/integers.sh [TYPE..]
 #
-# TYPE is u64, i64, i32 or i128, by default each. The script makes a program of its own over copies of the crates, and
-# `rt` proves and builds it, which takes some minutes, and much longer where the crates are not proved yet.
+# TYPE is u64, i64, i32 or i128, by default each. The script makes a program of its own, which takes some minutes, and
+# much longer where the crates are not proved yet.
 set -eu
 export LC_ALL=C
 root=$(cd "$(dirname "$0")/.." && pwd)
 room=$(mktemp -d)
 trap 'rm -rf "$room"' EXIT
 
-crates=$(sed -n 's/^yaml_scalar: //p' "$root/crates.txt")
-mkdir -p "$room/crates/integer_count/src"
-for crate in $crates yaml_scalar; do
-    # a crate of the toolchain has no folder here
-    [ -d "$root/crates/$crate" ] || continue
-    cp -al "$root/crates/$crate" "$room/crates/" 2> /dev/null || cp -a "$root/crates/$crate" "$room/crates/"
-    grep "^$crate:" "$root/crates.txt" >> "$room/crates.txt"
-done
-echo "integer_count: yaml_scalar" $crates >> "$room/crates.txt"
-cat > "$room/crates/integer_count/src/main.rt" <<'END'
+. "$root/bench/program.sh"
+over yaml_scalar integer_count <<'END'
 //! Reads 10,000 scalars of six digits twice, as integers of the type that the argument names.
 #![tactic(auto)]
 
@@ -87,8 +79,8 @@ fn main(rt: HostRuntime) -> io::Result<()> {
 }
 END
 
+make_program integer_count u64
 cd "$room/crates/integer_count"
-rt run -- u64 > "$room/log" 2>&1 || { tail -n 3 "$room/log"; exit 1; }
 
 [ $# -gt 0 ] || set -- u64 i64 i32 i128
 for type in "$@"; do

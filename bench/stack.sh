@@ -5,24 +5,16 @@
 #     bash bench/stack.sh [NESTINGS]
 #
 # NESTINGS is by default 128, the most that a reading goes where no limit is named; with 1 the rows are what the program
-# takes by itself. The script makes a program of its own over copies of the crates, and `rt` proves and builds it, which
-# takes some minutes, and much longer where the crates are not proved yet.
+# takes by itself. The script makes a program of its own, which takes some minutes, and much longer where the crates are
+# not proved yet.
 set -eu
 export LC_ALL=C
 root=$(cd "$(dirname "$0")/.." && pwd)
 room=$(mktemp -d)
 trap 'rm -rf "$room"' EXIT
 
-crates=$(sed -n 's/^yaml_documents: //p' "$root/crates.txt")
-mkdir -p "$room/crates/stack_probe/src"
-for crate in $crates yaml_documents; do
-    # a crate of the toolchain has no folder here
-    [ -d "$root/crates/$crate" ] || continue
-    cp -al "$root/crates/$crate" "$room/crates/" 2> /dev/null || cp -a "$root/crates/$crate" "$room/crates/"
-    grep "^$crate:" "$root/crates.txt" >> "$room/crates.txt"
-done
-echo "stack_probe: yaml_documents" $crates >> "$room/crates.txt"
-cat > "$room/crates/stack_probe/src/main.rt" <<'END'
+. "$root/bench/program.sh"
+over yaml_documents stack_probe <<'END'
 //! Reads nested text under a shape that holds itself: the arguments are the shape, what opens and what closes a nesting,
 //! and how many there are.
 #![tactic(auto)]
@@ -139,8 +131,8 @@ fn main(rt: HostRuntime) -> io::Result<()> {
 }
 END
 
+make_program stack_probe sequence '[' ']' 1
 cd "$room/crates/stack_probe"
-rt run -- sequence '[' ']' 1 > "$room/log" 2>&1 || { tail -n 3 "$room/log"; exit 1; }
 
 # Prints the least limit under which the text of so many openings and closings, $2 and $3, is read under the shape $1.
 least() {

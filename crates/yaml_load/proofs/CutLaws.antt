@@ -27,7 +27,7 @@ before_document : (start : Input) (fault : Option PlainFault) → is_ended start
     → IsBeforeFault (document_from fault start).ending
 before_document start fault ended = rw ended (before_ended (unknown_of start) fault)
 
-at_document : (start : Input) (fault : PlainFault) → is_ended start ≡ false
+pub at_document : (start : Input) (fault : PlainFault) → is_ended start ≡ false
     → IsAtFault fault (document_from (Some fault) start).ending
 at_document start fault unended = rw unended (at_unended (unknown_of start) fault)
 

@@ -25,27 +25,21 @@ taken_same find more place (alias a) d waiting h (inl w) = inl w
 taken_same find more place (alias a) d waiting h (inr k) = inr (ap (option_map alias_to) (h a) ∙ k.0, k.1)
 taken_same find more place _ d waiting h t = t
 
-all_taken_same : (find more : Find) (place : ℕ) (seen : Input) (events : Marked) (waiting : Waiting)
-    → ((a : List ℕ) (p : ℕ) → p < place + length seen → more a p ≡ find a p)
-    → AreTaken find place seen events waiting → AreTaken more place seen events waiting
-all_taken_same find more place [] events waiting h t = t
-all_taken_same find more place (e ∷ seen) events waiting h (d, here, later, left, is, rest, es, ws) =
-    let first = taken_same find more place e.0 d here (λ a. h a place (omega arith)) is in
-    let others = all_taken_same find more (place + 1) seen later left (λ a p l. h a p (omega arith)) rest in
-    (d, here, later, left, first, others, es, ws)
-
 -- one event more is taken
-taken_more : (find : Find) (place : ℕ) (seen : Input) (events : Marked) (waiting here : Waiting)
-    (e : PlainEvent × Position) (d : PlainDocEvent) → AreTaken find place seen events waiting
-    → IsTaken find (place + length seen) e.0 d here
-    → AreTaken find place (seen ++ e ∷ []) (events ++ (d, e.1) ∷ []) (waiting ++ here)
-taken_more find place [] events waiting here e d (none, empty) is =
+taken_more : (find more : Find) (place : ℕ) (seen : Input) (events : Marked) (waiting here : Waiting)
+    (e : PlainEvent × Position) (d : PlainDocEvent)
+    → ((a : List ℕ) (p : ℕ) → p < place + length seen → more a p ≡ find a p)
+    → AreTaken find place seen events waiting → IsTaken more (place + length seen) e.0 d here
+    → AreTaken more place (seen ++ e ∷ []) (events ++ (d, e.1) ∷ []) (waiting ++ here)
+taken_more find more place [] events waiting here e d h (none, empty) is =
     let n : place + 0 ≡ place = omega arith in
     (d, here, [], [], rw n at is, (refl, refl), rw none, rw (empty, append-nil))
-taken_more find place (x ∷ seen) events waiting here e d (d', here', later, left, was, rest, es, ws) is =
+taken_more find more place (x ∷ seen) events waiting here e d h (d', here', later, left, was, rest, es, ws) is =
     let n : place + suc (length seen) ≡ place + 1 + length seen = omega arith in
-    let others = taken_more find (place + 1) seen later left here e d rest (rw n at is) in
-    (d', here', later ++ (d, e.1) ∷ [], left ++ here, was, others, rw es, rw (ws, append_assoc))
+    let first = taken_same find more place x.0 d' here' (λ a. h a place (omega arith)) was in
+    let others = taken_more find more (place + 1) seen later left here e d (λ a p l. h a p (omega arith)) rest
+    (rw n at is) in
+    (d', here', later ++ (d, e.1) ∷ [], left ++ here, first, others, rw es, rw (ws, append_assoc))
 
 -- as many events stand for those that were seen
 taken_long : (find : Find) (place : ℕ) (seen : Input) (events : Marked) (waiting : Waiting)
@@ -123,8 +117,8 @@ module _ {events : Events} {numbers : List ℕ} {seen : Input} {old : Draft} (h 
         let more = find_in (anchors_in 0 (seen ++ (e, mark) ∷ [])) in
         let still = taken_same find more (length seen) e _ here (λ a. again a (length seen) (omega arith)) is in
         let taken =
-        taken_more more 0 seen (marked_events_of h.now) old.anchors.aliases.items here (e, mark) (doc_event_of d)
-        (all_taken_same find more 0 seen _ _ (λ a p l. again a p (omega arith)) h.taken) (rw from_none at still) in
+        taken_more find more 0 seen (marked_events_of h.now) old.anchors.aliases.items here (e, mark) (doc_event_of d)
+        (λ a p l. again a p (omega arith)) h.taken (rw from_none at still) in
         record {
           nodes = All-push (λ (x : PlainEvent × Position). IsTrue (is_of_node x.0)) seen (e, mark) h.nodes node;
           long = h.long;

@@ -7,8 +7,10 @@ use Rattle.yaml_load.proofs.Words.{take-append-drop, take-map, Position, PlainFa
 use Rattle.yaml_load.proofs.Words.{marked_events_of, Find, Input, anchors_in, document_of, ending_of, find_in}
 use Rattle.yaml_load.proofs.Words.{known_events, unknown_mark, ends_of, AreCuts, documents_in, ending_in}
 use Rattle.yaml_load.proofs.Words.{plain_doc_events, PlainDocEvent, PlainDocument, DocEvent, Cut, Draft, IsBetween}
-use Rattle.yaml_load.proofs.Words.{IsDraft, drafts_of, settled, bounded_from}
-use Rattle.yaml_load.proofs.Gatherings.{cuts_pushed, documents_pushed, long_pushed, plain_doc_events-marked}
+use Rattle.yaml_load.proofs.Words.{All-push, HasEnds, map-append, length-append, IsDraft, drafts_of, settled}
+use Rattle.yaml_load.proofs.Words.{bounded_from}
+use Rattle.yaml_load.proofs.Gatherings.{documents_in_front, has_ends_behind, has_ends_more, length-ends_of}
+use Rattle.yaml_load.proofs.Gatherings.{plain_doc_events-marked, range_behind}
 use Rattle.yaml_load.proofs.SettledEnds.{ends_of_cut, ends_of_whole}
 use Rattle.yaml_load.proofs.SettledLaws.{IsSettled, settled_whole}
 
@@ -39,18 +41,27 @@ pub between_more : (events more : Events) (numbers ends : List ℕ) (old : List 
     → new.cuts.items ≡ old ++ cut ∷ [] → cut.from ≡ length events → cut.to ≡ length new.events.items
     → IsBetween (documents ++ held (marked_events_of more) (ending_in cut.error) ∷ []) new
 between_more events more numbers ends old documents new cut long cuts shown whole all are unended named aliases pushed
-    begin end = record {
-      long = long_pushed events more new.events.items numbers ends new.ends.numbers whole all long are;
+    begin end =
+    let to = end ∙ ap length whole in
+    let many = length-ends_of ends more are in
+    record {
+      long = rw (whole, all) (omega (arith, long, many, length-append events more, length-append numbers ends));
       unended = unended;
       named = named;
       aliases = aliases;
       cuts =
-          cuts_pushed events more new.events.items numbers ends new.ends.numbers old new.cuts.items cut whole all pushed
-          long are begin
-          end cuts;
-      shown =
-          documents_pushed events more new.events.items numbers old new.cuts.items cut whole pushed begin end cuts
-          ∙ ap (λ ds. ds ++ held (marked_events_of more) (ending_in cut.error) ∷ []) shown;
+          rw (whole, all, pushed)
+          (All-push (λ (c : Cut). HasEnds (events ++ more) (numbers ++ ends) c.from c.to) old cut
+          (λ k d l. has_ends_more events more numbers ends _ _ (cuts k d l))
+          (has_ends_behind events more numbers ends cut.from cut.to long are begin to));
+      shown = rw (
+        whole,
+        pushed,
+        map-append,
+        documents_in_front events more numbers old cuts,
+        shown,
+        range_behind events more cut.from cut.to begin to,
+      );
     }
 
 module _ {events : Events} {numbers : List ℕ} {seen : Input} {old : Draft} (h : IsDraft events numbers seen old) where

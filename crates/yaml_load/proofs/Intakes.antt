@@ -2,16 +2,15 @@
 use Rattle.std.specs.Prelude.{◌≡◌, ◌+◌, ◌-◌, ◌∷◌, ◌++◌}
 use Rattle.std.proofs.lemmas.List.{length-append}
 use Rattle.std.specs.Option.{option_map}
+use Rattle.std.specs.Bool.{beq}
 use Rattle.yaml_load.proofs.Words.{false, ◌∙◌, ℕ, List, [], Option, Some, None, Bool, true, ap, arith, sym, subst, All}
 use Rattle.yaml_load.proofs.Words.{append_assoc, append-nil, is_some, length, map-append, slice_get, Position}
 use Rattle.yaml_load.proofs.Words.{PlainEvent, PlainFault, State, before_stream, next_state, run, Open, IsWellFormed}
 use Rattle.yaml_load.proofs.Words.{Input, documents_of, last_mark, events_in, PlainDocument, IsDocument, Moves, is_done}
 use Rattle.yaml_load.proofs.Words.{is_open, state_of, Phase, Draft, IsBetween, HasTaken, IsOnWay, IsReady, Takes}
 use Rattle.yaml_load.proofs.Words.{run_append}
-use Rattle.std.specs.Bool.{beq}
-use Rattle.yaml_load.proofs.LoadingEnds.{flags_differ}
 use Rattle.yaml_load.proofs.WrongPlaces.{right_end}
-use Rattle.yaml_load.proofs.LoadingLaws.{ready}
+use Rattle.yaml_load.proofs.LoadingLaws.{flags_differ, ready}
 use Rattle.yaml_load.proofs.LoadingTurns.{inside_phase, open_faulted, turns}
 use Rattle.yaml_load.proofs.SettledLaws.{get_behind}
 use Rattle.yaml_load.proofs.StreamEndings.{all_endings}

@@ -1,11 +1,71 @@
 -- The numbers of open collections are filled in as their events go by.
-use Rattle.std.specs.Prelude.{◌≡◌, ◌+◌, ◌<◌, ◌≤◌, ◌∷◌, ◌++◌}
+use Rattle.std.specs.Prelude.{◌≡◌, ◌+◌, ◌<◌, ◌≤◌, ◌∷◌, ◌++◌, ◌==◌, ◌&&◌}
+use Rattle.std.proofs.lemmas.List.Elements.{All-pop, All-rest}
+use Rattle.std.proofs.lemmas.List.Sorted.{All-permutation, IsPermutation-reverse}
 use Rattle.yaml_load.proofs.Words.{ℕ, zero, suc, List, [], map, length, set, reverse, min, true, false, refl, sym, ◌∙◌}
-use Rattle.yaml_load.proofs.Words.{ap, subst, arith, append-nil, append_assoc, length-set, get_or, set-append_seam}
-use Rattle.yaml_load.proofs.Words.{reverse-append, All-tail, end_place, ends_from, ends_of, is_closing, is_opening}
-use Rattle.yaml_load.proofs.Words.{PlainDocEvent, EndsView, HasNumbers, bounded_from, filled}
-use Rattle.yaml_load.proofs.FilledEnds.{All-reverse, AreIn, in_set, filled_push, filled_passes, filled_deeper}
-use Rattle.yaml_load.proofs.FilledEnds.{filled_outer, one_longer, filled_at_end}
+use Rattle.yaml_load.proofs.Words.{ap, arith, append-nil, append_assoc, length-set, get_or, set-append_seam}
+use Rattle.yaml_load.proofs.Words.{reverse-append, Some, end_place, ends_from, ends_of, is_closing, is_opening}
+use Rattle.yaml_load.proofs.Words.{PlainDocEvent, EndsView, HasNumbers, bounded_from, filled, Bool, inner_after}
+use Rattle.yaml_load.proofs.Words.{sequence_ends, mapping_ends, All, length-append, ne_eqb, set-append_left, All-tail}
+use Rattle.yaml_load.proofs.Words.{sequence_begins, mapping_begins}
+
+-- the starts lie within the numbers
+abbrev pub AreIn : List ℕ → List ℕ → Type 0
+AreIn numbers starts = All (λ s. s < length numbers) starts
+
+pub in_set : (numbers starts : List ℕ) (at n : ℕ) → AreIn numbers starts → AreIn (set numbers at n) starts
+in_set numbers starts at n h k d l = let i = h k d l in omega (arith, length-set numbers at n)
+
+-- a number that is put behind stays there
+filled_push : (starts : List ℕ) (inner place : ℕ) (later : List PlainDocEvent) (numbers : List ℕ) (n : ℕ)
+    → AreIn numbers starts
+    → filled starts inner place later (numbers ++ n ∷ []) ≡ filled starts inner place later numbers ++ n ∷ []
+filled_push [] inner place later numbers n h = refl
+filled_push (s ∷ starts) inner place later numbers n h =
+    let v = end_place inner place later in
+    let first = h 0 s (omega arith) in
+    ap (filled starts (inner + 1) place later) (set-append_left numbers (n ∷ []) s v first)
+    ∙ filled_push starts (inner + 1) place later (set numbers s v) n
+    (in_set numbers starts s v (All-tail (λ (x : ℕ). x < length numbers) s starts h))
+
+-- no event begins one collection and ends another
+opens_alone : (e : PlainDocEvent) → is_opening e ≡ true → is_closing e ≡ false
+opens_alone (sequence_begins t) h = refl
+opens_alone (mapping_begins t) h = refl
+opens_alone _ h = absurd cc
+
+-- an event that ends none of the open collections leads on by one place
+deeper : (e : PlainDocEvent) (inner : ℕ) → (is_closing e && (inner == 0)) ≡ false
+    → inner_after e (inner + 1) ≡ inner_after e inner + 1
+deeper sequence_ends zero h = absurd cc
+deeper sequence_ends (suc inner) h = omega arith
+deeper mapping_ends zero h = absurd cc
+deeper mapping_ends (suc inner) h = omega arith
+deeper _ inner h = refl
+
+stays_open : (b : Bool) (inner : ℕ) → (b && (inner + 1 == 0)) ≡ false
+stays_open true inner = ne_eqb (inner + 1) 0 (λ h. omega arith)
+stays_open false inner = refl
+
+filled_next : (e : PlainDocEvent) (later : List PlainDocEvent) (starts : List ℕ) (inner place : ℕ)
+    (numbers : List ℕ) → (is_closing e && (inner == 0)) ≡ false
+    → filled starts inner place (e ∷ later) numbers ≡ filled starts (inner_after e inner) (place + 1) later numbers
+filled_next e later [] inner place numbers h = refl
+filled_next e later (s ∷ starts) inner place numbers h =
+    let v = end_place (inner_after e inner) (place + 1) later in
+    rw h
+    (filled_next e later starts (inner + 1) place (set numbers s v) (stays_open (is_closing e) inner)
+    ∙ ap (λ i. filled starts i (place + 1) later (set numbers s v)) (deeper e inner h))
+
+pub one_longer : {X : Type 0} (xs : List X) (x : X) → length (xs ++ x ∷ []) ≡ length xs + 1
+one_longer xs x = length-append xs (x ∷ [])
+
+-- where nothing comes later, it does not matter how many collections are open within
+filled_at_end : (starts : List ℕ) (inner other place : ℕ) (numbers : List ℕ)
+    → filled starts inner place [] numbers ≡ filled starts other place [] numbers
+filled_at_end [] inner other place numbers = refl
+filled_at_end (s ∷ starts) inner other place numbers =
+    filled_at_end starts (inner + 1) (other + 1) place (set numbers s place)
 
 module _ {front : List ℕ} {seen : List PlainDocEvent} {old : EndsView} (h : HasNumbers front seen old)
     (e : PlainDocEvent) where
@@ -15,6 +75,9 @@ module _ {front : List ℕ} {seen : List PlainDocEvent} {old : EndsView} (h : Ha
   longer : (numbers : List ℕ) (n : ℕ) → length numbers ≡ length old.numbers
       → length (numbers ++ n ∷ []) ≡ length front + length (seen ++ e ∷ [])
   longer numbers n l = omega (arith, l, h.long, one_longer numbers n, one_longer seen e)
+
+  in_reverse : AreIn old.numbers old.unended → AreIn old.numbers (reverse old.unended)
+  in_reverse = All-permutation (λ (s : ℕ). s < length old.numbers) _ _ (IsPermutation-reverse old.unended)
 
   -- the numbers behind one event more
   abbrev Counted : List ℕ → List ℕ → Type 0
@@ -33,24 +96,25 @@ module _ {front : List ℕ} {seen : List PlainDocEvent} {old : EndsView} (h : Ha
       → AreIn old.numbers old.unended
       → new.numbers ≡ old.numbers ++ place ∷ [] → new.unended ≡ old.unended → HasNumbers front (seen ++ e ∷ []) new
   passes new place p o c within n u =
-      let inside = All-reverse (λ (s : ℕ). s < length old.numbers) old.unended within in
+      let inside = in_reverse within in
       made new (old.numbers ++ size ∷ []) old.unended (rw p at n) u (longer old.numbers size refl)
-      (λ later. rw (filled_push, append_assoc, ← filled_passes e later (reverse old.unended) 0 size old.numbers o c)
-      (rw o at (h.all (e ∷ later))))
+      (λ later.
+      let next = rw (o, c) at (filled_next e later (reverse old.unended) 0 size old.numbers (rw c)) in
+      rw (filled_push, append_assoc, ← next) (rw o at (h.all (e ∷ later))))
 
   pub begins : (new : EndsView) (place : ℕ) → place ≡ size → is_opening e ≡ true → AreIn old.numbers old.unended
       → new.numbers ≡ old.numbers ++ place ∷ [] → new.unended ≡ old.unended ++ length old.numbers ∷ []
       → HasNumbers front (seen ++ e ∷ []) new
   begins new place p o within n u =
-      let inside = All-reverse (λ (s : ℕ). s < length old.numbers) old.unended within in
+      let inside = in_reverse within in
       made new (old.numbers ++ size ∷ []) (old.unended ++ length old.numbers ∷ []) (rw p at n) u
       (longer old.numbers size refl)
       (λ later.
       let v = end_place 0 (size + 1) later in
       let all : filled (reverse old.unended) 1 (size + 1) later (set (old.numbers ++ size ∷ []) (length old.numbers) v)
       ++ ends_from (size + 1) later ≡ front ++ ends_of (seen ++ e ∷ later) =
-      let deeper = filled_deeper e later (reverse old.unended) 0 size old.numbers o in
-      rw (set-append_seam old.numbers size [] v, filled_push, append_assoc, ← deeper) (rw o at (h.all (e ∷ later))) in
+      let next = rw o at (filled_next e later (reverse old.unended) 0 size old.numbers (rw (opens_alone e o))) in
+      rw (set-append_seam old.numbers size [] v, filled_push, append_assoc, ← next) (rw o at (h.all (e ∷ later))) in
       rw reverse-append all)
 
   pub ends : (new : EndsView) (place start : ℕ) (rest : List ℕ) → place ≡ size → is_opening e ≡ false
@@ -60,15 +124,15 @@ module _ {front : List ℕ} {seen : List PlainDocEvent} {old : EndsView} (h : Ha
   ends new place start rest p o c within was n u =
       let numbers = set old.numbers start size in
       let turned : reverse old.unended ≡ start ∷ reverse rest = ap reverse was ∙ reverse-append rest (start ∷ []) in
-      let inside = All-tail (λ (s : ℕ). s < length old.numbers) start (reverse rest)
-      (rw turned at (All-reverse (λ (s : ℕ). s < length old.numbers) old.unended within)) in
+      let inside = All-rest (λ (s : ℕ). s < length old.numbers) start (reverse rest) _ turned (in_reverse within) in
       let still = in_set old.numbers (reverse rest) start size inside in
       made new (numbers ++ size ∷ []) rest (rw p at n) u (longer numbers size (length-set old.numbers start size))
       (λ later.
       let all : filled (reverse rest) 1 size (e ∷ later) (set old.numbers start (end_place 0 size (e ∷ later)))
       ++ size ∷ ends_from (size + 1) later ≡ front ++ ends_of (seen ++ e ∷ later) =
       rw (turned, o) at (h.all (e ∷ later)) in
-      rw (filled_push, append_assoc, ← filled_outer e later (reverse rest) 0 size numbers o c) (rw c at all))
+      let next = rw (o, c) at (filled_next e later (reverse rest) 1 size numbers (rw c)) in
+      rw (filled_push, append_assoc, ← next) (rw c at all))
 
   -- a stray end, where nothing is open
   pub stray_ends : (new : EndsView) (place : ℕ) → place ≡ size → is_opening e ≡ false → old.unended ≡ []
@@ -105,29 +169,10 @@ none_seen front ends_ n u = record {
   all = λ later. rw (u, n);
 }
 
--- the elements of a list with one behind it
-get_or-seam : (xs : List ℕ) (x : ℕ) → get_or (xs ++ x ∷ []) (length xs) x ≡ x
-get_or-seam [] x = refl
-get_or-seam (y ∷ xs) x = get_or-seam xs x
-
-get_or-front : (xs : List ℕ) (x k d : ℕ) → k < length xs → get_or (xs ++ x ∷ []) k d ≡ get_or xs k d
-get_or-front [] x k d l = absurd (omega arith)
-get_or-front (y ∷ xs) x zero d l = refl
-get_or-front (y ∷ xs) x (suc k) d l = get_or-front xs x k d (omega arith)
-
 -- the last start, and those in front of it, lie within the numbers
 pub last_in : (numbers rest unended : List ℕ) (start : ℕ) → unended ≡ rest ++ start ∷ [] → AreIn numbers unended
-    → start < length numbers
-last_in numbers rest unended start is h =
-    let here = subst (AreIn numbers) is h (length rest) start (omega (arith, one_longer rest start)) in
-    subst (λ n. n < length numbers) (get_or-seam rest start) here
-
-pub in_front : (numbers set_ rest unended : List ℕ) (start : ℕ) → unended ≡ rest ++ start ∷ []
-    → length set_ ≡ length numbers → AreIn numbers unended → AreIn set_ rest
-in_front numbers set_ rest unended start is same h k d l =
-    let here = subst (AreIn numbers) is h k d (omega (arith, one_longer rest start)) in
-    let below = subst (λ n. n < length numbers) (get_or-front rest start k d l) here in
-    omega (arith, same)
+    → AreIn numbers rest × (start < length numbers)
+last_in numbers rest unended start is h = All-pop (λ (s : ℕ). s < length numbers) unended rest (Some start) is h
 
 -- a number is bounded, and those behind it
 pub bounded_more : (bound at : ℕ) (numbers : List ℕ) (n d : ℕ) → at < length numbers → n

@@ -1,130 +1,138 @@
--- The definitions of documents, read off events without their marks, and where the events of a tree end.
-use Rattle.std.specs.Prelude.{◌≡◌, ◌+◌, ◌∷◌, ◌++◌, ◌||◌}
-use Rattle.yaml_load.proofs.Words.{arith, ℕ, List, [], map, refl, ◌∙◌, ap, Bool, true, false, cond, Option, Some, None}
-use Rattle.yaml_load.proofs.Words.{is_some, Position, PlainEvent, sequence_start, sequence_end, mapping_start}
-use Rattle.yaml_load.proofs.Words.{mapping_end, Node, alias_node, scalar_node, sequence_node, mapping_node, Nodes}
-use Rattle.yaml_load.proofs.Words.{no_nodes, node, NodePairs, no_pairs, pair, node_events, nodes_events, pairs_events}
-use Rattle.yaml_load.proofs.Words.{anchor_at, Input, Find, becomes, then_events, known_events, or_mark, unknown_mark}
-use Rattle.yaml_load.proofs.Words.{body, behind, is_ended, alias, scalar, is_document_end, anchor_of, anchors_in}
-use Rattle.yaml_load.proofs.Words.{events_in, PlainDocEvent}
+-- What the events of a tree become, one by one, and what is in front of the end of their document and behind it.
+use Rattle.std.specs.Prelude.{◌≡◌, ◌+◌, ◌∷◌, ◌++◌}
+use Rattle.yaml_load.proofs.Words.{arith, ℕ, suc, List, [], map, length, refl, ap, true, false, append_assoc, Option}
+use Rattle.yaml_load.proofs.Words.{Some, None, Position, PlainEvent, sequence_end, mapping_end, document_end, Node}
+use Rattle.yaml_load.proofs.Words.{alias_node, scalar_node, sequence_node, mapping_node, Nodes, no_nodes, node}
+use Rattle.yaml_load.proofs.Words.{NodePairs, no_pairs, pair, node_events, nodes_events, pairs_events, anchor_at, Input}
+use Rattle.yaml_load.proofs.Words.{Find, becomes, known_events, or_mark, unknown_mark, body, behind, is_ended}
+use Rattle.yaml_load.proofs.Words.{is_document_end, anchor_of, anchors_in, events_in, PlainDocEvent}
 
--- the definitions without marks
-abbrev pub plain_body : List PlainEvent → List PlainEvent
-plain_body [] = []
-plain_body (e ∷ es) = cond (is_document_end e) [] (e ∷ plain_body es)
+-- what stands for each of the events, by its place, where the first has the given one
+abbrev pub each_at : {X : Type 0} → (ℕ → PlainEvent → List X) → ℕ → List PlainEvent → List X
+each_at f i [] = []
+each_at f i (e ∷ es) = f i e ++ each_at f (i + 1) es
 
-abbrev pub plain_behind : List PlainEvent → List PlainEvent
-plain_behind [] = []
-plain_behind (e ∷ es) = cond (is_document_end e) es (plain_behind es)
+pub each_at-append : {X : Type 0} (f : ℕ → PlainEvent → List X) (i : ℕ) (es fs : List PlainEvent)
+    → each_at f i (es ++ fs) ≡ each_at f i es ++ each_at f (i + length es) fs
+each_at-append f i [] fs = let n : i ≡ i + 0 = omega arith in ap (λ k. each_at f k fs) n
+each_at-append f i (e ∷ es) fs =
+    let n : i + 1 + length es ≡ i + suc (length es) = omega arith in
+    rw (append_assoc, each_at-append f (i + 1) es fs, n)
 
-abbrev pub plain_ended : List PlainEvent → Bool
-plain_ended [] = false
-plain_ended (e ∷ es) = is_document_end e || plain_ended es
+-- their anchors
+abbrev pub name_at : ℕ → PlainEvent → List (List ℕ × ℕ)
+name_at i e = anchor_at (anchor_of e) i
 
-abbrev pub plain_anchors : ℕ → List PlainEvent → List (List ℕ × ℕ)
-plain_anchors i [] = []
-plain_anchors i (e ∷ es) = anchor_at (anchor_of e) i ++ plain_anchors (i + 1) es
-
-abbrev pub then_known : Option PlainDocEvent → List PlainDocEvent → List PlainDocEvent
-then_known None es = []
-then_known (Some d) es = d ∷ es
-
-abbrev pub plain_known : Find → ℕ → List PlainEvent → List PlainDocEvent
-plain_known find i [] = []
-plain_known find i (e ∷ es) = then_known (becomes find i e) (plain_known find (i + 1) es)
-
-abbrev pub or_missing : Option PlainDocEvent → Bool → Bool
-or_missing None later = true
-or_missing (Some d) later = later
-
-abbrev pub plain_missing : Find → ℕ → List PlainEvent → Bool
-plain_missing find i [] = false
-plain_missing find i (e ∷ es) = or_missing (becomes find i e) (plain_missing find (i + 1) es)
-
--- they say the same
-pub events_in-body : (input : Input) → events_in (body input) ≡ plain_body (events_in input)
-events_in-body [] = refl
-events_in-body (e ∷ input) = grind (arith, events_in-body input)
-
-pub events_in-behind : (input : Input) → events_in (behind input) ≡ plain_behind (events_in input)
-events_in-behind [] = refl
-events_in-behind (e ∷ input) = grind (arith, events_in-behind input)
-
-pub is_ended-plain : (input : Input) → is_ended input ≡ plain_ended (events_in input)
-is_ended-plain [] = refl
-is_ended-plain (e ∷ input) = ap (λ b. is_document_end e.0 || b) (is_ended-plain input)
-
-pub anchors_in-plain : (i : ℕ) (input : Input) → anchors_in i input ≡ plain_anchors i (events_in input)
+pub anchors_in-plain : (i : ℕ) (input : Input) → anchors_in i input ≡ each_at name_at i (events_in input)
 anchors_in-plain i [] = refl
-anchors_in-plain i (e ∷ input) = ap (λ xs. anchor_at (anchor_of e.0) i ++ xs) (anchors_in-plain (i + 1) input)
+anchors_in-plain i (e ∷ input) = ap (λ xs. name_at i e.0 ++ xs) (anchors_in-plain (i + 1) input)
 
-known_step : (o : Option PlainDocEvent) (m : Position) (found : List (PlainDocEvent × Position))
-    (es : List PlainDocEvent)
-    → map (λ (e : PlainDocEvent × Position). e.0) found ≡ es
-    → map (λ (e : PlainDocEvent × Position). e.0) (then_events o m found) ≡ then_known o es
-known_step None m found es h = refl
-known_step (Some d) m found es h = ap (λ l. d ∷ l) h
+-- what they become
+abbrev pub made_at : Find → ℕ → PlainEvent → List (Option PlainDocEvent)
+made_at find i e = becomes find i e ∷ []
 
-pub known-plain : (find : Find) (i : ℕ) (input : Input)
-    → map (λ (e : PlainDocEvent × Position). e.0) (known_events find i input) ≡ plain_known find i (events_in input)
-known-plain find i [] = refl
-known-plain find i (e ∷ input) = known_step (becomes find i e.0) e.1 _ _ (known-plain find (i + 1) input)
+abbrev pub made : Find → ℕ → List PlainEvent → List (Option PlainDocEvent)
+made find i es = each_at (made_at find) i es
 
-missing_step : (o : Option PlainDocEvent) (m : Position) (found : Option Position) (b : Bool) → is_some found ≡ b
-    → is_some (or_mark o m found) ≡ or_missing o b
-missing_step None m found b h = refl
-missing_step (Some d) m found b h = h
+pub made_long : (find : Find) (i : ℕ) (es : List PlainEvent) (ds : List PlainDocEvent) → made find i es ≡ map Some ds
+    → length es ≡ length ds
+made_long find i [] [] is = refl
+made_long find i (e ∷ es) (d ∷ ds) is = ap suc (made_long find (i + 1) es ds (cc))
+made_long find i _ _ is = absurd cc
 
-pub missing-plain : (find : Find) (i : ℕ) (input : Input)
-    → is_some (unknown_mark find i input) ≡ plain_missing find i (events_in input)
-missing-plain find i [] = refl
-missing-plain find i (e ∷ input) = missing_step (becomes find i e.0) e.1 _ _ (missing-plain find (i + 1) input)
+-- where each becomes one, they are known
+pub all_known : (find : Find) (i : ℕ) (input : Input) (ds : List PlainDocEvent)
+    → made find i (events_in input) ≡ map Some ds
+    → (map (λ (e : PlainDocEvent × Position). e.0) (known_events find i input) ≡ ds)
+    × (unknown_mark find i input ≡ None)
+all_known find i [] [] is = (refl, refl)
+all_known find i (e ∷ input) (d ∷ ds) is =
+    let here : becomes find i e.0 ≡ Some d = cc in
+    let (events, none) = all_known find (i + 1) input ds (cc) in
+    rw here (ap (λ es. d ∷ es) events, none)
+all_known find i _ _ is = absurd cc
 
--- the events of a tree hold no end of a document
-mutual
-  pub body_node : (n : Node) (rest : List PlainEvent) → plain_body (node_events n rest)
-      ≡ node_events n (plain_body rest)
-  body_node (alias_node a) rest = refl
-  body_node (scalar_node s) rest = refl
-  body_node (sequence_node a g ns) rest = ap (λ es. sequence_start a g ∷ es) (body_nodes ns (sequence_end ∷ rest))
-  body_node (mapping_node a g ps) rest = ap (λ es. mapping_start a g ∷ es) (body_pairs ps (mapping_end ∷ rest))
+-- one of them becomes none
+abbrev pub Missing : List (Option PlainDocEvent) → Type 0
+Missing [] = ⊥
+Missing (None ∷ os) = Unit {0}
+Missing (Some d ∷ os) = Missing os
 
-  body_nodes : (ns : Nodes) (rest : List PlainEvent) → plain_body (nodes_events ns rest)
-      ≡ nodes_events ns (plain_body rest)
-  body_nodes no_nodes rest = refl
-  body_nodes (node n ns) rest = body_node n (nodes_events ns rest) ∙ ap (node_events n) (body_nodes ns rest)
+pub missing_in_front : (os ps : List (Option PlainDocEvent)) → Missing os → Missing (os ++ ps)
+missing_in_front [] ps h = absurd h
+missing_in_front (None ∷ os) ps h = tt
+missing_in_front (Some d ∷ os) ps h = missing_in_front os ps h
 
-  body_pairs : (ps : NodePairs) (rest : List PlainEvent) → plain_body (pairs_events ps rest)
-      ≡ pairs_events ps (plain_body rest)
-  body_pairs no_pairs rest = refl
-  body_pairs (pair k v ps) rest =
-      body_node k (node_events v (pairs_events ps rest))
-      ∙ ap (node_events k) (body_node v (pairs_events ps rest) ∙ ap (node_events v) (body_pairs ps rest))
+pub missing_behind : (ds : List PlainDocEvent) (ps : List (Option PlainDocEvent)) → Missing ps
+    → Missing (map Some ds ++ ps)
+missing_behind [] ps h = h
+missing_behind (d ∷ ds) ps h = missing_behind ds ps h
 
--- and what only an end of a document changes, they do not change
-module _ {X : Type 0} (f : List PlainEvent → X)
-    (step : (e : PlainEvent) (es : List PlainEvent) → is_document_end e ≡ false → f (e ∷ es) ≡ f es) where
+mark_here : (o : Option PlainDocEvent) (os : List (Option PlainDocEvent)) (m : Position) (later : Option Position)
+    → Missing (o ∷ os) → (Missing os → (mark : Position) × (later ≡ Some mark))
+    → (mark : Position) × (or_mark o m later ≡ Some mark)
+mark_here None os m later h more = (m, refl)
+mark_here (Some d) os m later h more = more h
+
+pub one_unknown : (find : Find) (i : ℕ) (input : Input) → Missing (made find i (events_in input))
+    → (mark : Position) × (unknown_mark find i input ≡ Some mark)
+one_unknown find i [] h = absurd h
+one_unknown find i (e ∷ input) h = mark_here (becomes find i e.0) _ e.1 _ h (one_unknown find (i + 1) input)
+
+-- what one event leads on that ends no document, the events of a tree do
+module _ (P : List PlainEvent → List PlainEvent → Type 0) (step : (e : PlainEvent) (es fs : List PlainEvent)
+    → is_document_end e ≡ false → P es fs → P (e ∷ es) (e ∷ fs)) where
   mutual
-    passed_node : (n : Node) (rest : List PlainEvent) → f (node_events n rest) ≡ f rest
-    passed_node (alias_node a) rest = step (alias a) rest refl
-    passed_node (scalar_node s) rest = step (scalar s) rest refl
-    passed_node (sequence_node a g ns) rest =
-        step (sequence_start a g) _ refl ∙ passed_nodes ns (sequence_end ∷ rest) ∙ step sequence_end rest refl
-    passed_node (mapping_node a g ps) rest =
-        step (mapping_start a g) _ refl ∙ passed_pairs ps (mapping_end ∷ rest) ∙ step mapping_end rest refl
+    over_node : (n : Node) (es fs : List PlainEvent) → P es fs → P (node_events n es) (node_events n fs)
+    over_node (alias_node a) es fs h = step _ es fs refl h
+    over_node (scalar_node s) es fs h = step _ es fs refl h
+    over_node (sequence_node a g ns) es fs h = step _ _ _ refl (over_nodes ns _ _ (step sequence_end es fs refl h))
+    over_node (mapping_node a g ps) es fs h = step _ _ _ refl (over_pairs ps _ _ (step mapping_end es fs refl h))
 
-    passed_nodes : (ns : Nodes) (rest : List PlainEvent) → f (nodes_events ns rest) ≡ f rest
-    passed_nodes no_nodes rest = refl
-    passed_nodes (node n ns) rest = passed_node n (nodes_events ns rest) ∙ passed_nodes ns rest
+    over_nodes : (ns : Nodes) (es fs : List PlainEvent) → P es fs → P (nodes_events ns es) (nodes_events ns fs)
+    over_nodes no_nodes es fs h = h
+    over_nodes (node n ns) es fs h = over_node n _ _ (over_nodes ns es fs h)
 
-    passed_pairs : (ps : NodePairs) (rest : List PlainEvent) → f (pairs_events ps rest) ≡ f rest
-    passed_pairs no_pairs rest = refl
-    passed_pairs (pair k v ps) rest =
-        passed_node k (node_events v (pairs_events ps rest)) ∙ passed_node v (pairs_events ps rest)
-        ∙ passed_pairs ps rest
+    over_pairs : (ps : NodePairs) (es fs : List PlainEvent) → P es fs → P (pairs_events ps es) (pairs_events ps fs)
+    over_pairs no_pairs es fs h = h
+    over_pairs (pair k v ps) es fs h = over_node k _ _ (over_node v _ _ (over_pairs ps es fs h))
 
-pub behind_node : (n : Node) (rest : List PlainEvent) → plain_behind (node_events n rest) ≡ plain_behind rest
-behind_node n rest = passed_node plain_behind (λ e es h. rw h refl) n rest
+-- the events behind a tree stand behind its own
+module _ (rest : List PlainEvent) where
+  abbrev Then : List PlainEvent → List PlainEvent → Type 0
+  Then es fs = es ≡ fs ++ rest
 
-pub ended_node : (n : Node) (rest : List PlainEvent) → plain_ended (node_events n rest) ≡ plain_ended rest
-ended_node n rest = passed_node plain_ended (λ e es h. rw h refl) n rest
+  then_step : (e : PlainEvent) (es fs : List PlainEvent) → is_document_end e ≡ false → Then es fs
+      → Then (e ∷ es) (e ∷ fs)
+  then_step e es fs no_ h = ap (λ xs. e ∷ xs) h
+
+  pub after_node : (n : Node) → node_events n rest ≡ node_events n [] ++ rest
+  after_node n = over_node Then then_step n rest [] refl
+
+  pub after_nodes : (ns : Nodes) → nodes_events ns rest ≡ nodes_events ns [] ++ rest
+  after_nodes ns = over_nodes Then then_step ns rest [] refl
+
+  pub after_pairs : (ps : NodePairs) → pairs_events ps rest ≡ pairs_events ps [] ++ rest
+  after_pairs ps = over_pairs Then then_step ps rest [] refl
+
+-- a document of a tree in an input behind which there is more: its events are those of the tree where it ends, and it
+-- ends where there is no more
+module _ (more later : List PlainEvent) where
+  abbrev Splits : List PlainEvent → List PlainEvent → Type 0
+  Splits es fs = (input : Input) → events_in input ++ more ≡ es → (more ≡ [] → is_ended input ≡ true)
+      × (is_ended input ≡ true → (events_in (body input) ≡ fs) × (events_in (behind input) ++ more ≡ later))
+
+  split_end : Splits (document_end ∷ later) []
+  split_end [] is = (λ none. absurd cc, λ ended. absurd cc)
+  split_end (x ∷ input) is = let end : x.0 ≡ document_end = cc in rw end (λ none. refl, λ ended. (refl, cc))
+
+  split_step : (e : PlainEvent) (es fs : List PlainEvent) → is_document_end e ≡ false → Splits es fs
+      → Splits (e ∷ es) (e ∷ fs)
+  split_step e es fs no_ h [] is = (λ none. absurd cc, λ ended. absurd cc)
+  split_step e es fs no_ h (x ∷ input) is =
+      let same : x.0 ≡ e = cc in
+      let (whole, parts) = h input (cc) in
+      rw (same, no_) (whole, λ ended. let (front, rest) = parts ended in (ap (λ xs. e ∷ xs) front, rest))
+
+  pub split_node : (root : Node) → Splits (node_events root (document_end ∷ later)) (node_events root [])
+  split_node root = over_node Splits split_step root (document_end ∷ later) [] split_end

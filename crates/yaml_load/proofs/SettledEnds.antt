@@ -34,13 +34,6 @@ end_to : (inner place : ℕ) (events : List PlainDocEvent) → end_place inner p
 end_to inner place [] = omega arith
 end_to inner place (e ∷ events) = grind (arith, end_to (inner_after e inner) (place + 1) events)
 
--- an event that begins and ends collections as another does
-end_like : (inner place : ℕ) (d e : PlainDocEvent) (events : List PlainDocEvent) → is_opening d ≡ is_opening e
-    → is_closing d ≡ is_closing e
-    → end_place inner place (d ∷ events)
-    ≡ cond (is_closing e && (inner == 0)) place (end_place (inner_after e inner) (place + 1) events)
-end_like inner place d e events o c = rw (o, c)
-
 -- the ends of known events are bounded by how many there are
 end_cut_by : (o : Option PlainDocEvent) (e : PlainEvent) (mark : Position) (known : Marked)
     (drafts : List PlainDocEvent)
@@ -51,10 +44,9 @@ end_cut_by : (o : Option PlainDocEvent) (e : PlainEvent) (mark : Position) (know
 end_cut_by None e mark known drafts inner place a later =
     let h = end_from inner place (drafted e ∷ drafts) in omega arith
 end_cut_by (Some d) e mark known drafts inner place a later =
-    end_like inner place d (drafted e) (bare known) a.0 a.1
-    ∙ elim (cases_Bool (is_closing (drafted e) && (inner == 0))) [
-      | inl here ↦ rw (here) (omega arith)
-      | inr there ↦ rw (there) (let h = later (inner_after (drafted e) inner) (place + 1) in omega arith)
+    elim (cases_Bool (is_closing (drafted e) && (inner == 0))) [
+      | inl here ↦ rw (a.0, a.1, here) (omega arith)
+      | inr there ↦ rw (a.0, a.1, there) (let h = later (inner_after (drafted e) inner) (place + 1) in omega arith)
     ]
 
 end_cut : (find : Find) (seen : Input) (from inner place : ℕ)
@@ -112,17 +104,13 @@ known_long find (e ∷ seen) from u =
     (known_long find seen (from + 1)) u
 
 -- numbers of events are below how many there are
-number_whole : (o : Bool) (x place bound : ℕ) → x ≤ bound → place ≤ bound → min bound (cond o x place) ≡ cond o x place
-number_whole true x place bound h l = omega arith
-number_whole false x place bound h l = omega arith
-
 ends_whole : (events : List PlainDocEvent) (place bound : ℕ) → place + length events ≤ bound
     → map (min bound) (ends_from place events) ≡ ends_from place events
 ends_whole [] place bound l = refl
 ends_whole (e ∷ events) place bound l =
     ap (λ x. x ∷ map (min bound) (ends_from (place + 1) events))
-    (number_whole (is_opening e) (end_place 0 (place + 1) events) place bound
-    (let h = end_to 0 (place + 1) events in omega arith) (omega arith))
+    (sym (number_cut (is_opening e) (end_place 0 (place + 1) events) _ place bound
+    (let h = end_to 0 (place + 1) events in omega arith) (omega arith)))
     ∙ ap (λ xs. cond (is_opening e) (end_place 0 (place + 1) events) place ∷ xs)
     (ends_whole events (place + 1) bound (omega arith))
 

@@ -6,7 +6,7 @@ use Rattle.yaml_load.proofs.Words.{Position, PlainEvent, alias, Find, Input, bec
 use Rattle.yaml_load.proofs.Words.{PlainDocEvent, alias_to, AreTaken, IsTaken, Settled, Waiting, aimed, is_of_node}
 use Rattle.yaml_load.proofs.Words.{settle, settled, Events, zero, suc, get_or, set, drop, sym, ◌∙◌, add-one, drop-cons}
 use Rattle.yaml_load.proofs.Words.{drop-set-add, get_or-drop, doc_event_of, marked_events_of, DocEvent}
-use Rattle.yaml_load.proofs.FilledEnds.{one_longer}
+use Rattle.yaml_load.proofs.OpenEndsLaws.{one_longer}
 use Rattle.std.proofs.lemmas.List.{length-drop}
 use Rattle.yaml_load.specs.declared.doc_event.DocEvent.TheVariants as event
 

@@ -1,28 +1,86 @@
--- Each document of a stream that nothing cut off has a tree, and a stream has a document.
+-- The documents of a whole stream are those of its trees, each document that nothing cut off has a tree, and a stream
+-- has a document.
 use Rattle.std.specs.Prelude.{◌≡◌, ◌∷◌, ◌++◌, ◌≢◌}
-use Rattle.yaml_load.proofs.Words.{arith, List, [], map, refl, sym, ◌∙◌, ap, cond, Bool, true, false, Option, Some}
-use Rattle.yaml_load.proofs.Words.{None, is_some, All, inl, inr, cases_Bool, All-append, All-cons, All-nil, Position}
-use Rattle.yaml_load.proofs.Words.{PlainEvent, stream_start, stream_end, document_start, document_end, PlainFault}
-use Rattle.yaml_load.proofs.Words.{documents_events, stream_events, IsWellFormed, Node, node_events, DocNode, IsTreeOf}
-use Rattle.yaml_load.proofs.Words.{subst, nothing, Input, find_in, unknown_mark, body, behind, is_ended, anchors_in}
-use Rattle.yaml_load.proofs.Words.{ending_of, document_from, documents_of, after_starts, last_mark, void_document}
-use Rattle.yaml_load.proofs.Words.{failed_document, further_document, is_open_after, events_in, resolved, alias_to}
-use Rattle.yaml_load.proofs.Words.{a_void, PlainDocument, IsDocumentOf, AreDocumentsOf, AreStreamDocuments, HasTree}
+use Rattle.yaml_load.proofs.Words.{List, [], map, refl, sym, ◌∙◌, ap, subst, append-nil, true, false, Bool, Option}
+use Rattle.yaml_load.proofs.Words.{Some, None, is_some, All, inl, inr, cases_Bool, All-append, All-cons, All-nil}
+use Rattle.yaml_load.proofs.Words.{Position, PlainEvent, stream_start, stream_end, document_start, PlainFault}
+use Rattle.yaml_load.proofs.Words.{documents_events, stream_events, IsWellFormed, Node, node_events, target, anchors_of}
+use Rattle.yaml_load.proofs.Words.{DocNode, IsTreeOf, events_of, numbered, nothing, Input, known_events, unknown_mark}
+use Rattle.yaml_load.proofs.Words.{body, behind, is_ended, anchors_in, ending_of, document_from, documents_of}
+use Rattle.yaml_load.proofs.Words.{after_starts, void_documents, last_mark, void_document, further_document}
+use Rattle.yaml_load.proofs.Words.{is_open_after, events_in, resolved, alias_to, a_void, PlainDocument, IsDocumentOf}
+use Rattle.yaml_load.proofs.Words.{AreDocumentsOf, AreStreamDocuments, HasTree, IsAtFault, EndAtFault}
+use Rattle.yaml_load.proofs.CutLaws.{at_document, fault_last}
 use Rattle.yaml_load.proofs.DocumentLaws.{starts_behind, no_starts}
-use Rattle.yaml_load.proofs.PlainWalks.{events_in-body, events_in-behind, is_ended-plain, plain_body, plain_behind}
-use Rattle.yaml_load.proofs.PlainWalks.{plain_ended, body_node, behind_node}
+use Rattle.yaml_load.proofs.PlainWalks.{all_known, anchors_in-plain, one_unknown, split_node}
 use Rattle.yaml_load.proofs.StreamEndings.{all_failed}
-use Rattle.yaml_load.proofs.Targets.{event_at}
-use Rattle.yaml_load.proofs.StreamLaws.{document_of_body, documents_of_stream}
+use Rattle.yaml_load.proofs.ToldNodes.{IsNode, Refers, Told, anchors_node, event_at, targets_known, told_node}
 
--- of an input that ends within a document or behind one, what ends in it is as in all that follows
-body_ended : (es more : List PlainEvent) → plain_ended es ≡ true → plain_body (es ++ more) ≡ plain_body es
-body_ended [] more h = absurd (cc)
-body_ended (e ∷ es) more h = grind (arith, body_ended es more)
+-- a document whose events, without their marks, are those of a node
+told_document : (o : Option DocNode) (root : Node) (input : Input) (ended : Bool) (fault : Option PlainFault)
+    → events_in input ≡ node_events root [] → ended ≡ true
+    → Told (target root) events_of numbered o (anchors_of root 0) 0 (node_events root [])
+    → IsDocumentOf o record {
+      events = known_events (target root) 0 input;
+      ending = ending_of (unknown_mark (target root) 0 input) ended fault;
+    }
+told_document None root input ended fault is e h =
+    let (mark, there) = one_unknown (target root) 0 input (rw is h) in (mark, ap (λ m. ending_of m ended fault) there)
+told_document (Some t) root input ended fault is e h =
+    let (same, none) = all_known (target root) 0 input (events_of t) (rw is h.known) in
+    record {
+      whole = rw (none, e);
+      events = same;
+      known = λ p k mark here. event_at (Refers (IsNode t)) (known_events (target root) 0 input) p (alias_to k) mark
+          (rw same (targets_known root t h)) here;
+    }
 
-behind_ended : (es more : List PlainEvent) → plain_ended es ≡ true → plain_behind (es ++ more) ≡ plain_behind es ++ more
-behind_ended [] more h = absurd (cc)
-behind_ended (e ∷ es) more h = grind (arith, behind_ended es more)
+-- the document behind a start, which ends and whose node is this root
+document_of_body : (root : Node) (rest : Input) (fault : Option PlainFault)
+    → events_in (body rest) ≡ node_events root [] → is_ended rest ≡ true
+    → IsDocumentOf (resolved root) (document_from fault rest)
+document_of_body root rest fault events ended =
+    let anchors : anchors_in 0 (body rest) ≡ anchors_of root 0 =
+    rw (anchors_in-plain 0 (body rest), events, anchors_node root 0) in
+    rw anchors
+    (told_document (resolved root) root (body rest) (is_ended rest) fault events ended
+    (told_node (target root) root 0))
+
+-- one document for each root
+documents_of_roots : (roots : List Node) (input : Input) → events_in input ++ [] ≡ documents_events roots
+    → AreDocumentsOf roots (map (document_from None) (after_starts false input))
+documents_of_roots [] (e ∷ []) is =
+    let end : e.0 ≡ stream_end = cc in rw end tt
+documents_of_roots (root ∷ roots) (e ∷ rest) is =
+    let start : e.0 ≡ document_start = cc in
+    let (whole, parts) = split_node [] (documents_events roots) root rest (cc) in
+    let ended = whole refl in
+    let (events, later) = parts ended in
+    rw (start, starts_behind rest ended)
+    (document_of_body root rest None events ended, documents_of_roots roots (behind rest) later)
+documents_of_roots _ _ is = absurd cc
+
+-- nothing more comes behind documents
+documents_alone : (roots : List Node) (root : Node) (starts : List Input) (end : Option Position)
+    → AreDocumentsOf (root ∷ roots) (map (document_from None) starts)
+    → AreDocumentsOf (root ∷ roots) (map (document_from None) starts ++ void_documents starts end)
+documents_alone roots root [] end h = absurd h
+documents_alone roots root (s ∷ starts) end h =
+    subst (AreDocumentsOf (root ∷ roots)) (sym (append-nil (map (document_from None) (s ∷ starts)))) h
+
+-- the documents of a whole stream
+pub documents_of_stream : (roots : List Node) (input : Input) → events_in input ≡ stream_events roots
+    → AreStreamDocuments roots (last_mark input) (documents_of input None)
+documents_of_stream [] (s ∷ (e ∷ [])) is =
+    let start : s.0 ≡ stream_start = cc in
+    let end : e.0 ≡ stream_end = cc in (e.1, refl, rw (start, end))
+documents_of_stream (root ∷ roots) (s ∷ input) is =
+    let start : s.0 ≡ stream_start = cc in
+    let rest : events_in input ≡ documents_events (root ∷ roots) = cc in
+    rw start
+    (documents_alone roots root (after_starts false input) _
+    (documents_of_roots (root ∷ roots) input (append-nil _ ∙ rest)))
+documents_of_stream _ _ is = absurd cc
 
 -- a document of a tree has one, or was cut off
 tree_of_root : (o : Option DocNode) (document : PlainDocument) → IsDocumentOf o document → HasTree document
@@ -51,91 +109,59 @@ trees_of_stream [] last documents h =
     rw h.2 (All-cons HasTree (void_document h.0) [] (λ whole. (nothing, nothing_known h.0)) (All-nil HasTree))
 trees_of_stream (root ∷ roots) last documents h = trees_of_roots (root ∷ roots) documents h
 
-never_whole : (unknown : Option Position) (fault : PlainFault) → ending_of unknown false (Some fault) ≡ None → ⊥
-never_whole None fault h = cc
-never_whole (Some mark) fault h = cc
+module _ (fault : PlainFault) where
+  abbrev from : Input → PlainDocument
+  from start = document_from (Some fault) start
 
--- a document that the parser's fault cut off
-cut_by_fault : (rest : Input) (fault : PlainFault) → is_ended rest ≡ false → HasTree (document_from (Some fault) rest)
-cut_by_fault rest fault unended =
-    λ whole. absurd (never_whole (unknown_mark (find_in (anchors_in 0 (body rest))) 0 (body rest)) fault
-    (rw unended at whole))
+  -- the documents of a beginning of a stream, the last of which the parser's fault may cut off
+  trees_of_beginning : (roots : List Node) (input : Input) (more : List PlainEvent)
+      → events_in input ++ more ≡ documents_events roots → All HasTree (map from (after_starts false input))
+  trees_of_beginning roots [] more is = All-nil HasTree
+  trees_of_beginning [] (e ∷ []) more is =
+      let end : e.0 ≡ stream_end = cc in rw end (All-nil HasTree)
+  trees_of_beginning [] (e ∷ (f ∷ input)) more is = absurd (cc)
+  trees_of_beginning (root ∷ roots) (e ∷ rest) more is =
+      let start : e.0 ≡ document_start = cc in
+      let parts = (split_node more (documents_events roots) root rest (cc)).1 in
+      elim (cases_Bool (is_ended rest)) [
+        | inl ended ↦
+            let (events, later) = parts ended in
+            let starts : after_starts false (e ∷ rest) ≡ rest ∷ after_starts false (behind rest) =
+            rw (start, starts_behind rest ended) in
+            subst (λ s. All HasTree (map from s)) (sym starts)
+            (All-cons HasTree (from rest) (map from (after_starts false (behind rest)))
+            (tree_of_root (resolved root) (from rest) (document_of_body root rest (Some fault) events ended))
+            (trees_of_beginning roots (behind rest) more later))
+        | inr unended ↦
+            let starts : after_starts false (e ∷ rest) ≡ rest ∷ [] = rw (start, no_starts rest unended) in
+            subst (λ s. All HasTree (map from s)) (sym starts)
+            (All-cons HasTree (from rest) []
+            (λ whole. absurd (subst (IsAtFault fault) whole (at_document rest fault unended))) (All-nil HasTree))
+      ]
 
--- the documents of a beginning of a stream
-trees_of_beginning : (roots : List Node) (input : Input) (more : List PlainEvent) (fault : PlainFault)
-    → events_in input ++ more ≡ documents_events roots
-    → All HasTree (map (document_from (Some fault)) (after_starts false input))
-trees_of_beginning roots [] more fault is = All-nil HasTree
-trees_of_beginning [] (e ∷ []) more fault is =
-    let end : e.0 ≡ stream_end = cc in rw end (All-nil HasTree)
-trees_of_beginning [] (e ∷ (f ∷ input)) more fault is = absurd (cc)
-trees_of_beginning (root ∷ roots) (e ∷ rest) more fault is =
-    let start : e.0 ≡ document_start = cc in
-    let node : events_in rest ++ more ≡ node_events root (document_end ∷ documents_events roots) = cc in
-    elim (cases_Bool (is_ended rest)) [
-      | inl ended ↦
-          let plain : plain_ended (events_in rest) ≡ true = sym (is_ended-plain rest) ∙ ended in
-          let events : events_in (body rest) ≡ node_events root [] =
-          events_in-body rest ∙ sym (body_ended (events_in rest) more plain) ∙ ap plain_body node
-          ∙ body_node root (document_end ∷ documents_events roots) in
-          let later : events_in (behind rest) ++ more ≡ documents_events roots =
-          ap (λ es. es ++ more) (events_in-behind rest) ∙ sym (behind_ended (events_in rest) more plain)
-          ∙ ap plain_behind node ∙ behind_node root (document_end ∷ documents_events roots) in
-          let starts : after_starts false (e ∷ rest) ≡ rest ∷ after_starts false (behind rest) =
-          rw (start, starts_behind rest ended) in
-          subst (λ s. All HasTree (map (document_from (Some fault)) s)) (sym starts)
-          (All-cons HasTree (document_from (Some fault) rest)
-          (map (document_from (Some fault)) (after_starts false (behind rest)))
-          (tree_of_root (resolved root) (document_from (Some fault) rest)
-          (document_of_body root rest (Some fault) events ended))
-          (trees_of_beginning roots (behind rest) more fault later))
-      | inr unended ↦
-          let starts : after_starts false (e ∷ rest) ≡ rest ∷ [] = rw (start, no_starts rest unended) in
-          subst (λ s. All HasTree (map (document_from (Some fault)) s)) (sym starts)
-          (All-cons HasTree (document_from (Some fault) rest) [] (cut_by_fault rest fault unended) (All-nil HasTree))
-    ]
-
-trees_of_fault : (roots : List Node) (input : Input) (more : List PlainEvent) (fault : PlainFault)
-    → events_in input ++ more ≡ stream_events roots → All HasTree (documents_of input (Some fault))
-trees_of_fault roots [] more fault is =
-    All-append HasTree [] (further_document [] (Some fault)) (All-nil HasTree)
-    (all_failed HasTree fault (is_open_after false []) (λ whole. absurd cc))
-trees_of_fault roots (s ∷ input) more fault is =
-    let start : s.0 ≡ stream_start = cc in
-    let rest : events_in input ++ more ≡ documents_events roots = cc in
-    All-append HasTree (map (document_from (Some fault)) (after_starts false (s ∷ input)))
-    (further_document (s ∷ input) (Some fault))
-    (rw start (trees_of_beginning roots input more fault rest))
-    (all_failed HasTree fault (is_open_after false (s ∷ input)) (λ whole. absurd cc))
+  trees_of_front : (roots : List Node) (input : Input) (more : List PlainEvent)
+      → events_in input ++ more ≡ stream_events roots → All HasTree (map from (after_starts false input))
+  trees_of_front roots [] more is = All-nil HasTree
+  trees_of_front roots (s ∷ input) more is =
+      let start : s.0 ≡ stream_start = cc in rw start (trees_of_beginning roots input more (cc))
 
 -- each document that nothing cut off has a tree
 pub whole_has_tree : (input : Input) (fault : Option PlainFault) → IsWellFormed (is_some fault) (events_in input)
     → All HasTree (documents_of input fault)
 whole_has_tree input None h = trees_of_stream h.0 (last_mark input) (documents_of input None)
     (documents_of_stream h.0 input h.1)
-whole_has_tree input (Some fault) h = trees_of_fault h.0.1.0 input h.0.0 fault h.0.1.1
-
--- where no document begins none is open
-none_open : (input : Input) → after_starts false input ≡ [] → is_open_after false input ≡ false
-none_open [] none = refl
-none_open (e ∷ input) none = grind (arith, none_open input)
-
-some_of_stream : (roots : List Node) (last : Option Position) (documents : List PlainDocument)
-    → AreStreamDocuments roots last documents → documents ≢ []
-some_of_stream [] last documents h = λ none. absurd (let one = sym none ∙ h.2 in cc)
-some_of_stream (root ∷ roots) last [] h = absurd h
-some_of_stream (root ∷ roots) last (d ∷ ds) h = λ none. absurd (cc)
-
-some_of_fault : (fault : PlainFault) (starts : List Input) (b : Bool) → (starts ≡ [] → b ≡ false)
-    → map (document_from (Some fault)) starts ++ cond b [] (failed_document fault ∷ []) ≢ []
-some_of_fault fault [] true h = λ none. absurd (let no_ = h refl in cc)
-some_of_fault fault [] false h = λ none. absurd (cc)
-some_of_fault fault (s ∷ starts) b h = λ none. absurd (cc)
+whole_has_tree input (Some fault) h =
+    All-append HasTree (map (from fault) (after_starts false input)) (further_document input (Some fault))
+    (trees_of_front fault h.0.1.0 input h.0.0 h.0.1.1)
+    (all_failed HasTree fault (is_open_after false input) (λ whole. absurd cc))
 
 -- a stream has a document
+none_of_stream : (roots : List Node) (last : Option Position) → AreStreamDocuments roots last [] → ⊥
+none_of_stream [] last h = let one = h.2 in cc
+none_of_stream (root ∷ roots) last h = h
+
 pub has_some : (input : Input) (fault : Option PlainFault) → IsWellFormed (is_some fault) (events_in input)
     → documents_of input fault ≢ []
-has_some input None h = some_of_stream h.0 (last_mark input) (documents_of input None)
-    (documents_of_stream h.0 input h.1)
-has_some input (Some fault) h = some_of_fault fault (after_starts false input) (is_open_after false input)
-    (none_open input)
+has_some input None h = λ none.
+    none_of_stream h.0 _ (subst (AreStreamDocuments h.0 (last_mark input)) none (documents_of_stream h.0 input h.1))
+has_some input (Some fault) h = λ none. subst (EndAtFault fault) none (fault_last input fault)

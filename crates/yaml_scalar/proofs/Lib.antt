@@ -4,8 +4,6 @@ pub mod FoundLaws
 pub mod IntegerLaws
 pub mod LiftLaws
 pub mod OfShape
-pub mod ScalarShapeLaws
 pub mod SmallNumbers
 pub mod TextLaws
 pub mod VariantCode
-pub mod VariantLaws

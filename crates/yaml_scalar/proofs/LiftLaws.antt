@@ -6,10 +6,7 @@ use Rattle.yaml_scalar.specs.Steps.{◌>>=◌}
 
 -- data that was found is what is given
 pub lifted : {A : Type 0} {x : A} (r : Result A ReadFault) → lift r ≡ Ok x → r ≡ Ok x
-lifted (Ok y) h = ap Ok (ok_is h)
-  where
-    ok_is : {A : Type 0} {x y : A} → ◌≡◌ {A = Result A PlainRefusal} (Ok x) (Ok y) → x ≡ y
-    ok_is h = cc
+lifted {x = x} (Ok y) h = let e : y ≡ x = cc in ap Ok e
 lifted (Err fault) h = absurd cc
 
 -- what goes on from a fault is refused alike

@@ -6,11 +6,10 @@ use Rattle.yaml_scalar.proofs.variant_names.variant_named.Goals as goal
 
 pub returns-then-eq : goal.returns-then-eq
 returns-then-eq c =
-    found c.args.variants.now c.args.name.now c.loop-place.place c.index-variants-place.result
-    c.index-variants-place-then-eq.result c.loop-place-test.true
-    (ap (λ t. bytes_eq t c.args.name.now) (sym c.as_str.ensures.value) ∙ (sym c.if-eq.ensures)) c.loop-place.invariant
+    found _ _ _ _ c.loop-place-test.true c.loop-place.invariant _
+    (ap (λ t. bytes_eq t c.args.name.now) (sym c.as_str.ensures.value) ∙ (sym c.if-eq.ensures))
 
 pub loop-place-preserved : goal.loop-place-preserved
 loop-place-preserved c =
-    passed c.args.variants.now c.args.name.now c.loop-place.place c.index-variants-place.result c.loop-place-test.true
-    (ap (λ t. bytes_eq t c.args.name.now) (sym c.as_str.ensures.value) ∙ (sym c.if-eq.ensures)) c.loop-place.invariant
+    passed _ _ _ c.index-variants-place.result c.loop-place-test.true c.loop-place.invariant
+    (ap (λ t. bytes_eq t c.args.name.now) (sym c.as_str.ensures.value) ∙ (sym c.if-eq.ensures))

@@ -9,4 +9,4 @@ use Rattle.yaml_scalar.proofs.variant_names.variant_named.Given as goal
 abbrev pub invariant-loop-place : goal.invariant-loop-place
 invariant-loop-place l =
     variant_named (variants_of l.variants) l.name
-    ≡ behind_by l.place (variant_named (drop l.place (variants_of l.variants)) l.name)
+    ≡ behind_by l.place (variant_named (variants_of (drop l.place l.variants)) l.name)

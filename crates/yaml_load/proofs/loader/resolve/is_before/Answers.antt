@@ -5,12 +5,10 @@ use Rattle.yaml_load.proofs.loader.resolve.is_before.Goals as goal
 
 pub returns-in-Some-clause-before : goal.returns-in-Some-clause-before
 returns-in-Some-clause-before c = λ yes.
-    all_before c.args.named.now c.args.alias.now c.requires c.args.at c.in-Some.anchor.now c.in-Some.ensures.lookup.0
-    c.in-Some.ensures.lookup.1
-    (sym (c.is_lt.ensures ∙ ap is_lt c.cmp.ensures) ∙ yes)
+    all_before c.args.named.now c.args.alias.now c.requires c.args.at _ c.in-Some.ensures.lookup.0
+    c.in-Some.ensures.lookup.1 (sym (c.is_lt.ensures ∙ ap is_lt c.cmp.ensures) ∙ yes)
 
 pub returns-in-Some-clause-behind : goal.returns-in-Some-clause-behind
 returns-in-Some-clause-behind c = λ no.
-    none_before c.args.named.now c.args.alias.now c.requires c.args.at c.in-Some.anchor.now c.in-Some.ensures.lookup.0
-    c.in-Some.ensures.lookup.1
-    (sym (c.is_lt.ensures ∙ ap is_lt c.cmp.ensures) ∙ no)
+    none_before c.args.named.now c.args.alias.now c.requires c.args.at _ c.in-Some.ensures.lookup.0
+    c.in-Some.ensures.lookup.1 (sym (c.is_lt.ensures ∙ ap is_lt c.cmp.ensures) ∙ no)

@@ -11,16 +11,12 @@ returns-in_err-checked_sub c =
 
 pub returns-then-eq : goal.returns-then-eq
 returns-then-eq c =
-    sym (found_in_front c.args.alias.now c.args.named.now c.requires.order c.args.at c.requires.at
-    c.in_ok-checked_sub.field-0
-    c.in_ok-anchor.field-0.now (omega (arith, c.in_ok-checked_sub.ensures)) c.in_ok-anchor.ensures.lookup.0
-    c.in_ok-anchor.ensures.lookup.1
-    (sym c.eq.ensures ∙ c.if-eq.true))
+    let lookup = c.in_ok-anchor.ensures.lookup in
+    sym (found_in_front c.args.alias.now c.args.named.now c.requires.order c.args.at c.requires.at _ _
+    (omega (arith, c.in_ok-checked_sub.ensures)) lookup.0 lookup.1 (sym c.eq.ensures ∙ c.if-eq.true))
 
 pub returns-else-eq : goal.returns-else-eq
 returns-else-eq c =
-    sym (other_in_front c.args.alias.now c.args.named.now c.requires.order c.args.at c.requires.at
-    c.in_ok-checked_sub.field-0
-    c.in_ok-anchor.field-0.now (omega (arith, c.in_ok-checked_sub.ensures)) c.in_ok-anchor.ensures.lookup.0
-    c.in_ok-anchor.ensures.lookup.1
-    (sym c.eq.ensures ∙ c.if-eq.false))
+    let lookup = c.in_ok-anchor.ensures.lookup in
+    sym (other_in_front c.args.alias.now c.args.named.now c.requires.order c.args.at c.requires.at _ _
+    (omega (arith, c.in_ok-checked_sub.ensures)) lookup.0 lookup.1 (sym c.eq.ensures ∙ c.if-eq.false))

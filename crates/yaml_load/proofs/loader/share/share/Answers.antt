@@ -1,8 +1,7 @@
 -- The range that comes next lies within the events, and its document is put behind those so far.
 use Rattle.std.specs.Prelude.{◌∷◌}
-use Rattle.yaml_load.proofs.Words.{All, ap, subst, arith, into_iter_items, All-tail, AreCuts, HasEnds, document_in}
-use Rattle.yaml_load.proofs.Words.{documents_in, IsDocument, Cut}
-use Rattle.yaml_load.proofs.Gatherings.{documents_left}
+use Rattle.yaml_load.proofs.Words.{All, append_assoc, subst, arith, into_iter_items, All-tail, AreCuts, HasEnds}
+use Rattle.yaml_load.proofs.Words.{document_in, documents_in, IsDocument, Cut}
 use Rattle.yaml_load.proofs.loader.share.share.Goals as goal
 
 pub new-requires-in-Some : goal.new-requires-in-Some
@@ -32,8 +31,6 @@ cuts-preserved c =
       kept = All-tail IsDocument (document_in events cut) (documents_in events (into_iter_items c.next.new.self))
           (subst (λ cuts. All IsDocument (documents_in events cuts)) c.in-Some.ensures.items c.cuts.invariant.kept);
       documents =
-          documents_left events c.in_ok-clone.field-0.value.items cut c.cuts.documents.items c.push.new.self.items _
-          c.new-in-Some.result (into_iter_items c.cuts.rest) (into_iter_items c.next.new.self)
-          (ap (λ (v : _). v.items) c.in_ok-clone.ensures.cases) c.in-Some.ensures.items c.in_ok-push.ensures.items
-          c.new-in-Some.ensures c.cuts.invariant.documents;
+          rw (c.in_ok-push.ensures.items, append_assoc, c.new-in-Some.ensures, c.in_ok-clone.ensures.cases)
+          (rw c.in-Some.ensures.items at c.cuts.invariant.documents);
     }

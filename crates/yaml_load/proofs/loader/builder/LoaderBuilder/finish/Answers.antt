@@ -3,7 +3,7 @@ use Rattle.std.specs.Prelude.{◌≡◌}
 use Rattle.yaml_load.proofs.Words.{rules, ◌∙◌, ap, is_some, length, subst, sym, length-map, Input, documents_of}
 use Rattle.yaml_load.proofs.Words.{events_in, plain_marked, IsWellFormed, IsWrongAt, NotAStream, PlainEvent, Position}
 use Rattle.yaml_load.proofs.Intakes.{all_documents, closed, ready_in}
-use Rattle.yaml_load.proofs.LoadingEnds.{flags_same}
+use Rattle.yaml_load.proofs.LoadingLaws.{flags_same}
 use Rattle.yaml_load.proofs.WrongPlaces.{wrong_end, wrong_not_well_formed}
 use Rattle.yaml_load.proofs.loader.builder.LoaderBuilder.finish.Goals as goal
 

@@ -1,6 +1,6 @@
 -- The end of the events ends the open document, or adds the one that the fault, or an empty stream, leaves.
 use Rattle.yaml_load.proofs.Words.{arith, ◌∙◌, sym, eqb-true, nil_from_length}
-use Rattle.yaml_load.proofs.LoadingEnds.{all_open, all_void, fault_closes, closed_none}
+use Rattle.yaml_load.proofs.LoadingLaws.{all_open, all_void, fault_closes, closed_none}
 use Rattle.yaml_load.proofs.loader.draft.Draft.close.Goals as goal
 
 pub returns-in_ok-finish-in-Some : goal.returns-in_ok-finish-in-Some

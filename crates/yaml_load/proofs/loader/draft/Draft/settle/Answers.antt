@@ -1,7 +1,7 @@
 -- Anchors that are sorted have the same targets.
 use Rattle.yaml_load.proofs.Words.{List, ◌∙◌, ap, drop, sym, marked_events_of, Find, find_in, settled}
 use Rattle.yaml_load.proofs.AnchorOrders.{Named}
-use Rattle.yaml_load.proofs.SortedAnchors.{same_find}
+use Rattle.yaml_load.proofs.AnchorSearch.{same_find}
 use Rattle.yaml_load.proofs.loader.draft.Draft.settle.Goals as goal
 
 pub returns-clause-settled : goal.returns-clause-settled

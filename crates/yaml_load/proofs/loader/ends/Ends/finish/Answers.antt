@@ -2,7 +2,7 @@
 use Rattle.std.specs.Prelude.{◌∷◌}
 use Rattle.yaml_load.proofs.Words.{refl, ap, arith, length, set, reverse, [], ◌∙◌, length-append, length-set, rules}
 use Rattle.yaml_load.proofs.Words.{EndsView, filled}
-use Rattle.yaml_load.proofs.OpenEndsLaws.{finish_more, finished, in_front, last_in}
+use Rattle.yaml_load.proofs.OpenEndsLaws.{finish_more, finished, in_set, last_in}
 use Rattle.yaml_load.proofs.loader.ends.Ends.finish.Goals as goal
 
 pub unended-init : goal.unended-init
@@ -15,12 +15,9 @@ unended-init c = record {
 pub index_mut-requires : goal.index_mut-requires
 index_mut-requires c =
     let l = c.unended.self-inside in
-    omega (
-      arith,
-      l.numbers.ok,
-      last_in l.numbers.items c.pop.new.self.items l.unended.items c.in-Some.start
-          c.in-Some.ensures.items c.unended.invariant.within,
-    )
+    let w = last_in l.numbers.items c.pop.new.self.items l.unended.items c.in-Some.start c.in-Some.ensures.items
+    c.unended.invariant.within in
+    omega (arith, l.numbers.ok, w.1)
 
 pub unended-smaller : goal.unended-smaller
 unended-smaller c = let w = c.in-Some.ensures.items in
@@ -31,10 +28,9 @@ unended-preserved c =
     let l = c.unended.self-inside in
     record {
       within =
-          in_front l.numbers.items (set l.numbers.items c.in-Some.start c.args.size) c.pop.new.self.items
-          l.unended.items
-          c.in-Some.start c.in-Some.ensures.items (length-set l.numbers.items c.in-Some.start c.args.size)
-          c.unended.invariant.within;
+          in_set l.numbers.items c.pop.new.self.items c.in-Some.start c.args.size
+          (last_in l.numbers.items c.pop.new.self.items l.unended.items c.in-Some.start c.in-Some.ensures.items
+          c.unended.invariant.within).0;
       count = length-set l.numbers.items c.in-Some.start c.args.size ∙ c.unended.invariant.count;
       all =
           finish_more l.unended.items c.pop.new.self.items c.pop.new.self.items c.in-Some.start c.args.size
