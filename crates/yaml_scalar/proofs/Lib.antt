@@ -1,5 +1,6 @@
 -- Lemmas of this crate.
 pub mod CharacterLaws
+pub mod FourDigits
 pub mod FoundLaws
 pub mod IntegerLaws
 pub mod LiftLaws

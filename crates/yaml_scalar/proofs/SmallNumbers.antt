@@ -1,19 +1,18 @@
 -- Numbers of a few decimal digits, as a loop from the left reads them.
 use Rattle.std.proofs.Common.{◌≡◌, ℕ, zero, suc, ◌+◌, ◌*◌, ◌-◌, ◌^◌, ◌<◌, ◌≤◌, List, [], ◌∷◌, ◌++◌, length, take, drop}
-use Rattle.std.proofs.Common.{refl}
-use Rattle.std.proofs.Common.{get_or, sym, ap, ◌∙◌, subst, arith, true, false}
-use Rattle.std.specs.Prelude.{Option, Some, option_and_then, nat_lt}
+use Rattle.std.proofs.Common.{refl, sym, ap, ◌∙◌, subst, arith, true, false}
+use Rattle.std.specs.Prelude.{Option, None, Some, IfSome, option_and_then, nat_lt, ◌==◌}
 use Rattle.std.specs.Char.{digit_value}
 use Rattle.std.specs.Int.{IsInRange}
 use Rattle.std.specs.List.{list_all}
 use Rattle.std.specs.Str.{IsAscii, IsUtf8}
 use Rattle.std.specs.Str.Parse.{AllDigits}
+use Rattle.std.proofs.lemmas.Bool.{ne_eqb}
 use Rattle.std.proofs.lemmas.Bool.Decides.{Decides-ltb}
-use Rattle.std.proofs.lemmas.List.{drop_more}
+use Rattle.std.proofs.lemmas.List.{length-take-le, take-append-drop}
 use Rattle.std.proofs.lemmas.Fmt.{IsAscii-from_digits}
 use Rattle.std.proofs.lemmas.Str.{digit_value_digit, IsUtf8-from_ascii}
-use Rattle.std.proofs.Math.Nat.{pow-succ', pow-le-pow_right}
-use Rattle.std.proofs.Math.Seq.{take-suc, drop-length}
+use Rattle.std.proofs.Math.Nat.{pow-succ', pow-le-pow_right, mul-le-mul_left, mul-le-mul_right, le-mul_of_pos_right, one-le-pow}
 use Rattle.yaml_scalar.specs.ScalarShapes.{utf8_text}
 use Rattle.yaml_scalar.proofs.TextLaws.{bytes-there}
 use Rattle.yaml_base.specs.Integers.{decimal, has_zero_in_front, number_in, place_value}
@@ -34,61 +33,98 @@ behind-digit n c cs = rw pow-succ' (moved n (digit_value c) (10 ^ length cs) (pl
     moved n d p w = omega arith
 
 -- the value of a digit, as its byte has it
-digit-byte : (c : ℕ) → IsInRange 48 57 c → digit_value c ≡ c - 48
+pub digit-byte : (c : ℕ) → IsInRange 48 57 c → digit_value c ≡ c - 48
 digit-byte c digit = omega (arith, digit_value_digit c digit)
 
--- the byte at a place goes over into the number
-pub behind-more : (n i : ℕ) (ds : List ℕ) → i < length ds → IsInRange 48 57 (get_or ds i 0)
-    → behind (n * 10 + (get_or ds i 0 - 48)) (drop (i + 1) ds) ≡ behind n (drop i ds)
-behind-more n i ds h digit =
-    rw (← digit-byte (get_or ds i 0) digit)
-    (sym (ap (behind n) (drop_more ds i 0 h) ∙ behind-digit n (get_or ds i 0) (drop (i + 1) ds)))
+-- A number was read of digits, and some are left: these write the number of all behind it, all are digits where these
+-- are, and the number is small whatever they are.
+abbrev pub IsRead : ℕ → List ℕ → List ℕ → Type 0
+IsRead n left ds =
+    (behind n left ≡ place_value 10 ds)
+    × (AllDigits 10 left → AllDigits 10 ds)
+    × ((n + 1) * 10 ^ length left ≤ 10 ^ 18)
 
-one-more : (i : ℕ) → i + 1 ≡ suc i
-one-more i = omega arith
+room-left : (n d p : ℕ) → d < 10 → (n * 10 + d + 1) * p ≤ (n + 1) * (10 * p)
+room-left n d p digit =
+    let more : (n * 10 + d + 1) * p ≤ ((n + 1) * 10) * p = mul-le-mul_right p (omega (arith, digit)) in
+    omega (arith, more)
 
--- digits with one more
-digits-more : (ds : List ℕ) (c : ℕ) → AllDigits 10 ds → digit_value c < 10 → AllDigits 10 (ds ++ c ∷ [])
-digits-more [] c all digit = (digit, tt)
-digits-more (d ∷ ds) c all digit = (all.0, digits-more ds c all.1 digit)
+-- one digit is read
+read-digit : (n c : ℕ) (cs ds : List ℕ) → digit_value c < 10 → IsRead n (c ∷ cs) ds
+    → IsRead (n * 10 + digit_value c) cs ds
+read-digit n c cs ds digit r =
+    let room : (n + 1) * (10 * 10 ^ length cs) ≤ 10 ^ 18 = rw pow-succ' at r.2 in (
+      sym (behind-digit n c cs) ∙ r.0,
+      λ all. r.1 (digit, all),
+      omega (arith, room, room-left n (digit_value c) (10 ^ length cs) digit),
+    )
 
-pub all-more : (i : ℕ) (ds : List ℕ) → i < length ds → IsInRange 48 57 (get_or ds i 0) → AllDigits 10 (take i ds)
-    → AllDigits 10 (take (i + 1) ds)
-all-more i ds h digit all =
-    subst (AllDigits 10) (sym (ap (λ j. take j ds) (one-more i) ∙ take-suc ds i 0 h))
-    (digits-more (take i ds) (get_or ds i 0) all (omega (arith, digit-byte _ digit, digit)))
+pub read-byte : (n c : ℕ) (cs ds : List ℕ) → IsInRange 48 57 c → IsRead n (c ∷ cs) ds → IsRead (n * 10 + (c - 48)) cs ds
+read-byte n c cs ds digit r =
+    let value = digit-byte c digit in
+    rw value at (read-digit n c cs ds (omega (arith, value, digit)) r)
 
--- a number of so many digits, and one more
-pub small-more : (i n c : ℕ) → n < 10 ^ i → IsInRange 48 57 c → n * 10 + (c - 48) < 10 ^ (i + 1)
-small-more i n c small digit = rw (one-more i, pow-succ' 10 i) (omega (arith, small, digit))
+-- several are
+read-digits : (n : ℕ) (some cs ds : List ℕ) → AllDigits 10 some → IsRead n (some ++ cs) ds → IsRead (behind n some) cs ds
+read-digits n [] cs ds all r = rw behind-none r
+read-digits n (c ∷ some) cs ds all r =
+    rw behind-digit (read-digits (n * 10 + digit_value c) some cs ds all.1 (read-digit n c (some ++ cs) ds all.0 r))
 
--- a few digits write a small number
-pub small-number : (i n : ℕ) → i ≤ 18 → n < 10 ^ i → n < 10 ^ 18
-small-number i n few small =
-    let most : 10 ^ i ≤ 10 ^ 18 = pow-le-pow_right (omega arith) few in omega (arith, small, most)
+pub read-four : (n : ℕ) (left four rest ds : List ℕ) → four ≡ take 4 left → rest ≡ drop 4 left
+    → length rest + 4 ≡ length left → AllDigits 10 four → IsRead n left ds
+    → IsRead (n * 10000 + place_value 10 four) rest ds
+read-four n left four rest ds is rest-is more all r =
+    let few : length four ≡ 4 = rw is (length-take-le 4 left (omega (arith, more))) in
+    let whole : IsRead n (four ++ rest) ds = rw (is, rest-is, take-append-drop 4 left) r in
+    rw few at (read-digits n four rest ds all whole)
 
--- so one more digit fits into 64 bits
-pub small-fits : (i n c : ℕ) → i < 18 → n < 10 ^ i → IsInRange 48 57 c → n * 10 + (c - 48) < 2 ^ 64
-small-fits i n c few small digit =
-    let below : i ≤ 17 = omega (arith, few) in
-    let most : 10 ^ i ≤ 10 ^ 17 = pow-le-pow_right (omega arith) below in
-    omega (arith, small, most, digit)
+-- the first is
+pub read-first : (c : ℕ) (cs : List ℕ) → IsInRange 49 57 c → length cs < 18 → IsRead (c - 48) cs (c ∷ cs)
+read-first c cs digit few =
+    let few' : length (c ∷ cs) ≤ 18 = omega (arith, few) in
+    let most : 10 ^ length (c ∷ cs) ≤ 10 ^ 18 = pow-le-pow_right (omega arith) few' in
+    let none : IsRead 0 (c ∷ cs) (c ∷ cs) = (omega arith, λ all. all, omega (arith, most)) in
+    let value : 0 * 10 + (c - 48) ≡ c - 48 = omega arith in
+    rw value at (read-byte 0 c cs (c ∷ cs) (omega (arith, digit)) none)
+
+-- so many of those left have room behind it
+pub read-room : (n k : ℕ) (left ds : List ℕ) → k ≤ length left → IsRead n left ds → (n + 1) * 10 ^ k ≤ 10 ^ 18
+read-room n k left ds few r =
+    let less : 10 ^ k ≤ 10 ^ length left = pow-le-pow_right (omega arith) few in
+    omega (arith, r.2, mul-le-mul_left (n + 1) less)
+
+-- what was read is small
+pub read-small : (n : ℕ) (left ds : List ℕ) → IsRead n left ds → n < 10 ^ 18
+read-small n left ds r =
+    let some : 0 < 10 ^ length left = one-le-pow (length left) 10 (omega arith) in
+    omega (arith, r.2, le-mul_of_pos_right (n + 1) some)
 
 -- all digits pass the test
 all-pass : (ds : List ℕ) → AllDigits 10 ds → list_all (λ c. nat_lt (digit_value c) 10) ds ≡ true
 all-pass [] all = refl
 all-pass (d ∷ ds) all = rw ((Decides-ltb (digit_value d) 10).1 all.0, all-pass ds all.1) refl
 
--- what was read of all digits is their number
-pub number-read : (n : ℕ) (ds : List ℕ) → behind n (drop (length ds) ds) ≡ place_value 10 ds → AllDigits 10 ds
-    → 0 < length ds → has_zero_in_front decimal ds ≡ false → number_in decimal ds ≡ Some n
-number-read n ds whole all some alone =
-    let read : n ≡ place_value 10 ds = sym (behind-none n) ∙ (ap (behind n) (sym (drop-length ds)) ∙ whole) in
-    rw (alone, (Decides-ltb 0 (length ds)).1 some, all-pass ds all) (ap Some (sym read))
+-- all were read where none is left, and the first is not zero
+pub read-whole : (n c : ℕ) (cs ds : List ℕ) → ds ≡ c ∷ cs → IsInRange 49 57 c → IsRead n [] ds
+    → number_in decimal ds ≡ Some n
+read-whole n c cs ds is digit r =
+    let read : n ≡ place_value 10 ds = sym (behind-none n) ∙ r.0 in
+    let other : (c == 48) ≡ false = ne_eqb c 48 (λ e. omega (arith, digit, e)) in
+    let alone : has_zero_in_front decimal ds ≡ false = rw (is, other) refl in
+    let some : 0 < length ds = rw is (omega arith) in
+    rw (alone, (Decides-ltb 0 (length ds)).1 some, all-pass ds (r.1 tt)) (ap Some (sym read))
 
 -- digits are a text, behind a minus too
 pub digits-utf8 : (ds : List ℕ) → AllDigits 10 ds → IsUtf8 ds
 digits-utf8 ds all = IsUtf8-from_ascii ds (IsAscii-from_digits ds all)
+
+pub number-utf8 : (r : Option ℕ) (ds : List ℕ) → IfSome r (λ n. AllDigits 10 ds) → IfSome r (λ n. IsUtf8 ds)
+number-utf8 None ds all = tt
+number-utf8 (Some n) ds all = digits-utf8 ds all
+
+pub zero-utf8 : (text ds : List ℕ) (c : ℕ) → text ≡ c ∷ ds → c ≡ 48 → length ds ≡ 0 → IsUtf8 text
+zero-utf8 text [] c same is none = rw (same, is) (digits-utf8 (48 ∷ []) (omega arith, tt))
+zero-utf8 text (d ∷ ds) c same is none = absurd (omega (arith, none))
 
 minus-ascii : (ds : List ℕ) → IsAscii ds → IsAscii (45 ∷ ds)
 minus-ascii ds ascii zero = omega arith

@@ -1,6 +1,6 @@
 //! A scalar under the shape of an integer.
 
-ghost use Rattle.std.specs.Prelude.{◌≡◌, true, false, is_ok};
+ghost use Rattle.std.specs.Prelude.{◌≡◌, Bool, Ok, IfSome, true, false, is_ok};
 ghost use Rattle.yaml_shape.specs.DataView.{data_of};
 ghost use Rattle.yaml_shape.specs.PlainData.{signed_data, unsigned_data};
 ghost use Rattle.yaml_shape.specs.IntegerTypes.{has_sign};
@@ -64,8 +64,24 @@ fn read_unsigned(
     }
 }
 
-/// An integer of the type that the shape asks for.
+/// The integer that a plain scalar writes with a few decimal digits, where the shape asks for one.
 #[inline(always)]
+pub(crate) fn small_integer<'de>(shape: &Shape, scalar: &DocScalar<'_>) -> Option<Data<'de>>
+    ensures { IfSome result (λ d. (taken : Bool) →
+        scalar_answer (shape_of shape.now) taken (doc_scalar_of scalar.now) ≡ Ok (data_of d)) }
+{
+    let integer = shape.integer()?;
+    if integer.has_sign() {
+        let value = small_signed_in(integer, scalar)?;
+        Some(Data::Signed(value as i128))
+    } else {
+        let value = small_unsigned_in(integer, scalar)?;
+        Some(Data::Unsigned(value as u128))
+    }
+}
+
+/// An integer of the type that the shape asks for, however it is written.
+#[inline(never)]
 pub(crate) fn read_integer<'de>(
     alloc: Global,
     shape: &Shape,
@@ -79,16 +95,8 @@ pub(crate) fn read_integer<'de>(
         (scalar_answer (shape_of shape.now) taken (doc_scalar_of scalar.now)) }
 {
     if integer.has_sign() {
-        let value = match small_signed_in(integer, scalar) {
-            Some(value) => value as i128,
-            None => read_signed(alloc, shape, integer, taken, scalar)?,
-        };
-        Ok(Data::Signed(value))
+        Ok(Data::Signed(read_signed(alloc, shape, integer, taken, scalar)?))
     } else {
-        let value = match small_unsigned_in(integer, scalar) {
-            Some(value) => value as u128,
-            None => read_unsigned(alloc, shape, integer, taken, scalar)?,
-        };
-        Ok(Data::Unsigned(value))
+        Ok(Data::Unsigned(read_unsigned(alloc, shape, integer, taken, scalar)?))
     }
 }

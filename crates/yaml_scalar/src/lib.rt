@@ -3,6 +3,7 @@
 
 mod any_value;
 mod character;
+mod decimal;
 mod expected;
 mod found_kind;
 mod integer;

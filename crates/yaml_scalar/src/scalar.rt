@@ -17,7 +17,7 @@ ghost use Rattle.yaml_scalar.specs.ScalarShapes.{takes_no_memory, void_answer};
 
 use crate::any_value::any_scalar;
 use crate::character::read_char;
-use crate::integer::read_integer;
+use crate::integer::{read_integer, small_integer};
 use crate::mismatch::{found_no_elements, found_no_null, found_scalar};
 use crate::presence::{is_absent, is_empty_plain};
 use crate::refusal::{Result, ended, refused_bytes};
@@ -119,9 +119,9 @@ fn no_elements<'de>(alloc: Global, shape: &Shape, asked: &[ShapeId]) -> Result<D
     }
 }
 
-/// A scalar under a shape. The flag says whether its tag is taken. Under an optional it is asked only of a scalar that
-/// is not the optional's content.
-pub fn read_scalar<'de>(
+// A scalar under a shape, whatever it is written as.
+#[inline(always)]
+fn read_any_form<'de>(
     alloc: Global,
     shape: &Shape,
     taken: bool,
@@ -131,9 +131,6 @@ pub fn read_scalar<'de>(
     ensures free { takes_no_memory (shape_of shape.now) (doc_scalar_of scalar.now) ≡ true
         → is_ok result ≡ is_ok (scalar_answer (shape_of shape.now) taken (doc_scalar_of scalar.now)) }
 {
-    if let Some(integer) = shape.integer() {
-        return read_integer(alloc, shape, integer, taken, scalar);
-    }
     match shape {
         Shape::Any => read_any(alloc, taken, scalar),
         Shape::Bool => read_bool(alloc, shape, taken, scalar),
@@ -150,7 +147,29 @@ pub fn read_scalar<'de>(
         }
         Shape::Map(_, _) if is_empty_plain(scalar) => Ok(Data::Map(Vec::new(alloc))),
         Shape::Enum { name: _, variants } => read_variant_name(alloc, variants, scalar),
-        _ => Err(found_scalar(alloc, shape, taken, scalar)),
+        _ => match shape.integer() {
+            Some(integer) => read_integer(alloc, shape, integer, taken, scalar),
+            None => Err(found_scalar(alloc, shape, taken, scalar)),
+        },
+    }
+}
+
+/// A scalar under a shape. The flag says whether its tag is taken. Under an optional it is asked only of a scalar that
+/// is not the optional's content.
+pub fn read_scalar<'de>(
+    alloc: Global,
+    shape: &Shape,
+    taken: bool,
+    scalar: &DocScalar<'de>,
+) -> Result<Data<'de>>
+    ensures gives { Yields data_of result (scalar_answer (shape_of shape.now) taken (doc_scalar_of scalar.now)) }
+    ensures free { takes_no_memory (shape_of shape.now) (doc_scalar_of scalar.now) ≡ true
+        → is_ok result ≡ is_ok (scalar_answer (shape_of shape.now) taken (doc_scalar_of scalar.now)) }
+{
+    match small_integer(shape, scalar) {
+        Some(data) => Ok(data),
+        // taken apart and put together, so that no room is cleared for the answer before it is asked for
+        None => Ok(read_any_form(alloc, shape, taken, scalar)?),
     }
 }
 

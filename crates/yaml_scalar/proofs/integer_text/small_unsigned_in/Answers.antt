@@ -1,12 +1,15 @@
 use Rattle.std.proofs.Common.{sym}
 use Rattle.yaml_load.specs.DocEventView.{doc_scalar_of}
-use Rattle.yaml_scalar.proofs.IntegerLaws.{unsigned-there}
+use Rattle.yaml_scalar.proofs.IntegerLaws.{unsigned-held, unsigned-there}
 use Rattle.yaml_scalar.proofs.integer_text.small_unsigned_in.Goals as goal
 
-pub returns-in-Some-clause-value : goal.returns-in-Some-clause-value
-returns-in-Some-clause-value c taken =
-    let small = c.in-Some.ensures in
+pub returns-clause-held : goal.returns-clause-held
+returns-clause-held c =
+    let small = c.small_unsigned.ensures in
+    unsigned-held _ _ _ c.requires c.small_greatest-greatest.ensures small.most
+
+pub returns-clause-value : goal.returns-clause-value
+returns-clause-value c =
     let plain = sym c.if-not-is_plain.ensures in
-    let text = rw c.deref.ensures.value at small.text in
-    let value = rw c.deref.ensures.value at small.value in
-    unsigned-there _ (doc_scalar_of c.args.scalar.now) _ c.requires plain text value small.small _ taken
+    let small = rw c.deref.ensures.value at c.small_unsigned.ensures in
+    unsigned-there _ (doc_scalar_of c.args.scalar.now) _ c.requires plain small.text small.value small.small
