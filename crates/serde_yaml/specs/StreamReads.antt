@@ -51,6 +51,13 @@ IsRefusedBy stream cause = (limits : PlainLimits) (table : List PlainShape) (s :
 abbrev pub stream_of : Input → Option PlainFault → PlainStream
 stream_of input fault = record { documents = documents_of input fault; is_document = false; iterated = false }
 
+-- the stream is that of an input, which is a stream of events, or with the parser's fault a beginning of one
+pub record IsOfInput (stream : PlainStream) : Type 0 where
+  pub input : Input
+  pub fault : Option PlainFault
+  pub well_formed : IsWellFormed (is_some fault) (events_in input)
+  pub same : stream ≡ stream_of input fault
+
 -- What an input gives: a list of events that is no stream, or with the parser's fault no beginning of one, is refused
 -- with the least place that is wrong; of a stream, what the stream gives.
 pub data InputGives (limits : PlainLimits) (table : List PlainShape) (s : PlainShape) (input : Input)

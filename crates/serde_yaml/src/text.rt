@@ -26,7 +26,7 @@ use yaml_types::Deserialize;
 /// It is the text's events, as libyaml's parser makes them, and then `from_events`, but that no list of them is made. A
 /// text that can't be parsed is refused by the parser's fault, unless what stands before it is refused earlier.
 pub fn from_str<'de, T: Deserialize<'de>>(alloc: Global, text: &'de str) -> Result<T>
-    ensures given { Answers (λ value. value) result (λ given. IsParsed (λ events fault.
+    ensures given { Answers (λ value. value) result (λ given. IsParsed text.now (λ events fault.
         GivesValue default_limits T.start T.built T.refused events fault given
         × TypeGives default_limits T.start T.built T.refused events fault given)) }
     ensures stream { IsOfAStream result }
@@ -36,7 +36,7 @@ pub fn from_str<'de, T: Deserialize<'de>>(alloc: Global, text: &'de str) -> Resu
 
 /// The same of bytes, which are refused with the place of the first one that UTF-8 or YAML does not allow.
 pub fn from_slice<'de, T: Deserialize<'de>>(alloc: Global, text: &'de [u8]) -> Result<T>
-    ensures given { Answers (λ value. value) result (λ given. IsParsed (λ events fault.
+    ensures given { Answers (λ value. value) result (λ given. IsParsed text.now (λ events fault.
         GivesValue default_limits T.start T.built T.refused events fault given
         × TypeGives default_limits T.start T.built T.refused events fault given)) }
     ensures stream { IsOfAStream result }
@@ -50,7 +50,7 @@ pub fn from_slice_limited<'de, T: Deserialize<'de>>(
     text: &'de [u8],
     limits: Limits,
 ) -> Result<T>
-    ensures given { Answers (λ value. value) result (λ given. IsParsed (λ events fault.
+    ensures given { Answers (λ value. value) result (λ given. IsParsed text.now (λ events fault.
         GivesValue limits T.start T.built T.refused events fault given
         × TypeGives limits T.start T.built T.refused events fault given)) }
     ensures stream { IsOfAStream result }
@@ -72,7 +72,7 @@ pub fn data_from_str<'de>(
 ) -> Result<Data<'de>>
     requires { id.0 < length schema.now }
     ensures meaning { (s : PlainShape) → shape_at schema.now id.0 ≡ Some s → Answers data_of result (λ given.
-        IsParsed (λ events fault. GivesMeaning limits schema.now s events fault given)) }
+        IsParsed text.now (λ events fault. GivesMeaning limits schema.now s events fault given)) }
     ensures typed { IfOk result (λ found. HasShape schema.now id.0 (data_of found)) }
     ensures stream { IsOfAStream result }
 {
@@ -89,7 +89,7 @@ pub fn data_from_slice<'de>(
 ) -> Result<Data<'de>>
     requires { id.0 < length schema.now }
     ensures meaning { (s : PlainShape) → shape_at schema.now id.0 ≡ Some s → Answers data_of result (λ given.
-        IsParsed (λ events fault. GivesMeaning limits schema.now s events fault given)) }
+        IsParsed text.now (λ events fault. GivesMeaning limits schema.now s events fault given)) }
     ensures typed { IfOk result (λ found. HasShape schema.now id.0 (data_of found)) }
     ensures stream { IsOfAStream result }
 {
@@ -101,7 +101,7 @@ impl<'de> Deserializer<'de> {
     /// Takes a YAML text, whose documents may borrow from it. What can't be parsed is the fault of the document that it
     /// stands in, and comes when that document is read. The only error is want of memory.
     pub fn from_str(alloc: Global, text: &'de str) -> Result<Deserializer<'de>>
-        ensures documents { IfOk result (λ stream. IsParsed (λ events fault. stream ≡ stream_of events fault)) }
+        ensures documents { IfOk result (λ stream. IsParsed text.now (λ events fault. stream ≡ stream_of events fault)) }
         ensures memory { IfErr result (λ cause. is_memory cause ≡ true) }
     {
         Deserializer::from_slice(alloc, text.as_bytes())
@@ -109,7 +109,7 @@ impl<'de> Deserializer<'de> {
 
     /// The same of bytes.
     pub fn from_slice(alloc: Global, text: &'de [u8]) -> Result<Deserializer<'de>>
-        ensures documents { IfOk result (λ stream. IsParsed (λ events fault. stream ≡ stream_of events fault)) }
+        ensures documents { IfOk result (λ stream. IsParsed text.now (λ events fault. stream ≡ stream_of events fault)) }
         ensures memory { IfErr result (λ cause. is_memory cause ≡ true) }
     {
         Ok(Deserializer::of_documents(load(alloc, text)?))

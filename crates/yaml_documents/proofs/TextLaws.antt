@@ -1,5 +1,5 @@
 -- The events of a text are never refused as no stream.
-use Rattle.std.proofs.Common.{◌≡◌, ◌∙◌, ◌∷◌, ◌++◌, [], Bool, IsSomeAnd, List, None, Option, Some, ap, false, is_some, refl, subst, sym, true}
+use Rattle.std.proofs.Common.{◌≡◌, ◌∙◌, ◌∷◌, ◌++◌, [], Bool, List, ap, false, refl, subst, sym, true}
 use Rattle.std.proofs.lemmas.List.{map-append}
 use Rattle.yaml_base.specs.MarkedEvents.{events_in, plain_events, plain_marked}
 use Rattle.yaml_base.specs.PlainEvent.{event_of}
@@ -13,11 +13,6 @@ use Rattle.yaml_load.specs.WrongPlace.{IsWrongNext}
 pub not_false : (b : Bool) → (b ≡ false → ⊥) → b ≡ true
 not_false true never = refl
 not_false false never = absurd (never refl)
-
--- an option of which something holds has a value
-pub is_there : {X : Type 0} (P : X → Type 0) (o : Option X) → IsSomeAnd o P → is_some o ≡ true
-is_there P (Some x) holds = refl
-is_there P None holds = absurd holds
 
 -- the plain events, with their marks beside them or not
 pub same_events : (events : List (Event × Position)) → plain_events events ≡ events_in (plain_marked events)

@@ -1,2 +1,3 @@
 -- What contracts of this crate, and of those above it, cite.
 pub mod TextDocuments
+pub mod TextEvents

@@ -29,6 +29,7 @@ pub fn load<'de>(alloc: Global, text: &'de [u8]) -> Result<Loader<'de>>
             return Err(fault);
         }
     }
+    events.has_events();
     let Ending { fault, .. } = events.finish(alloc)?;
     match builder.finish(fault) {
         Ok(documents) => Ok(Loader::from(documents)),

@@ -38,12 +38,12 @@ module _ (limits : PlainLimits) (table : List PlainShape) (s : PlainShape) where
   tells_lines bytes events fault (Err cause) ended told says gives t = lines_refused _ _ _ says (gives refl) t.0 t.1
 
   -- of a text
-  pub tells_text : (found : Result Data Cause) (ended : Status) (told : List ℕ)
-      → Answers data_of found (λ given. IsParsed (λ events fault. GivesMeaning limits table s events fault given))
-      → Tells found ended told → IsTextReading limits table s ended told
-  tells_text (Ok content) ended told gives t = text_found _ gives t.0 t.1
-  tells_text (Err Memory) ended told gives t = text_no_memory t.0 t.1
-  tells_text (Err cause) ended told gives t = text_refused _ (gives refl) t.0 t.1
+  pub tells_text : (text : List ℕ) (found : Result Data Cause) (ended : Status) (told : List ℕ)
+      → Answers data_of found (λ given. IsParsed text (λ events fault. GivesMeaning limits table s events fault given))
+      → Tells found ended told → IsTextReading limits table s text ended told
+  tells_text text (Ok content) ended told gives t = text_found _ gives t.0 t.1
+  tells_text text (Err Memory) ended told gives t = text_no_memory t.0 t.1
+  tells_text text (Err cause) ended told gives t = text_refused _ (gives refl) t.0 t.1
 
   -- of a document
   pub tells_document : (document : PlainDocument) (found : Result Data Cause) (ended : Status) (told : List ℕ)
@@ -79,8 +79,8 @@ module _ (limits : PlainLimits) (table : List PlainShape) (s : PlainShape) where
   lines-read bytes ended told (lines_no_memory e t) = λ f. let same = sym e ∙ f in absurd cc
 
   -- nor is one of a text
-  pub text-read : (ended : Status) (told : List ℕ) → IsTextReading limits table s ended told
+  pub text-read : (text : List ℕ) (ended : Status) (told : List ℕ) → IsTextReading limits table s text ended told
       → ended ≢ status.ReadFailed
-  text-read ended told (text_found value gives e t) = λ f. let same = sym e ∙ f in absurd cc
-  text-read ended told (text_refused cause gives e t) = λ f. let same = sym e ∙ f in absurd cc
-  text-read ended told (text_no_memory e t) = λ f. let same = sym e ∙ f in absurd cc
+  text-read text ended told (text_found value gives e t) = λ f. let same = sym e ∙ f in absurd cc
+  text-read text ended told (text_refused cause gives e t) = λ f. let same = sym e ∙ f in absurd cc
+  text-read text ended told (text_no_memory e t) = λ f. let same = sym e ∙ f in absurd cc

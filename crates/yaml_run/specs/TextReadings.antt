@@ -12,12 +12,12 @@ use Rattle.serde_yaml.specs.Headline.{GivesMeaning}
 use Rattle.serde_yaml.specs.TextReads.{IsParsed}
 
 -- how a reading of a text ends, within limits as a shape of a table, and what tells what it gave
-pub data IsTextReading (limits : PlainLimits) (table : List PlainShape) (shape : PlainShape) (ended : Status)
-    (told : List ℕ) : Type 0 where
-  found : (value : PlainData) → IsParsed (λ events fault. GivesMeaning limits table shape events fault (Ok value))
-      → ended ≡ status.Read → told ≡ data_text value → IsTextReading limits table shape ended told
-  refused : (cause : Cause) → IsParsed (λ events fault. GivesMeaning limits table shape events fault (Err cause))
+pub data IsTextReading (limits : PlainLimits) (table : List PlainShape) (shape : PlainShape) (text : List ℕ)
+    (ended : Status) (told : List ℕ) : Type 0 where
+  found : (value : PlainData) → IsParsed text (λ events fault. GivesMeaning limits table shape events fault (Ok value))
+      → ended ≡ status.Read → told ≡ data_text value → IsTextReading limits table shape text ended told
+  refused : (cause : Cause) → IsParsed text (λ events fault. GivesMeaning limits table shape events fault (Err cause))
       → ended ≡ status.Fault → told ≡ codes "fault: " ++ error_text cause
-      → IsTextReading limits table shape ended told
+      → IsTextReading limits table shape text ended told
   out_of_memory : ended ≡ status.Fault → told ≡ codes "fault: out of memory"
-      → IsTextReading limits table shape ended told
+      → IsTextReading limits table shape text ended told

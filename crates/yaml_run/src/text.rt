@@ -20,7 +20,7 @@ pub fn read_text(
 ) -> Result<Told, AllocError>
     requires { id.0 < length schema.now }
     ensures { (s : PlainShape) → shape_at schema.now id.0 ≡ Some s → IfOk result (λ told.
-        IsTextReading limits schema.now s told.ended (string_bytes told.text)) }
+        IsTextReading limits schema.now s text.now told.ended (string_bytes told.text)) }
 {
     told_of(alloc, data_from_slice(alloc, text, schema, id, limits))
 }

@@ -1,7 +1,8 @@
 //! The documents of a text, one after another.
 
-ghost use Rattle.std.specs.Prelude.{◌≡◌, [], true, IfErr, IfNone, IfSome};
+ghost use Rattle.std.specs.Prelude.{◌≡◌, [], true, IfErr, IfNone, IfOk, IfSome};
 ghost use Rattle.yaml_base.specs.Answer.{is_memory};
+ghost use Rattle.yaml_documents.specs.TextDocuments.{AreDocumentsOf};
 ghost use Rattle.yaml_serde.specs.NextDocument.{ReadsNext};
 
 use crate::leaf::Leaves;
@@ -36,6 +37,7 @@ impl<'de> Documents<'de> {
     /// The documents of a YAML text. What can't be parsed is the fault of the document that it stands in. The only
     /// error is want of memory.
     pub fn from_str(alloc: Global, text: &'de str) -> Result<Documents<'de>>
+        ensures documents { IfOk result (AreDocumentsOf text.now) }
         ensures memory { IfErr result (λ cause. is_memory cause ≡ true) }
     {
         Documents::from_slice(alloc, text.as_bytes())
@@ -43,6 +45,7 @@ impl<'de> Documents<'de> {
 
     /// The same of bytes.
     pub fn from_slice(alloc: Global, text: &'de [u8]) -> Result<Documents<'de>>
+        ensures documents { IfOk result (AreDocumentsOf text.now) }
         ensures memory { IfErr result (λ cause. is_memory cause ≡ true) }
     {
         let leaves = Leaves::new(alloc)?;

@@ -3,6 +3,7 @@
 ghost use Rattle.std.specs.Prelude.{◌≡◌, [], None, IsOk, OnOk, is_some};
 ghost use Rattle.yaml_base.specs.MarkedEvents.{plain_events, plain_marked};
 ghost use Rattle.yaml_base.specs.Stream.{IsWellFormed};
+ghost use Rattle.yaml_documents.specs.TextDocuments.{IsParsed};
 ghost use Rattle.yaml_scan.specs.AllowedText.{IsAllowed};
 ghost use Rattle.yaml_serde.specs.OneDocument.{IsOneDocument};
 
@@ -78,9 +79,10 @@ fn alone<T: Drop>(read: Result<T>, documents: &mut Loader<'_>) -> Result<T>
 /// The one document of a YAML text as a value of the type, within 128 nestings and 100 follows of aliases for each
 /// event. The value may borrow texts that stand in the text as they read.
 ///
-/// A value is given only of a text that YAML allows.
+/// A value is given only of a text that YAML allows, and that was parsed to one document which nothing cut off.
 pub fn from_str<'de, T: Deserialize<'de>>(alloc: Global, text: &'de str) -> Result<T>
     ensures allowed { OnOk result ((IsAllowed text.now → ⊥) → ⊥) }
+    ensures one { OnOk result (IsParsed text.now IsOneDocument) }
 {
     from_slice(alloc, text.as_bytes())
 }
@@ -89,6 +91,7 @@ pub fn from_str<'de, T: Deserialize<'de>>(alloc: Global, text: &'de str) -> Resu
 #[tactic(auto, using(crate::proofs::CutOff::never_cut_off))]
 pub fn from_slice<'de, T: Deserialize<'de>>(alloc: Global, text: &'de [u8]) -> Result<T>
     ensures allowed { OnOk result ((IsAllowed text.now → ⊥) → ⊥) }
+    ensures one { OnOk result (IsParsed text.now IsOneDocument) }
 {
     let mut documents = load(alloc, text)?;
     let Some(document) = documents.next_document() else {

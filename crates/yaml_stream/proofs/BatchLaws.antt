@@ -3,11 +3,12 @@ use Rattle.std.proofs.Common.{◌≡◌, ◌≢◌, List, [], ◌∷◌, ◌++�
 use Rattle.std.proofs.Common.{append-nil, append_assoc, IfSome, map, ℕ}
 use Rattle.std.proofs.lemmas.List.{map-append}
 use Rattle.yaml_base.proofs.StreamMachineLaws.{goes_on_run}
+use Rattle.yaml_documents.specs.TextEvents.{AreEventsOf}
 use Rattle.yaml_load.proofs.Words.{Event, Input, PlainDocument, PlainEvent, PlainFault, Position, State, before_stream}
 use Rattle.yaml_load.proofs.Words.{between_documents, document_end, document_from, events_in, is_inside}
 use Rattle.yaml_load.proofs.Words.{is_open_after, next_state, plain_events, plain_marked, run}
 use Rattle.yaml_load.proofs.WrongPlaces.{events_of_marked}
-use Rattle.yaml_stream.specs.FirstDocuments.{AreEventsOf, AreFirstDocumentsOf}
+use Rattle.yaml_stream.specs.FirstDocuments.{AreFirstDocumentsOf}
 use Rattle.yaml_stream.specs.inner.Filling.{Agree, IsBetween, IsFull, IsLast, ReadsOn, ReadsWhole, begun_in}
 use Rattle.yaml_stream.specs.inner.Pending.{ComeNext}
 use Rattle.yaml_stream.proofs.StartLaws.{documents_append, ended_start, open_append}

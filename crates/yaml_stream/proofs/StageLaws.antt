@@ -2,11 +2,10 @@
 use Rattle.std.proofs.Common.{◌≡◌, List, [], ◌++◌, map, refl, sym, ◌∙◌, ap, subst, true, false, Option, Some, None}
 use Rattle.std.proofs.Common.{is_some, Bool, ℕ}
 use Rattle.yaml_documents.specs.TextDocuments.{AreDocumentsOf}
+use Rattle.yaml_documents.specs.TextEvents.{AreParsed}
 use Rattle.yaml_load.proofs.Words.{Event, Input, IsWellFormed, PlainDocument, PlainFault, Position}
 use Rattle.yaml_load.proofs.Words.{document_from, documents_of, plain_events}
 use Rattle.yaml_load.proofs.Words.{plain_marked}
-use Rattle.yaml_load.proofs.WrongPlaces.{events_of_marked}
-use Rattle.yaml_scan.specs.AllowedText.{IsAllowed}
 use Rattle.yaml_stream.specs.declared.batch.Stage.TheVariants.{Ended, Reading}
 use Rattle.yaml_stream.specs.inner.Filling.{IsBetween, IsFull, IsLast, begun_in, front, left_documents}
 use Rattle.yaml_stream.specs.inner.Pending.{ComeNext}
@@ -43,32 +42,24 @@ full_at last events mark {text} {given} {taken} {taken_now} {documents} between 
     }
 
 -- the documents of a text whose events were read to their end
-all_read : (text : List ℕ) (given : List (Event × Position)) (fault : Option PlainFault)
-    → IsWellFormed (is_some fault) (plain_events given)
-    → ((IsAllowed text → ⊥) → (given ≡ []) × (is_some fault ≡ true))
+all_read : (text : List ℕ) (given : List (Event × Position)) (fault : Option PlainFault) → AreParsed text given fault
     → AreDocumentsOf text (documents_of (plain_marked given) fault)
-all_read text given fault w refused = record {
-  events = plain_marked given;
-  fault = fault;
-  well_formed = subst (IsWellFormed (is_some fault)) (sym (events_of_marked given)) w;
-  holds = (refl, λ against. let none = refused against in (ap plain_marked none.0, none.1));
-}
+all_read text given fault parsed = record { events = given; fault = fault; parsed = parsed; holds = refl }
 
 -- the last batch
 pub last_at : (last : Option Position) (fault : Option PlainFault) {text : List ℕ} {given : List (Event × Position)}
     {taken : Input} {given_now : List (Event × Position)} {taken_now : Input} {some : Bool}
     {documents : List PlainDocument} → IsBetween last given → taken ≡ front last
-    → IsLast text given taken given_now taken_now some → IsWellFormed (is_some fault) (plain_events given_now)
-    → ((IsAllowed text → ⊥) → (given_now ≡ []) × (is_some fault ≡ true))
+    → IsLast text given taken given_now taken_now some → AreParsed text given_now fault
     → documents ≡ left_documents taken_now fault (is_some last) some
     → IsAt text Ended documents (begun_in None (plain_marked given))
-last_at last fault {text} {given} {taken} {given_now} {taken_now} {some} {documents} between in_front end w refused is =
+last_at last fault {text} {given} {taken} {given_now} {taken_now} {some} {documents} between in_front end parsed is =
     let before = begun_in None (plain_marked given) in
     let whole = begun_in None end.reads.more in
-    let parts = end_last text last given taken given_now taken_now some between in_front end fault w in
+    let parts = end_last text last given taken given_now taken_now some between in_front end fault parsed.taken in
     record {
       behind = subst (AreDocumentsOf text) (parts.joined ∙ ap (λ (ds : List PlainDocument). before ++ ds) (sym is))
-          (all_read text given_now fault w refused);
+          (all_read text given_now fault parsed);
       next = subst (ComeNext text true before) (sym (is ∙ parts.behind))
           (last_next text before whole parts.rest end.reads.next parts.short);
       none = λ failed. absurd (cc);

@@ -1,23 +1,11 @@
 -- Which documents a text begins with, while its events are read.
 use Rattle.std.specs.Prelude.{◌≡◌, List, None, false, ℕ, map}
-use Rattle.yaml_base.specs.MarkedEvents.{plain_events, plain_marked}
+use Rattle.yaml_base.specs.MarkedEvents.{plain_marked}
 use Rattle.yaml_base.specs.Position.{Position}
-use Rattle.yaml_base.specs.Stream.{IsBeginning}
 use Rattle.yaml_base.specs.declared.event.Event.{Event}
-use Rattle.yaml_parse.specs.Marks.{MarksAscend}
-use Rattle.yaml_parse.specs.Places.{AreInPlace}
-use Rattle.yaml_parse.specs.PlainText.{SaySources}
-use Rattle.yaml_parse.specs.Shown.{AreShown}
+use Rattle.yaml_documents.specs.TextEvents.{AreEventsOf}
 use Rattle.yaml_read.specs.Documents.{after_starts, document_from, is_open_after}
 use Rattle.yaml_read.specs.PlainDocument.{PlainDocument}
-
--- what is known of the events that a parser handed out of a text
-pub record AreEventsOf (text : List ℕ) (events : List (Event × Position)) : Type 0 where
-  pub begins : IsBeginning (plain_events events)
-  pub sources : AreShown text events
-  pub plain : SaySources events
-  pub marks : MarksAscend text events
-  pub places : AreInPlace text events
 
 -- some events that a parser handed out of the text are cut into these documents, and no document is open behind them
 pub record AreFirstDocumentsOf (text : List ℕ) (documents : List PlainDocument) : Type 0 where

@@ -96,6 +96,7 @@ pub(crate) fn load_batch<'de>(
             Ok((documents, Stage::Reading(events, Some(mark))))
         }
         Filled::Last(some) => {
+            events.has_events();
             let Ending { fault, .. } = events.finish(alloc)?;
             let documents = left(builder, fault, before, some)?;
             Ok((documents, Stage::Ended))

@@ -5,7 +5,7 @@ ghost use Rattle.yaml_base.specs.Answer.{is_memory};
 ghost use Rattle.yaml_base.specs.MarkedEvents.{plain_marked};
 ghost use Rattle.yaml_base.specs.PlainEvent.{event_of};
 ghost use Rattle.yaml_read.specs.Documents.{is_document_end, is_open_after};
-ghost use Rattle.yaml_stream.specs.FirstDocuments.{AreEventsOf};
+ghost use Rattle.yaml_documents.specs.TextEvents.{AreEventsOf};
 ghost use Rattle.yaml_stream.specs.inner.Filling.{Agree, IsFilled, ReadsOn, front, is_last};
 
 use std::alloc::Global;

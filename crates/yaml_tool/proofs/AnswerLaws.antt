@@ -63,7 +63,7 @@ events-read (Some fault) ended e = fault-apart ended e
 asked-read : (t : Task) (bytes : List ℕ) (ended : Status) (text : List ℕ) → IsAsked t bytes ended text
     → ended ≢ status.ReadFailed
 asked-read (task.Show shape limits) bytes ended text h =
-    text-read limits (table_of shape) (first_shape shape) ended h.0 h.2
+    text-read limits (table_of shape) (first_shape shape) bytes ended h.0 h.2
 asked-read (task.ShowEach shape limits) bytes ended text h =
     turns-read limits (table_of shape) (first_shape shape) _ ended text h.holds
 asked-read (task.Format limits) bytes ended text h = either-read ended h

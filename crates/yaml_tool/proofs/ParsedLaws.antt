@@ -1,5 +1,6 @@
 -- What holds of what a text was parsed to.
 use Rattle.std.proofs.Common.{◌≡◌, false, ℕ, List, [], ◌++◌, Option, subst, ap, ◌∙◌}
+use Rattle.yaml_base.specs.MarkedEvents.{plain_marked}
 use Rattle.yaml_base.specs.PlainFault.{PlainFault}
 use Rattle.yaml_read.specs.Documents.{Input, documents_of}
 use Rattle.yaml_read.specs.TreeReader.{PlainLimits}
@@ -11,30 +12,31 @@ use Rattle.yaml_run.specs.Turns.{AreToldInTurn}
 use Rattle.yaml_run.specs.declared.status.Status.{Status}
 
 -- what follows from what holds of it holds of it too
-pub parsed-weaker : (P Q : Input → Option PlainFault → Type 0)
-    → ((events : Input) (fault : Option PlainFault) → P events fault → Q events fault) → IsParsed P → IsParsed Q
-parsed-weaker P Q f p = record {
+pub parsed-weaker : (text : List ℕ) (P Q : Input → Option PlainFault → Type 0)
+    → ((events : Input) (fault : Option PlainFault) → P events fault → Q events fault) → IsParsed text P
+    → IsParsed text Q
+parsed-weaker text P Q f p = record {
   events = p.events;
   fault = p.fault;
-  well_formed = p.well_formed;
-  holds = f p.events p.fault p.holds;
+  parsed = p.parsed;
+  holds = f (plain_marked p.events) p.fault p.holds;
 }
 
 -- the stream is that of what a text was parsed to
-abbrev pub IsOfText : PlainStream → Type 0
-IsOfText stream = IsParsed (λ events fault. stream ≡ stream_of events fault)
+abbrev pub IsOfText : List ℕ → PlainStream → Type 0
+IsOfText text stream = IsParsed text (λ events fault. stream ≡ stream_of events fault)
 
 -- so it is no document alone
-pub many-documents : (stream : PlainStream) → IsOfText stream → stream.is_document ≡ false
-many-documents stream p = ap (λ x. x.is_document) p.holds
+pub many-documents : (text : List ℕ) (stream : PlainStream) → IsOfText text stream → stream.is_document ≡ false
+many-documents text stream p = ap (λ x. x.is_document) p.holds
 
 -- what is told of its documents is told of the text's
-pub turns-parsed : (limits : PlainLimits) (table named : List PlainShape) (s : PlainShape) (stream : PlainStream)
-    (ended : Status) (text : List ℕ) → table ≡ named → IsOfText stream
+pub turns-parsed : (bytes : List ℕ) (limits : PlainLimits) (table named : List PlainShape) (s : PlainShape) (stream : PlainStream)
+    (ended : Status) (text : List ℕ) → table ≡ named → IsOfText bytes stream
     → AreToldInTurn limits table s stream.documents ended text
-    → IsParsed (λ events fault. AreToldInTurn limits named s (documents_of events fault) ended text)
-turns-parsed limits table named s stream ended text same p told =
-    parsed-weaker (λ events fault. stream ≡ stream_of events fault)
+    → IsParsed bytes (λ events fault. AreToldInTurn limits named s (documents_of events fault) ended text)
+turns-parsed bytes limits table named s stream ended text same p told =
+    parsed-weaker bytes (λ events fault. stream ≡ stream_of events fault)
     (λ events fault. AreToldInTurn limits named s (documents_of events fault) ended text)
     (λ events fault is. subst (λ x. AreToldInTurn limits named s x.documents ended text) is
     (subst (λ t. AreToldInTurn limits t s stream.documents ended text) same told)) p

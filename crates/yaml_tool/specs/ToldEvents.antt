@@ -1,30 +1,14 @@
 -- What is told of the events of a text.
-use Rattle.std.specs.Prelude.{ℕ, ◌≡◌, List, [], ◌∷◌, ◌++◌, is_some}
-use Rattle.std.specs.Prelude.{IsSomeAnd, Option, None, Some}
+use Rattle.std.specs.Prelude.{ℕ, ◌≡◌, List, [], ◌∷◌, ◌++◌, Option, None, Some}
 use Rattle.std.specs.List.{flat_map}
-use Rattle.yaml_base.specs.MarkedEvents.{plain_events}
 use Rattle.yaml_base.specs.PlainEvent.{event_of}
 use Rattle.yaml_base.specs.PlainFault.{PlainFault}
 use Rattle.yaml_base.specs.Position.{Position}
-use Rattle.yaml_base.specs.Stream.{IsWellFormed}
 use Rattle.yaml_base.specs.declared.event.Event.{Event}
 use Rattle.yaml_lines.specs.WrittenLines.{event_line, fault_line}
-use Rattle.yaml_parse.specs.Faults.{IsNotReaders}
-use Rattle.yaml_parse.specs.Marks.{MarksAscend}
-use Rattle.yaml_parse.specs.PlainText.{SaySources}
-use Rattle.yaml_parse.specs.Shown.{AreShown}
-use Rattle.yaml_scan.specs.AllowedText.{IsAllowed, IsOfReader}
+use Rattle.yaml_documents.specs.TextEvents.{AreParsed}
 use Rattle.yaml_run.specs.declared.status.Status.{Status}
 use Rattle.yaml_run.specs.declared.status.Status.TheVariants as status
-
--- the events of a text with their marks, and the parser's fault, if it met one, as far as yaml_text promises them
-pub record AreParsed (text : List ℕ) (events : List (Event × Position)) (fault : Option PlainFault) : Type 0 where
-  pub taken : IsWellFormed (is_some fault) (plain_events events)
-  pub sources : AreShown text events
-  pub plain : SaySources events
-  pub marks : MarksAscend text events
-  pub allowed : IsAllowed text → IsNotReaders fault
-  pub refused : (IsAllowed text → ⊥) → (events ≡ []) × IsSomeAnd fault (λ f. IsOfReader text f.kind f.offset)
 
 -- the line of each event
 abbrev pub event_lines : List (Event × Position) → List ℕ

@@ -18,7 +18,7 @@ use yaml_shape::ShapeId;
 
 // The data of the one document of a text, or its fault: a line.
 fn shown(alloc: Global, named: Named, limits: Limits, text: &[u8]) -> Result<Told, AllocError>
-    ensures { IfOk result (λ told. IsShown named limits told.ended (string_bytes told.text)) }
+    ensures { IfOk result (λ told. IsShown named limits text.now told.ended (string_bytes told.text)) }
 {
     let Ok(schema) = named.schema(alloc) else {
         return Err(AllocError);
@@ -35,7 +35,7 @@ fn shown_in_turn(
     limits: Limits,
     text: &[u8],
 ) -> Result<Told, AllocError>
-    ensures { IfOk result (λ told. IsParsed (λ events fault. AreToldInTurn limits (table_of named)
+    ensures { IfOk result (λ told. IsParsed text.now (λ events fault. AreToldInTurn limits (table_of named)
         (first_shape named) (documents_of events fault) told.ended (string_bytes told.text))) }
 {
     let Ok(schema) = named.schema(alloc) else {

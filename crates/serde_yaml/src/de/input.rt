@@ -10,8 +10,7 @@ ghost use Rattle.yaml_shape.specs.PlainShape.{PlainShape, shape_at};
 ghost use Rattle.yaml_read.specs.Documents.{Input};
 ghost use Rattle.yaml_read.specs.MarkedEvents.{events_in, plain_marked};
 ghost use Rattle.serde_yaml.specs.Headline.{GivesMeaning};
-ghost use Rattle.serde_yaml.specs.StreamReads.{InputGives, StreamGives, stream_of};
-ghost use Rattle.serde_yaml.specs.TextReads.{IsParsed};
+ghost use Rattle.serde_yaml.specs.StreamReads.{InputGives, IsOfInput, StreamGives, stream_of};
 
 use super::Deserializer;
 use crate::laws::reading_gives_the_meaning;
@@ -60,7 +59,7 @@ pub(crate) fn data_from_stream<'de>(
     limits: Limits,
 ) -> Result<Data<'de>>
     requires within { id.0 < length schema.now }
-    requires parsed { IsParsed (λ events fault. stream ≡ stream_of events fault) }
+    requires parsed { IsOfInput stream }
     ensures gives { (s : PlainShape) → shape_at schema.now id.0 ≡ Some s
         → Answers data_of result (StreamGives limits schema.now s stream.entry) }
     ensures meaning { (s : PlainShape) → shape_at schema.now id.0 ≡ Some s → (input : Input)

@@ -7,8 +7,7 @@ ghost use Rattle.yaml_base.specs.Stream.{IsWellFormed};
 ghost use Rattle.yaml_read.specs.Documents.{Input};
 ghost use Rattle.yaml_read.specs.MarkedEvents.{events_in, plain_marked};
 ghost use Rattle.yaml_read.specs.TreeReader.{default_limits};
-ghost use Rattle.serde_yaml.specs.StreamReads.{stream_of};
-ghost use Rattle.serde_yaml.specs.TextReads.{IsParsed};
+ghost use Rattle.serde_yaml.specs.StreamReads.{IsOfInput, stream_of};
 ghost use Rattle.serde_yaml.specs.TypedHeadline.{GivesValue};
 ghost use Rattle.serde_yaml.specs.TypedReads.{TypeGives};
 
@@ -74,7 +73,7 @@ pub(crate) fn from_stream<'de, T: Deserialize<'de>>(
     stream: Deserializer<'de>,
     limits: Limits,
 ) -> Result<T>
-    requires { IsParsed (λ events fault. stream ≡ stream_of events fault) }
+    requires { IsOfInput stream }
     ensures meaning { (input : Input) (fault : Option PlainFault) → stream.entry ≡ stream_of input fault
         → IsWellFormed (is_some fault) (events_in input) → Answers (λ value. value) result
         (GivesValue limits T.start T.built T.refused input fault) }

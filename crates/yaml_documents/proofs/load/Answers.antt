@@ -3,8 +3,9 @@ use Rattle.std.proofs.Common.{rules, ◌≡◌, ◌∙◌, ◌∷◌, ◌++◌, 
 use Rattle.yaml_base.specs.Answer.{is_memory}
 use Rattle.yaml_base.specs.MarkedEvents.{events_in, plain_events, plain_marked}
 use Rattle.yaml_base.specs.Stream.{IsWellFormed}
-use Rattle.yaml_scan.specs.AllowedText.{IsAllowed, IsOfReader}
-use Rattle.yaml_documents.proofs.TextLaws.{is_there, never_wrong, not_false, same_events}
+use Rattle.yaml_documents.proofs.TextLaws.{never_wrong, not_false, same_events}
+use Rattle.yaml_documents.specs.TextEvents.{AreParsed}
+use Rattle.yaml_read.specs.Documents.{documents_of}
 use Rattle.yaml_documents.proofs.load.Goals as goal
 
 pub returns-in-Err-clause-memory : goal.returns-in-Err-clause-memory
@@ -18,21 +19,26 @@ returns-in-Err-clause-memory c =
 pub returns-in-Ok-clause-documents : goal.returns-in-Ok-clause-documents
 returns-in-Ok-clause-documents c =
     let all : c.has_next.new.self.given ≡ c.events.events.given = Prim.search rules in
-    let text = c.in_ok-has_next.ensures.text ∙ c.events.invariant.0 in
+    let over : c.has_next.new.self.over ≡ true = Prim.search rules in
+    let given = c.has_next.new.self.given in
     let fault = c.in_ok-fault.field-0.fault in
+    let known = c.has_events-2.ensures in
+    let ended = c.in_ok-fault.ensures in
+    let parsed : AreParsed c.has_next.new.self.text given fault = record {
+      taken = ended.taken over;
+      sources = known.sources;
+      plain = known.plain;
+      marks = known.marks;
+      places = known.places;
+      allowed = ended.allowed;
+      refused = λ against. (ended.none against, ended.refused against);
+    } in
     record {
-      events = c.events.builder;
+      events = given;
       fault = fault;
-      well_formed = c.in-Ok.ensures.accepted;
-      holds = (
-        c.from.ensures ∙ c.in-Ok.ensures.documents,
-        λ against.
-            let refused = λ (allowed : IsAllowed c.has_next.new.self.text). against (subst IsAllowed text allowed) in (
-              c.events.invariant.1 ∙ ap plain_marked (sym all ∙ c.in_ok-fault.ensures.none refused),
-              is_there (λ (f : _). IsOfReader c.has_next.new.self.text f.kind f.offset) fault
-                  (c.in_ok-fault.ensures.refused refused),
-            ),
-      );
+      parsed = subst (λ text. AreParsed text given fault) (c.in_ok-has_next.ensures.text ∙ c.events.invariant.0) parsed;
+      holds = c.from.ensures ∙ c.in-Ok.ensures.documents
+          ∙ ap (λ es. documents_of es fault) (c.events.invariant.1 ∙ ap plain_marked (sym all));
     }
 
 pub returns-in-Err-finish-clause-memory : goal.returns-in-Err-finish-clause-memory

@@ -1,9 +1,14 @@
 -- What a type makes of the events of a text, it makes of the text; they are a stream, and not refused as none.
+use Rattle.std.proofs.Common.{refl}
+use Rattle.yaml_base.specs.MarkedEvents.{plain_marked}
 use Rattle.serde_yaml.specs.TypedHeadline.{GivesValue}
 use Rattle.serde_yaml.specs.TypedReads.{TypeGives}
 use Rattle.serde_yaml.proofs.TextFaults.{value_of_stream}
-use Rattle.serde_yaml.proofs.TextLaws.{answered, both}
+use Rattle.serde_yaml.proofs.TextLaws.{answered, both, is_stream, of_input}
 use Rattle.serde_yaml.proofs.text.from_slice_limited.Goals as goal
+
+pub from_stream-requires : goal.from_stream-requires
+from_stream-requires g c = λ k. ((refl, tt), of_input c.in_ok-stream.ensures.documents)
 
 pub returns-clause-given : goal.returns-clause-given
 returns-clause-given g c =
@@ -12,16 +17,18 @@ returns-clause-given g c =
     let refused = g.T.Deserialize.refused in
     let limits = c.args.limits in
     let p = c.in_ok-stream.ensures.documents in
+    let input = plain_marked p.events in
     answered (λ value. value) c.from_stream.result
     (λ events fault given. GivesValue limits start built refused events fault given
-    × TypeGives limits start built refused events fault given) p.events p.fault p.well_formed
-    (both (λ value. value) c.from_stream.result (GivesValue limits start built refused p.events p.fault)
-    (TypeGives limits start built refused p.events p.fault)
-    (c.from_stream.ensures.meaning p.events p.fault p.holds p.well_formed)
-    (c.from_stream.ensures.given p.events p.fault p.holds p.well_formed))
+    × TypeGives limits start built refused events fault given) p
+    (both (λ value. value) c.from_stream.result (GivesValue limits start built refused input p.fault)
+    (TypeGives limits start built refused input p.fault)
+    (c.from_stream.ensures.meaning input p.fault p.holds (is_stream p))
+    (c.from_stream.ensures.given input p.fault p.holds (is_stream p)))
 
 pub returns-clause-stream : goal.returns-clause-stream
 returns-clause-stream g c =
     let p = c.in_ok-stream.ensures.documents in
-    value_of_stream _ _ _ _ p.events p.fault c.from_stream.result p.well_formed
-    (c.from_stream.ensures.given p.events p.fault p.holds p.well_formed)
+    let input = plain_marked p.events in
+    value_of_stream _ _ _ _ input p.fault c.from_stream.result (is_stream p)
+    (c.from_stream.ensures.given input p.fault p.holds (is_stream p))

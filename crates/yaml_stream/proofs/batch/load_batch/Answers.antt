@@ -1,8 +1,7 @@
 -- A batch is full, or the text's last.
-use Rattle.std.proofs.Common.{◌∙◌, ap, is_some, subst}
-use Rattle.yaml_documents.proofs.TextLaws.{is_there}
-use Rattle.yaml_load.proofs.Words.{PlainFault, events_in, plain_events}
-use Rattle.yaml_scan.specs.AllowedText.{IsAllowed, IsOfReader}
+use Rattle.std.proofs.Common.{◌∙◌, List, ap, is_some, subst, ℕ}
+use Rattle.yaml_documents.specs.TextEvents.{AreParsed}
+use Rattle.yaml_load.proofs.Words.{events_in, plain_events}
 use Rattle.yaml_stream.specs.inner.Filling.{is_last, left_documents}
 use Rattle.yaml_stream.proofs.BatchLaws.{between_closed}
 use Rattle.yaml_stream.proofs.StageLaws.{full_at, last_at}
@@ -28,15 +27,20 @@ returns-in_ok-documents-in-Full-clause-at c =
 pub returns-in_ok-documents-in-Last-clause-at : goal.returns-in_ok-documents-in-Last-clause-at
 returns-in_ok-documents-in-Last-clause-at c =
     let fault = c.in_ok-fault-in-Last.field-0.fault in
-    let told = c.in_ok-fault-in-Last.ensures in
-    let text = c.in_ok-filled.ensures.text in
+    let given = c.fill.new.events.given in
+    let known = c.has_events.ensures in
+    let ended = c.in_ok-fault-in-Last.ensures in
+    let parsed : AreParsed c.fill.new.events.text given fault = record {
+      taken = ended.taken (c.in_ok-filled.ensures.over (ap is_last c.in-Last.is));
+      sources = known.sources;
+      plain = known.plain;
+      marks = known.marks;
+      places = known.places;
+      allowed = ended.allowed;
+      refused = λ against. (ended.none against, ended.refused against);
+    } in
     last_at c.args.last fault c.requires.between c.in_ok-builder.ensures.front
     (rw c.in-Last.is at c.in_ok-filled.ensures.filled)
-    (told.taken (c.in_ok-filled.ensures.over (ap is_last c.in-Last.is)))
-    (λ against.
-    let refused = λ (allowed : IsAllowed c.fill.new.events.text). against (subst IsAllowed text allowed) in (
-      told.none refused,
-      is_there (λ (f : PlainFault). IsOfReader c.fill.new.events.text f.kind f.offset) fault (told.refused refused),
-    ))
+    (subst (λ (text : List ℕ). AreParsed text given fault) c.in_ok-filled.ensures.text parsed)
     (c.in_ok-documents-in-Last.ensures.left
     ∙ ap (λ b. left_documents c.fill.new.builder fault b c.in-Last.some) c.is_some-before.ensures)

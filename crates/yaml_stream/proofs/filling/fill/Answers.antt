@@ -1,6 +1,6 @@
 -- One document more was read, or the events behind the last.
 use Rattle.std.proofs.Common.{◌∙◌, IfSome, List, subst, ℕ}
-use Rattle.yaml_stream.specs.FirstDocuments.{AreEventsOf}
+use Rattle.yaml_documents.specs.TextEvents.{AreEventsOf}
 use Rattle.yaml_stream.proofs.BatchLaws.{last_alone, last_behind, reads_first, reads_next}
 use Rattle.yaml_stream.proofs.filling.fill.Goals as goal
 

@@ -3,7 +3,7 @@ use Rattle.std.proofs.Common.{arith, ◌∙◌, ◌∷◌, ◌++◌, [], List, N
 use Rattle.yaml_base.specs.Answer.{is_memory}
 use Rattle.yaml_base.specs.PlainEvent.{event_of}
 use Rattle.yaml_documents.proofs.TextLaws.{not_false}
-use Rattle.yaml_stream.specs.FirstDocuments.{AreEventsOf}
+use Rattle.yaml_documents.specs.TextEvents.{AreEventsOf}
 use Rattle.yaml_stream.proofs.ReadLaws.{ends_not, ends_now, read_never_refused, reads_more}
 use Rattle.yaml_stream.proofs.filling.read_on.Goals as goal
 

@@ -13,6 +13,7 @@ returns c = record {
     sources = c.in_ok-parsed.ensures.sources;
     plain = c.in_ok-parsed.ensures.plain;
     marks = c.in_ok-parsed.ensures.marks;
+    places = c.in_ok-parsed.ensures.places;
     allowed = c.in_ok-parsed.ensures.allowed;
     refused = c.in_ok-parsed.ensures.refused;
   };

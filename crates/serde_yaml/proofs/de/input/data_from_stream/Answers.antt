@@ -8,6 +8,6 @@ pub returns-clause-typed : goal.returns-clause-typed
 returns-clause-typed c =
     let p = c.requires.parsed in
     answered_has c.a_meaning_has_its_shape.ensures c.reading_gives_the_meaning.ensures c.args.limits c.args.schema.now
-    c.args.id.0 p.events p.fault c.requires.within c.deserialize_limited.result
-    (λ s at. answers_weaker data_of _ _ (whole_input p.events p.fault p.well_formed p.holds)
+    c.args.id.0 p.input p.fault c.requires.within c.deserialize_limited.result
+    (λ s at. answers_weaker data_of _ _ (whole_input p.input p.fault p.well_formed p.same)
     c.deserialize_limited.result (c.deserialize_limited.ensures.gives s at))
