@@ -3,8 +3,7 @@ use Rattle.std.proofs.Common.{rules, ◌≡◌, ◌∙◌, ◌∷◌, ◌++◌, 
 use Rattle.yaml_base.specs.Answer.{is_memory}
 use Rattle.yaml_base.specs.MarkedEvents.{events_in, plain_events, plain_marked}
 use Rattle.yaml_base.specs.Stream.{IsWellFormed}
-use Rattle.yaml_documents.proofs.TextLaws.{never_wrong, not_false, same_events}
-use Rattle.yaml_documents.specs.TextEvents.{AreParsed}
+use Rattle.yaml_documents.proofs.TextLaws.{never_wrong, not_false, parsed_of, same_events}
 use Rattle.yaml_read.specs.Documents.{documents_of}
 use Rattle.yaml_documents.proofs.load.Goals as goal
 
@@ -24,19 +23,11 @@ returns-in-Ok-clause-documents c =
     let fault = c.in_ok-fault.field-0.fault in
     let known = c.has_events-2.ensures in
     let ended = c.in_ok-fault.ensures in
-    let parsed : AreParsed c.has_next.new.self.text given fault = record {
-      taken = ended.taken over;
-      sources = known.sources;
-      plain = known.plain;
-      marks = known.marks;
-      places = known.places;
-      allowed = ended.allowed;
-      refused = λ against. (ended.none against, ended.refused against);
-    } in
     record {
       events = given;
       fault = fault;
-      parsed = subst (λ text. AreParsed text given fault) (c.in_ok-has_next.ensures.text ∙ c.events.invariant.0) parsed;
+      parsed = parsed_of (c.in_ok-has_next.ensures.text ∙ c.events.invariant.0) (ended.taken over) known.sources known.plain
+          known.marks known.places ended.allowed ended.none ended.refused;
       holds = c.from.ensures ∙ c.in-Ok.ensures.documents
           ∙ ap (λ es. documents_of es fault) (c.events.invariant.1 ∙ ap plain_marked (sym all));
     }

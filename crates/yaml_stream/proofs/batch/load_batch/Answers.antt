@@ -1,6 +1,6 @@
 -- A batch is full, or the text's last.
-use Rattle.std.proofs.Common.{◌∙◌, List, ap, is_some, subst, ℕ}
-use Rattle.yaml_documents.specs.TextEvents.{AreParsed}
+use Rattle.std.proofs.Common.{◌∙◌, ap, is_some}
+use Rattle.yaml_documents.proofs.TextLaws.{parsed_of}
 use Rattle.yaml_load.proofs.Words.{events_in, plain_events}
 use Rattle.yaml_stream.specs.inner.Filling.{is_last, left_documents}
 use Rattle.yaml_stream.proofs.BatchLaws.{between_closed}
@@ -27,20 +27,11 @@ returns-in_ok-documents-in-Full-clause-at c =
 pub returns-in_ok-documents-in-Last-clause-at : goal.returns-in_ok-documents-in-Last-clause-at
 returns-in_ok-documents-in-Last-clause-at c =
     let fault = c.in_ok-fault-in-Last.field-0.fault in
-    let given = c.fill.new.events.given in
     let known = c.has_events.ensures in
     let ended = c.in_ok-fault-in-Last.ensures in
-    let parsed : AreParsed c.fill.new.events.text given fault = record {
-      taken = ended.taken (c.in_ok-filled.ensures.over (ap is_last c.in-Last.is));
-      sources = known.sources;
-      plain = known.plain;
-      marks = known.marks;
-      places = known.places;
-      allowed = ended.allowed;
-      refused = λ against. (ended.none against, ended.refused against);
-    } in
     last_at c.args.last fault c.requires.between c.in_ok-builder.ensures.front
     (rw c.in-Last.is at c.in_ok-filled.ensures.filled)
-    (subst (λ (text : List ℕ). AreParsed text given fault) c.in_ok-filled.ensures.text parsed)
+    (parsed_of c.in_ok-filled.ensures.text (ended.taken (c.in_ok-filled.ensures.over (ap is_last c.in-Last.is)))
+    known.sources known.plain known.marks known.places ended.allowed ended.none ended.refused)
     (c.in_ok-documents-in-Last.ensures.left
     ∙ ap (λ b. left_documents c.fill.new.builder fault b c.in-Last.some) c.is_some-before.ensures)
