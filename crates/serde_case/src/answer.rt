@@ -2,9 +2,9 @@
 
 use serde::{Deserialize, DeserializeOwned, Serialize};
 use std::alloc::Global;
+use yaml::{Documents, Error, from_events, from_slice, from_str, to_events, to_string};
 use yaml_emit::emit;
-use yaml_serde::{Documents, Error, from_events, from_slice, from_str, to_events, to_string};
-use yaml_text::{Parsed, parse};
+use yaml_parse::{Parsed, parse};
 
 /// What `from_str` reads, as `to_string` writes it.
 pub fn answer<'a, T: Deserialize<'a> + Serialize>(

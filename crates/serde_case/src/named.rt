@@ -10,7 +10,7 @@ use serde_uses::{Person, Service, all_jobs, longest_name, read_service, write_se
 use std::alloc::Global;
 use std::borrow::CowStr;
 use std::collections::{BTreeMap, HashMap};
-use yaml_serde::{Error, to_string};
+use yaml::{Error, to_string};
 
 // What a text is answered that is read as a type of std.
 fn answer_as_standard(alloc: Global, name: &str, text: &str) -> Result<String, Error> {

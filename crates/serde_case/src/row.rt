@@ -2,7 +2,7 @@
 
 use crate::named::answer_as;
 use std::alloc::{AllocError, Global};
-use yaml_serde::{Error, from_str};
+use yaml::{Error, from_str};
 
 // What is printed behind a row.
 fn shown(alloc: Global, answer: &Result<String, Error>) -> Result<String, AllocError> {

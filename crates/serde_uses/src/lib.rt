@@ -6,7 +6,7 @@ pub mod readme;
 
 use serde::{Deserialize, Serialize};
 use std::alloc::Global;
-use yaml_serde::{DocumentStream, Documents, Error};
+use yaml::{DocumentStream, Documents, Error};
 
 /// How a service is reached.
 #[derive(Debug, Drop, Serialize, Deserialize)]
@@ -34,12 +34,12 @@ pub struct Service {
 
 /// A service of YAML text.
 pub fn read_service(alloc: Global, text: &str) -> Result<Service, Error> {
-    yaml_serde::from_str(alloc, text)
+    yaml::from_str(alloc, text)
 }
 
 /// A service as YAML text.
 pub fn write_service(alloc: Global, service: &Service) -> Result<String, Error> {
-    yaml_serde::to_string(alloc, service)
+    yaml::to_string(alloc, service)
 }
 
 /// Someone, by a name that is lent from the text.

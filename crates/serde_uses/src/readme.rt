@@ -2,7 +2,7 @@
 
 use serde::{Deserialize, Serialize};
 use std::alloc::Global;
-use yaml_serde::{Error, from_str, to_string};
+use yaml::{Error, from_str, to_string};
 
 #[derive(Drop, Serialize, Deserialize)]
 pub struct Server {

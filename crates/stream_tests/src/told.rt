@@ -2,9 +2,8 @@
 
 use std::alloc::{AllocError, Global};
 use yaml_base::{Error, Result as Answer};
-use yaml_documents::load;
+use yaml_documents::{DocumentReader, load};
 use yaml_read::{Document, Loader};
-use yaml_stream::DocumentReader;
 
 // The documents of a text at once, without what the library promises of them.
 fn loaded<'a>(alloc: Global, text: &'a [u8]) -> Answer<Loader<'a>> {

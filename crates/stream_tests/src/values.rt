@@ -3,7 +3,7 @@
 use std::alloc::Global;
 use std::test::Fail;
 use yaml_base::Result as Answer;
-use yaml_serde::DocumentStream;
+use yaml::DocumentStream;
 
 // The values of the documents of a text, or the faults by which they are refused, one after another.
 const ROWS: &[(&str, &str)] = &[

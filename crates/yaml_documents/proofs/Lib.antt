@@ -1,2 +1,8 @@
 -- Lemmas of this crate.
+pub mod BatchLaws
+pub mod EndLaws
+pub mod ReadLaws
+pub mod StageLaws
+pub mod StartLaws
+pub mod StateLaws
 pub mod TextLaws

@@ -1,3 +1,7 @@
 -- What contracts of this crate, and of those above it, cite.
+pub mod FirstDocuments
+pub mod HandingOut
+pub mod PlainReader
 pub mod TextDocuments
 pub mod TextEvents
+pub mod inner

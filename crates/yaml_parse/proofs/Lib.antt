@@ -3,3 +3,4 @@ pub mod Fronts
 pub mod PlaceLaws
 mod PlainTexts
 pub mod Streams
+pub mod TextLaws

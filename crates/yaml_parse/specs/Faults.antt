@@ -2,7 +2,7 @@
 use Rattle.std.specs.Prelude.{◌≡◌, ◌≢◌, IfSome, Option}
 use Rattle.yaml_base.specs.PlainFault.{PlainFault}
 use Rattle.yaml_base.specs.declared.fault.FaultKind.TheVariants as kind
-use Rattle.yaml_token.specs.declared.fault.Fault.{Fault}
+use Rattle.yaml_scan.specs.declared.fault.Fault.{Fault}
 
 -- the fault has the kind, the offset and the marks of the one in parts
 abbrev pub IsToldBy : Fault → PlainFault → Type 0

@@ -3,7 +3,7 @@ use Rattle.std.specs.Prelude.{List, ℕ}
 use Rattle.std.specs.VecDeque.{deque_len}
 use Rattle.yaml_base.specs.Position.{Position}
 use Rattle.yaml_base.specs.declared.event.Event.{Event}
-use Rattle.yaml_parse.specs.declared.parse.Parser.{Parser}
+use Rattle.yaml_parse.specs.declared.parser.Parser.{Parser}
 
 abbrev pub made : Parser → List (Event × Position)
 made parser = parser.machine.stream.events.made.items

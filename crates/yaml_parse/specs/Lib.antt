@@ -5,5 +5,7 @@ pub mod Handed
 pub mod Kept
 pub mod Marks
 pub mod Places
+pub mod PlainReading
 pub mod PlainText
 pub mod Shown
+pub mod Sources

@@ -6,7 +6,7 @@ ghost use Rattle.yaml_parse.specs.Kept.{Keeps};
 use crate::frame::Frame;
 use crate::machine::Machine;
 use crate::node::Nodes;
-use yaml_token::{Context, Problem, Span, Stop, Token};
+use yaml_scan::{Context, Problem, Span, Stop, Token};
 
 impl<'a> Machine<'a> {
     // `-`, or the end of the sequence.

@@ -8,7 +8,7 @@ use crate::machine::Machine;
 use crate::properties::Handle;
 use std::mem;
 use yaml_base::Mark;
-use yaml_token::{Problem, Span, Stop, Token};
+use yaml_scan::{Problem, Span, Stop, Token};
 
 // Whether a handle has a directive.
 fn is_known(handles: &[Handle], handle: &[u8]) -> bool {

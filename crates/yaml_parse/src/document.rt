@@ -5,7 +5,7 @@ ghost use Rattle.yaml_parse.specs.Kept.{Keeps};
 
 use crate::machine::Machine;
 use crate::node::Nodes;
-use yaml_token::{Span, Stop, Token};
+use yaml_scan::{Span, Stop, Token};
 
 // Whether a document's node can't begin so.
 fn ends_content(token: &Token) -> bool {

@@ -6,7 +6,7 @@ ghost use Rattle.yaml_parse.specs.Faults.{IsToldBy};
 
 use std::alloc::{AllocError, Global};
 use yaml_base::{FaultKind, Mark, ParserFault};
-use yaml_token::{Context, Fault, Finding, Problem};
+use yaml_scan::{Context, Fault, Finding, Problem};
 
 // A fault at a mark.
 pub(crate) fn fault(problem: Problem, mark: Mark) -> Finding {

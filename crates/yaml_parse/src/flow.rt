@@ -7,7 +7,7 @@ use crate::frame::Frame;
 use crate::machine::Machine;
 use crate::node::Nodes;
 use yaml_base::MappingStart;
-use yaml_token::{Context, Problem, Span, Stop, Token};
+use yaml_scan::{Context, Problem, Span, Stop, Token};
 
 impl<'a> Machine<'a> {
     // A node, a pair, or the end of the sequence.

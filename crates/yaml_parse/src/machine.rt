@@ -10,7 +10,7 @@ use crate::properties::{Handle, Properties};
 use crate::stream::Stream;
 use std::alloc::Global;
 use yaml_base::Mark;
-use yaml_token::{Context, Lead, Placed, Problem, Span, Stop, Token};
+use yaml_scan::{Context, Lead, Placed, Problem, Span, Stop, Token};
 
 // A parser of a text, amid its tokens.
 #[derive(Drop)]

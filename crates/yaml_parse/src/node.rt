@@ -3,8 +3,8 @@
 ghost use Rattle.std.specs.Prelude.{◌≡◌, ◌≢◌, None, drop, length, min, true};
 ghost use Rattle.yaml_base.specs.declared.event.ScalarStyle.TheVariants as written;
 ghost use Rattle.yaml_base.specs.declared.open.Open.TheVariants.{Key, Sequence};
-ghost use Rattle.yaml_parse.specs.Kept.{Keeps};
 ghost use Rattle.yaml_parse.specs.Frames.{open_of};
+ghost use Rattle.yaml_parse.specs.Kept.{Keeps};
 
 use crate::fault::fault_in;
 use crate::frame::Frame;
@@ -13,7 +13,7 @@ use crate::plain::plain_text;
 use crate::properties::{Properties, WrittenTag, resolve};
 use std::mem;
 use yaml_base::{Anchor, MappingStart, Mark, Scalar, ScalarStyle, SequenceStart, Tag};
-use yaml_token::{Context, Problem, Span, Stop, Token};
+use yaml_scan::{Context, Problem, Span, Stop, Token};
 
 // Which nodes may stand in a place.
 #[derive(Clone, Copy)]

@@ -6,8 +6,7 @@ ghost use Rattle.std.proofs.Props.{props};
 
 use std::alloc::{AllocError, Global};
 use std::collections::VecDeque;
-use yaml_base::{Event, Mark};
-use yaml_history::History;
+use yaml_base::{Event, History, Mark};
 
 // Events one behind another, of which those that wait were not handed out.
 #[derive(Drop)]

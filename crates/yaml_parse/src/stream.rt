@@ -23,7 +23,7 @@ use crate::place::{mark_at, mark_of_event};
 use crate::queue::Queue;
 use std::alloc::Global;
 use yaml_base::{Anchor, Event, MappingStart, Mark, Scalar, SequenceStart};
-use yaml_token::{Finding, Stop};
+use yaml_scan::{Finding, Stop};
 
 // Events that are a beginning of a stream, always.
 #[derive(Drop)]

@@ -2,9 +2,9 @@
 
 use crate::byte::Run;
 use crate::cursor::Cursor;
+use crate::{Context, Problem, Stop};
 use std::alloc::{AllocError, Global};
 use yaml_base::Mark;
-use yaml_token::{Context, Problem, Stop};
 
 const CONTEXT: Context = Context::ScanningABlockScalar;
 

@@ -6,8 +6,8 @@ mod look;
 mod report;
 mod step;
 
+use crate::Finding;
 use yaml_base::Mark;
-use yaml_token::Finding;
 
 // A place in a text, with its line and its column, which counts characters, each from 0.
 #[derive(Drop)]

@@ -2,9 +2,9 @@
 
 use crate::byte::hex_value;
 use crate::cursor::Cursor;
+use crate::{Context, Problem, Stop};
 use std::alloc::AllocError;
 use yaml_base::Mark;
-use yaml_token::{Context, Problem, Stop};
 
 const CONTEXT: Context = Context::ParsingAQuotedScalar;
 

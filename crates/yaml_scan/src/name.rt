@@ -1,9 +1,9 @@
 //! Names: anchors, aliases and the handles of tags.
 
 use crate::cursor::Cursor;
+use crate::{Context, Problem, Stop};
 use std::alloc::Global;
 use yaml_base::Mark;
-use yaml_token::{Context, Problem, Stop};
 
 // Reads the name behind `&` or `*`, which stands here.
 pub(crate) fn scan_anchor(

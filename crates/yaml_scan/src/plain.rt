@@ -2,8 +2,8 @@
 
 use crate::byte::{Run, is_blank, is_flow_indicator, may_break};
 use crate::cursor::Cursor;
+use crate::{Context, Problem, Stop};
 use yaml_base::Mark;
-use yaml_token::{Context, Problem, Stop};
 
 // The end of a plain scalar, and whether a line break follows it.
 #[derive(Clone, Copy)]

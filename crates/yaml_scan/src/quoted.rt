@@ -4,9 +4,9 @@ use crate::byte::Run;
 use crate::cursor::Cursor;
 use crate::escape::read_escape;
 use crate::fold::Fold;
+use crate::{Context, Problem, Stop};
 use std::alloc::Global;
 use yaml_base::Mark;
-use yaml_token::{Context, Problem, Stop};
 
 const CONTEXT: Context = Context::ScanningAQuotedScalar;
 

@@ -4,9 +4,9 @@ ghost use Rattle.std.specs.Prelude.{◌≡◌, ◌<◌, ◌≤◌, IfSome, IsTru
 ghost use Rattle.std.specs.List.{list_all};
 ghost use Rattle.yaml_scan.specs.AllowedText.{IsAllowed, IsAllowedUpTo, IsOfReader, is_allowed};
 
+use crate::{Fault, Problem};
 use simdutf8::compat::from_utf8;
 use yaml_base::{FaultKind, Mark};
-use yaml_token::{Fault, Problem};
 
 // Whether the character of this code may stand in a text.
 fn is_allowed(code: u32) -> bool

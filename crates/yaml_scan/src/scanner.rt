@@ -7,11 +7,11 @@ mod node;
 
 use crate::candidate::{Candidate, Candidates};
 use crate::cursor::Cursor;
+use crate::{Context, Finding, Lead, Placed, Problem, Span, Stop, Token};
 pub(crate) use next::More;
 use std::alloc::{AllocError, Global};
 use std::collections::VecDeque;
 use yaml_base::Mark;
-use yaml_token::{Context, Finding, Lead, Placed, Problem, Span, Stop, Token};
 
 // A scanner amid a text.
 #[derive(Drop)]

@@ -3,10 +3,10 @@
 ghost use Rattle.std.specs.Prelude.{IfOk};
 ghost use Rattle.yaml_scan.specs.Scanning.{IsScanned};
 
+use crate::Fault;
 use crate::reader::first_fault;
 use crate::tokens::Tokens;
 use std::alloc::{AllocError, Global};
-use yaml_token::Fault;
 
 /// What a text's tokens are.
 #[derive(Drop)]

@@ -3,9 +3,9 @@
 use crate::cursor::Cursor;
 use crate::name::scan_handle;
 use crate::uri::{Place, scan_uri};
+use crate::{Context, Problem, Stop, Token};
 use std::alloc::Global;
 use yaml_base::Mark;
-use yaml_token::{Context, Problem, Stop, Token};
 
 const CONTEXT: Context = Context::ScanningATag;
 

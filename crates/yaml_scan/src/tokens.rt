@@ -6,9 +6,9 @@ ghost use Rattle.std.proofs.Props.{props};
 ghost use Rattle.yaml_base.specs.declared.fault.FaultKind.TheVariants as kind;
 
 use crate::scanner::{More, Scanner};
+use crate::{Fault, Placed, Stop};
 use std::alloc::{AllocError, Global};
 use yaml_base::FaultKind;
-use yaml_token::{Fault, Placed, Stop};
 
 /// The tokens of a text, amid the text. Only those that may still become keys are kept.
 #[derive(Drop)]

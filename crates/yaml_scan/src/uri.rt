@@ -2,8 +2,8 @@
 
 use crate::byte::{hex_value, is_uri};
 use crate::cursor::Cursor;
+use crate::{Context, Problem, Stop};
 use yaml_base::Mark;
-use yaml_token::{Context, Problem, Stop};
 
 // Where the text of a tag stands.
 #[derive(Clone, Copy, PartialEq, Eq)]

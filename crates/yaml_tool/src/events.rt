@@ -6,8 +6,8 @@ ghost use Rattle.yaml_tool.specs.ToldEvents.{AreEventsTold, ending_of, event_lin
 use std::alloc::{AllocError, Global};
 use yaml_base::{Event, Mark, ParserFault};
 use yaml_lines::{write_event, write_fault};
+use yaml_parse::parse;
 use yaml_run::{Status, Told};
-use yaml_text::parse;
 
 // The status that goes with a fault, or with none.
 fn ending_of(fault: &Option<ParserFault>) -> Status

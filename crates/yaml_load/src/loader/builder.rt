@@ -10,8 +10,7 @@ use crate::loader::draft::Draft;
 use crate::loader::share::share;
 use std::alloc::{AllocError, Global};
 use std::marker::Model;
-use yaml_base::{Cause, Error, Event, Mark, Open, ParserFault};
-use yaml_history::History;
+use yaml_base::{Cause, Error, Event, History, Mark, Open, ParserFault};
 
 /// A loader amid a stream: it takes the stream's events one by one, and gives the documents at their end.
 #[derive(Drop)]

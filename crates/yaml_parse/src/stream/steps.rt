@@ -24,7 +24,7 @@ use crate::queue::Queue;
 use crate::stream::Stream;
 use std::alloc::Global;
 use yaml_base::{Anchor, Event, MappingStart, Mark, Scalar, SequenceStart};
-use yaml_token::{Finding, Stop};
+use yaml_scan::{Finding, Stop};
 
 impl<'a> Stream<'a> {
     // Keeps what was found.

@@ -1,8 +1,8 @@
 //! Faults that are found at a place.
 
 use crate::cursor::Cursor;
+use crate::{Context, Finding, Problem, Stop};
 use yaml_base::Mark;
-use yaml_token::{Context, Finding, Problem, Stop};
 
 impl Cursor<'_> {
     // Keeps what is wrong at this place, amid what began at `start`.

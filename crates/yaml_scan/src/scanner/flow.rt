@@ -1,7 +1,7 @@
 //! Brackets, and what stands between their parts.
 
 use crate::scanner::Scanner;
-use yaml_token::{Stop, Token};
+use crate::{Stop, Token};
 
 impl Scanner<'_> {
     // `[` or `{`

@@ -2,7 +2,7 @@
 
 use crate::directive::scan_directive;
 use crate::scanner::Scanner;
-use yaml_token::{Lead, Problem, Stop, Token};
+use crate::{Lead, Problem, Stop, Token};
 
 impl Scanner<'_> {
     // The end of the text.

@@ -2,7 +2,7 @@
 
 use crate::quoted::Quote;
 use crate::scanner::Scanner;
-use yaml_token::{Context, MarkedStyle, Problem, Stop, Token};
+use crate::{Context, MarkedStyle, Problem, Stop, Token};
 
 // Whether the text goes on behind a token.
 #[derive(Clone, Copy, PartialEq, Eq)]

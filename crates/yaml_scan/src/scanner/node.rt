@@ -6,7 +6,7 @@ use crate::plain::scan_plain;
 use crate::quoted::{Quote, scan_quoted};
 use crate::scanner::Scanner;
 use crate::tag::scan_tag;
-use yaml_token::{Context, MarkedStyle, Stop, Token};
+use crate::{Context, MarkedStyle, Stop, Token};
 
 impl Scanner<'_> {
     // `&` with a name.

@@ -5,8 +5,8 @@ use std::alloc::{AllocError, Global};
 use std::test::Fail;
 use yaml_base::{Event, Mark, Result as Answer};
 use yaml_documents::load;
+use yaml_parse::{Ending, Events};
 use yaml_read::Loader;
-use yaml_text::{Ending, Events};
 
 // Texts, the words of their events, and whether a fault follows.
 const EVENTS: &[(&str, &str, bool)] = &[

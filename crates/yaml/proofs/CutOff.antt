@@ -1,0 +1,58 @@
+-- Inputs of one whole document, and one that is none.
+use Rattle.std.proofs.Common.{◌≡◌, ◌∷◌, ℕ, IsOk, IsSomeAnd, List, OnOk, [], Option, None, Some, Result, Ok, Err, ap, is_some, refl, sym}
+use Rattle.std.proofs.Common.{true, ◌∙◌}
+use Rattle.yaml.specs.OneDocument.{IsOneDocument}
+use Rattle.yaml_base.specs.MarkedEvents.{plain_marked}
+use Rattle.yaml_base.specs.PlainFault.{PlainFault}
+use Rattle.yaml_base.specs.declared.error.Cause.{Cause}
+use Rattle.yaml_documents.specs.TextDocuments.{AreDocumentsOf, IsParsed}
+use Rattle.yaml_read.specs.Documents.{Input, documents_of, failed_document}
+use Rattle.yaml_read.specs.PlainDocument.{PlainDocument}
+use Rattle.yaml_scan.specs.AllowedText.{IsAllowed, IsOfReader}
+
+-- a list of one document that nothing cut off
+pub one : (input : Input) (fault : Option PlainFault) (d : PlainDocument) → documents_of input fault ≡ d ∷ []
+    → d.ending ≡ None → IsOneDocument input fault
+one input fault d alone whole = record { document = d; alone = alone; whole = whole }
+
+-- an option of which something holds has a value
+is_there : {X : Type 0} (P : X → Type 0) (o : Option X) → IsSomeAnd o P → is_some o ≡ true
+is_there P (Some x) holds = refl
+is_there P None holds = absurd holds
+
+-- what a parser's fault alone stands for is no whole document
+cut_off : (fault : Option PlainFault) (d : PlainDocument) → is_some fault ≡ true → documents_of [] fault ≡ d ∷ []
+    → d.ending ≡ None → ⊥
+cut_off None d some is whole = absurd cc
+cut_off (Some f) d some is whole =
+    let same : failed_document f ≡ d = cc in
+    let bad = ap (λ (x : PlainDocument). x.ending) same ∙ whole in
+    absurd cc
+
+-- a text of one whole document is allowed
+pub never_cut_off : (text : List ℕ) (documents : List PlainDocument) (d : PlainDocument) → AreDocumentsOf text documents
+    → documents ≡ d ∷ [] → d.ending ≡ None → (IsAllowed text → ⊥) → ⊥
+never_cut_off text documents d parsed alone whole against =
+    let refused = parsed.parsed.refused against in
+    cut_off parsed.fault d (is_there (λ (f : PlainFault). IsOfReader text f.kind f.offset) parsed.fault refused.1)
+    (ap (λ es. documents_of (plain_marked es) parsed.fault) (sym refused.0) ∙ sym parsed.holds ∙ alone) whole
+
+-- so it was parsed to one whole document
+pub one_of_text : (text : List ℕ) (documents : List PlainDocument) (d : PlainDocument) → AreDocumentsOf text documents
+    → documents ≡ d ∷ [] → d.ending ≡ None → IsParsed text IsOneDocument
+one_of_text text documents d parsed alone whole = record {
+  events = parsed.events;
+  fault = parsed.fault;
+  parsed = parsed.parsed;
+  holds = one (plain_marked parsed.events) parsed.fault d (sym parsed.holds ∙ alone) whole;
+}
+
+-- a value that is read of the first document, with none behind it, is one of such a text
+pub value_of_one : {X : Type 0} (result read : Result X Cause) (text : List ℕ) (documents left : List PlainDocument)
+    (d : PlainDocument) → AreDocumentsOf text documents → documents ≡ d ∷ left → OnOk result (OnOk read (left ≡ []))
+    → OnOk result (IsOk read) → OnOk read (d.ending ≡ None) → OnOk result (IsParsed text IsOneDocument)
+value_of_one (Ok value) (Ok found) text documents left d parsed first none is_read whole =
+    one_of_text text documents d parsed (first ∙ ap (λ ds. d ∷ ds) none) whole
+value_of_one (Ok value) (Err cause) text documents left d parsed first none is_read whole =
+    let bad = is_read in absurd cc
+value_of_one (Err cause) read text documents left d parsed first none is_read whole = tt

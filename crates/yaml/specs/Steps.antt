@@ -1,0 +1,34 @@
+-- What the steps of a reading read: each what a node of the document means under a shape, or a way into a collection
+-- or out of it.
+use Rattle.std.specs.Prelude.{◌≡◌, ◌⊎◌, ℕ, List}
+use Rattle.serde.specs.Event.{Event, boolean, signed, unsigned, character, text, nothing}
+use Rattle.serde.specs.Event.{seq_begins, seq_ends, map_begins, map_ends, key_begins}
+use Rattle.yaml.specs.Around.{Standing, standing}
+use Rattle.yaml.specs.Collections.{BeginsSeq, BeginsMap, once_begun, ReachesEntry, LeavesSeq, LeavesMap}
+use Rattle.yaml.specs.NodeSteps.{Took, TookText, TookNothing}
+use Rattle.yaml.specs.declared.leaf.Leaf.TheVariants as leaf
+use Rattle.yaml.specs.declared.reader.Reader.{Reader}
+use Rattle.yaml_shape.specs.PlainData.{bool_data, char_data, signed_data, unsigned_data}
+
+-- What a step read. Floats, bytes, and what is only written are never read.
+abbrev pub ReadsBy : Event → Standing → Standing → Type 0
+ReadsBy (boolean b) old new = Took leaf.Bool (bool_data b) old new
+ReadsBy (signed z) old new = Took leaf.I64 (signed_data z) old new ⊎ Took leaf.I128 (signed_data z) old new
+ReadsBy (unsigned n) old new = Took leaf.U64 (unsigned_data n) old new ⊎ Took leaf.U128 (unsigned_data n) old new
+ReadsBy (character c) old new = Took leaf.Char (char_data c) old new
+ReadsBy (text s) old new = TookText leaf.Str s old new
+ReadsBy nothing old new = TookNothing leaf.Unit old new ⊎ TookNothing leaf.Option old new
+ReadsBy (seq_begins size) old new = BeginsSeq old new
+ReadsBy seq_ends old new = LeavesSeq old new
+ReadsBy (map_begins size) old new = (new ≡ once_begun old) ⊎ BeginsMap old new
+ReadsBy map_ends old new = LeavesMap old new
+ReadsBy key_begins old new = ReachesEntry old new
+ReadsBy _ old new = ⊥
+
+-- what a step read, whatever its input is
+abbrev pub Reads : Reader → List ℕ → Event → Reader → Type 0
+Reads old input e new = ReadsBy e (standing old) (standing new)
+
+-- a step only looked
+abbrev pub Stays : Reader → Reader → Type 0
+Stays old new = standing new ≡ standing old

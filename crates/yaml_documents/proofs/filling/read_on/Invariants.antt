@@ -1,0 +1,12 @@
+-- The loader took the events that were read, and no document ended with one of them.
+use Rattle.std.proofs.Common.{◌≡◌, ◌≤◌, ◌-◌, None, length}
+use Rattle.yaml_documents.proofs.filling.read_on.Given as goal
+use Rattle.yaml_documents.specs.inner.Filling.{ReadsOn}
+
+abbrev pub invariant-events : goal.invariant-events
+invariant-events l =
+    (l.events.text ≡ l.fn.events.text) × ReadsOn l.fn.events.given l.fn.builder l.events.given l.builder None
+    × (l.left ≤ l.initial.left)
+
+abbrev pub decreases-events : goal.decreases-events
+decreases-events l = 0x10000000000000000 - length l.builder

@@ -1,0 +1,37 @@
+//! All documents of a text, whose events are loaded as they are parsed.
+
+ghost use Rattle.std.specs.Prelude.{◌≡◌, IfErr, IfOk, true};
+ghost use Rattle.yaml_base.specs.Answer.{is_memory};
+ghost use Rattle.yaml_documents.specs.TextDocuments.{AreDocumentsOf};
+
+use std::alloc::Global;
+use yaml_base::Result;
+use yaml_load::LoaderBuilder;
+use yaml_parse::{Ending, Events};
+use yaml_read::Loader;
+
+/// The documents of a YAML text, which may borrow from it. What can't be parsed is the fault of the document that it
+/// stands in. A text whose bytes are not all allowed, by the rules of UTF-8 or of YAML's characters, has one document,
+/// cut off before its first event. The only error is want of memory.
+///
+/// They are those that `Loader::new` makes of the text's events, and no list of these is made.
+pub fn load<'de>(alloc: Global, text: &'de [u8]) -> Result<Loader<'de>>
+    ensures documents { IfOk result (AreDocumentsOf text.now) }
+    ensures memory { IfErr result (λ cause. is_memory cause ≡ true) }
+{
+    let mut events = Events::new(alloc, text)?;
+    let mut builder = LoaderBuilder::with_capacity(alloc, 0)?;
+    'events: while events.has_next()? {
+        let (event, mark) = events.take_next();
+        events.has_events();
+        if let Err(fault) = builder.push(event, mark) {
+            return Err(fault);
+        }
+    }
+    events.has_events();
+    let Ending { fault, .. } = events.finish(alloc)?;
+    match builder.finish(fault) {
+        Ok(documents) => Ok(Loader::from(documents)),
+        Err(fault) => Err(fault),
+    }
+}

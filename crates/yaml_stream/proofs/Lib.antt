@@ -1,7 +1,0 @@
--- Lemmas of this crate.
-pub mod BatchLaws
-pub mod EndLaws
-pub mod ReadLaws
-pub mod StageLaws
-pub mod StartLaws
-pub mod StateLaws

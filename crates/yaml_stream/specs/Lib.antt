@@ -1,5 +1,0 @@
--- What contracts of this crate, and of those above it, cite.
-pub mod FirstDocuments
-pub mod HandingOut
-pub mod PlainReader
-pub mod inner

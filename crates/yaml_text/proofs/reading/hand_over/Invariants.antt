@@ -1,7 +1,0 @@
--- The text and the events that were handed out stay the same.
-use Rattle.std.proofs.Common.{◌≡◌}
-use Rattle.yaml_parse.specs.Handed.{handed}
-use Rattle.yaml_text.proofs.reading.hand_over.Given as goal
-
-abbrev pub invariant-ready : goal.invariant-ready
-invariant-ready l = (l.parser.text.now ≡ l.fn.parser.text.now) × (handed l.parser ≡ handed l.fn.parser)

@@ -1,3 +1,0 @@
--- What contracts of this crate, and of those above it, cite.
-pub mod PlainReading
-pub mod Sources
