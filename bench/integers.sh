@@ -20,8 +20,7 @@ over yaml_scalar integer_count <<'END'
 use std::alloc::Global;
 use std::env;
 use std::io;
-use yaml_base::ScalarStyle;
-use yaml_load::DocScalar;
+use yaml_base::{DocScalar, ScalarStyle};
 use yaml_scalar::read_scalar;
 use yaml_shape::{Data, Shape};
 

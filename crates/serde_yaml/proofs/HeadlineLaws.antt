@@ -3,6 +3,9 @@ use Rattle.std.proofs.Common.{◌≡◌, ℕ, zero, suc, ◌+◌, List, [], ◌�
 use Rattle.std.proofs.Common.{is_some, Result, Ok, Err, true, false, refl, sym, ap, subst, ◌∙◌, inl, inr}
 use Rattle.std.specs.Prelude.{slice_get, ◌⊎◌}
 use Rattle.std.proofs.lemmas.List.{length-map}
+use Rattle.yaml_base.specs.DocTree.{DocNode, nothing, events_of, node_of}
+use Rattle.yaml_base.specs.PlainDocEvent.{PlainDocEvent, alias_to, a_void}
+use Rattle.yaml_base.specs.PlainDocument.{PlainDocument}
 use Rattle.yaml_base.specs.PlainEvent.{PlainEvent}
 use Rattle.yaml_base.specs.PlainFault.{PlainFault}
 use Rattle.yaml_base.specs.Position.{Position}
@@ -12,11 +15,8 @@ use Rattle.yaml_base.specs.declared.error.Cause.{Cause}
 use Rattle.yaml_base.specs.declared.error.Cause.TheVariants.{NotAStream}
 use Rattle.yaml_shape.specs.PlainData.{PlainData}
 use Rattle.yaml_shape.specs.PlainShape.{PlainShape}
-use Rattle.yaml_read.specs.DocTree.{DocNode, nothing, events_of, node_of}
 use Rattle.yaml_read.specs.Documents.{Input, documents_of, last_mark, void_document}
 use Rattle.yaml_read.specs.MarkedEvents.{events_in}
-use Rattle.yaml_read.specs.PlainDocEvent.{PlainDocEvent, alias_to, a_void}
-use Rattle.yaml_read.specs.PlainDocument.{PlainDocument}
 use Rattle.yaml_read.specs.Reads.{IsTreeOf, Reads, DocumentGives}
 use Rattle.yaml_read.specs.Resolved.{resolved}
 use Rattle.yaml_read.specs.StreamLaw.{AreStreamDocuments, IsDocumentOf, IsAtFault, EndAtFault}

@@ -2,6 +2,7 @@
 use Rattle.std.proofs.Common.{◌≡◌, ◌≢◌, ◌⊎◌, ◌∙◌, ◌∷◌, ◌<◌, ℕ, zero, suc, List, [], All, Bool, true, false, Option, None}
 use Rattle.std.proofs.Common.{Some, Result, Ok, Err, ap, arith, inl, inr, is_some, length, refl, sym, subst}
 use Rattle.yaml_base.specs.Answer.{Answers, is_memory}
+use Rattle.yaml_base.specs.PlainDocument.{PlainDocument}
 use Rattle.yaml_base.specs.PlainFault.{PlainFault}
 use Rattle.yaml_base.specs.Stream.{IsWellFormed}
 use Rattle.yaml_base.specs.declared.error.Cause.{Cause}
@@ -11,7 +12,6 @@ use Rattle.yaml_shape.specs.PlainShape.{PlainShape, shape_at}
 use Rattle.yaml_types.specs.Start.{Start}
 use Rattle.yaml_read.specs.Documents.{Input, documents_of}
 use Rattle.yaml_read.specs.MarkedEvents.{events_in}
-use Rattle.yaml_read.specs.PlainDocument.{PlainDocument}
 use Rattle.yaml_read.specs.ReadingFaults.{IsNodeFault, IsReadingFault}
 use Rattle.yaml_read.specs.Reads.{DocumentGives}
 use Rattle.yaml_read.specs.StreamLaw.{IsEnding}

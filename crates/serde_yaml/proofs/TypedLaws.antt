@@ -17,6 +17,7 @@ use Rattle.yaml_base.specs.declared.event.Event.{Event}
 use Rattle.yaml_base.specs.declared.error.Cause.{Cause}
 use Rattle.yaml_base.specs.declared.error.Cause.TheVariants as cause
 use Rattle.yaml_base.specs.declared.error.Cause.TheVariants.{NotAStream}
+use Rattle.yaml_base.specs.DocTree.{DocNode, nothing}
 use Rattle.yaml_shape.specs.DataView.{data_of}
 use Rattle.yaml_shape.specs.HasShape.{HasShape}
 use Rattle.yaml_shape.specs.Join.{IsTooLarge}
@@ -25,10 +26,9 @@ use Rattle.yaml_shape.specs.declared.fault.SchemaFault.{SchemaFault}
 use Rattle.yaml_shape.specs.PlainData.{PlainData}
 use Rattle.yaml_shape.specs.PlainShape.{PlainShape, any_shape, shape_at}
 use Rattle.yaml_shape.specs.declared.data.Data.{Data}
-use Rattle.yaml_read.specs.DocTree.{DocNode, nothing}
+use Rattle.yaml_meaning.specs.Meaning.{Means}
 use Rattle.yaml_read.specs.Documents.{Input}
 use Rattle.yaml_read.specs.MarkedEvents.{events_in, plain_events, plain_marked}
-use Rattle.yaml_read.specs.Meaning.{Means}
 use Rattle.yaml_read.specs.TreeReader.{PlainLimits}
 use Rattle.yaml_read.specs.WrongPlace.{IsWrongAt}
 use Rattle.yaml_types.specs.BuildRefusal.{IsBuildRefusal}

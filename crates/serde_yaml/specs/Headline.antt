@@ -1,12 +1,12 @@
 -- What reading a list of events means.
 use Rattle.std.specs.Prelude.{◌≡◌, List, [], ◌∷◌, length, Option, Some, None, Result, Ok}
+use Rattle.yaml_base.specs.DocTree.{DocNode, nothing, events_of}
 use Rattle.yaml_base.specs.PlainFault.{PlainFault}
 use Rattle.yaml_base.specs.Stream.{stream_events}
 use Rattle.yaml_base.specs.Tree.{Node}
 use Rattle.yaml_base.specs.declared.error.Cause.{Cause}
 use Rattle.yaml_shape.specs.PlainData.{PlainData}
 use Rattle.yaml_shape.specs.PlainShape.{PlainShape}
-use Rattle.yaml_read.specs.DocTree.{DocNode, nothing, events_of}
 use Rattle.yaml_read.specs.Documents.{Input}
 use Rattle.yaml_read.specs.MarkedEvents.{events_in}
 use Rattle.yaml_read.specs.Reads.{Reads}

@@ -1,7 +1,7 @@
 -- Streams by the documents that are still to be read.
 use Rattle.std.specs.Prelude.{◌≡◌, List, [], ◌∷◌, map, Bool, true, false, if◌then◌else◌, Option}
 use Rattle.std.specs.Iterator.{YieldsFirst}
-use Rattle.yaml_read.specs.PlainDocument.{PlainDocument}
+use Rattle.yaml_base.specs.PlainDocument.{PlainDocument}
 
 -- a stream, or one document of one: its documents that were not handed out, and whether one was asked for
 pub record PlainStream : Type 0 where

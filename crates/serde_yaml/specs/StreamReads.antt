@@ -1,5 +1,6 @@
 -- What a stream gives, read under a shape within limits.
 use Rattle.std.specs.Prelude.{◌≡◌, List, [], ◌∷◌, Option, is_some, Bool, true, false, Result, Ok, Err, ℕ}
+use Rattle.yaml_base.specs.PlainDocument.{PlainDocument}
 use Rattle.yaml_base.specs.PlainFault.{PlainFault}
 use Rattle.yaml_base.specs.Stream.{IsWellFormed}
 use Rattle.yaml_base.specs.declared.error.Cause.{Cause}
@@ -8,7 +9,6 @@ use Rattle.yaml_shape.specs.PlainData.{PlainData}
 use Rattle.yaml_shape.specs.PlainShape.{PlainShape}
 use Rattle.yaml_read.specs.Documents.{Input, documents_of}
 use Rattle.yaml_read.specs.MarkedEvents.{events_in}
-use Rattle.yaml_read.specs.PlainDocument.{PlainDocument}
 use Rattle.yaml_read.specs.Reads.{DocumentGives}
 use Rattle.yaml_read.specs.TreeReader.{PlainLimits}
 use Rattle.yaml_read.specs.WrongPlace.{IsWrongAt}

@@ -1,6 +1,6 @@
 -- What a reader of streams holds.
 use Rattle.std.specs.Prelude.{List, [], ◌∷◌, Bool, true, false}
-use Rattle.yaml_read.specs.PlainDocument.{PlainDocument}
+use Rattle.yaml_base.specs.PlainDocument.{PlainDocument}
 use Rattle.serde_yaml.specs.declared.de.Source.{Source}
 use Rattle.serde_yaml.specs.declared.de.Source.TheVariants.{Stream, One}
 

@@ -2,18 +2,18 @@
 
 ghost use Rattle.std.specs.Prelude.{◌≡◌, ◌≤◌, ◌+◌, ◌*◌, ℕ, List, Option, Result, Bool, false, length, IsTrue};
 ghost use Rattle.yaml_base.specs.Borrowable.{is_borrowable};
+ghost use Rattle.yaml_base.specs.PlainDocument.{PlainDocument};
 ghost use Rattle.yaml_base.specs.PlainEvent.{PlainScalar};
 ghost use Rattle.yaml_base.specs.PlainFault.{PlainFault};
 ghost use Rattle.yaml_base.specs.declared.error.Cause.{Cause};
 ghost use Rattle.yaml_shape.specs.PlainData.{PlainData};
 ghost use Rattle.yaml_shape.specs.PlainShape.{PlainShape, IntegerType, bool_shape, integer_shape};
 ghost use Rattle.yaml_shape.specs.PlainShape.{option_shape, str_shape, unit_shape};
+ghost use Rattle.yaml_meaning.specs.Presence.{is_absent};
+ghost use Rattle.yaml_meaning.specs.ScalarShapes.{takes_no_memory};
 ghost use Rattle.yaml_read.specs.CursorReads.{LeavesCursor};
 ghost use Rattle.yaml_read.specs.Documents.{Input};
 ghost use Rattle.yaml_read.specs.PlainCursor.{PlainCursor, fresh_cursor};
-ghost use Rattle.yaml_read.specs.PlainDocument.{PlainDocument};
-ghost use Rattle.yaml_read.specs.Presence.{is_absent};
-ghost use Rattle.yaml_read.specs.ScalarShapes.{takes_no_memory};
 ghost use Rattle.yaml_read.specs.TreeReader.{PlainLimits, default_limits};
 ghost use Rattle.serde_yaml.specs.Headline.{GivesMeaning};
 ghost use Rattle.serde_yaml.specs.StreamReads.{InputGives};

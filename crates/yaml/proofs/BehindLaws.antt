@@ -3,10 +3,10 @@ use Rattle.std.proofs.Common.{◌≡◌, ◌∙◌, ℕ, zero, suc, ◌+◌, ◌
 use Rattle.std.proofs.Common.{true, false, refl, sym, ap, arith, if◌then◌else◌, ◌==◌, ◌&&◌}
 use Rattle.std.specs.Prelude.{slice_get}
 use Rattle.std.specs.Option.{option_map_or}
+use Rattle.yaml_base.specs.PlainDocEvent.{PlainDocEvent}
+use Rattle.yaml_base.specs.PlainDocument.{PlainDocument}
 use Rattle.yaml.specs.Around.{place_behind}
 use Rattle.yaml_load.specs.Ends.{end_place, ends_from, ends_of, inner_after, is_closing, is_opening}
-use Rattle.yaml_load.specs.PlainDocEvent.{PlainDocEvent}
-use Rattle.yaml_read.specs.PlainDocument.{PlainDocument}
 
 -- a collection ends by the end of the events
 end_to : (inner place : ℕ) (events : List PlainDocEvent) → end_place inner place events ≤ place + length events

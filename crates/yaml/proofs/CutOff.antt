@@ -3,11 +3,11 @@ use Rattle.std.proofs.Common.{◌≡◌, ◌∷◌, ℕ, IsOk, IsSomeAnd, List, 
 use Rattle.std.proofs.Common.{true, ◌∙◌}
 use Rattle.yaml.specs.OneDocument.{IsOneDocument}
 use Rattle.yaml_base.specs.MarkedEvents.{plain_marked}
+use Rattle.yaml_base.specs.PlainDocument.{PlainDocument}
 use Rattle.yaml_base.specs.PlainFault.{PlainFault}
 use Rattle.yaml_base.specs.declared.error.Cause.{Cause}
 use Rattle.yaml_documents.specs.TextDocuments.{AreDocumentsOf, IsParsed}
 use Rattle.yaml_read.specs.Documents.{Input, documents_of, failed_document}
-use Rattle.yaml_read.specs.PlainDocument.{PlainDocument}
 use Rattle.yaml_scan.specs.AllowedText.{IsAllowed, IsOfReader}
 
 -- a list of one document that nothing cut off

@@ -2,15 +2,15 @@
 use Rattle.std.specs.Prelude.{◌≡◌, ℕ, zero, suc, ◌+◌, ◌<◌, ◌==◌, if◌then◌else◌, List, map, slice_get, Option}
 use Rattle.std.specs.Prelude.{Some, None}
 use Rattle.std.specs.Option.{option_and_then, option_map, option_map_or}
+use Rattle.yaml_base.specs.PlainDocEvent.{PlainDocEvent}
+use Rattle.yaml_base.specs.PlainDocument.{PlainDocument}
 use Rattle.yaml.specs.declared.frame.Frame.{Frame}
 use Rattle.yaml.specs.declared.frame.Kind.{Kind}
 use Rattle.yaml.specs.declared.frame.Spot.{Spot}
 use Rattle.yaml.specs.declared.reader.Reader.{Reader}
 use Rattle.yaml_load.specs.Ends.{ends_of}
-use Rattle.yaml_load.specs.PlainDocEvent.{PlainDocEvent}
-use Rattle.yaml_read.specs.NodeTags.{untaken_name}
+use Rattle.yaml_meaning.specs.NodeTags.{untaken_name}
 use Rattle.yaml_read.specs.Places.{text_place}
-use Rattle.yaml_read.specs.PlainDocument.{PlainDocument}
 
 -- in which document, within what, where, and how many aliases may still be followed
 pub record Standing : Type 0 where

@@ -8,7 +8,7 @@ use Rattle.yaml.specs.declared.frame.Kind.{Kind}
 use Rattle.yaml.specs.declared.frame.Kind.TheVariants as kind
 use Rattle.yaml.specs.declared.leaf.Leaf.{Leaf}
 use Rattle.yaml.specs.declared.leaf.Leaf.TheVariants as leaf
-use Rattle.yaml_load.specs.PlainDocEvent.{PlainDocEvent, sequence_begins, sequence_ends, mapping_begins, mapping_ends}
+use Rattle.yaml_base.specs.PlainDocEvent.{PlainDocEvent, sequence_begins, sequence_ends, mapping_begins, mapping_ends}
 use Rattle.yaml_shape.specs.PlainData.{PlainData, seq_data, map_data, no_items, no_entries}
 
 -- the event begins such a collection

@@ -1,10 +1,10 @@
 -- One document of a text after another.
 use Rattle.std.specs.Prelude.{◌≡◌, ◌∷◌, [], List, Option, Result, None, Some, Err, OnOk, MatchOption, true}
 use Rattle.yaml_base.specs.Answer.{is_memory}
+use Rattle.yaml_base.specs.PlainDocument.{PlainDocument}
 use Rattle.yaml_base.specs.declared.error.Cause.{Cause}
 use Rattle.yaml_documents.specs.HandingOut.{Fails, HandsOut}
 use Rattle.yaml_documents.specs.PlainReader.{PlainReader}
-use Rattle.yaml_read.specs.PlainDocument.{PlainDocument}
 
 -- The first document that was left was read, and those behind it are left. A value was read of a document that nothing
 -- cut off.

@@ -1,8 +1,8 @@
 -- An input of one document.
 use Rattle.std.specs.Prelude.{◌≡◌, [], ◌∷◌, Option, None}
+use Rattle.yaml_base.specs.PlainDocument.{PlainDocument}
 use Rattle.yaml_base.specs.PlainFault.{PlainFault}
 use Rattle.yaml_read.specs.Documents.{Input, documents_of}
-use Rattle.yaml_read.specs.PlainDocument.{PlainDocument}
 
 -- there is one document, and nothing cut it off
 pub record IsOneDocument (input : Input) (fault : Option PlainFault) : Type 0 where

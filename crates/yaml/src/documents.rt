@@ -26,7 +26,7 @@ pub struct Documents<'de> {
 
 impl<'de> Model for Documents<'de> {
     ghost use Rattle.std.specs.Prelude.{List};
-    ghost use Rattle.yaml_read.specs.PlainDocument.{PlainDocument};
+    ghost use Rattle.yaml_base.specs.PlainDocument.{PlainDocument};
 
     ghost Value = { List PlainDocument };
 

@@ -2,9 +2,9 @@
 
 ghost use Rattle.std.specs.Prelude.{◌≡◌};
 ghost use Rattle.std.specs.Option.{option_and_then, option_copied};
+ghost use Rattle.yaml_base.specs.DocEventView.{doc_event_of};
 ghost use Rattle.yaml_base.specs.LocalName.{local_name};
-ghost use Rattle.yaml_load.specs.DocEventView.{doc_event_of};
-ghost use Rattle.yaml_read.specs.NodeTags.{tag_in};
+ghost use Rattle.yaml_meaning.specs.NodeTags.{tag_in};
 
 use crate::frame::{Deed, Frame, Kind, Stranger};
 use crate::leaf::Leaf;

@@ -7,7 +7,7 @@ ghost use Rattle.yaml.specs.Collections.{behind_frame};
 ghost use Rattle.yaml.specs.Picks.{TakesTag};
 ghost use Rattle.yaml.specs.declared.frame.Kind.TheVariants.{Named};
 ghost use Rattle.yaml.specs.declared.leaf.Leaf.TheVariants as leaf;
-ghost use Rattle.yaml_load.specs.PlainDocEvent.{PlainDocEvent};
+ghost use Rattle.yaml_base.specs.PlainDocEvent.{PlainDocEvent};
 ghost use Rattle.yaml_shape.specs.PlainData.{map_data, seq_data, no_entries, no_items};
 
 use crate::frame::{Deed, Frame, Kind, Last, Spot};

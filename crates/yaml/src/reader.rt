@@ -2,9 +2,9 @@
 
 ghost use Rattle.std.specs.Prelude.{◌≡◌, ◌+◌, ◌<◌, ◌^◌, IfOk, OnSome};
 ghost use Rattle.std.specs.Option.{option_map};
+ghost use Rattle.yaml_base.specs.DocEventView.{doc_event_of};
 ghost use Rattle.yaml.specs.Around.{event_at, innermost, place_behind, standing, target_of};
 ghost use Rattle.yaml.specs.NodeSteps.{Gave, Took, gone_on, node_at};
-ghost use Rattle.yaml_load.specs.DocEventView.{doc_event_of};
 ghost use Rattle.yaml_shape.specs.DataView.{data_of};
 
 use crate::frame::{Deed, Frame, Last, Spot, Stranger};

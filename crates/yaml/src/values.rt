@@ -16,7 +16,7 @@ pub struct Values<'de, T> {
 
 impl<'de, T> Model for Values<'de, T> {
     ghost use Rattle.std.specs.Prelude.{List};
-    ghost use Rattle.yaml_read.specs.PlainDocument.{PlainDocument};
+    ghost use Rattle.yaml_base.specs.PlainDocument.{PlainDocument};
 
     ghost Value = { List PlainDocument };
 

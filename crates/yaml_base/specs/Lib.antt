@@ -4,6 +4,8 @@ pub mod AskedStyles
 pub mod Borrowable
 pub mod CausePlace
 pub mod CauseText
+pub mod DocEventView
+pub mod DocTree
 pub mod EmitEvents
 pub mod EmitTree
 pub mod ErrorText
@@ -17,6 +19,9 @@ pub mod LocalName
 pub mod MarkText
 pub mod MarkedEvents
 pub mod PathText
+pub mod Places
+pub mod PlainDocEvent
+pub mod PlainDocument
 pub mod PlainEvent
 pub mod PlainFault
 pub mod PlainWords

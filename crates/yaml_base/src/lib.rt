@@ -3,6 +3,7 @@
 
 mod borrowed;
 mod core_tags;
+mod doc_event;
 pub mod emitter;
 mod entry_key;
 mod error;
@@ -22,6 +23,7 @@ mod words;
 
 pub use borrowed::{borrowed_bytes, parse_borrowed_str, texts_are_borrowed_where_they_stand};
 pub use core_tags::core_tags_have_their_texts;
+pub use doc_event::{DocEvent, DocScalar, DocStart};
 pub use entry_key::EntryKey;
 pub use error::{Cause, Error, Place, Result};
 pub use event::{Event, MappingStart, Scalar, ScalarStyle, SequenceStart};

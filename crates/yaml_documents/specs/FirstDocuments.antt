@@ -1,11 +1,11 @@
 -- Which documents a text begins with, while its events are read.
 use Rattle.std.specs.Prelude.{◌≡◌, List, None, false, ℕ, map}
 use Rattle.yaml_base.specs.MarkedEvents.{plain_marked}
+use Rattle.yaml_base.specs.PlainDocument.{PlainDocument}
 use Rattle.yaml_base.specs.Position.{Position}
 use Rattle.yaml_base.specs.declared.event.Event.{Event}
 use Rattle.yaml_documents.specs.TextEvents.{AreEventsOf}
 use Rattle.yaml_read.specs.Documents.{after_starts, document_from, is_open_after}
-use Rattle.yaml_read.specs.PlainDocument.{PlainDocument}
 
 -- some events that a parser handed out of the text are cut into these documents, and no document is open behind them
 pub record AreFirstDocumentsOf (text : List ℕ) (documents : List PlainDocument) : Type 0 where

@@ -1,9 +1,9 @@
 -- What a call does that is asked for the next document.
 use Rattle.std.specs.Prelude.{◌≡◌, ◌++◌, IfNone, Option, false, option_to_list, true}
+use Rattle.yaml_base.specs.PlainDocument.{PlainDocument}
 use Rattle.yaml_documents.specs.FirstDocuments.{AreFirstDocumentsOf}
 use Rattle.yaml_documents.specs.PlainReader.{PlainReader}
 use Rattle.yaml_documents.specs.TextDocuments.{AreDocumentsOf}
-use Rattle.yaml_read.specs.PlainDocument.{PlainDocument}
 
 -- The document that is answered stands behind those that were handed out before. They are the first of the text's
 -- documents, and all of them once the reader is over, as it is where no document is answered.

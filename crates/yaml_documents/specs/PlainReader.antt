@@ -1,6 +1,6 @@
 -- A text whose documents are handed out one by one.
 use Rattle.std.specs.Prelude.{Bool, List, [], false, ℕ}
-use Rattle.yaml_read.specs.PlainDocument.{PlainDocument}
+use Rattle.yaml_base.specs.PlainDocument.{PlainDocument}
 
 -- the text, the documents that were handed out, whether these are all, and whether memory was wanting
 pub record PlainReader : Type 0 where

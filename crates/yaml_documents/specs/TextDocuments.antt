@@ -1,12 +1,12 @@
 -- What a text stands for: what the events stand for that a parser makes of it.
 use Rattle.std.specs.Prelude.{◌≡◌, List, ℕ, Option}
 use Rattle.yaml_base.specs.MarkedEvents.{plain_marked}
+use Rattle.yaml_base.specs.PlainDocument.{PlainDocument}
 use Rattle.yaml_base.specs.PlainFault.{PlainFault}
 use Rattle.yaml_base.specs.Position.{Position}
 use Rattle.yaml_base.specs.declared.event.Event.{Event}
 use Rattle.yaml_documents.specs.TextEvents.{AreParsed}
 use Rattle.yaml_read.specs.Documents.{Input, documents_of}
-use Rattle.yaml_read.specs.PlainDocument.{PlainDocument}
 
 -- The text was parsed to events and, if the parser met one, to a fault, and this holds of the two.
 pub record IsParsed (text : List ℕ) (Holds : Input → Option PlainFault → Type 0) : Type 0 where

@@ -3,9 +3,9 @@
 ghost use Rattle.std.specs.Prelude.{◌≡◌, ◌++◌, [], IfErr, IfNone, IfOk, IsErr, IsOkAnd, List, None, Ok, ℕ};
 ghost use Rattle.std.specs.Prelude.{false, option_to_list, true};
 ghost use Rattle.yaml_base.specs.Answer.{is_memory};
+ghost use Rattle.yaml_base.specs.PlainDocument.{PlainDocument};
 ghost use Rattle.yaml_documents.specs.inner.Pending.{is_over};
 ghost use Rattle.yaml_documents.specs.inner.Stages.{IsAt, has_ended, has_failed};
-ghost use Rattle.yaml_read.specs.PlainDocument.{PlainDocument};
 
 use crate::batch::{Stage, load_batch};
 use crate::pending::Pending;

@@ -14,7 +14,7 @@ pub(crate) struct Pending<'de> {
 
 impl<'de> Model for Pending<'de> {
     ghost use Rattle.std.specs.Prelude.{List};
-    ghost use Rattle.yaml_read.specs.PlainDocument.{PlainDocument};
+    ghost use Rattle.yaml_base.specs.PlainDocument.{PlainDocument};
 
     ghost Value = { List PlainDocument };
 

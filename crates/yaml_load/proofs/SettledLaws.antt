@@ -8,7 +8,7 @@ use Rattle.yaml_load.proofs.Words.{settle, settled, Events, zero, suc, get_or, s
 use Rattle.yaml_load.proofs.Words.{drop-set-add, get_or-drop, doc_event_of, marked_events_of, DocEvent}
 use Rattle.yaml_load.proofs.OpenEndsLaws.{one_longer}
 use Rattle.std.proofs.lemmas.List.{length-drop}
-use Rattle.yaml_load.specs.declared.doc_event.DocEvent.TheVariants as event
+use Rattle.yaml_base.specs.declared.doc_event.DocEvent.TheVariants as event
 
 abbrev pub ToNodes : Input → Type 0
 ToNodes seen = All (λ e. IsTrue (is_of_node e.0)) seen

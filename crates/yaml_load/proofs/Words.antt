@@ -18,6 +18,11 @@ pub use Rattle.std.specs.Prelude.{option_to_list, slice_get}
 pub use Rattle.std.specs.Str.{bytes_eq}
 pub use Rattle.std.specs.Vec.Iter.{into_iter_items}
 pub use Rattle.yaml_base.proofs.StreamMachineLaws.{goes_on_run, run_append, whole_run}
+pub use Rattle.yaml_base.specs.DocEventView.{doc_event_of}
+pub use Rattle.yaml_base.specs.DocTree.{DocNode, DocNodes, DocPairs, IsTreeOf, events_of, events_of_nodes}
+pub use Rattle.yaml_base.specs.DocTree.{events_of_pairs, list, mapping, node_of, nothing, numbered, numbered_nodes}
+pub use Rattle.yaml_base.specs.DocTree.{numbered_pairs, reference, with_number, word}
+pub use Rattle.yaml_base.specs.PlainDocEvent.{a_void, mapping_begins, mapping_ends, sequence_begins, sequence_ends}
 pub use Rattle.yaml_base.specs.PlainEvent.{PlainEvent}
 pub use Rattle.yaml_base.specs.Stream.{IsBeginning, IsStream, documents_events}
 pub use Rattle.yaml_base.specs.StreamMachine.{State, after_stream, before_root, before_stream, begins}
@@ -26,20 +31,17 @@ pub use Rattle.yaml_base.specs.Tree.{NodePairs, Nodes, alias_node, anchors_of, a
 pub use Rattle.yaml_base.specs.Tree.{greater, greatest_below, mapping_node, no_nodes, no_pairs, node, node_events}
 pub use Rattle.yaml_base.specs.Tree.{nodes_events, number_below, pair, pairs_events, scalar_node, sequence_node}
 pub use Rattle.yaml_base.specs.Tree.{size_of, target}
+pub use Rattle.yaml_base.specs.declared.doc_event.DocEvent.{DocEvent}
+pub use Rattle.yaml_base.specs.declared.doc_event.DocEvent.TheVariants.{Alias, Void}
 pub use Rattle.yaml_base.specs.declared.error.Cause.{Cause}
 pub use Rattle.yaml_base.specs.declared.error.Cause.TheVariants.{UnknownAnchor}
 pub use Rattle.yaml_base.specs.declared.event.Event.{Event}
 pub use Rattle.yaml_base.specs.declared.open.Open.{Open}
-pub use Rattle.yaml_load.specs.DocEventView.{doc_event_of}
-pub use Rattle.yaml_load.specs.DocTree.{DocNode, DocNodes, DocPairs, IsTreeOf, events_of, events_of_nodes}
-pub use Rattle.yaml_load.specs.DocTree.{events_of_pairs, list, mapping, node_of, nothing, numbered, numbered_nodes}
-pub use Rattle.yaml_load.specs.DocTree.{numbered_pairs, reference, with_number, word}
 pub use Rattle.yaml_load.specs.Documents.{Find, anchor_of, becomes, behind, body, document_from, further_document}
 pub use Rattle.yaml_load.specs.Documents.{is_document_end, is_document_start, is_ended, is_open_after, known_events}
 pub use Rattle.yaml_load.specs.Documents.{or_mark, then_events, unknown_mark, void_documents}
 pub use Rattle.yaml_load.specs.Ends.{end_place, ends_from, inner_after}
 pub use Rattle.yaml_load.specs.Gathering.{document_in, plain_doc_events}
-pub use Rattle.yaml_load.specs.PlainDocEvent.{a_void, mapping_begins, mapping_ends, sequence_begins, sequence_ends}
 pub use Rattle.yaml_load.specs.Resolved.{node_then_nodes, pair_then_pairs, resolved, resolved_from, resolved_nodes}
 pub use Rattle.yaml_load.specs.Resolved.{resolved_pairs, without_anchor}
 pub use Rattle.yaml_load.specs.StreamLaw.{AreDocumentsOf, HoldsFront, IsAtFault, IsDocumentOf}
@@ -53,8 +55,6 @@ pub use Rattle.yaml_load.specs.Words.{event_of, events_in, failed_document, find
 pub use Rattle.yaml_load.specs.Words.{is_opening, last_mark, mapping_end, mapping_start, marked_events_of, plain_events}
 pub use Rattle.yaml_load.specs.Words.{plain_marked, scalar, scalar_of, sequence_end, sequence_start, settled, state_of}
 pub use Rattle.yaml_load.specs.Words.{stream_end, stream_events, stream_start, void_document, within}
-pub use Rattle.yaml_load.specs.declared.doc_event.DocEvent.{DocEvent}
-pub use Rattle.yaml_load.specs.declared.doc_event.DocEvent.TheVariants.{Alias, Void}
 pub use Rattle.yaml_load.specs.declared.loader.check.Phase.{Phase}
 pub use Rattle.yaml_load.specs.declared.loader.check.Phase.TheVariants.{After, Before}
 pub use Rattle.yaml_load.specs.declared.loader.draft.Cut.{Cut}

@@ -10,9 +10,9 @@ use Rattle.yaml_base.specs.PlainFault.{PlainFault}
 use Rattle.yaml_base.specs.Tree.{anchor_at, greatest_below}
 use Rattle.yaml_base.specs.declared.error.Cause.{Cause}
 use Rattle.yaml_base.specs.declared.error.Cause.TheVariants.{UnknownAnchor, Parser}
-use Rattle.yaml_load.specs.PlainDocEvent.{PlainDocEvent, alias_to, a_scalar, sequence_begins, sequence_ends}
-use Rattle.yaml_load.specs.PlainDocEvent.{mapping_begins, mapping_ends, a_void}
-use Rattle.yaml_load.specs.PlainDocument.{PlainDocument}
+use Rattle.yaml_base.specs.PlainDocEvent.{PlainDocEvent, alias_to, a_scalar, sequence_begins, sequence_ends}
+use Rattle.yaml_base.specs.PlainDocEvent.{mapping_begins, mapping_ends, a_void}
+use Rattle.yaml_base.specs.PlainDocument.{PlainDocument}
 use Rattle.yaml_load.specs.Resolved.{without_anchor}
 
 -- events, each with its mark

@@ -2,14 +2,14 @@
 use Rattle.std.specs.Prelude.{ℕ, ◌≡◌, ◌≤◌, List, map, length, slice_range, All, Box, Option}
 use Rattle.std.specs.Option.{option_map}
 use Rattle.std.specs.declared.alloc.Global.{Global}
+use Rattle.yaml_base.specs.DocEventView.{doc_event_of, marked_events_of}
+use Rattle.yaml_base.specs.PlainDocEvent.{PlainDocEvent}
+use Rattle.yaml_base.specs.PlainDocument.{PlainDocument}
 use Rattle.yaml_base.specs.Position.{Position}
+use Rattle.yaml_base.specs.declared.doc_event.DocEvent.{DocEvent}
 use Rattle.yaml_base.specs.declared.error.Cause.{Cause}
 use Rattle.yaml_base.specs.declared.error.Error.{Error}
-use Rattle.yaml_load.specs.DocEventView.{doc_event_of, marked_events_of}
 use Rattle.yaml_load.specs.Ends.{ends_of}
-use Rattle.yaml_load.specs.PlainDocEvent.{PlainDocEvent}
-use Rattle.yaml_load.specs.PlainDocument.{PlainDocument}
-use Rattle.yaml_load.specs.declared.doc_event.DocEvent.{DocEvent}
 use Rattle.yaml_load.specs.declared.loader.draft.Cut.{Cut}
 
 -- the plain events, without their marks

@@ -1,12 +1,8 @@
 -- What contracts of this crate, and of those above it, cite.
-pub mod DocEventView
-pub mod DocTree
 pub mod Documents
 pub mod Ends
 pub mod Gathering
 pub mod MarkedEvents
-pub mod PlainDocEvent
-pub mod PlainDocument
 pub mod Resolved
 pub mod StreamLaw
 pub mod StreamPhases

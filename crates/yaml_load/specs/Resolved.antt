@@ -1,12 +1,12 @@
 -- The tree of one document once anchors are taken out and each alias names the number of its target.
 use Rattle.std.specs.Prelude.{ℕ, ◌+◌, List, Option, Some, None}
 use Rattle.std.specs.Option.{option_map}
+use Rattle.yaml_base.specs.DocTree.{DocNode, reference, word, list, mapping}
+use Rattle.yaml_base.specs.DocTree.{DocNodes, DocPairs}
+use Rattle.yaml_base.specs.DocTree as tree
 use Rattle.yaml_base.specs.PlainEvent.{PlainScalar}
 use Rattle.yaml_base.specs.Tree.{Node, alias_node, scalar_node, sequence_node, mapping_node, Nodes, no_nodes, node}
 use Rattle.yaml_base.specs.Tree.{NodePairs, no_pairs, pair, size_of, target}
-use Rattle.yaml_load.specs.DocTree.{DocNode, reference, word, list, mapping}
-use Rattle.yaml_load.specs.DocTree.{DocNodes, DocPairs}
-use Rattle.yaml_load.specs.DocTree as tree
 
 -- the scalar without its anchor
 abbrev pub without_anchor : PlainScalar → PlainScalar

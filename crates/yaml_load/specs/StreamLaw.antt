@@ -1,15 +1,15 @@
 -- What the documents of a whole stream are, by the trees of the stream.
 use Rattle.std.specs.Prelude.{◌≡◌, ℕ, List, [], ◌∷◌, length, slice_get, Option, Some, None}
+use Rattle.yaml_base.specs.DocTree.{DocNode, IsTreeOf}
+use Rattle.yaml_base.specs.PlainDocEvent.{PlainDocEvent}
+use Rattle.yaml_base.specs.PlainDocument.{PlainDocument}
 use Rattle.yaml_base.specs.PlainEvent.{PlainEvent}
 use Rattle.yaml_base.specs.PlainFault.{PlainFault}
 use Rattle.yaml_base.specs.Position.{Position}
 use Rattle.yaml_base.specs.Tree.{Node}
 use Rattle.yaml_base.specs.declared.error.Cause.{Cause}
 use Rattle.yaml_base.specs.declared.error.Cause.TheVariants.{UnknownAnchor, Parser}
-use Rattle.yaml_load.specs.DocTree.{DocNode, IsTreeOf}
 use Rattle.yaml_load.specs.Documents.{Input, Find, void_document, becomes, anchors_in, body, find_in}
-use Rattle.yaml_load.specs.PlainDocEvent.{PlainDocEvent}
-use Rattle.yaml_load.specs.PlainDocument.{PlainDocument}
 use Rattle.yaml_load.specs.Resolved.{resolved}
 
 -- the document of a node: where all its aliases have targets the resolved tree is its tree, else it ends at an unknown

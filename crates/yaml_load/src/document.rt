@@ -4,10 +4,9 @@ ghost use Rattle.std.specs.Prelude.{◌≡◌};
 ghost use Rattle.yaml_load.specs.Words.{map, option_copied, marked_events_of, ends_of, HasEnds, document_of_range};
 ghost use Rattle.yaml_load.specs.Words.{HasTree, IsDocument, IsEnding};
 
-use crate::doc_event::DocEvent;
 use std::marker::Model;
 use std::rc::Rc;
-use yaml_base::{Error, Mark};
+use yaml_base::{DocEvent, Error, Mark};
 
 /// One document: its events, which lie beside those of the stream's other documents, and the fault that cut it off, if
 /// one did.
@@ -21,7 +20,7 @@ pub struct LoadedDocument<'de> {
 }
 
 impl<'de> Model for LoadedDocument<'de> {
-    ghost use Rattle.yaml_load.specs.PlainDocument.{PlainDocument};
+    ghost use Rattle.yaml_base.specs.PlainDocument.{PlainDocument};
 
     ghost Value = { PlainDocument };
 

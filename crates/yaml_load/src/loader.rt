@@ -28,7 +28,7 @@ pub struct Loader<'de> {
 impl<'de> Model for Loader<'de> {
     ghost use Rattle.std.specs.Prelude.{List};
     ghost use Rattle.std.specs.Vec.Iter.{into_iter_items};
-    ghost use Rattle.yaml_load.specs.PlainDocument.{PlainDocument};
+    ghost use Rattle.yaml_base.specs.PlainDocument.{PlainDocument};
 
     ghost Value = { List PlainDocument };
 

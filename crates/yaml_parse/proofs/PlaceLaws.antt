@@ -1,7 +1,7 @@
 -- How lines and columns are counted.
 use Rattle.std.proofs.Common.{ℕ, zero, suc, ◌+◌, ◌≤◌, ◌≡◌, ◌∙◌, List, Bool, true, false, add-one, ap, sym, subst, arith}
 use Rattle.std.proofs.Common.{if◌then◌else◌}
-use Rattle.yaml_parse.specs.Places.{begins_character, ends_line, place_behind, place_of}
+use Rattle.yaml_base.specs.Places.{begins_character, ends_line, place_behind, place_of}
 
 -- behind a byte with which a line ends, behind one with which a character begins, and behind any other
 behind_end : (text : List ℕ) (at : ℕ) (place : ℕ × ℕ) → ends_line text at ≡ true

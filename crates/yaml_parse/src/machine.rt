@@ -1,8 +1,8 @@
 //! The machine that takes tokens one by one and gives events.
 
 ghost use Rattle.std.specs.Prelude.{◌≡◌, []};
+ghost use Rattle.yaml_base.specs.Places.{place_of};
 ghost use Rattle.yaml_parse.specs.Kept.{Keeps};
-ghost use Rattle.yaml_parse.specs.Places.{place_of};
 
 use crate::fault::{endless, fault_in};
 use crate::frame::{Frame, Phase};

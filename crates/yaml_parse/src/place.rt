@@ -1,7 +1,8 @@
 //! Where the bytes of a text stand: in which line, and at which column of it.
 
 ghost use Rattle.std.specs.Prelude.{◌≡◌, ◌<◌, ◌≤◌, false, length, true};
-ghost use Rattle.yaml_parse.specs.Places.{IsInPlace, begins_character, ends_line, place_of};
+ghost use Rattle.yaml_base.specs.Places.{begins_character, ends_line, place_of};
+ghost use Rattle.yaml_parse.specs.Places.{IsInPlace};
 
 use yaml_base::Mark;
 

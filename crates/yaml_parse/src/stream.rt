@@ -7,13 +7,14 @@ ghost use Rattle.std.specs.Prelude.{option_to_list, true};
 ghost use Rattle.std.specs.Option.{option_map};
 ghost use Rattle.std.proofs.Props.{props};
 ghost use Rattle.yaml_base.specs.MarkedEvents.{plain_events};
+ghost use Rattle.yaml_base.specs.Places.{place_of};
 ghost use Rattle.yaml_base.specs.PlainEvent.{event_of, scalar_of};
 ghost use Rattle.yaml_base.specs.Stream.{IsStream, IsWellFormed};
 ghost use Rattle.yaml_base.specs.StreamMachine.{before_stream, next_state, run, within};
 ghost use Rattle.yaml_base.specs.declared.open.Open.TheVariants.{Key, Sequence};
 ghost use Rattle.yaml_parse.specs.Frames.{open_of, opens, state_of};
 ghost use Rattle.yaml_parse.specs.Marks.{MarksAscend};
-ghost use Rattle.yaml_parse.specs.Places.{AreInPlace, IsInPlace, place_of};
+ghost use Rattle.yaml_parse.specs.Places.{AreInPlace, IsInPlace};
 ghost use Rattle.yaml_parse.specs.PlainText.{SaySources, SaysItsSource, SaysSource};
 ghost use Rattle.yaml_parse.specs.Shown.{AreShown, IsShown, StandsAt};
 

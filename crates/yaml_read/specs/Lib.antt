@@ -1,14 +1,8 @@
 -- What contracts of this crate, and of those above it, cite.
-pub mod AnyData
 pub mod CursorReads
-pub mod Fields
 pub mod FreeReads
-pub mod Handing
 pub mod Following
-pub mod Kinds
-pub mod Meaning
 pub mod NodeReads
-pub mod NodeTags
 pub mod Places
 pub mod PlainCursor
 pub mod ReadingFaults
@@ -16,25 +10,12 @@ pub mod Reads
 pub mod Rows
 pub mod TreeReader
 pub mod inner
--- What the crates below have of documents and of scalars, under the names that they have here.
-pub use Rattle.yaml_load.specs.DocEventView
-pub use Rattle.yaml_load.specs.DocTree
+-- What the crate below has of documents, under the names that they have here.
 pub use Rattle.yaml_load.specs.Documents
 pub use Rattle.yaml_load.specs.Ends
 pub use Rattle.yaml_load.specs.Gathering
 pub use Rattle.yaml_load.specs.MarkedEvents
-pub use Rattle.yaml_load.specs.PlainDocEvent
-pub use Rattle.yaml_load.specs.PlainDocument
 pub use Rattle.yaml_load.specs.Resolved
 pub use Rattle.yaml_load.specs.StreamLaw
 pub use Rattle.yaml_load.specs.StreamPhases
 pub use Rattle.yaml_load.specs.WrongPlace
-pub use Rattle.yaml_scalar.specs.CoreTags
-pub use Rattle.yaml_scalar.specs.Presence
-pub use Rattle.yaml_scalar.specs.ReadFault
-pub use Rattle.yaml_scalar.specs.ScalarAny
-pub use Rattle.yaml_scalar.specs.ScalarFound
-pub use Rattle.yaml_scalar.specs.ScalarShapes
-pub use Rattle.yaml_scalar.specs.ScalarSorts
-pub use Rattle.yaml_scalar.specs.Steps
-pub use Rattle.yaml_scalar.specs.Variants

@@ -9,8 +9,8 @@ use Rattle.std.proofs.lemmas.Option.{get_or_from_slice_get, slice_get_within}
 use Rattle.std.proofs.lemmas.Slice.Eq.{bytes_eq-Decides}
 use Rattle.yaml_shape.specs.PlainShape.{PlainVariant}
 use Rattle.yaml_shape.specs.Validity.{AreDistinct, names_of}
-use Rattle.yaml_read.specs.Fields.{Fields, find}
-use Rattle.yaml_read.specs.Variants.{Variants, variant_named}
+use Rattle.yaml_meaning.specs.Fields.{Fields, find}
+use Rattle.yaml_meaning.specs.Variants.{Variants, variant_named}
 use Rattle.yaml_round.proofs.SameOrders.{first, second}
 
 -- what is there is the same where it is looked up twice

@@ -2,6 +2,7 @@
 use Rattle.std.specs.Prelude.{Bool, true, false, slice_get}
 use Rattle.std.specs.Option.{is_some}
 use Rattle.std.proofs.Common.{◌≡◌, ℕ, List, Option, Some, None, Result, Ok, sym, ap, ◌∙◌, subst}
+use Rattle.yaml_base.specs.DocTree.{DocNode, first_event}
 use Rattle.yaml_base.specs.EmitTree.{EmitNode, emit_scalar_node, emit_sequence_node, emit_mapping_node}
 use Rattle.yaml_base.specs.PlainEvent.{PlainScalar}
 use Rattle.yaml_base.specs.Renders.{RendersScalar}
@@ -14,10 +15,9 @@ use Rattle.yaml_shape.specs.PlainShape.{PlainShape, PlainVariant, unit_variant, 
 use Rattle.yaml_shape.specs.PlainShape.{struct_variant, shape_at, option_shape, newtype_shape, enum_shape}
 use Rattle.yaml_tree.specs.Tree.{Tree, null, boolean, number, string, sequence, mapping, tagged}
 use Rattle.yaml_tree.specs.Valid.{is_value}
-use Rattle.yaml_read.specs.DocTree.{DocNode, first_event}
-use Rattle.yaml_read.specs.Handing.{is_content}
-use Rattle.yaml_read.specs.Presence.{is_present}
-use Rattle.yaml_read.specs.ScalarSorts.{is_local}
+use Rattle.yaml_meaning.specs.Handing.{is_content}
+use Rattle.yaml_meaning.specs.Presence.{is_present}
+use Rattle.yaml_meaning.specs.ScalarSorts.{is_local}
 use Rattle.yaml_write.specs.LocalTags.{local_tag, value_tag}
 use Rattle.yaml_write.specs.Outcomes.{Outcome, made}
 use Rattle.yaml_write.specs.Written.{written}

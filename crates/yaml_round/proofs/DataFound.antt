@@ -4,17 +4,17 @@ use Rattle.std.specs.Option.{is_some}
 use Rattle.std.proofs.Common.{◌≡◌, ℕ, List, ◌++◌, length, Option, Some, Ok}
 use Rattle.std.proofs.Common.{refl, sym, subst}
 use Rattle.std.proofs.lemmas.Bool.Decides.{Decides-eqb}
+use Rattle.yaml_base.specs.DocTree.{DocNode, DocNodes, DocPairs}
 use Rattle.yaml_base.specs.EmitTree.{EmitNode}
 use Rattle.yaml_shape.specs.DataView.{items_of}
 use Rattle.yaml_shape.specs.HasShape.{has_shape}
 use Rattle.yaml_shape.specs.PlainData.{PlainData, PlainItems, PlainEntries}
 use Rattle.yaml_shape.specs.PlainShape.{PlainShape}
 use Rattle.yaml_shape.specs.PlainShape.{shape_at}
-use Rattle.yaml_read.specs.DocTree.{DocNode, DocNodes, DocPairs}
-use Rattle.yaml_read.specs.Fields.{Fields, Slots, no_slots}
-use Rattle.yaml_read.specs.Meaning.{Means}
-use Rattle.yaml_read.specs.Meaning.{MeanEach, MeanRow}
-use Rattle.yaml_read.specs.Meaning.{MeanPairs, MeanFields}
+use Rattle.yaml_meaning.specs.Fields.{Fields, Slots, no_slots}
+use Rattle.yaml_meaning.specs.Meaning.{Means}
+use Rattle.yaml_meaning.specs.Meaning.{MeanEach, MeanRow}
+use Rattle.yaml_meaning.specs.Meaning.{MeanPairs, MeanFields}
 use Rattle.yaml_write.specs.Written.{written}
 use Rattle.yaml_round.specs.Fits.{data_fits}
 use Rattle.yaml_round.specs.Nestings.{nestings, items_nestings, entries_nestings}

@@ -5,6 +5,7 @@ use Rattle.std.specs.Option.{is_some}
 use Rattle.std.specs.Str.{is_utf8}
 use Rattle.std.proofs.Common.{◌≡◌, ℕ, List, length, Option, Some, None, Ok}
 use Rattle.std.proofs.Common.{refl, sym, ap, ◌∙◌, subst, arith}
+use Rattle.yaml_base.specs.DocTree.{DocNode, list}
 use Rattle.yaml_base.specs.EmitTree.{EmitNode, emit_sequence_node}
 use Rattle.yaml_base.specs.EmitTree.{emit_mapping_node}
 use Rattle.yaml_shape.specs.HasShape.{has_shape, all_have, each_has, entries_have, has_content}
@@ -16,10 +17,9 @@ use Rattle.yaml_shape.specs.PlainShape.{PlainShape, option_shape, newtype_shape,
 use Rattle.yaml_shape.specs.PlainShape.{fields_shape, enum_shape, ignored_shape, of_struct, shape_at}
 use Rattle.yaml_shape.specs.Validity.{IsValidSchema, HasDistinctNames, NamesWithin, IsDistinctInside}
 use Rattle.yaml_shape.specs.Validity.{names_of, numbers_of}
-use Rattle.yaml_read.specs.DocTree.{DocNode, list}
-use Rattle.yaml_read.specs.Meaning.{Means, means_node, means_some, means_newtype, means_ignored}
-use Rattle.yaml_read.specs.Meaning.{means_list, means_mapping, means_seq}
-use Rattle.yaml_read.specs.Meaning.{means_map}
+use Rattle.yaml_meaning.specs.Meaning.{Means, means_node, means_some, means_newtype, means_ignored}
+use Rattle.yaml_meaning.specs.Meaning.{means_list, means_mapping, means_seq}
+use Rattle.yaml_meaning.specs.Meaning.{means_map}
 use Rattle.yaml_write.specs.InShape.{item_shapes, named_fields, named_variants}
 use Rattle.yaml_write.specs.Written.{written, written_elements}
 use Rattle.yaml_write.specs.Written.{written_entries}

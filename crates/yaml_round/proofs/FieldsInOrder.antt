@@ -4,7 +4,7 @@ use Rattle.std.proofs.Common.{◌≡◌, List, [], ◌∷◌, ◌++◌, length, 
 use Rattle.yaml_shape.specs.PlainData.{PlainData, struct_data}
 use Rattle.yaml_shape.specs.PlainShape.{PlainShape}
 use Rattle.yaml_shape.specs.DataView.{items_of}
-use Rattle.yaml_read.specs.Fields.{Fields, Slots, is_free, all_fields, struct_of}
+use Rattle.yaml_meaning.specs.Fields.{Fields, Slots, is_free, all_fields, struct_of}
 
 -- the place behind what was read is free
 pub free_behind : (front more : Slots) → is_free (front ++ None ∷ more) (length front) ≡ true

@@ -14,9 +14,9 @@ use Rattle.yaml_base.specs.PlainEvent.{PlainScalar}
 use Rattle.yaml_base.specs.Renders.{RendersScalar}
 use Rattle.yaml_base.specs.declared.emitter.AskedStyle.TheVariants.{Plain, SingleQuoted}
 use Rattle.yaml_base.specs.declared.resolver.kind.Kind.TheVariants as kind
-use Rattle.yaml_read.specs.CoreTags.{null_tag}
-use Rattle.yaml_read.specs.Presence.{is_present}
-use Rattle.yaml_read.specs.ScalarSorts.{is_plain, is_local, has_untaken}
+use Rattle.yaml_meaning.specs.CoreTags.{null_tag}
+use Rattle.yaml_meaning.specs.Presence.{is_present}
+use Rattle.yaml_meaning.specs.ScalarSorts.{is_plain, is_local, has_untaken}
 use Rattle.yaml_write.specs.WrittenValue.{truth_text}
 use Rattle.yaml_round.proofs.Decimals.{unsigned_of-decimal, integer_of-signed_decimal}
 use Rattle.yaml_round.proofs.RenderedScalars.{plain-back, quoted-back, string-back, no-untaken, taken-or-none}

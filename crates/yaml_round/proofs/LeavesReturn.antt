@@ -6,8 +6,10 @@ use Rattle.std.specs.Str.{is_utf8}
 use Rattle.std.proofs.Common.{◌≡◌, ℕ, List, [], ◌∷◌, Option, Some, None, Ok}
 use Rattle.std.proofs.Common.{refl, sym, ap, subst, inl, inr}
 use Rattle.yaml_base.specs.AskedStyles.{asked_style}
+use Rattle.yaml_base.specs.DocTree.{DocNode}
 use Rattle.yaml_base.specs.EmitTree.{EmitNode, emit_scalar_node}
 use Rattle.yaml_base.specs.LocalName.{local_name}
+use Rattle.yaml_base.specs.PlainDocEvent.{a_scalar}
 use Rattle.yaml_base.specs.PlainEvent.{PlainScalar}
 use Rattle.yaml_base.specs.Renders.{RendersScalar}
 use Rattle.yaml_base.specs.declared.emitter.AskedStyle.{AskedStyle}
@@ -20,13 +22,11 @@ use Rattle.yaml_shape.specs.PlainShape.{unit_struct_shape}
 use Rattle.yaml_shape.specs.PlainShape.{enum_shape}
 use Rattle.yaml_tree.specs.EqualLaws.{tree_eq-refl}
 use Rattle.yaml_tree.specs.Tree.{boolean, number}
-use Rattle.yaml_read.specs.DocTree.{DocNode}
-use Rattle.yaml_read.specs.Handing.{as_is, handed, early, enum_by}
-use Rattle.yaml_read.specs.Meaning.{Means}
-use Rattle.yaml_read.specs.PlainDocEvent.{a_scalar}
-use Rattle.yaml_read.specs.Presence.{is_absent, is_empty}
-use Rattle.yaml_read.specs.ScalarShapes.{scalar_answer, lent_text}
-use Rattle.yaml_read.specs.Variants.{Variants}
+use Rattle.yaml_meaning.specs.Handing.{as_is, handed, early, enum_by}
+use Rattle.yaml_meaning.specs.Meaning.{Means}
+use Rattle.yaml_meaning.specs.Presence.{is_absent, is_empty}
+use Rattle.yaml_meaning.specs.ScalarShapes.{scalar_answer, lent_text}
+use Rattle.yaml_meaning.specs.Variants.{Variants}
 use Rattle.yaml_write.specs.Outcomes.{Outcome}
 use Rattle.yaml_round.specs.Fits.{is_variant_name}
 use Rattle.yaml_round.proofs.ByPlace.{same_bytes}

@@ -5,6 +5,8 @@ use Rattle.std.specs.Str.{is_utf8}
 use Rattle.std.proofs.Common.{◌≡◌, ℕ, List, [], ◌∷◌, ◌++◌, length, Option, Some, None, Ok}
 use Rattle.std.proofs.Common.{refl, sym, ap, ◌∙◌, subst}
 use Rattle.std.proofs.lemmas.List.{append_assoc, length-append}
+use Rattle.yaml_base.specs.DocTree.{DocNode, DocNodes, DocPairs}
+use Rattle.yaml_base.specs.DocTree as doc
 use Rattle.yaml_base.specs.EmitTree.{EmitNode, EmitNodes, EmitPairs, emit_sequence_node}
 use Rattle.yaml_base.specs.EmitTree.{emit_mapping_node, no_emit_nodes, emit_node, no_emit_pairs, emit_pair}
 use Rattle.yaml_shape.specs.DataView.{items_of}
@@ -15,14 +17,12 @@ use Rattle.yaml_shape.specs.PlainData.{no_items, item, no_entries, entry}
 use Rattle.yaml_shape.specs.PlainShape.{PlainShape, row_shape, fields_shape, Owner, shape_at}
 use Rattle.yaml_shape.specs.Validity.{AreDistinct}
 use Rattle.yaml_shape.specs.Validity.{names_of, numbers_of}
-use Rattle.yaml_read.specs.DocTree.{DocNode, DocNodes, DocPairs}
-use Rattle.yaml_read.specs.DocTree as doc
-use Rattle.yaml_read.specs.Fields.{Fields, Slots}
-use Rattle.yaml_read.specs.Meaning.{Means, means_node}
-use Rattle.yaml_read.specs.Meaning.{means_list, means_mapping}
-use Rattle.yaml_read.specs.Meaning.{means_row, means_fields}
-use Rattle.yaml_read.specs.Meaning.{MeanEach, means_none, means_more, MeanRow, means_no_elements, means_element}
-use Rattle.yaml_read.specs.Meaning.{MeanPairs, means_no_pairs, means_pair, MeanFields, means_no_fields}
+use Rattle.yaml_meaning.specs.Fields.{Fields, Slots}
+use Rattle.yaml_meaning.specs.Meaning.{Means, means_node}
+use Rattle.yaml_meaning.specs.Meaning.{means_list, means_mapping}
+use Rattle.yaml_meaning.specs.Meaning.{means_row, means_fields}
+use Rattle.yaml_meaning.specs.Meaning.{MeanEach, means_none, means_more, MeanRow, means_no_elements, means_element}
+use Rattle.yaml_meaning.specs.Meaning.{MeanPairs, means_no_pairs, means_pair, MeanFields, means_no_fields}
 use Rattle.yaml_write.specs.Outcomes.{made, joined, string_node}
 use Rattle.yaml_write.specs.Written.{written, written_tuple, written_struct, written_elements, written_items}
 use Rattle.yaml_write.specs.Written.{written_entries, written_fields}

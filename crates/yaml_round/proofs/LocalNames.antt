@@ -8,7 +8,7 @@ use Rattle.std.proofs.lemmas.Str.{IsUtf8-from_is_utf8, is_utf8-from_IsUtf8, IsUt
 use Rattle.yaml_base.proofs.SignLaws.{unproved}
 use Rattle.yaml_base.specs.LocalName.{local_name}
 use Rattle.yaml_tree.specs.Tag.{is_tag, tag_name, tag_eq}
-use Rattle.yaml_read.specs.ScalarSorts.{is_local}
+use Rattle.yaml_meaning.specs.ScalarSorts.{is_local}
 use Rattle.yaml_write.specs.LocalTags.{local_tag, value_tag}
 use Rattle.yaml_round.specs.Fits.{begins_with_two, is_variant_name}
 

@@ -1,9 +1,9 @@
 -- What was written, where something was.
 use Rattle.std.proofs.Common.{◌≡◌, List, ℕ, Option, Result, Ok, Err, refl, sym, ap, ◌∙◌}
+use Rattle.yaml_base.specs.DocTree.{DocNode, first_event}
 use Rattle.yaml_base.specs.EmitTree.{EmitNode, emit_scalar_node, emit_sequence_node, emit_mapping_node}
 use Rattle.yaml_base.specs.declared.error.Cause.{Cause}
-use Rattle.yaml_read.specs.DocTree.{DocNode, first_event}
-use Rattle.yaml_read.specs.NodeTags.{tag_in}
+use Rattle.yaml_meaning.specs.NodeTags.{tag_in}
 use Rattle.yaml_write.specs.Outcomes.{made, joined}
 use Rattle.yaml_round.proofs.RenderedTrees.{IsRendered}
 

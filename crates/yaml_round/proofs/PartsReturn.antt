@@ -5,18 +5,18 @@ use Rattle.std.proofs.Common.{◌≡◌, ℕ, suc, List, [], ◌∷◌, ◌++◌
 use Rattle.std.proofs.Common.{refl, sym, ap, subst, arith}
 use Rattle.std.proofs.lemmas.List.{append_assoc}
 use Rattle.yaml_base.specs.AskedStyles.{asked_style}
+use Rattle.yaml_base.specs.DocTree.{DocNode, DocPairs}
+use Rattle.yaml_base.specs.DocTree as doc
 use Rattle.yaml_shape.specs.DataView.{items_of}
 use Rattle.yaml_shape.specs.PlainData.{PlainData, PlainItems}
 use Rattle.yaml_shape.specs.PlainData.{item}
 use Rattle.yaml_shape.specs.PlainShape.{PlainShape, identifier_shape, shape_at}
 use Rattle.yaml_shape.specs.Validity.{AreDistinct}
 use Rattle.yaml_shape.specs.Validity.{names_of}
-use Rattle.yaml_read.specs.DocTree.{DocNode, DocPairs}
-use Rattle.yaml_read.specs.DocTree as doc
-use Rattle.yaml_read.specs.Fields.{Fields, Slots, no_slots}
-use Rattle.yaml_read.specs.Meaning.{Means}
-use Rattle.yaml_read.specs.Meaning.{MeanFields, means_field}
-use Rattle.yaml_read.specs.ScalarShapes.{lent_text}
+use Rattle.yaml_meaning.specs.Fields.{Fields, Slots, no_slots}
+use Rattle.yaml_meaning.specs.Meaning.{Means}
+use Rattle.yaml_meaning.specs.Meaning.{MeanFields, means_field}
+use Rattle.yaml_meaning.specs.ScalarShapes.{lent_text}
 use Rattle.yaml_write.specs.Outcomes.{string_node}
 use Rattle.yaml_round.specs.Nestings.{items_nestings}
 use Rattle.yaml_round.specs.SameOrder.{same_data, same_items}

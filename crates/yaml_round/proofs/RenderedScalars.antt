@@ -15,11 +15,11 @@ use Rattle.yaml_base.specs.declared.event.ScalarStyle.TheVariants as style
 use Rattle.yaml_base.specs.declared.found.Found.TheVariants as found
 use Rattle.yaml_base.specs.declared.resolver.kind.Kind.{Kind}
 use Rattle.yaml_base.specs.declared.resolver.kind.Kind.TheVariants.{Str}
-use Rattle.yaml_read.specs.CoreTags.{bool_tag, int_tag, float_tag, null_tag}
-use Rattle.yaml_read.specs.ScalarAny.{any_found, any_scalar}
-use Rattle.yaml_read.specs.ScalarFound.{found_kind}
-use Rattle.yaml_read.specs.ScalarShapes.{plain_text, text_of}
-use Rattle.yaml_read.specs.ScalarSorts.{is_plain, is_local, has_untaken}
+use Rattle.yaml_meaning.specs.CoreTags.{bool_tag, int_tag, float_tag, null_tag}
+use Rattle.yaml_meaning.specs.ScalarAny.{any_found, any_scalar}
+use Rattle.yaml_meaning.specs.ScalarFound.{found_kind}
+use Rattle.yaml_meaning.specs.ScalarShapes.{plain_text, text_of}
+use Rattle.yaml_meaning.specs.ScalarSorts.{is_plain, is_local, has_untaken}
 
 -- what is asked plain comes back plain, and what is asked in quotes or as a block does not
 plain-style : (s : ScalarStyle) → IsTrue (permits asked.Plain s) → is_plain s ≡ true

@@ -1,6 +1,7 @@
 -- What is written and rendered is a tree again: the same structure, without aliases and anchors.
 use Rattle.std.proofs.Common.{◌≡◌, ℕ, ◌+◌, List, [], ◌∷◌, ◌++◌, Option, Some, None, refl, ap, ◌∙◌, subst, option_map}
 use Rattle.std.proofs.lemmas.List.{append_assoc}
+use Rattle.yaml_base.specs.DocTree.{DocNode, DocNodes, DocPairs, word, list, mapping, no_nodes, node, no_pairs, pair}
 use Rattle.yaml_base.specs.EmitEvents.{PlainEmit, emit_scalar, emit_sequence_start, emit_sequence_end}
 use Rattle.yaml_base.specs.EmitEvents.{emit_mapping_start, emit_mapping_end}
 use Rattle.yaml_base.specs.EmitTree.{EmitNode, EmitNodes, EmitPairs, emit_scalar_node, emit_sequence_node}
@@ -11,7 +12,6 @@ use Rattle.yaml_base.specs.Renders.{Renders, RendersEvent, RendersScalar}
 use Rattle.yaml_base.specs.Tree.{Node, scalar_node, sequence_node, mapping_node, Nodes, NodePairs, node_events}
 use Rattle.yaml_base.specs.Tree.{nodes_events, pairs_events, size_of}
 use Rattle.yaml_base.specs.Tree as tree
-use Rattle.yaml_read.specs.DocTree.{DocNode, DocNodes, DocPairs, word, list, mapping, no_nodes, node, no_pairs, pair}
 use Rattle.yaml_read.specs.Resolved.{resolved_from, resolved_nodes, resolved_pairs, node_then_nodes, pair_then_pairs}
 use Rattle.yaml_read.specs.Resolved.{without_anchor}
 

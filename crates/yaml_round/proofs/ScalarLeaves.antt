@@ -26,13 +26,13 @@ use Rattle.yaml_shape.specs.PlainShape.{any_shape, bool_shape, char_shape, integ
 use Rattle.yaml_shape.specs.PlainShape.{option_shape, unit_shape, unit_struct_shape, enum_shape}
 use Rattle.yaml_tree.specs.Integer.{is_number}
 use Rattle.yaml_tree.specs.Tree.{Tree, null, boolean, number, string}
-use Rattle.yaml_read.specs.CoreTags.{bool_tag, int_tag}
-use Rattle.yaml_read.specs.Presence.{is_absent}
-use Rattle.yaml_read.specs.ScalarAny.{any_found}
-use Rattle.yaml_read.specs.ScalarFound.{found_kind}
-use Rattle.yaml_read.specs.ScalarShapes.{scalar_answer, lent_text, widest}
-use Rattle.yaml_read.specs.ScalarSorts.{is_plain}
-use Rattle.yaml_read.specs.Variants.{Variants, named_variant}
+use Rattle.yaml_meaning.specs.CoreTags.{bool_tag, int_tag}
+use Rattle.yaml_meaning.specs.Presence.{is_absent}
+use Rattle.yaml_meaning.specs.ScalarAny.{any_found}
+use Rattle.yaml_meaning.specs.ScalarFound.{found_kind}
+use Rattle.yaml_meaning.specs.ScalarShapes.{scalar_answer, lent_text, widest}
+use Rattle.yaml_meaning.specs.ScalarSorts.{is_plain}
+use Rattle.yaml_meaning.specs.Variants.{Variants, named_variant}
 use Rattle.yaml_scalar.proofs.CharacterLaws.{one-character}
 use Rattle.yaml_write.specs.WrittenValue.{truth_text}
 use Rattle.yaml_round.proofs.Decimals.{unsigned_of-decimal, integer_of-signed_decimal, is_utf8-decimal}

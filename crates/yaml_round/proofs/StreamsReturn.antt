@@ -3,6 +3,7 @@ use Rattle.std.proofs.Common.{◌≡◌, ℕ, List, [], ◌∷◌, ◌++◌, Som
 use Rattle.std.proofs.Common.{ap, ◌∙◌, subst, arith, append-nil}
 use Rattle.std.proofs.lemmas.List.{append_assoc}
 use Rattle.std.specs.Prelude.{IsTrue}
+use Rattle.yaml_base.specs.DocTree.{DocNode}
 use Rattle.yaml_base.specs.EmitEvents.{emit_stream_start, emit_stream_end, emit_document_start}
 use Rattle.yaml_base.specs.EmitEvents.{emit_document_end}
 use Rattle.yaml_base.specs.EmitTree.{EmitNode, emit_node_events, emit_document_events}
@@ -13,7 +14,6 @@ use Rattle.yaml_base.specs.Tree.{Node, node_events}
 use Rattle.yaml_shape.specs.PlainData.{PlainData}
 use Rattle.yaml_shape.specs.PlainShape.{PlainShape, shape_at}
 use Rattle.yaml_shape.specs.Validity.{IsValidSchema}
-use Rattle.yaml_read.specs.DocTree.{DocNode}
 use Rattle.yaml_read.specs.Documents.{Input}
 use Rattle.yaml_read.specs.MarkedEvents.{events_in}
 use Rattle.yaml_read.specs.Resolved.{resolved}

@@ -2,9 +2,12 @@
 use Rattle.std.specs.Prelude.{Bool, true, false, not, ◌&&◌, option_and_then}
 use Rattle.std.specs.Option.{is_some}
 use Rattle.std.proofs.Common.{◌≡◌, ℕ, List, Option, Some, None, Ok, refl, sym, ap, ◌∙◌, subst}
+use Rattle.yaml_base.specs.DocTree.{DocNode, DocNodes, DocPairs, word}
+use Rattle.yaml_base.specs.DocTree as doc
 use Rattle.yaml_base.specs.EmitTree.{EmitNode, EmitNodes, EmitPairs, emit_scalar_node, emit_sequence_node}
 use Rattle.yaml_base.specs.EmitTree.{emit_mapping_node, no_emit_nodes, emit_node, no_emit_pairs, emit_pair}
 use Rattle.yaml_base.specs.LocalName.{local_name}
+use Rattle.yaml_base.specs.PlainDocEvent.{PlainDocEvent, a_scalar, sequence_begins, mapping_begins}
 use Rattle.yaml_base.specs.PlainEvent.{PlainScalar}
 use Rattle.yaml_base.specs.Renders.{RendersScalar}
 use Rattle.yaml_base.specs.declared.emitter.AskedStyle.{AskedStyle}
@@ -16,16 +19,13 @@ use Rattle.yaml_tree.specs.Tag.{tag_name, tag_eq, is_tag}
 use Rattle.yaml_tree.specs.Tree.{Tree, null, boolean, number, string, sequence, mapping, tagged, Trees, no_trees, tree}
 use Rattle.yaml_tree.specs.Tree.{Pairs, no_pairs, pair}
 use Rattle.yaml_tree.specs.Valid.{is_value, are_values, are_pairs}
-use Rattle.yaml_read.specs.AnyData.{trees_in, pairs_in}
-use Rattle.yaml_read.specs.DocTree.{DocNode, DocNodes, DocPairs, word}
-use Rattle.yaml_read.specs.DocTree as doc
-use Rattle.yaml_read.specs.Handing.{as_is, any_by, handed, early}
-use Rattle.yaml_read.specs.Meaning.{Means, means_node, means_tagged, means_scalar, means_list, means_mapping}
-use Rattle.yaml_read.specs.Meaning.{means_any_list, means_any_mapping, MeanEach, means_none, means_more}
-use Rattle.yaml_read.specs.Meaning.{MeanPairs, means_no_pairs, means_pair}
-use Rattle.yaml_read.specs.NodeTags.{tag_in}
-use Rattle.yaml_read.specs.PlainDocEvent.{PlainDocEvent, a_scalar, sequence_begins, mapping_begins}
-use Rattle.yaml_read.specs.ScalarShapes.{scalar_answer}
+use Rattle.yaml_meaning.specs.AnyData.{trees_in, pairs_in}
+use Rattle.yaml_meaning.specs.Handing.{as_is, any_by, handed, early}
+use Rattle.yaml_meaning.specs.Meaning.{Means, means_node, means_tagged, means_scalar, means_list, means_mapping}
+use Rattle.yaml_meaning.specs.Meaning.{means_any_list, means_any_mapping, MeanEach, means_none, means_more}
+use Rattle.yaml_meaning.specs.Meaning.{MeanPairs, means_no_pairs, means_pair}
+use Rattle.yaml_meaning.specs.NodeTags.{tag_in}
+use Rattle.yaml_meaning.specs.ScalarShapes.{scalar_answer}
 use Rattle.yaml_write.specs.LocalTags.{value_tag}
 use Rattle.yaml_write.specs.Outcomes.{Outcome, joined}
 use Rattle.yaml_write.specs.WrittenValue.{written_value, written_values, written_pairs, pair_node, pair_before}

@@ -5,6 +5,7 @@ use Rattle.std.specs.Str.{is_utf8}
 use Rattle.std.proofs.Common.{◌≡◌, ℕ, List, Option, Some, None, Ok}
 use Rattle.std.proofs.Common.{refl, sym, ap, ◌∙◌, subst}
 use Rattle.yaml_base.specs.AskedStyles.{asked_style}
+use Rattle.yaml_base.specs.DocTree.{DocNode}
 use Rattle.yaml_base.specs.EmitTree.{EmitNode}
 use Rattle.yaml_base.specs.LocalName.{local_name}
 use Rattle.yaml_shape.specs.HasShape.{tuple_has, struct_has, has_content}
@@ -16,11 +17,10 @@ use Rattle.yaml_shape.specs.PlainShape.{content_shape, PlainVariant, unit_varian
 use Rattle.yaml_shape.specs.PlainShape.{struct_variant}
 use Rattle.yaml_shape.specs.Validity.{IsDistinctInside, AreDistinct}
 use Rattle.yaml_shape.specs.Validity.{names_of, numbers_of}
-use Rattle.yaml_read.specs.DocTree.{DocNode}
-use Rattle.yaml_read.specs.Fields.{Fields}
-use Rattle.yaml_read.specs.Handing.{variant_by, enum_by}
-use Rattle.yaml_read.specs.Meaning.{means_node, means_variant}
-use Rattle.yaml_read.specs.Variants.{Variants, variant_named}
+use Rattle.yaml_meaning.specs.Fields.{Fields}
+use Rattle.yaml_meaning.specs.Handing.{variant_by, enum_by}
+use Rattle.yaml_meaning.specs.Meaning.{means_node, means_variant}
+use Rattle.yaml_meaning.specs.Variants.{Variants, variant_named}
 use Rattle.yaml_write.specs.LocalTags.{local_tag}
 use Rattle.yaml_write.specs.Written.{written_tuple, written_struct}
 use Rattle.yaml_write.specs.Written as writing

@@ -1,11 +1,11 @@
 -- What a reading found is what is told of it.
 use Rattle.std.proofs.Common.{◌≡◌, ◌≢◌, ℕ, List, [], Option, Result, Ok, Err, refl, sym, subst, ◌∙◌}
 use Rattle.yaml_base.specs.Answer.{Answers}
+use Rattle.yaml_base.specs.PlainDocument.{PlainDocument}
 use Rattle.yaml_base.specs.PlainFault.{PlainFault}
 use Rattle.yaml_base.specs.declared.error.Cause.{Cause}
 use Rattle.yaml_base.specs.declared.error.Cause.TheVariants.{Memory}
 use Rattle.yaml_lines.specs.InputText.{MarkedEvents, IsInput, lines_of}
-use Rattle.yaml_read.specs.PlainDocument.{PlainDocument}
 use Rattle.yaml_read.specs.Reads.{DocumentGives}
 use Rattle.yaml_read.specs.TreeReader.{PlainLimits}
 use Rattle.yaml_shape.specs.DataView.{data_of}

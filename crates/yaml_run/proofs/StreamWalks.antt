@@ -1,7 +1,7 @@
 -- Going through the documents of a stream.
 use Rattle.std.specs.Prelude.{if◌then◌else◌}
 use Rattle.std.proofs.Common.{◌≡◌, Bool, false, List, [], ◌∷◌, map, sym, ap, ◌∙◌}
-use Rattle.yaml_read.specs.PlainDocument.{PlainDocument}
+use Rattle.yaml_base.specs.PlainDocument.{PlainDocument}
 use Rattle.serde_yaml.specs.PlainStream.{PlainStream, document_alone, items_left}
 
 -- a stream has these documents left, of which this holds

@@ -1,7 +1,7 @@
 -- What is told of documents one after another is what is told of all.
 use Rattle.std.proofs.Common.{◌≡◌, false, ℕ, List, [], ◌∷◌, ◌++◌, Some, refl, sym, ap, subst, ◌∙◌}
 use Rattle.std.proofs.lemmas.List.{append-nil, append_assoc}
-use Rattle.yaml_read.specs.PlainDocument.{PlainDocument}
+use Rattle.yaml_base.specs.PlainDocument.{PlainDocument}
 use Rattle.yaml_read.specs.TreeReader.{PlainLimits}
 use Rattle.yaml_shape.specs.PlainShape.{PlainShape, shape_at}
 use Rattle.serde_yaml.specs.PlainStream.{PlainStream, document_alone, items_left}

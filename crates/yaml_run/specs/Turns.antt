@@ -1,9 +1,9 @@
 -- What is told of documents that are read in turn.
 use Rattle.std.specs.Prelude.{ℕ, ◌≡◌, List, [], ◌∷◌, ◌++◌, codes, Ok, Err}
 use Rattle.yaml_base.specs.ErrorText.{error_text}
+use Rattle.yaml_base.specs.PlainDocument.{PlainDocument}
 use Rattle.yaml_base.specs.declared.error.Cause.{Cause}
 use Rattle.yaml_lines.specs.DataText.{data_text}
-use Rattle.yaml_read.specs.PlainDocument.{PlainDocument}
 use Rattle.yaml_read.specs.Reads.{DocumentGives}
 use Rattle.yaml_read.specs.TreeReader.{PlainLimits}
 use Rattle.yaml_run.specs.declared.status.Status.{Status}

@@ -1,7 +1,7 @@
 //! Documents read in turn.
 
 ghost use Rattle.std.specs.Prelude.{◌≡◌, ◌<◌, ◌∷◌, ◌++◌, [], false, length, string_bytes, IfOk, OnOk, Some};
-ghost use Rattle.yaml_read.specs.PlainDocument.{PlainDocument};
+ghost use Rattle.yaml_base.specs.PlainDocument.{PlainDocument};
 ghost use Rattle.yaml_shape.specs.PlainShape.{PlainShape, shape_at};
 ghost use Rattle.serde_yaml.specs.PlainStream.{document_alone};
 ghost use Rattle.yaml_run.specs.Turns.{in_all, AreToldInTurn, IsToldOf};

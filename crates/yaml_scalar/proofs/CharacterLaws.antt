@@ -4,7 +4,7 @@ use Rattle.std.specs.Prelude.{Some, None}
 use Rattle.std.specs.Str.{IsUtf8, chars}
 use Rattle.std.proofs.Math.Utf8.{encode}
 use Rattle.std.proofs.lemmas.Str.{IsUtf8-past_char, chars_past_char, chars-nil}
-use Rattle.yaml_scalar.specs.ScalarShapes.{only_one}
+use Rattle.yaml_meaning.specs.ScalarShapes.{only_one}
 
 -- the text is one character and nothing
 pub one-character : (text all rest : List ℕ) (c : ℕ) → IsUtf8 text → all ≡ text → all ≡ encode c ++ rest → length rest

@@ -1,11 +1,11 @@
 -- What a scalar is found to be tells its fault, and the value that it is.
 use Rattle.std.proofs.Common.{◌≡◌, List, ℕ, Option, Some, None, Ok, Err, refl, rules}
 use Rattle.std.specs.Option.{option_map_or}
+use Rattle.yaml_meaning.specs.ScalarAny.{any_found, any_in}
+use Rattle.yaml_meaning.specs.ScalarFound.{found_integer, fault_in}
+use Rattle.yaml_meaning.specs.ScalarSorts.{PlainSort, tagged_int}
+use Rattle.yaml_meaning.specs.Steps.{◌>>=◌}
 use Rattle.yaml_scalar.specs.Expectations.{found_in, fault_by}
-use Rattle.yaml_scalar.specs.ScalarAny.{any_found, any_in}
-use Rattle.yaml_scalar.specs.ScalarFound.{found_integer, fault_in}
-use Rattle.yaml_scalar.specs.ScalarSorts.{PlainSort, tagged_int}
-use Rattle.yaml_scalar.specs.Steps.{◌>>=◌}
 
 -- what is made of what is there, or of what stands for it
 made : {A X Y : Type 0} (k : X → Y) (f : A → X) (o : Option A) (x : X)

@@ -8,9 +8,9 @@ use Rattle.yaml_base.specs.Integers.{integer_of, unsigned_of}
 use Rattle.yaml_base.specs.PlainEvent.{PlainScalar}
 use Rattle.yaml_shape.specs.IntegerTypes.{bits_of, has_sign, is_of_type, least, greatest}
 use Rattle.yaml_shape.specs.PlainShape.{IntegerType, i8, u8}
-use Rattle.yaml_scalar.specs.CoreTags.{int_tag}
-use Rattle.yaml_scalar.specs.ScalarShapes.{plain_text, signed_text, unsigned_text, widest}
-use Rattle.yaml_scalar.specs.ScalarSorts.{is_plain}
+use Rattle.yaml_meaning.specs.CoreTags.{int_tag}
+use Rattle.yaml_meaning.specs.ScalarShapes.{plain_text, signed_text, unsigned_text, widest}
+use Rattle.yaml_meaning.specs.ScalarSorts.{is_plain}
 use Rattle.yaml_scalar.proofs.SmallNumbers.{read-text}
 
 -- a small integer is one of the type as which one is read

@@ -1,8 +1,8 @@
 -- What an answer within a reading says of what takes no memory.
 use Rattle.std.proofs.Common.{◌≡◌, Result, Ok, Err, refl, ap}
-use Rattle.yaml_scalar.specs.ReadFault.{ReadFault, PlainRefusal, refused}
-use Rattle.yaml_scalar.specs.ReadingGives.{lift}
-use Rattle.yaml_scalar.specs.Steps.{◌>>=◌}
+use Rattle.yaml_meaning.specs.ReadFault.{ReadFault, PlainRefusal, refused}
+use Rattle.yaml_meaning.specs.ReadingGives.{lift}
+use Rattle.yaml_meaning.specs.Steps.{◌>>=◌}
 
 -- data that was found is what is given
 pub lifted : {A : Type 0} {x : A} (r : Result A ReadFault) → lift r ≡ Ok x → r ≡ Ok x

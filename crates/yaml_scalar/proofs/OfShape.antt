@@ -20,12 +20,12 @@ use Rattle.yaml_shape.specs.PlainShape.{shape_at, content_shape, PlainVariant, u
 use Rattle.yaml_shape.specs.PlainShape.{tuple_variant, struct_variant}
 use Rattle.yaml_shape.specs.Validity.{numbers_of}
 use Rattle.yaml_tree.specs.Tree.{Tree}
-use Rattle.yaml_scalar.specs.ReadFault.{ReadFault}
-use Rattle.yaml_scalar.specs.ScalarAny.{any_scalar}
-use Rattle.yaml_scalar.specs.ScalarShapes.{integer_answer, no_elements, scalar_answer, signed_between, unsigned_up_to}
-use Rattle.yaml_scalar.specs.ScalarShapes.{void_answer}
-use Rattle.yaml_scalar.specs.Steps.{◌>>=◌}
-use Rattle.yaml_scalar.specs.Variants.{Variants, variant_named, bare_variant, named_variant}
+use Rattle.yaml_meaning.specs.ReadFault.{ReadFault}
+use Rattle.yaml_meaning.specs.ScalarAny.{any_scalar}
+use Rattle.yaml_meaning.specs.ScalarShapes.{integer_answer, no_elements, scalar_answer, signed_between, unsigned_up_to}
+use Rattle.yaml_meaning.specs.ScalarShapes.{void_answer}
+use Rattle.yaml_meaning.specs.Steps.{◌>>=◌}
+use Rattle.yaml_meaning.specs.Variants.{Variants, variant_named, bare_variant, named_variant}
 use Rattle.yaml_scalar.proofs.VariantCode.{variant_at}
 
 -- shapes that are there are the same only where they are

@@ -13,7 +13,7 @@ use Rattle.std.proofs.lemmas.List.{length-take-le, take-append-drop}
 use Rattle.std.proofs.lemmas.Fmt.{IsAscii-from_digits}
 use Rattle.std.proofs.lemmas.Str.{digit_value_digit, IsUtf8-from_ascii}
 use Rattle.std.proofs.Math.Nat.{pow-succ', pow-le-pow_right, mul-le-mul_left, mul-le-mul_right, le-mul_of_pos_right, one-le-pow}
-use Rattle.yaml_scalar.specs.ScalarShapes.{utf8_text}
+use Rattle.yaml_meaning.specs.ScalarShapes.{utf8_text}
 use Rattle.yaml_scalar.proofs.TextLaws.{bytes-there}
 use Rattle.yaml_base.specs.Integers.{decimal, has_zero_in_front, number_in, place_value}
 

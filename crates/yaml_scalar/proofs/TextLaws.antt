@@ -7,8 +7,8 @@ use Rattle.std.proofs.lemmas.Str.{is_utf8-from_IsUtf8, IsUtf8-from_is_utf8}
 use Rattle.yaml_base.specs.Borrowable.{is_borrowable}
 use Rattle.yaml_base.specs.PlainEvent.{PlainScalar}
 use Rattle.yaml_shape.specs.PlainData.{PlainData, text_data}
-use Rattle.yaml_scalar.specs.ReadFault.{ReadFault}
-use Rattle.yaml_scalar.specs.ScalarShapes.{lent_text, text_of, utf8_text}
+use Rattle.yaml_meaning.specs.ReadFault.{ReadFault}
+use Rattle.yaml_meaning.specs.ScalarShapes.{lent_text, text_of, utf8_text}
 
 -- bytes that are UTF-8 are a text
 pub bytes-there : (bytes : List ℕ) → IsUtf8 bytes → Some bytes ≡ utf8_text bytes

@@ -12,7 +12,7 @@ use Rattle.yaml_shape.specs.ShapeView.{content_of, variants_of}
 use Rattle.yaml_shape.specs.Validity.{named_in}
 use Rattle.yaml_shape.specs.declared.shape.VariantShape.{VariantShape}
 use Rattle.yaml_shape.proofs.NumberLaws.{All-from_flat_map}
-use Rattle.yaml_scalar.specs.Variants.{Variants, variant_named}
+use Rattle.yaml_meaning.specs.Variants.{Variants, variant_named}
 
 -- the code's variants
 abbrev pub Declared : Type 0

@@ -8,12 +8,12 @@ use Rattle.yaml_base.specs.declared.found.Found.{Found}
 use Rattle.yaml_base.specs.declared.found.Found.TheVariants as found
 use Rattle.yaml_shape.specs.Expected.{expected_text, tuple_variant_text, struct_variant_text}
 use Rattle.yaml_shape.specs.ShapeView.{shape_of}
-use Rattle.yaml_scalar.specs.ReadFault.{ReadFault}
-use Rattle.yaml_scalar.specs.ScalarFound.{wrong_type, wrong_value, found_kind, found_integer, wanted_text}
+use Rattle.yaml_meaning.specs.ReadFault.{ReadFault}
+use Rattle.yaml_meaning.specs.ScalarFound.{wrong_type, wrong_value, found_kind, found_integer, wanted_text}
+use Rattle.yaml_meaning.specs.ScalarSorts.{PlainSort, without_text, tagged_bool, tagged_int, tagged_float, tagged_null}
+use Rattle.yaml_meaning.specs.ScalarSorts.{by_its_text, as_string}
 use Rattle.yaml_scalar.specs.declared.expected.Expected.{Expected}
 use Rattle.yaml_scalar.specs.declared.expected.Expected.TheVariants as expect
-use Rattle.yaml_scalar.specs.ScalarSorts.{PlainSort, without_text, tagged_bool, tagged_int, tagged_float, tagged_null}
-use Rattle.yaml_scalar.specs.ScalarSorts.{by_its_text, as_string}
 use Rattle.yaml_scalar.specs.declared.sort.ScalarSort.{ScalarSort}
 use Rattle.yaml_scalar.specs.declared.sort.ScalarSort.TheVariants.{NoText, TaggedBool, TaggedInt, TaggedFloat}
 use Rattle.yaml_scalar.specs.declared.sort.ScalarSort.TheVariants.{TaggedNull, Resolved, String}

@@ -1,22 +1,21 @@
 //! A scalar under the shape of any value.
 
 ghost use Rattle.std.specs.Prelude.{pos};
+ghost use Rattle.yaml_base.specs.DocEventView.{doc_scalar_of};
 ghost use Rattle.yaml_base.specs.declared.found.Found.TheVariants.{Signed, Unsigned};
 ghost use Rattle.yaml_shape.specs.Expected.{expected_text};
 ghost use Rattle.yaml_shape.specs.PlainShape.{any_shape};
 ghost use Rattle.yaml_tree.specs.View.{tree_of};
-ghost use Rattle.yaml_load.specs.DocEventView.{doc_scalar_of};
-ghost use Rattle.yaml_scalar.specs.ReadingGives.{IsRefusedBy, Yields};
-ghost use Rattle.yaml_scalar.specs.ScalarAny.{any_found, any_integer, any_scalar};
-ghost use Rattle.yaml_scalar.specs.ScalarFound.{wrong_type};
+ghost use Rattle.yaml_meaning.specs.ReadingGives.{IsRefusedBy, Yields};
+ghost use Rattle.yaml_meaning.specs.ScalarAny.{any_found, any_integer, any_scalar};
+ghost use Rattle.yaml_meaning.specs.ScalarFound.{wrong_type};
 
 use crate::expected::Expected;
 use crate::found_kind::found_in;
 use crate::mismatch::found_other;
 use crate::refusal::{Refusal, Result, refuse};
 use std::alloc::Global;
-use yaml_base::{Cause, Error, Found};
-use yaml_load::DocScalar;
+use yaml_base::{Cause, DocScalar, Error, Found};
 use yaml_shape::Shape;
 use yaml_tree::{Number, Value};
 

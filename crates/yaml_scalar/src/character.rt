@@ -3,19 +3,19 @@
 ghost use Rattle.std.specs.Prelude.{◌≡◌, Err, is_ok};
 ghost use Rattle.std.specs.Option.{option_map_or};
 ghost use Rattle.std.specs.Str.{chars};
+ghost use Rattle.yaml_base.specs.DocEventView.{doc_scalar_of};
 ghost use Rattle.yaml_shape.specs.DataView.{data_of};
 ghost use Rattle.yaml_shape.specs.PlainShape.{char_shape};
 ghost use Rattle.yaml_shape.specs.ShapeView.{shape_of};
-ghost use Rattle.yaml_load.specs.DocEventView.{doc_scalar_of};
-ghost use Rattle.yaml_scalar.specs.ReadingGives.{Yields};
-ghost use Rattle.yaml_scalar.specs.ScalarFound.{scalar_fault};
-ghost use Rattle.yaml_scalar.specs.ScalarShapes.{one_character, only_one, text_of};
+ghost use Rattle.yaml_meaning.specs.ReadingGives.{Yields};
+ghost use Rattle.yaml_meaning.specs.ScalarFound.{scalar_fault};
+ghost use Rattle.yaml_meaning.specs.ScalarShapes.{one_character, only_one, text_of};
 
 use crate::mismatch::{found_other_text, found_scalar};
 use crate::refusal::Result;
 use crate::sort::text_of;
 use std::alloc::Global;
-use yaml_load::DocScalar;
+use yaml_base::DocScalar;
 use yaml_shape::{Data, Shape};
 
 // The one character of a text.

@@ -1,13 +1,13 @@
 //! What a scalar is found to be, by its text.
 
 ghost use Rattle.std.specs.Prelude.{◌≡◌, IfOk, MatchResult};
+ghost use Rattle.yaml_base.specs.DocEventView.{doc_scalar_of};
 ghost use Rattle.yaml_base.specs.declared.found.Found.{Found};
 ghost use Rattle.yaml_base.specs.declared.found.Found.TheVariants.{Float, Str};
-ghost use Rattle.yaml_load.specs.DocEventView.{doc_scalar_of};
-ghost use Rattle.yaml_scalar.specs.ReadingGives.{IsRefusedBy, Yields};
-ghost use Rattle.yaml_scalar.specs.ReadFault.{out_of_memory};
-ghost use Rattle.yaml_scalar.specs.ScalarFound.{wrong_value, found_kind, found_integer, string_found};
-ghost use Rattle.yaml_scalar.specs.ScalarSorts.{sort_of};
+ghost use Rattle.yaml_meaning.specs.ReadFault.{out_of_memory};
+ghost use Rattle.yaml_meaning.specs.ReadingGives.{IsRefusedBy, Yields};
+ghost use Rattle.yaml_meaning.specs.ScalarFound.{wrong_value, found_kind, found_integer, string_found};
+ghost use Rattle.yaml_meaning.specs.ScalarSorts.{sort_of};
 ghost use Rattle.yaml_scalar.specs.Expectations.{found_in, plain_sort};
 
 use crate::expected::words;
@@ -15,10 +15,9 @@ use crate::refusal::{Refusal, refuse};
 use crate::sort::{ScalarSort, sort_of, text_of};
 use std::alloc::{AllocError, Global};
 use yaml_base::{
-    Cause, Error, Found, Kind, Words, is_float_text, parse_bool, parse_null, parse_signed_int,
-    parse_unsigned_int, resolve,
+    Cause, DocScalar, Error, Found, Kind, Words, is_float_text, parse_bool, parse_null,
+    parse_signed_int, parse_unsigned_int, resolve,
 };
-use yaml_load::DocScalar;
 
 /// The text as a string that was found.
 pub(crate) fn found_string(alloc: Global, text: &str) -> Result<Found, AllocError>

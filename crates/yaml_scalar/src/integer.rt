@@ -1,23 +1,22 @@
 //! A scalar under the shape of an integer.
 
 ghost use Rattle.std.specs.Prelude.{◌≡◌, Bool, Ok, IfSome, true, false, is_ok};
+ghost use Rattle.yaml_base.specs.DocEventView.{doc_scalar_of};
 ghost use Rattle.yaml_shape.specs.DataView.{data_of};
 ghost use Rattle.yaml_shape.specs.PlainData.{signed_data, unsigned_data};
 ghost use Rattle.yaml_shape.specs.IntegerTypes.{has_sign};
 ghost use Rattle.yaml_shape.specs.IntegerView.{integer_type_of};
 ghost use Rattle.yaml_shape.specs.PlainShape.{integer_shape};
 ghost use Rattle.yaml_shape.specs.ShapeView.{shape_of};
-ghost use Rattle.yaml_load.specs.DocEventView.{doc_scalar_of};
-ghost use Rattle.yaml_scalar.specs.ReadingGives.{Yields};
-ghost use Rattle.yaml_scalar.specs.ScalarShapes.{scalar_answer};
+ghost use Rattle.yaml_meaning.specs.ReadingGives.{Yields};
+ghost use Rattle.yaml_meaning.specs.ScalarShapes.{scalar_answer};
 ghost use Rattle.yaml_scalar.specs.inner.Numbers.{signed_number, unsigned_number};
 
 use crate::integer_text::{signed_in, small_signed_in, small_unsigned_in, unsigned_in};
 use crate::mismatch::{found_integer_outside, found_scalar};
 use crate::refusal::Result;
 use std::alloc::Global;
-use yaml_base::Found;
-use yaml_load::DocScalar;
+use yaml_base::{DocScalar, Found};
 use yaml_shape::{Data, IntegerType, Shape};
 
 // The integer of a type with a sign, however it is written.

@@ -4,17 +4,16 @@ ghost use Rattle.std.specs.Prelude.{◌≡◌, ◌<◌, ◌≤◌, ◌≤ℤ◌,
 ghost use Rattle.std.specs.Prelude.{option_and_then};
 ghost use Rattle.std.specs.Str.{IsUtf8};
 ghost use Rattle.std.specs.Str.Parse.{AllDigits};
+ghost use Rattle.yaml_base.specs.DocEventView.{doc_scalar_of};
 ghost use Rattle.yaml_base.specs.Integers.{number_in, decimal, integer_of, unsigned_of};
-ghost use Rattle.yaml_load.specs.DocEventView.{doc_scalar_of};
-ghost use Rattle.yaml_scalar.specs.ScalarShapes.{plain_text, signed_text, unsigned_text, utf8_text, widest};
-ghost use Rattle.yaml_scalar.specs.CoreTags.{int_tag};
+ghost use Rattle.yaml_meaning.specs.CoreTags.{int_tag};
+ghost use Rattle.yaml_meaning.specs.ScalarShapes.{plain_text, signed_text, unsigned_text, utf8_text, widest};
 ghost use Rattle.yaml_shape.specs.IntegerTypes.{greatest, has_sign, is_of_type};
 ghost use Rattle.yaml_shape.specs.IntegerView.{integer_type_of};
 
 use crate::decimal::small_number;
 use crate::sort::{is_plain, is_plain_or_tagged_literal, utf8_text};
-use yaml_base::{Tag, parse_signed_int, parse_unsigned_int};
-use yaml_load::DocScalar;
+use yaml_base::{DocScalar, Tag, parse_signed_int, parse_unsigned_int};
 use yaml_shape::{IntegerRange, IntegerType};
 
 // The greatest number that is read as one of the type: of a type with 128 bits, that of the same with 64.

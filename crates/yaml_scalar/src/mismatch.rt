@@ -1,24 +1,23 @@
 //! The fault of a node that its shape has no meaning for: what was found in place of what was expected.
 
 ghost use Rattle.std.specs.Prelude.{IfOk};
+ghost use Rattle.yaml_base.specs.DocEventView.{doc_scalar_of};
 ghost use Rattle.yaml_base.specs.declared.found.Found.TheVariants.{Map, Seq, Str};
 ghost use Rattle.yaml_shape.specs.Expected.{expected_text, tuple_variant_with_text};
 ghost use Rattle.yaml_shape.specs.ShapeView.{shape_of};
-ghost use Rattle.yaml_load.specs.DocEventView.{doc_scalar_of};
-ghost use Rattle.yaml_scalar.specs.Presence.{null_fault};
-ghost use Rattle.yaml_scalar.specs.ReadingGives.{IsRefusedBy};
-ghost use Rattle.yaml_scalar.specs.ScalarFound.{wrong_length, wrong_type, wrong_value, fault_in};
-ghost use Rattle.yaml_scalar.specs.ScalarFound.{scalar_fault, sequence_fault, mapping_fault};
-ghost use Rattle.yaml_scalar.specs.ScalarShapes.{too_few_text};
-ghost use Rattle.yaml_scalar.specs.ScalarSorts.{sort_of};
+ghost use Rattle.yaml_meaning.specs.Presence.{null_fault};
+ghost use Rattle.yaml_meaning.specs.ReadingGives.{IsRefusedBy};
+ghost use Rattle.yaml_meaning.specs.ScalarFound.{wrong_length, wrong_type, wrong_value, fault_in};
+ghost use Rattle.yaml_meaning.specs.ScalarFound.{scalar_fault, sequence_fault, mapping_fault};
+ghost use Rattle.yaml_meaning.specs.ScalarShapes.{too_few_text};
+ghost use Rattle.yaml_meaning.specs.ScalarSorts.{sort_of};
 ghost use Rattle.yaml_scalar.specs.Expectations.{expected_of, wanted_of};
 
 use crate::expected::{Expected, words};
 use crate::found_kind::{found_in, found_string, found_text, refusal_of, wrong_value};
 use crate::refusal::{Refusal, refuse};
 use std::alloc::{AllocError, Global};
-use yaml_base::{Cause, Error, Found, Words};
-use yaml_load::DocScalar;
+use yaml_base::{Cause, DocScalar, Error, Found, Words};
 use yaml_shape::{Shape, tuple_struct_with, tuple_variant_with};
 
 /// The refusal of a row of another length than is expected, or want of memory.

@@ -1,13 +1,12 @@
 //! Whether a scalar stands for nothing: for an absent optional, for a unit, for an empty collection.
 
 ghost use Rattle.std.specs.Prelude.{◌≡◌};
-ghost use Rattle.yaml_load.specs.DocEventView.{doc_scalar_of};
-ghost use Rattle.yaml_scalar.specs.Presence.{is_untagged_null, is_tagged_null, is_false_null, is_absent, is_present};
-ghost use Rattle.yaml_scalar.specs.Presence.{is_empty_plain};
+ghost use Rattle.yaml_base.specs.DocEventView.{doc_scalar_of};
+ghost use Rattle.yaml_meaning.specs.Presence.{is_untagged_null, is_tagged_null, is_false_null, is_absent, is_present};
+ghost use Rattle.yaml_meaning.specs.Presence.{is_empty_plain};
 
 use crate::sort::{has_untaken, is_plain};
-use yaml_base::{Tag, parse_null};
-use yaml_load::DocScalar;
+use yaml_base::{DocScalar, Tag, parse_null};
 
 // Whether the scalar is plain, and without a tag, or with a taken one, has no text or a word for null.
 fn is_untagged_null(scalar: &DocScalar<'_>, taken: bool) -> bool

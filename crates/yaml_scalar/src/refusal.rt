@@ -1,8 +1,8 @@
 //! Why a reading failed, in little room.
 
 ghost use Rattle.std.specs.Prelude.{◌≡◌, false};
-ghost use Rattle.yaml_scalar.specs.ReadFault.{IsOfReading, bytes_unsupported, cause_of, end_of_stream};
-ghost use Rattle.yaml_scalar.specs.ReadFault.{out_of_memory, ran_out, refusal_by, refused};
+ghost use Rattle.yaml_meaning.specs.ReadFault.{IsOfReading, bytes_unsupported, cause_of, end_of_stream};
+ghost use Rattle.yaml_meaning.specs.ReadFault.{out_of_memory, ran_out, refusal_by, refused};
 
 use std::alloc::{AllocError, AllocFailed, Global};
 use std::marker::Model;
@@ -19,8 +19,8 @@ pub struct Refusal {
 }
 
 impl Model for Refusal {
+    ghost use Rattle.yaml_meaning.specs.ReadFault.{IsOfReading, PlainRefusal, refusal_by};
     ghost use Rattle.yaml_scalar.specs.BoxedFault.{boxed_cause};
-    ghost use Rattle.yaml_scalar.specs.ReadFault.{IsOfReading, PlainRefusal, refusal_by};
 
     ghost Value = { PlainRefusal };
 
@@ -79,7 +79,7 @@ pub fn ended(alloc: Global) -> Refusal
 
 impl From<AllocError> for Refusal {
     ghost use Rattle.std.specs.Prelude.{◌≡◌};
-    ghost use Rattle.yaml_scalar.specs.ReadFault.{out_of_memory};
+    ghost use Rattle.yaml_meaning.specs.ReadFault.{out_of_memory};
 
     ghost from_gives = { λ _ e. e ≡ out_of_memory };
 
@@ -90,7 +90,7 @@ impl From<AllocError> for Refusal {
 
 impl<T: Drop> From<AllocFailed<T>> for Refusal {
     ghost use Rattle.std.specs.Prelude.{◌≡◌};
-    ghost use Rattle.yaml_scalar.specs.ReadFault.{out_of_memory};
+    ghost use Rattle.yaml_meaning.specs.ReadFault.{out_of_memory};
 
     ghost from_gives = { λ _ e. e ≡ out_of_memory };
 

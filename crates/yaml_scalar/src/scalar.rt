@@ -2,18 +2,18 @@
 
 ghost use Rattle.std.specs.Prelude.{◌≡◌, Ok, Err, true, is_ok, option_and_then, if◌then◌else◌};
 ghost use Rattle.std.specs.Option.{option_map_or};
+ghost use Rattle.yaml_base.specs.DocEventView.{doc_scalar_of};
 ghost use Rattle.yaml_base.specs.PlainWords.{boolean_of};
 ghost use Rattle.yaml_shape.specs.DataView.{data_of};
 ghost use Rattle.yaml_shape.specs.PlainData.{bool_data, none_data, unit_data};
 ghost use Rattle.yaml_shape.specs.PlainShape.{any_shape};
 ghost use Rattle.yaml_shape.specs.ShapeView.{ids_of, shape_of};
-ghost use Rattle.yaml_load.specs.DocEventView.{doc_scalar_of};
-ghost use Rattle.yaml_scalar.specs.CoreTags.{bool_tag};
-ghost use Rattle.yaml_scalar.specs.Presence.{is_absent, null_fault};
-ghost use Rattle.yaml_scalar.specs.ReadingGives.{Yields};
-ghost use Rattle.yaml_scalar.specs.ScalarFound.{scalar_fault};
-ghost use Rattle.yaml_scalar.specs.ScalarShapes.{no_elements, plain_text, scalar_answer};
-ghost use Rattle.yaml_scalar.specs.ScalarShapes.{takes_no_memory, void_answer};
+ghost use Rattle.yaml_meaning.specs.CoreTags.{bool_tag};
+ghost use Rattle.yaml_meaning.specs.Presence.{is_absent, null_fault};
+ghost use Rattle.yaml_meaning.specs.ReadingGives.{Yields};
+ghost use Rattle.yaml_meaning.specs.ScalarFound.{scalar_fault};
+ghost use Rattle.yaml_meaning.specs.ScalarShapes.{no_elements, plain_text, scalar_answer};
+ghost use Rattle.yaml_meaning.specs.ScalarShapes.{takes_no_memory, void_answer};
 
 use crate::any_value::any_scalar;
 use crate::character::read_char;
@@ -25,8 +25,7 @@ use crate::sort::{is_plain_or_tagged_literal, text_of};
 use crate::text::read_text;
 use crate::variant_names::read_variant_name;
 use std::alloc::Global;
-use yaml_base::{Tag, parse_bool};
-use yaml_load::DocScalar;
+use yaml_base::{DocScalar, Tag, parse_bool};
 use yaml_shape::{Data, Shape, ShapeId};
 use yaml_tree::Value;
 

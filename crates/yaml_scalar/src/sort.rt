@@ -2,16 +2,15 @@
 
 ghost use Rattle.std.specs.Prelude.{◌≡◌};
 ghost use Rattle.std.specs.Option.{option_copied};
-ghost use Rattle.yaml_load.specs.DocEventView.{doc_scalar_of};
-ghost use Rattle.yaml_scalar.specs.CoreTags.{bool_tag, int_tag, float_tag, null_tag};
-ghost use Rattle.yaml_scalar.specs.ScalarShapes.{is_plain_or_tagged_literal, text_of, utf8_text};
-ghost use Rattle.yaml_scalar.specs.ScalarSorts.{is_plain, is_literal, is_tag, is_local, has_untaken, is_resolved};
-ghost use Rattle.yaml_scalar.specs.ScalarSorts.{sort_of};
+ghost use Rattle.yaml_base.specs.DocEventView.{doc_scalar_of};
+ghost use Rattle.yaml_meaning.specs.CoreTags.{bool_tag, int_tag, float_tag, null_tag};
+ghost use Rattle.yaml_meaning.specs.ScalarShapes.{is_plain_or_tagged_literal, text_of, utf8_text};
+ghost use Rattle.yaml_meaning.specs.ScalarSorts.{is_plain, is_literal, is_tag, is_local, has_untaken, is_resolved};
+ghost use Rattle.yaml_meaning.specs.ScalarSorts.{sort_of};
 ghost use Rattle.yaml_scalar.specs.Expectations.{plain_sort};
 
 use simdutf8::basic::from_utf8;
-use yaml_base::{ScalarStyle, Tag};
-use yaml_load::DocScalar;
+use yaml_base::{DocScalar, ScalarStyle, Tag};
 
 /// The rows, in their order. A scalar is in the first that applies.
 #[derive(Clone, Copy, PartialEq, Eq)]

@@ -3,21 +3,20 @@
 ghost use Rattle.std.specs.Prelude.{◌≡◌, IfSome, Err, Ok, true, is_ok, is_some};
 ghost use Rattle.std.specs.Option.{option_copied, option_map_or};
 ghost use Rattle.yaml_base.specs.Borrowable.{is_borrowable};
+ghost use Rattle.yaml_base.specs.DocEventView.{doc_scalar_of};
 ghost use Rattle.yaml_shape.specs.DataView.{data_of};
 ghost use Rattle.yaml_shape.specs.PlainData.{text_data};
 ghost use Rattle.yaml_shape.specs.ShapeView.{shape_of};
-ghost use Rattle.yaml_load.specs.DocEventView.{doc_scalar_of};
-ghost use Rattle.yaml_scalar.specs.ReadingGives.{Yields};
-ghost use Rattle.yaml_scalar.specs.ScalarFound.{scalar_fault};
-ghost use Rattle.yaml_scalar.specs.ScalarShapes.{lent_text, text_of};
+ghost use Rattle.yaml_meaning.specs.ReadingGives.{Yields};
+ghost use Rattle.yaml_meaning.specs.ScalarFound.{scalar_fault};
+ghost use Rattle.yaml_meaning.specs.ScalarShapes.{lent_text, text_of};
 
 use crate::mismatch::found_scalar;
 use crate::refusal::Result;
 use crate::sort::text_of;
 use simdutf8::basic::from_utf8;
 use std::alloc::Global;
-use yaml_base::borrowed_bytes;
-use yaml_load::DocScalar;
+use yaml_base::{DocScalar, borrowed_bytes};
 use yaml_shape::{Data, Shape, Text};
 
 // The part of the source that shows the scalar's bytes.

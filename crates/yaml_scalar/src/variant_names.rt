@@ -2,16 +2,16 @@
 
 ghost use Rattle.std.specs.Prelude.{◌≡◌, Err, IfOk, None, codes};
 ghost use Rattle.std.specs.Option.{option_map_or};
+ghost use Rattle.yaml_base.specs.DocEventView.{doc_scalar_of};
 ghost use Rattle.yaml_base.specs.declared.found.Found.TheVariants.{Bytes, UnitVariant};
 ghost use Rattle.yaml_shape.specs.DataView.{data_of};
 ghost use Rattle.yaml_shape.specs.ShapeView.{content_of, variants_of};
 ghost use Rattle.yaml_shape.specs.Validity.{names_of};
-ghost use Rattle.yaml_load.specs.DocEventView.{doc_scalar_of};
-ghost use Rattle.yaml_scalar.specs.ReadingGives.{IsRefusedBy, Yields};
-ghost use Rattle.yaml_scalar.specs.ReadFault.{at_node, nested_enum};
-ghost use Rattle.yaml_scalar.specs.ScalarFound.{wrong_type};
-ghost use Rattle.yaml_scalar.specs.ScalarShapes.{text_of};
-ghost use Rattle.yaml_scalar.specs.Variants.{bare_variant, named_variant, unknown_variant, variant_named};
+ghost use Rattle.yaml_meaning.specs.ReadFault.{at_node, nested_enum};
+ghost use Rattle.yaml_meaning.specs.ReadingGives.{IsRefusedBy, Yields};
+ghost use Rattle.yaml_meaning.specs.ScalarFound.{wrong_type};
+ghost use Rattle.yaml_meaning.specs.ScalarShapes.{text_of};
+ghost use Rattle.yaml_meaning.specs.Variants.{bare_variant, named_variant, unknown_variant, variant_named};
 ghost use Rattle.yaml_scalar.specs.VariantView.{variant_view};
 
 use crate::expected::words;
@@ -19,8 +19,7 @@ use crate::found_kind::refusal_of;
 use crate::refusal::{Refusal, Result, refuse};
 use crate::sort::text_of;
 use std::alloc::{AllocError, Global};
-use yaml_base::{Cause, Error, Found, WordList};
-use yaml_load::DocScalar;
+use yaml_base::{Cause, DocScalar, Error, Found, WordList};
 use yaml_shape::{Data, VariantShape};
 
 /// The place of the variant with a name, and what it holds.

@@ -4,8 +4,8 @@ ghost use Rattle.std.specs.Prelude.{◌≡◌, Some, true};
 ghost use Rattle.yaml_base.specs.Answer.{Answers};
 ghost use Rattle.yaml_shape.specs.DataView.{data_of};
 ghost use Rattle.yaml_shape.specs.PlainShape.{PlainShape, shape_at};
-ghost use Rattle.yaml_read.specs.Kinds.{has_kind, is_option, is_unit_struct, is_newtype_struct, is_seq, is_tuple};
-ghost use Rattle.yaml_read.specs.Kinds.{is_tuple_struct, is_map, is_struct, is_enum};
+ghost use Rattle.yaml_meaning.specs.Kinds.{has_kind, is_option, is_unit_struct, is_newtype_struct, is_seq, is_tuple};
+ghost use Rattle.yaml_meaning.specs.Kinds.{is_tuple_struct, is_map, is_struct, is_enum};
 ghost use Rattle.yaml_read.specs.TreeReader.{default_limits};
 ghost use Rattle.serde_yaml.specs.StreamReads.{StreamGives};
 

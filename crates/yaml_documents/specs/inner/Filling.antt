@@ -2,6 +2,7 @@
 use Rattle.std.specs.Prelude.{◌≡◌, ◌≢◌, ◌∷◌, ◌++◌, Bool, List, None, Option, Some, [], false, if◌then◌else◌}
 use Rattle.std.specs.Prelude.{map, not, true, ◌&&◌, ℕ}
 use Rattle.yaml_base.specs.MarkedEvents.{events_in, plain_events, plain_marked}
+use Rattle.yaml_base.specs.PlainDocument.{PlainDocument}
 use Rattle.yaml_base.specs.PlainEvent.{document_end, stream_start}
 use Rattle.yaml_base.specs.PlainFault.{PlainFault}
 use Rattle.yaml_base.specs.Position.{Position}
@@ -11,7 +12,6 @@ use Rattle.yaml_documents.specs.declared.filling.Filled.{Filled}
 use Rattle.yaml_documents.specs.declared.filling.Filled.TheVariants.{Full, Last}
 use Rattle.yaml_documents.specs.inner.Pending.{ComeNext}
 use Rattle.yaml_read.specs.Documents.{Input, after_starts, document_from, documents_of, is_ended, is_open_after}
-use Rattle.yaml_read.specs.PlainDocument.{PlainDocument}
 
 -- the documents that begin in events; a last one without end is cut off by the fault
 abbrev pub begun_in : Option PlainFault → Input → List PlainDocument

@@ -1,7 +1,7 @@
 -- Documents that are loaded and still to be handed out.
 use Rattle.std.specs.Prelude.{◌≡◌, ◌∷◌, ◌++◌, Bool, List, None, Option, Some, [], false, true, ℕ}
+use Rattle.yaml_base.specs.PlainDocument.{PlainDocument}
 use Rattle.yaml_documents.specs.FirstDocuments.{AreFirstDocumentsOf}
-use Rattle.yaml_read.specs.PlainDocument.{PlainDocument}
 
 -- those that a loader has left, if there is one
 abbrev pub left_in : Option (List PlainDocument) → List PlainDocument

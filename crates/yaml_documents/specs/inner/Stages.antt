@@ -1,6 +1,7 @@
 -- Where a reader stands between two calls: what was handed out, what is loaded, and what comes behind it.
 use Rattle.std.specs.Prelude.{◌≡◌, ◌++◌, Bool, List, None, Option, [], false, true, ℕ}
 use Rattle.yaml_base.specs.MarkedEvents.{plain_marked}
+use Rattle.yaml_base.specs.PlainDocument.{PlainDocument}
 use Rattle.yaml_base.specs.Position.{Position}
 use Rattle.yaml_documents.specs.TextDocuments.{AreDocumentsOf}
 use Rattle.yaml_documents.specs.declared.batch.Stage.{Stage}
@@ -8,7 +9,6 @@ use Rattle.yaml_documents.specs.declared.batch.Stage.TheVariants.{Ended, Failed,
 use Rattle.yaml_documents.specs.inner.Filling.{IsBetween, begun_in}
 use Rattle.yaml_documents.specs.inner.Pending.{ComeNext}
 use Rattle.yaml_parse.specs.PlainReading.{PlainReading}
-use Rattle.yaml_read.specs.PlainDocument.{PlainDocument}
 
 -- the text was read to its end
 abbrev pub has_ended : Stage → Bool

@@ -6,14 +6,14 @@ use Rattle.std.specs.Prelude.{suc, zero}
 use Rattle.yaml_base.specs.Position.{Position}
 use Rattle.yaml_base.specs.PlainEvent.{PlainEvent, alias, scalar, sequence_start, sequence_end, mapping_start}
 use Rattle.yaml_base.specs.PlainEvent.{mapping_end}
-use Rattle.yaml_load.specs.DocEventView.{marked_events_of}
+use Rattle.yaml_base.specs.DocEventView.{marked_events_of}
+use Rattle.yaml_base.specs.PlainDocEvent.{PlainDocEvent, alias_to, a_scalar, sequence_begins, sequence_ends}
+use Rattle.yaml_base.specs.PlainDocEvent.{mapping_begins, mapping_ends, a_void}
+use Rattle.yaml_base.specs.PlainDocument.{PlainDocument}
+use Rattle.yaml_base.specs.declared.doc_event.DocEvent.{DocEvent}
 use Rattle.yaml_load.specs.Documents.{Find, Input, anchors_in, becomes, find_in}
 use Rattle.yaml_load.specs.Gathering.{AreCuts, documents_in}
-use Rattle.yaml_load.specs.PlainDocEvent.{PlainDocEvent, alias_to, a_scalar, sequence_begins, sequence_ends}
-use Rattle.yaml_load.specs.PlainDocEvent.{mapping_begins, mapping_ends, a_void}
-use Rattle.yaml_load.specs.PlainDocument.{PlainDocument}
 use Rattle.yaml_load.specs.Resolved.{without_anchor}
-use Rattle.yaml_load.specs.declared.doc_event.DocEvent.{DocEvent}
 use Rattle.yaml_load.specs.declared.loader.draft.Draft.{Draft}
 use Rattle.yaml_load.specs.inner.OpenEnds.{HasNumbers}
 

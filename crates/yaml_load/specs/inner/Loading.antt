@@ -6,12 +6,12 @@ use Rattle.yaml_base.specs.PlainEvent.{PlainEvent, stream_start, stream_end, doc
 use Rattle.yaml_base.specs.PlainFault.{PlainFault}
 use Rattle.yaml_load.specs.Documents.{Input, after_starts, document_from, is_open_after}
 use Rattle.yaml_load.specs.Gathering.{AreCuts, documents_in}
-use Rattle.yaml_load.specs.PlainDocument.{PlainDocument}
+use Rattle.yaml_base.specs.PlainDocument.{PlainDocument}
 use Rattle.yaml_base.specs.StreamMachine.{State, before_root, within}
 use Rattle.yaml_load.specs.StreamPhases.{Moves}
 use Rattle.yaml_base.specs.declared.open.Open.{Open}
 use Rattle.yaml_load.specs.declared.loader.check.Phase.{Phase}
-use Rattle.yaml_load.specs.declared.doc_event.DocEvent.{DocEvent}
+use Rattle.yaml_base.specs.declared.doc_event.DocEvent.{DocEvent}
 use Rattle.yaml_load.specs.declared.loader.draft.Draft.{Draft}
 use Rattle.yaml_load.specs.inner.Drafts.{IsBetween, IsDraft}
 

@@ -1,7 +1,7 @@
 -- The numbers of a document's events while they go by: those of open collections are filled in where these end.
 use Rattle.std.specs.Prelude.{ℕ, ◌≡◌, ◌+◌, List, [], ◌∷◌, ◌++◌, map, min, length, reverse, slice_set, suc, zero}
+use Rattle.yaml_base.specs.PlainDocEvent.{PlainDocEvent}
 use Rattle.yaml_load.specs.Ends.{end_place, ends_from, ends_of}
-use Rattle.yaml_load.specs.PlainDocEvent.{PlainDocEvent}
 
 -- the numbers so far, and where the open collections begin, the innermost last
 pub record EndsView : Type 0 where

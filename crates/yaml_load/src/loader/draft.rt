@@ -1,18 +1,17 @@
 //! The document whose events go by, behind those that have ended.
 
 ghost use Rattle.std.specs.Prelude.{◌≡◌, ◌∷◌, ◌++◌, ◌<◌, ◌≤◌, ◌+◌};
+ghost use Rattle.yaml_base.specs.declared.doc_event.DocEvent.{DocEvent as Shown};
 ghost use Rattle.yaml_load.specs.Words.{ℕ, [], All, List, IfOk, IfSome, Some, drop, false, length, slice_get, take};
 ghost use Rattle.yaml_load.specs.Words.{true, option_map, Position, marked_events_of, Input, anchors_in, document_of};
 ghost use Rattle.yaml_load.specs.Words.{ending_of, find_in, failed_document, void_document, AreCuts, documents_in};
 ghost use Rattle.yaml_load.specs.Words.{ending_in, PlainDocument, IsBetween, IsDraft, settled, bounded_from};
-ghost use Rattle.yaml_load.specs.declared.doc_event.DocEvent.{DocEvent as Shown};
 
-use crate::doc_event::DocEvent;
 use crate::loader::anchors::Anchors;
 use crate::loader::ends::Ends;
 use crate::loader::resolve::resolve;
 use std::alloc::{AllocError, Global};
-use yaml_base::{Cause, Error, Mark, ParserFault};
+use yaml_base::{Cause, DocEvent, Error, Mark, ParserFault};
 
 // A document's range of the events, and the fault that cut it off, if one did.
 #[derive(Drop)]

@@ -4,8 +4,7 @@ ghost use Rattle.std.specs.Prelude.{◌≡◌, ◌+◌, ◌<◌, ◌≤◌};
 ghost use Rattle.yaml_load.specs.Words.{All, IfSome, IsTrue, drop, false, length, take, marked_events_of, find_in};
 ghost use Rattle.yaml_load.specs.Words.{AllBefore, IsInOrder, IsPlaceOf, NoneBefore, settled};
 
-use crate::doc_event::DocEvent;
-use yaml_base::{Anchor, Mark};
+use yaml_base::{Anchor, DocEvent, Mark};
 
 // Whether the anchor at this place of the list stands in front of the alias. None does behind the last.
 fn is_before(named: &[(Anchor, usize)], at: usize, alias: &(Anchor, usize)) -> bool

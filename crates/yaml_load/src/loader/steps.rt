@@ -7,14 +7,16 @@ ghost use Rattle.yaml_load.specs.Words.{sequence_start, Input, documents_of, las
 ghost use Rattle.yaml_load.specs.Words.{IsOnWay, IsReady, Steps};
 ghost use Rattle.yaml_base.specs.PlainEvent.{scalar as scalar_event};
 
-use crate::doc_event::{DocEvent, DocScalar, DocStart};
 use crate::loader::check::{
     Phase, after_document_end, after_document_start, after_leaf, after_mapping, after_sequence,
     after_start, after_stream_end, after_stream_start,
 };
 use crate::loader::draft::Draft;
 use std::alloc::{AllocError, Global};
-use yaml_base::{Anchor, Event, MappingStart, Mark, Open, ParserFault, Scalar, SequenceStart};
+use yaml_base::{
+    Anchor, DocEvent, DocScalar, DocStart, Event, MappingStart, Mark, Open, ParserFault, Scalar,
+    SequenceStart,
+};
 
 impl<'de> Draft<'de> {
     // The place of the next event in the open document.

@@ -6,10 +6,10 @@ use Rattle.yaml_shape.specs.Expected.{expected_text}
 use Rattle.yaml_shape.specs.IntegerTypes.{bits_of, least, greatest}
 use Rattle.yaml_shape.specs.PlainData.{PlainData}
 use Rattle.yaml_shape.specs.PlainShape.{IntegerType, PlainShape}
-use Rattle.yaml_scalar.specs.CoreTags.{int_tag}
-use Rattle.yaml_scalar.specs.ReadFault.{ReadFault}
-use Rattle.yaml_scalar.specs.ScalarFound.{scalar_fault}
-use Rattle.yaml_scalar.specs.ScalarShapes.{plain_text, signed_between, signed_text, unsigned_text, unsigned_up_to}
+use Rattle.yaml_meaning.specs.CoreTags.{int_tag}
+use Rattle.yaml_meaning.specs.ReadFault.{ReadFault}
+use Rattle.yaml_meaning.specs.ScalarFound.{scalar_fault}
+use Rattle.yaml_meaning.specs.ScalarShapes.{plain_text, signed_between, signed_text, unsigned_text, unsigned_up_to}
 
 -- the integer of a type with a sign, or the fault of a scalar that writes none
 abbrev pub signed_number : IntegerType → PlainShape → (taken : Bool) → PlainScalar → Result PlainData ReadFault

@@ -1,8 +1,8 @@
 -- A written string means itself.
 use Rattle.std.proofs.Common.{refl}
 use Rattle.yaml_base.specs.AskedStyles.{asked_style}
-use Rattle.yaml_read.specs.Meaning.{means_node, means_scalar}
-use Rattle.yaml_read.specs.PlainDocEvent.{a_scalar}
+use Rattle.yaml_base.specs.PlainDocEvent.{a_scalar}
+use Rattle.yaml_meaning.specs.Meaning.{means_node, means_scalar}
 use Rattle.yaml_round.proofs.ScalarLeaves.{any_string, text_leaf}
 use Rattle.yaml_round.proofs.ValuesReturn.{any_as_is}
 use Rattle.yaml_round.proofs.laws.a_written_string_means_itself.Goals as goal

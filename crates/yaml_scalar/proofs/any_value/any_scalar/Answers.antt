@@ -1,11 +1,11 @@
 -- What the scalar was found to be tells the value.
 use Rattle.std.proofs.Common.{sym, ap, ◌∙◌, subst}
+use Rattle.yaml_base.specs.DocEventView.{doc_scalar_of}
 use Rattle.yaml_tree.specs.View.{tree_of}
-use Rattle.yaml_load.specs.DocEventView.{doc_scalar_of}
-use Rattle.yaml_scalar.specs.ReadingGives.{Yields, lift}
-use Rattle.yaml_scalar.specs.ScalarAny.{any_found}
-use Rattle.yaml_scalar.specs.ScalarSorts.{sort_of}
-use Rattle.yaml_scalar.specs.Steps.{◌>>=◌}
+use Rattle.yaml_meaning.specs.ReadingGives.{Yields, lift}
+use Rattle.yaml_meaning.specs.ScalarAny.{any_found}
+use Rattle.yaml_meaning.specs.ScalarSorts.{sort_of}
+use Rattle.yaml_meaning.specs.Steps.{◌>>=◌}
 use Rattle.yaml_scalar.proofs.FoundLaws.{any_found_in}
 use Rattle.yaml_scalar.proofs.LiftLaws.{lifted, lifted_fails}
 use Rattle.yaml_scalar.proofs.any_value.any_scalar.Goals as goal

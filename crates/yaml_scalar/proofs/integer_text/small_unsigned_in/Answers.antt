@@ -1,5 +1,5 @@
 use Rattle.std.proofs.Common.{sym}
-use Rattle.yaml_load.specs.DocEventView.{doc_scalar_of}
+use Rattle.yaml_base.specs.DocEventView.{doc_scalar_of}
 use Rattle.yaml_scalar.proofs.IntegerLaws.{unsigned-held, unsigned-there}
 use Rattle.yaml_scalar.proofs.integer_text.small_unsigned_in.Goals as goal
 

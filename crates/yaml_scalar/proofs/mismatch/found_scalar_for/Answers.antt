@@ -1,9 +1,9 @@
 -- What the scalar was found to be tells the fault.
 use Rattle.std.proofs.Common.{sym, ap, ◌∙◌}
-use Rattle.yaml_load.specs.DocEventView.{doc_scalar_of}
+use Rattle.yaml_base.specs.DocEventView.{doc_scalar_of}
+use Rattle.yaml_meaning.specs.ReadFault.{refused}
+use Rattle.yaml_meaning.specs.ScalarSorts.{sort_of}
 use Rattle.yaml_scalar.specs.Expectations.{expected_of, fault_by}
-use Rattle.yaml_scalar.specs.ReadFault.{refused}
-use Rattle.yaml_scalar.specs.ScalarSorts.{sort_of}
 use Rattle.yaml_scalar.proofs.FoundLaws.{fault_found}
 use Rattle.yaml_scalar.proofs.LiftLaws.{lifted, lifted_fault}
 use Rattle.yaml_scalar.proofs.mismatch.found_scalar_for.Goals as goal

@@ -1,7 +1,7 @@
 use Rattle.std.proofs.Common.{ap, sym, ◌∙◌}
 use Rattle.std.specs.Prelude.{Err, is_some}
-use Rattle.yaml_load.specs.DocEventView.{doc_scalar_of}
-use Rattle.yaml_scalar.specs.ReadingGives.{lift}
+use Rattle.yaml_base.specs.DocEventView.{doc_scalar_of}
+use Rattle.yaml_meaning.specs.ReadingGives.{lift}
 use Rattle.yaml_scalar.proofs.TextLaws.{lent-shown, unlent-shown, text-shown, text-unshown}
 use Rattle.yaml_scalar.proofs.text.read_text.Goals as goal
 

@@ -2,7 +2,7 @@
 use Rattle.std.proofs.Common.{◌≡◌}
 use Rattle.std.specs.Prelude.{drop}
 use Rattle.yaml_shape.specs.ShapeView.{variants_of}
-use Rattle.yaml_scalar.specs.Variants.{variant_named}
+use Rattle.yaml_meaning.specs.Variants.{variant_named}
 use Rattle.yaml_scalar.proofs.VariantCode.{behind_by}
 use Rattle.yaml_scalar.proofs.variant_names.variant_named.Given as goal
 

@@ -1,6 +1,6 @@
 -- The documents of a text are the stream of what a parser makes of it.
 use Rattle.std.proofs.Common.{◌≡◌, List, ◌∙◌, ap, false}
-use Rattle.yaml_read.specs.PlainDocument.{PlainDocument}
+use Rattle.yaml_base.specs.PlainDocument.{PlainDocument}
 use Rattle.serde_yaml.specs.PlainStream.{PlainStream}
 use Rattle.serde_yaml.specs.StreamReads.{stream_of}
 use Rattle.serde_yaml.proofs.TextLaws.{parsed_as}

@@ -1,6 +1,6 @@
 -- How a call within a reading is tied to what a definition gives: the value, the same fault, or want of memory.
 use Rattle.std.specs.Prelude.{◌≡◌, false, Result, Ok, Err}
-use Rattle.yaml_scalar.specs.ReadFault.{ReadFault, PlainRefusal, refused, ran_out}
+use Rattle.yaml_meaning.specs.ReadFault.{ReadFault, PlainRefusal, refused, ran_out}
 
 -- what takes no memory answers within a reading
 abbrev pub lift : {A : Type 0} → Result A ReadFault → Result A PlainRefusal

@@ -13,9 +13,9 @@ use Rattle.yaml_base.specs.declared.resolver.kind.Kind.{Kind}
 use Rattle.yaml_base.specs.declared.resolver.kind.Kind.TheVariants as kind
 use Rattle.yaml_shape.specs.Expected.{expected_text}
 use Rattle.yaml_shape.specs.PlainShape.{PlainShape, enum_shape}
-use Rattle.yaml_scalar.specs.ReadFault.{ReadFault, end_of_stream, at_node, invalid_type, invalid_value, invalid_length}
-use Rattle.yaml_scalar.specs.ScalarSorts.{PlainSort, without_text, tagged_bool, tagged_int, tagged_float, tagged_null}
-use Rattle.yaml_scalar.specs.ScalarSorts.{by_its_text, as_string, sort_of}
+use Rattle.yaml_meaning.specs.ReadFault.{ReadFault, end_of_stream, at_node, invalid_type, invalid_value, invalid_length}
+use Rattle.yaml_meaning.specs.ScalarSorts.{PlainSort, without_text, tagged_bool, tagged_int, tagged_float, tagged_null}
+use Rattle.yaml_meaning.specs.ScalarSorts.{by_its_text, as_string, sort_of}
 
 -- a node of another type than was expected; where it stands is not known yet
 abbrev pub wrong_type : Found → (expected : List ℕ) → ReadFault

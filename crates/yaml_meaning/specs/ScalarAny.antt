@@ -11,10 +11,10 @@ use Rattle.yaml_shape.specs.Expected.{expected_text}
 use Rattle.yaml_shape.specs.PlainShape.{any_shape}
 use Rattle.yaml_tree.specs.Integer.{is_number}
 use Rattle.yaml_tree.specs.Tree.{Tree, null, boolean, number, string}
-use Rattle.yaml_scalar.specs.ReadFault.{ReadFault, at_node, float_unsupported}
-use Rattle.yaml_scalar.specs.ScalarFound.{wrong_type, wrong_value, found_kind, found_integer}
-use Rattle.yaml_scalar.specs.ScalarSorts.{PlainSort, without_text, tagged_bool, tagged_int, tagged_float, tagged_null}
-use Rattle.yaml_scalar.specs.ScalarSorts.{by_its_text, as_string, sort_of}
+use Rattle.yaml_meaning.specs.ReadFault.{ReadFault, at_node, float_unsupported}
+use Rattle.yaml_meaning.specs.ScalarFound.{wrong_type, wrong_value, found_kind, found_integer}
+use Rattle.yaml_meaning.specs.ScalarSorts.{PlainSort, without_text, tagged_bool, tagged_int, tagged_float, tagged_null}
+use Rattle.yaml_meaning.specs.ScalarSorts.{by_its_text, as_string, sort_of}
 
 -- an integer is a number where it has 64 bits, with a sign only below 0
 abbrev pub any_integer : Found → ℤ → Result Tree ReadFault

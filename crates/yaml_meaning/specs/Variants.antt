@@ -6,9 +6,9 @@ use Rattle.yaml_base.specs.declared.found.Found.TheVariants as found
 use Rattle.yaml_shape.specs.PlainData.{PlainData, unit_data, variant_data}
 use Rattle.yaml_shape.specs.PlainShape.{PlainVariant, unit_variant, newtype_variant, tuple_variant, struct_variant}
 use Rattle.yaml_shape.specs.Validity.{names_of}
-use Rattle.yaml_scalar.specs.ReadFault.{ReadFault, at_node}
-use Rattle.yaml_scalar.specs.ReadFault as fault
-use Rattle.yaml_scalar.specs.ScalarFound.{wrong_type}
+use Rattle.yaml_meaning.specs.ReadFault.{ReadFault, at_node}
+use Rattle.yaml_meaning.specs.ReadFault as fault
+use Rattle.yaml_meaning.specs.ScalarFound.{wrong_type}
 
 -- the variants that an enum declares: their names, and what they hold
 abbrev pub Variants : Type 0

@@ -2,9 +2,9 @@
 use Rattle.std.specs.Prelude.{ℕ, zero, suc, Option, Some, None, Result, Ok, Err}
 use Rattle.yaml_base.specs.Position.{Position}
 use Rattle.yaml_shape.specs.PlainShape.{PlainShape}
-use Rattle.yaml_scalar.specs.ReadFault.{ReadFault, PlainRefusal, out_of_memory, refused}
-use Rattle.yaml_scalar.specs.ReadFault.{recursion_limit_exceeded, repetition_limit_exceeded}
-use Rattle.yaml_scalar.specs.ReadingGives.{lift}
+use Rattle.yaml_meaning.specs.ReadFault.{ReadFault, PlainRefusal, out_of_memory, refused}
+use Rattle.yaml_meaning.specs.ReadFault.{recursion_limit_exceeded, repetition_limit_exceeded}
+use Rattle.yaml_meaning.specs.ReadingGives.{lift}
 
 -- goes on with the answer, where there is one
 infixl 10 ◌>>=◌

@@ -4,10 +4,10 @@ use Rattle.std.specs.Option.{is_none}
 use Rattle.yaml_base.specs.Kinds.{is_null_text}
 use Rattle.yaml_base.specs.PlainEvent.{PlainScalar}
 use Rattle.yaml_base.specs.PlainWords.{is_null_word}
-use Rattle.yaml_scalar.specs.CoreTags.{null_tag}
-use Rattle.yaml_scalar.specs.ReadFault.{ReadFault}
-use Rattle.yaml_scalar.specs.ScalarFound.{string_found, wrong_value}
-use Rattle.yaml_scalar.specs.ScalarSorts.{is_plain, has_untaken}
+use Rattle.yaml_meaning.specs.CoreTags.{null_tag}
+use Rattle.yaml_meaning.specs.ReadFault.{ReadFault}
+use Rattle.yaml_meaning.specs.ScalarFound.{string_found, wrong_value}
+use Rattle.yaml_meaning.specs.ScalarSorts.{is_plain, has_untaken}
 
 -- the scalar is plain, and without a tag, or with a taken one, has no text or a word for null
 abbrev pub is_untagged_null : (taken : Bool) → PlainScalar → Bool

@@ -1,11 +1,11 @@
 -- The tree of one document in which each alias names the number of its target: the place of its first event.
 use Rattle.std.specs.Prelude.{◌≡◌, ℕ, suc, ◌+◌, List, [], ◌∷◌, ◌++◌, length, map, slice_get}
 use Rattle.std.specs.Prelude.{Option, Some, None, ◌==◌, if◌then◌else◌}
+use Rattle.yaml_base.specs.PlainDocEvent.{PlainDocEvent, alias_to, a_scalar, sequence_begins, sequence_ends}
+use Rattle.yaml_base.specs.PlainDocEvent.{mapping_begins, mapping_ends, a_void}
+use Rattle.yaml_base.specs.PlainDocument.{PlainDocument}
 use Rattle.yaml_base.specs.PlainEvent.{PlainScalar}
 use Rattle.yaml_base.specs.Position.{Position}
-use Rattle.yaml_load.specs.PlainDocEvent.{PlainDocEvent, alias_to, a_scalar, sequence_begins, sequence_ends}
-use Rattle.yaml_load.specs.PlainDocEvent.{mapping_begins, mapping_ends, a_void}
-use Rattle.yaml_load.specs.PlainDocument.{PlainDocument}
 
 -- a node stands for nothing, for another node, or is a scalar, a list of nodes, or pairs of nodes
 mutual

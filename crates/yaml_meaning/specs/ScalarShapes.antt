@@ -18,14 +18,14 @@ use Rattle.yaml_shape.specs.PlainShape.{char_shape, integer_shape, str_shape, id
 use Rattle.yaml_shape.specs.PlainShape.{option_shape, unit_shape, unit_struct_shape, seq_shape, row_shape, map_shape}
 use Rattle.yaml_shape.specs.PlainShape.{enum_shape}
 use Rattle.yaml_tree.specs.Tree.{null}
-use Rattle.yaml_scalar.specs.CoreTags.{bool_tag, int_tag}
-use Rattle.yaml_scalar.specs.Presence.{is_absent, is_empty_plain, null_fault}
-use Rattle.yaml_scalar.specs.ReadFault.{ReadFault, bytes_unsupported}
-use Rattle.yaml_scalar.specs.ScalarAny.{any_scalar}
-use Rattle.yaml_scalar.specs.ScalarFound.{wrong_type, wrong_value, wrong_length, scalar_fault, void_fault}
-use Rattle.yaml_scalar.specs.ScalarSorts.{is_plain, is_literal, has_untaken}
-use Rattle.yaml_scalar.specs.Steps.{◌>>=◌}
-use Rattle.yaml_scalar.specs.Variants.{named_variant}
+use Rattle.yaml_meaning.specs.CoreTags.{bool_tag, int_tag}
+use Rattle.yaml_meaning.specs.Presence.{is_absent, is_empty_plain, null_fault}
+use Rattle.yaml_meaning.specs.ReadFault.{ReadFault, bytes_unsupported}
+use Rattle.yaml_meaning.specs.ScalarAny.{any_scalar}
+use Rattle.yaml_meaning.specs.ScalarFound.{wrong_type, wrong_value, wrong_length, scalar_fault, void_fault}
+use Rattle.yaml_meaning.specs.ScalarSorts.{is_plain, is_literal, has_untaken}
+use Rattle.yaml_meaning.specs.Steps.{◌>>=◌}
+use Rattle.yaml_meaning.specs.Variants.{named_variant}
 
 -- ---- words
 -- the scalar is plain, whatever its tag, or literal with just this tag, which is not taken

@@ -6,7 +6,7 @@ use Rattle.std.specs.Str.{is_utf8}
 use Rattle.yaml_base.specs.PlainEvent.{PlainScalar}
 use Rattle.yaml_base.specs.declared.event.ScalarStyle.{ScalarStyle}
 use Rattle.yaml_base.specs.declared.event.ScalarStyle.TheVariants.{Plain, Literal}
-use Rattle.yaml_scalar.specs.CoreTags.{bool_tag, int_tag, float_tag, null_tag}
+use Rattle.yaml_meaning.specs.CoreTags.{bool_tag, int_tag, float_tag, null_tag}
 
 -- the rows, in their order
 pub data PlainSort : Type 0 where

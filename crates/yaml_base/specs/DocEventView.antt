@@ -3,11 +3,11 @@ use Rattle.std.specs.Prelude.{List, map, None}
 use Rattle.std.specs.Option.{option_map}
 use Rattle.yaml_base.specs.Position.{Position}
 use Rattle.yaml_base.specs.PlainEvent.{PlainScalar}
-use Rattle.yaml_load.specs.PlainDocEvent.{PlainDocEvent, alias_to, a_scalar, sequence_begins, sequence_ends}
-use Rattle.yaml_load.specs.PlainDocEvent.{mapping_begins, mapping_ends, a_void}
-use Rattle.yaml_load.specs.declared.doc_event.DocEvent.{DocEvent}
-use Rattle.yaml_load.specs.declared.doc_event.DocEvent.TheVariants as event
-use Rattle.yaml_load.specs.declared.doc_event.DocScalar.{DocScalar}
+use Rattle.yaml_base.specs.PlainDocEvent.{PlainDocEvent, alias_to, a_scalar, sequence_begins, sequence_ends}
+use Rattle.yaml_base.specs.PlainDocEvent.{mapping_begins, mapping_ends, a_void}
+use Rattle.yaml_base.specs.declared.doc_event.DocEvent.{DocEvent}
+use Rattle.yaml_base.specs.declared.doc_event.DocEvent.TheVariants as event
+use Rattle.yaml_base.specs.declared.doc_event.DocScalar.{DocScalar}
 
 -- the plain scalar of a scalar
 abbrev pub doc_scalar_of : DocScalar → PlainScalar
