@@ -10,7 +10,7 @@ use Rattle.yaml_shape.specs.PlainShape.{PlainShape}
 use Rattle.yaml_read.specs.Reads.{DocumentGives}
 use Rattle.yaml_read.specs.TreeReader.{PlainLimits}
 use Rattle.serde_yaml.specs.PlainStream.{PlainStream}
-use Rattle.serde_yaml.specs.StreamReads.{IsFirst, IsRefusedBy, StreamGives, follow, unless_more}
+use Rattle.serde_yaml.specs.StreamReads.{IsFirst, RefusesAll, StreamGives, some_follow, unless_more}
 
 pub same_head : {A : Type 0} {x y : A} {xs ys : List A} → x ∷ xs ≡ y ∷ ys → x ≡ y
 same_head h = cc
@@ -40,9 +40,9 @@ first_alone is fresh documents = (
 -- others follow where a second document is there
 follows_second : (second : Option PlainDocument) (left rest : List PlainDocument) → rest ≡ option_to_list second ++ left
     → IfNone second (rest ≡ [])
-    → is_some second ≡ follow rest
-follows_second None left rest items none = sym (ap follow none)
-follows_second (Some d) left rest items none = sym (ap follow items)
+    → is_some second ≡ some_follow rest
+follows_second None left rest items none = sym (ap some_follow none)
+follows_second (Some d) left rest items none = sym (ap some_follow items)
 
 -- a stream whose second document was asked for
 pub first_of : {stream view : PlainStream} {document : PlainDocument} {rest : List PlainDocument} {others : Bool}
@@ -75,14 +75,14 @@ stream_gives {limits} {table} {s} {stream} {document} {more} first given h =
             h.0,
             subst (λ d. DocumentGives limits table s d h.0) same h.1,
             h.2
-                ∙ ap (λ b. unless_more b h.0) (first.2 ∙ ap follow same'),
+                ∙ ap (λ b. unless_more b h.0) (first.2 ∙ ap some_follow same'),
           );
       iterated = λ e. absurd (both stream.iterated begins.fresh e);
     }
 
 -- a stream without documents gives nothing but the fault that it is given
 pub none_left : {stream view : PlainStream} (cause : Cause) → view ≡ stream → view.iterated ≡ false
-    → view.documents ≡ [] → IsRefusedBy stream cause
+    → view.documents ≡ [] → RefusesAll stream cause
 none_left {stream} cause is fresh documents = λ limits table s. record {
   first = λ document others begins.
       let none : [] ≡ document ∷ others = sym documents ∙ (ap (λ (s : PlainStream). s.documents) is ∙ begins.documents) in
@@ -91,7 +91,7 @@ none_left {stream} cause is fresh documents = λ limits table s. record {
 }
 
 -- a stream that was gone through gives nothing
-pub gone_through : {stream : PlainStream} → stream.iterated ≡ true → IsRefusedBy stream MoreThanOneDocument
+pub gone_through : {stream : PlainStream} → stream.iterated ≡ true → RefusesAll stream MoreThanOneDocument
 gone_through {stream} e = λ limits table s. record {
   first = λ document left begins. absurd (both stream.iterated begins.fresh e);
   iterated = λ h. refl;

@@ -23,7 +23,8 @@ use Rattle.yaml_read.specs.StreamLaw.{AreStreamDocuments, IsDocumentOf, IsAtFaul
 use Rattle.yaml_read.specs.TreeReader.{PlainLimits}
 use Rattle.yaml_read.specs.WrongPlace.{IsWrongAt}
 use Rattle.serde_yaml.specs.Headline.{ReadsAs, one_document, no_document}
-use Rattle.serde_yaml.specs.StreamReads.{StreamGives, InputGives, no_stream, a_stream, stream_of, follow, unless_more}
+use Rattle.serde_yaml.specs.StreamReads.{StreamGives, InputGives, no_stream, a_stream, stream_of, some_follow}
+use Rattle.serde_yaml.specs.StreamReads.{unless_more}
 
 -- with others behind it a document gives no data, and without it gives what it gives
 no_more : (found : Result PlainData Cause) (v : PlainData) → unless_more true found ≡ Ok v → ⊥
@@ -88,7 +89,7 @@ module _ (limits : PlainLimits) (table : List PlainShape) (s : PlainShape) (inpu
   -- what a first document gives
   abbrev FirstGives : PlainDocument → List PlainDocument → Type 0
   FirstGives d others = (found : Result PlainData Cause) × DocumentGives limits table s d found
-      × (given ≡ unless_more (follow others) found)
+      × (given ≡ unless_more (some_follow others) found)
 
   first : (fault : Option PlainFault) (d : PlainDocument) (others : List PlainDocument) → documents_of input fault
       ≡ d ∷ others

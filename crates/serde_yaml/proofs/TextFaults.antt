@@ -19,7 +19,8 @@ use Rattle.yaml_read.specs.TreeReader.{PlainLimits}
 use Rattle.yaml_load.proofs.StreamEndings.{all_endings}
 use Rattle.yaml_load.proofs.StreamTrees.{has_some}
 use Rattle.yaml_load.proofs.WrongPlaces.{wrong_not_well_formed}
-use Rattle.serde_yaml.specs.StreamReads.{InputGives, StreamGives, a_stream, follow, no_stream, stream_of, unless_more}
+use Rattle.serde_yaml.specs.StreamReads.{InputGives, StreamGives, a_stream, no_stream, some_follow, stream_of}
+use Rattle.serde_yaml.specs.StreamReads.{unless_more}
 use Rattle.serde_yaml.specs.TextReads.{IsOfAStream, SaysNoStream}
 use Rattle.serde_yaml.specs.TypedReads.{Makes, TypeGives, no_schema, no_shape, of_shape}
 
@@ -72,7 +73,7 @@ stream_never : {limits : PlainLimits} {table : List PlainShape} {s : PlainShape}
 stream_never input fault gives [] is some ends found refused = λ says. some is
 stream_never input fault gives (d ∷ others) is some ends found refused = λ says.
     let first = gives.first d others (record { fresh = refl; documents = is }) in
-    elim (more_never (follow others) first.0 _ first.2 found refused) [
+    elim (more_never (some_follow others) first.0 _ first.2 found refused) [
       | inl w ↦
           document_never first.1 d.ending refl
           (let all = subst (All (λ (d : PlainDocument). IsEnding d.ending)) is ends in all zero d (omega arith)) found w says

@@ -32,7 +32,7 @@ use Rattle.yaml_read.specs.MarkedEvents.{events_in, plain_events, plain_marked}
 use Rattle.yaml_read.specs.TreeReader.{PlainLimits}
 use Rattle.yaml_read.specs.WrongPlace.{IsWrongAt}
 use Rattle.yaml_types.specs.BuildRefusal.{IsBuildRefusal}
-use Rattle.yaml_types.specs.NodeWrites.{node_of, IsPut, IsFaultOf}
+use Rattle.yaml_types.specs.NodeWrites.{written_node, IsPut, IsFaultOf}
 use Rattle.yaml_types.specs.WriteRefusal.{IsWriteRefusal}
 use Rattle.yaml_types.specs.Start.{Start, IsClosed}
 use Rattle.yaml_types.specs.declared.fault.BuildFault.{BuildFault}
@@ -220,7 +220,7 @@ module _ (start : Start) (d : PlainData) (unwritten : List ℕ → Type 0) where
   type_refused _ by m = absurd by
 
   refusal_told : (cause : Cause) → IsValidSchema start.0
-      → (node_of start.0 start.1 d ≡ Err cause) ⊎ IsWriteRefusal unwritten cause → is_memory cause ≡ false
+      → (written_node start.0 start.1 d ≡ Err cause) ⊎ IsWriteRefusal unwritten cause → is_memory cause ≡ false
       → TypeWrites start d unwritten (Err cause)
   refusal_told cause valid (inl e) m =
       subst (TypeWrites start d unwritten) (ap (made written_stream) e) (writes.of_shape valid)
@@ -228,22 +228,22 @@ module _ (start : Start) (d : PlainData) (unwritten : List ℕ → Type 0) where
 
   -- what a node is refused for, the value is refused for
   pub node_refused : (table : List PlainShape) (id : ℕ) (cause : Cause) → table ≡ start.0 → id ≡ start.1
-      → IsValidSchema table → IsFaultOf (node_of table id d) unwritten cause → is_memory cause ≡ false
+      → IsValidSchema table → IsFaultOf (written_node table id d) unwritten cause → is_memory cause ≡ false
       → TypeWrites start d unwritten (Err cause)
   node_refused table id cause p q valid fault m =
       refusal_told cause (subst IsValidSchema p valid)
-      (subst (λ t. (node_of t start.1 d ≡ Err cause) ⊎ IsWriteRefusal unwritten cause) p
-      (subst (λ i. (node_of table i d ≡ Err cause) ⊎ IsWriteRefusal unwritten cause) q (fault m))) m
+      (subst (λ t. (written_node t start.1 d ≡ Err cause) ⊎ IsWriteRefusal unwritten cause) p
+      (subst (λ i. (written_node table i d ≡ Err cause) ⊎ IsWriteRefusal unwritten cause) q (fault m))) m
 
   -- a node between the start of a stream and its end is what the type writes
   pub node_written : (table : List PlainShape) (id : ℕ) (begun mid new : List PlainEmit) → table ≡ start.0
       → id ≡ start.1 → IsValidSchema table → IsPut (λ es. es) (Ok (emit_stream_start ∷ emit_document_start ∷ [])) [] begun
-      → IsPut emit_node_events (node_of table id d) begun mid
+      → IsPut emit_node_events (written_node table id d) begun mid
       → IsPut (λ es. es) (Ok (emit_document_end ∷ emit_stream_end ∷ [])) mid new
       → TypeWrites start d unwritten (Ok new)
   node_written table id begun mid new p q valid s e h =
-      let same : node_of start.0 start.1 d ≡ node_of table id d =
-      ap (λ t. node_of t start.1 d) (sym p) ∙ ap (λ i. node_of table i d) (sym q) in
+      let same : written_node start.0 start.1 d ≡ written_node table id d =
+      ap (λ t. written_node t start.1 d) (sym p) ∙ ap (λ i. written_node table i d) (sym q) in
       subst (TypeWrites start d unwritten)
-      (ap (made written_stream) same ∙ stream_put (node_of table id d) begun mid new s e h)
+      (ap (made written_stream) same ∙ stream_put (written_node table id d) begun mid new s e h)
       (writes.of_shape (subst IsValidSchema p valid))

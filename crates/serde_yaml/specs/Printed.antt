@@ -31,9 +31,9 @@ pub data IsOutOfPlace : Cause → Type 0 where
   out_of_place : (place : ℕ) → IsOutOfPlace (NotAStream place)
 
 -- it was not written, or its events are no stream
-pub data IsRefused (Writes : Result (List PlainEmit) Cause → Type 0) : Cause → Type 0 where
-  not_written : (cause : Cause) → Writes (Err cause) → IsRefused Writes cause
-  not_printed : (cause : Cause) → IsOutOfPlace cause → IsRefused Writes cause
+pub data IsTextRefused (Writes : Result (List PlainEmit) Cause → Type 0) : Cause → Type 0 where
+  not_written : (cause : Cause) → Writes (Err cause) → IsTextRefused Writes cause
+  not_printed : (cause : Cause) → IsOutOfPlace cause → IsTextRefused Writes cause
 
 -- what data of a shape is written as
 abbrev pub IsDataWritten : List PlainShape → (id : ℕ) → PlainData → Result (List PlainEmit) Cause → Type 0

@@ -15,18 +15,18 @@ use Rattle.yaml_read.specs.WrongPlace.{IsWrongAt}
 use Rattle.serde_yaml.specs.PlainStream.{PlainStream}
 
 -- the stream was not iterated, its first document is this one, and others follow
-pub record Begins (stream : PlainStream) (document : PlainDocument) (others : List PlainDocument) : Type 0 where
+pub record BeginsWithDocument (stream : PlainStream) (document : PlainDocument) (others : List PlainDocument) : Type 0 where
   pub fresh : stream.iterated ≡ false
   pub documents : stream.documents ≡ document ∷ others
 
 -- other documents follow
-abbrev pub follow : List PlainDocument → Bool
-follow [] = false
-follow (document ∷ others) = true
+abbrev pub some_follow : List PlainDocument → Bool
+some_follow [] = false
+some_follow (document ∷ others) = true
 
 -- the stream was not iterated, its first document is this one, and the flag says whether others follow
 abbrev pub IsFirst : PlainStream → PlainDocument → Bool → Type 0
-IsFirst stream document more = (others : List PlainDocument) × Begins stream document others × (more ≡ follow others)
+IsFirst stream document more = (others : List PlainDocument) × BeginsWithDocument stream document others × (more ≡ some_follow others)
 
 -- what a first document gives, by whether others follow: then its data is refused, and its fault stays
 abbrev pub unless_more : Bool → Result PlainData Cause → Result PlainData Cause
@@ -37,14 +37,14 @@ unless_more more given = given
 -- follow; and once it was iterated, nothing.
 pub record StreamGives (limits : PlainLimits) (table : List PlainShape) (s : PlainShape) (stream : PlainStream)
     (given : Result PlainData Cause) : Type 0 where
-  pub first : (document : PlainDocument) (others : List PlainDocument) → Begins stream document others
+  pub first : (document : PlainDocument) (others : List PlainDocument) → BeginsWithDocument stream document others
       → (found : Result PlainData Cause) × DocumentGives limits table s document found
-      × (given ≡ unless_more (follow others) found)
+      × (given ≡ unless_more (some_follow others) found)
   pub iterated : stream.iterated ≡ true → given ≡ Err MoreThanOneDocument
 
 -- a stream from which nothing is read for this reason, whatever is asked of it
-abbrev pub IsRefusedBy : PlainStream → Cause → Type 0
-IsRefusedBy stream cause = (limits : PlainLimits) (table : List PlainShape) (s : PlainShape)
+abbrev pub RefusesAll : PlainStream → Cause → Type 0
+RefusesAll stream cause = (limits : PlainLimits) (table : List PlainShape) (s : PlainShape)
     → StreamGives limits table s stream (Err cause)
 
 -- the stream of an input, before it is iterated

@@ -21,7 +21,7 @@ ghost use Rattle.yaml_read.specs.Reads.{DocumentGives};
 ghost use Rattle.yaml_read.specs.TreeReader.{default_limits};
 ghost use Rattle.yaml_read.specs.WrongPlace.{IsWrongAt};
 ghost use Rattle.serde_yaml.specs.Headline.{GivesMeaning};
-ghost use Rattle.serde_yaml.specs.StreamReads.{IsFirst, IsRefusedBy, StreamGives, stream_of, unless_more};
+ghost use Rattle.serde_yaml.specs.StreamReads.{IsFirst, RefusesAll, StreamGives, stream_of, unless_more};
 
 use crate::laws::reading_gives_the_meaning;
 pub use input::data_from_events;
@@ -178,7 +178,7 @@ impl<'de> Deserializer<'de> {
     // one document.
     fn first(self) -> Result<(Document<'de>, bool)>
         ensures found { IfOk result (λ found. IsFirst self.entry found.0 found.1) }
-        ensures refused { IfErr result (IsRefusedBy self.entry) }
+        ensures refused { IfErr result (RefusesAll self.entry) }
     {
         let Deserializer { source, iterated } = self;
         if iterated {

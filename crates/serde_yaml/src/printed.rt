@@ -7,7 +7,8 @@ ghost use Rattle.yaml_shape.specs.TypedView.{content_in, id_in, schema_in};
 ghost use Rattle.yaml_base.specs.EmitEvents.{emit_of};
 ghost use Rattle.yaml_base.specs.EmitTree.{IsEmitStream};
 ghost use Rattle.yaml_emit.specs.StreamTexts.{IsStreamText};
-ghost use Rattle.serde_yaml.specs.Printed.{AddsText, HasEvents, HasText, IfOfValue, IsDataWritten, IsOutOfPlace, IsRefused};
+ghost use Rattle.serde_yaml.specs.Printed.{AddsText, HasEvents, HasText, IfOfValue, IsDataWritten, IsOutOfPlace};
+ghost use Rattle.serde_yaml.specs.Printed.{IsTextRefused};
 ghost use Rattle.serde_yaml.specs.TypedWrites.{TypeWrites};
 
 use crate::ser::{to_events, write_stream};
@@ -65,7 +66,7 @@ pub fn to_string<T: Serialize>(alloc: Global, value: &T) -> Result<String>
         (string_bytes text)) }
     ensures kept { OnOk result (T.kept value.now) }
     ensures refused { IfErr result (λ cause. is_memory cause ≡ false
-        → IsRefused (TypeWrites T.start (T.written value.now) (T.unwritten value.now)) cause) }
+        → IsTextRefused (TypeWrites T.start (T.written value.now) (T.unwritten value.now)) cause) }
     ensures unwritten { IfErr result (λ cause. is_memory cause ≡ false
         → TypeWrites T.start (T.written value.now) (T.unwritten value.now) (Err cause)) }
 {
@@ -113,7 +114,7 @@ pub fn data_to_string(alloc: Global, value: &Typed<'_, '_>) -> Result<String>
     ensures text { IfOk result (λ text. HasText (IsDataWritten (schema_in value.now) (id_in value.now).0
         (data_of (content_in value.now))) (string_bytes text)) }
     ensures refused { IfErr result (λ cause. is_memory cause ≡ false
-        → IsRefused (IsDataWritten (schema_in value.now) (id_in value.now).0
+        → IsTextRefused (IsDataWritten (schema_in value.now) (id_in value.now).0
         (data_of (content_in value.now))) cause) }
     ensures unwritten { IfErr result (λ cause. is_memory cause ≡ false
         → IsDataWritten (schema_in value.now) (id_in value.now).0 (data_of (content_in value.now))

@@ -5,7 +5,7 @@ use Rattle.std.specs.Prelude.{slice_get}
 use Rattle.std.specs.Option.{option_map_or}
 use Rattle.yaml_base.specs.PlainDocEvent.{PlainDocEvent}
 use Rattle.yaml_base.specs.PlainDocument.{PlainDocument}
-use Rattle.yaml.specs.Around.{place_behind}
+use Rattle.yaml.specs.Around.{place_behind_node}
 use Rattle.yaml_load.specs.Ends.{end_place, ends_from, ends_of, inner_after, is_closing, is_opening}
 
 -- a collection ends by the end of the events
@@ -50,13 +50,13 @@ end_within ends document place end are found =
 -- the place behind the node in a place is behind its number
 pub behind_number : (ends : List ℕ) (document : PlainDocument) (place end : ℕ)
     → ends ≡ ends_of (map (λ e. e.0) document.events) → slice_get ends place ≡ Some end
-    → place_behind document place ≡ end + 1
+    → place_behind_node document place ≡ end + 1
 behind_number ends document place end are found =
     ap (λ o. option_map_or (λ e. e + 1) o place) (sym (ap (λ xs. slice_get xs place) are) ∙ found)
 
 -- where there is none, it is the same place
 pub behind_nothing : (ends : List ℕ) (document : PlainDocument) (place : ℕ)
     → ends ≡ ends_of (map (λ e. e.0) document.events) → slice_get ends place ≡ None
-    → place_behind document place ≡ place
+    → place_behind_node document place ≡ place
 behind_nothing ends document place are found =
     ap (λ o. option_map_or (λ e. e + 1) o place) (sym (ap (λ xs. slice_get xs place) are) ∙ found)

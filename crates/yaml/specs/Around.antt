@@ -32,8 +32,8 @@ abbrev pub target_of : PlainDocument → ℕ → ℕ
 target_of document place = option_map_or (λ e. text_place e place) (event_at document place) place
 
 -- the place behind the node in a place
-abbrev pub place_behind : PlainDocument → ℕ → ℕ
-place_behind document place =
+abbrev pub place_behind_node : PlainDocument → ℕ → ℕ
+place_behind_node document place =
     option_map_or (λ end. end + 1) (slice_get (ends_of (map (λ e. e.0) document.events)) place) place
 
 -- where the next node begins, or the one that it stands for
@@ -58,12 +58,12 @@ top_frame zero frames = None
 top_frame (suc n) frames = slice_get frames n
 
 -- what is innermost open
-abbrev pub innermost : Standing → Option Frame
-innermost r = top_frame r.spot.top r.frames
+abbrev pub innermost_frame : Standing → Option Frame
+innermost_frame r = top_frame r.spot.top r.frames
 
 -- its kind
 abbrev pub open_kind : Standing → Option Kind
-open_kind r = option_map (λ f. f.kind) (innermost r)
+open_kind r = option_map (λ f. f.kind) (innermost_frame r)
 
 -- the frame of a kind around the next node
 abbrev pub frame_here : Kind → Standing → Frame
@@ -71,13 +71,13 @@ frame_here k r = record {
   kind = k;
   start = next_target r;
   at = r.spot.place;
-  back = place_behind r.document r.spot.place;
+  back = place_behind_node r.document r.spot.place;
   outer = r.spot.top;
 }
 
 -- A frame was put around what comes next, and those around it are as they were.
 pub record Opens (frame : Frame) (old new : Standing) : Type 0 where
-  pub inside : innermost new ≡ Some frame
+  pub inside : innermost_frame new ≡ Some frame
   pub around : (k : ℕ) (f : Frame) → k < old.spot.top → slice_get old.frames k ≡ Some f
       → slice_get new.frames k ≡ Some f
   pub rest : new ≡ record old { frames = new.frames; spot = record old.spot { top = new.spot.top } }

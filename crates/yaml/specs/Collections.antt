@@ -1,6 +1,6 @@
 -- Steps into collections and out of them.
 use Rattle.std.specs.Prelude.{◌≡◌, ◌≢◌, ◌⊎◌, ℕ, suc, ◌+◌, min, List, Option, Some, Bool, true, false, ⊤}
-use Rattle.yaml.specs.Around.{Standing, event_at, next_target, next_event, LeftFollowing, innermost, open_kind}
+use Rattle.yaml.specs.Around.{Standing, event_at, next_target, next_event, LeftFollowing, innermost_frame, open_kind}
 use Rattle.yaml.specs.Around.{frame_here, Opens}
 use Rattle.yaml.specs.NodeSteps.{Took}
 use Rattle.yaml.specs.declared.frame.Frame.{Frame}
@@ -104,18 +104,18 @@ behind_frame frame r = record r {
 }
 
 -- what was innermost open has ended, and the reading stands behind it, in what is around it
-pub record Leaves (Ends : Kind → Option PlainDocEvent → Type 0) (old new : Standing) : Type 0 where
+pub record LeavesCollection (Ends : Kind → Option PlainDocEvent → Type 0) (old new : Standing) : Type 0 where
   pub frame : Frame
-  pub inside : innermost old ≡ Some frame
+  pub inside : innermost_frame old ≡ Some frame
   pub ends : Ends frame.kind (event_at old.document old.spot.place)
   pub behind : new ≡ behind_frame frame old
 
 -- the sequence has ended
 abbrev pub LeavesSeq : Standing → Standing → Type 0
-LeavesSeq old new = Leaves EndsSeq old new
+LeavesSeq old new = LeavesCollection EndsSeq old new
 
 -- the mapping, or the variant, has ended; a mapping that was begun is gone into first
 pub record LeavesMap (old new : Standing) : Type 0 where
   pub inside : Standing
   pub within : IsWithin old.spot.begun old inside
-  pub leaves : Leaves EndsMap inside new
+  pub leaves : LeavesCollection EndsMap inside new

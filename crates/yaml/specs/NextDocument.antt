@@ -3,7 +3,7 @@ use Rattle.std.specs.Prelude.{◌≡◌, ◌∷◌, [], List, Option, Result, No
 use Rattle.yaml_base.specs.Answer.{is_memory}
 use Rattle.yaml_base.specs.PlainDocument.{PlainDocument}
 use Rattle.yaml_base.specs.declared.error.Cause.{Cause}
-use Rattle.yaml_documents.specs.HandingOut.{Fails, HandsOut}
+use Rattle.yaml_documents.specs.HandingOut.{HandsOut, RunsOutOfMemory}
 use Rattle.yaml_documents.specs.PlainReader.{PlainReader}
 
 -- The first document that was left was read, and those behind it are left. A value was read of a document that nothing
@@ -21,4 +21,4 @@ GivesNext old given new = MatchOption given ((old ≡ []) × (new ≡ [])) (λ r
 pub data ReadsFurther {T : Type 0} (old new : PlainReader) (read : Result T Cause) : Type 0 where
   of_next : (document : PlainDocument) → HandsOut old (Some document) new → OnOk read (document.ending ≡ None)
       → ReadsFurther old new read
-  of_memory : (cause : Cause) → read ≡ Err cause → is_memory cause ≡ true → Fails old new → ReadsFurther old new read
+  of_memory : (cause : Cause) → read ≡ Err cause → is_memory cause ≡ true → RunsOutOfMemory old new → ReadsFurther old new read

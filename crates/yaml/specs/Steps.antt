@@ -26,8 +26,8 @@ ReadsBy key_begins old new = ReachesEntry old new
 ReadsBy _ old new = ⊥
 
 -- what a step read, whatever its input is
-abbrev pub Reads : Reader → List ℕ → Event → Reader → Type 0
-Reads old input e new = ReadsBy e (standing old) (standing new)
+abbrev pub StepReads : Reader → List ℕ → Event → Reader → Type 0
+StepReads old input e new = ReadsBy e (standing old) (standing new)
 
 -- a step only looked
 abbrev pub Stays : Reader → Reader → Type 0

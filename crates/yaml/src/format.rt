@@ -23,13 +23,13 @@ fn narrowed<N: Copy + Drop>(number: Option<N>, reader: &Reader<'_, '_>) -> Resul
 
 impl<'a, 'de> Format for Reader<'a, 'de> {
     ghost use Rattle.yaml.specs.Picks.{Picks};
-    ghost use Rattle.yaml.specs.Steps.{Reads, Stays};
+    ghost use Rattle.yaml.specs.Steps.{Stays, StepReads};
 
     type Error = Error;
 
     type Mark = Mark;
 
-    ghost gives = { Reads };
+    ghost gives = { StepReads };
 
     ghost picks = { Picks };
 

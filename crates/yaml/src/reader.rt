@@ -3,7 +3,7 @@
 ghost use Rattle.std.specs.Prelude.{◌≡◌, ◌+◌, ◌<◌, ◌^◌, IfOk, OnSome};
 ghost use Rattle.std.specs.Option.{option_map};
 ghost use Rattle.yaml_base.specs.DocEventView.{doc_event_of};
-ghost use Rattle.yaml.specs.Around.{event_at, innermost, place_behind, standing, target_of};
+ghost use Rattle.yaml.specs.Around.{event_at, innermost_frame, place_behind_node, standing, target_of};
 ghost use Rattle.yaml.specs.NodeSteps.{Gave, Took, gone_on, node_at};
 ghost use Rattle.yaml_shape.specs.DataView.{data_of};
 
@@ -112,7 +112,7 @@ impl<'a, 'de> Reader<'a, 'de> {
 
     /// The place behind the node that begins in a place, without following an alias.
     pub(crate) fn behind(&self, place: usize) -> usize
-        ensures { result ≡ place_behind self.now.document.now place }
+        ensures { result ≡ place_behind_node self.now.document.now place }
     {
         match self.document.ends().get(place) {
             Some(end) => end.saturating_add(1),
@@ -122,7 +122,7 @@ impl<'a, 'de> Reader<'a, 'de> {
 
     /// The innermost open frame.
     pub(crate) fn open_frame(&self) -> Option<Frame>
-        ensures { result ≡ innermost (standing self.now) }
+        ensures { result ≡ innermost_frame (standing self.now) }
     {
         match self.frames.get(self.spot.top.checked_sub(1)?) {
             Some(frame) => Some(*frame),

@@ -3,7 +3,7 @@
 ghost use Rattle.std.specs.Prelude.{◌≡◌, true, IfOk, MatchBool, MatchOption};
 ghost use Rattle.serde.specs.Names.{Finds};
 ghost use Rattle.yaml.specs.Around.{standing};
-ghost use Rattle.yaml.specs.Collections.{AtEntry, EndsMap, Leaves, LeavesMap, LeavesSeq};
+ghost use Rattle.yaml.specs.Collections.{AtEntry, EndsMap, LeavesCollection, LeavesMap, LeavesSeq};
 ghost use Rattle.yaml.specs.Collections.{ReachesEntry};
 ghost use Rattle.yaml.specs.NodeSteps.{TookNothing};
 ghost use Rattle.yaml.specs.Picks.{Chooses, TookAs, TookKeyOr, TookName, asks_for_variants};
@@ -144,7 +144,7 @@ impl<'a, 'de> Reader<'a, 'de> {
     fn entry_here(&mut self) -> Result<bool>
         ensures { IfOk result (λ comes. MatchBool comes
             ((standing self.new ≡ standing self.old) × AtEntry (standing self.new))
-            (Leaves EndsMap (standing self.old) (standing self.new))) }
+            (LeavesCollection EndsMap (standing self.old) (standing self.new))) }
     {
         let Some(frame) = self.open_frame() else {
             return Err(self.ended());

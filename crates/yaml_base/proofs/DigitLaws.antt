@@ -11,7 +11,7 @@ use Rattle.std.proofs.lemmas.Bool.Decides.{Decides-ltb, Decides-and, nat_tests, 
 use mathlib.Core.Bool.{true≢false}
 use Rattle.std.proofs.lemmas.Str.Parse.{without_leading_plus_none}
 use Rattle.std.proofs.Math.Nat.{pow-zero, pow-succ'}
-use Rattle.yaml_base.specs.Integers.{digits_number, place_value, up_to, decimal, number_in}
+use Rattle.yaml_base.specs.Integers.{digits_number, place_value, up_to, decimal, number_in_base}
 
 -- the number so far moves one place up
 carried : (n b d p w : ℕ) → (n * b + d) * p + w ≡ n * (b * p) + (d * p + w)
@@ -70,9 +70,9 @@ digits_number-plus base most bs small e =
         let d : digit_value c ≡ 36 = ap digit_value e in let below = n.1.0 in omega (arith, d, below, small)
 
 -- decimal text with a zero in front writes no number
-pub number_in-zero : (most : ℕ) (text : List ℕ) → get_or text 0 0 ≡ 48 → 1 < length text
-    → None ≡ up_to most (number_in decimal text)
-number_in-zero most text e l =
+pub number_in_base-zero : (most : ℕ) (text : List ℕ) → get_or text 0 0 ≡ 48 → 1 < length text
+    → None ≡ up_to most (number_in_base decimal text)
+number_in_base-zero most text e l =
     let zero : (get_or text 0 0 == 48) ≡ true = (Decides-eqb (get_or text 0 0) 48).1 e in
     let long : nat_lt 1 (length text) ≡ true = (Decides-ltb 1 (length text)).1 l in
     rw (zero, long) refl

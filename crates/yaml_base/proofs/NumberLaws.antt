@@ -15,7 +15,7 @@ use Rattle.yaml_base.proofs.SignLaws.{unproved, sign_of-other, behind-sign}
 use Rattle.yaml_base.proofs.DigitLaws.{numeral-Decides}
 use Rattle.yaml_base.specs.Integers.{Base, decimal, hexadecimal, octal, binary, radix, prefix_of, place_value}
 use Rattle.yaml_base.specs.Integers.{HasLeadingZeroAlone, IsNumber}
-use Rattle.yaml_base.specs.Integers.{digits_number, has_zero_in_front, number_in, number_of}
+use Rattle.yaml_base.specs.Integers.{digits_number, has_zero_in_front, number_in_any_base, number_in_base}
 use Rattle.yaml_base.specs.Signs.{Sign, unsigned, sign_text, sign_of, unsigned_part}
 
 -- what a test lets through was there
@@ -38,15 +38,15 @@ zero-Decides ds = Decides-and _ _ (Decides-eqb (slice_index ds 0) 48) (Decides-l
 
 -- text in a base writes its number
 spelled_in : (base : Base) (ds : List ℕ) → 0 < length ds → AllDigits (radix base) ds → HasLeadingZeroAlone base ds
-    → number_in base (prefix_of base ++ ds) ≡ Some (place_value (radix base) ds)
+    → number_in_base base (prefix_of base ++ ds) ≡ Some (place_value (radix base) ds)
 spelled_in decimal ds p a z =
     let none = unproved _ _ (zero-Decides ds) (λ h. omega (arith, z h.0, h.1)) in rw none (digits_number-some 10 ds p a)
 spelled_in hexadecimal ds p a z = digits_number-some 16 ds p a
 spelled_in octal ds p a z = digits_number-some 8 ds p a
 spelled_in binary ds p a z = digits_number-some 2 ds p a
 
-pub number_in-complete : (base : Base) (text : List ℕ) (n : ℕ) → IsNumber base text n → number_in base text ≡ Some n
-number_in-complete base text n i =
+pub number_in_base-complete : (base : Base) (text : List ℕ) (n : ℕ) → IsNumber base text n → number_in_base base text ≡ Some n
+number_in_base-complete base text n i =
     rw (i.spelled, i.value) (spelled_in base i.digits i.present i.all_digits i.zero_alone)
 
 alone : (base : Base) (text : List ℕ) → not (has_zero_in_front base text) ≡ true
@@ -61,8 +61,8 @@ alone hexadecimal text e p = tt
 alone octal text e p = tt
 alone binary text e p = tt
 
-pub number_in-sound : (base : Base) (text : List ℕ) (n : ℕ) → number_in base text ≡ Some n → IsNumber base text n
-number_in-sound base text n e =
+pub number_in_base-sound : (base : Base) (text : List ℕ) (n : ℕ) → number_in_base base text ≡ Some n → IsNumber base text n
+number_in_base-sound base text n e =
     let g = guarded _ _ n e in
     let t = both _ _ g.0 in
     let h = guarded _ _ n g.1 in
@@ -78,7 +78,7 @@ number_in-sound base text n e =
 
 -- decimal digits begin with no prefix
 no_prefix : (base : Base) (x : ℕ) (text : List ℕ) → prefix_of base ≡ 48 ∷ x ∷ [] → 10 ≤ digit_value x
-    → AllDigits 10 text → number_in base text ≡ None
+    → AllDigits 10 text → number_in_base base text ≡ None
 no_prefix base x text p big a = refused _ _ _ (λ t. begun _ ((starts_is Decides-eqb text (prefix_of base) _ refl).0 t))
   where
     begun : (rest : List ℕ) → text ≡ prefix_of base ++ rest → ⊥
@@ -88,34 +88,34 @@ no_prefix base x text p big a = refused _ _ _ (λ t. begun _ ((starts_is Decides
     refused true u o n = absurd (n refl)
     refused false u o n = refl
 
-pub number_of-complete : (base : Base) (text : List ℕ) (n : ℕ) → IsNumber base text n → number_of text ≡ Some n
-number_of-complete hexadecimal text n i = let e = number_in-complete hexadecimal text n i in rw e refl
-number_of-complete octal text n i =
-    let x : number_in hexadecimal text ≡ None = rw i.spelled refl in
-    let e = number_in-complete octal text n i in rw (x, e) refl
-number_of-complete binary text n i =
-    let x : number_in hexadecimal text ≡ None = rw i.spelled refl in
-    let o : number_in octal text ≡ None = rw i.spelled refl in
-    let e = number_in-complete binary text n i in rw (x, o, e) refl
-number_of-complete decimal text n i =
+pub number_in_any_base-complete : (base : Base) (text : List ℕ) (n : ℕ) → IsNumber base text n → number_in_any_base text ≡ Some n
+number_in_any_base-complete hexadecimal text n i = let e = number_in_base-complete hexadecimal text n i in rw e refl
+number_in_any_base-complete octal text n i =
+    let x : number_in_base hexadecimal text ≡ None = rw i.spelled refl in
+    let e = number_in_base-complete octal text n i in rw (x, e) refl
+number_in_any_base-complete binary text n i =
+    let x : number_in_base hexadecimal text ≡ None = rw i.spelled refl in
+    let o : number_in_base octal text ≡ None = rw i.spelled refl in
+    let e = number_in_base-complete binary text n i in rw (x, o, e) refl
+number_in_any_base-complete decimal text n i =
     let a : AllDigits 10 text = subst (AllDigits 10) (sym i.spelled) i.all_digits in
     let x = no_prefix hexadecimal 120 text refl (omega arith) a in
     let o = no_prefix octal 111 text refl (omega arith) a in
     let b = no_prefix binary 98 text refl (omega arith) a in
-    let e = number_in-complete decimal text n i in rw (x, o, b, e) refl
+    let e = number_in_base-complete decimal text n i in rw (x, o, b, e) refl
 
 either : (o p : Option ℕ) (n : ℕ) → option_or o p ≡ Some n → (o ≡ Some n) ⊎ (p ≡ Some n)
 either None p n e = inr e
 either (Some x) p n e = inl e
 
-pub number_of-sound : (text : List ℕ) (n : ℕ) → number_of text ≡ Some n → (base : Base) × IsNumber base text n
-number_of-sound text n e = elim (either _ _ n e) [
-  | inl h ↦ (hexadecimal, number_in-sound _ _ _ h)
+pub number_in_any_base-sound : (text : List ℕ) (n : ℕ) → number_in_any_base text ≡ Some n → (base : Base) × IsNumber base text n
+number_in_any_base-sound text n e = elim (either _ _ n e) [
+  | inl h ↦ (hexadecimal, number_in_base-sound _ _ _ h)
   | inr r ↦ elim (either _ _ n r) [
-    | inl h ↦ (octal, number_in-sound _ _ _ h)
+    | inl h ↦ (octal, number_in_base-sound _ _ _ h)
     | inr s ↦ elim (either _ _ n s) [
-      | inl h ↦ (binary, number_in-sound _ _ _ h)
-      | inr h ↦ (decimal, number_in-sound _ _ _ h)
+      | inl h ↦ (binary, number_in_base-sound _ _ _ h)
+      | inr h ↦ (decimal, number_in_base-sound _ _ _ h)
     ]
   ]
 ]

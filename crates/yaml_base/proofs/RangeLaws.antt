@@ -7,7 +7,8 @@ use Rattle.std.proofs.Common.{◌≡◌, ℕ, ◌-◌, ◌^◌, ◌<◌, ◌≤�
 use Rattle.std.proofs.lemmas.Bool.Decides.{Decides-and, nat_tests}
 use Rattle.std.proofs.lemmas.Int.{ints}
 use Rattle.std.proofs.lemmas.Option.{same_Some, none-some}
-use Rattle.yaml_base.specs.Integers.{in_range, up_to, number_of, integer_of, negative_of, number_in, decimal}
+use Rattle.yaml_base.specs.Integers.{in_range, up_to, number_in_any_base, integer_of, negative_of, number_in_base}
+use Rattle.yaml_base.specs.Integers.{decimal}
 use Rattle.yaml_base.specs.Signs.{Sign, unsigned, plus, minus, signed, is_minus, sign_of, unsigned_part}
 
 pub int_le-Decides : (a b : ℤ) → Decides (int_le a b) (a ≤ℤ b)
@@ -103,27 +104,27 @@ under_sign-none s n h =
     (in_range-outside (neg_ℤ (pos (2 ^ 127))) (pos (2 ^ 127 - 1)) _ (too_large (is_minus s) _ _ n (large n h)))
 
 -- the integer of a text whose number is too large, or is none
-pub integer_of-none : (text body : List ℕ) → body ≡ unsigned_part text → None ≡ up_to (2 ^ 128 - 1) (number_of body)
+pub integer_of-none : (text body : List ℕ) → body ≡ unsigned_part text → None ≡ up_to (2 ^ 128 - 1) (number_in_any_base body)
     → None ≡ in_range (neg_ℤ (pos (2 ^ 127))) (pos (2 ^ 127 - 1)) (integer_of text)
-integer_of-none text body b e = elim (up_to-above (2 ^ 128 - 1) (number_of body) (sym e)) [
+integer_of-none text body b e = elim (up_to-above (2 ^ 128 - 1) (number_in_any_base body) (sym e)) [
   | inl none ↦ rw (← b, none) refl
   | inr f ↦ rw (← b, f.1) (sym (under_sign-none (sign_of text) f.0 f.2))
 ]
 
 pub integer_of-some : (low high : ℤ) (most : ℕ) (text body : List ℕ) (negative : Bool) (size : ℕ) (r : Option ℤ)
-    → body ≡ unsigned_part text → negative ≡ is_minus (sign_of text) → Some size ≡ up_to most (number_of body)
+    → body ≡ unsigned_part text → negative ≡ is_minus (sign_of text) → Some size ≡ up_to most (number_in_any_base body)
     → r ≡ in_range low high (Some (if negative then neg_ℤ (pos size) else pos size))
     → r ≡ in_range low high (integer_of text)
 integer_of-some low high most text body negative size r b s e h =
-    rw (← b, up_to-found most (number_of body) size (sym e), signed-is (sign_of text) size, ← s) h
+    rw (← b, up_to-found most (number_in_any_base body) size (sym e), signed-is (sign_of text) size, ← s) h
 
 pub negative_of-decimal : (low high : ℤ) (most : ℕ) (text body : List ℕ) (negative : Bool) (size : ℕ) (r : Option ℤ)
     → body ≡ unsigned_part text → negative ≡ is_minus (sign_of text) → negative ≡ false
-    → Some size ≡ up_to most (number_in decimal body)
+    → Some size ≡ up_to most (number_in_base decimal body)
     → r ≡ in_range low high (Some (if negative then neg_ℤ (pos size) else pos size))
     → r ≡ in_range low high (negative_of text)
 negative_of-decimal low high most text body negative size r b s n e h =
-    rw (sym s ∙ n, ← b, up_to-found most (number_in decimal body) size (sym e)) (rw n at h)
+    rw (sym s ∙ n, ← b, up_to-found most (number_in_base decimal body) size (sym e)) (rw n at h)
 
 pub up_to-twice : (high most : ℕ) (o v r : Option ℕ) → most ≤ high → v ≡ up_to high o → r ≡ up_to most v
     → r ≡ up_to most o

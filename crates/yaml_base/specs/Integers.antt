@@ -82,28 +82,28 @@ has_zero_in_front decimal text = slice_index text 0 == 48 && nat_lt 1 (length te
 has_zero_in_front _ text = false
 
 -- the number that the text writes in the base
-abbrev pub number_in : Base → List ℕ → Option ℕ
-number_in base text =
+abbrev pub number_in_base : Base → List ℕ → Option ℕ
+number_in_base base text =
     if starts_with nat_eq text (prefix_of base) && not (has_zero_in_front base text)
     then digits_number (radix base) (drop (length (prefix_of base)) text) else None
 
 -- the number that the text writes without a sign
-abbrev pub number_of : List ℕ → Option ℕ
-number_of text = option_or (number_in hexadecimal text)
-    (option_or (number_in octal text) (option_or (number_in binary text) (number_in decimal text)))
+abbrev pub number_in_any_base : List ℕ → Option ℕ
+number_in_any_base text = option_or (number_in_base hexadecimal text)
+    (option_or (number_in_base octal text) (option_or (number_in_base binary text) (number_in_base decimal text)))
 
 -- the integer that the text writes
 abbrev pub integer_of : List ℕ → Option ℤ
-integer_of text = option_map (signed (sign_of text)) (number_of (unsigned_part text))
+integer_of text = option_map (signed (sign_of text)) (number_in_any_base (unsigned_part text))
 
 -- the same without a minus
 abbrev pub unsigned_of : List ℕ → Option ℕ
-unsigned_of text = if is_minus (sign_of text) then None else number_of (unsigned_part text)
+unsigned_of text = if is_minus (sign_of text) then None else number_in_any_base (unsigned_part text)
 
 -- the same of decimal text, and of text in another base with a minus
 abbrev pub negative_of : List ℕ → Option ℤ
 negative_of text =
-    if is_minus (sign_of text) then integer_of text else option_map pos (number_in decimal (unsigned_part text))
+    if is_minus (sign_of text) then integer_of text else option_map pos (number_in_base decimal (unsigned_part text))
 
 -- the integer, where it lies in the range
 abbrev pub in_range : ℤ → ℤ → Option ℤ → Option ℤ

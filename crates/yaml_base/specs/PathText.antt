@@ -11,13 +11,13 @@ is_root (Alias' p parent) = is_root parent
 is_root (Unknown' p parent) = false
 
 -- a name under a parent: alone under the root, and else behind the parent's text and a dot
-abbrev pub under : Bool → List ℕ → List ℕ → List ℕ
-under root parent name = if root then name else parent ++ (codes "." ++ name)
+abbrev pub name_under : Bool → List ℕ → List ℕ → List ℕ
+name_under root parent name = if root then name else parent ++ (codes "." ++ name)
 
 -- a dot for the root; an index stands in brackets, an unknown key is a question mark, and an alias adds nothing
 abbrev pub path_text : Path → List ℕ
 path_text Root = codes "."
 path_text (Seq' p parent index) = path_text parent ++ (codes "[" ++ (decimal index ++ codes "]"))
-path_text (Map' p parent key) = under (is_root parent) (path_text parent) key.now
+path_text (Map' p parent key) = name_under (is_root parent) (path_text parent) key.now
 path_text (Alias' p parent) = path_text parent
-path_text (Unknown' p parent) = under (is_root parent) (path_text parent) (codes "?")
+path_text (Unknown' p parent) = name_under (is_root parent) (path_text parent) (codes "?")

@@ -14,25 +14,25 @@ use Rattle.yaml_run.proofs.ReadingLaws.{lines-read}
 use Rattle.yaml_run.proofs.RunLaws as run
 use Rattle.yaml_case.specs.Arguments.{WriteLimits, AskForNothing}
 use Rattle.yaml_case.specs.Arguments.Ask.{shape_alone, shape_within}
-use Rattle.yaml_case.specs.Replies.{IsReply, IsAnswer, IsAnswerTo}
-use Rattle.yaml_case.specs.Replies.IsAnswer.{bad_argument, reply}
+use Rattle.yaml_case.specs.Replies.{IsReply, IsAnswerByName, IsAnswerTo}
+use Rattle.yaml_case.specs.Replies.IsAnswerByName.{bad_argument, reply}
 use Rattle.yaml_case.specs.Replies.IsAnswerTo.{bad_arguments, asked}
 
 -- no input matters to a bad argument
 pub refuses : (name : List ℕ) (limits : PlainLimits) (input : List ℕ) (ended : Status) → IsNoName name → ended
     ≡ status.Refused
-    → IsAnswer name limits input ended (codes "bad argument")
+    → IsAnswerByName name limits input ended (codes "bad argument")
 refuses name limits input ended none e = bad_argument none e refl
 
 -- nor to the want of memory
 pub wants_memory : (shape : Named) (name : List ℕ) (limits : PlainLimits) (input : List ℕ) (ended : Status)
     → name_of shape ≡ name
-    → ended ≡ status.Fault → IsAnswer name limits input ended (codes "fault: out of memory")
+    → ended ≡ status.Fault → IsAnswerByName name limits input ended (codes "fault: out of memory")
 wants_memory shape name limits input ended n e = reply shape n (out_of_memory e refl)
 
 -- a reply to an input answers the name of its shape
 pub replies : (shape : Named) (name : List ℕ) (limits : PlainLimits) (input : List ℕ) (ended : Status) (text : List ℕ)
-    → name_of shape ≡ name → IsReply shape limits input ended text → IsAnswer name limits input ended text
+    → name_of shape ≡ name → IsReply shape limits input ended text → IsAnswerByName name limits input ended text
 replies shape name limits input ended text n r = reply shape n r
 
 -- arguments that ask for nothing are refused
@@ -85,7 +85,7 @@ none_alone words name is none = λ shape e. none shape default_limits (shape_alo
 
 -- a name alone is answered within the default's limits
 pub answers_alone : (words : List (List ℕ)) (name input : List ℕ) (ended : Status) (text : List ℕ) → words ≡ name ∷ []
-    → IsAnswer name default_limits input ended text → IsAnswerTo words input ended text
+    → IsAnswerByName name default_limits input ended text → IsAnswerTo words input ended text
 answers_alone words name input ended text is (bad_argument none e t) =
     bad_arguments (unknown_alone words name is none) e t
 answers_alone words name input ended text is (reply shape named r) =
@@ -112,14 +112,14 @@ module _ (words : List (List ℕ)) (name nesting follows : List ℕ) (is : words
 
   -- and a name with limits is answered within them
   pub answers_within : (limits : PlainLimits) (input : List ℕ) (ended : Status) (text : List ℕ)
-      → WriteLimits nesting follows limits → IsAnswer name limits input ended text → IsAnswerTo words input ended text
+      → WriteLimits nesting follows limits → IsAnswerByName name limits input ended text → IsAnswerTo words input ended text
   answers_within limits input ended text w (bad_argument none e t) = bad_arguments (unknown_within none) e t
   answers_within limits input ended text w (reply shape named r) =
       asked shape limits (shape_within nesting follows (is ∙ ap (λ n. n ∷ nesting ∷ follows ∷ []) (sym named)) w) r
 
 -- an answer to a name, or to arguments, is no failed read
 pub answer-read : (name : List ℕ) (limits : PlainLimits) (input : List ℕ) (ended : Status) (text : List ℕ)
-    → IsAnswer name limits input ended text → ended ≢ status.ReadFailed
+    → IsAnswerByName name limits input ended text → ended ≢ status.ReadFailed
 answer-read name limits input ended text (bad_argument none e t) = λ f. let same = sym e ∙ f in absurd cc
 answer-read name limits input ended text (reply shape named r) =
     lines-read limits (table_of shape) (first_shape shape) input ended text r

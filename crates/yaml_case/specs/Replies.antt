@@ -13,12 +13,12 @@ abbrev pub IsReply : (shape : Named) → PlainLimits → (input : List ℕ) → 
 IsReply shape limits input ended text = IsReading limits (table_of shape) (first_shape shape) input ended text
 
 -- the same for a name, limits and an input
-pub data IsAnswer (name : List ℕ) (limits : PlainLimits) (input : List ℕ) (ended : Status)
+pub data IsAnswerByName (name : List ℕ) (limits : PlainLimits) (input : List ℕ) (ended : Status)
     (text : List ℕ) : Type 0 where
   bad_argument : IsNoName name → ended ≡ status.Refused → text ≡ codes "bad argument"
-      → IsAnswer name limits input ended text
+      → IsAnswerByName name limits input ended text
   reply : (shape : Named) → name_of shape ≡ name → IsReply shape limits input ended text
-      → IsAnswer name limits input ended text
+      → IsAnswerByName name limits input ended text
 
 -- the same for the arguments of the program and an input
 pub data IsAnswerTo (arguments : List (List ℕ)) (input : List ℕ) (ended : Status) (text : List ℕ) : Type 0 where

@@ -1,7 +1,7 @@
 //! The reply to arguments and an input. Nothing is written here.
 
 ghost use Rattle.std.specs.Prelude.{◌≡◌, ◌∷◌, [], ◌++◌, List, ℕ, map, string_bytes, IfOk, IfSome};
-ghost use Rattle.yaml_case.specs.Replies.{IsAnswer, IsAnswerTo};
+ghost use Rattle.yaml_case.specs.Replies.{IsAnswerByName, IsAnswerTo};
 ghost use Rattle.yaml_case.specs.Arguments.{AskForNothing};
 ghost use Rattle.yaml_run.specs.Printed.{line_of, status_of};
 ghost use Rattle.yaml_run.specs.Shapes.{IsNoName};
@@ -26,7 +26,7 @@ pub fn reply<R: Read>(
     ensures answers { IfOk result (λ answer. (text : List ℕ) × (input : List ℕ)
         × (line_of answer ≡ text ++ 10 ∷ [])
         × IfSome (R.remaining reader.old) (λ bytes. input ≡ bytes)
-        × IsAnswer name.now limits input (status_of answer) text) }
+        × IsAnswerByName name.now limits input (status_of answer) text) }
     ensures unread { IsNoName name.now → reader.new ≡ reader.old }
 {
     let Some(named) = Named::find(name) else {

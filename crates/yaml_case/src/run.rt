@@ -2,7 +2,7 @@
 
 ghost use Rattle.std.specs.Prelude.{◌≡◌, ◌≢◌, ◌∷◌, [], ◌++◌, List, ℕ, map, string_bytes, IfSome};
 ghost use Rattle.std.specs.IoError.{error_kind};
-ghost use Rattle.yaml_case.specs.Replies.{IsAnswer, IsAnswerTo};
+ghost use Rattle.yaml_case.specs.Replies.{IsAnswerByName, IsAnswerTo};
 ghost use Rattle.yaml_read.specs.TreeReader.{default_limits};
 ghost use Rattle.yaml_case.specs.Arguments.{AskForNothing};
 ghost use Rattle.yaml_run.specs.Printed.{Prints, line_of};
@@ -27,7 +27,7 @@ pub fn run<R: Read, W: Write>(alloc: Global, name: &str, reader: &mut R, writer:
     ensures prints { result ≢ Status.ReadFailed
         → (text : List ℕ) × (input : List ℕ) × (ended : PlainStatus)
         × IfSome (R.remaining reader.old) (λ bytes. input ≡ bytes)
-        × IsAnswer name.now default_limits input ended text
+        × IsAnswerByName name.now default_limits input ended text
         × Prints (W.contents writer.old) (W.contents writer.new) (text ++ 10 ∷ []) ended result }
 
     // Where the reader failed, nothing is written.
@@ -50,7 +50,7 @@ pub fn run_limited<R: Read, W: Write>(
     ensures prints { result ≢ Status.ReadFailed
         → (text : List ℕ) × (input : List ℕ) × (ended : PlainStatus)
         × IfSome (R.remaining reader.old) (λ bytes. input ≡ bytes)
-        × IsAnswer name.now limits input ended text
+        × IsAnswerByName name.now limits input ended text
         × Prints (W.contents writer.old) (W.contents writer.new) (text ++ 10 ∷ []) ended result }
     ensures unwritten { result ≡ Status.ReadFailed → writer.new ≡ writer.old }
     ensures unread { IsNoName name.now → reader.new ≡ reader.old }

@@ -15,6 +15,6 @@ pub record HandsOut (old : PlainReader) (found : Option PlainDocument) (new : Pl
   pub failed : new.failed ≡ false
 
 -- memory was wanting, and no document was handed out
-pub record Fails (old new : PlainReader) : Type 0 where
+pub record RunsOutOfMemory (old new : PlainReader) : Type 0 where
   pub handed : new.handed ≡ old.handed
   pub failed : new.failed ≡ true

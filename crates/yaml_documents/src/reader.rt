@@ -2,7 +2,7 @@
 
 ghost use Rattle.std.specs.Prelude.{◌≡◌, ◌++◌, IfErr, IfOk, IsErr, None, Ok, option_to_list, true};
 ghost use Rattle.yaml_base.specs.Answer.{is_memory};
-ghost use Rattle.yaml_documents.specs.HandingOut.{Fails, HandsOut};
+ghost use Rattle.yaml_documents.specs.HandingOut.{HandsOut, RunsOutOfMemory};
 ghost use Rattle.yaml_documents.specs.PlainReader.{fresh};
 
 use crate::ahead::Ahead;
@@ -82,7 +82,7 @@ impl<'de> DocumentReader<'de> {
     pub fn next_document(&mut self) -> Result<Option<Document<'de>>>
         ensures text { self.new.text ≡ self.old.text }
         ensures ok { IfOk result (λ found. HandsOut self.old found self.new) }
-        ensures err { IfErr result (λ cause. (is_memory cause ≡ true) × Fails self.old self.new) }
+        ensures err { IfErr result (λ cause. (is_memory cause ≡ true) × RunsOutOfMemory self.old self.new) }
 
         ensures over { self.old.over ≡ true → (result ≡ Ok None) × (self.new ≡ self.old) }
         ensures failed { self.old.failed ≡ true → IsErr result }

@@ -12,7 +12,7 @@ use Rattle.yaml_base.specs.LineBreaks.{begins_with_break}
 use Rattle.yaml_base.specs.QuotedLines.{unescaped_behind, unescaped, before, none, digits, character_code}
 use Rattle.yaml_base.specs.QuotedLines.{character_before}
 use Rattle.yaml_emit.specs.Characters.{is_printable}
-use Rattle.yaml_emit.specs.PrintedTexts.{hexadecimal, code_digits, escape_letter, escaped}
+use Rattle.yaml_emit.specs.PrintedTexts.{hex_digits, code_digits, escape_letter, escaped_character}
 use Rattle.yaml_emit.proofs.ByItself.{EndsNoLine, shown, top_of}
 
 -- ---- bytes between double quotes
@@ -54,7 +54,7 @@ digit_last code d t h = rw (digit d h, lt-ltb d 16 h) refl
 
 -- the two digits of a byte, which are not the last
 byte_more : (left code b : ℕ) (t : List ℕ) → b < 256 → (left == 1) ≡ false → (left - 1 == 1) ≡ false
-    → unescaped_behind (digits left code) (hexadecimal b ++ t)
+    → unescaped_behind (digits left code) (hex_digits b ++ t)
     ≡ unescaped_behind (digits (left - 1 - 1) (256 * code + b)) t
 byte_more left code b t h one two =
     let value : 16 * (16 * code + b / 16) + b % 16 ≡ 256 * code + b = omega arith in
@@ -64,7 +64,7 @@ byte_more left code b t h one two =
 
 -- the two digits of the last byte
 byte_last : (code b : ℕ) (t : List ℕ) → b < 256
-    → unescaped_behind (digits 2 code) (hexadecimal b ++ t)
+    → unescaped_behind (digits 2 code) (hex_digits b ++ t)
     ≡ character_before (character_code (256 * code + b)) (unescaped_behind none t)
 byte_last code b t h =
     let value : 16 * (16 * code + b / 16) + b % 16 ≡ 256 * code + b = omega arith in
@@ -83,7 +83,7 @@ coded c t h =
       | inl two ↦ rw (lt-ltb c 0x100 two) (byte_last 0 c t two ∙ is (256 * 0 + c) (omega arith))
       | inr more ↦ elim (cases_lt c 0x10000) [
         | inl four ↦ rw (le-ltb c 0x100 more, lt-ltb c 0x10000 four) (
-            byte_more 4 0 (c / 0x100) (hexadecimal (c % 0x100) ++ t) (omega arith) refl refl
+            byte_more 4 0 (c / 0x100) (hex_digits (c % 0x100) ++ t) (omega arith) refl refl
             ∙ byte_last (256 * 0 + c / 0x100) (c % 0x100) t (omega arith)
             ∙ is (256 * (256 * 0 + c / 0x100) + c % 0x100) (omega arith))
         | inr eight ↦
@@ -91,9 +91,9 @@ coded c t h =
             let high = 256 * (256 * 0 + 0) + c / 0x10000 % 0x100 in
             let middle = 256 * high + c / 0x100 % 0x100 in
             rw (le-ltb c 0x100 more, le-ltb c 0x10000 eight) (
-            byte_more 8 0 0 (hexadecimal (c / 0x10000 % 0x100) ++ (hexadecimal (c / 0x100 % 0x100) ++ (hexadecimal (c % 0x100) ++ t))) (omega arith) refl refl
-            ∙ byte_more 6 (256 * 0 + 0) (c / 0x10000 % 0x100) (hexadecimal (c / 0x100 % 0x100) ++ (hexadecimal (c % 0x100) ++ t)) (omega arith) refl refl
-            ∙ byte_more 4 high (c / 0x100 % 0x100) (hexadecimal (c % 0x100) ++ t) (omega arith) refl refl
+            byte_more 8 0 0 (hex_digits (c / 0x10000 % 0x100) ++ (hex_digits (c / 0x100 % 0x100) ++ (hex_digits (c % 0x100) ++ t))) (omega arith) refl refl
+            ∙ byte_more 6 (256 * 0 + 0) (c / 0x10000 % 0x100) (hex_digits (c / 0x100 % 0x100) ++ (hex_digits (c % 0x100) ++ t)) (omega arith) refl refl
+            ∙ byte_more 4 high (c / 0x100 % 0x100) (hex_digits (c % 0x100) ++ t) (omega arith) refl refl
             ∙ byte_last middle (c % 0x100) t (omega arith) ∙ is (256 * middle + c % 0x100) (omega arith))
       ]
     ]
@@ -102,7 +102,7 @@ coded c t h =
 
 -- what is printed of a character is read as that character
 abbrev Passes : ℕ → Type 0
-Passes c = (t : List ℕ) → unescaped_behind none (escaped c ++ t) ≡ before (encode c) (unescaped_behind none t)
+Passes c = (t : List ℕ) → unescaped_behind none (escaped_character c ++ t) ≡ before (encode c) (unescaped_behind none t)
 
 passes_unnamed : (c : ℕ) → scalar c ≡ true → Unnamed c → Passes c
 passes_unnamed c h u t = rw u.letter (elim (cases_Bool (is_printable c)) [
@@ -203,12 +203,12 @@ passes c h = elim (named c) [ inl p ↦ p | inr u ↦ passes_unnamed c h u ]
 
 -- ---- the whole text
 
-unescaped-all : (cs : List ℕ) → scalars cs ≡ true → unescaped (flat_map escaped cs) ≡ Some (encodes cs)
+unescaped-all : (cs : List ℕ) → scalars cs ≡ true → unescaped (flat_map escaped_character cs) ≡ Some (encodes cs)
 unescaped-all [] h = refl
 unescaped-all (c ∷ cs) h =
     let p = and_parts _ _ h in
-    passes c p.0 (flat_map escaped cs) ∙ ap (before (encode c)) (unescaped-all cs p.1)
+    passes c p.0 (flat_map escaped_character cs) ∙ ap (before (encode c)) (unescaped-all cs p.1)
 
 -- what is printed between double quotes stands for the text
-pub unescaped-printed : (text : List ℕ) → IsUtf8 text → unescaped (flat_map escaped (chars text)) ≡ Some text
+pub unescaped-printed : (text : List ℕ) → IsUtf8 text → unescaped (flat_map escaped_character (chars text)) ≡ Some text
 unescaped-printed text u = unescaped-all (chars text) (scalars-chars text u) ∙ ap Some (encodes-chars text u)

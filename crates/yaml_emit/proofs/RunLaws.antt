@@ -4,15 +4,15 @@ use Rattle.std.specs.Prelude.{IsErrAnd}
 use Rattle.yaml_base.specs.EmitEvents.{PlainEmit, emit_sequence_start, emit_sequence_end}
 use Rattle.yaml_base.specs.EmitEvents.{emit_mapping_start, emit_mapping_end}
 use Rattle.yaml_base.specs.EmitTree.{EmitNode}
-use Rattle.yaml_emit.specs.LayoutMachine.{Laid, Steps, Takes, hollow, run, step, with_node}
+use Rattle.yaml_emit.specs.LayoutMachine.{Laid, Steps, Takes, hollow, printed_from, step, with_node_text}
 use Rattle.yaml_emit.specs.declared.stop.Stop.{Stop}
 use Rattle.yaml_emit.specs.declared.stop.Stop.TheVariants.{OutOfPlace, Memory}
 
 abbrev run_by : Laid → PlainEmit → List PlainEmit → Option (EmitNode × List PlainEmit) → Option (List ℕ)
-run_by s e es None = run (step s e) es
-run_by s e es (Some found) = run (with_node s found.0) found.1
+run_by s e es None = printed_from (step s e) es
+run_by s e es (Some found) = printed_from (with_node_text s found.0) found.1
 
-run_is : (s : Laid) (e : PlainEmit) (es : List PlainEmit) → run (Some s) (e ∷ es) ≡ run_by s e es (hollow e es)
+run_is : (s : Laid) (e : PlainEmit) (es : List PlainEmit) → printed_from (Some s) (e ∷ es) ≡ run_by s e es (hollow e es)
 run_is s (emit_sequence_start tag) (emit_sequence_end ∷ es) = refl
 run_is s (emit_mapping_start tag) (emit_mapping_end ∷ es) = refl
 run_is s (emit_sequence_start tag) [] = refl
@@ -22,23 +22,23 @@ run_is s e (next ∷ es) = refl
 
 -- an empty collection is printed at once
 pub run_hollow : (s : Laid) (e : PlainEmit) (es left : List PlainEmit) (n : EmitNode)
-    → hollow e es ≡ Some (n, left) → run (Some s) (e ∷ es) ≡ run (with_node s n) left
+    → hollow e es ≡ Some (n, left) → printed_from (Some s) (e ∷ es) ≡ printed_from (with_node_text s n) left
 run_hollow s e es left n is = run_is s e es ∙ ap (run_by s e es) is
 
 -- any other event is printed by itself
 pub run_step : (s : Laid) (e : PlainEmit) (es : List PlainEmit)
-    → hollow e es ≡ None → run (Some s) (e ∷ es) ≡ run (step s e) es
+    → hollow e es ≡ None → printed_from (Some s) (e ∷ es) ≡ printed_from (step s e) es
 run_step s e es is = run_is s e es ∙ ap (run_by s e es) is
 
 stopped_by : {A : Type 0} (left_in : A → List PlainEmit) (wanted : Option Laid) (whole : Option (List ℕ)) (new : Laid)
-    (es : List PlainEmit) (stop : Stop) → whole ≡ run wanted es → Steps {A = Unit {0}} wanted new (Err stop)
+    (es : List PlainEmit) (stop : Stop) → whole ≡ printed_from wanted es → Steps {A = Unit {0}} wanted new (Err stop)
     → Takes {A = A} left_in whole new (Err stop)
-stopped_by left_in wanted whole new es OutOfPlace is steps = is ∙ ap (λ o. run o es) steps
+stopped_by left_in wanted whole new es OutOfPlace is steps = is ∙ ap (λ o. printed_from o es) steps
 stopped_by left_in wanted whole new es Memory is steps = tt
 
 -- a refused step ends it
 pub stopped : {A : Type 0} (left_in : A → List PlainEmit) (wanted : Option Laid) (whole : Option (List ℕ)) (new : Laid)
-    (es : List PlainEmit) (stop : Stop) (result : Result A Stop) → whole ≡ run wanted es
+    (es : List PlainEmit) (stop : Stop) (result : Result A Stop) → whole ≡ printed_from wanted es
     → Steps {A = Unit {0}} wanted new (Err stop) → IsErrAnd result (λ given. given ≡ stop)
     → Takes left_in whole new result
 stopped left_in wanted whole new es stop (Ok left) is steps given = absurd given

@@ -6,7 +6,7 @@ use Rattle.std.specs.Prelude.{if◌then◌else◌}
 use Rattle.std.specs.Str.{IsUtf8, chars}
 use Rattle.yaml_base.specs.declared.emitter.AskedStyle.{AskedStyle}
 use Rattle.yaml_base.specs.declared.emitter.AskedStyle.TheVariants as asked
-use Rattle.yaml_emit.specs.PrintedTexts.{escaped, single_rest}
+use Rattle.yaml_emit.specs.PrintedTexts.{escaped_character, single_rest}
 use Rattle.yaml_emit.specs.Says.{Says}
 use Rattle.yaml_emit.specs.Scalars.{in_style}
 use Rattle.yaml_emit.specs.Styles.{chosen_style, fits_block, fits_plain, fits_single_quotes, plain_or_quotes}
@@ -26,7 +26,7 @@ module _ (indent : ℕ) (text : List ℕ) (u : IsUtf8 text) where
   one_of false one other h g = g
 
   double : Said DoubleQuoted
-  double = (flat_map escaped (chars text), refl, unescaped-printed text u)
+  double = (flat_map escaped_character (chars text), refl, unescaped-printed text u)
 
   single : Said SingleQuoted
   single alone = (single_rest indent false (chars text), refl, undoubled-printed indent text u alone)

@@ -10,12 +10,14 @@ use Rattle.yaml_base.specs.EmitEvents.{emit_mapping_start, emit_mapping_end}
 use Rattle.yaml_base.specs.EmitTree.{EmitNode, emit_scalar_node, emit_sequence_node, emit_mapping_node}
 use Rattle.yaml_base.specs.EmitTree.{EmitNodes, no_emit_nodes, emit_node, EmitPairs, no_emit_pairs, emit_pair}
 use Rattle.yaml_base.specs.EmitTree.{emit_node_events, emit_nodes_events, emit_pairs_events, emit_documents_events}
-use Rattle.yaml_emit.specs.LayoutMachine.{State, before_stream, between_documents, before_root, within, after_stream}
-use Rattle.yaml_emit.specs.LayoutMachine.{Laid, unbegun, run, begun, with_text, with_node, with_open, opened_in}
-use Rattle.yaml_emit.specs.LayoutMachine.{before_part, part_place, parts_column, root_lead, turned}
+use Rattle.yaml_emit.specs.LayoutMachine.{LayoutState, before_stream, between_documents, before_root, within}
+use Rattle.yaml_emit.specs.LayoutMachine.{after_stream}
+use Rattle.yaml_emit.specs.LayoutMachine.{Laid, unbegun, printed_from, begun, with_text, with_node_text, with_open}
+use Rattle.yaml_emit.specs.LayoutMachine.{with_collection}
+use Rattle.yaml_emit.specs.LayoutMachine.{margin_and_indicator, part_begun, part_place, parts_column, root_lead}
 use Rattle.yaml_emit.specs.Places.{root_place, item_place, far_place, key_place, value_place, tag_in_line, behind_tag}
 use Rattle.yaml_emit.specs.Places.{margin}
-use Rattle.yaml_emit.specs.StreamTexts.{tag_of, is_simple, node_text, items_text, pairs_text, later_document}
+use Rattle.yaml_emit.specs.StreamTexts.{tag_or_empty, is_simple_key, node_text, items_text, pairs_text, later_document}
 use Rattle.yaml_emit.specs.StreamTexts.{emit_stream_events, stream_text}
 use Rattle.yaml_emit.specs.declared.open.Awaits.{Awaits}
 use Rattle.yaml_emit.specs.declared.open.Awaits.TheVariants.{Item, Key, Value, FarValue}
@@ -24,7 +26,7 @@ use Rattle.yaml_emit.specs.declared.open.Lead.TheVariants.{Fresh, Text}
 use Rattle.yaml_emit.specs.declared.open.Open.{Open}
 use Rattle.yaml_emit.specs.declared.open.Place.{Place}
 
-abbrev standing : List ℕ → (first : Bool) → State → Laid
+abbrev standing : List ℕ → (first : Bool) → LayoutState → Laid
 standing out first state = record { out = out; first = first; state = state }
 
 abbrev opening : Awaits → (column : ℕ) → Lead → Open
@@ -33,8 +35,8 @@ opening awaits column lead = record { awaits = awaits; column = column; lead = l
 -- the events that are left are printed as this text, and then the rest, with the innermost collection closed
 abbrev PrintsParts : Awaits → Bool → (parts : Lead → ℕ → List ℕ) → (more rest : List PlainEmit) → Type 0
 PrintsParts awaits first parts more rest = (o : List ℕ) (l : Lead) (col : ℕ) (outer : List Open)
-    → run (Some (standing o first (within (opening awaits col l ∷ outer)))) more
-    ≡ run (Some (standing (o ++ parts l col) first (within outer))) rest
+    → printed_from (Some (standing o first (within (opening awaits col l ∷ outer)))) more
+    ≡ printed_from (Some (standing (o ++ parts l col) first (within outer))) rest
 
 -- lists that are joined one after another
 four : (o m d t r : List ℕ) → ((o ++ (m ++ d)) ++ t) ++ r ≡ o ++ (m ++ (d ++ (t ++ r)))
@@ -59,16 +61,16 @@ far_pair o m q k f c v r =
 
 -- a sequence that has items is opened
 at_sequence : (n : EmitNode) (s : Laid) (tag : Option (List ℕ)) (fs more : List PlainEmit)
-    → run (Some s) (emit_sequence_start tag ∷ ((emit_node_events n ++ fs) ++ more))
-    ≡ run (with_open s (tag_of tag) Item) ((emit_node_events n ++ fs) ++ more)
+    → printed_from (Some s) (emit_sequence_start tag ∷ ((emit_node_events n ++ fs) ++ more))
+    ≡ printed_from (with_open s (tag_or_empty tag) Item) ((emit_node_events n ++ fs) ++ more)
 at_sequence (emit_scalar_node t text style) s tag fs more = refl
 at_sequence (emit_sequence_node t nodes) s tag fs more = refl
 at_sequence (emit_mapping_node t pairs) s tag fs more = refl
 
 -- a mapping that has pairs is opened
 at_mapping : (n : EmitNode) (s : Laid) (tag : Option (List ℕ)) (fs more : List PlainEmit)
-    → run (Some s) (emit_mapping_start tag ∷ ((emit_node_events n ++ fs) ++ more))
-    ≡ run (with_open s (tag_of tag) Key) ((emit_node_events n ++ fs) ++ more)
+    → printed_from (Some s) (emit_mapping_start tag ∷ ((emit_node_events n ++ fs) ++ more))
+    ≡ printed_from (with_open s (tag_or_empty tag) Key) ((emit_node_events n ++ fs) ++ more)
 at_mapping (emit_scalar_node t text style) s tag fs more = refl
 at_mapping (emit_sequence_node t nodes) s tag fs more = refl
 at_mapping (emit_mapping_node t pairs) s tag fs more = refl
@@ -81,20 +83,20 @@ behind awaits tag parts place = tag_in_line place.lead tag
 -- a collection is opened in a place, and its parts and its end are printed
 opened_at : (awaits : Awaits) (tag : List ℕ) (parts : Lead → ℕ → List ℕ) (out : List ℕ) (first : Bool)
     (outer : List Open) (place : Place) (more rest : List PlainEmit) → PrintsParts awaits first parts more rest
-    → run (Some (opened_in tag awaits (standing out first (within outer)) place)) more
-    ≡ run (Some (standing (out ++ behind awaits tag parts place) first (within outer))) rest
+    → printed_from (Some (with_collection tag awaits (standing out first (within outer)) place)) more
+    ≡ printed_from (Some (standing (out ++ behind awaits tag parts place) first (within outer))) rest
 opened_at awaits tag parts out first outer place more rest ih =
     ih (out ++ tag_in_line place.lead tag) (behind_tag place.lead tag)
     (parts_column awaits place (behind_tag place.lead tag)) outer
-    ∙ ap (λ x. run (Some (standing x first (within outer))) rest)
+    ∙ ap (λ x. printed_from (Some (standing x first (within outer))) rest)
     (append_assoc out (tag_in_line place.lead tag)
     (parts (behind_tag place.lead tag) (parts_column awaits place (behind_tag place.lead tag))))
 
 -- the same wherever a node may stand
-opened_then : (awaits : Awaits) (tag : List ℕ) (parts : Lead → ℕ → List ℕ) (out : List ℕ) (first : Bool) (st : State)
+opened_then : (awaits : Awaits) (tag : List ℕ) (parts : Lead → ℕ → List ℕ) (out : List ℕ) (first : Bool) (st : LayoutState)
     (more rest : List PlainEmit) → PrintsParts awaits first parts more rest
-    → run (with_open (standing out first st) tag awaits) more
-    ≡ run (option_map (λ b. with_text b.0 (behind awaits tag parts b.1)) (begun (standing out first st) false)) rest
+    → printed_from (with_open (standing out first st) tag awaits) more
+    ≡ printed_from (option_map (λ b. with_text b.0 (behind awaits tag parts b.1)) (begun (standing out first st) false)) rest
 opened_then awaits tag parts out first before_stream more rest ih = refl
 opened_then awaits tag parts out first between_documents more rest ih = refl
 opened_then awaits tag parts out first after_stream more rest ih = refl
@@ -102,36 +104,36 @@ opened_then awaits tag parts out first (within []) more rest ih = refl
 opened_then awaits tag parts out first before_root more rest ih =
     opened_at awaits tag parts out first [] (root_place (root_lead first)) more rest ih
 opened_then awaits tag parts out first (within (o ∷ outer)) more rest ih =
-    opened_at awaits tag parts (out ++ before_part o.awaits o.lead o.column false) first (turned o false ∷ outer)
+    opened_at awaits tag parts (out ++ margin_and_indicator o.awaits o.lead o.column false) first (part_begun o false ∷ outer)
     (part_place o.awaits o.column false) more rest ih
 
 -- a sequence, empty or not, is printed where its items are
 sequence_then : (nodes : EmitNodes) (tag : Option (List ℕ)) (s : Laid) (rest : List PlainEmit)
     → PrintsParts Item s.first (λ l col. items_text l col nodes)
     (emit_nodes_events nodes ++ (emit_sequence_end ∷ rest)) rest
-    → run (Some s) (emit_sequence_start tag ∷ ((emit_nodes_events nodes ++ emit_sequence_end ∷ []) ++ rest))
-    ≡ run (with_node s (emit_sequence_node tag nodes)) rest
+    → printed_from (Some s) (emit_sequence_start tag ∷ ((emit_nodes_events nodes ++ emit_sequence_end ∷ []) ++ rest))
+    ≡ printed_from (with_node_text s (emit_sequence_node tag nodes)) rest
 sequence_then no_emit_nodes tag s rest ih = refl
 sequence_then (emit_node n nodes) tag s rest ih =
-    ap (λ es. run (Some s) (emit_sequence_start tag ∷ es))
+    ap (λ es. printed_from (Some s) (emit_sequence_start tag ∷ es))
     (append_assoc (emit_node_events n ++ emit_nodes_events nodes) (emit_sequence_end ∷ []) rest)
     ∙ (at_sequence n s tag (emit_nodes_events nodes) (emit_sequence_end ∷ rest)
-    ∙ opened_then Item (tag_of tag) (λ l col. items_text l col (emit_node n nodes)) s.out s.first s.state
+    ∙ opened_then Item (tag_or_empty tag) (λ l col. items_text l col (emit_node n nodes)) s.out s.first s.state
     ((emit_node_events n ++ emit_nodes_events nodes) ++ (emit_sequence_end ∷ rest)) rest ih)
 
 -- a mapping, empty or not, is printed where its pairs are
 mapping_then : (pairs : EmitPairs) (tag : Option (List ℕ)) (s : Laid) (rest : List PlainEmit)
     → PrintsParts Key s.first (λ l col. pairs_text l col pairs)
     (emit_pairs_events pairs ++ (emit_mapping_end ∷ rest)) rest
-    → run (Some s) (emit_mapping_start tag ∷ ((emit_pairs_events pairs ++ emit_mapping_end ∷ []) ++ rest))
-    ≡ run (with_node s (emit_mapping_node tag pairs)) rest
+    → printed_from (Some s) (emit_mapping_start tag ∷ ((emit_pairs_events pairs ++ emit_mapping_end ∷ []) ++ rest))
+    ≡ printed_from (with_node_text s (emit_mapping_node tag pairs)) rest
 mapping_then no_emit_pairs tag s rest ih = refl
 mapping_then (emit_pair key value pairs) tag s rest ih =
-    ap (λ es. run (Some s) (emit_mapping_start tag ∷ es))
+    ap (λ es. printed_from (Some s) (emit_mapping_start tag ∷ es))
     (append_assoc (emit_node_events key ++ (emit_node_events value ++ emit_pairs_events pairs)) (emit_mapping_end ∷ [])
     rest)
     ∙ (at_mapping key s tag (emit_node_events value ++ emit_pairs_events pairs) (emit_mapping_end ∷ rest)
-    ∙ opened_then Key (tag_of tag) (λ l col. pairs_text l col (emit_pair key value pairs)) s.out s.first s.state
+    ∙ opened_then Key (tag_or_empty tag) (λ l col. pairs_text l col (emit_pair key value pairs)) s.out s.first s.state
     ((emit_node_events key ++ (emit_node_events value ++ emit_pairs_events pairs)) ++ (emit_mapping_end ∷ rest)) rest
     ih)
 
@@ -145,19 +147,19 @@ pair_text simple col key value =
 -- a key, its value and the pairs behind them are printed
 pair_then : (simple : Bool) (key value : EmitNode) (pairs : EmitPairs) (out : List ℕ) (first : Bool) (l : Lead)
     (col : ℕ) (outer : List Open) (more rest : List PlainEmit)
-    → ((s : Laid) (more : List PlainEmit) → run (Some s) (emit_node_events value ++ more)
-    ≡ run (with_node s value) more)
-    → ((o : List ℕ) → run (Some (standing o first (within (opening Key col Fresh ∷ outer)))) more
-    ≡ run (Some (standing (o ++ pairs_text Fresh col pairs) first (within outer))) rest)
-    → run (option_map (λ b. with_text b.0 (node_text b.1 key))
+    → ((s : Laid) (more : List PlainEmit) → printed_from (Some s) (emit_node_events value ++ more)
+    ≡ printed_from (with_node_text s value) more)
+    → ((o : List ℕ) → printed_from (Some (standing o first (within (opening Key col Fresh ∷ outer)))) more
+    ≡ printed_from (Some (standing (o ++ pairs_text Fresh col pairs) first (within outer))) rest)
+    → printed_from (option_map (λ b. with_text b.0 (node_text b.1 key))
     (begun (standing out first (within (opening Key col l ∷ outer))) simple)) (emit_node_events value ++ more)
-    ≡ run (Some (standing (out ++ (margin l col ++ (pair_text simple col key value ++ pairs_text Fresh col pairs)))
+    ≡ printed_from (Some (standing (out ++ (margin l col ++ (pair_text simple col key value ++ pairs_text Fresh col pairs)))
     first (within outer))) rest
 pair_then true key value pairs out first l col outer more rest ihv ihp =
     ihv (standing ((out ++ margin l col) ++ node_text (key_place col) key) first
     (within (opening Value col Fresh ∷ outer))) more
     ∙ (ihp ((((out ++ margin l col) ++ node_text (key_place col) key) ++ []) ++ node_text (value_place col) value)
-    ∙ ap (λ x. run (Some (standing x first (within outer))) rest)
+    ∙ ap (λ x. printed_from (Some (standing x first (within outer))) rest)
     (pair_in_line out (margin l col) (node_text (key_place col) key) (node_text (value_place col) value)
     (pairs_text Fresh col pairs)))
 pair_then false key value pairs out first l col outer more rest ihv ihp =
@@ -165,14 +167,14 @@ pair_then false key value pairs out first l col outer more rest ihv ihp =
     (within (opening FarValue col Fresh ∷ outer))) more
     ∙ (ihp ((((out ++ (margin l col ++ codes "?")) ++ node_text (far_place col) key)
     ++ (margin Fresh col ++ codes ":")) ++ node_text (far_place col) value)
-    ∙ ap (λ x. run (Some (standing x first (within outer))) rest)
+    ∙ ap (λ x. printed_from (Some (standing x first (within outer))) rest)
     (far_pair out (margin l col) (codes "?") (node_text (far_place col) key) (margin Fresh col) (codes ":")
     (node_text (far_place col) value) (pairs_text Fresh col pairs)))
 
 mutual
   -- the events of a node print the node
   prints_node : (n : EmitNode) (s : Laid) (rest : List PlainEmit)
-      → run (Some s) (emit_node_events n ++ rest) ≡ run (with_node s n) rest
+      → printed_from (Some s) (emit_node_events n ++ rest) ≡ printed_from (with_node_text s n) rest
   prints_node (emit_scalar_node tag text style) s rest = refl
   prints_node (emit_sequence_node tag nodes) s rest =
       sequence_then nodes tag s rest (λ o l col outer. prints_items nodes o s.first l col outer rest)
@@ -182,37 +184,37 @@ mutual
   -- the events of items and the end of their sequence print them
   prints_items : (nodes : EmitNodes) (out : List ℕ) (first : Bool) (l : Lead) (col : ℕ) (outer : List Open)
       (rest : List PlainEmit)
-      → run (Some (standing out first (within (opening Item col l ∷ outer))))
+      → printed_from (Some (standing out first (within (opening Item col l ∷ outer))))
       (emit_nodes_events nodes ++ (emit_sequence_end ∷ rest))
-      ≡ run (Some (standing (out ++ items_text l col nodes) first (within outer))) rest
+      ≡ printed_from (Some (standing (out ++ items_text l col nodes) first (within outer))) rest
   prints_items no_emit_nodes out first l col outer rest =
-      ap (λ x. run (Some (standing x first (within outer))) rest) (sym (append-nil out))
+      ap (λ x. printed_from (Some (standing x first (within outer))) rest) (sym (append-nil out))
   prints_items (emit_node n nodes) out first l col outer rest =
-      ap (λ es. run (Some (standing out first (within (opening Item col l ∷ outer)))) es)
+      ap (λ es. printed_from (Some (standing out first (within (opening Item col l ∷ outer)))) es)
       (append_assoc (emit_node_events n) (emit_nodes_events nodes) (emit_sequence_end ∷ rest))
       ∙ (prints_node n (standing out first (within (opening Item col l ∷ outer)))
       (emit_nodes_events nodes ++ (emit_sequence_end ∷ rest))
       ∙ (prints_items nodes ((out ++ (margin l col ++ codes "-")) ++ node_text (item_place col) n) first Fresh col outer
       rest
-      ∙ ap (λ x. run (Some (standing x first (within outer))) rest)
+      ∙ ap (λ x. printed_from (Some (standing x first (within outer))) rest)
       (four out (margin l col) (codes "-") (node_text (item_place col) n) (items_text Fresh col nodes))))
 
   -- the events of pairs and the end of their mapping print them
   prints_pairs : (pairs : EmitPairs) (out : List ℕ) (first : Bool) (l : Lead) (col : ℕ) (outer : List Open)
       (rest : List PlainEmit)
-      → run (Some (standing out first (within (opening Key col l ∷ outer))))
+      → printed_from (Some (standing out first (within (opening Key col l ∷ outer))))
       (emit_pairs_events pairs ++ (emit_mapping_end ∷ rest))
-      ≡ run (Some (standing (out ++ pairs_text l col pairs) first (within outer))) rest
+      ≡ printed_from (Some (standing (out ++ pairs_text l col pairs) first (within outer))) rest
   prints_pairs no_emit_pairs out first l col outer rest =
-      ap (λ x. run (Some (standing x first (within outer))) rest) (sym (append-nil out))
+      ap (λ x. printed_from (Some (standing x first (within outer))) rest) (sym (append-nil out))
   prints_pairs (emit_pair key value pairs) out first l col outer rest =
-      ap (λ es. run (Some (standing out first (within (opening Key col l ∷ outer)))) es)
+      ap (λ es. printed_from (Some (standing out first (within (opening Key col l ∷ outer)))) es)
       (append_assoc (emit_node_events key) (emit_node_events value ++ emit_pairs_events pairs) (emit_mapping_end ∷ rest)
       ∙ ap (λ es. emit_node_events key ++ es)
       (append_assoc (emit_node_events value) (emit_pairs_events pairs) (emit_mapping_end ∷ rest)))
       ∙ (prints_node key (standing out first (within (opening Key col l ∷ outer)))
       (emit_node_events value ++ (emit_pairs_events pairs ++ (emit_mapping_end ∷ rest)))
-      ∙ pair_then (is_simple key) key value pairs out first l col outer
+      ∙ pair_then (is_simple_key key) key value pairs out first l col outer
       (emit_pairs_events pairs ++ (emit_mapping_end ∷ rest)) rest (λ s more. prints_node value s more)
       (λ o. prints_pairs pairs o first Fresh col outer rest))
 
@@ -227,11 +229,11 @@ document_then root roots =
 
 -- the events of documents behind another one print them
 prints_documents : (roots : List EmitNode) (out : List ℕ)
-    → run (Some (standing out false between_documents)) (emit_documents_events roots ++ emit_stream_end ∷ [])
+    → printed_from (Some (standing out false between_documents)) (emit_documents_events roots ++ emit_stream_end ∷ [])
     ≡ Some (out ++ flat_map later_document roots)
 prints_documents [] out = ap Some (sym (append-nil out))
 prints_documents (root ∷ roots) out =
-    ap (λ es. run (Some (standing out false between_documents)) (emit_document_start ∷ es)) (document_then root roots)
+    ap (λ es. printed_from (Some (standing out false between_documents)) (emit_document_start ∷ es)) (document_then root roots)
     ∙ (prints_node root (standing (out ++ codes "---") false before_root)
     (emit_document_end ∷ (emit_documents_events roots ++ emit_stream_end ∷ []))
     ∙ (prints_documents roots ((out ++ codes "---") ++ node_text (root_place Text) root)
@@ -240,10 +242,10 @@ prints_documents (root ∷ roots) out =
     ∙ append_assoc out (later_document root) (flat_map later_document roots))))
 
 -- the events of a stream print its text
-pub prints_stream : (roots : List EmitNode) → run (Some unbegun) (emit_stream_events roots) ≡ Some (stream_text roots)
+pub prints_stream : (roots : List EmitNode) → printed_from (Some unbegun) (emit_stream_events roots) ≡ Some (stream_text roots)
 prints_stream [] = refl
 prints_stream (root ∷ roots) =
-    ap (λ es. run (Some unbegun) (emit_stream_start ∷ emit_document_start ∷ es)) (document_then root roots)
+    ap (λ es. printed_from (Some unbegun) (emit_stream_start ∷ emit_document_start ∷ es)) (document_then root roots)
     ∙ (prints_node root (standing [] true before_root)
     (emit_document_end ∷ (emit_documents_events roots ++ emit_stream_end ∷ []))
     ∙ prints_documents roots (node_text (root_place Fresh) root))

@@ -1,6 +1,6 @@
 -- Where nodes stand, and what stands before them. A column is counted from 0.
 use Rattle.std.specs.Prelude.{ℕ, ◌+◌, true, false, List, [], ◌∷◌, ◌++◌, replicate}
-use Rattle.yaml_emit.specs.Tags.{tag_text}
+use Rattle.yaml_emit.specs.Tags.{printed_tag}
 use Rattle.yaml_emit.specs.declared.open.Lead.{Lead}
 use Rattle.yaml_emit.specs.declared.open.Lead.TheVariants.{Fresh, Indicator, Text}
 use Rattle.yaml_emit.specs.declared.open.Place.{Place}
@@ -39,7 +39,7 @@ in_line lead (c ∷ cs) = blank lead ++ (c ∷ cs)
 -- the tag of a node in its line; an empty tag is none
 abbrev pub tag_in_line : Lead → List ℕ → List ℕ
 tag_in_line lead [] = []
-tag_in_line lead (c ∷ cs) = blank lead ++ tag_text (c ∷ cs)
+tag_in_line lead (c ∷ cs) = blank lead ++ printed_tag (c ∷ cs)
 
 -- what stands before the rest of a node that has this tag
 abbrev pub behind_tag : Lead → List ℕ → Lead

@@ -5,11 +5,11 @@ use Rattle.std.specs.List.{flat_map}
 use Rattle.std.specs.Fmt.{digit_glyph}
 use Rattle.std.specs.Str.{chars}
 use Rattle.yaml_emit.specs.Characters.{is_printable}
-use Rattle.yaml_emit.specs.Styles.{is_first, is_last}
+use Rattle.yaml_emit.specs.Styles.{ends_with_byte, is_first}
 
 -- the two hexadecimal digits of a byte
-abbrev pub hexadecimal : ℕ → List ℕ
-hexadecimal byte = digit_glyph true (byte / 16) ∷ digit_glyph true (byte % 16) ∷ []
+abbrev pub hex_digits : ℕ → List ℕ
+hex_digits byte = digit_glyph true (byte / 16) ∷ digit_glyph true (byte % 16) ∷ []
 
 -- the letter that stands behind a backslash for a character
 abbrev pub escape_letter : ℕ → Option ℕ
@@ -23,10 +23,10 @@ escape_letter c =
 -- a code by its digits: two behind `x`, four behind `u` or eight behind `U`
 abbrev pub code_digits : ℕ → List ℕ
 code_digits c =
-    if nat_lt c 0x100 then 120 ∷ hexadecimal c
-    else if nat_lt c 0x10000 then 117 ∷ (hexadecimal (c / 0x100) ++ hexadecimal (c % 0x100))
-    else 85 ∷ 48 ∷ 48 ∷ (hexadecimal (c / 0x10000 % 0x100)
-    ++ (hexadecimal (c / 0x100 % 0x100) ++ hexadecimal (c % 0x100)))
+    if nat_lt c 0x100 then 120 ∷ hex_digits c
+    else if nat_lt c 0x10000 then 117 ∷ (hex_digits (c / 0x100) ++ hex_digits (c % 0x100))
+    else 85 ∷ 48 ∷ 48 ∷ (hex_digits (c / 0x10000 % 0x100)
+    ++ (hex_digits (c / 0x100 % 0x100) ++ hex_digits (c % 0x100)))
 
 -- a character that has no letter: as it is where it is printable, else by its code
 abbrev pub shown_or_code : ℕ → Option ℕ → List ℕ
@@ -34,12 +34,12 @@ shown_or_code c (Some letter) = 92 ∷ letter ∷ []
 shown_or_code c None = if is_printable c then encode_utf8 c else 92 ∷ code_digits c
 
 -- a character between double quotes
-abbrev pub escaped : ℕ → List ℕ
-escaped c = shown_or_code c (escape_letter c)
+abbrev pub escaped_character : ℕ → List ℕ
+escaped_character c = shown_or_code c (escape_letter c)
 
 -- a text between double quotes
 abbrev pub double_quoted : List ℕ → List ℕ
-double_quoted text = 34 ∷ (flat_map escaped (chars text) ++ 34 ∷ [])
+double_quoted text = 34 ∷ (flat_map escaped_character (chars text) ++ 34 ∷ [])
 
 -- a character but a line feed between single quotes: a quote is doubled
 abbrev pub quote_doubled : ℕ → List ℕ
@@ -84,8 +84,8 @@ indentation_hint text = if is_first 32 text || is_first 10 text then 50 ∷ [] e
 -- `-` where the text ends with no line feed, and `+` where it ends with more than one, or is one
 abbrev pub chomping_hint : List ℕ → List ℕ
 chomping_hint text =
-    if not (is_last 10 text) then 45 ∷ []
-    else if length text == 1 || is_last 10 (take (length text - 1) text) then 43 ∷ [] else []
+    if not (ends_with_byte 10 text) then 45 ∷ []
+    else if length text == 1 || ends_with_byte 10 (take (length text - 1) text) then 43 ∷ [] else []
 
 -- a text as a literal block
 abbrev pub literal : (indent : ℕ) → List ℕ → List ℕ

@@ -14,5 +14,5 @@ in_style indent DoubleQuoted text = double_quoted text
 in_style indent Literal text = literal indent text
 
 -- the scalar of a text for which a style is asked, as a key in a line or not
-abbrev pub scalar_text : (indent : ℕ) → AskedStyle → (key : Bool) → List ℕ → List ℕ
-scalar_text indent asked key text = in_style indent (chosen_style text asked key) text
+abbrev pub styled_scalar : (indent : ℕ) → AskedStyle → (key : Bool) → List ℕ → List ℕ
+styled_scalar indent asked key text = in_style indent (chosen_style text asked key) text

@@ -9,7 +9,7 @@ use Rattle.yaml_base.specs.EmitTree.{emit_documents_events}
 use Rattle.yaml_base.specs.declared.emitter.AskedStyle.{AskedStyle}
 use Rattle.yaml_emit.specs.Places.{root_place, item_place, far_place, key_place, value_place, in_line, tag_in_line}
 use Rattle.yaml_emit.specs.Places.{behind_tag, margin}
-use Rattle.yaml_emit.specs.Scalars.{scalar_text}
+use Rattle.yaml_emit.specs.Scalars.{styled_scalar}
 use Rattle.yaml_emit.specs.Styles.{chosen_style, has_break}
 use Rattle.yaml_emit.specs.Tags.{tag_len}
 use Rattle.yaml_emit.specs.declared.open.Lead.{Lead}
@@ -19,21 +19,21 @@ use Rattle.yaml_emit.specs.declared.style.Style.{Style}
 use Rattle.yaml_emit.specs.declared.style.Style.TheVariants.{Literal}
 
 -- the bytes of a tag, none where there is no tag
-abbrev pub tag_of : Option (List ℕ) → List ℕ
-tag_of None = []
-tag_of (Some tag) = tag
+abbrev pub tag_or_empty : Option (List ℕ) → List ℕ
+tag_or_empty None = []
+tag_or_empty (Some tag) = tag
 
 -- a tag and a text of so many bytes are short enough for a key in a line with its value
 abbrev pub is_short : (tag : List ℕ) → ℕ → Bool
 is_short tag count = nat_le (tag_len tag + count) 128
 
 -- the node may be a key in a line with its value: an empty collection, or a scalar in which no line ends, that is short
-abbrev pub is_simple : EmitNode → Bool
-is_simple (emit_scalar_node tag text style) = not (has_break text) && is_short (tag_of tag) (length text)
-is_simple (emit_sequence_node tag no_emit_nodes) = is_short (tag_of tag) 0
-is_simple (emit_sequence_node tag (emit_node n nodes)) = false
-is_simple (emit_mapping_node tag no_emit_pairs) = is_short (tag_of tag) 0
-is_simple (emit_mapping_node tag (emit_pair key value pairs)) = false
+abbrev pub is_simple_key : EmitNode → Bool
+is_simple_key (emit_scalar_node tag text style) = not (has_break text) && is_short (tag_or_empty tag) (length text)
+is_simple_key (emit_sequence_node tag no_emit_nodes) = is_short (tag_or_empty tag) 0
+is_simple_key (emit_sequence_node tag (emit_node n nodes)) = false
+is_simple_key (emit_mapping_node tag no_emit_pairs) = is_short (tag_or_empty tag) 0
+is_simple_key (emit_mapping_node tag (emit_pair key value pairs)) = false
 
 -- what ends a scalar or an empty collection: `:` behind a key in a line, else the line's end, which a literal block has
 abbrev pub leaf_end : (key : Bool) → (literal : Bool) → List ℕ
@@ -52,9 +52,9 @@ is_literal Literal = true
 is_literal _ = false
 
 -- a scalar, whose further lines stand in by two blanks at least
-abbrev pub scalar_in : Place → (tag : List ℕ) → (text : List ℕ) → AskedStyle → List ℕ
-scalar_in place tag text style =
-    leaf_text place tag (scalar_text (max place.column 2) style place.key text)
+abbrev pub placed_scalar : Place → (tag : List ℕ) → (text : List ℕ) → AskedStyle → List ℕ
+placed_scalar place tag text style =
+    leaf_text place tag (styled_scalar (max place.column 2) style place.key text)
     (is_literal (chosen_style text style place.key))
 
 -- the column of the items of a sequence: only in the line of an indicator do they stand in by two in a mapping
@@ -67,16 +67,16 @@ items_column place Text = place.level
 -- A key that is no simple one stands behind `?`, and its value behind `:`.
 abbrev mutual
   pub node_text : Place → EmitNode → List ℕ
-  node_text place (emit_scalar_node tag text style) = scalar_in place (tag_of tag) text style
-  node_text place (emit_sequence_node tag no_emit_nodes) = leaf_text place (tag_of tag) (codes "[]") false
+  node_text place (emit_scalar_node tag text style) = placed_scalar place (tag_or_empty tag) text style
+  node_text place (emit_sequence_node tag no_emit_nodes) = leaf_text place (tag_or_empty tag) (codes "[]") false
   node_text place (emit_sequence_node tag (emit_node n nodes)) =
-      tag_in_line place.lead (tag_of tag)
-      ++ items_text (behind_tag place.lead (tag_of tag)) (items_column place (behind_tag place.lead (tag_of tag)))
+      tag_in_line place.lead (tag_or_empty tag)
+      ++ items_text (behind_tag place.lead (tag_or_empty tag)) (items_column place (behind_tag place.lead (tag_or_empty tag)))
       (emit_node n nodes)
-  node_text place (emit_mapping_node tag no_emit_pairs) = leaf_text place (tag_of tag) (codes "{}") false
+  node_text place (emit_mapping_node tag no_emit_pairs) = leaf_text place (tag_or_empty tag) (codes "{}") false
   node_text place (emit_mapping_node tag (emit_pair key value pairs)) =
-      tag_in_line place.lead (tag_of tag)
-      ++ pairs_text (behind_tag place.lead (tag_of tag)) place.column (emit_pair key value pairs)
+      tag_in_line place.lead (tag_or_empty tag)
+      ++ pairs_text (behind_tag place.lead (tag_or_empty tag)) place.column (emit_pair key value pairs)
 
   pub items_text : Lead → (column : ℕ) → EmitNodes → List ℕ
   items_text lead column no_emit_nodes = []
@@ -87,7 +87,7 @@ abbrev mutual
   pairs_text lead column no_emit_pairs = []
   pairs_text lead column (emit_pair key value pairs) =
       margin lead column
-      ++ ((if is_simple key then node_text (key_place column) key ++ node_text (value_place column) value
+      ++ ((if is_simple_key key then node_text (key_place column) key ++ node_text (value_place column) value
       else codes "?" ++ (node_text (far_place column) key
       ++ (margin Fresh column ++ (codes ":" ++ node_text (far_place column) value))))
       ++ pairs_text Fresh column pairs)

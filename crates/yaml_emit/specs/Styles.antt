@@ -28,8 +28,8 @@ abbrev pub is_first : ℕ → List ℕ → Bool
 is_first b text = is_byte b (slice_get text 0)
 
 -- the text ends with the byte
-abbrev pub is_last : ℕ → List ℕ → Bool
-is_last b text = is_byte b (slice_get text (length text - 1))
+abbrev pub ends_with_byte : ℕ → List ℕ → Bool
+ends_with_byte b text = is_byte b (slice_get text (length text - 1))
 
 -- `b` stands behind `a` somewhere in the text, or is its first byte where `a` stands before it
 abbrev pub has_behind : (a b : ℕ) → (before : Bool) → List ℕ → Bool
@@ -37,8 +37,8 @@ has_behind a b before [] = false
 has_behind a b before (c ∷ cs) = (before && c == b) || has_behind a b (c == a) cs
 
 -- these two bytes stand side by side somewhere in the text
-abbrev pub has_pair : ℕ → ℕ → List ℕ → Bool
-has_pair a b text = has_behind a b false text
+abbrev pub stand_side_by_side : ℕ → ℕ → List ℕ → Bool
+stand_side_by_side a b text = has_behind a b false text
 
 -- the text begins as something else than a plain text does: with an indicator, with `-`, `?` or `:` before a blank or
 -- the end, or with `---` or `...`
@@ -52,19 +52,19 @@ begins_otherwise (c ∷ cs) =
 -- its ends, no `:` before a blank or the end, no `#` behind a blank, and only printable characters.
 abbrev pub fits_plain : List ℕ → Bool
 fits_plain text =
-    not (begins_otherwise text) && not (is_first 32 text) && not (is_last 32 text) && not (is_last 58 text)
-    && not (has_pair 58 32 text) && not (has_pair 32 35 text) && list_all is_printable (chars text)
+    not (begins_otherwise text) && not (is_first 32 text) && not (ends_with_byte 32 text) && not (ends_with_byte 58 text)
+    && not (stand_side_by_side 58 32 text) && not (stand_side_by_side 32 35 text) && list_all is_printable (chars text)
 
 -- the text may stand between single quotes: no blank beside a line feed, and only printable characters and line feeds
 abbrev pub fits_single_quotes : List ℕ → Bool
 fits_single_quotes text =
-    not (has_pair 32 10 text) && not (has_pair 10 32 text) && list_all is_line_text (chars text)
+    not (stand_side_by_side 32 10 text) && not (stand_side_by_side 10 32 text) && list_all is_line_text (chars text)
 
 -- the text may stand as a literal block: it is not empty, no line ends with a blank, nor the text, and it has only
 -- printable characters and line feeds
 abbrev pub fits_block : List ℕ → Bool
 fits_block text =
-    not (length text == 0) && not (is_last 32 text) && not (has_pair 32 10 text) && list_all is_line_text (chars text)
+    not (length text == 0) && not (ends_with_byte 32 text) && not (stand_side_by_side 32 10 text) && list_all is_line_text (chars text)
 
 -- some line of the text ends
 abbrev pub has_break : List ℕ → Bool

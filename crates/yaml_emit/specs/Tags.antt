@@ -3,7 +3,7 @@ use Rattle.std.specs.Prelude.{ℕ, ◌+◌, Bool, ◌==◌, ◌&&◌, ◌||◌, 
 use Rattle.std.specs.Prelude.{nat_eq, nat_lt}
 use Rattle.std.specs.List.{flat_map, starts_with}
 use Rattle.yaml_emit.specs.Characters.{is_from}
-use Rattle.yaml_emit.specs.PrintedTexts.{hexadecimal}
+use Rattle.yaml_emit.specs.PrintedTexts.{hex_digits}
 use Rattle.yaml_emit.specs.declared.tag.Handle.{Handle}
 use Rattle.yaml_emit.specs.declared.tag.Handle.TheVariants.{Local, Core, Verbatim}
 
@@ -15,7 +15,7 @@ is_tag_byte c = is_from 97 122 c || is_from 65 90 c || is_from 48 57 c || c == 4
 
 -- a byte of a tag: as it is, or behind `%` by its digits
 abbrev pub tag_byte : ℕ → List ℕ
-tag_byte c = if is_tag_byte c then c ∷ [] else 37 ∷ hexadecimal c
+tag_byte c = if is_tag_byte c then c ∷ [] else 37 ∷ hex_digits c
 
 -- the tag begins with the prefix, and has more
 abbrev pub goes_on : List ℕ → List ℕ → Bool
@@ -44,8 +44,8 @@ closing Verbatim = codes ">"
 closing _ = []
 
 -- the tag
-abbrev pub tag_text : List ℕ → List ℕ
-tag_text tag =
+abbrev pub printed_tag : List ℕ → List ℕ
+printed_tag tag =
     opening (handle_of tag) ++ (flat_map tag_byte (suffix_of (handle_of tag) tag) ++ closing (handle_of tag))
 
 -- how many bytes stand for the prefix of a tag that is a handle's

@@ -5,7 +5,8 @@ ghost use Rattle.std.specs.List.{list_all, list_any};
 ghost use Rattle.std.specs.Str.{chars};
 ghost use Rattle.yaml_emit.specs.Characters.{is_break, is_line_text, is_printable};
 ghost use Rattle.yaml_emit.specs.Styles.{begins_otherwise, fits_block, fits_plain, fits_single_quotes};
-ghost use Rattle.yaml_emit.specs.Styles.{has_break, has_pair, is_dash, is_first, is_indicator, is_last};
+ghost use Rattle.yaml_emit.specs.Styles.{ends_with_byte, has_break, is_dash, is_first, is_indicator};
+ghost use Rattle.yaml_emit.specs.Styles.{stand_side_by_side};
 
 use crate::character::{is_break, is_line_text, is_printable};
 
@@ -52,7 +53,7 @@ pub(crate) fn begins_with(text: &[u8], byte: u8) -> bool
 
 // Whether the text ends with the byte.
 pub(crate) fn ends_with(text: &[u8], byte: u8) -> bool
-    ensures { result ≡ is_last byte text.now }
+    ensures { result ≡ ends_with_byte byte text.now }
 {
     match text.last() {
         Some(last) => *last == byte,
@@ -62,7 +63,7 @@ pub(crate) fn ends_with(text: &[u8], byte: u8) -> bool
 
 // Whether these bytes stand side by side somewhere in the text.
 fn has_pair(text: &[u8], first: u8, second: u8) -> bool
-    ensures { result ≡ has_pair first second text.now }
+    ensures { result ≡ stand_side_by_side first second text.now }
 {
     let mut before = false;
     for byte in text {

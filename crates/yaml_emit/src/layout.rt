@@ -2,9 +2,9 @@
 
 ghost use Rattle.std.specs.Prelude.{◌≡◌, OnOk, string_bytes};
 ghost use Rattle.std.specs.Option.{option_map};
-ghost use Rattle.yaml_emit.specs.LayoutMachine.{Begins, Steps, begun, closed_in, closes, document_begun};
+ghost use Rattle.yaml_emit.specs.LayoutMachine.{NodeBegins, Steps, begun, closed_in, closes, document_begun};
 ghost use Rattle.yaml_emit.specs.LayoutMachine.{document_ended, finished, laid, pushed, stream_begun, stream_ended, unbegun};
-ghost use Rattle.yaml_emit.specs.LayoutMachine.{with_node, with_open};
+ghost use Rattle.yaml_emit.specs.LayoutMachine.{with_node_text, with_open};
 ghost use Rattle.yaml_emit.specs.Leaves.{leaf_node};
 
 use crate::leaf::{Leaf, push_tag_in_line};
@@ -131,7 +131,7 @@ impl Layout {
 
     // Goes to where the next node stands. As a key it may be one in a line.
     fn begin_node(&mut self, simple: bool) -> Result<Place, Stop>
-        ensures { Begins (begun (laid self.old) simple) (laid self.new) result }
+        ensures { NodeBegins (begun (laid self.old) simple) (laid self.new) result }
     {
         match self.next {
             Next::Root => {
@@ -150,7 +150,7 @@ impl Layout {
 
     // Adds a node without parts.
     pub(crate) fn push_leaf(&mut self, leaf: Leaf<'_>) -> Result<(), Stop>
-        ensures { Steps (with_node (laid self.old) (leaf_node leaf.entry)) (laid self.new) result }
+        ensures { Steps (with_node_text (laid self.old) (leaf_node leaf.entry)) (laid self.new) result }
     {
         let place = self.begin_node(leaf.is_simple())?;
         leaf.push(&mut self.out, place)?;

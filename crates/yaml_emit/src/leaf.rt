@@ -6,9 +6,9 @@ ghost use Rattle.yaml_base.specs.EmitEvents.{tag_bytes};
 ghost use Rattle.yaml_base.specs.EmitTree.{emit_scalar_node};
 ghost use Rattle.yaml_emit.specs.Leaves.{gap, is_nothing, leaf_node};
 ghost use Rattle.yaml_emit.specs.Places.{behind_tag, tag_in_line};
-ghost use Rattle.yaml_emit.specs.Scalars.{in_style, scalar_text};
-ghost use Rattle.yaml_emit.specs.StreamTexts.{is_literal, is_short, is_simple, leaf_end, leaf_text, node_text};
-ghost use Rattle.yaml_emit.specs.StreamTexts.{scalar_in, tag_of};
+ghost use Rattle.yaml_emit.specs.Scalars.{in_style, styled_scalar};
+ghost use Rattle.yaml_emit.specs.StreamTexts.{is_literal, is_short, is_simple_key, leaf_end, leaf_text, node_text};
+ghost use Rattle.yaml_emit.specs.StreamTexts.{placed_scalar, tag_or_empty};
 
 use crate::fit::has_break;
 use crate::open::{Lead, Place, push_blank};
@@ -51,7 +51,7 @@ pub(crate) fn lent_tag(tag: &Option<String>) -> Option<&str>
 
 // The text of a tag, or nothing.
 pub(crate) fn tag_text(tag: Option<&str>) -> &str
-    ensures { result.now ≡ tag_of (option_map (λ t. t.now) tag.entry) }
+    ensures { result.now ≡ tag_or_empty (option_map (λ t. t.now) tag.entry) }
 {
     match tag {
         Some(tag) => tag,
@@ -146,7 +146,7 @@ fn push_scalar_in(
     asked: AskedStyle,
 ) -> Result<(), AllocError>
     ensures { OnOk result (string_bytes out.new
-        ≡ string_bytes out.old ++ scalar_in place tag.now text.now asked) }
+        ≡ string_bytes out.old ++ placed_scalar place tag.now text.now asked) }
 {
     let lead = push_tag_in_line(out, place.lead, tag)?;
     let style = chosen_style(text, asked, place.key);
@@ -170,7 +170,7 @@ impl<'a> Leaf<'a> {
 
     // Whether the node may be a key in a line with its value.
     pub(crate) fn is_simple(&self) -> bool
-        ensures { result ≡ is_simple (leaf_node self.now) }
+        ensures { result ≡ is_simple_key (leaf_node self.now) }
     {
         let tag = tag_text(self.tag);
         match self.content {
@@ -222,7 +222,7 @@ pub fn push_scalar(
     key: bool,
     indent: usize,
 ) -> Result<(), AllocError>
-    ensures { OnOk result (string_bytes out.new ≡ string_bytes out.old ++ scalar_text indent asked key text.now) }
+    ensures { OnOk result (string_bytes out.new ≡ string_bytes out.old ++ styled_scalar indent asked key text.now) }
 {
     push_in_style(out, text, chosen_style(text, asked, key), indent)
 }

@@ -1,7 +1,8 @@
 //! Open collections, and where their parts stand.
 
 ghost use Rattle.std.specs.Prelude.{◌≡◌, ◌+◌, ◌++◌, IfOk, OnOk, string_bytes};
-ghost use Rattle.yaml_emit.specs.LayoutMachine.{before_part, next_awaits, part_place, parts_column, root_lead, turned};
+ghost use Rattle.yaml_emit.specs.LayoutMachine.{margin_and_indicator, next_awaits, part_begun, part_place};
+ghost use Rattle.yaml_emit.specs.LayoutMachine.{parts_column, root_lead};
 ghost use Rattle.yaml_emit.specs.Places.{blank, margin, root_place};
 
 use crate::quoted::push_blanks;
@@ -154,7 +155,7 @@ impl Open {
     // Adds the margin and the indicator of the next part. A key may be one in a line.
     pub(crate) fn push_before_part(&self, out: &mut String, simple: bool) -> Result<(), AllocError>
         ensures { OnOk result (string_bytes out.new
-            ≡ string_bytes out.old ++ before_part self.now.awaits self.now.lead self.now.column simple) }
+            ≡ string_bytes out.old ++ margin_and_indicator self.now.awaits self.now.lead self.now.column simple) }
     {
         if self.awaits == Awaits::Value {
             return Ok(());
@@ -178,7 +179,7 @@ impl Open {
 
     // The collection once its next part has begun.
     pub(crate) fn turned(&self, simple: bool) -> Open
-        ensures { result ≡ turned self.now simple }
+        ensures { result ≡ part_begun self.now simple }
     {
         Open {
             awaits: next_awaits(self.awaits, simple),

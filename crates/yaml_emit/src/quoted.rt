@@ -4,7 +4,8 @@ ghost use Rattle.std.specs.Prelude.{◌≡◌, ◌++◌, OnOk, false, replicate,
 ghost use Rattle.std.specs.List.{flat_map};
 ghost use Rattle.std.specs.Str.{chars};
 ghost use Rattle.yaml_emit.specs.PrintedTexts.{blanks_if, block_piece, block_rest, chomping_hint, code_digits};
-ghost use Rattle.yaml_emit.specs.PrintedTexts.{double_quoted, escape_letter, escaped, hexadecimal, indentation_hint};
+ghost use Rattle.yaml_emit.specs.PrintedTexts.{double_quoted, escape_letter, escaped_character, hex_digits};
+ghost use Rattle.yaml_emit.specs.PrintedTexts.{indentation_hint};
 ghost use Rattle.yaml_emit.specs.PrintedTexts.{line_end, literal, quote_doubled, single_piece, single_quoted};
 ghost use Rattle.yaml_emit.specs.PrintedTexts.{single_rest};
 
@@ -110,7 +111,7 @@ fn escape_letter(letter: char) -> Option<char>
 
 // Adds a byte by its two hexadecimal digits.
 pub(crate) fn push_hex(out: &mut String, byte: u8) -> Result<(), AllocError>
-    ensures { OnOk result (string_bytes out.new ≡ string_bytes out.old ++ hexadecimal byte) }
+    ensures { OnOk result (string_bytes out.new ≡ string_bytes out.old ++ hex_digits byte) }
 {
     out.push(hex_digit(byte / 16))?;
     out.push(hex_digit(byte % 16))
@@ -138,7 +139,7 @@ fn push_code(out: &mut String, letter: char) -> Result<(), AllocError>
 
 // Adds a character as it stands between double quotes.
 fn push_escaped(out: &mut String, letter: char) -> Result<(), AllocError>
-    ensures { OnOk result (string_bytes out.new ≡ string_bytes out.old ++ escaped letter) }
+    ensures { OnOk result (string_bytes out.new ≡ string_bytes out.old ++ escaped_character letter) }
 {
     if let Some(short) = escape_letter(letter) {
         out.push('\\')?;
@@ -153,7 +154,7 @@ fn push_escaped(out: &mut String, letter: char) -> Result<(), AllocError>
 
 // Adds what stands between double quotes.
 fn push_between_double(out: &mut String, text: &str) -> Result<(), AllocError>
-    ensures { OnOk result (string_bytes out.new ≡ string_bytes out.old ++ flat_map escaped (chars text.now)) }
+    ensures { OnOk result (string_bytes out.new ≡ string_bytes out.old ++ flat_map escaped_character (chars text.now)) }
 {
     for letter in text.chars() {
         push_escaped(out, letter)?;

@@ -8,7 +8,7 @@ ghost use Rattle.yaml_base.specs.EmitEvents.{PlainEmit, emit_of};
 ghost use Rattle.yaml_base.specs.declared.error.Cause.TheVariants.{NotAStream};
 ghost use Rattle.yaml_base.specs.EmitTree.{IsEmitStream};
 ghost use Rattle.yaml_emit.specs.LayoutMachine.{Steps, Takes, hollow, hollow_at, is_mapping_end, is_sequence_end};
-ghost use Rattle.yaml_emit.specs.LayoutMachine.{laid, run, step};
+ghost use Rattle.yaml_emit.specs.LayoutMachine.{laid, printed_from, step};
 ghost use Rattle.yaml_emit.specs.Leaves.{leaf_node};
 ghost use Rattle.yaml_emit.specs.StreamTexts.{IsStreamText};
 ghost use Rattle.yaml_emit.specs.declared.stop.Stop.TheVariants.{OutOfPlace};
@@ -87,8 +87,8 @@ fn take<'a>(
     rest: &'a [EmitEvent],
 ) -> std::result::Result<&'a [EmitEvent], Stop>
     ensures length { IfOk result (λ left. length left.now ≤ length rest.now) }
-    ensures run { Takes (λ left. map emit_of left.now)
-        (run (Some (laid layout.old)) (emit_of event.now ∷ map emit_of rest.now))
+    ensures printed_from { Takes (λ left. map emit_of left.now)
+        (printed_from (Some (laid layout.old)) (emit_of event.now ∷ map emit_of rest.now))
         (laid layout.new) result }
 {
     if let Some((leaf, left)) = hollow(event, rest) {

@@ -3,7 +3,7 @@
 ghost use Rattle.std.specs.Prelude.{◌≡◌, ◌++◌, OnOk, drop, string_bytes};
 ghost use Rattle.std.specs.List.{flat_map};
 ghost use Rattle.yaml_emit.specs.Tags.{closing, handle_len, handle_of, is_tag_byte, opening, suffix_of, tag_byte};
-ghost use Rattle.yaml_emit.specs.Tags.{tag_len, tag_text};
+ghost use Rattle.yaml_emit.specs.Tags.{printed_tag, tag_len};
 
 use crate::quoted::push_hex;
 use std::alloc::AllocError;
@@ -130,7 +130,7 @@ fn push_closing(out: &mut String, handle: Handle) -> Result<(), AllocError>
 ///
 /// The only error is want of memory, and part of the tag may then stand in `out`.
 pub fn push_tag(out: &mut String, tag: &str) -> Result<(), AllocError>
-    ensures { OnOk result (string_bytes out.new ≡ string_bytes out.old ++ tag_text tag.now) }
+    ensures { OnOk result (string_bytes out.new ≡ string_bytes out.old ++ printed_tag tag.now) }
 {
     let handle = handle_of(tag.as_bytes());
     push_opening(out, handle)?;

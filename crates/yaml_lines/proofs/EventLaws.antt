@@ -4,7 +4,8 @@ use Rattle.std.proofs.Common.{◌≡◌, ℕ, ◌<◌, List, [], ◌∷◌, ◌+
 use Rattle.yaml_base.specs.PlainEvent.{PlainScalar}
 use Rattle.yaml_base.specs.declared.event.ScalarStyle.{ScalarStyle}
 use Rattle.yaml_lines.specs.Escape.{Lacks, Spells}
-use Rattle.yaml_lines.specs.EventText.{IsAnchorName, IsBreak, HasAnchor, HasTag, HasProperties, IsContent, IsScalarText}
+use Rattle.yaml_lines.specs.EventText.{IsAnchorName, IsBreak, HasAnchor, HasTag, HasProperties, IsScalarText}
+use Rattle.yaml_lines.specs.EventText.{IsStyledText}
 use Rattle.yaml_lines.proofs.CutLaws.{cut-unique, cut_has, break-unique}
 
 -- a text whose first word is no anchor's name begins with no anchor
@@ -83,9 +84,9 @@ no_scalar text none value s = none value.anchor value.tag s.behind_tag s.has_pro
 
 -- and has a style and a text behind them
 pub no_content : (text after : List ℕ) (a t : Option (List ℕ)) → HasProperties text a t after
-    → ((style : ScalarStyle) → (value : List ℕ) → ¬ (IsContent after style value))
+    → ((style : ScalarStyle) → (value : List ℕ) → ¬ (IsStyledText after style value))
     → (value : PlainScalar) → ¬ (IsScalarText text value)
 no_content text after a t h none value s =
     none value.style value.text
-    (subst (λ x. IsContent x value.style value.text)
+    (subst (λ x. IsStyledText x value.style value.text)
     (sym (behind-unique text a value.anchor t value.tag after s.behind_tag h s.has_properties)) s.is_content)

@@ -12,7 +12,7 @@ use Rattle.yaml_base.specs.declared.fault.FaultKind.{FaultKind}
 use Rattle.yaml_base.specs.declared.fault.FaultKind.TheVariants.{Memory, Reader, Scanner, Parser, Composer, Writer}
 use Rattle.yaml_base.specs.declared.fault.FaultKind.TheVariants.{Emitter, Other}
 use Rattle.yaml_lines.specs.Escape.{Spells}
-use Rattle.yaml_lines.specs.EventText.{IsAnchorName, HasAnchor, HasTag, HasProperties, style_byte, IsContent}
+use Rattle.yaml_lines.specs.EventText.{IsAnchorName, HasAnchor, HasTag, HasProperties, style_byte, IsStyledText}
 use Rattle.yaml_lines.specs.EventText.{IsScalarText, IsEventText}
 use Rattle.yaml_lines.specs.SpelledFault.{kind_name, IsSpelledFault}
 use Rattle.yaml_lines.specs.LineText.{Said, says_event, says_fault, IsSaid, IsLine}
@@ -66,7 +66,7 @@ style_at-byte DoubleQuoted = refl
 style_at-byte Literal = refl
 style_at-byte Folded = refl
 
-content-unique : (text : List ℕ) (a b : ScalarStyle) (v w : List ℕ) → IsContent text a v → IsContent text b w → (a ≡ b)
+content-unique : (text : List ℕ) (a b : ScalarStyle) (v w : List ℕ) → IsStyledText text a v → IsStyledText text b w → (a ≡ b)
     × (v ≡ w)
 content-unique text a b v w f g =
     let e = sym f.1 ∙ g.1 in
@@ -82,7 +82,7 @@ IsScalarText-unique text a b f g =
     let rest = behind-unique text a.anchor b.anchor a.tag b.tag f.behind_tag g.behind_tag f.has_properties
     g.has_properties in
     let c = content-unique f.behind_tag a.style b.style a.text b.text f.is_content
-    (subst (λ t. IsContent t b.style b.text) (sym rest) g.is_content) in
+    (subst (λ t. IsStyledText t b.style b.text) (sym rest) g.is_content) in
     same_scalar a b p.0 p.1 c.1 c.0 (f.no_source ∙ sym g.no_source) where
       same_scalar : (p q : PlainScalar) → p.anchor ≡ q.anchor → p.tag ≡ q.tag → p.text ≡ q.text → p.style ≡ q.style
           → p.source ≡ q.source → p ≡ q

@@ -13,7 +13,7 @@ use Rattle.yaml_shape.specs.declared.data.Data.{Data, Seq, Tuple, Struct, Map, t
 use Rattle.yaml_shape.specs.declared.data.Entry.{Entry, out-Entry}
 use Rattle.yaml_lines.specs.Listed.{listed, before_part}
 use Rattle.yaml_lines.specs.DataText.{data_text, item_texts, entry_texts}
-use Rattle.yaml_lines.specs.DataTextView.{item_text, entry_text}
+use Rattle.yaml_lines.specs.DataTextView.{item_text, data_entry_text}
 
 items-texts : (xs : List Data) → item_texts (items_of (map data_of xs)) ≡ map item_text xs
 items-texts [] = refl
@@ -49,13 +49,13 @@ data_of-Map : (v : Vec Entry Global) → data_of (Map v) ≡ map_data
 data_of-Map v = search (rules, the_lemmas)
 
 entries-texts : (xs : List Entry) → entry_texts (entries_of
-    (map (λ e. (data_of (out-Entry e).key, data_of (out-Entry e).value)) xs)) ≡ map entry_text xs
+    (map (λ e. (data_of (out-Entry e).key, data_of (out-Entry e).value)) xs)) ≡ map data_entry_text xs
 entries-texts [] = refl
-entries-texts (x ∷ xs) = ap (λ ts. entry_text x ∷ ts) (entries-texts xs)
+entries-texts (x ∷ xs) = ap (λ ts. data_entry_text x ∷ ts) (entries-texts xs)
 
 -- a mapping
 pub show-Map : (v : Vec Entry Global) → data_text (data_of (Map v)) ≡ codes "{" ++
-    (listed (map entry_text v.items) ++ codes "}")
+    (listed (map data_entry_text v.items) ++ codes "}")
 show-Map v = ap data_text (data_of-Map v) ∙ ap (λ ts. codes "{" ++ (listed ts ++ codes "}")) (entries-texts v.items)
 
 -- one text more, behind others

@@ -10,5 +10,5 @@ abbrev pub item_text : Data → List ℕ
 item_text d = data_text (data_of d)
 
 -- the text of an entry
-abbrev pub entry_text : Entry → List ℕ
-entry_text e = data_text (data_of (out-Entry e).key) ++ (codes ": " ++ data_text (data_of (out-Entry e).value))
+abbrev pub data_entry_text : Entry → List ℕ
+data_entry_text e = data_text (data_of (out-Entry e).key) ++ (codes ": " ++ data_text (data_of (out-Entry e).value))

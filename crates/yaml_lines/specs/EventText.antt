@@ -53,14 +53,14 @@ style_byte Literal = 124
 style_byte Folded = 62
 
 -- a scalar's style and its text
-abbrev pub IsContent : List ℕ → ScalarStyle → List ℕ → Type 0
-IsContent text style value = (rest : List ℕ) × (text ≡ 32 ∷ style_byte style ∷ rest) × Spells rest value
+abbrev pub IsStyledText : List ℕ → ScalarStyle → List ℕ → Type 0
+IsStyledText text style value = (rest : List ℕ) × (text ≡ 32 ∷ style_byte style ∷ rest) × Spells rest value
 
 -- a scalar, behind the word for one; the source of it is not known
 pub record IsScalarText (text : List ℕ) (found : PlainScalar) : Type 0 where
   pub behind_tag : List ℕ
   pub has_properties : HasProperties text found.anchor found.tag behind_tag
-  pub is_content : IsContent behind_tag found.style found.text
+  pub is_content : IsStyledText behind_tag found.style found.text
   pub no_source : found.source ≡ None
 
 -- an event

@@ -6,7 +6,7 @@ use Rattle.yaml_base.specs.PlainEvent.{PlainScalar, PlainEvent, stream_start, st
 use Rattle.yaml_base.specs.PlainEvent.{alias, scalar, sequence_start, sequence_end, mapping_start, mapping_end}
 use Rattle.yaml_base.specs.PlainFault.{PlainFault}
 use Rattle.yaml_base.specs.Position.{Position}
-use Rattle.yaml_base.specs.Quoted.{hexadecimal}
+use Rattle.yaml_base.specs.Quoted.{hex_escape}
 use Rattle.yaml_lines.specs.EventText.{style_byte}
 use Rattle.yaml_lines.specs.SpelledFault.{kind_name}
 
@@ -14,7 +14,7 @@ use Rattle.yaml_lines.specs.SpelledFault.{kind_name}
 abbrev pub spelling : (numbered byte : ℕ) → List ℕ
 spelling numbered byte = if byte == 92 then codes "\\\\" else (if byte == 10 then codes "\\n"
     else (if byte == 9 then codes "\\t"
-    else (if nat_lt byte 32 || (nat_lt 126 byte || (byte == numbered)) then hexadecimal byte else byte ∷ [])))
+    else (if nat_lt byte 32 || (nat_lt 126 byte || (byte == numbered)) then hex_escape byte else byte ∷ [])))
 
 -- bytes, one behind the other
 abbrev pub spelled : (numbered : ℕ) → List ℕ → List ℕ

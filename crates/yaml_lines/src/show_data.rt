@@ -3,7 +3,7 @@
 ghost use Rattle.std.specs.Prelude.{◌≡◌, ◌++◌, codes, decimal, map, string_bytes, OnOk};
 ghost use Rattle.yaml_shape.specs.DataView.{data_of};
 ghost use Rattle.yaml_lines.specs.DataText.{data_text};
-ghost use Rattle.yaml_lines.specs.DataTextView.{entry_text, item_text};
+ghost use Rattle.yaml_lines.specs.DataTextView.{data_entry_text, item_text};
 ghost use Rattle.yaml_lines.specs.Listed.{listed};
 
 mod part;
@@ -82,7 +82,7 @@ fn show_items(
 #[cycle(show)]
 fn show_entries(out: &mut String, entries: &Vec<Entry<'_>>) -> Result<(), AllocError>
     ensures { OnOk result (string_bytes out.new ≡ string_bytes out.old
-        ++ (codes "{" ++ (listed (map entry_text entries.now.items) ++ codes "}"))) }
+        ++ (codes "{" ++ (listed (map data_entry_text entries.now.items) ++ codes "}"))) }
 {
     out.push_str("{")?;
     for (index, entry) in entries.iter().enumerate() {
@@ -94,7 +94,7 @@ fn show_entries(out: &mut String, entries: &Vec<Entry<'_>>) -> Result<(), AllocE
 
 #[cycle(show)]
 fn show_entry(out: &mut String, entry: &Entry<'_>) -> Result<(), AllocError>
-    ensures { OnOk result (string_bytes out.new ≡ string_bytes out.old ++ entry_text entry.now) }
+    ensures { OnOk result (string_bytes out.new ≡ string_bytes out.old ++ data_entry_text entry.now) }
 {
     show(out, &entry.key)?;
     out.push_str(": ")?;

@@ -6,7 +6,7 @@ use Rattle.yaml_load.proofs.Words.{slice_get, drop-append_seam, take-add, take-a
 use Rattle.yaml_load.proofs.Words.{take-append-drop, take-map, Position, PlainFault, Cause, doc_event_of}
 use Rattle.yaml_load.proofs.Words.{marked_events_of, Find, Input, anchors_in, document_of, ending_of, find_in}
 use Rattle.yaml_load.proofs.Words.{known_events, unknown_mark, ends_of, AreCuts, documents_in, ending_in}
-use Rattle.yaml_load.proofs.Words.{plain_doc_events, PlainDocEvent, PlainDocument, DocEvent, Cut, Draft, IsBetween}
+use Rattle.yaml_load.proofs.Words.{plain_doc_events, PlainDocEvent, PlainDocument, DocEvent, Cut, Draft, IsDraftBetween}
 use Rattle.yaml_load.proofs.Words.{All-push, HasEnds, map-append, length-append, IsDraft, drafts_of, settled}
 use Rattle.yaml_load.proofs.Words.{bounded_from}
 use Rattle.yaml_load.proofs.Gatherings.{documents_in_front, has_ends_behind, has_ends_more, length-ends_of}
@@ -39,7 +39,7 @@ pub between_more : (events more : Events) (numbers ends : List ℕ) (old : List 
     → new.events.items ≡ events ++ more → new.ends.numbers ≡ numbers ++ ends → ends ≡ ends_of (plain_doc_events more)
     → new.ends.unended ≡ [] → new.anchors.named.items ≡ [] → new.anchors.aliases.items ≡ []
     → new.cuts.items ≡ old ++ cut ∷ [] → cut.from ≡ length events → cut.to ≡ length new.events.items
-    → IsBetween (documents ++ held (marked_events_of more) (ending_in cut.error) ∷ []) new
+    → IsDraftBetween (documents ++ held (marked_events_of more) (ending_in cut.error) ∷ []) new
 between_more events more numbers ends old documents new cut long cuts shown whole all are unended named aliases pushed
     begin end =
     let to = end ∙ ap length whole in
@@ -85,7 +85,7 @@ module _ {events : Events} {numbers : List ℕ} {seen : Input} {old : Draft} (h 
       → new.events.items ≡ events ++ more → marked_events_of more ≡ known_events find 0 seen
       → new.ends.numbers ≡ numbers ++ ends → ends ≡ ends_of (plain_doc_events more)
       → unknown ≡ unknown_mark find 0 seen → ending_in cut.error ≡ ending_of unknown false fault
-      → IsBetween (documents_in events old.cuts.items ++ document_of (anchors_in 0 seen) seen false fault ∷ []) new
+      → IsDraftBetween (documents_in events old.cuts.items ++ document_of (anchors_in 0 seen) seen false fault ∷ []) new
   closed new cut more ends unknown fault cuts (u, n, a, p, from, to) whole shown all are mark ending =
       rw (← shown, ← mark, ← ending)
       (between_more events more numbers ends old.cuts.items _ new cut h.long cuts refl whole all are u n a p
@@ -110,7 +110,7 @@ module _ {events : Events} {numbers : List ℕ} {seen : Input} {old : Draft} (h 
       → take old.from new.events.items ≡ take old.from old.events.items
       → new.ends.numbers ≡ numbers ++ ends_of (drafts_of seen)
       → Closed new cut → ending_in cut.error ≡ ending_of None false fault
-      → IsBetween (documents_in events old.cuts.items ++ document_of (anchors_in 0 seen) seen false fault ∷ []) new
+      → IsDraftBetween (documents_in events old.cuts.items ++ document_of (anchors_in 0 seen) seen false fault ∷ []) new
   closed_whole new cut fault cuts is front all c ending =
       let late = drop old.from new.events.items in
       let found = same late None is in
@@ -130,7 +130,7 @@ module _ {events : Events} {numbers : List ℕ} {seen : Input} {old : Draft} (h 
       → new.events.items ≡ take (old.from + at) settled_events → all ≡ numbers ++ ends_of (drafts_of seen)
       → new.ends.numbers ≡ bounded_from at old.from (take (old.from + at) all)
       → Closed new cut → ending_in cut.error ≡ ending_of (Some mark) false fault
-      → IsBetween (documents_in events old.cuts.items ++ document_of (anchors_in 0 seen) seen false fault ∷ []) new
+      → IsDraftBetween (documents_in events old.cuts.items ++ document_of (anchors_in 0 seen) seen false fault ∷ []) new
   closed_cut new cut fault settled_events at mark all cuts is front within marked taken numbered bounded c ending =
       let late = drop old.from settled_events in
       let found = same late (Some at) is in
@@ -151,10 +151,10 @@ module _ {events : Events} {numbers : List ℕ} {seen : Input} {old : Draft} (h 
       (sym (ends_of_cut find seen at size) ∙ shown_ends (take at late) _ known) (marked ∙ sym found.1) ending
 
 -- a document without events behind others
-pub failed_more : {old : Draft} {documents : List PlainDocument} (h : IsBetween documents old) (new : Draft) (cut : Cut)
+pub failed_more : {old : Draft} {documents : List PlainDocument} (h : IsDraftBetween documents old) (new : Draft) (cut : Cut)
     → new.events ≡ old.events → new.ends ≡ old.ends → new.anchors ≡ old.anchors
     → new.cuts.items ≡ old.cuts.items ++ cut ∷ [] → cut.from ≡ length old.events.items → cut.to ≡ cut.from
-    → IsBetween (documents ++ held [] (ending_in cut.error) ∷ []) new
+    → IsDraftBetween (documents ++ held [] (ending_in cut.error) ∷ []) new
 failed_more {old} h new cut events ends anchors pushed begin end =
     between_more old.events.items [] old.ends.numbers [] old.cuts.items _ new cut h.long h.cuts h.shown
     (rw (events, append-nil)) (rw (ends, append-nil)) refl (rw ends h.unended) (rw anchors h.named)

@@ -7,7 +7,8 @@ use Rattle.yaml_load.proofs.Words.{false, ◌∙◌, ℕ, List, [], Option, Some
 use Rattle.yaml_load.proofs.Words.{append_assoc, append-nil, is_some, length, map-append, slice_get, Position}
 use Rattle.yaml_load.proofs.Words.{PlainEvent, PlainFault, State, before_stream, next_state, run, Open, IsWellFormed}
 use Rattle.yaml_load.proofs.Words.{Input, documents_of, last_mark, events_in, PlainDocument, IsDocument, Moves, is_done}
-use Rattle.yaml_load.proofs.Words.{is_open, state_of, Phase, Draft, IsBetween, HasTaken, IsOnWay, IsReady, Takes}
+use Rattle.yaml_load.proofs.Words.{is_open, phase_state, Phase, Draft, IsDraftBetween, HasTaken, IsOnWay, IsReady}
+use Rattle.yaml_load.proofs.Words.{TakesEvent}
 use Rattle.yaml_load.proofs.Words.{run_append}
 use Rattle.yaml_load.proofs.WrongPlaces.{right_end}
 use Rattle.yaml_load.proofs.LoadingLaws.{flags_differ, ready}
@@ -32,14 +33,14 @@ last_on taken x =
 module _ {phase : Phase} {outer : List Open} {end : Option Position} {count : ℕ} {taken : Input} {old : Draft}
     (had : HasTaken phase outer end count taken old) where
   pub taken_on : (after : Phase) (behind : List Open) (e : PlainEvent) (mark : Position) (new : Draft)
-      → Moves phase outer e behind (Some after) → Takes e mark old new
+      → Moves phase outer e behind (Some after) → TakesEvent e mark old new
       → HasTaken after behind (Some mark) (count + 1) (taken ++ (e, mark) ∷ []) new
   taken_on after behind e mark new moves takes =
       let x : PlainEvent × Position = (e, mark) in
-      let turn = turns (state_of phase outer) e (state_of after behind) moves.0 in
+      let turn = turns (phase_state phase outer) e (phase_state after behind) moves.0 in
       record {
         clean = moves.1;
-        ran = ran_on taken x (state_of phase outer) had.ran ∙ moves.0;
+        ran = ran_on taken x (phase_state phase outer) had.ran ∙ moves.0;
         last = last_on taken x;
         counted = omega (arith, had.counted, length-append taken (x ∷ []));
         way = λ fault rest. rw (append_assoc taken (x ∷ []) rest, turn.1)
@@ -58,8 +59,8 @@ module _ {phase : Phase} {outer : List Open} {end : Option Position} {count : �
   pub closed : (new : Draft) (inside after faulted : Bool) (fault : Option PlainFault) → inside ≡ is_open phase
       → after ≡ is_done phase → faulted ≡ is_some fault → beq after faulted ≡ false
       → ((all : Input) → end ≡ last_mark all → (inside ≡ true → is_some fault ≡ true)
-      → IsOnWay inside fault all [] old → IsBetween (documents_of all fault) new)
-      → IsBetween (documents_of taken fault) new × IsWellFormed (is_some fault) (events_in taken)
+      → IsOnWay inside fault all [] old → IsDraftBetween (documents_of all fault) new)
+      → IsDraftBetween (documents_of taken fault) new × IsWellFormed (is_some fault) (events_in taken)
   closed new inside after faulted fault is a f differ closes =
       let other : is_done phase ≡ is_some fault → ⊥ = λ same. flags_differ _ _ differ (a ∙ same ∙ sym f) in (
         closes taken had.last (λ held. open_faulted phase (is_some fault) other (sym is ∙ held))

@@ -5,9 +5,9 @@ use Rattle.yaml_load.proofs.Words.{ℕ, length, List, [], refl, sym, ◌∙◌, 
 use Rattle.yaml_load.proofs.Words.{Option, Some, None, true, false, Position, PlainEvent, stream_start, document_start}
 use Rattle.yaml_load.proofs.Words.{document_end, PlainFault, anchor_at, doc_event_of, Input, anchor_of, anchors_in}
 use Rattle.yaml_load.proofs.Words.{body, document_from, document_of, ending_of, find_in, is_document_end, is_ended}
-use Rattle.yaml_load.proofs.Words.{unknown_mark, documents_in, PlainDocEvent, DocEvent, Draft, IsBetween, IsDraft}
+use Rattle.yaml_load.proofs.Words.{unknown_mark, documents_in, PlainDocEvent, DocEvent, Draft, IsDraft, IsDraftBetween}
 use Rattle.yaml_load.proofs.Words.{IsTaken, Waiting, drafted, drafts_of, is_of_node, HasNumbers, IsClosedDraft}
-use Rattle.yaml_load.proofs.Words.{IsOpenDraft, IsReady, Takes, open_before, open_behind, map, is_some, Bool}
+use Rattle.yaml_load.proofs.Words.{IsOpenDraft, IsReady, TakesEvent, open_before, open_behind, map, is_some, Bool}
 use Rattle.yaml_load.proofs.Words.{option_to_list, after_starts, documents_of, last_mark, void_document, void_documents}
 use Rattle.yaml_load.proofs.Words.{PlainDocument, IsOnWay}
 use Rattle.yaml_load.proofs.SettledLaws.{ToNodes, nodes_left}
@@ -73,7 +73,7 @@ module _ {fault : Option PlainFault} {all rest : Input} {mark : Position} {old n
 
   -- the open document ends
   pub on_end : (h : IsOpenDraft fault all ((document_end, mark) ∷ rest) old)
-      → IsBetween (documents_in h.events old.cuts.items ++ document_of (anchors_in 0 h.seen) h.seen false None ∷ []) new
+      → IsDraftBetween (documents_in h.events old.cuts.items ++ document_of (anchors_in 0 h.seen) h.seen false None ∷ []) new
       → IsClosedDraft fault all rest new
   on_end h between = record {
     documents = documents_in h.events old.cuts.items ++ document_of (anchors_in 0 h.seen) h.seen false None ∷ [];
@@ -98,7 +98,7 @@ pub takes : (e : PlainEvent) (mark : Position) (old new : Draft) (d : DocEvent) 
     × (new.anchors.aliases.items ≡ old.anchors.aliases.items ++ here))
     → ((front : List ℕ) (seen : List PlainDocEvent) → HasNumbers front seen old.ends → place ≡ length seen
     → HasNumbers front (seen ++ drafted e ∷ []) new.ends)
-    → Takes e mark old new
+    → TakesEvent e mark old new
 takes e mark old new d place node there from cuts pushed named taken ends = λ fault all rest way.
     let facts = node_facts e node in
     let h : IsOpenDraft fault all ((e, mark) ∷ rest) old = rw facts.0 at way in
@@ -112,9 +112,9 @@ takes e mark old new d place node there from cuts pushed named taken ends = λ f
 
 -- the documents of all events, where no event is left
 pub all_open : (f : PlainFault) (all : Input) (old new : Draft) (h : IsOpenDraft (Some f) all [] old)
-    → IsBetween (documents_in h.events old.cuts.items ++ document_of (anchors_in 0 h.seen) h.seen false (Some f) ∷ [])
+    → IsDraftBetween (documents_in h.events old.cuts.items ++ document_of (anchors_in 0 h.seen) h.seen false (Some f) ∷ [])
     new
-    → IsBetween (documents_of all (Some f)) new
+    → IsDraftBetween (documents_of all (Some f)) new
 all_open f all old new h between =
     rw (← h.complete.1, ← h.complete.0, from_body (Some f) h.seen [] h.draft.nodes refl, append-nil, append-nil) between
 
@@ -134,13 +134,13 @@ module _ (all : Input) (old : Draft) (h : IsClosedDraft None all [] old) (none :
       (sym h.between.shown ∙ ap (documents_in old.events.items) none)
 
   pub all_void : (new : Draft) (mark : Position) → Some mark ≡ last_mark all
-      → IsBetween (h.documents ++ void_document mark ∷ []) new → IsBetween (documents_of all None) new
+      → IsDraftBetween (h.documents ++ void_document mark ∷ []) new → IsDraftBetween (documents_of all None) new
   all_void new mark end between = rw (← alone, ← end) between
 
 -- what is shown of a fault, or of none, and of whether a document is open
 pub fault_closes : {opened which : Bool} {fault f : Option PlainFault} (all : Input) (old new : Draft)
-    → opened ≡ which → fault ≡ f → (IsOnWay which f all [] old → IsBetween (documents_of all f) new)
-    → IsOnWay opened fault all [] old → IsBetween (documents_of all fault) new
+    → opened ≡ which → fault ≡ f → (IsOnWay which f all [] old → IsDraftBetween (documents_of all f) new)
+    → IsOnWay opened fault all [] old → IsDraftBetween (documents_of all fault) new
 fault_closes all old new o is made way = rw is (made (rw (o, is) at way))
 
 -- without a fault no document is open

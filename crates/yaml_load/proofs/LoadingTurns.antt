@@ -3,7 +3,7 @@ use Rattle.std.specs.Prelude.{◌≡◌, ◌∷◌}
 use Rattle.yaml_load.proofs.Words.{List, [], refl, sym, ◌∙◌, ap, Some, Bool, true, false, PlainEvent, stream_start}
 use Rattle.yaml_load.proofs.Words.{stream_end, document_start, document_end, alias, scalar, sequence_start}
 use Rattle.yaml_load.proofs.Words.{sequence_end, mapping_start, mapping_end, State, before_stream, between_documents}
-use Rattle.yaml_load.proofs.Words.{before_root, within, after_stream, begins, next_state, is_done, is_open, state_of}
+use Rattle.yaml_load.proofs.Words.{before_root, within, after_stream, begins, next_state, is_done, is_open, phase_state}
 use Rattle.yaml_load.proofs.Words.{Phase, Open, is_inside, open_before, open_behind, Before, After}
 use Rattle.yaml_base.specs.declared.open.Open.TheVariants.{Sequence, Key, Value}
 
@@ -43,7 +43,7 @@ turns (within (Value ∷ o)) e t h = inside_begun (within (Value ∷ o)) (Key �
 turns after_stream _ t h = absurd cc
 
 -- a phase within a document
-pub inside_phase : (p : Phase) (opened : List Open) → is_inside (state_of p opened) ≡ is_open p
+pub inside_phase : (p : Phase) (opened : List Open) → is_inside (phase_state p opened) ≡ is_open p
 inside_phase Before opened = refl
 inside_phase _ opened = refl
 

@@ -5,7 +5,7 @@ use Rattle.std.proofs.lemmas.List.Sorted.{All-permutation, IsPermutation-reverse
 use Rattle.yaml_load.proofs.Words.{ℕ, zero, suc, List, [], map, length, set, reverse, min, true, false, refl, sym, ◌∙◌}
 use Rattle.yaml_load.proofs.Words.{ap, arith, append-nil, append_assoc, length-set, get_or, set-append_seam}
 use Rattle.yaml_load.proofs.Words.{reverse-append, Some, end_place, ends_from, ends_of, is_closing, is_opening}
-use Rattle.yaml_load.proofs.Words.{PlainDocEvent, EndsView, HasNumbers, bounded_from, filled, Bool, inner_after}
+use Rattle.yaml_load.proofs.Words.{PlainDocEvent, EndsView, HasNumbers, bounded_from, numbers_ended, Bool, inner_after}
 use Rattle.yaml_load.proofs.Words.{sequence_ends, mapping_ends, All, length-append, ne_eqb, set-append_left, All-tail}
 use Rattle.yaml_load.proofs.Words.{sequence_begins, mapping_begins}
 
@@ -19,12 +19,12 @@ in_set numbers starts at n h k d l = let i = h k d l in omega (arith, length-set
 -- a number that is put behind stays there
 filled_push : (starts : List ℕ) (inner place : ℕ) (later : List PlainDocEvent) (numbers : List ℕ) (n : ℕ)
     → AreIn numbers starts
-    → filled starts inner place later (numbers ++ n ∷ []) ≡ filled starts inner place later numbers ++ n ∷ []
+    → numbers_ended starts inner place later (numbers ++ n ∷ []) ≡ numbers_ended starts inner place later numbers ++ n ∷ []
 filled_push [] inner place later numbers n h = refl
 filled_push (s ∷ starts) inner place later numbers n h =
     let v = end_place inner place later in
     let first = h 0 s (omega arith) in
-    ap (filled starts (inner + 1) place later) (set-append_left numbers (n ∷ []) s v first)
+    ap (numbers_ended starts (inner + 1) place later) (set-append_left numbers (n ∷ []) s v first)
     ∙ filled_push starts (inner + 1) place later (set numbers s v) n
     (in_set numbers starts s v (All-tail (λ (x : ℕ). x < length numbers) s starts h))
 
@@ -49,20 +49,20 @@ stays_open false inner = refl
 
 filled_next : (e : PlainDocEvent) (later : List PlainDocEvent) (starts : List ℕ) (inner place : ℕ)
     (numbers : List ℕ) → (is_closing e && (inner == 0)) ≡ false
-    → filled starts inner place (e ∷ later) numbers ≡ filled starts (inner_after e inner) (place + 1) later numbers
+    → numbers_ended starts inner place (e ∷ later) numbers ≡ numbers_ended starts (inner_after e inner) (place + 1) later numbers
 filled_next e later [] inner place numbers h = refl
 filled_next e later (s ∷ starts) inner place numbers h =
     let v = end_place (inner_after e inner) (place + 1) later in
     rw h
     (filled_next e later starts (inner + 1) place (set numbers s v) (stays_open (is_closing e) inner)
-    ∙ ap (λ i. filled starts i (place + 1) later (set numbers s v)) (deeper e inner h))
+    ∙ ap (λ i. numbers_ended starts i (place + 1) later (set numbers s v)) (deeper e inner h))
 
 pub one_longer : {X : Type 0} (xs : List X) (x : X) → length (xs ++ x ∷ []) ≡ length xs + 1
 one_longer xs x = length-append xs (x ∷ [])
 
 -- where nothing comes later, it does not matter how many collections are open within
 filled_at_end : (starts : List ℕ) (inner other place : ℕ) (numbers : List ℕ)
-    → filled starts inner place [] numbers ≡ filled starts other place [] numbers
+    → numbers_ended starts inner place [] numbers ≡ numbers_ended starts other place [] numbers
 filled_at_end [] inner other place numbers = refl
 filled_at_end (s ∷ starts) inner other place numbers =
     filled_at_end starts (inner + 1) (other + 1) place (set numbers s place)
@@ -82,7 +82,7 @@ module _ {front : List ℕ} {seen : List PlainDocEvent} {old : EndsView} (h : Ha
   -- the numbers behind one event more
   abbrev Counted : List ℕ → List ℕ → Type 0
   Counted numbers starts = (later : List PlainDocEvent)
-      → filled starts 0 (size + 1) later numbers ++ ends_from (size + 1) later ≡ front ++ ends_of (seen ++ e ∷ later)
+      → numbers_ended starts 0 (size + 1) later numbers ++ ends_from (size + 1) later ≡ front ++ ends_of (seen ++ e ∷ later)
 
   made : (new : EndsView) (numbers unended : List ℕ) → new.numbers ≡ numbers → new.unended ≡ unended
       → length numbers ≡ length front + length (seen ++ e ∷ []) → Counted numbers (reverse unended)
@@ -111,7 +111,7 @@ module _ {front : List ℕ} {seen : List PlainDocEvent} {old : EndsView} (h : Ha
       (longer old.numbers size refl)
       (λ later.
       let v = end_place 0 (size + 1) later in
-      let all : filled (reverse old.unended) 1 (size + 1) later (set (old.numbers ++ size ∷ []) (length old.numbers) v)
+      let all : numbers_ended (reverse old.unended) 1 (size + 1) later (set (old.numbers ++ size ∷ []) (length old.numbers) v)
       ++ ends_from (size + 1) later ≡ front ++ ends_of (seen ++ e ∷ later) =
       let next = rw o at (filled_next e later (reverse old.unended) 0 size old.numbers (rw (opens_alone e o))) in
       rw (set-append_seam old.numbers size [] v, filled_push, append_assoc, ← next) (rw o at (h.all (e ∷ later))) in
@@ -128,7 +128,7 @@ module _ {front : List ℕ} {seen : List PlainDocEvent} {old : EndsView} (h : Ha
       let still = in_set old.numbers (reverse rest) start size inside in
       made new (numbers ++ size ∷ []) rest (rw p at n) u (longer numbers size (length-set old.numbers start size))
       (λ later.
-      let all : filled (reverse rest) 1 size (e ∷ later) (set old.numbers start (end_place 0 size (e ∷ later)))
+      let all : numbers_ended (reverse rest) 1 size (e ∷ later) (set old.numbers start (end_place 0 size (e ∷ later)))
       ++ size ∷ ends_from (size + 1) later ≡ front ++ ends_of (seen ++ e ∷ later) =
       rw (turned, o) at (h.all (e ∷ later)) in
       let next = rw (o, c) at (filled_next e later (reverse rest) 1 size numbers (rw c)) in
@@ -144,8 +144,8 @@ module _ {front : List ℕ} {seen : List PlainDocEvent} {old : EndsView} (h : Ha
 -- one open collection more is ended
 pub finish_more : (old new rest : List ℕ) (start place : ℕ) (numbers set_ all : List ℕ) → old ≡ rest ++ start ∷ [] → new
     ≡ rest
-    → set_ ≡ set numbers start place → filled (reverse old) 0 place [] numbers ≡ all
-    → filled (reverse new) 0 place [] set_ ≡ all
+    → set_ ≡ set numbers start place → numbers_ended (reverse old) 0 place [] numbers ≡ all
+    → numbers_ended (reverse new) 0 place [] set_ ≡ all
 finish_more old new rest start place numbers set_ all was is s found =
     rw (is, s, filled_at_end (reverse rest) 0 1 place (set numbers start place))
     (rw (was, reverse-append rest (start ∷ [])) at found)
@@ -153,12 +153,12 @@ finish_more old new rest start place numbers set_ all was is s found =
 -- and then the numbers are those of the events
 pub finished : (front : List ℕ) (seen : List PlainDocEvent) (old : EndsView) (place : ℕ) (unended numbers : List ℕ)
     → HasNumbers front seen old → place ≡ length seen → unended ≡ []
-    → filled (reverse unended) 0 place [] numbers ≡ filled (reverse old.unended) 0 place [] old.numbers
+    → numbers_ended (reverse unended) 0 place [] numbers ≡ numbers_ended (reverse old.unended) 0 place [] old.numbers
     → numbers ≡ front ++ ends_of seen
 finished front seen old place unended numbers h p u found =
-    ap (λ us. filled (reverse us) 0 place [] numbers) (sym u) ∙ found
-    ∙ ap (λ n. filled (reverse old.unended) 0 n [] old.numbers) p
-    ∙ sym (append-nil (filled (reverse old.unended) 0 (length seen) [] old.numbers))
+    ap (λ us. numbers_ended (reverse us) 0 place [] numbers) (sym u) ∙ found
+    ∙ ap (λ n. numbers_ended (reverse old.unended) 0 n [] old.numbers) p
+    ∙ sym (append-nil (numbers_ended (reverse old.unended) 0 (length seen) [] old.numbers))
     ∙ h.all [] ∙ ap (λ es. front ++ ends_of es) (append-nil seen)
 
 -- before the first event

@@ -4,7 +4,7 @@ use Rattle.yaml_load.proofs.Words.{arith, ℕ, suc, List, [], map, length, refl,
 use Rattle.yaml_load.proofs.Words.{Some, None, Position, PlainEvent, sequence_end, mapping_end, document_end, Node}
 use Rattle.yaml_load.proofs.Words.{alias_node, scalar_node, sequence_node, mapping_node, Nodes, no_nodes, node}
 use Rattle.yaml_load.proofs.Words.{NodePairs, no_pairs, pair, node_events, nodes_events, pairs_events, anchor_at, Input}
-use Rattle.yaml_load.proofs.Words.{Find, becomes, known_events, or_mark, unknown_mark, body, behind, is_ended}
+use Rattle.yaml_load.proofs.Words.{Find, becomes, known_events, or_mark, unknown_mark, body, behind_document, is_ended}
 use Rattle.yaml_load.proofs.Words.{is_document_end, anchor_of, anchors_in, events_in, PlainDocEvent}
 
 -- what stands for each of the events, by its place, where the first has the given one
@@ -120,7 +120,7 @@ module _ (rest : List PlainEvent) where
 module _ (more later : List PlainEvent) where
   abbrev Splits : List PlainEvent → List PlainEvent → Type 0
   Splits es fs = (input : Input) → events_in input ++ more ≡ es → (more ≡ [] → is_ended input ≡ true)
-      × (is_ended input ≡ true → (events_in (body input) ≡ fs) × (events_in (behind input) ++ more ≡ later))
+      × (is_ended input ≡ true → (events_in (body input) ≡ fs) × (events_in (behind_document input) ++ more ≡ later))
 
   split_end : Splits (document_end ∷ later) []
   split_end [] is = (λ none. absurd cc, λ ended. absurd cc)

@@ -6,10 +6,10 @@ use Rattle.yaml_load.proofs.Words.{Some, None, is_some, All, inl, inr, cases_Boo
 use Rattle.yaml_load.proofs.Words.{Position, PlainEvent, stream_start, stream_end, document_start, PlainFault}
 use Rattle.yaml_load.proofs.Words.{documents_events, stream_events, IsWellFormed, Node, node_events, target, anchors_of}
 use Rattle.yaml_load.proofs.Words.{DocNode, IsTreeOf, events_of, numbered, nothing, Input, known_events, unknown_mark}
-use Rattle.yaml_load.proofs.Words.{body, behind, is_ended, anchors_in, ending_of, document_from, documents_of}
+use Rattle.yaml_load.proofs.Words.{body, behind_document, is_ended, anchors_in, ending_of, document_from, documents_of}
 use Rattle.yaml_load.proofs.Words.{after_starts, void_documents, last_mark, void_document, further_document}
 use Rattle.yaml_load.proofs.Words.{is_open_after, events_in, resolved, alias_to, a_void, PlainDocument, IsDocumentOf}
-use Rattle.yaml_load.proofs.Words.{AreDocumentsOf, AreStreamDocuments, HasTree, IsAtFault, EndAtFault}
+use Rattle.yaml_load.proofs.Words.{AreDocumentsOfRoots, AreStreamDocuments, HasTree, IsAtFault, EndAtFault}
 use Rattle.yaml_load.proofs.CutLaws.{at_document, fault_last}
 use Rattle.yaml_load.proofs.DocumentLaws.{starts_behind, no_starts}
 use Rattle.yaml_load.proofs.PlainWalks.{all_known, anchors_in-plain, one_unknown, split_node}
@@ -48,7 +48,7 @@ document_of_body root rest fault events ended =
 
 -- one document for each root
 documents_of_roots : (roots : List Node) (input : Input) → events_in input ++ [] ≡ documents_events roots
-    → AreDocumentsOf roots (map (document_from None) (after_starts false input))
+    → AreDocumentsOfRoots roots (map (document_from None) (after_starts false input))
 documents_of_roots [] (e ∷ []) is =
     let end : e.0 ≡ stream_end = cc in rw end tt
 documents_of_roots (root ∷ roots) (e ∷ rest) is =
@@ -57,16 +57,16 @@ documents_of_roots (root ∷ roots) (e ∷ rest) is =
     let ended = whole refl in
     let (events, later) = parts ended in
     rw (start, starts_behind rest ended)
-    (document_of_body root rest None events ended, documents_of_roots roots (behind rest) later)
+    (document_of_body root rest None events ended, documents_of_roots roots (behind_document rest) later)
 documents_of_roots _ _ is = absurd cc
 
 -- nothing more comes behind documents
 documents_alone : (roots : List Node) (root : Node) (starts : List Input) (end : Option Position)
-    → AreDocumentsOf (root ∷ roots) (map (document_from None) starts)
-    → AreDocumentsOf (root ∷ roots) (map (document_from None) starts ++ void_documents starts end)
+    → AreDocumentsOfRoots (root ∷ roots) (map (document_from None) starts)
+    → AreDocumentsOfRoots (root ∷ roots) (map (document_from None) starts ++ void_documents starts end)
 documents_alone roots root [] end h = absurd h
 documents_alone roots root (s ∷ starts) end h =
-    subst (AreDocumentsOf (root ∷ roots)) (sym (append-nil (map (document_from None) (s ∷ starts)))) h
+    subst (AreDocumentsOfRoots (root ∷ roots)) (sym (append-nil (map (document_from None) (s ∷ starts)))) h
 
 -- the documents of a whole stream
 pub documents_of_stream : (roots : List Node) (input : Input) → events_in input ≡ stream_events roots
@@ -87,7 +87,7 @@ tree_of_root : (o : Option DocNode) (document : PlainDocument) → IsDocumentOf 
 tree_of_root None document h = λ whole. absurd (let cut = h.1 in cc)
 tree_of_root (Some t) document h = λ whole. (t, h)
 
-trees_of_roots : (roots : List Node) (documents : List PlainDocument) → AreDocumentsOf roots documents
+trees_of_roots : (roots : List Node) (documents : List PlainDocument) → AreDocumentsOfRoots roots documents
     → All HasTree documents
 trees_of_roots [] [] h = All-nil HasTree
 trees_of_roots (root ∷ roots) (d ∷ ds) h =
@@ -126,12 +126,12 @@ module _ (fault : PlainFault) where
       elim (cases_Bool (is_ended rest)) [
         | inl ended ↦
             let (events, later) = parts ended in
-            let starts : after_starts false (e ∷ rest) ≡ rest ∷ after_starts false (behind rest) =
+            let starts : after_starts false (e ∷ rest) ≡ rest ∷ after_starts false (behind_document rest) =
             rw (start, starts_behind rest ended) in
             subst (λ s. All HasTree (map from s)) (sym starts)
-            (All-cons HasTree (from rest) (map from (after_starts false (behind rest)))
+            (All-cons HasTree (from rest) (map from (after_starts false (behind_document rest)))
             (tree_of_root (resolved root) (from rest) (document_of_body root rest (Some fault) events ended))
-            (trees_of_beginning roots (behind rest) more later))
+            (trees_of_beginning roots (behind_document rest) more later))
         | inr unended ↦
             let starts : after_starts false (e ∷ rest) ≡ rest ∷ [] = rw (start, no_starts rest unended) in
             subst (λ s. All HasTree (map from s)) (sym starts)

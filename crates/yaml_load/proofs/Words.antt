@@ -37,23 +37,26 @@ pub use Rattle.yaml_base.specs.declared.error.Cause.{Cause}
 pub use Rattle.yaml_base.specs.declared.error.Cause.TheVariants.{UnknownAnchor}
 pub use Rattle.yaml_base.specs.declared.event.Event.{Event}
 pub use Rattle.yaml_base.specs.declared.open.Open.{Open}
-pub use Rattle.yaml_load.specs.Documents.{Find, anchor_of, becomes, behind, body, document_from, further_document}
+pub use Rattle.yaml_load.specs.Documents.{Find, anchor_of, becomes, behind_document, body, document_from}
+pub use Rattle.yaml_load.specs.Documents.{further_document}
 pub use Rattle.yaml_load.specs.Documents.{is_document_end, is_document_start, is_ended, is_open_after, known_events}
 pub use Rattle.yaml_load.specs.Documents.{or_mark, then_events, unknown_mark, void_documents}
 pub use Rattle.yaml_load.specs.Ends.{end_place, ends_from, inner_after}
 pub use Rattle.yaml_load.specs.Gathering.{document_in, plain_doc_events}
 pub use Rattle.yaml_load.specs.Resolved.{node_then_nodes, pair_then_pairs, resolved, resolved_from, resolved_nodes}
 pub use Rattle.yaml_load.specs.Resolved.{resolved_pairs, without_anchor}
-pub use Rattle.yaml_load.specs.StreamLaw.{AreDocumentsOf, HoldsFront, IsAtFault, IsDocumentOf}
+pub use Rattle.yaml_load.specs.StreamLaw.{AreDocumentsOfRoots, HoldsFront, IsAtFault, IsDocumentOf}
 pub use Rattle.yaml_load.specs.Words.{AreCuts, AreStreamDocuments, EndAtFault, HasEnds, HasNumbers, HasTree, HoldFronts}
-pub use Rattle.yaml_load.specs.Words.{Input, IsBeforeFault, IsBetween, IsDocument, IsDraft, IsEnding, IsOnWay, IsReady}
+pub use Rattle.yaml_load.specs.Words.{Input, IsBeforeFault, IsDocument, IsDraft, IsDraftBetween, IsEnding, IsOnWay}
+pub use Rattle.yaml_load.specs.Words.{IsReady}
 pub use Rattle.yaml_load.specs.Words.{IsTaken, IsWellFormed, IsWrongAt, IsWrongNext, Moves, Node, NotAStream}
 pub use Rattle.yaml_load.specs.Words.{PlainDocEvent, PlainDocument, PlainFault, Position, Waiting, after_starts, alias}
 pub use Rattle.yaml_load.specs.Words.{alias_to, anchor_at, anchors_in, bounded_from, document_end, document_of}
 pub use Rattle.yaml_load.specs.Words.{document_start, documents_in, documents_of, ending_in, ending_of, ends_of}
 pub use Rattle.yaml_load.specs.Words.{event_of, events_in, failed_document, find_in, is_closing, is_done, is_open}
 pub use Rattle.yaml_load.specs.Words.{is_opening, last_mark, mapping_end, mapping_start, marked_events_of, plain_events}
-pub use Rattle.yaml_load.specs.Words.{plain_marked, scalar, scalar_of, sequence_end, sequence_start, settled, state_of}
+pub use Rattle.yaml_load.specs.Words.{phase_state, plain_marked, scalar, scalar_of, sequence_end, sequence_start}
+pub use Rattle.yaml_load.specs.Words.{settled}
 pub use Rattle.yaml_load.specs.Words.{stream_end, stream_events, stream_start, void_document, within}
 pub use Rattle.yaml_load.specs.declared.loader.check.Phase.{Phase}
 pub use Rattle.yaml_load.specs.declared.loader.check.Phase.TheVariants.{After, Before}
@@ -61,8 +64,9 @@ pub use Rattle.yaml_load.specs.declared.loader.draft.Cut.{Cut}
 pub use Rattle.yaml_load.specs.declared.loader.draft.Draft.{Draft}
 pub use Rattle.yaml_load.specs.inner.Drafts.{AreTaken, Settled, aimed, drafted, drafts_of, is_of_node, settle}
 pub use Rattle.yaml_load.specs.inner.Intake.{HasTaken}
-pub use Rattle.yaml_load.specs.inner.Loading.{IsClosedDraft, IsOpenDraft, Takes, is_inside, open_before, open_behind}
-pub use Rattle.yaml_load.specs.inner.OpenEnds.{EndsView, filled}
+pub use Rattle.yaml_load.specs.inner.Loading.{IsClosedDraft, IsOpenDraft, TakesEvent, is_inside, open_before}
+pub use Rattle.yaml_load.specs.inner.Loading.{open_behind}
+pub use Rattle.yaml_load.specs.inner.OpenEnds.{EndsView, numbers_ended}
 
 -- events of documents in memory, and plain ones, each with its mark
 abbrev pub Events : Type 0

@@ -7,7 +7,7 @@ use Rattle.yaml_load.proofs.Words.{inl, inr, arith, append_assoc, append-nil, su
 use Rattle.yaml_load.proofs.Words.{take-length, length-map, map-append, take-append-drop, Position, PlainEvent}
 use Rattle.yaml_load.proofs.Words.{event_of, Event, IsStream, IsBeginning, IsWellFormed, Open, Phase, State}
 use Rattle.yaml_load.proofs.Words.{before_stream, after_stream, next_state, run, Input, events_in, plain_events}
-use Rattle.yaml_load.proofs.Words.{plain_marked, is_done, state_of, IsWrongAt, IsWrongNext, After, whole_run}
+use Rattle.yaml_load.proofs.Words.{plain_marked, is_done, phase_state, IsWrongAt, IsWrongNext, After, whole_run}
 use Rattle.yaml_load.proofs.Words.{goes_on_run, run_append}
 
 -- the plain events of events with marks
@@ -42,7 +42,7 @@ wrong_not_well_formed faulted events place (begins, inl early) h =
 wrong_not_well_formed faulted events place (begins, inr late) h = late.1 h
 
 -- the phase behind the end of the stream is that of the last state
-at_end : (p : Phase) (opened : List Open) → (is_done p ≡ true) ↔ (state_of p opened ≡ after_stream)
+at_end : (p : Phase) (opened : List Open) → (is_done p ≡ true) ↔ (phase_state p opened ≡ after_stream)
 at_end After opened = (λ h. refl, λ e. refl)
 at_end _ opened = (λ h. absurd cc, λ e. absurd cc)
 
@@ -59,9 +59,9 @@ right false true events begins ends other = ends.0 refl
 right _ _ events begins ends other = absurd (other refl)
 
 module _ (faulted : Bool) (p : Phase) (opened : List Open) (events : List PlainEvent)
-    (ran : run (Some before_stream) events ≡ Some (state_of p opened)) where
+    (ran : run (Some before_stream) events ≡ Some (phase_state p opened)) where
   begins : IsBeginning events
-  begins = (goes_on_run events).1 (state_of p opened, ran)
+  begins = (goes_on_run events).1 (phase_state p opened, ran)
 
   ends : (is_done p ≡ true) ↔ IsStream events
   ends = (

@@ -47,9 +47,9 @@ abbrev pub body : Input → Input
 body [] = []
 body (e ∷ input) = if is_document_end e.0 then [] else e ∷ body input
 
-abbrev pub behind : Input → Input
-behind [] = []
-behind (e ∷ input) = if is_document_end e.0 then input else behind input
+abbrev pub behind_document : Input → Input
+behind_document [] = []
+behind_document (e ∷ input) = if is_document_end e.0 then input else behind_document input
 
 -- the document ends
 abbrev pub is_ended : Input → Bool

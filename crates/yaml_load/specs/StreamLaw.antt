@@ -19,17 +19,17 @@ IsDocumentOf (Some tree) document = IsTreeOf document tree
 IsDocumentOf None document = (mark : Position) × (document.ending ≡ Some (UnknownAnchor mark))
 
 -- one document for each root, in order
-abbrev pub AreDocumentsOf : List Node → List PlainDocument → Type 0
-AreDocumentsOf [] [] = Unit {0}
-AreDocumentsOf (root ∷ roots) (document ∷ documents) =
-    IsDocumentOf (resolved root) document × AreDocumentsOf roots documents
-AreDocumentsOf _ _ = ⊥
+abbrev pub AreDocumentsOfRoots : List Node → List PlainDocument → Type 0
+AreDocumentsOfRoots [] [] = Unit {0}
+AreDocumentsOfRoots (root ∷ roots) (document ∷ documents) =
+    IsDocumentOf (resolved root) document × AreDocumentsOfRoots roots documents
+AreDocumentsOfRoots _ _ = ⊥
 
 -- the documents of a stream with these roots; where there is none, one that stands for nothing, with the mark of the
 -- last event
 abbrev pub AreStreamDocuments : List Node → (last : Option Position) → List PlainDocument → Type 0
 AreStreamDocuments [] last documents = (mark : Position) × (last ≡ Some mark) × (documents ≡ void_document mark ∷ [])
-AreStreamDocuments (root ∷ roots) last documents = AreDocumentsOf (root ∷ roots) documents
+AreStreamDocuments (root ∷ roots) last documents = AreDocumentsOfRoots (root ∷ roots) documents
 
 -- a document that nothing cut off has a tree
 abbrev pub HasTree : PlainDocument → Type 0

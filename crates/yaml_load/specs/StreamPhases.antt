@@ -8,13 +8,13 @@ use Rattle.yaml_load.specs.declared.loader.check.Phase.{Phase}
 use Rattle.yaml_load.specs.declared.loader.check.Phase.TheVariants.{Before, Between, Root, Within, Ended, After}
 
 -- The state for a phase, and for what the collections around the innermost wait for, the outermost first.
-abbrev pub state_of : Phase → List Open → State
-state_of Before outer = before_stream
-state_of Between outer = between_documents
-state_of Root outer = before_root
-state_of (Within innermost) outer = within (innermost ∷ reverse outer)
-state_of Ended outer = within []
-state_of After outer = after_stream
+abbrev pub phase_state : Phase → List Open → State
+phase_state Before outer = before_stream
+phase_state Between outer = between_documents
+phase_state Root outer = before_root
+phase_state (Within innermost) outer = within (innermost ∷ reverse outer)
+phase_state Ended outer = within []
+phase_state After outer = after_stream
 
 -- no collection stands around but within one
 abbrev pub IsClean : Phase → List Open → Type 0
@@ -28,9 +28,9 @@ opened_in (Some around) outer = around ∷ reverse outer
 
 -- an event leads from a phase to another, or may not stand there
 abbrev pub Moves : Phase → List Open → PlainEvent → List Open → Option Phase → Type 0
-Moves phase old e new None = next_state (state_of phase old) e ≡ None
+Moves phase old e new None = next_state (phase_state phase old) e ≡ None
 Moves phase old e new (Some found) =
-    (next_state (state_of phase old) e ≡ Some (state_of found new)) × IsClean found new
+    (next_state (phase_state phase old) e ≡ Some (phase_state found new)) × IsClean found new
 
 -- the phase behind the end of the stream, and those within a document
 abbrev pub is_done : Phase → Bool

@@ -24,9 +24,9 @@ pub use Rattle.yaml_load.specs.Gathering.{AreCuts, HasEnds, document_of_range, d
 pub use Rattle.yaml_load.specs.MarkedEvents.{events_in, plain_events, plain_marked}
 pub use Rattle.yaml_load.specs.StreamLaw.{AreStreamDocuments, EndAtFault, HasTree, HoldFronts, IsBeforeFault}
 pub use Rattle.yaml_load.specs.StreamLaw.{IsDocument, IsEnding}
-pub use Rattle.yaml_load.specs.StreamPhases.{IsClean, Moves, is_done, is_open, opened_in, state_of}
+pub use Rattle.yaml_load.specs.StreamPhases.{IsClean, Moves, is_done, is_open, opened_in, phase_state}
 pub use Rattle.yaml_load.specs.WrongPlace.{IsWrongAt, IsWrongNext}
 pub use Rattle.yaml_load.specs.inner.AnchorOrder.{AllBefore, IsInOrder, IsPlaceOf, NoneBefore}
-pub use Rattle.yaml_load.specs.inner.Drafts.{IsBetween, IsDraft, IsTaken, Waiting, settled}
-pub use Rattle.yaml_load.specs.inner.Loading.{IsOnWay, IsReady, Steps}
+pub use Rattle.yaml_load.specs.inner.Drafts.{IsDraft, IsDraftBetween, IsTaken, Waiting, settled}
+pub use Rattle.yaml_load.specs.inner.Loading.{IsOnWay, IsReady, StepsOver}
 pub use Rattle.yaml_load.specs.inner.OpenEnds.{HasNumbers, bounded_from}

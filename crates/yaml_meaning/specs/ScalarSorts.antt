@@ -33,9 +33,9 @@ is_literal Literal = true
 is_literal _ = false
 
 -- the tag is this one
-abbrev pub is_tag : (name : List ℕ) → Option (List ℕ) → Bool
-is_tag name None = false
-is_tag name (Some tag) = bytes_eq tag name
+abbrev pub is_tag_named : (name : List ℕ) → Option (List ℕ) → Bool
+is_tag_named name None = false
+is_tag_named name (Some tag) = bytes_eq tag name
 
 -- the tag begins with `!`
 abbrev pub is_local : Option (List ℕ) → Bool
@@ -45,7 +45,7 @@ is_local (Some (c ∷ cs)) = c == 33
 
 -- the scalar has this tag, and it is not taken
 abbrev pub has_untaken : (name : List ℕ) → (taken : Bool) → PlainScalar → Bool
-has_untaken name taken s = not taken && is_tag name s.tag
+has_untaken name taken s = not taken && is_tag_named name s.tag
 
 -- the scalar is plain, and it has no tag, a taken one, or one that begins with `!`
 abbrev pub is_resolved : (taken : Bool) → PlainScalar → Bool

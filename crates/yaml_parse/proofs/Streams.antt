@@ -17,7 +17,7 @@ use Rattle.yaml_parse.specs.declared.frame.Frame.{Frame}
 use Rattle.yaml_parse.specs.declared.frame.Phase.{Phase}
 use Rattle.yaml_parse.specs.declared.frame.Phase.TheVariants as phase
 use Rattle.yaml_base.specs.StreamMachine.{State, before_stream, next_state, run, within}
-use Rattle.yaml_parse.specs.Frames.{state_of, is_done, open_of, open_behind, opens, ends_sequence, ends_mapping}
+use Rattle.yaml_parse.specs.Frames.{state_of, is_done, open_of, open_after_node, opens, ends_sequence, ends_mapping}
 use Rattle.yaml_parse.specs.Marks.{MarksAscend}
 use Rattle.yaml_parse.specs.Places.{AreInPlace, IsInPlace}
 use Rattle.yaml_parse.specs.PlainText.{SaySources, SaysSource, scalar_in}
@@ -56,21 +56,21 @@ opens-push outer x =
 
 starts_sequence : (o : Open) (opened : List Open) (anchor tag : Option (List ℕ))
     → next_state (within (o ∷ opened)) (sequence_start anchor tag)
-    ≡ Some (within (Sequence ∷ open_behind o ∷ opened))
+    ≡ Some (within (Sequence ∷ open_after_node o ∷ opened))
 starts_sequence Sequence opened anchor tag = refl
 starts_sequence Key opened anchor tag = refl
 starts_sequence Value opened anchor tag = refl
 
 starts_mapping : (o : Open) (opened : List Open) (anchor tag : Option (List ℕ))
     → next_state (within (o ∷ opened)) (mapping_start anchor tag)
-    ≡ Some (within (Key ∷ open_behind o ∷ opened))
+    ≡ Some (within (Key ∷ open_after_node o ∷ opened))
 starts_mapping Sequence opened anchor tag = refl
 starts_mapping Key opened anchor tag = refl
 starts_mapping Value opened anchor tag = refl
 
 -- a sequence begins within a collection
 pub begins_sequence : (here back first : Frame) (opened : List Open) (anchor tag : Option (List ℕ))
-    → open_of first ≡ Sequence → open_of back ≡ open_behind (open_of here)
+    → open_of first ≡ Sequence → open_of back ≡ open_after_node (open_of here)
     → next_state (within (open_of here ∷ opened)) (sequence_start anchor tag)
     ≡ Some (within (open_of first ∷ open_of back ∷ opened))
 begins_sequence here back first opened anchor tag is behind =
@@ -80,7 +80,7 @@ begins_sequence here back first opened anchor tag is behind =
 
 -- a mapping begins within a collection
 pub begins_mapping : (here back first : Frame) (opened : List Open) (anchor tag : Option (List ℕ))
-    → open_of first ≡ Key → open_of back ≡ open_behind (open_of here)
+    → open_of first ≡ Key → open_of back ≡ open_after_node (open_of here)
     → next_state (within (open_of here ∷ opened)) (mapping_start anchor tag)
     ≡ Some (within (open_of first ∷ open_of back ∷ opened))
 begins_mapping here back first opened anchor tag is behind =
@@ -89,26 +89,26 @@ begins_mapping here back first opened anchor tag is behind =
     ∙ ap (λ o. Some (within (o ∷ open_of back ∷ opened))) (sym is)
 
 takes_scalar : (o : Open) (opened : List Open) (s : PlainScalar)
-    → next_state (within (o ∷ opened)) (scalar s) ≡ Some (within (open_behind o ∷ opened))
+    → next_state (within (o ∷ opened)) (scalar s) ≡ Some (within (open_after_node o ∷ opened))
 takes_scalar Sequence opened s = refl
 takes_scalar Key opened s = refl
 takes_scalar Value opened s = refl
 
 takes_alias : (o : Open) (opened : List Open) (a : List ℕ)
-    → next_state (within (o ∷ opened)) (alias a) ≡ Some (within (open_behind o ∷ opened))
+    → next_state (within (o ∷ opened)) (alias a) ≡ Some (within (open_after_node o ∷ opened))
 takes_alias Sequence opened a = refl
 takes_alias Key opened a = refl
 takes_alias Value opened a = refl
 
 -- a leaf within a collection
 pub passes_scalar : (here back : Frame) (opened : List Open) (s : PlainScalar)
-    → open_of back ≡ open_behind (open_of here)
+    → open_of back ≡ open_after_node (open_of here)
     → next_state (within (open_of here ∷ opened)) (scalar s) ≡ Some (within (open_of back ∷ opened))
 passes_scalar here back opened s behind =
     takes_scalar (open_of here) opened s ∙ ap (λ o. Some (within (o ∷ opened))) (sym behind)
 
 pub passes_alias : (here back : Frame) (opened : List Open) (a : List ℕ)
-    → open_of back ≡ open_behind (open_of here)
+    → open_of back ≡ open_after_node (open_of here)
     → next_state (within (open_of here ∷ opened)) (alias a) ≡ Some (within (open_of back ∷ opened))
 passes_alias here back opened a behind =
     takes_alias (open_of here) opened a ∙ ap (λ o. Some (within (o ∷ opened))) (sym behind)

@@ -33,10 +33,10 @@ open_of frame.MapValueNode = Value
 open_of frame.MapNoValue = Value
 
 -- what a collection waits for behind a node
-abbrev pub open_behind : Open → Open
-open_behind Sequence = Sequence
-open_behind Key = Value
-open_behind Value = Key
+abbrev pub open_after_node : Open → Open
+open_after_node Sequence = Sequence
+open_after_node Key = Value
+open_after_node Value = Key
 
 -- what the open collections wait for, the innermost first
 abbrev pub opens : List (Frame × Position) → List Open

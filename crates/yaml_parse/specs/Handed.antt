@@ -5,11 +5,11 @@ use Rattle.yaml_base.specs.Position.{Position}
 use Rattle.yaml_base.specs.declared.event.Event.{Event}
 use Rattle.yaml_parse.specs.declared.parser.Parser.{Parser}
 
-abbrev pub made : Parser → List (Event × Position)
-made parser = parser.machine.stream.events.made.items
+abbrev pub made_so_far : Parser → List (Event × Position)
+made_so_far parser = parser.machine.stream.events.made.items
 
-abbrev pub handed : Parser → List (Event × Position)
-handed parser = parser.machine.stream.events.handed.items
+abbrev pub handed_out : Parser → List (Event × Position)
+handed_out parser = parser.machine.stream.events.handed.items
 
 -- how many were not handed out
 abbrev pub waiting : Parser → ℕ

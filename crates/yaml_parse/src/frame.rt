@@ -1,7 +1,7 @@
 //! What an open collection waits for, and which part of a stream comes next.
 
 ghost use Rattle.std.specs.Prelude.{◌≡◌, true};
-ghost use Rattle.yaml_parse.specs.Frames.{ends_mapping, ends_sequence, open_behind, open_of};
+ghost use Rattle.yaml_parse.specs.Frames.{ends_mapping, ends_sequence, open_after_node, open_of};
 
 // What an open collection waits for.
 #[derive(Clone, Copy)]
@@ -73,7 +73,7 @@ pub(crate) enum Phase {
 
 // What a collection waits for behind a node.
 pub(crate) fn behind(frame: Frame) -> Frame
-    ensures { open_of result ≡ open_behind (open_of frame) }
+    ensures { open_of result ≡ open_after_node (open_of frame) }
 {
     match frame {
         Frame::BlockEntry | Frame::BlockNode => Frame::BlockEntry,

@@ -61,12 +61,12 @@ pub struct Parser<'a> {
 }
 
 impl<'a> Parser<'a> {
-    ghost use Rattle.yaml_parse.specs.Handed.{handed, made, waiting};
+    ghost use Rattle.yaml_parse.specs.Handed.{handed_out, made_so_far, waiting};
 
     /// A parser of a text that has taken no token. The only error is want of memory.
     pub fn new(alloc: Global, text: &'a [u8]) -> Result<Parser<'a>, AllocError>
         ensures text { IfOk result (λ parser. parser.text.now ≡ text.now) }
-        ensures none { IfOk result (λ parser. handed parser ≡ []) }
+        ensures none { IfOk result (λ parser. handed_out parser ≡ []) }
     {
         let mut machine = Machine::new(alloc, text, start_mark());
         let own = match machine.stream.begin_stream(start_mark()) {
@@ -80,7 +80,7 @@ impl<'a> Parser<'a> {
     /// error is want of memory.
     pub fn take(&mut self, placed: Placed) -> Result<bool, AllocError>
         ensures text { self.new.text.now ≡ self.old.text.now }
-        ensures handed { handed self.new ≡ handed self.old }
+        ensures handed_out { handed_out self.new ≡ handed_out self.old }
     {
         if self.own.is_some() {
             return Ok(false);
@@ -99,9 +99,9 @@ impl<'a> Parser<'a> {
     #[inline(always)]
     pub fn next_event(&mut self) -> Option<(Event<'a>, Mark)>
         ensures text { self.new.text.now ≡ self.old.text.now }
-        ensures handed { handed self.new ≡ handed self.old ++ option_to_list result }
-        ensures made { made self.new ≡ made self.old }
-        ensures none { IfNone result (handed self.new ≡ made self.new) }
+        ensures handed_out { handed_out self.new ≡ handed_out self.old ++ option_to_list result }
+        ensures made_so_far { made_so_far self.new ≡ made_so_far self.old }
+        ensures none { IfNone result (handed_out self.new ≡ made_so_far self.new) }
     {
         if self.has_waiting() {
             Some(self.take_waiting())
@@ -114,7 +114,7 @@ impl<'a> Parser<'a> {
     #[inline(always)]
     pub fn has_waiting(&self) -> bool
         ensures waits { result ≡ true → 0 < waiting self.now }
-        ensures none { result ≡ false → handed self.now ≡ made self.now }
+        ensures none { result ≡ false → handed_out self.now ≡ made_so_far self.now }
     {
         self.machine.stream.has_waiting()
     }
@@ -124,8 +124,8 @@ impl<'a> Parser<'a> {
     pub fn take_waiting(&mut self) -> (Event<'a>, Mark)
         requires { 0 < waiting self.old }
         ensures text { self.new.text.now ≡ self.old.text.now }
-        ensures handed { handed self.new ≡ handed self.old ++ result ∷ [] }
-        ensures made { made self.new ≡ made self.old }
+        ensures handed_out { handed_out self.new ≡ handed_out self.old ++ result ∷ [] }
+        ensures made_so_far { made_so_far self.new ≡ made_so_far self.old }
     {
         self.machine.stream.take()
     }
@@ -140,11 +140,11 @@ impl<'a> Parser<'a> {
 
     /// What is known of the events that were handed out. This is a law: the call does nothing.
     pub fn has_events(&self)
-        ensures begins { IsBeginning (plain_events (handed self.now)) }
-        ensures sources { AreShown self.now.text.now (handed self.now) }
-        ensures plain { SaySources (handed self.now) }
-        ensures marks { MarksAscend self.now.text.now (handed self.now) }
-        ensures places { AreInPlace self.now.text.now (handed self.now) }
+        ensures begins { IsBeginning (plain_events (handed_out self.now)) }
+        ensures sources { AreShown self.now.text.now (handed_out self.now) }
+        ensures plain { SaySources (handed_out self.now) }
+        ensures marks { MarksAscend self.now.text.now (handed_out self.now) }
+        ensures places { AreInPlace self.now.text.now (handed_out self.now) }
     {
         self.machine.stream.has_events();
     }
@@ -152,11 +152,11 @@ impl<'a> Parser<'a> {
     /// The events that were not handed out, in a list. Takes no memory, but where some were handed out the others are
     /// moved.
     pub fn into_waiting(self) -> Vec<(Event<'a>, Mark)>
-        ensures waiting { made self.entry ≡ handed self.entry ++ result.items }
-        ensures sources { AreShown self.entry.text.now (made self.entry) }
-        ensures plain { SaySources (made self.entry) }
-        ensures marks { MarksAscend self.entry.text.now (made self.entry) }
-        ensures places { AreInPlace self.entry.text.now (made self.entry) }
+        ensures waiting { made_so_far self.entry ≡ handed_out self.entry ++ result.items }
+        ensures sources { AreShown self.entry.text.now (made_so_far self.entry) }
+        ensures plain { SaySources (made_so_far self.entry) }
+        ensures marks { MarksAscend self.entry.text.now (made_so_far self.entry) }
+        ensures places { AreInPlace self.entry.text.now (made_so_far self.entry) }
     {
         let Parser { machine, .. } = self;
         machine.stream.into_waiting()
@@ -165,7 +165,7 @@ impl<'a> Parser<'a> {
     /// Why no more events come: for the parser's own first fault, or else for this fault of the tokens, if there is one.
     /// Tokens that neither end nor have a fault give a fault of kind `Other`. The only error is want of memory.
     pub fn finish(&self, alloc: Global, fault: Option<Fault>) -> Result<Ending, AllocError>
-        ensures taken { IfOk result (λ ending. IsWellFormed (is_some ending.fault) (plain_events (made self.now))) }
+        ensures taken { IfOk result (λ ending. IsWellFormed (is_some ending.fault) (plain_events (made_so_far self.now))) }
         ensures found { IfOk result (λ ending. is_some ending.found ≡ is_some ending.fault) }
         ensures not_readers { ForSome fault (λ f. f.kind ≢ kind.Reader) →
             IfOk result (λ ending. IsNotReaders ending.fault) }

@@ -7,9 +7,9 @@ use Rattle.yaml_probe.specs.declared.status.Status.{Status}
 use Rattle.yaml_probe.specs.declared.status.Status.TheVariants as status
 
 -- the status that goes with a reply, whose tables are all schemas or not
-abbrev pub status_of : (accepted : Bool) → Status
-status_of true = status.Answered
-status_of false = status.TableRefused
+abbrev pub reply_status : (accepted : Bool) → Status
+reply_status true = status.Answered
+reply_status false = status.TableRefused
 
 -- the status where there is no reply
 abbrev pub status_without : Unanswered → Status
@@ -18,5 +18,5 @@ status_without reply.OutOfMemory = status.OutOfMemory
 
 -- a run that prints lines writes them and ends with their status, unless the writer fails; what the writer holds is
 -- told where it is known
-abbrev pub Prints : (old new : Option (List ℕ)) → (lines : List ℕ) → (ended result : Status) → Type 0
-Prints old new lines ended result = result ≢ status.WriteFailed → (result ≡ ended) × Appends old new lines
+abbrev pub PrintsLines : (old new : Option (List ℕ)) → (lines : List ℕ) → (ended result : Status) → Type 0
+PrintsLines old new lines ended result = result ≢ status.WriteFailed → (result ≡ ended) × Appends old new lines

@@ -1,7 +1,7 @@
 //! Printing a reply. Nothing else touches the writer.
 
 ghost use Rattle.std.specs.Prelude.{◌≡◌, IfOk, IfErr, string_bytes};
-ghost use Rattle.yaml_probe.specs.Printed.{Prints, status_of, status_without};
+ghost use Rattle.yaml_probe.specs.Printed.{PrintsLines, reply_status, status_without};
 
 use crate::reply::Answers;
 use crate::status::Status;
@@ -10,8 +10,8 @@ use yaml_run::Unanswered;
 
 /// Writes the lines of a reply. The run ends with the reply's status, unless the writer fails.
 pub fn print<W: Write>(writer: &mut W, reply: &Answers) -> Status
-    ensures { Prints (W.contents writer.old) (W.contents writer.new)
-        (string_bytes reply.now.lines) (status_of reply.now.accepted) result }
+    ensures { PrintsLines (W.contents writer.old) (W.contents writer.new)
+        (string_bytes reply.now.lines) (reply_status reply.now.accepted) result }
 {
     if writer.write_all(reply.lines.as_bytes()).is_err() || writer.flush().is_err() {
         return Status::WriteFailed;
@@ -25,8 +25,8 @@ pub fn print<W: Write>(writer: &mut W, reply: &Answers) -> Status
 
 /// Ends a run: prints the reply, or where there is none, nothing.
 pub fn conclude<W: Write>(writer: &mut W, reply: &Result<Answers, Unanswered>) -> Status
-    ensures printed { IfOk reply.now (λ made. Prints (W.contents writer.old) (W.contents writer.new)
-        (string_bytes made.lines) (status_of made.accepted) result) }
+    ensures printed { IfOk reply.now (λ made. PrintsLines (W.contents writer.old) (W.contents writer.new)
+        (string_bytes made.lines) (reply_status made.accepted) result) }
     ensures unwritten { IfErr reply.now (λ why. (result ≡ status_without why) × (writer.new ≡ writer.old)) }
 {
     match reply {

@@ -19,7 +19,7 @@ use Rattle.yaml_tree.specs.Tag.{tag_name, tag_eq, is_tag}
 use Rattle.yaml_tree.specs.Tree.{Tree, null, boolean, number, string, sequence, mapping, tagged, Trees, no_trees, tree}
 use Rattle.yaml_tree.specs.Tree.{Pairs, no_pairs, pair}
 use Rattle.yaml_tree.specs.Valid.{is_value, are_values, are_pairs}
-use Rattle.yaml_meaning.specs.AnyData.{trees_in, pairs_in}
+use Rattle.yaml_meaning.specs.AnyData.{trees_in, pairs_in_entries}
 use Rattle.yaml_meaning.specs.Handing.{as_is, any_by, handed, early}
 use Rattle.yaml_meaning.specs.Meaning.{Means, means_node, means_tagged, means_scalar, means_list, means_mapping}
 use Rattle.yaml_meaning.specs.Meaning.{means_any_list, means_any_mapping, MeanEach, means_none, means_more}
@@ -73,7 +73,7 @@ module _ (table : List PlainShape) (root : DocNode) where
   pub record PairsReturn (ns : DocPairs) (ps : Pairs) : Type 0 where
     pub found : PlainEntries
     pub means : MeanPairs table root any_shape any_shape ns found (pairs_nestings ps) 0
-    pub same : same_pairs ps (pairs_in found) ≡ true
+    pub same : same_pairs ps (pairs_in_entries found) ≡ true
 
   -- a scalar means what it gives
   pub word_means : (s : PlainShape) (taken : Bool) (w : PlainScalar) (n : DocNode) (v : PlainData) → early s ≡ None
@@ -131,10 +131,10 @@ module _ (table : List PlainShape) (root : DocNode) where
         let m = made_ok (emit_mapping_node tag) (written_pairs ps) e h in
         let r : IsRendered (emit_mapping_node tag m.0) n = subst (λ e. IsRendered e n) m.2 r in
         let all = pairs_return ps m.0 r.0 (second (keys_distinct ps) (are_pairs ps) is) fits m.1 r.2 in
-        let apart = distinct_again ps (pairs_in all.found) all.same (first (keys_distinct ps) (are_pairs ps) is) in
+        let apart = distinct_again ps (pairs_in_entries all.found) all.same (first (keys_distinct ps) (are_pairs ps) is) in
         record {
-          found = mapping (pairs_in all.found);
-          means = subst (λ n. Means table root any_shape n (is_some tag) (any_data (mapping (pairs_in all.found)))
+          found = mapping (pairs_in_entries all.found);
+          means = subst (λ n. Means table root any_shape n (is_some tag) (any_data (mapping (pairs_in_entries all.found)))
               (tree_nestings (mapping ps)) 0) (sym r.1)
               (means_node refl (any_as_is tag (mapping_begins tag) refl)
               (means_mapping (means_any_mapping all.means apart)));
@@ -205,6 +205,6 @@ module _ (table : List PlainShape) (root : DocNode) where
           means = subst (λ ns. MeanPairs table root any_shape any_shape ns
               (entry (any_data key.found) (any_data value.found) all.found) (pairs_nestings (pair k v ps)) 0) (sym r.3)
               (means_pair key.means value.means all.means);
-          same = both (same_tree k key.found) (same_tree v value.found && same_pairs ps (pairs_in all.found)) key.same
-              (both (same_tree v value.found) (same_pairs ps (pairs_in all.found)) value.same all.same);
+          same = both (same_tree k key.found) (same_tree v value.found && same_pairs ps (pairs_in_entries all.found)) key.same
+              (both (same_tree v value.found) (same_pairs ps (pairs_in_entries all.found)) value.same all.same);
         }

@@ -18,7 +18,7 @@ use Rattle.yaml_shape.specs.PlainShape.{struct_variant}
 use Rattle.yaml_shape.specs.Validity.{IsDistinctInside, AreDistinct}
 use Rattle.yaml_shape.specs.Validity.{names_of, numbers_of}
 use Rattle.yaml_meaning.specs.Fields.{Fields}
-use Rattle.yaml_meaning.specs.Handing.{variant_by, enum_by}
+use Rattle.yaml_meaning.specs.Handing.{handed_variant, enum_by}
 use Rattle.yaml_meaning.specs.Meaning.{means_node, means_variant}
 use Rattle.yaml_meaning.specs.Variants.{Variants, variant_named}
 use Rattle.yaml_write.specs.LocalTags.{local_tag}
@@ -57,7 +57,7 @@ module _ (table : List PlainShape) (root : DocNode) where
       record {
         found = variant_data place one.found;
         means = means_node refl (ap (enum_by ename variants) name_is
-            ∙ ap (variant_by (record { name = ename; variant = name })) found) (means_variant at one.means);
+            ∙ ap (handed_variant (record { name = ename; variant = name })) found) (means_variant at one.means);
         same = both (nat_eq place place) (same_data d one.found) (same_number place) one.same;
       }
 

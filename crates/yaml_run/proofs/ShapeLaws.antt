@@ -16,7 +16,7 @@ use Rattle.yaml_shape.specs.Validity.{NamesWithin, AllNameWithin, AreDistinct, I
 use Rattle.yaml_shape.specs.Validity.{named, step_from, walk}
 use Rattle.yaml_shape.specs.declared.fault.SchemaFault.{SchemaFault}
 use Rattle.yaml_shape.specs.declared.fault.SchemaFault.TheVariants.{S1, S2, S3, S4, S5}
-use Rattle.yaml_run.specs.Shapes.{table_of, basic_shape, outer_shape, inner_shape}
+use Rattle.yaml_run.specs.Shapes.{table_of, shape_of_basic, shape_of_outer, shape_of_inner}
 use Rattle.yaml_run.specs.declared.shapes.Named.{Named}
 use Rattle.yaml_run.specs.declared.shapes.Named.TheVariants as shape
 
@@ -88,18 +88,18 @@ two_names a b h =
 differ : (a b : List ℕ) → get_or a 0 0 < get_or b 0 0 → a ≢ b
 differ a b h = λ e. let same : get_or a 0 0 ≡ get_or b 0 0 = ap (λ (l : List ℕ). get_or l 0 0) e in omega arith
 
-distinct_basic : (strict : Bool) → HasDistinctNames (basic_shape strict)
+distinct_basic : (strict : Bool) → HasDistinctNames (shape_of_basic strict)
 distinct_basic strict =
     two_names (codes "v") (codes "w") (differ (codes "v") (codes "w") (let h : 118 < 119 = omega arith in h))
 
-distinct_outer : HasDistinctNames outer_shape
+distinct_outer : HasDistinctNames shape_of_outer
 distinct_outer = (
   one_name (codes "Inner"),
   one_more (λ v. IsDistinctInside v.1) (codes "Inner", newtype_variant 1) [] tt
       (no_part (λ v. IsDistinctInside v.1)),
 )
 
-distinct_inner : HasDistinctNames inner_shape
+distinct_inner : HasDistinctNames shape_of_inner
 distinct_inner = (
   two_names (codes "Variant") (codes "Plain") (λ e. cc),
   one_more (λ v. IsDistinctInside v.1) (codes "Variant", newtype_variant 2) ((codes "Plain", unit_variant) ∷ []) tt
@@ -119,11 +119,11 @@ distinct shape.Ignored = single ignored_shape tt
 distinct shape.U64 = single (integer_shape u64) tt
 distinct shape.Option = double (option_shape 1) (integer_shape i64) tt tt
 distinct shape.Pair = double (row_shape unnamed (1 ∷ 1 ∷ [])) (integer_shape i64) tt tt
-distinct shape.Basic = double (basic_shape false) bool_shape (distinct_basic false) tt
-distinct shape.Strict = double (basic_shape true) bool_shape (distinct_basic true) tt
+distinct shape.Basic = double (shape_of_basic false) bool_shape (distinct_basic false) tt
+distinct shape.Strict = double (shape_of_basic true) bool_shape (distinct_basic true) tt
 distinct shape.Outer =
-    one_more HasDistinctNames outer_shape (inner_shape ∷ seq_shape 3 ∷ integer_shape usize ∷ []) distinct_outer
-    (one_more HasDistinctNames inner_shape (seq_shape 3 ∷ integer_shape usize ∷ []) distinct_inner
+    one_more HasDistinctNames shape_of_outer (shape_of_inner ∷ seq_shape 3 ∷ integer_shape usize ∷ []) distinct_outer
+    (one_more HasDistinctNames shape_of_inner (seq_shape 3 ∷ integer_shape usize ∷ []) distinct_inner
     (double (seq_shape 3) (integer_shape usize) tt tt))
 
 -- two steps through optionals lead nowhere

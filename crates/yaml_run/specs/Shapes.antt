@@ -31,16 +31,16 @@ abbrev pub fields_of_basic : List (List ℕ × ℕ)
 fields_of_basic = (codes "v", 1) ∷ (codes "w", 1) ∷ []
 
 -- Basic, in which other fields may stand or may not
-abbrev pub basic_shape : Bool → PlainShape
-basic_shape strict = fields_shape strict (of_struct (codes "Basic")) fields_of_basic
+abbrev pub shape_of_basic : Bool → PlainShape
+shape_of_basic strict = fields_shape strict (of_struct (codes "Basic")) fields_of_basic
 
 -- Outer, whose variant holds Inner
-abbrev pub outer_shape : PlainShape
-outer_shape = enum_shape (codes "Outer") ((codes "Inner", newtype_variant 1) ∷ [])
+abbrev pub shape_of_outer : PlainShape
+shape_of_outer = enum_shape (codes "Outer") ((codes "Inner", newtype_variant 1) ∷ [])
 
 -- Inner, of which one variant holds a sequence, and the other nothing
-abbrev pub inner_shape : PlainShape
-inner_shape = enum_shape (codes "Inner") ((codes "Variant", newtype_variant 2) ∷ (codes "Plain", unit_variant) ∷ [])
+abbrev pub shape_of_inner : PlainShape
+shape_of_inner = enum_shape (codes "Inner") ((codes "Variant", newtype_variant 2) ∷ (codes "Plain", unit_variant) ∷ [])
 
 -- the shape with a name
 abbrev pub first_shape : Named → PlainShape
@@ -54,9 +54,9 @@ first_shape named.Ignored = ignored_shape
 first_shape named.U64 = integer_shape u64
 first_shape named.Option = option_shape 1
 first_shape named.Pair = row_shape unnamed (1 ∷ 1 ∷ [])
-first_shape named.Basic = basic_shape false
-first_shape named.Strict = basic_shape true
-first_shape named.Outer = outer_shape
+first_shape named.Basic = shape_of_basic false
+first_shape named.Strict = shape_of_basic true
+first_shape named.Outer = shape_of_outer
 
 -- the table of a shape, which is its first one
 abbrev pub table_of : Named → List PlainShape
@@ -70,6 +70,6 @@ table_of named.Ignored = ignored_shape ∷ []
 table_of named.U64 = integer_shape u64 ∷ []
 table_of named.Option = option_shape 1 ∷ integer_shape i64 ∷ []
 table_of named.Pair = row_shape unnamed (1 ∷ 1 ∷ []) ∷ integer_shape i64 ∷ []
-table_of named.Basic = basic_shape false ∷ bool_shape ∷ []
-table_of named.Strict = basic_shape true ∷ bool_shape ∷ []
-table_of named.Outer = outer_shape ∷ inner_shape ∷ seq_shape 3 ∷ integer_shape usize ∷ []
+table_of named.Basic = shape_of_basic false ∷ bool_shape ∷ []
+table_of named.Strict = shape_of_basic true ∷ bool_shape ∷ []
+table_of named.Outer = shape_of_outer ∷ shape_of_inner ∷ seq_shape 3 ∷ integer_shape usize ∷ []

@@ -4,7 +4,7 @@ ghost use Rattle.std.specs.Prelude.{◌≡◌, ◌<◌, length, map, true, false
 ghost use Rattle.yaml_shape.specs.ShapeView.{shape_of, field_of, fields_of, variant_of, content_of};
 ghost use Rattle.yaml_shape.specs.declared.fault.SchemaFault.TheVariants.{S5};
 ghost use Rattle.yaml_run.specs.Shapes.{name_of, IsNoName, table_of};
-ghost use Rattle.yaml_run.specs.Shapes.{fields_of_basic, basic_shape, outer_shape, inner_shape};
+ghost use Rattle.yaml_run.specs.Shapes.{fields_of_basic, shape_of_basic, shape_of_outer, shape_of_inner};
 
 use std::alloc::{AllocError, Global};
 use yaml_shape::{Schema, SchemaFault, Shape, ShapeId, VariantShape};
@@ -56,7 +56,7 @@ fn basic_fields(alloc: Global) -> Result<Vec<(String, ShapeId)>, AllocError>
 
 // A struct of two booleans.
 fn basic(alloc: Global) -> Result<Shape, AllocError>
-    ensures { IfOk result (λ shape. shape_of shape ≡ basic_shape false) }
+    ensures { IfOk result (λ shape. shape_of shape ≡ shape_of_basic false) }
 {
     Ok(Shape::Struct {
         name: String::from_str(alloc, "Basic")?,
@@ -66,7 +66,7 @@ fn basic(alloc: Global) -> Result<Shape, AllocError>
 
 // The same, in which no other field may stand.
 fn strict(alloc: Global) -> Result<Shape, AllocError>
-    ensures { IfOk result (λ shape. shape_of shape ≡ basic_shape true) }
+    ensures { IfOk result (λ shape. shape_of shape ≡ shape_of_basic true) }
 {
     Ok(Shape::StrictStruct {
         name: String::from_str(alloc, "Basic")?,
@@ -87,7 +87,7 @@ fn variant(
 
 // An enum whose variant holds the enum behind it in its table.
 fn outer(alloc: Global) -> Result<Shape, AllocError>
-    ensures { IfOk result (λ shape. shape_of shape ≡ outer_shape) }
+    ensures { IfOk result (λ shape. shape_of shape ≡ shape_of_outer) }
 {
     Ok(Shape::Enum {
         name: String::from_str(alloc, "Outer")?,
@@ -97,7 +97,7 @@ fn outer(alloc: Global) -> Result<Shape, AllocError>
 
 // An enum of a variant that holds a sequence, and one that holds nothing.
 fn inner(alloc: Global) -> Result<Shape, AllocError>
-    ensures { IfOk result (λ shape. shape_of shape ≡ inner_shape) }
+    ensures { IfOk result (λ shape. shape_of shape ≡ shape_of_inner) }
 {
     let variants = vec![in alloc;
         variant(alloc, "Variant", VariantShape::Newtype(ShapeId(2)))?,

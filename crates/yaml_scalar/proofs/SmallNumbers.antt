@@ -15,7 +15,7 @@ use Rattle.std.proofs.lemmas.Str.{digit_value_digit, IsUtf8-from_ascii}
 use Rattle.std.proofs.Math.Nat.{pow-succ', pow-le-pow_right, mul-le-mul_left, mul-le-mul_right, le-mul_of_pos_right, one-le-pow}
 use Rattle.yaml_meaning.specs.ScalarShapes.{utf8_text}
 use Rattle.yaml_scalar.proofs.TextLaws.{bytes-there}
-use Rattle.yaml_base.specs.Integers.{decimal, has_zero_in_front, number_in, place_value}
+use Rattle.yaml_base.specs.Integers.{decimal, has_zero_in_front, number_in_base, place_value}
 
 -- the number that digits write behind a number
 abbrev pub behind : ℕ → List ℕ → ℕ
@@ -106,7 +106,7 @@ all-pass (d ∷ ds) all = rw ((Decides-ltb (digit_value d) 10).1 all.0, all-pass
 
 -- all were read where none is left, and the first is not zero
 pub read-whole : (n c : ℕ) (cs ds : List ℕ) → ds ≡ c ∷ cs → IsInRange 49 57 c → IsRead n [] ds
-    → number_in decimal ds ≡ Some n
+    → number_in_base decimal ds ≡ Some n
 read-whole n c cs ds is digit r =
     let read : n ≡ place_value 10 ds = sym (behind-none n) ∙ r.0 in
     let other : (c == 48) ≡ false = ne_eqb c 48 (λ e. omega (arith, digit, e)) in

@@ -5,7 +5,7 @@ ghost use Rattle.std.specs.Prelude.{option_and_then};
 ghost use Rattle.std.specs.Str.{IsUtf8};
 ghost use Rattle.std.specs.Str.Parse.{AllDigits};
 ghost use Rattle.yaml_base.specs.DocEventView.{doc_scalar_of};
-ghost use Rattle.yaml_base.specs.Integers.{number_in, decimal, integer_of, unsigned_of};
+ghost use Rattle.yaml_base.specs.Integers.{number_in_base, decimal, integer_of, unsigned_of};
 ghost use Rattle.yaml_meaning.specs.CoreTags.{int_tag};
 ghost use Rattle.yaml_meaning.specs.ScalarShapes.{plain_text, signed_text, unsigned_text, utf8_text, widest};
 ghost use Rattle.yaml_shape.specs.IntegerTypes.{greatest, has_sign, is_of_type};
@@ -36,7 +36,7 @@ fn small_greatest(integer: IntegerType) -> u64
 #[inline(always)]
 fn small_up_to(greatest: u64, digits: &[u8]) -> Option<u64>
     ensures digits { IfSome result (λ n. AllDigits 10 digits.now) }
-    ensures number { IfSome result (λ n. number_in decimal digits.now ≡ Some n) }
+    ensures number { IfSome result (λ n. number_in_base decimal digits.now ≡ Some n) }
     ensures small { IfSome result (λ n. n < 10 ^ 18) }
     ensures most { IfSome result (λ n. n ≤ greatest) }
 {

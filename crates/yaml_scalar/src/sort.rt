@@ -5,7 +5,8 @@ ghost use Rattle.std.specs.Option.{option_copied};
 ghost use Rattle.yaml_base.specs.DocEventView.{doc_scalar_of};
 ghost use Rattle.yaml_meaning.specs.CoreTags.{bool_tag, int_tag, float_tag, null_tag};
 ghost use Rattle.yaml_meaning.specs.ScalarShapes.{is_plain_or_tagged_literal, text_of, utf8_text};
-ghost use Rattle.yaml_meaning.specs.ScalarSorts.{is_plain, is_literal, is_tag, is_local, has_untaken, is_resolved};
+ghost use Rattle.yaml_meaning.specs.ScalarSorts.{is_plain, is_literal, is_tag_named, is_local, has_untaken};
+ghost use Rattle.yaml_meaning.specs.ScalarSorts.{is_resolved};
 ghost use Rattle.yaml_meaning.specs.ScalarSorts.{sort_of};
 ghost use Rattle.yaml_scalar.specs.Expectations.{plain_sort};
 
@@ -53,7 +54,7 @@ fn is_literal(style: ScalarStyle) -> bool
 
 // Whether the tag is this one.
 fn is_tag(name: &str, tag: &Option<Tag>) -> bool
-    ensures { result ≡ is_tag name.now tag.now }
+    ensures { result ≡ is_tag_named name.now tag.now }
 {
     match tag {
         Some(tag) => tag.is(name),

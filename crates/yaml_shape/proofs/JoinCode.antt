@@ -7,14 +7,14 @@ use Rattle.std.proofs.lemmas.List.Elements.{All-weaker}
 use Rattle.yaml_shape.specs.PlainShape.{PlainShape}
 use Rattle.yaml_shape.specs.ShapeView.{shape_of}
 use Rattle.yaml_shape.specs.Validity.{named, NamesWithin, HasDistinctNames, IsValidSchema}
-use Rattle.yaml_shape.specs.Join.{raised, joined, IsWith}
+use Rattle.yaml_shape.specs.Join.{raised, joined_tables, IsWith}
 use Rattle.yaml_shape.specs.declared.shape.Shape.{Shape}
 use Rattle.yaml_shape.specs.declared.shape.ShapeId.{ShapeId}
 use Rattle.yaml_shape.specs.declared.fault.SchemaFault.{SchemaFault}
 use Rattle.yaml_shape.specs.Kept.{KeepsShapes}
 use Rattle.yaml_shape.proofs.NumberLaws.{All-from_map}
 use Rattle.yaml_shape.proofs.Stands.{keeps_first}
-use Rattle.yaml_shape.proofs.JoinWalks.{valid-joined, valid-added}
+use Rattle.yaml_shape.proofs.JoinWalks.{valid-joined_tables, valid-added}
 
 -- a valid table with one more shape
 pub pushed_valid : (old new : List Shape) (shape : Shape) (table : List PlainShape) → map shape_of old ≡ table
@@ -37,11 +37,11 @@ appended_valid first second moved new by made size raise a b few =
     let one : length (map shape_of first) ≡ length first = length-map first shape_of in
     let two : length (map shape_of second) ≡ length second = length-map second shape_of in
     let same : by ≡ length (map shape_of first) = size ∙ sym one in
-    let join : map shape_of new ≡ joined (map shape_of first) (map shape_of second) =
+    let join : map shape_of new ≡ joined_tables (map shape_of first) (map shape_of second) =
     ap (map shape_of) made
     ∙ (map-append shape_of first moved ∙ ap (λ l. map shape_of first ++ l) (raise
     ∙ ap (λ n. map (raised n) (map shape_of second)) same)) in
-    subst IsValidSchema (sym join) (valid-joined (map shape_of first) (map shape_of second) a b (omega arith))
+    subst IsValidSchema (sym join) (valid-joined_tables (map shape_of first) (map shape_of second) a b (omega arith))
 
 -- a valid table's numbers are small
 pub all_small : (shapes : List Shape) → IsValidSchema (map shape_of shapes) → All (λ s. NamesWithin

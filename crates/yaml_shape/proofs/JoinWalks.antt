@@ -10,7 +10,7 @@ use Rattle.std.proofs.lemmas.Option.{slice_get-map}
 use Rattle.yaml_shape.specs.PlainShape.{PlainShape, option_shape, shape_at}
 use Rattle.yaml_shape.specs.Validity.{named, NamesWithin, AllNameWithin, HasDistinctNames}
 use Rattle.yaml_shape.specs.Validity.{optional_content, step_from, walk, IsCycle, IsValidSchema}
-use Rattle.yaml_shape.specs.Join.{raised, joined}
+use Rattle.yaml_shape.specs.Join.{raised, joined_tables}
 use Rattle.yaml_shape.proofs.WalkLaws.{Passes, passes}
 use Rattle.yaml_shape.proofs.JoinLaws.{at_left, at_right, named-raised, distinct-raised, step_inside}
 
@@ -44,12 +44,12 @@ content-raised by _ = refl
 
 -- the shape of the second table in the join
 pub at_joined : (first second : List PlainShape) (id : ℕ)
-    → shape_at (joined first second) (length first + id) ≡ option_map (raised (length first)) (shape_at second id)
+    → shape_at (joined_tables first second) (length first + id) ≡ option_map (raised (length first)) (shape_at second id)
 at_joined first second id = at_right first (map (raised (length first)) second) id
     ∙ slice_get-map (raised (length first)) second id
 
 step_joined : (first second : List PlainShape) (id : ℕ)
-    → step_from (joined first second) (length first + id) ≡ option_map (λ n. length first + n) (step_from second id)
+    → step_from (joined_tables first second) (length first + id) ≡ option_map (λ n. length first + n) (step_from second id)
 step_joined first second id = ap (option_and_then optional_content) (at_joined first second id)
     ∙ by_shape (shape_at second id)
   where
@@ -61,16 +61,16 @@ step_joined first second id = ap (option_and_then optional_content) (at_joined f
 
 -- walks from the second table are raised
 walk_right : (first second : List PlainShape) (n id : ℕ)
-    → walk (joined first second) n (length first + id) ≡ option_map (λ k. length first + k) (walk second n id)
+    → walk (joined_tables first second) n (length first + id) ≡ option_map (λ k. length first + k) (walk second n id)
 walk_right first second zero id = refl
 walk_right first second (suc n) id =
-    ap (option_and_then (walk (joined first second) n)) (step_joined first second id)
+    ap (option_and_then (walk (joined_tables first second) n)) (step_joined first second id)
     ∙ by_step (step_from second id) (λ next. walk_right first second n next)
   where
     by_step : (o : Option ℕ)
-        → ((next : ℕ) → walk (joined first second) n (length first + next) ≡ option_map (λ k. length first + k)
+        → ((next : ℕ) → walk (joined_tables first second) n (length first + next) ≡ option_map (λ k. length first + k)
         (walk second n next))
-        → option_and_then (walk (joined first second) n) (option_map (λ k. length first + k) o) ≡ option_map
+        → option_and_then (walk (joined_tables first second) n) (option_map (λ k. length first + k) o) ≡ option_map
         (λ k. length first + k) (option_and_then (walk second n) o)
     by_step None more = refl
     by_step (Some next) more = more next
@@ -81,7 +81,7 @@ lowered by id (Some x) h = let e : by + x ≡ by + id = cc in ap Some (let f : x
 
 -- no cycle comes into the join
 joined_ending : (first second : List PlainShape) → IsValidSchema first → IsValidSchema second → (id : ℕ)
-    → IsCycle (joined first second) id → ⊥
+    → IsCycle (joined_tables first second) id → ⊥
 joined_ending first second a b id cycle = by_place (ltb id (length first)) refl
   where
     by_place : (t : Bool) → ltb id (length first) ≡ t → ⊥
@@ -96,7 +96,7 @@ joined_ending first second a b id cycle = by_place (ltb id (length first)) refl
         let past : length first ≤ id = grind (arith, nat_tests) in
         let other : ℕ = id - length first in
         let sum : length first + other ≡ id = omega arith in
-        let round : walk (joined first second) cycle.0 (length first + other) ≡ Some (length first + other) =
+        let round : walk (joined_tables first second) cycle.0 (length first + other) ≡ Some (length first + other) =
         rw sum cycle.2 in
         b.ending other (
           cycle.0,
@@ -112,16 +112,16 @@ raised_closed by size shape within =
     (All-weaker (λ id. id < size) (λ id. by + id < by + size) (λ id h. omega arith) (named shape) within))
 
 -- the join of valid tables is valid where it isn't too long
-pub valid-joined : (first second : List PlainShape) → IsValidSchema first → IsValidSchema second
-    → length first + length second ≤ 4096 → IsValidSchema (joined first second)
-valid-joined first second a b few =
+pub valid-joined_tables : (first second : List PlainShape) → IsValidSchema first → IsValidSchema second
+    → length first + length second ≤ 4096 → IsValidSchema (joined_tables first second)
+valid-joined_tables first second a b few =
     let moved : List PlainShape = map (raised (length first)) second in
-    let size : length (joined first second) ≡ length first + length second =
+    let size : length (joined_tables first second) ≡ length first + length second =
     length-append first (map (raised (length first)) second)
     ∙ ap (λ n. length first + n) (length-map second (raised (length first))) in
     record {
       few = omega arith;
-      closed = subst (λ n. AllNameWithin n (joined first second)) (sym size)
+      closed = subst (λ n. AllNameWithin n (joined_tables first second)) (sym size)
           (All-append (NamesWithin (length first + length second)) first (map (raised (length first)) second)
           (All-weaker (NamesWithin (length first)) (NamesWithin (length first + length second))
           (λ s h. wider s h) first a.closed)

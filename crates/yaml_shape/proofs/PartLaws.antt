@@ -9,7 +9,7 @@ use Rattle.std.proofs.lemmas.List.Elements.{All-nil, All-cons, All-head, All-tai
 use Rattle.yaml_shape.specs.PlainShape.{PlainShape}
 use Rattle.yaml_shape.specs.ShapeView.{ids_of, field_of, fields_of}
 use Rattle.yaml_shape.specs.Validity.{AllNameWithin}
-use Rattle.yaml_shape.specs.Join.{raised, joined, joined_all, starts_behind, parts_of, StartsWithin, IsRow}
+use Rattle.yaml_shape.specs.Join.{raised, joined_tables, joined_all, starts_behind, parts_of, StartsWithin, IsRow}
 use Rattle.yaml_shape.specs.Join.{IsTooLarge}
 use Rattle.yaml_shape.specs.declared.shape.ShapeId.{ShapeId}
 use Rattle.yaml_shape.specs.declared.fault.SchemaFault.{SchemaFault}
@@ -27,14 +27,14 @@ pub record AreJoined (first : List PlainShape) (parts : Parts) (table : List Pla
       ≡ starts_behind (length first) (parts_of parts)
   pub within : All StartsWithin (parts_of rest)
 
-pub length-joined : (first second : List PlainShape) → length (joined first second) ≡ length first + length second
-length-joined first second = length-append first (map (raised (length first)) second)
+pub length-joined_tables : (first second : List PlainShape) → length (joined_tables first second) ≡ length first + length second
+length-joined_tables first second = length-append first (map (raised (length first)) second)
     ∙ ap (λ n. length first + n) (length-map second (raised (length first)))
 
 -- one more is joined
 pub one_joined : (first : List PlainShape) (parts : Parts) (table next : List PlainShape) (starts more : List ShapeId)
     (schema : List PlainShape) (start place : ShapeId) (rest : Parts)
-    → next ≡ joined table schema → more ≡ starts ++ place ∷ [] → place.0 ≡ length table + start.0
+    → next ≡ joined_tables table schema → more ≡ starts ++ place ∷ [] → place.0 ≡ length table + start.0
     → AreJoined first parts table starts ((schema, start) ∷ rest) → AreJoined first parts next more rest
 one_joined first parts table next starts more schema start place rest made pushed here are = record {
   tables = ap (λ t. joined_all t (parts_of rest)) made ∙ are.tables;
@@ -43,27 +43,27 @@ one_joined first parts table next starts more schema start place rest made pushe
       ∙ (append_assoc (ids_of starts) (place.0 ∷ []) (starts_behind (length next) (parts_of rest))
       ∙ (ap (λ n. ids_of starts ++ (n ∷ starts_behind (length next) (parts_of rest))) here
       ∙ (ap (λ n. ids_of starts ++ ((length table + start.0) ∷ starts_behind n (parts_of rest))) (ap length made
-      ∙ length-joined table schema) ∙ are.places))));
+      ∙ length-joined_tables table schema) ∙ are.places))));
   within = All-tail StartsWithin (schema, start.0) (parts_of rest) are.within;
 }
 
 -- a join is no shorter than its first table
 longer : (first : List PlainShape) (parts : List (List PlainShape × ℕ)) → length first ≤ length (joined_all first parts)
 longer first [] = omega arith
-longer first (part ∷ parts) = omega (arith, longer (joined first part.0) parts, length-joined first part.0)
+longer first (part ∷ parts) = omega (arith, longer (joined_tables first part.0) parts, length-joined_tables first part.0)
 
 -- each start is in the join
 pub starts_inside : (first : List PlainShape) (parts : List (List PlainShape × ℕ)) → All StartsWithin parts
     → All (λ id. id < length (joined_all first parts)) (starts_behind (length first) parts)
 starts_inside first [] within = All-nil (λ id. id < length first)
 starts_inside first (part ∷ parts) within =
-    let size : length (joined first part.0) ≡ length first + length part.0 = length-joined first part.0 in
+    let size : length (joined_tables first part.0) ≡ length first + length part.0 = length-joined_tables first part.0 in
     let here : part.1 < length part.0 = All-head StartsWithin part parts within in
-    All-cons (λ id. id < length (joined_all (joined first part.0) parts)) (length first + part.1)
+    All-cons (λ id. id < length (joined_all (joined_tables first part.0) parts)) (length first + part.1)
     (starts_behind (length first + length part.0) parts)
-    (omega (arith, longer (joined first part.0) parts))
-    (subst (λ n. All (λ id. id < length (joined_all (joined first part.0) parts)) (starts_behind n parts)) size
-    (starts_inside (joined first part.0) parts (All-tail StartsWithin part parts within)))
+    (omega (arith, longer (joined_tables first part.0) parts))
+    (subst (λ n. All (λ id. id < length (joined_all (joined_tables first part.0) parts)) (starts_behind n parts)) size
+    (starts_inside (joined_tables first part.0) parts (All-tail StartsWithin part parts within)))
 
 pub larger : (fault : SchemaFault) (size more : ℕ) → size ≤ more → IsTooLarge size fault → IsTooLarge more fault
 larger (S1 n) size more le h = h
@@ -78,10 +78,10 @@ pub too_large : (fault : SchemaFault) (first : List PlainShape) (parts : Parts) 
     → AreJoined first parts table starts ((schema, start) ∷ rest) → IsTooLarge (length table + length schema) fault
     → IsTooLarge (length (joined_all first (parts_of parts))) fault
 too_large fault first parts table starts schema start rest are h =
-    let whole : length (joined_all (joined table schema) (parts_of rest)) ≡ length (joined_all first (parts_of parts)) =
+    let whole : length (joined_all (joined_tables table schema) (parts_of rest)) ≡ length (joined_all first (parts_of parts)) =
     ap length are.tables in
     larger fault (length table + length schema) (length (joined_all first (parts_of parts)))
-    (omega (arith, longer (joined table schema) (parts_of rest), length-joined table schema)) h
+    (omega (arith, longer (joined_tables table schema) (parts_of rest), length-joined_tables table schema)) h
 
 -- at the end none is left
 pub all_joined : (first : List PlainShape) (parts : Parts) (table : List PlainShape) (starts : List ShapeId)

@@ -8,13 +8,13 @@ use Rattle.yaml_shape.specs.PlainShape.{PlainShape, option_shape, newtype_shape,
 use Rattle.yaml_shape.specs.PlainShape.{fields_shape, enum_shape, shape_at, PlainVariant, unit_variant, newtype_variant}
 use Rattle.yaml_shape.specs.PlainShape.{tuple_variant, struct_variant}
 use Rattle.yaml_shape.specs.Validity.{AllNameWithin, IsValidSchema}
-use Rattle.yaml_shape.specs.Join.{raised_ids, raised_fields, raised_content, raised_variants, raised, joined}
+use Rattle.yaml_shape.specs.Join.{raised_ids, raised_fields, raised_content, raised_variants, raised, joined_tables}
 use Rattle.yaml_shape.specs.Join.{joined_all}
 use Rattle.yaml_shape.specs.Kept.{IsRaisedIn, KeepsShapes, KeepsAllShapes}
 use Rattle.yaml_shape.proofs.JoinLaws.{at_left}
 use Rattle.yaml_shape.proofs.JoinWalks.{at_joined}
 use Rattle.yaml_shape.proofs.JoinData.{keeps}
-use Rattle.yaml_shape.proofs.PartLaws.{length-joined}
+use Rattle.yaml_shape.proofs.PartLaws.{length-joined_tables}
 
 same_sum : (n : ℕ) → 0 + n ≡ n
 same_sum n = omega arith
@@ -82,16 +82,16 @@ pub keeps_first : (part back : List PlainShape) → IsValidSchema part → Keeps
 keeps_first part back valid = keeps 0 part (part ++ back) (stands_first part back) valid.closed
 
 pub keeps_left : (first second back : List PlainShape) → IsValidSchema first
-    → KeepsShapes 0 first (joined first second ++ back)
+    → KeepsShapes 0 first (joined_tables first second ++ back)
 keeps_left first second back valid =
-    keeps 0 first (joined first second ++ back) (stands_longer 0 first (joined first second) back
+    keeps 0 first (joined_tables first second ++ back) (stands_longer 0 first (joined_tables first second) back
     (stands_first first (map (raised (length first)) second))) valid.closed
 
 pub keeps_right : (first second back : List PlainShape) → IsValidSchema second
-    → KeepsShapes (length first) second (joined first second ++ back)
+    → KeepsShapes (length first) second (joined_tables first second ++ back)
 keeps_right first second back valid =
-    keeps (length first) second (joined first second ++ back)
-    (stands_longer (length first) second (joined first second) back (λ id within. at_joined first second id))
+    keeps (length first) second (joined_tables first second ++ back)
+    (stands_longer (length first) second (joined_tables first second) back (λ id within. at_joined first second id))
     valid.closed
 
 -- a join begins with its first table
@@ -99,7 +99,7 @@ pub begins : (first : List PlainShape) (parts : List (List PlainShape × ℕ))
     → (more : List PlainShape) × (joined_all first parts ≡ first ++ more)
 begins first [] = ([], sym (append-nil first))
 begins first (part ∷ parts) =
-    let rest = begins (joined first part.0) parts in (
+    let rest = begins (joined_tables first part.0) parts in (
       map (raised (length first)) part.0 ++ rest.0,
       rest.1
           ∙ append_assoc first (map (raised (length first)) part.0) rest.0,
@@ -111,15 +111,15 @@ pub keeps_all : (first : List PlainShape) (parts : List (List PlainShape × ℕ)
     → KeepsAllShapes (length first) parts (joined_all first parts ++ back)
 keeps_all first [] back closed = tt
 keeps_all first (part ∷ parts) back closed =
-    let rest = begins (joined first part.0) parts in
-    let whole : joined_all (joined first part.0) parts ++ back ≡ joined first part.0 ++ (rest.0 ++ back) =
-    ap (λ l. l ++ back) rest.1 ∙ append_assoc (joined first part.0) rest.0 back in (
+    let rest = begins (joined_tables first part.0) parts in
+    let whole : joined_all (joined_tables first part.0) parts ++ back ≡ joined_tables first part.0 ++ (rest.0 ++ back) =
+    ap (λ l. l ++ back) rest.1 ∙ append_assoc (joined_tables first part.0) rest.0 back in (
       subst (KeepsShapes (length first) part.0) (sym whole)
-          (keeps (length first) part.0 (joined first part.0 ++ (rest.0 ++ back))
-          (stands_longer (length first) part.0 (joined first part.0) (rest.0 ++ back)
+          (keeps (length first) part.0 (joined_tables first part.0 ++ (rest.0 ++ back))
+          (stands_longer (length first) part.0 (joined_tables first part.0) (rest.0 ++ back)
           (λ id within. at_joined first part.0 id))
           (All-head (λ p. AllNameWithin (length p.0) p.0) part parts closed)),
-      subst (λ n. KeepsAllShapes n parts (joined_all (joined first part.0) parts ++ back)) (length-joined first part.0)
-          (keeps_all (joined first part.0) parts back
+      subst (λ n. KeepsAllShapes n parts (joined_all (joined_tables first part.0) parts ++ back)) (length-joined_tables first part.0)
+          (keeps_all (joined_tables first part.0) parts back
           (All-tail (λ p. AllNameWithin (length p.0) p.0) part parts closed)),
     )

@@ -52,13 +52,13 @@ raised by (enum_shape name variants) = enum_shape name (raised_variants by varia
 raised by ignored_shape = ignored_shape
 
 -- the second table behind the first, with the numbers in it raised past the first
-abbrev pub joined : List PlainShape → List PlainShape → List PlainShape
-joined first second = first ++ map (raised (length first)) second
+abbrev pub joined_tables : List PlainShape → List PlainShape → List PlainShape
+joined_tables first second = first ++ map (raised (length first)) second
 
 -- tables, each with a shape where it starts, behind a first one
 abbrev pub joined_all : List PlainShape → List (List PlainShape × ℕ) → List PlainShape
 joined_all first [] = first
-joined_all first (part ∷ parts) = joined_all (joined first part.0) parts
+joined_all first (part ∷ parts) = joined_all (joined_tables first part.0) parts
 
 -- where each of these tables starts in the table that they are joined to behind so many shapes
 abbrev pub starts_behind : ℕ → List (List PlainShape × ℕ) → List ℕ

@@ -5,7 +5,7 @@ ghost use Rattle.yaml_shape.specs.PlainShape.{newtype_shape, seq_shape, option_s
 ghost use Rattle.yaml_shape.specs.ShapeView.{variants_of, shape_of};
 ghost use Rattle.yaml_shape.specs.Validity.{NamesWithin, HasDistinctNames};
 ghost use Rattle.yaml_shape.specs.Kept.{KeepsShapes};
-ghost use Rattle.yaml_shape.specs.Join.{joined, IsWith, IsTooLarge, IsNotAdded};
+ghost use Rattle.yaml_shape.specs.Join.{joined_tables, IsWith, IsTooLarge, IsNotAdded};
 
 use crate::distinct_names::has_distinct_names;
 use crate::fault::SchemaFault;
@@ -16,7 +16,7 @@ use std::alloc::Global;
 
 /// The second table behind the first, with the numbers in it raised past the first.
 pub(crate) fn join(first: Schema, second: Schema) -> Result<Schema, SchemaFault>
-    ensures ok { IfOk result (λ schema. schema ≡ joined first second) }
+    ensures ok { IfOk result (λ schema. schema ≡ joined_tables first second) }
     ensures refused { IfErr result (IsTooLarge (length first + length second)) }
 {
     let mut shapes = first.shapes;
@@ -137,7 +137,7 @@ pub fn map_of(
 ) -> Result<(Schema, ShapeId), SchemaFault>
     requires key_in { key.0 < length keys }
     requires value_in { value.0 < length values }
-    ensures ok { IfOk result (IsWith (joined keys values) (map_shape key.0 (length keys + value.0))) }
+    ensures ok { IfOk result (IsWith (joined_tables keys values) (map_shape key.0 (length keys + value.0))) }
     ensures keys_kept { IfOk result (λ r. KeepsShapes 0 keys r.0) }
     ensures values_kept { IfOk result (λ r. KeepsShapes (length keys) values r.0) }
     ensures refused { IfErr result (IsTooLarge (length keys + length values + 1)) }

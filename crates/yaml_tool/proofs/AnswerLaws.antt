@@ -14,7 +14,7 @@ use Rattle.yaml_run.specs.declared.status.Status.TheVariants as status
 use Rattle.yaml_run.proofs.ReadingLaws.{text-read}
 use Rattle.yaml_tool.specs.Answers.{IsAnswer, IsAsked}
 use Rattle.yaml_tool.specs.Answers.IsAnswer.{answered, out_of_memory}
-use Rattle.yaml_tool.specs.ToldEvents.{ending_of}
+use Rattle.yaml_tool.specs.ToldEvents.{ended_by}
 use Rattle.yaml_tool.specs.declared.task.Task.{Task}
 use Rattle.yaml_tool.specs.declared.task.Task.TheVariants as task
 
@@ -56,7 +56,7 @@ either-read : (ended : Status) → (ended ≡ status.Read) ⊎ (ended ≡ status
 either-read ended (inl e) = read-apart ended e
 either-read ended (inr e) = fault-apart ended e
 
-events-read : (fault : Option PlainFault) (ended : Status) → ended ≡ ending_of fault → ended ≢ status.ReadFailed
+events-read : (fault : Option PlainFault) (ended : Status) → ended ≡ ended_by fault → ended ≢ status.ReadFailed
 events-read None ended e = read-apart ended e
 events-read (Some fault) ended e = fault-apart ended e
 

@@ -14,14 +14,14 @@ use Rattle.yaml_tool.specs.declared.task.Task.{Task}
 use Rattle.yaml_tool.specs.declared.task.Task.TheVariants as task
 
 -- the line that tells what a text is read as, as a named shape within limits
-abbrev pub IsShown : Named → PlainLimits → (bytes : List ℕ) → (ended : Status) → (line : List ℕ) → Type 0
-IsShown shape limits bytes ended line = (told : List ℕ) × (line ≡ told ++ 10 ∷ [])
+abbrev pub IsReadingLine : Named → PlainLimits → (bytes : List ℕ) → (ended : Status) → (line : List ℕ) → Type 0
+IsReadingLine shape limits bytes ended line = (told : List ℕ) × (line ≡ told ++ 10 ∷ [])
     × IsTextReading limits (table_of shape) (first_shape shape) bytes ended told
 
 -- What is asked, of the bytes of a text. Of documents that are printed as YAML text, and of events in full, no more is
 -- said than how their run ends.
 abbrev pub IsAsked : Task → (bytes : List ℕ) → (ended : Status) → (text : List ℕ) → Type 0
-IsAsked (task.Show shape limits) bytes ended text = IsShown shape limits bytes ended text
+IsAsked (task.Show shape limits) bytes ended text = IsReadingLine shape limits bytes ended text
 IsAsked (task.ShowEach shape limits) bytes ended text = IsParsed bytes (λ events fault.
     AreToldInTurn limits (table_of shape) (first_shape shape) (documents_of events fault) ended text)
 IsAsked (task.Format limits) bytes ended text = (ended ≡ status.Read) ⊎ (ended ≡ status.Fault)

@@ -20,14 +20,14 @@ fault_lines None = []
 fault_lines (Some fault) = fault_line fault ++ 10 ∷ []
 
 -- the status that goes with a fault, or with none
-abbrev pub ending_of : Option PlainFault → Status
-ending_of None = status.Read
-ending_of (Some fault) = status.Fault
+abbrev pub ended_by : Option PlainFault → Status
+ended_by None = status.Read
+ended_by (Some fault) = status.Fault
 
 -- the lines of a text's events and of its fault, and the status that goes with them
 pub record AreEventsTold (text : List ℕ) (ended : Status) (lines : List ℕ) : Type 0 where
   pub events : List (Event × Position)
   pub fault : Option PlainFault
   pub parsed : AreParsed text events fault
-  pub ends : ended ≡ ending_of fault
+  pub ends : ended ≡ ended_by fault
   pub told : lines ≡ event_lines events ++ fault_lines fault

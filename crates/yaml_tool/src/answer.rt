@@ -6,7 +6,7 @@ ghost use Rattle.serde_yaml.specs.TextReads.{IsParsed};
 ghost use Rattle.yaml_run.specs.Printed.{line_of, status_of};
 ghost use Rattle.yaml_run.specs.Shapes.{table_of, first_shape};
 ghost use Rattle.yaml_run.specs.Turns.{AreToldInTurn};
-ghost use Rattle.yaml_tool.specs.Answers.{IsAnswer, IsShown};
+ghost use Rattle.yaml_tool.specs.Answers.{IsAnswer, IsReadingLine};
 
 use crate::events::{told_events, told_full_events};
 use crate::format::formatted;
@@ -18,7 +18,7 @@ use yaml_shape::ShapeId;
 
 // The data of the one document of a text, or its fault: a line.
 fn shown(alloc: Global, named: Named, limits: Limits, text: &[u8]) -> Result<Told, AllocError>
-    ensures { IfOk result (λ told. IsShown named limits text.now told.ended (string_bytes told.text)) }
+    ensures { IfOk result (λ told. IsReadingLine named limits text.now told.ended (string_bytes told.text)) }
 {
     let Ok(schema) = named.schema(alloc) else {
         return Err(AllocError);

@@ -1,7 +1,7 @@
 //! The events of a text, a line each.
 
 ghost use Rattle.std.specs.Prelude.{◌≡◌, ◌⊎◌, ◌++◌, string_bytes, IfOk, OnOk};
-ghost use Rattle.yaml_tool.specs.ToldEvents.{AreEventsTold, ending_of, event_lines, fault_lines};
+ghost use Rattle.yaml_tool.specs.ToldEvents.{AreEventsTold, ended_by, event_lines, fault_lines};
 
 use std::alloc::{AllocError, Global};
 use yaml_base::{Event, Mark, ParserFault};
@@ -11,7 +11,7 @@ use yaml_run::{Status, Told};
 
 // The status that goes with a fault, or with none.
 fn ending_of(fault: &Option<ParserFault>) -> Status
-    ensures { result ≡ ending_of fault.now }
+    ensures { result ≡ ended_by fault.now }
 {
     match fault {
         Some(_) => Status::Fault,

@@ -8,12 +8,12 @@ use Rattle.std.proofs.lemmas.Bool.Decides.{Decides-eqb}
 use Rattle.std.proofs.lemmas.Nat.{mod_below}
 use Rattle.std.proofs.lemmas.List.{get_or_default, get_or-map, get_or-set_same, get_or-set_other}
 use Rattle.std.proofs.lemmas.List.{length-append, length-map, length-set, map-set, map_push}
-use Rattle.yaml_tree.specs.Entries.{IsOtherKey, with_value, with_last, with_earlier}
+use Rattle.yaml_tree.specs.Entries.{IsOtherKey, with_value, with_last_place, with_earlier}
 use Rattle.yaml_tree.specs.Equal.{tree_eq}
 use Rattle.yaml_tree.specs.Hash.{hash_of}
 use Rattle.yaml_tree.specs.Index.{last_before, chain_at, AreChains, lasts_of, earliers_of, hashes_of, IsChained}
 use Rattle.yaml_tree.specs.Index.{IsIndexedTo, IsIndexed, chain_count}
-use Rattle.yaml_tree.specs.Lookup.{place_of}
+use Rattle.yaml_tree.specs.Lookup.{place_of_key}
 use Rattle.yaml_tree.specs.Tree.{Tree, pair}
 use Rattle.yaml_tree.specs.View.{tree_of, entry_pairs}
 use Rattle.yaml_tree.specs.declared.mapping.Entry.{Entry}
@@ -120,26 +120,26 @@ sought-next size (suc i) k es d some chained is here sought =
       omega (arith, last_before-le chain i c),
     )
 
-place_of-none_by : (b : Bool) (k : Tree) (e : Entry) (es : List Entry) → b ≡ false → place_of k (entry_pairs es) ≡ None
-    → (if b then Some 0 else option_map suc (place_of k (entry_pairs es))) ≡ None
-place_of-none_by true k e es n h = absurd (true≢false n)
-place_of-none_by false k e es n h = ap (option_map suc) h
+place_of_key-none_by : (b : Bool) (k : Tree) (e : Entry) (es : List Entry) → b ≡ false → place_of_key k (entry_pairs es) ≡ None
+    → (if b then Some 0 else option_map suc (place_of_key k (entry_pairs es))) ≡ None
+place_of_key-none_by true k e es n h = absurd (true≢false n)
+place_of_key-none_by false k e es n h = ap (option_map suc) h
 
 -- a key that no entry has is at no place
-pub place_of-absent : (k : Tree) (es : List Entry) → IsAbsentFrom k es 0 → place_of k (entry_pairs es) ≡ None
-place_of-absent k [] absent = refl
-place_of-absent k (e ∷ es) absent =
-    place_of-none_by (tree_eq k (tree_of e.key)) k e es (absent 0 e (omega arith) (omega arith))
-    (place_of-absent k es (λ j d from lt. absent (suc j) d (omega arith) (omega (arith, lt))))
+pub place_of_key-absent : (k : Tree) (es : List Entry) → IsAbsentFrom k es 0 → place_of_key k (entry_pairs es) ≡ None
+place_of_key-absent k [] absent = refl
+place_of_key-absent k (e ∷ es) absent =
+    place_of_key-none_by (tree_eq k (tree_of e.key)) k e es (absent 0 e (omega arith) (omega arith))
+    (place_of_key-absent k es (λ j d from lt. absent (suc j) d (omega arith) (omega (arith, lt))))
 
 -- ---- what stays when entries change
 -- with another place kept, the pairs are the same
-pub entry_pairs-with_last : (es : List Entry) (i x : ℕ) (d : Entry)
-    → entry_pairs (set es i (with_last (get_or es i d) x)) ≡ entry_pairs es
-entry_pairs-with_last [] i x d = refl
-entry_pairs-with_last (e ∷ es) zero x d = refl
-entry_pairs-with_last (e ∷ es) (suc i) x d =
-    ap (pair (tree_of e.key) (tree_of e.value)) (entry_pairs-with_last es i x d)
+pub entry_pairs-with_last_place : (es : List Entry) (i x : ℕ) (d : Entry)
+    → entry_pairs (set es i (with_last_place (get_or es i d) x)) ≡ entry_pairs es
+entry_pairs-with_last_place [] i x d = refl
+entry_pairs-with_last_place (e ∷ es) zero x d = refl
+entry_pairs-with_last_place (e ∷ es) (suc i) x d =
+    ap (pair (tree_of e.key) (tree_of e.value)) (entry_pairs-with_last_place es i x d)
 
 -- the same of the other place that is kept
 pub entry_pairs-with_earlier : (es : List Entry) (i x : ℕ) (d : Entry)
@@ -153,7 +153,7 @@ entry_pairs-with_earlier (e ∷ es) (suc i) x d =
 abbrev pub with_chained : ℕ → ℕ → List Entry → Entry → List Entry
 with_chained c i es d =
     let last = (get_or es c d).last in
-    let first = set es c (with_last (get_or es c d) (i + 1)) in
+    let first = set es c (with_last_place (get_or es c d) (i + 1)) in
     set first i (with_earlier (get_or first i d) last)
 
 -- then they are in their chains up to the next place
@@ -162,23 +162,23 @@ pub chained-next : (size c i : ℕ) (es : List Entry) (d e : Entry) → 0 < size
     → IsChained size (i + 1) (with_chained c i es d)
 chained-next size c i es d e some le lt is before =
     let keep : Entry → ℕ = λ e. hash_of (tree_of e.key) in
-    let first = set es c (with_last (get_or es c d) (i + 1)) in
+    let first = set es c (with_last_place (get_or es c d) (i + 1)) in
     let last = (get_or es c d).last in
     let new = with_earlier (get_or first i d) last in
     let c_is : c ≡ entry_chain size es i = is ∙ ap (λ h. h % size) (sym (get_or-map keep es i e 0 lt)) in
     let c_less : c < length es = omega (arith, le, mod_below (keep (get_or es i e)) size some, is) in
     let lasts : set (lasts_of es) (entry_chain size es i) (i + 1) ≡ lasts_of (set first i new) =
     ap (λ n. set (lasts_of es) n (i + 1)) (sym c_is)
-    ∙ (sym (map-set (λ e. e.last) es c (with_last (get_or es c d) (i + 1)))
+    ∙ (sym (map-set (λ e. e.last) es c (with_last_place (get_or es c d) (i + 1)))
     ∙ sym (map-set_same (λ e. e.last) first i new d refl)) in
     let earliers : set (earliers_of es) i (get_or (lasts_of es) (entry_chain size es i) 0)
     ≡ earliers_of (set first i new) =
     ap (λ n. set (earliers_of es) i (get_or (lasts_of es) n 0)) (sym c_is)
     ∙ (ap (set (earliers_of es) i) (get_or-map (λ e. e.last) es c d 0 c_less)
-    ∙ (ap (λ xs. set xs i last) (sym (map-set_same (λ e. e.earlier) es c (with_last (get_or es c d) (i + 1)) d refl))
+    ∙ (ap (λ xs. set xs i last) (sym (map-set_same (λ e. e.earlier) es c (with_last_place (get_or es c d) (i + 1)) d refl))
     ∙ sym (map-set (λ e. e.earlier) first i new))) in
     let hashes : hashes_of es ≡ hashes_of (set first i new) =
-    sym (map-set_same keep es c (with_last (get_or es c d) (i + 1)) d refl)
+    sym (map-set_same keep es c (with_last_place (get_or es c d) (i + 1)) d refl)
     ∙ sym (map-set_same keep first i new d refl) in
     let next = chains-next size i (lasts_of es) (earliers_of es) (hashes_of es) some
     (omega (arith, le, length-map es (λ e. e.last))) (omega (arith, lt, length-map es (λ e. e.earlier))) before in
@@ -231,18 +231,18 @@ Emptied n es new =
     AreEmpty (n + 1) new × (entry_pairs new ≡ entry_pairs es) × (length new ≡ length es)
 
 emptied_at : (n : ℕ) (es : List Entry) (d : Entry) → n < length es → AreEmpty n es
-    → Emptied n es (set es n (with_last (get_or es n d) 0))
+    → Emptied n es (set es n (with_last_place (get_or es n d) 0))
 emptied_at n es d lt before = (
   λ c less.
-      ap (λ xs. get_or xs c 0) (map-set (λ e. e.last) es n (with_last (get_or es n d) 0))
+      ap (λ xs. get_or xs c 0) (map-set (λ e. e.last) es n (with_last_place (get_or es n d) 0))
       ∙ empty_at n c es d lt (eq-or-lt_of_le {n = c} {m = n} (omega (arith, less))) before,
-  entry_pairs-with_last es n 0 d,
-  length-set es n (with_last (get_or es n d) 0),
+  entry_pairs-with_last_place es n 0 d,
+  length-set es n (with_last_place (get_or es n d) 0),
 )
 
 -- the next chain is emptied
 pub emptied : (n : ℕ) (es new : List Entry) → n < length es
-    → ((d : Entry) → new ≡ set es n (with_last (get_or es n d) 0)) → AreEmpty n es → Emptied n es new
+    → ((d : Entry) → new ≡ set es n (with_last_place (get_or es n d) 0)) → AreEmpty n es → Emptied n es new
 emptied n [] new lt is before = absurd (omega (arith, lt))
 emptied n (e ∷ es) new lt is before =
     subst (Emptied n (e ∷ es)) (sym (is e)) (emptied_at n (e ∷ es) e lt before)

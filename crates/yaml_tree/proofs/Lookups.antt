@@ -5,7 +5,7 @@ use Rattle.std.proofs.Common.{ap, arith, sym, ◌∙◌, get_or, set, subst, tru
 use Rattle.yaml_tree.specs.Entries.{with_value, new_entry}
 use Rattle.yaml_tree.specs.Equal.{tree_eq}
 use Rattle.yaml_tree.specs.EqualLaws.{tree_eq-symm, tree_eq-congr}
-use Rattle.yaml_tree.specs.Lookup.{place_of, has_pair}
+use Rattle.yaml_tree.specs.Lookup.{place_of_key, has_pair}
 use Rattle.yaml_tree.specs.Mapping.{has_key, keys_distinct, value_at, with_pair}
 use Rattle.yaml_tree.specs.TakeOut.{and_left, and_right}
 use Rattle.yaml_tree.specs.Tree.{Tree, Pairs, pair, no_pairs}
@@ -86,13 +86,13 @@ holds_by false k e es (Some i) is h =
     )
 
 -- the place of a key says these
-pub holds_at_place : (k : Tree) (es : List Entry) → Holds k es (place_of k (entry_pairs es))
+pub holds_at_place : (k : Tree) (es : List Entry) → Holds k es (place_of_key k (entry_pairs es))
 holds_at_place k [] = (refl, λ c v p. ap (λ t. pair t (tree_of v) no_pairs) p)
 holds_at_place k (e ∷ es) =
-    holds_by (tree_eq k (tree_of e.key)) k e es (place_of k (entry_pairs es)) refl (holds_at_place k es)
+    holds_by (tree_eq k (tree_of e.key)) k e es (place_of_key k (entry_pairs es)) refl (holds_at_place k es)
 
 -- so does what is the place of a key among these entries
-pub holds_at_found : (k : Tree) (xs es : List Entry) (o : Option ℕ) → xs ≡ es → o ≡ place_of k (entry_pairs xs)
+pub holds_at_found : (k : Tree) (xs es : List Entry) (o : Option ℕ) → xs ≡ es → o ≡ place_of_key k (entry_pairs xs)
     → Holds k es o
 holds_at_found k xs es o same found =
     subst (λ ys. Holds k ys o) same (subst (Holds k xs) (sym found) (holds_at_place k xs))
@@ -106,22 +106,22 @@ other_key l (e ∷ es) (suc i) d n lt = other_key l es i d (or_right (tree_eq l 
 
 place_by : (b : Bool) (k : Tree) (e : Entry) (es : List Entry) (i : ℕ) (d : Entry) → tree_eq k (tree_of e.key) ≡ b
     → has_key (tree_of e.key) (entry_pairs es) ≡ false → i < length es
-    → tree_eq k (tree_of (get_or es i d).key) ≡ true → place_of k (entry_pairs es) ≡ Some i
-    → (if b then Some 0 else option_map suc (place_of k (entry_pairs es))) ≡ Some (suc i)
+    → tree_eq k (tree_of (get_or es i d).key) ≡ true → place_of_key k (entry_pairs es) ≡ Some i
+    → (if b then Some 0 else option_map suc (place_of_key k (entry_pairs es))) ≡ Some (suc i)
 place_by true k e es i d is n lt q ih =
     let t = tree_of (get_or es i d).key in
     absurd (true≢false (sym q ∙ (tree_eq-congr k (tree_of e.key) is t ∙ other_key (tree_of e.key) es i d n lt)))
 place_by false k e es i d is n lt q ih = ap (option_map suc) ih
 
 -- among distinct keys, one that is equal to this stands at its place
-pub place_of-guess : (k : Tree) (es : List Entry) (i : ℕ) (d : Entry) → keys_distinct (entry_pairs es) ≡ true
-    → i < length es → tree_eq k (tree_of (get_or es i d).key) ≡ true → place_of k (entry_pairs es) ≡ Some i
-place_of-guess k [] i d h lt q = absurd (omega (arith, lt))
-place_of-guess k (e ∷ es) zero d h lt q = ap (λ b. if b then Some 0 else option_map suc (place_of k (entry_pairs es))) q
-place_of-guess k (e ∷ es) (suc i) d h lt q =
+pub place_of_key-guess : (k : Tree) (es : List Entry) (i : ℕ) (d : Entry) → keys_distinct (entry_pairs es) ≡ true
+    → i < length es → tree_eq k (tree_of (get_or es i d).key) ≡ true → place_of_key k (entry_pairs es) ≡ Some i
+place_of_key-guess k [] i d h lt q = absurd (omega (arith, lt))
+place_of_key-guess k (e ∷ es) zero d h lt q = ap (λ b. if b then Some 0 else option_map suc (place_of_key k (entry_pairs es))) q
+place_of_key-guess k (e ∷ es) (suc i) d h lt q =
     let l = tree_of e.key in let w = tree_of e.value in
     place_by (tree_eq k l) k e es i d refl (first_key l w (entry_pairs es) h) (omega (arith, lt)) q
-    (place_of-guess k es i d (other_keys l w (entry_pairs es) h) (omega (arith, lt)) q)
+    (place_of_key-guess k es i d (other_keys l w (entry_pairs es) h) (omega (arith, lt)) q)
 
 -- ---- a pair among pairs with distinct keys
 has_key-alike : (k l : Tree) (ps : Pairs) → tree_eq k l ≡ true → has_key k ps ≡ has_key l ps

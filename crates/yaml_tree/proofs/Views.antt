@@ -8,7 +8,7 @@ use Rattle.yaml_tree.specs.Lookup.{has_all_pairs}
 use Rattle.yaml_tree.specs.Mapping.{keys_distinct}
 use Rattle.yaml_tree.specs.Tree.{Trees, no_trees, tree, Pairs, no_pairs, pair, tree_count, pair_count}
 use Rattle.yaml_tree.specs.Tree.{tree_at, with_tree}
-use Rattle.yaml_tree.specs.Valid.{ValueTrees, ValuePairs, items_of, pairs_of, value_pairs, pairs_of-value_pairs}
+use Rattle.yaml_tree.specs.Valid.{ValueTrees, ValuePairs, values_of, pairs_of, value_pairs, pairs_of-value_pairs}
 use Rattle.yaml_tree.specs.View.{tree_of, trees_of, are_values-trees_of, entry_pairs, are_pairs-entry_pairs}
 use Rattle.yaml_tree.specs.declared.mapping.Entry.{Entry}
 use Rattle.yaml_tree.specs.declared.value.Value.{Value}
@@ -23,8 +23,8 @@ abbrev pub IsMappingOf : List Entry → ValuePairs → Type 0
 IsMappingOf es m = value_pairs (entry_pairs es) (are_pairs-entry_pairs es) ≡ m
 
 -- the values of a sequence are the trees that it is seen as
-pub items_of-view : (vs : List Value) (s : ValueTrees) → IsSequenceOf vs s → trees_of vs ≡ items_of s
-items_of-view vs s e = ap items_of e
+pub values_of-view : (vs : List Value) (s : ValueTrees) → IsSequenceOf vs s → trees_of vs ≡ values_of s
+values_of-view vs s e = ap values_of e
 
 -- the entries of a mapping, whose keys are distinct, are the pairs that it is seen as
 pub pairs_of-view : (es : List Entry) (m : ValuePairs) → IsMappingOf es m → keys_distinct (entry_pairs es) ≡ true

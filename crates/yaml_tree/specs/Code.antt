@@ -26,9 +26,9 @@ code_integer (pos n) = gcons (gnum 0) (gnum n)
 code_integer (negsuc n) = gcons (gnum 1) (gnum n)
 
 -- the integer of a sign and a number
-abbrev signed : ℕ → ℕ → ℤ
-signed zero n = pos n
-signed (suc k) n = negsuc n
+abbrev with_sign : ℕ → ℕ → ℤ
+with_sign zero n = pos n
+with_sign (suc k) n = negsuc n
 
 -- the code of a text
 abbrev code_text : List ℕ → Gv
@@ -81,7 +81,7 @@ tail_of (gcons a b) = b
 
 -- the integer of a code
 abbrev read_integer : Gv → ℤ
-read_integer g = signed (num (head_of g)) (num (tail_of g))
+read_integer g = with_sign (num (head_of g)) (num (tail_of g))
 
 -- an integer is read back
 read_integer-code_integer : (z : ℤ) → read_integer (code_integer z) ≡ z

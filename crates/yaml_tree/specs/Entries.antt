@@ -12,8 +12,8 @@ abbrev pub with_value : Entry → Value → Entry
 with_value e v = record { key = e.key; value = v; last = e.last; earlier = e.earlier }
 
 -- an entry that keeps another place for the last entry of a chain
-abbrev pub with_last : Entry → ℕ → Entry
-with_last e i = record { key = e.key; value = e.value; last = i; earlier = e.earlier }
+abbrev pub with_last_place : Entry → ℕ → Entry
+with_last_place e i = record { key = e.key; value = e.value; last = i; earlier = e.earlier }
 
 -- an entry that keeps another place for the entry before it in its chain
 abbrev pub with_earlier : Entry → ℕ → Entry

@@ -9,9 +9,9 @@ is_number (pos n) = nat_lt n (2 ^ 64)
 is_number (negsuc n) = nat_lt n (2 ^ 63)
 
 -- the integer that a form stands for
-abbrev pub integer_of : Integer → ℤ
-integer_of (Unsigned n) = pos n
-integer_of (Negative z) = z
+abbrev pub integer_value : Integer → ℤ
+integer_value (Unsigned n) = pos n
+integer_value (Negative z) = z
 
 -- only an integer below 0 has the negative form, and each is in range
 abbrev pub is_canonical : Integer → Bool

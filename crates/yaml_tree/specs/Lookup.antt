@@ -4,9 +4,9 @@ use Rattle.yaml_tree.specs.Tree.{Tree, Pairs, no_pairs, pair}
 use Rattle.yaml_tree.specs.Equal.{tree_eq}
 
 -- the place of the first pair with this key
-abbrev pub place_of : Tree → Pairs → Option ℕ
-place_of k no_pairs = None
-place_of k (pair l w ps) = if tree_eq k l then Some 0 else option_map suc (place_of k ps)
+abbrev pub place_of_key : Tree → Pairs → Option ℕ
+place_of_key k no_pairs = None
+place_of_key k (pair l w ps) = if tree_eq k l then Some 0 else option_map suc (place_of_key k ps)
 
 -- some pair is equal to this one
 abbrev pub has_pair : Tree → Tree → Pairs → Bool

@@ -51,8 +51,8 @@ abbrev pub TaggedTree : Type 0
 TaggedTree = TagText × ValueTree
 
 -- a sequence's values
-abbrev pub items_of : ValueTrees → Trees
-items_of s = s.0
+abbrev pub values_of : ValueTrees → Trees
+values_of s = s.0
 
 -- a mapping's pairs
 abbrev pub pairs_of : ValuePairs → Pairs

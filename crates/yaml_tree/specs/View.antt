@@ -4,7 +4,7 @@ use Rattle.std.proofs.lemmas.Str.{IsUtf8-string_bytes, is_utf8-from_IsUtf8}
 use Rattle.yaml_tree.specs.Number.{number_of, is_number-number_of}
 use Rattle.yaml_tree.specs.Tree.{Tree, null, boolean, number, string, sequence, mapping, Trees, no_trees, tree}
 use Rattle.yaml_tree.specs.Tree.{Pairs, no_pairs, pair}
-use Rattle.yaml_tree.specs.Valid.{is_value, are_values, are_pairs, items_of, pairs_of, tree_of_tagged}
+use Rattle.yaml_tree.specs.Valid.{is_value, are_values, are_pairs, pairs_of, tree_of_tagged, values_of}
 use Rattle.yaml_tree.specs.declared.mapping.Entry.{Entry}
 use Rattle.yaml_tree.specs.declared.value.Value.{Value}
 use Rattle.yaml_tree.specs.declared.value.Value.TheVariants as V
@@ -15,7 +15,7 @@ tree_of V.Null = null
 tree_of (V.Bool b) = boolean b
 tree_of (V.Number x) = number (number_of x)
 tree_of (V.String s) = string (string_bytes s)
-tree_of (V.Sequence s) = sequence (items_of s)
+tree_of (V.Sequence s) = sequence (values_of s)
 tree_of (V.Mapping m) = mapping (pairs_of m)
 tree_of (V.Tagged t) = tree_of_tagged t.value
 

@@ -5,7 +5,7 @@
 //! is kept as one more than it is, so that 0 says that there is none.
 ghost use Rattle.std.specs.Prelude.{◌≡◌, ◌<◌, ◌≤◌, ◌+◌, ◌%◌, length};
 ghost use Rattle.std.specs.Prelude.{slice_index_or, slice_set};
-ghost use Rattle.yaml_tree.specs.Entries.{with_earlier, with_last};
+ghost use Rattle.yaml_tree.specs.Entries.{with_earlier, with_last_place};
 ghost use Rattle.yaml_tree.specs.Hash.{hash_of};
 ghost use Rattle.yaml_tree.specs.Index.{IsChained, IsIndexed, IsIndexedTo, chain_count};
 ghost use Rattle.yaml_tree.specs.Tree.{string};
@@ -103,7 +103,7 @@ fn chain(entries: &mut Vec<Entry>, place: usize, chains: usize)
 fn set_last(entries: &mut Vec<Entry>, i: usize, last: usize)
     requires { i < length entries.old.items }
     ensures { (d : _) → entries.new.items
-        ≡ slice_set entries.old.items i (with_last (slice_index_or entries.old.items i d) last) }
+        ≡ slice_set entries.old.items i (with_last_place (slice_index_or entries.old.items i d) last) }
 {
     let entry = &mut entries[i];
     entry.last = last;

@@ -15,7 +15,7 @@ pub struct Sequence {
 
 impl Model for Sequence {
     ghost use Rattle.yaml_tree.specs.Tree.{trees_size};
-    ghost use Rattle.yaml_tree.specs.Valid.{ValueTrees, items_of, value_trees_code};
+    ghost use Rattle.yaml_tree.specs.Valid.{ValueTrees, value_trees_code, values_of};
 
     ghost Value = { ValueTrees };
 
@@ -25,7 +25,7 @@ impl Model for Sequence {
 
     ghost view = { λ s. (trees_of s.items.items, are_values-trees_of s.items.items) };
 
-    ghost size = { λ s. trees_size (items_of s) };
+    ghost size = { λ s. trees_size (values_of s) };
 
     ghost use Rattle.std.proofs.Common.{arith};
     ghost use Rattle.yaml_tree.specs.Falls.{most-Value_le};
@@ -35,10 +35,10 @@ impl Model for Sequence {
 
 impl From<Vec<Value>> for Sequence {
     ghost use Rattle.std.specs.Prelude.{◌≡◌};
-    ghost use Rattle.yaml_tree.specs.Valid.{items_of};
+    ghost use Rattle.yaml_tree.specs.Valid.{values_of};
     ghost use Rattle.yaml_tree.specs.View.{trees_of};
 
-    ghost from_gives = { λ items s. items_of s ≡ trees_of items.items };
+    ghost from_gives = { λ items s. values_of s ≡ trees_of items.items };
 
     /// The sequence of these values. It takes no memory.
     fn from(items: Vec<Value>) -> Sequence {
@@ -50,40 +50,40 @@ impl Sequence {
     ghost use Rattle.std.specs.Prelude.{◌≡◌, ◌↔◌, option_map, IfErr, IsTrue, OnErr, OnOk};
     ghost use Rattle.std.specs.Slice.Iter.{iter_rest};
     ghost use Rattle.yaml_tree.specs.Tree.{no_trees, tree_at, tree_count, with_tree};
-    ghost use Rattle.yaml_tree.specs.Valid.{items_of};
+    ghost use Rattle.yaml_tree.specs.Valid.{values_of};
     ghost use Rattle.yaml_tree.specs.View.{tree_of, trees_of};
 
     /// The values, given back as they were handed in. It takes no memory.
     pub fn into_vec(self) -> Vec<Value>
-        ensures { trees_of result.items ≡ items_of self }
+        ensures { trees_of result.items ≡ values_of self }
     {
         self.items
     }
 
     /// The values in order.
     pub fn as_slice(&self) -> &[Value]
-        ensures { trees_of result.now ≡ items_of self.now }
+        ensures { trees_of result.now ≡ values_of self.now }
     {
         self.items.as_slice()
     }
 
     /// How many values there are.
     pub fn len(&self) -> usize
-        ensures { result ≡ tree_count (items_of self.now) }
+        ensures { result ≡ tree_count (values_of self.now) }
     {
         self.items.len()
     }
 
     /// Whether there is no value.
     pub fn is_empty(&self) -> bool
-        ensures { IsTrue result ↔ (items_of self.now ≡ no_trees) }
+        ensures { IsTrue result ↔ (values_of self.now ≡ no_trees) }
     {
         self.len() == 0
     }
 
     /// The value at a place, counted from 0.
     pub fn get(&self, index: usize) -> Option<&Value>
-        ensures { option_map (λ v. tree_of v.now) result ≡ tree_at (items_of self.now) index }
+        ensures { option_map (λ v. tree_of v.now) result ≡ tree_at (values_of self.now) index }
     {
         let items = self.items.as_slice();
         if index < items.len() {
@@ -95,15 +95,15 @@ impl Sequence {
 
     /// Goes over the values in order.
     pub fn iter(&self) -> slice::Iter<'_, Value>
-        ensures { trees_of (iter_rest result) ≡ items_of self.now }
+        ensures { trees_of (iter_rest result) ≡ values_of self.now }
     {
         self.items.iter()
     }
 
     /// Adds a value at the end. The only fault is `Memory`: the sequence is as it was, and the value is dropped.
     pub fn push(&mut self, value: Value) -> Result<(), TreeFault>
-        ensures ok { let old = items_of self.old in
-            OnOk result (items_of self.new ≡ with_tree old (tree_of value)) }
+        ensures ok { let old = values_of self.old in
+            OnOk result (values_of self.new ≡ with_tree old (tree_of value)) }
         ensures memory { IfErr result (λ e. e ≡ TreeFault.Memory) }
         ensures err { OnErr result (self.new ≡ self.old) }
     {
@@ -129,11 +129,11 @@ impl IntoIterator for Sequence {
 
     ghost use Rattle.std.specs.Prelude.{◌≡◌};
     ghost use Rattle.std.specs.Vec.Iter.{into_iter_items};
-    ghost use Rattle.yaml_tree.specs.Valid.{items_of};
+    ghost use Rattle.yaml_tree.specs.Valid.{values_of};
     ghost use Rattle.yaml_tree.specs.View.{trees_of};
 
     ghost into_iter_gives = { λ sequence items.
-        trees_of (into_iter_items items) ≡ items_of sequence };
+        trees_of (into_iter_items items) ≡ values_of sequence };
 
     /// The values in order, handed out. Takes no memory.
     fn into_iter(self) -> vec::IntoIter<Value> {
@@ -148,11 +148,11 @@ impl<'a> IntoIterator for &'a Sequence {
 
     ghost use Rattle.std.specs.Prelude.{◌≡◌};
     ghost use Rattle.std.specs.Slice.Iter.{iter_rest};
-    ghost use Rattle.yaml_tree.specs.Valid.{items_of};
+    ghost use Rattle.yaml_tree.specs.Valid.{values_of};
     ghost use Rattle.yaml_tree.specs.View.{trees_of};
 
     ghost into_iter_gives = { λ sequence items.
-        trees_of (iter_rest items) ≡ items_of sequence.now };
+        trees_of (iter_rest items) ≡ values_of sequence.now };
 
     /// The values in order, as `iter` gives them.
     fn into_iter(self) -> slice::Iter<'a, Value> {

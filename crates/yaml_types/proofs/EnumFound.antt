@@ -12,7 +12,7 @@ use Rattle.yaml_shape.specs.PlainShape.{PlainShape, PlainVariant, shape_at, enum
 use Rattle.yaml_shape.specs.PlainData.{PlainData, variant_data}
 use Rattle.yaml_shape.specs.HasShape.{HasShape, has_shape}
 use Rattle.yaml_shape.specs.Validity.{names_of, NamesWithin, AreDistinct, IsDistinctInside, HasDistinctNames}
-use Rattle.yaml_shape.specs.Join.{joined, joined_all, starts_behind, IsTooLarge, IsNotAdded}
+use Rattle.yaml_shape.specs.Join.{joined_tables, joined_all, starts_behind, IsTooLarge, IsNotAdded}
 use Rattle.yaml_shape.specs.ShapeView.{variant_of, variants_of}
 use Rattle.yaml_shape.specs.DataView.{data_of}
 use Rattle.yaml_shape.specs.declared.data.Data.{Data, the_lemmas}
@@ -73,7 +73,7 @@ held_found name names cs same c found place content d is inner h =
 joined-append : (first : List PlainShape) (ps qs : List Start)
     → joined_all (joined_all first ps) qs ≡ joined_all first (ps ++ qs)
 joined-append first [] qs = refl
-joined-append first (p ∷ ps) qs = joined-append (joined first p.0) ps qs
+joined-append first (p ∷ ps) qs = joined-append (joined_tables first p.0) ps qs
 
 -- the first variant is behind others, and then the rest
 pub variants_more : (before table : List PlainShape) (c : Content) (cs : List Content)

@@ -12,7 +12,7 @@ use Rattle.yaml_shape.specs.declared.data.Data as code
 use Rattle.yaml_shape.specs.declared.data.Entry.{Entry}
 use Rattle.yaml_types.specs.Start.{Start, IsClosed, option_start, seq_start, map_start, tuple_start}
 use Rattle.yaml_types.specs.PartShapes.{items_match, entries_match}
-use Rattle.yaml_types.specs.ShapeLaws.{some_has, seq_has, tuple_has, map_has}
+use Rattle.yaml_types.specs.ShapeLaws.{some_has, seq_has, tuple_start_has, map_has}
 
 -- the shape that stands last
 last_shape : (shapes : List PlainShape) (shape : PlainShape)
@@ -113,7 +113,7 @@ pub parts_found : (parts : List Start) → All IsClosed parts → (found : Data)
     → found ≡ code.Tuple items → HasShape (tuple_start parts).0 (tuple_start parts).1 (data_of found)
     → IsTrue (items_match parts (items_view items.items))
 parts_found parts c found items is h =
-    sym (tuple_has parts c (items_view items.items))
+    sym (tuple_start_has parts c (items_view items.items))
     ∙ (ap (has_shape (tuple_start parts).0 (tuple_start parts).1) (sym (ap data_of is ∙ data_of-Tuple items)) ∙ h)
 
 abbrev is_mapping : PlainData → Bool

@@ -21,7 +21,7 @@ use Rattle.yaml_write.specs.WrittenEvents.{pair_events}
 use Rattle.yaml_write.specs.WrittenValue.{pair_node, pair_before}
 use Rattle.yaml_write.proofs.AddLaws.{InRow, adds-between, adds-joined, left-joined}
 use Rattle.yaml_write.proofs.ValueLaws.{node-row, pair-row, pairs-row}
-use Rattle.yaml_types.specs.NodeWrites.{node_of, IsPut, IsFaultOf}
+use Rattle.yaml_types.specs.NodeWrites.{written_node, IsPut, IsFaultOf}
 use Rattle.yaml_types.specs.WriteRefusal.{IsWriteRefusal, SomeUnwritten}
 use Rattle.yaml_types.specs.WrittenParts.{pairs_written, PairsKeep}
 use Rattle.yaml_types.proofs.WriteRefusals.{refused_by, next_unwritten}
@@ -111,33 +111,33 @@ module _ {T : Type 0} (table : List PlainShape) (id : ℕ) (written : T → Plai
   -- the elements that are not left are put
   abbrev pub ElementsPut : (whole left : List T) (old now : List PlainEmit) → Type 0
   ElementsPut =
-      AreFront emit_node emit_node_events emit_nodes_events node-row (λ x. node_of table id (written x)) elements_of kept
+      AreFront emit_node emit_node_events emit_nodes_events node-row (λ x. written_node table id (written x)) elements_of kept
       (λ x. IsHeld (written x)) (λ xs. AreHeld (items_of (map written xs)))
 
   pub no_element_put : (whole : List T) (old : List PlainEmit) → ElementsPut whole whole old old
   no_element_put =
-      none_put emit_node emit_node_events emit_nodes_events node-row (λ x. node_of table id (written x)) elements_of kept
+      none_put emit_node emit_node_events emit_nodes_events node-row (λ x. written_node table id (written x)) elements_of kept
       (λ x. IsHeld (written x)) (λ xs. AreHeld (items_of (map written xs)))
 
   pub element_put : (whole left rest : List T) (x : T) (old mid new : List PlainEmit) → left ≡ x ∷ rest
-      → IsPut emit_node_events (node_of table id (written x)) mid new → kept x → IsHeld (written x)
+      → IsPut emit_node_events (written_node table id (written x)) mid new → kept x → IsHeld (written x)
       → ElementsPut whole left old mid → ElementsPut whole rest old new
   element_put =
-      one_put emit_node emit_node_events emit_nodes_events node-row (λ x. node_of table id (written x)) elements_of kept
+      one_put emit_node emit_node_events emit_nodes_events node-row (λ x. written_node table id (written x)) elements_of kept
       (λ x. IsHeld (written x)) (λ xs. AreHeld (items_of (map written xs))) (λ x xs. refl) (λ x xs one all. (one, all))
 
   pub elements_put : (whole left : List T) (old now : List PlainEmit) → left ≡ [] → ElementsPut whole left old now
       → IsPut emit_nodes_events (elements_of whole) old now × All kept whole
       × AreHeld (items_of (map written whole))
   elements_put =
-      all_put emit_node emit_node_events emit_nodes_events node-row (λ x. node_of table id (written x)) elements_of kept
+      all_put emit_node emit_node_events emit_nodes_events node-row (λ x. written_node table id (written x)) elements_of kept
       (λ x. IsHeld (written x)) (λ xs. AreHeld (items_of (map written xs))) no_emit_nodes refl refl tt
 
   pub element_refused : (unwritten : T → List ℕ → Type 0) (whole left rest : List T) (x : T) (old mid : List PlainEmit)
-      (cause : Cause) → left ≡ x ∷ rest → IsFaultOf (node_of table id (written x)) (unwritten x) cause
+      (cause : Cause) → left ≡ x ∷ rest → IsFaultOf (written_node table id (written x)) (unwritten x) cause
       → ElementsPut whole left old mid → IsFaultOf (elements_of whole) (SomeUnwritten unwritten whole) cause
   element_refused =
-      next_refused emit_node emit_node_events emit_nodes_events node-row (λ x. node_of table id (written x)) elements_of
+      next_refused emit_node emit_node_events emit_nodes_events node-row (λ x. written_node table id (written x)) elements_of
       kept (λ x. IsHeld (written x)) (λ xs. AreHeld (items_of (map written xs))) (λ x xs. refl)
 
 -- Keys of one shape, each with its value of another.
@@ -145,7 +145,7 @@ module _ {K V : Type 0} (table : List PlainShape) (ids : ShapeId × ShapeId) (on
     (key : K → Type 0) (value : V → Type 0) where
   -- what a pair is written as
   abbrev pub pair_of : K × V → Result (EmitNode × EmitNode) Cause
-  pair_of p = joined pair_node (node_of table ids.0.0 (one p.0)) (node_of table ids.1.0 (two p.1))
+  pair_of p = joined pair_node (written_node table ids.0.0 (one p.0)) (written_node table ids.1.0 (two p.1))
 
   -- what pairs are written as
   abbrev pub pairs_of : List (K × V) → Result EmitPairs Cause

@@ -18,7 +18,7 @@ use Rattle.yaml_shape.proofs.PartLaws.{larger}
 use Rattle.yaml_types.specs.Start.{Start, IsClosed, tuple_start}
 use Rattle.yaml_types.specs.PartShapes.{items_match}
 use Rattle.yaml_types.specs.Rows.{total, struct_start, all_distinct}
-use Rattle.yaml_types.specs.StructLaws.{struct_has, distinct_struct, length-row}
+use Rattle.yaml_types.specs.StructLaws.{struct_start_has, distinct_struct, length-row}
 
 -- a table with its number, as plain parts
 abbrev pub Part : Type 0
@@ -61,7 +61,7 @@ pub fields_found : (strict : Bool) (name : List ℕ) (names : List (List ℕ)) (
     → HasShape (struct_start strict name names parts).0 (struct_start strict name names parts).1 (data_of found)
     → IsTrue (items_match parts (items_view fields.items))
 fields_found strict name names parts same c found fields is h =
-    sym (struct_has strict name names parts same c (items_view fields.items))
+    sym (struct_start_has strict name names parts same c (items_view fields.items))
     ∙ (ap (has_shape (struct_start strict name names parts).0 (struct_start strict name names parts).1)
     (sym (ap data_of is ∙ data_of-Struct fields)) ∙ h)
 

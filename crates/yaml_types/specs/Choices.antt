@@ -10,7 +10,7 @@ use Rattle.yaml_shape.specs.ShapeView.{content_of, variants_of}
 use Rattle.yaml_shape.specs.HasShape.{passes, has_shape}
 use Rattle.yaml_shape.specs.Join.{joined_all, starts_behind, named_behind}
 use Rattle.yaml_shape.specs.declared.shape.VariantShape.{VariantShape}
-use Rattle.yaml_types.specs.Start.{Start, with_shape}
+use Rattle.yaml_types.specs.Start.{Start, with_last_shape}
 use Rattle.yaml_types.specs.PartShapes.{items_match}
 use Rattle.yaml_types.specs.Rows.{total, all_distinct}
 use Rattle.yaml_types.specs.declared.choice.OneOf.{OneOf}
@@ -64,7 +64,7 @@ variants_behind size (n ∷ ns) (c ∷ cs) =
 -- enums of this name, whose variants have these names and hold these types, their tables in a row
 abbrev pub enum_start : (name : List ℕ) → (names : List VariantNames) → List Content → Start
 enum_start name names contents =
-    with_shape (joined_all [] (all_types contents)) (enum_shape name (variants_behind 0 names contents))
+    with_last_shape (joined_all [] (all_types contents)) (enum_shape name (variants_behind 0 names contents))
 
 -- no two variants have one name, and none has a name for two fields
 abbrev pub all_apart : List VariantNames → Bool

@@ -10,8 +10,8 @@ use Rattle.yaml_write.specs.Written.{written}
 use Rattle.yaml_types.specs.WriteRefusal.{IsWriteRefusal}
 
 -- the node that data is written as by the shape with this number, with no tag from above
-abbrev pub node_of : List PlainShape → (id : ℕ) → PlainData → Outcome
-node_of table id d = written table id None d
+abbrev pub written_node : List PlainShape → (id : ℕ) → PlainData → Outcome
+written_node table id d = written table id None d
 
 -- the events of what is given were put behind those that were there
 abbrev pub IsPut : {B : Type 0} → (B → List PlainEmit) → Result B Cause → (old new : List PlainEmit) → Type 0

@@ -4,7 +4,7 @@ use Rattle.yaml_shape.specs.PlainShape.{fields_shape, of_struct}
 use Rattle.yaml_shape.specs.PlainData.{PlainData, PlainItems, no_items, item, struct_data, tuple_data}
 use Rattle.yaml_shape.specs.Join.{joined_all, named_behind}
 use Rattle.yaml_types.specs.BuiltParts.{IsBuilt}
-use Rattle.yaml_types.specs.Start.{Start, with_shape}
+use Rattle.yaml_types.specs.Start.{Start, with_last_shape}
 
 -- how many shapes the tables have together
 abbrev pub total : List Start → ℕ
@@ -14,7 +14,7 @@ total (s ∷ ss) = length s.0 + total ss
 -- structs of this name, whose fields have these names and are of these types, their tables in a row
 abbrev pub struct_start : (strict : Bool) → (name : List ℕ) → (names : List (List ℕ)) → List Start → Start
 struct_start strict name names parts =
-    with_shape (joined_all [] parts) (fields_shape strict (of_struct name) (named_behind 0 names parts))
+    with_last_shape (joined_all [] parts) (fields_shape strict (of_struct name) (named_behind 0 names parts))
 
 -- the name is none of these
 abbrev pub is_apart : List ℕ → List (List ℕ) → Bool

@@ -8,7 +8,7 @@ use Rattle.yaml_shape.specs.PlainData.{map_data, no_items, item, no_entries, ent
 use Rattle.yaml_shape.specs.Validity.{AllNameWithin}
 use Rattle.yaml_shape.specs.HasShape.{passes, on_option, on_seq, on_tuple, on_map, has_shape, all_have, each_has}
 use Rattle.yaml_shape.specs.HasShape.{entries_have}
-use Rattle.yaml_shape.specs.Join.{joined, joined_all, starts_behind, StartsWithin, raised}
+use Rattle.yaml_shape.specs.Join.{joined_tables, joined_all, starts_behind, StartsWithin, raised}
 use Rattle.yaml_shape.specs.Kept.{KeepsAllShapes}
 use Rattle.yaml_shape.proofs.JoinData.{keeps}
 use Rattle.yaml_shape.proofs.Stands.{stands_first, keeps_all}
@@ -64,9 +64,9 @@ parts_have by (p ∷ ps) whole w k (item d ds) =
     && parts_have (by + length p.0) ps whole (All-tail StartsWithin p ps w) k.1 ds t
 
 -- a tuple
-pub tuple_has : (parts : List Start) → All IsClosed parts → (ds : PlainItems)
+pub tuple_start_has : (parts : List Start) → All IsClosed parts → (ds : PlainItems)
     → has_shape (tuple_start parts).0 (tuple_start parts).1 (tuple_data ds) ≡ items_match parts ds
-tuple_has parts c ds =
+tuple_start_has parts c ds =
     at_last (joined_all [] parts) (row_shape unnamed (starts_behind 0 parts))
     (on_tuple (λ ids. each_has (tuple_start parts).0 ids ds))
     ∙ parts_have 0 parts (tuple_start parts).0 (all_within parts c)
@@ -75,22 +75,22 @@ tuple_has parts c ds =
 
 -- the tables of keys and values in a row, with a shape behind them
 key_has : (k v : Start) (shape : PlainShape) → IsClosed k → (d : PlainData)
-    → has_shape (joined k.0 v.0 ++ shape ∷ []) k.1 d ≡ has_shape k.0 k.1 d
+    → has_shape (joined_tables k.0 v.0 ++ shape ∷ []) k.1 d ≡ has_shape k.0 k.1 d
 key_has k v shape c d =
-    let row : joined k.0 v.0 ++ shape ∷ [] ≡ k.0 ++ (map (raised (length k.0)) v.0 ++ shape ∷ []) =
+    let row : joined_tables k.0 v.0 ++ shape ∷ [] ≡ k.0 ++ (map (raised (length k.0)) v.0 ++ shape ∷ []) =
     append_assoc k.0 (map (raised (length k.0)) v.0) (shape ∷ []) in
     ap (λ t. has_shape t k.1 d) row
     ∙ kept_first k.0 (map (raised (length k.0)) v.0 ++ shape ∷ []) c.closed k.1 c.within d
 
 value_has : (k v : Start) (shape : PlainShape) → IsClosed v → (d : PlainData)
-    → has_shape (joined k.0 v.0 ++ shape ∷ []) (length k.0 + v.1) d ≡ has_shape v.0 v.1 d
+    → has_shape (joined_tables k.0 v.0 ++ shape ∷ []) (length k.0 + v.1) d ≡ has_shape v.0 v.1 d
 value_has k v shape c d =
     (keeps_all k.0 (v ∷ []) (shape ∷ [])
     (All-cons (λ p. AllNameWithin (length p.0) p.0) v [] c.closed (All-nil (λ p. AllNameWithin (length p.0) p.0)))).0
     v.1 d c.within
 
 pairs_have : (k v : Start) (shape : PlainShape) → IsClosed k → IsClosed v → (es : PlainEntries)
-    → entries_have (joined k.0 v.0 ++ shape ∷ []) k.1 (length k.0 + v.1) es ≡ entries_match k v es
+    → entries_have (joined_tables k.0 v.0 ++ shape ∷ []) k.1 (length k.0 + v.1) es ≡ entries_match k v es
 pairs_have k v shape a b no_entries = refl
 pairs_have k v shape a b (entry x y es) =
     λ t. key_has k v shape a x t && (value_has k v shape b y t && pairs_have k v shape a b es t)
@@ -99,6 +99,6 @@ pairs_have k v shape a b (entry x y es) =
 pub map_has : (k v : Start) → IsClosed k → IsClosed v → (es : PlainEntries)
     → has_shape (map_start k v).0 (map_start k v).1 (map_data es) ≡ entries_match k v es
 map_has k v a b es =
-    at_last (joined k.0 v.0) (map_shape k.1 (length k.0 + v.1))
+    at_last (joined_tables k.0 v.0) (map_shape k.1 (length k.0 + v.1))
     (on_map (λ key value. entries_have (map_start k v).0 key value es))
     ∙ pairs_have k v (map_shape k.1 (length k.0 + v.1)) a b es

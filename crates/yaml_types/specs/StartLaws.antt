@@ -6,10 +6,11 @@ use Rattle.std.proofs.lemmas.List.Elements.{All-push}
 use Rattle.yaml_shape.specs.PlainShape.{PlainShape, any_shape, bool_shape, char_shape, integer_shape, str_shape}
 use Rattle.yaml_shape.specs.PlainShape.{option_shape, unit_shape, seq_shape, row_shape, map_shape, unnamed}
 use Rattle.yaml_shape.specs.Validity.{named, NamesWithin, AllNameWithin}
-use Rattle.yaml_shape.specs.Join.{raised, joined, joined_all, starts_behind, StartsWithin}
+use Rattle.yaml_shape.specs.Join.{raised, joined_all, joined_tables, starts_behind, StartsWithin}
 use Rattle.yaml_shape.proofs.JoinLaws.{named-raised}
-use Rattle.yaml_shape.proofs.PartLaws.{length-joined, starts_inside}
-use Rattle.yaml_types.specs.Start.{Start, IsClosed, with_shape, IsLeaf, leaf_start, option_start, seq_start, map_start}
+use Rattle.yaml_shape.proofs.PartLaws.{length-joined_tables, starts_inside}
+use Rattle.yaml_types.specs.Start.{Start, IsClosed, with_last_shape, IsLeaf, leaf_start, option_start, seq_start}
+use Rattle.yaml_types.specs.Start.{map_start}
 use Rattle.yaml_types.specs.Start.{tuple_start}
 
 pub names_nothing : (shape : PlainShape) → IsLeaf shape → NamesWithin 1 shape
@@ -33,7 +34,7 @@ wider size more le shape h = All-weaker (λ id. id < size) (λ id. id < more) (�
 
 -- a closed table with one more shape that names only the others
 pub closed_with : (shapes : List PlainShape) (shape : PlainShape) → AllNameWithin (length shapes) shapes
-    → NamesWithin (length shapes) shape → IsClosed (with_shape shapes shape)
+    → NamesWithin (length shapes) shape → IsClosed (with_last_shape shapes shape)
 closed_with shapes shape closed names =
     let size : length (shapes ++ shape ∷ []) ≡ length shapes + 1 = length-append shapes (shape ∷ []) in
     record {
@@ -64,9 +65,9 @@ raised_names by size shape within =
 
 -- the join of closed tables
 pub closed_joined : (first second : List PlainShape) → AllNameWithin (length first) first
-    → AllNameWithin (length second) second → AllNameWithin (length (joined first second)) (joined first second)
+    → AllNameWithin (length second) second → AllNameWithin (length (joined_tables first second)) (joined_tables first second)
 closed_joined first second a b =
-    subst (λ n. AllNameWithin n (joined first second)) (sym (length-joined first second))
+    subst (λ n. AllNameWithin n (joined_tables first second)) (sym (length-joined_tables first second))
     (All-append (NamesWithin (length first + length second)) first (map (raised (length first)) second)
     (All-weaker (NamesWithin (length first)) (NamesWithin (length first + length second))
     (wider (length first) (length first + length second) (omega arith)) first a)
@@ -77,19 +78,19 @@ closed_joined first second a b =
 -- mappings of types
 pub closed_map : (k v : Start) → IsClosed k → IsClosed v → IsClosed (map_start k v)
 closed_map k v a b =
-    let size : length (joined k.0 v.0) ≡ length k.0 + length v.0 = length-joined k.0 v.0 in
+    let size : length (joined_tables k.0 v.0) ≡ length k.0 + length v.0 = length-joined_tables k.0 v.0 in
     let key : k.1 < length k.0 = a.within in
     let value : v.1 < length v.0 = b.within in
-    closed_with (joined k.0 v.0) (map_shape k.1 (length k.0 + v.1)) (closed_joined k.0 v.0 a.closed b.closed)
-    (All-cons (λ n. n < length (joined k.0 v.0)) k.1 ((length k.0 + v.1) ∷ []) (omega arith)
-    (one_name (length k.0 + v.1) (length (joined k.0 v.0)) (omega arith)))
+    closed_with (joined_tables k.0 v.0) (map_shape k.1 (length k.0 + v.1)) (closed_joined k.0 v.0 a.closed b.closed)
+    (All-cons (λ n. n < length (joined_tables k.0 v.0)) k.1 ((length k.0 + v.1) ∷ []) (omega arith)
+    (one_name (length k.0 + v.1) (length (joined_tables k.0 v.0)) (omega arith)))
 
 -- tables in a row
 pub closed_all : (first : List PlainShape) (parts : List Start) → AllNameWithin (length first) first → All IsClosed parts
     → AllNameWithin (length (joined_all first parts)) (joined_all first parts)
 closed_all first [] a c = a
 closed_all first (p ∷ ps) a c =
-    closed_all (joined first p.0) ps (closed_joined first p.0 a (All-head IsClosed p ps c).closed)
+    closed_all (joined_tables first p.0) ps (closed_joined first p.0 a (All-head IsClosed p ps c).closed)
     (All-tail IsClosed p ps c)
 
 -- the start of each is in its table

@@ -11,13 +11,13 @@ use Rattle.yaml_shape.specs.PlainShape.{PlainShape, fields_shape, of_struct}
 use Rattle.yaml_shape.specs.PlainData.{PlainItems, struct_data, tuple_data}
 use Rattle.yaml_shape.specs.Validity.{numbers_of, NamesWithin, AllNameWithin, AreDistinct, HasDistinctNames}
 use Rattle.yaml_shape.specs.HasShape.{on_struct, has_shape, each_has}
-use Rattle.yaml_shape.specs.Join.{joined, joined_all, starts_behind, named_behind}
-use Rattle.yaml_shape.proofs.PartLaws.{starts_inside, length-starts, length-joined}
+use Rattle.yaml_shape.specs.Join.{joined_tables, joined_all, starts_behind, named_behind}
+use Rattle.yaml_shape.proofs.PartLaws.{starts_inside, length-starts, length-joined_tables}
 use Rattle.yaml_shape.proofs.RowShapes.{numbers_inside}
 use Rattle.yaml_shape.proofs.Stands.{keeps_all}
 use Rattle.yaml_types.specs.Start.{Start, IsClosed, tuple_start}
 use Rattle.yaml_types.specs.StartLaws.{closed_with, closed_all, all_within}
-use Rattle.yaml_types.specs.ShapeLaws.{at_last, parts_have, tuple_has}
+use Rattle.yaml_types.specs.ShapeLaws.{at_last, parts_have, tuple_start_has}
 use Rattle.yaml_types.specs.PartShapes.{items_match}
 use Rattle.yaml_types.specs.Rows.{total, struct_start, is_apart, all_distinct}
 
@@ -45,11 +45,11 @@ numbers_named names parts same =
     seconds-zip names (starts_behind 0 parts) (length-starts 0 parts ∙ sym same)
 
 -- a struct
-pub struct_has : (strict : Bool) (name : List ℕ) (names : List (List ℕ)) (parts : List Start)
+pub struct_start_has : (strict : Bool) (name : List ℕ) (names : List (List ℕ)) (parts : List Start)
     → length names ≡ length parts → All IsClosed parts → (ds : PlainItems)
     → has_shape (struct_start strict name names parts).0 (struct_start strict name names parts).1 (struct_data ds)
     ≡ items_match parts ds
-struct_has strict name names parts same c ds =
+struct_start_has strict name names parts same c ds =
     at_last (joined_all [] parts) (fields_shape strict (of_struct name) (named_behind 0 names parts))
     (on_struct (λ ids. each_has (struct_start strict name names parts).0 ids ds))
     ∙ (ap (λ ids. each_has (struct_start strict name names parts).0 ids ds) (numbers_named names parts same)
@@ -84,7 +84,7 @@ pub length-row : (first : List PlainShape) (parts : List Start)
     → length (joined_all first parts) ≡ length first + total parts
 length-row first [] = omega arith
 length-row first (p ∷ ps) =
-    omega (arith, length-row (joined first p.0) ps, length-joined first p.0)
+    omega (arith, length-row (joined_tables first p.0) ps, length-joined_tables first p.0)
 
 -- the fields of a row, each of its type, are a struct of that shape
 pub struct_of_shape : (strict : Bool) (name : List ℕ) (names : List (List ℕ)) (parts : List Start) {width : ℕ}
@@ -93,9 +93,9 @@ pub struct_of_shape : (strict : Bool) (name : List ℕ) (names : List (List ℕ)
     → has_shape (struct_start strict name names parts).0 (struct_start strict name names parts).1 (struct_data ds)
     ≡ true
 struct_of_shape strict name names parts many wide c ds h =
-    struct_has strict name names parts (many ∙ sym wide) c ds ∙ h
+    struct_start_has strict name names parts (many ∙ sym wide) c ds ∙ h
 
 -- the elements of a row, each of its type, are a tuple of that shape
 pub row_of_shape : (parts : List Start) → All IsClosed parts → (ds : PlainItems) → items_match parts ds ≡ true
     → has_shape (tuple_start parts).0 (tuple_start parts).1 (tuple_data ds) ≡ true
-row_of_shape parts c ds h = tuple_has parts c ds ∙ h
+row_of_shape parts c ds h = tuple_start_has parts c ds ∙ h

@@ -10,7 +10,7 @@ use Rattle.yaml_base.specs.EmitTree.{EmitNode, EmitNodes, EmitPairs, emit_sequen
 use Rattle.yaml_base.specs.EmitTree.{no_emit_nodes, emit_node, no_emit_pairs, emit_pair, emit_node_events}
 use Rattle.yaml_base.specs.EmitTree.{emit_nodes_events, emit_pairs_events, emit_documents_events, emit_document_events}
 use Rattle.yaml_base.specs.declared.error.Cause.{Cause}
-use Rattle.yaml_write.specs.Begun.{Begun, row_events, beginning_events, document_beginning, is_odd, open_of, open_all}
+use Rattle.yaml_write.specs.Begun.{Begun, row_events, beginning_events, document_beginning, is_odd, as_opened, open_all}
 use Rattle.yaml_write.specs.Begun.{writing_of, IsBegun}
 use Rattle.yaml_write.specs.CollectionView.{open_collection, open_collections}
 use Rattle.yaml_write.specs.Collections.{CollectionKind}
@@ -44,7 +44,7 @@ one-more : (nodes : List EmitNode) (node : EmitNode) → length (nodes ++ node �
 one-more nodes node = omega (arith, length-append nodes (node ∷ []))
 
 -- a node that has begun and is whole is one that is there
-pub whole-open : (b : Begun) (node : EmitNode) → open_of 0 (with_whole b node) ≡ open_of 1 b
+pub whole-open : (b : Begun) (node : EmitNode) → as_opened 0 (with_whole b node) ≡ as_opened 1 b
 unfolding with_whole
 whole-open b node = ap (λ n. record { kind = b.kind; awaits_value = is_mapping b.kind && is_odd n })
     (one-more b.nodes node)
@@ -54,7 +54,7 @@ turn true odd = refl
 turn false odd = refl
 
 -- a node begins
-pub turned-open : (b : Begun) → turned (open_of 0 b) ≡ open_of 1 b
+pub turned-open : (b : Begun) → turned (as_opened 0 b) ≡ as_opened 1 b
 turned-open b =
     let n : length b.nodes + 1 ≡ suc (length b.nodes + 0) = omega arith in
     ap (λ a. record { kind = b.kind; awaits_value = a })
@@ -86,7 +86,7 @@ placed-as documents (b ∷ outer) node =
     ∙ (ap (λ es. all ++ es) (append_assoc before (beginning_events b) (emit_node_events node ++ [])
     ∙ ap (λ es. before ++ es) (ap (λ es. beginning_events b ++ es) (append-nil (emit_node_events node))
     ∙ sym (beginning-more b node))))) in
-    let o : turned (open_of 0 b) ≡ open_of 0 (with_whole b node) = turned-open b ∙ sym (whole-open b node) in
+    let o : turned (as_opened 0 b) ≡ as_opened 0 (with_whole b node) = turned-open b ∙ sym (whole-open b node) in
     (documents, with_whole b node ∷ outer, λ k. record { events = e k; opened = o k ∷ open_all 1 outer })
 
 -- a node is placed
@@ -102,7 +102,7 @@ never true = refl
 never false = refl
 
 start-open : (kind : CollectionKind) (tag : Option (List ℕ)) → record { kind = kind; awaits_value = false }
-    ≡ open_of 0 (at_start kind tag)
+    ≡ as_opened 0 (at_start kind tag)
 unfolding at_start
 start-open kind tag = ap (λ a. record { kind = kind; awaits_value = a }) (never (is_mapping kind))
 

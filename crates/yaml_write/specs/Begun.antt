@@ -36,14 +36,14 @@ is_odd zero = false
 is_odd (suc n) = not (is_odd n)
 
 -- the collection, as a serializer has it open; so many nodes more have begun in it
-abbrev pub open_of : (more : ℕ) → Begun → OpenCollection
-open_of more b = record { kind = b.kind; awaits_value = is_mapping b.kind && is_odd (length b.nodes + more) }
+abbrev pub as_opened : (more : ℕ) → Begun → OpenCollection
+as_opened more b = record { kind = b.kind; awaits_value = is_mapping b.kind && is_odd (length b.nodes + more) }
 
 -- The same of collections inside one another, the innermost first. In each but the innermost one has begun that isn't
 -- whole.
 abbrev pub open_all : (more : ℕ) → List Begun → List OpenCollection
 open_all more [] = []
-open_all more (b ∷ outer) = open_of more b ∷ open_all 1 outer
+open_all more (b ∷ outer) = as_opened more b ∷ open_all 1 outer
 
 -- what a serializer holds: a stream's start, these whole documents, and the beginnings of these open collections
 abbrev pub writing_of : (documents : List EmitNode) → (collections : List Begun) → Writing

@@ -21,18 +21,18 @@ use Rattle.yaml_write.specs.Outcomes.{Outcome, made, joined, plain_node, null_no
 use Rattle.yaml_write.specs.WrittenValue.{written_value, truth_text, pair_node, pair_before}
 
 -- the variant has content
-abbrev pub has_content : PlainVariant → Bool
-has_content unit_variant = false
-has_content (newtype_variant inner) = true
-has_content (tuple_variant ids) = true
-has_content (struct_variant strict fields) = true
+abbrev pub holds_content : PlainVariant → Bool
+holds_content unit_variant = false
+holds_content (newtype_variant inner) = true
+holds_content (tuple_variant ids) = true
+holds_content (struct_variant strict fields) = true
 
 -- the variant with its name: as a string without content, else what writes its content, under its name as a tag
 abbrev pub variant_by : Option (List ℕ × PlainVariant) → (tag : Option (List ℕ))
     → (PlainVariant → Option (List ℕ) → Outcome) → Outcome
 variant_by None tag write = Ok (null_node tag)
 variant_by (Some v) tag write =
-    if has_content v.1 then under tag (local_tag v.0) (write v.1) else Ok (string_node tag v.0)
+    if holds_content v.1 then under tag (local_tag v.0) (write v.1) else Ok (string_node tag v.0)
 
 -- what writes the content of a variant, by what the content is
 abbrev pub content_by : (own : Option (List ℕ)) → (ℕ → Outcome) → (List ℕ → Outcome) → (List (List ℕ × ℕ) → Outcome)

@@ -6,7 +6,7 @@ ghost use Rattle.yaml_base.specs.EmitEvents.{tag_bytes};
 ghost use Rattle.yaml_base.specs.EmitTree.{emit_node_events, emit_nodes_events, emit_pairs_events};
 ghost use Rattle.yaml_tree.specs.Number.{number_of};
 ghost use Rattle.yaml_tree.specs.Tree.{sequence, mapping};
-ghost use Rattle.yaml_tree.specs.Valid.{items_of, pairs_of, tree_of_tagged};
+ghost use Rattle.yaml_tree.specs.Valid.{pairs_of, tree_of_tagged, values_of};
 ghost use Rattle.yaml_tree.specs.View.{tree_of};
 ghost use Rattle.yaml_write.specs.Adds.{Adds};
 ghost use Rattle.yaml_write.specs.Outcomes.{joined, plain_node};
@@ -61,7 +61,7 @@ pub(crate) fn write_value(out: &mut EventBuffer, tag: Option<String>, value: &Va
 #[cycle(write_value)]
 fn write_sequence(out: &mut EventBuffer, tag: Option<String>, values: &Sequence) -> Result<()>
     ensures { Adds emit_node_events
-        (written_value (tag_bytes tag) (sequence (items_of values.now))) out.old out.new result }
+        (written_value (tag_bytes tag) (sequence (values_of values.now))) out.old out.new result }
 {
     out.start_sequence(tag, values.len())?;
     write_values(out, values)?;
@@ -70,7 +70,7 @@ fn write_sequence(out: &mut EventBuffer, tag: Option<String>, values: &Sequence)
 
 #[cycle(write_value)]
 fn write_values(out: &mut EventBuffer, values: &Sequence) -> Result<()>
-    ensures { Adds emit_nodes_events (written_values (items_of values.now))
+    ensures { Adds emit_nodes_events (written_values (values_of values.now))
         out.old out.new result }
 {
     for value in values.as_slice() {

@@ -2,7 +2,8 @@
 
 ghost use Rattle.std.specs.Prelude.{◌≡◌, ◌^◌, ◌-◌, ◌≤◌, ℕ, ℤ, pos, neg_ℤ, ◌≤ℤ◌, ◌↔◌, List, MatchOption, Some};
 ghost use Rattle.std.specs.Prelude.{if◌then◌else◌};
-ghost use Rattle.yaml_base.specs.Integers.{number_in, number_of, digits_number, decimal as decimal_base, integer_of};
+ghost use Rattle.yaml_base.specs.Integers.{number_in_base, number_in_any_base, digits_number, decimal as decimal_base};
+ghost use Rattle.yaml_base.specs.Integers.{integer_of};
 ghost use Rattle.yaml_base.specs.Integers.{unsigned_of, negative_of};
 ghost use Rattle.yaml_base.specs.Integers.{in_range, up_to, IsIntegerText, IsUnsignedText, IsNegativeText};
 
@@ -22,7 +23,7 @@ fn digits_number(digits: &str, base: u32) -> Option<u128>
 
 // The number that decimal text writes, if it fits.
 fn decimal(text: &str) -> Option<u128>
-    ensures { result ≡ up_to (2 ^ 128 - 1) (number_in decimal_base text.now) }
+    ensures { result ≡ up_to (2 ^ 128 - 1) (number_in_base decimal_base text.now) }
 {
     if text.len() > 1 && text.starts_with('0') {
         return None;
@@ -32,7 +33,7 @@ fn decimal(text: &str) -> Option<u128>
 
 // The number that the text writes without a sign, if it fits.
 fn number(text: &str) -> Option<u128>
-    ensures { result ≡ up_to (2 ^ 128 - 1) (number_of text.now) }
+    ensures { result ≡ up_to (2 ^ 128 - 1) (number_in_any_base text.now) }
 {
     if let Some(digits) = after_prefix(text, "0x") {
         return digits_number(digits, 16);

@@ -5,7 +5,7 @@ ghost use Rattle.yaml_base.specs.PlainEvent.{event_of, scalar_of};
 ghost use Rattle.yaml_base.specs.declared.event.ScalarStyle.{ScalarStyle as Style};
 ghost use Rattle.yaml_lines.specs.Escape.{Lacks};
 ghost use Rattle.yaml_lines.specs.EventText.{IsAnchorName, IsBreak, HasAnchor, HasTag};
-ghost use Rattle.yaml_lines.specs.EventText.{HasProperties, style_byte, IsContent, IsScalarText};
+ghost use Rattle.yaml_lines.specs.EventText.{HasProperties, style_byte, IsScalarText, IsStyledText};
 ghost use Rattle.yaml_lines.specs.EventText.{IsEventText, IsNoWord};
 ghost use Rattle.yaml_lines.specs.Parses.{Parses};
 
@@ -95,7 +95,7 @@ fn style_of(byte: u8) -> Option<ScalarStyle>
 // The style and the text of a scalar, behind its anchor and tag.
 fn content(alloc: Global, text: &[u8]) -> Result<(ScalarStyle, Vec<u8>), LineFault>
     ensures { Parses {Y = Style × List ℕ} (λ parts. (parts.0, parts.1.items))
-        (λ p. IsContent text.now p.0 p.1) result }
+        (λ p. IsStyledText text.now p.0 p.1) result }
 {
     let text = strip(text, b" ").ok_or(LineFault::Bad)?;
     let (sign, text) = text.split_first().ok_or(LineFault::Bad)?;

@@ -1,7 +1,7 @@
 //! Bytes as a line writes them.
 
 ghost use Rattle.std.specs.Prelude.{◌≡◌, ◌++◌, string_bytes, OnOk};
-ghost use Rattle.yaml_base.specs.Quoted.{hexadecimal};
+ghost use Rattle.yaml_base.specs.Quoted.{hex_escape};
 ghost use Rattle.yaml_lines.specs.WrittenLines.{spelled, spelling};
 
 use std::alloc::AllocError;
@@ -12,7 +12,7 @@ pub const NO_BYTE: u8 = 0;
 
 // Appends the number of a byte.
 fn spell_number(out: &mut String, byte: u8) -> Result<(), AllocError>
-    ensures { OnOk result (string_bytes out.new ≡ string_bytes out.old ++ hexadecimal byte) }
+    ensures { OnOk result (string_bytes out.new ≡ string_bytes out.old ++ hex_escape byte) }
 {
     out.push_str("\\x")?;
     out.push(hex_digit(byte / 16))?;

@@ -93,7 +93,7 @@ pub record IsDraft (events : List (DocEvent × Position)) (numbers : List ℕ) (
   pub named : d.anchors.named.items ≡ anchors_in 0 seen
 
 -- no document is open, and those that were have their ranges
-pub record IsBetween (documents : List PlainDocument) (d : Draft) : Type 0 where
+pub record IsDraftBetween (documents : List PlainDocument) (d : Draft) : Type 0 where
   pub long : length d.ends.numbers ≡ length d.events.items
   pub unended : d.ends.unended ≡ []
   pub named : d.anchors.named.items ≡ []

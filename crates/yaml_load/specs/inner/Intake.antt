@@ -6,7 +6,7 @@ use Rattle.yaml_base.specs.StreamMachine.{before_stream, run}
 use Rattle.yaml_base.specs.declared.open.Open.{Open}
 use Rattle.yaml_load.specs.Documents.{Input, last_mark}
 use Rattle.yaml_load.specs.MarkedEvents.{events_in}
-use Rattle.yaml_load.specs.StreamPhases.{IsClean, state_of}
+use Rattle.yaml_load.specs.StreamPhases.{IsClean, phase_state}
 use Rattle.yaml_load.specs.declared.loader.check.Phase.{Phase}
 use Rattle.yaml_load.specs.declared.loader.draft.Draft.{Draft}
 use Rattle.yaml_load.specs.inner.Loading.{IsOnWay, is_inside}
@@ -17,8 +17,8 @@ use Rattle.yaml_load.specs.inner.Loading.{IsOnWay, is_inside}
 pub record HasTaken (phase : Phase) (outer : List Open) (end : Option Position) (count : ℕ) (taken : Input) (d : Draft)
     : Type 0 where
   pub clean : IsClean phase outer
-  pub ran : run (Some before_stream) (events_in taken) ≡ Some (state_of phase outer)
+  pub ran : run (Some before_stream) (events_in taken) ≡ Some (phase_state phase outer)
   pub last : end ≡ last_mark taken
   pub counted : count ≡ length taken
   pub way : (fault : Option PlainFault) (left : Input)
-      → IsOnWay (is_inside (state_of phase outer)) fault (taken ++ left) left d
+      → IsOnWay (is_inside (phase_state phase outer)) fault (taken ++ left) left d

@@ -13,7 +13,7 @@ use Rattle.yaml_base.specs.declared.open.Open.{Open}
 use Rattle.yaml_load.specs.declared.loader.check.Phase.{Phase}
 use Rattle.yaml_base.specs.declared.doc_event.DocEvent.{DocEvent}
 use Rattle.yaml_load.specs.declared.loader.draft.Draft.{Draft}
-use Rattle.yaml_load.specs.inner.Drafts.{IsBetween, IsDraft}
+use Rattle.yaml_load.specs.inner.Drafts.{IsDraft, IsDraftBetween}
 
 -- whether a document is open in front of an event that may stand there, and behind it
 abbrev pub open_before : PlainEvent → Bool
@@ -50,7 +50,7 @@ AreAll fault all documents opened left =
 -- the draft holds the documents that have ended
 pub record IsClosedDraft (fault : Option PlainFault) (all left : Input) (d : Draft) : Type 0 where
   pub documents : List PlainDocument
-  pub between : IsBetween documents d
+  pub between : IsDraftBetween documents d
   pub complete : AreAll fault all documents false left
 
 -- the draft holds the documents that have ended, and what was seen of the open one
@@ -69,12 +69,12 @@ IsOnWay true fault all left d = IsOpenDraft fault all left d
 IsOnWay false fault all left d = IsClosedDraft fault all left d
 
 -- a draft goes over an event
-abbrev pub Takes : PlainEvent → Position → Draft → Draft → Type 0
-Takes e mark old new = (fault : Option PlainFault) (all rest : Input)
+abbrev pub TakesEvent : PlainEvent → Position → Draft → Draft → Type 0
+TakesEvent e mark old new = (fault : Option PlainFault) (all rest : Input)
     → IsOnWay (open_before e) fault all ((e, mark) ∷ rest) old → IsOnWay (open_behind e) fault all rest new
 
 -- An event leads from a phase to another, and the draft goes over it; or it may not stand there. What the collections
 -- around the innermost wait for stands beside each phase.
-abbrev pub Steps : Phase → List Open → PlainEvent → Position → Draft → List Open → Draft → Option Phase → Type 0
-Steps phase outer e mark old behind new found =
-    Moves phase outer e behind found × IfSome found (λ _. Takes e mark old new)
+abbrev pub StepsOver : Phase → List Open → PlainEvent → Position → Draft → List Open → Draft → Option Phase → Type 0
+StepsOver phase outer e mark old behind new found =
+    Moves phase outer e behind found × IfSome found (λ _. TakesEvent e mark old new)

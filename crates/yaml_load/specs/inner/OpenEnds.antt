@@ -11,16 +11,16 @@ pub record EndsView : Type 0 where
 -- The numbers once the open collections, the innermost first, are ended by the events from a place on, where a number
 -- of
 -- collections are open within the first of them.
-abbrev pub filled : List ℕ → ℕ → ℕ → List PlainDocEvent → List ℕ → List ℕ
-filled [] inner place later numbers = numbers
-filled (start ∷ starts) inner place later numbers =
-    filled starts (inner + 1) place later (slice_set numbers start (end_place inner place later))
+abbrev pub numbers_ended : List ℕ → ℕ → ℕ → List PlainDocEvent → List ℕ → List ℕ
+numbers_ended [] inner place later numbers = numbers
+numbers_ended (start ∷ starts) inner place later numbers =
+    numbers_ended starts (inner + 1) place later (slice_set numbers start (end_place inner place later))
 
 -- behind the numbers of other documents stand those of a document of which some events were seen, whatever comes later
 pub record HasNumbers (front : List ℕ) (seen : List PlainDocEvent) (ends : EndsView) : Type 0 where
   pub long : length ends.numbers ≡ length front + length seen
   pub all : (later : List PlainDocEvent)
-      → filled (reverse ends.unended) 0 (length seen) later ends.numbers ++ ends_from (length seen) later
+      → numbers_ended (reverse ends.unended) 0 (length seen) later ends.numbers ++ ends_from (length seen) later
       ≡ front ++ ends_of (seen ++ later)
 
 -- the numbers, from one on none greater than a bound

@@ -4,7 +4,7 @@ ghost use Rattle.std.specs.Prelude.{◌≡◌};
 ghost use Rattle.yaml_load.specs.Words.{ℕ, List, [], IfOk, IfSome, None, Option, true, PlainScalar, alias};
 ghost use Rattle.yaml_load.specs.Words.{document_end, document_start, mapping_end, mapping_start, scalar, sequence_end};
 ghost use Rattle.yaml_load.specs.Words.{sequence_start, stream_end, stream_start, IsClean, Moves, is_done, is_open};
-ghost use Rattle.yaml_load.specs.Words.{opened_in, state_of, within, Sequence, Key, Value};
+ghost use Rattle.yaml_load.specs.Words.{opened_in, phase_state, within, Sequence, Key, Value};
 
 use std::alloc::AllocError;
 use yaml_base::Open;
@@ -83,7 +83,7 @@ pub(crate) fn after_start(
 // The phase behind a whole collection, by what the one around it waits for then, if there is one.
 fn resumed(around: Option<Open>) -> Phase
     ensures { (outer : List Open) → (around ≡ None → outer ≡ [])
-        → (state_of result outer ≡ within (opened_in around outer)) × IsClean result outer }
+        → (phase_state result outer ≡ within (opened_in around outer)) × IsClean result outer }
 {
     match around {
         Some(open) => Phase::Within(open),

@@ -5,7 +5,7 @@ ghost use Rattle.yaml_base.specs.declared.doc_event.DocEvent.{DocEvent as Shown}
 ghost use Rattle.yaml_load.specs.Words.{ℕ, [], All, List, IfOk, IfSome, Some, drop, false, length, slice_get, take};
 ghost use Rattle.yaml_load.specs.Words.{true, option_map, Position, marked_events_of, Input, anchors_in, document_of};
 ghost use Rattle.yaml_load.specs.Words.{ending_of, find_in, failed_document, void_document, AreCuts, documents_in};
-ghost use Rattle.yaml_load.specs.Words.{ending_in, PlainDocument, IsBetween, IsDraft, settled, bounded_from};
+ghost use Rattle.yaml_load.specs.Words.{ending_in, PlainDocument, IsDraftBetween, IsDraft, settled, bounded_from};
 
 use crate::loader::anchors::Anchors;
 use crate::loader::ends::Ends;
@@ -58,7 +58,7 @@ fn ending(unknown: Option<Mark>, fault: Option<ParserFault>) -> Option<Error>
 impl<'de> Draft<'de> {
     // No document, with room for so many events. The only error is want of memory.
     pub(crate) fn with_capacity(alloc: Global, count: usize) -> Result<Draft<'de>, AllocError>
-        ensures { IfOk result (λ draft. IsBetween [] draft) }
+        ensures { IfOk result (λ draft. IsDraftBetween [] draft) }
     {
         Ok(Draft {
             events: Vec::with_capacity(alloc, count)?,
@@ -71,7 +71,7 @@ impl<'de> Draft<'de> {
 
     // Whatever is put in from now on is of a document that begins here.
     pub(crate) fn begin(&mut self)
-        ensures draft { (documents : List PlainDocument) → IsBetween documents self.old
+        ensures draft { (documents : List PlainDocument) → IsDraftBetween documents self.old
             → IsDraft self.old.events.items self.old.ends.numbers [] self.new }
         ensures cuts { self.new.cuts ≡ self.old.cuts }
     {
@@ -142,7 +142,7 @@ impl<'de> Draft<'de> {
             self.old.anchors.aliases.items }
         ensures { IfOk result (λ _. (events : List (Shown × Position)) (numbers : List ℕ) (seen : Input)
             → IsDraft events numbers seen self.old → AreCuts events numbers self.old.cuts.items
-            → IsBetween (documents_in events self.old.cuts.items
+            → IsDraftBetween (documents_in events self.old.cuts.items
             ++ document_of (anchors_in 0 seen) seen false fault ∷ []) self.new) }
     {
         self.ends.finish(self.events.len() - self.from);
@@ -162,8 +162,8 @@ impl<'de> Draft<'de> {
 
     // The document of an empty stream.
     pub(crate) fn add_void(&mut self, mark: Mark) -> Result<(), AllocError>
-        ensures { IfOk result (λ _. (documents : List PlainDocument) → IsBetween documents self.old
-            → IsBetween (documents ++ void_document mark ∷ []) self.new) }
+        ensures { IfOk result (λ _. (documents : List PlainDocument) → IsDraftBetween documents self.old
+            → IsDraftBetween (documents ++ void_document mark ∷ []) self.new) }
     {
         let from = self.events.len();
         self.ends.pass(0)?;
@@ -178,8 +178,8 @@ impl<'de> Draft<'de> {
 
     // The document without events that the parser's fault leaves where no document is open.
     pub(crate) fn add_failed(&mut self, alloc: Global, fault: ParserFault) -> Result<(), AllocError>
-        ensures { IfOk result (λ _. (documents : List PlainDocument) → IsBetween documents self.old
-            → IsBetween (documents ++ failed_document fault ∷ []) self.new) }
+        ensures { IfOk result (λ _. (documents : List PlainDocument) → IsDraftBetween documents self.old
+            → IsDraftBetween (documents ++ failed_document fault ∷ []) self.new) }
     {
         let from = self.events.len();
         let error = boxed(alloc, Some(Error::from(fault)))?;

@@ -3,8 +3,9 @@
 ghost use Rattle.std.specs.Prelude.{◌≡◌, ◌+◌, ◌≤◌};
 ghost use Rattle.yaml_load.specs.Words.{[], IfOk, List, is_some, length, true, Position, alias, document_end};
 ghost use Rattle.yaml_load.specs.Words.{document_start, event_of, mapping_end, mapping_start, scalar_of, sequence_end};
-ghost use Rattle.yaml_load.specs.Words.{sequence_start, Input, documents_of, last_mark, IsClean, is_open, IsBetween};
-ghost use Rattle.yaml_load.specs.Words.{IsOnWay, IsReady, Steps};
+ghost use Rattle.yaml_load.specs.Words.{sequence_start, Input, documents_of, last_mark, IsClean, is_open};
+ghost use Rattle.yaml_load.specs.Words.{IsDraftBetween};
+ghost use Rattle.yaml_load.specs.Words.{IsOnWay, IsReady, StepsOver};
 ghost use Rattle.yaml_base.specs.PlainEvent.{scalar as scalar_event};
 
 use crate::loader::check::{
@@ -37,7 +38,7 @@ impl<'de> Draft<'de> {
     ) -> Result<Option<Phase>, AllocError>
         requires { is_open phase ≡ true → IsReady self.old }
         ensures { (outer : List Open) → IsClean phase outer → IfOk result (λ found.
-            Steps phase outer (scalar_event (scalar_of scalar.entry)) mark self.old outer self.new found) }
+            StepsOver phase outer (scalar_event (scalar_of scalar.entry)) mark self.old outer self.new found) }
     {
         let Some(after) = after_leaf(phase) else {
             return Ok(None);
@@ -75,7 +76,7 @@ impl<'de> Draft<'de> {
     ) -> Result<Option<Phase>, AllocError>
         requires { is_open phase ≡ true → IsReady self.old }
         ensures { (outer : List Open) → IsClean phase outer → IfOk result (λ found.
-            Steps phase outer (alias anchor) mark self.old outer self.new found) }
+            StepsOver phase outer (alias anchor) mark self.old outer self.new found) }
     {
         let Some(after) = after_leaf(phase) else {
             return Ok(None);
@@ -99,7 +100,7 @@ impl<'de> Draft<'de> {
     ) -> Result<Option<Phase>, AllocError>
         requires clean { IsClean phase outer.old.items }
         requires ready { is_open phase ≡ true → IsReady self.old }
-        ensures { IfOk result (λ found. Steps phase outer.old.items (sequence_start start.anchor start.tag) mark
+        ensures { IfOk result (λ found. StepsOver phase outer.old.items (sequence_start start.anchor start.tag) mark
             self.old outer.new.items self.new found) }
     {
         let after = match after_start(phase, outer, Open::Sequence)? {
@@ -125,7 +126,7 @@ impl<'de> Draft<'de> {
     ) -> Result<Option<Phase>, AllocError>
         requires clean { IsClean phase outer.old.items }
         requires ready { is_open phase ≡ true → IsReady self.old }
-        ensures { IfOk result (λ found. Steps phase outer.old.items (mapping_start start.anchor start.tag) mark
+        ensures { IfOk result (λ found. StepsOver phase outer.old.items (mapping_start start.anchor start.tag) mark
             self.old outer.new.items self.new found) }
     {
         let after = match after_start(phase, outer, Open::Key)? {
@@ -151,7 +152,7 @@ impl<'de> Draft<'de> {
         requires clean { IsClean phase outer.old.items }
         requires ready { is_open phase ≡ true → IsReady self.old }
         ensures { IfOk result (λ found.
-            Steps phase outer.old.items sequence_end mark self.old outer.new.items self.new found) }
+            StepsOver phase outer.old.items sequence_end mark self.old outer.new.items self.new found) }
     {
         let Some(after) = after_sequence(phase, outer) else {
             return Ok(None);
@@ -174,7 +175,7 @@ impl<'de> Draft<'de> {
         requires clean { IsClean phase outer.old.items }
         requires ready { is_open phase ≡ true → IsReady self.old }
         ensures { IfOk result (λ found.
-            Steps phase outer.old.items mapping_end mark self.old outer.new.items self.new found) }
+            StepsOver phase outer.old.items mapping_end mark self.old outer.new.items self.new found) }
     {
         let Some(after) = after_mapping(phase, outer) else {
             return Ok(None);
@@ -189,7 +190,7 @@ impl<'de> Draft<'de> {
     // Goes over the start of a document, if one may stand in this phase, and answers the phase behind it.
     pub(crate) fn begin_document(&mut self, phase: Phase) -> Option<Phase>
         ensures { (outer : List Open) (mark : Position) → IsClean phase outer
-            → Steps phase outer document_start mark self.old outer self.new result }
+            → StepsOver phase outer document_start mark self.old outer self.new result }
     {
         let Some(after) = after_document_start(phase) else {
             return None;
@@ -207,7 +208,7 @@ impl<'de> Draft<'de> {
     ) -> Result<Option<Phase>, AllocError>
         requires { is_open phase ≡ true → IsReady self.old }
         ensures { (outer : List Open) (mark : Position) → IsClean phase outer → IfOk result (λ found.
-            Steps phase outer document_end mark self.old outer self.new found) }
+            StepsOver phase outer document_end mark self.old outer self.new found) }
     {
         let Some(after) = after_document_end(phase) else {
             return Ok(None);
@@ -229,7 +230,7 @@ impl<'de> Draft<'de> {
     ) -> Result<Option<Phase>, AllocError>
         requires clean { IsClean phase outer.old.items }
         requires ready { is_open phase ≡ true → IsReady self.old }
-        ensures { IfOk result (λ found. Steps phase outer.old.items (event_of event.entry) mark
+        ensures { IfOk result (λ found. StepsOver phase outer.old.items (event_of event.entry) mark
             self.old outer.new.items self.new found) }
     {
         match event {
@@ -257,7 +258,7 @@ impl<'de> Draft<'de> {
         requires { inside ≡ true → IsReady self.old }
         ensures { IfOk result (λ _. (all : Input) → end ≡ last_mark all
             → (inside ≡ true → is_some fault ≡ true)
-            → IsOnWay inside fault all [] self.old → IsBetween (documents_of all fault) self.new) }
+            → IsOnWay inside fault all [] self.old → IsDraftBetween (documents_of all fault) self.new) }
     {
         match fault {
             Some(fault) => {

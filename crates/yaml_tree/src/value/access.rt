@@ -12,7 +12,7 @@ impl Value {
     ghost use Rattle.yaml_tree.specs.Access.{pairs_in, text_in, untagged};
     ghost use Rattle.yaml_tree.specs.Integer.{as_i64, as_u64};
     ghost use Rattle.yaml_tree.specs.Number.{number_of};
-    ghost use Rattle.yaml_tree.specs.Valid.{items_of, pairs_of};
+    ghost use Rattle.yaml_tree.specs.Valid.{pairs_of, values_of};
     ghost use Rattle.yaml_tree.specs.View.{tree_of};
 
     // The value under all its tags.
@@ -93,7 +93,7 @@ impl Value {
 
     /// The sequence that it is.
     pub fn as_sequence(&self) -> Option<&Sequence>
-        ensures { option_map (λ items. items_of items.now) result
+        ensures { option_map (λ items. values_of items.now) result
             ≡ items_in (untagged (tree_of self.now)) }
     {
         match self.untagged() {

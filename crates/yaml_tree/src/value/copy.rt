@@ -1,7 +1,7 @@
 //! Copies of values.
 ghost use Rattle.std.specs.Prelude.{◌≡◌, IfOk};
 ghost use Rattle.yaml_tree.specs.Entries.{SameEntry, SameTagged};
-ghost use Rattle.yaml_tree.specs.Valid.{items_of, pairs_of};
+ghost use Rattle.yaml_tree.specs.Valid.{pairs_of, values_of};
 ghost use Rattle.yaml_tree.specs.View.{tree_of};
 
 use crate::fault::TreeFault;
@@ -57,7 +57,7 @@ fn copy_tagged(alloc: Global, tagged: &TaggedValue) -> Result<TaggedValue, Alloc
 
 #[cycle(copy)]
 fn copy_items(alloc: Global, sequence: &Sequence) -> Result<Sequence, AllocError>
-    ensures { IfOk result (λ copied. items_of copied ≡ items_of sequence.now) }
+    ensures { IfOk result (λ copied. values_of copied ≡ values_of sequence.now) }
 {
     let mut items = Vec::with_capacity(alloc, sequence.items.len())?;
     for item in &sequence.items {

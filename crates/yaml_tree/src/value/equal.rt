@@ -3,9 +3,9 @@ ghost use Rattle.std.specs.Prelude.{◌≡◌, true, ◌<◌, ◌≤◌, length,
 ghost use Rattle.yaml_tree.specs.Entries.{IsOtherKey};
 ghost use Rattle.yaml_tree.specs.Equal.{pairs_eq, tree_eq, trees_eq};
 ghost use Rattle.yaml_tree.specs.Index.{IsChained, IsIndexed};
-ghost use Rattle.yaml_tree.specs.Lookup.{has_all_pairs, has_pair, place_of};
+ghost use Rattle.yaml_tree.specs.Lookup.{has_all_pairs, has_pair, place_of_key};
 ghost use Rattle.yaml_tree.specs.Mapping.{keys_distinct};
-ghost use Rattle.yaml_tree.specs.Valid.{items_of, pairs_of, tree_of_tagged};
+ghost use Rattle.yaml_tree.specs.Valid.{pairs_of, tree_of_tagged, values_of};
 ghost use Rattle.yaml_tree.specs.View.{entry_pairs, tree_of};
 
 use crate::index::{chain_count, chain_of};
@@ -39,12 +39,12 @@ impl Eq for Value {
 impl PartialEq for Sequence {
     ghost use Rattle.std.specs.Cmp.{on_per, partial_equiv_from_equiv};
     ghost use Rattle.yaml_tree.specs.Equal.{trees_eq};
-    ghost use Rattle.yaml_tree.specs.Valid.{items_of};
+    ghost use Rattle.yaml_tree.specs.Valid.{values_of};
     ghost use Rattle.yaml_tree.specs.EqualLaws.{trees_equiv};
 
-    ghost eq = { λ a b. trees_eq (items_of a) (items_of b) };
+    ghost eq = { λ a b. trees_eq (values_of a) (values_of b) };
 
-    ghost laws = { on_per items_of (partial_equiv_from_equiv trees_equiv) };
+    ghost laws = { on_per values_of (partial_equiv_from_equiv trees_equiv) };
 
     fn eq(&self, other: &Sequence) -> bool {
         same_items(self, other)
@@ -53,10 +53,10 @@ impl PartialEq for Sequence {
 
 impl Eq for Sequence {
     ghost use Rattle.std.specs.Cmp.{on_equiv};
-    ghost use Rattle.yaml_tree.specs.Valid.{items_of};
+    ghost use Rattle.yaml_tree.specs.Valid.{values_of};
     ghost use Rattle.yaml_tree.specs.EqualLaws.{trees_equiv};
 
-    ghost laws = { on_equiv items_of trees_equiv };
+    ghost laws = { on_equiv values_of trees_equiv };
 }
 
 impl PartialEq for Mapping {
@@ -130,7 +130,7 @@ fn same_tagged(a: &TaggedValue, b: &TaggedValue) -> bool
 
 #[cycle(same)]
 fn same_items(a: &Sequence, b: &Sequence) -> bool
-    ensures { result ≡ trees_eq (items_of a.now) (items_of b.now) }
+    ensures { result ≡ trees_eq (values_of a.now) (values_of b.now) }
 {
     let left = a.items.as_slice();
     let right = b.items.as_slice();
@@ -192,7 +192,7 @@ fn is_among(wanted: &Entry, entries: &[Entry], guess: usize) -> bool
 fn find_near(key: &Value, entries: &[Entry], guess: usize) -> Option<usize>
     requires distinct { keys_distinct (entry_pairs entries.now) ≡ true }
     requires indexed { IsIndexed entries.now }
-    ensures place { result ≡ place_of (tree_of key.now) (entry_pairs entries.now) }
+    ensures place { result ≡ place_of_key (tree_of key.now) (entry_pairs entries.now) }
     ensures within { IfSome result (λ i. i < length entries.now) }
 {
     if guess >= entries.len() {
@@ -211,7 +211,7 @@ fn find_besides(key: &Value, entries: &[Entry], other: usize) -> Option<usize>
     requires distinct { keys_distinct (entry_pairs entries.now) ≡ true }
     requires indexed { IsIndexed entries.now }
     requires other { IsOtherKey (tree_of key.now) entries.now other }
-    ensures place { result ≡ place_of (tree_of key.now) (entry_pairs entries.now) }
+    ensures place { result ≡ place_of_key (tree_of key.now) (entry_pairs entries.now) }
     ensures within { IfSome result (λ i. i < length entries.now) }
 {
     let chains = chain_count(entries.len());
@@ -226,7 +226,7 @@ fn find_besides(key: &Value, entries: &[Entry], other: usize) -> Option<usize>
 #[cycle(same)]
 fn find_in_order(key: &Value, entries: &[Entry], other: usize) -> Option<usize>
     requires { IsOtherKey (tree_of key.now) entries.now other }
-    ensures place { result ≡ place_of (tree_of key.now) (entry_pairs entries.now) }
+    ensures place { result ≡ place_of_key (tree_of key.now) (entry_pairs entries.now) }
     ensures within { IfSome result (λ i. i < length entries.now) }
 {
     for (i, entry) in entries.iter().enumerate() {
@@ -246,7 +246,7 @@ fn find_in_chain(key: &Value, entries: &[Entry], other: usize, chains: usize) ->
     requires within { chains ≤ length entries.now }
     requires chained { IsChained chains (length entries.now) entries.now }
     requires other { IsOtherKey (tree_of key.now) entries.now other }
-    ensures place { result ≡ place_of (tree_of key.now) (entry_pairs entries.now) }
+    ensures place { result ≡ place_of_key (tree_of key.now) (entry_pairs entries.now) }
     ensures within { IfSome result (λ i. i < length entries.now) }
 {
     let mut left = entries[chain_of(key, chains)].last;
@@ -265,7 +265,7 @@ fn find_in_chain(key: &Value, entries: &[Entry], other: usize, chains: usize) ->
 pub(crate) fn find(key: &Value, entries: &[Entry]) -> Option<usize>
     requires distinct { keys_distinct (entry_pairs entries.now) ≡ true }
     requires indexed { IsIndexed entries.now }
-    ensures place { result ≡ place_of (tree_of key.now) (entry_pairs entries.now) }
+    ensures place { result ≡ place_of_key (tree_of key.now) (entry_pairs entries.now) }
     ensures within { IfSome result (λ i. i < length entries.now) }
 {
     find_besides(key, entries, entries.len())

@@ -4,7 +4,7 @@ ghost use Rattle.std.specs.Fmt.{WritesOnOk};
 ghost use Rattle.yaml_tree.specs.EntryText.{entries_text, entry_text, values_text};
 ghost use Rattle.yaml_tree.specs.Tree.{mapping, sequence};
 ghost use Rattle.yaml_tree.specs.TreeText.{tree_text};
-ghost use Rattle.yaml_tree.specs.Valid.{items_of, pairs_of, tree_of_tagged};
+ghost use Rattle.yaml_tree.specs.Valid.{pairs_of, tree_of_tagged, values_of};
 ghost use Rattle.yaml_tree.specs.View.{tree_of};
 
 use crate::mapping::{Entry, Mapping};
@@ -43,7 +43,7 @@ fn write_tagged<W: fmt::Write>(tagged: &TaggedValue, f: &mut fmt::Formatter<W>) 
 
 #[cycle(print)]
 fn write_items<W: fmt::Write>(items: &Sequence, f: &mut fmt::Formatter<W>) -> fmt::Result
-    ensures { let text = tree_text (sequence (items_of items.now)) in
+    ensures { let text = tree_text (sequence (values_of items.now)) in
         WritesOnOk W.write_str_gives f.old result text f.new }
 {
     f.write_str("[")?;
@@ -133,7 +133,7 @@ impl fmt::Debug for TaggedValue {
 }
 
 impl fmt::Debug for Sequence {
-    ghost debug_output = { λ items. Some (tree_text (sequence (items_of items))) };
+    ghost debug_output = { λ items. Some (tree_text (sequence (values_of items))) };
 
     fn fmt<W: fmt::Write>(&self, f: &mut fmt::Formatter<W>) -> fmt::Result {
         write_items(self, f)

@@ -2,7 +2,7 @@
 ghost use Rattle.std.specs.Prelude.{◌≡◌, ◌<◌, ◌≤◌, true, length, IfSome};
 ghost use Rattle.yaml_tree.specs.Equal.{tree_eq};
 ghost use Rattle.yaml_tree.specs.Index.{IsChained, IsIndexed};
-ghost use Rattle.yaml_tree.specs.Lookup.{place_of};
+ghost use Rattle.yaml_tree.specs.Lookup.{place_of_key};
 ghost use Rattle.yaml_tree.specs.Mapping.{keys_distinct};
 ghost use Rattle.yaml_tree.specs.Tree.{string};
 ghost use Rattle.yaml_tree.specs.View.{entry_pairs, tree_of};
@@ -23,7 +23,7 @@ fn is_text(key: &Value, text: &str) -> bool
 
 // The place of the first entry with this text's key.
 fn find_in_order(text: &str, entries: &[Entry]) -> Option<usize>
-    ensures place { result ≡ place_of (string text.now) (entry_pairs entries.now) }
+    ensures place { result ≡ place_of_key (string text.now) (entry_pairs entries.now) }
     ensures within { IfSome result (λ i. i < length entries.now) }
 {
     for (i, entry) in entries.iter().enumerate() {
@@ -41,7 +41,7 @@ fn find_in_chain(text: &str, entries: &[Entry], chains: usize) -> Option<usize>
     requires some { 0 < chains }
     requires within { chains ≤ length entries.now }
     requires chained { IsChained chains (length entries.now) entries.now }
-    ensures place { result ≡ place_of (string text.now) (entry_pairs entries.now) }
+    ensures place { result ≡ place_of_key (string text.now) (entry_pairs entries.now) }
     ensures within { IfSome result (λ i. i < length entries.now) }
 {
     let mut left = entries[chain_of_text(text, chains)].last;
@@ -60,7 +60,7 @@ fn find_in_chain(text: &str, entries: &[Entry], chains: usize) -> Option<usize>
 pub(crate) fn find_text(text: &str, entries: &[Entry]) -> Option<usize>
     requires distinct { keys_distinct (entry_pairs entries.now) ≡ true }
     requires indexed { IsIndexed entries.now }
-    ensures place { result ≡ place_of (string text.now) (entry_pairs entries.now) }
+    ensures place { result ≡ place_of_key (string text.now) (entry_pairs entries.now) }
     ensures within { IfSome result (λ i. i < length entries.now) }
 {
     let chains = chain_count(entries.len());

@@ -13,7 +13,7 @@ ghost use Rattle.yaml_types.specs.BuildRefusal.{IsBuildRefusal, NeverRefused};
 ghost use Rattle.yaml_types.specs.Texts.{BuiltCow, cow_returned};
 ghost use Rattle.yaml_base.specs.EmitTree.{emit_node_events};
 ghost use Rattle.yaml_shape.specs.Held.{IsHeld};
-ghost use Rattle.yaml_types.specs.NodeWrites.{node_of, IsPut, IsFaultOf};
+ghost use Rattle.yaml_types.specs.NodeWrites.{written_node, IsPut, IsFaultOf};
 ghost use Rattle.yaml_types.specs.WriteRefusal.{IsWriteRefusal};
 
 use crate::fault::BuildFault;
@@ -81,11 +81,11 @@ impl<'b> Serialize for CowStr<'b> {
 
     fn write_node(&self, out: &mut EventBuffer, schema: &Schema, id: ShapeId) -> Result<(), Error>
         ensures put { OnOk result (IsPut emit_node_events
-            (node_of schema.now id.0 (text_data true (cow_str_bytes self.now))) out.old out.new) }
+            (written_node schema.now id.0 (text_data true (cow_str_bytes self.now))) out.old out.new) }
         ensures kept { OnOk result (Unit {0}) }
         ensures held { OnOk result (IsHeld (text_data true (cow_str_bytes self.now))) }
         ensures refused { IfErr result (IsFaultOf
-            (node_of schema.now id.0 (text_data true (cow_str_bytes self.now))) (λ _. ⊥)) }
+            (written_node schema.now id.0 (text_data true (cow_str_bytes self.now))) (λ _. ⊥)) }
     {
         put_text(out, self.as_str())
     }

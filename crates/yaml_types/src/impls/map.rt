@@ -10,7 +10,7 @@ ghost use Rattle.yaml_write.specs.Outcomes.{joined};
 ghost use Rattle.yaml_write.specs.Written.{written_entries};
 ghost use Rattle.yaml_write.specs.WrittenEvents.{pair_events};
 ghost use Rattle.yaml_write.specs.WrittenValue.{pair_node};
-ghost use Rattle.yaml_types.specs.NodeWrites.{node_of, IsPut, IsFaultOf};
+ghost use Rattle.yaml_types.specs.NodeWrites.{written_node, IsPut, IsFaultOf};
 ghost use Rattle.yaml_types.specs.WriteRefusal.{PairUnwritten, SomeUnwritten};
 ghost use Rattle.yaml_types.specs.WrittenParts.{pairs_written, PairsKeep};
 ghost use Rattle.yaml_types.specs.BuiltParts.{BuiltBoth, BuiltEntries};
@@ -137,12 +137,12 @@ fn put_pair<K: Serialize, V: Serialize>(
     key: &K,
     value: &V,
 ) -> Result<(), Error>
-    ensures put { OnOk result (IsPut pair_events (joined pair_node (node_of schema.now ids.0.0 (K.written key.now))
-        (node_of schema.now ids.1.0 (V.written value.now))) out.old out.new) }
+    ensures put { OnOk result (IsPut pair_events (joined pair_node (written_node schema.now ids.0.0 (K.written key.now))
+        (written_node schema.now ids.1.0 (V.written value.now))) out.old out.new) }
     ensures kept { OnOk result (K.kept key.now × V.kept value.now) }
     ensures held { OnOk result (IsHeld (K.written key.now) × IsHeld (V.written value.now)) }
-    ensures refused { IfErr result (IsFaultOf (joined pair_node (node_of schema.now ids.0.0 (K.written key.now))
-        (node_of schema.now ids.1.0 (V.written value.now))) (PairUnwritten K.unwritten V.unwritten (key.now, value.now))) }
+    ensures refused { IfErr result (IsFaultOf (joined pair_node (written_node schema.now ids.0.0 (K.written key.now))
+        (written_node schema.now ids.1.0 (V.written value.now))) (PairUnwritten K.unwritten V.unwritten (key.now, value.now))) }
 {
     key.write_node(out, schema, ids.0)?;
     value.write_node(out, schema, ids.1)

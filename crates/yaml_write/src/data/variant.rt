@@ -7,7 +7,7 @@ ghost use Rattle.yaml_base.specs.EmitTree.{emit_node_events};
 ghost use Rattle.yaml_shape.specs.DataView.{data_of};
 ghost use Rattle.yaml_shape.specs.ShapeView.{ids_of, fields_of, content_of, variant_of};
 ghost use Rattle.yaml_write.specs.Adds.{Adds};
-ghost use Rattle.yaml_write.specs.Written.{has_content, written_tuple, written_struct};
+ghost use Rattle.yaml_write.specs.Written.{holds_content, written_tuple, written_struct};
 ghost use Rattle.yaml_write.specs.WrittenParts.{written_content, written_variant};
 
 use super::{write_collection, write_data};
@@ -19,7 +19,7 @@ use yaml_shape::{Data, Schema, ShapeId, VariantShape};
 
 // Whether the variant has content.
 fn has_content(variant: &VariantShape) -> bool
-    ensures { result ≡ has_content (content_of variant.now) }
+    ensures { result ≡ holds_content (content_of variant.now) }
 {
     !matches!(variant, VariantShape::Unit)
 }

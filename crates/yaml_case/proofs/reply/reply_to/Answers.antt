@@ -2,7 +2,7 @@
 use Rattle.std.specs.Prelude.{codes}
 use Rattle.std.proofs.Common.{◌≡◌, ℕ, List, [], ◌∷◌, map, length, string_bytes, refl, sym, ap, ◌∙◌, String, get_or}
 use Rattle.std.specs.Global.{Global}
-use Rattle.yaml_case.specs.Replies.{IsAnswer, IsAnswerTo}
+use Rattle.yaml_case.specs.Replies.{IsAnswerByName, IsAnswerTo}
 use Rattle.yaml_case.specs.Arguments.{WriteLimits}
 use Rattle.yaml_run.proofs.RunLaws.{some_input}
 use Rattle.yaml_case.proofs.RunLaws.{refuses_all, one_argument, three_arguments, another_count}
@@ -14,7 +14,7 @@ pub returns-then-arguments-eq1-clause-answers : goal.returns-then-arguments-eq1-
 returns-then-arguments-eq1-clause-answers g c =
     let are = one_argument string_bytes c.args.arguments.now c.index-arguments-0.result c.if-arguments-eq1.true
     c.index-arguments-0.is in
-    answered_as (g.R.Read.remaining c.args.reader.now) (IsAnswer c.as_str.result.now default_limits)
+    answered_as (g.R.Read.remaining c.args.reader.now) (IsAnswerByName c.as_str.result.now default_limits)
     (IsAnswerTo (map string_bytes c.args.arguments.now)) c.reply.result
     (λ input ended text. answers_alone _ _ input ended text (are ∙ ap (λ n. n ∷ []) (sym c.as_str.ensures.value)))
     c.reply.ensures.answers
@@ -49,7 +49,7 @@ returns-in-Some-clause-answers g c =
     c.as_str-in-Some.result.now c.as_str-2.result.now c.as_str-3.result.now c.if-arguments-ne3.false
     c.index-arguments-0-in-Some.is c.index-arguments-1.is c.index-arguments-2.is
     c.as_str-in-Some.ensures.value c.as_str-2.ensures.value c.as_str-3.ensures.value in
-    answered_as (g.R.Read.remaining c.args.reader.now) (IsAnswer c.as_str-in-Some.result.now c.in-Some.limits)
+    answered_as (g.R.Read.remaining c.args.reader.now) (IsAnswerByName c.as_str-in-Some.result.now c.in-Some.limits)
     (IsAnswerTo (map string_bytes c.args.arguments.now)) c.reply-in-Some.result
     (λ input ended text. answers_within _ _ _ _ are _ input ended text c.in-Some.ensures)
     c.reply-in-Some.ensures.answers

@@ -1,5 +1,5 @@
 -- Data is shown part by part.
-use Rattle.yaml_lines.specs.DataTextView.{item_text, entry_text}
+use Rattle.yaml_lines.specs.DataTextView.{item_text, data_entry_text}
 use Rattle.yaml_lines.proofs.ShowLaws.{show-Seq, show-Tuple, show-Struct, show-Map, shown}
 use Rattle.yaml_lines.proofs.show_data.+show.Goals as goal
 
@@ -22,5 +22,5 @@ show_items-loop-index-preserved t c =
 
 pub show_entries-loop-index-preserved : goal.show_entries-loop-index-preserved
 show_entries-loop-index-preserved t c =
-    shown entry_text _ _ _ c.loop-index-test.true c.entry-item.is _ _ _ _ c.loop-index.invariant
+    shown data_entry_text _ _ _ c.loop-index-test.true c.entry-item.is _ _ _ _ c.loop-index.invariant
     c.in_ok-separate.ensures c.in_ok-show_entry.ensures

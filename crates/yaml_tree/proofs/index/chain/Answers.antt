@@ -5,7 +5,7 @@ use Rattle.yaml_tree.specs.Entries.{with_earlier}
 use Rattle.yaml_tree.specs.Hash.{hash_of}
 use Rattle.yaml_tree.specs.Index.{IsChained}
 use Rattle.yaml_tree.specs.View.{entry_pairs, tree_of}
-use Rattle.yaml_tree.proofs.Indexed.{chained-next, with_chained, entry_pairs-with_earlier, entry_pairs-with_last}
+use Rattle.yaml_tree.proofs.Indexed.{chained-next, with_chained, entry_pairs-with_earlier, entry_pairs-with_last_place}
 use Rattle.yaml_tree.proofs.index.chain.Goals as goal
 
 -- the entries then
@@ -33,7 +33,7 @@ returns-clause-same c =
     let first = c.set_last.ensures d in
     ap entry_pairs (c.set_earlier.ensures d)
     ∙ (entry_pairs-with_earlier _ c.args.place d.last d
-    ∙ (ap entry_pairs first ∙ entry_pairs-with_last es c.chain_of-chain.result (c.args.place + 1) d))
+    ∙ (ap entry_pairs first ∙ entry_pairs-with_last_place es c.chain_of-chain.result (c.args.place + 1) d))
 
 pub returns-clause-len : goal.returns-clause-len
 returns-clause-len c =

@@ -6,7 +6,7 @@ use Rattle.yaml_base.specs.EmitEvents.{tag_bytes, emit_sequence_start, emit_sequ
 use Rattle.yaml_base.specs.EmitEvents.{emit_mapping_end}
 use Rattle.yaml_base.specs.EmitTree.{emit_node_events, emit_nodes_events, emit_pairs_events, emit_sequence_node}
 use Rattle.yaml_base.specs.EmitTree.{emit_mapping_node, emit_node, no_emit_nodes, no_emit_pairs}
-use Rattle.yaml_tree.specs.Valid.{items_of, pairs_of}
+use Rattle.yaml_tree.specs.Valid.{pairs_of, values_of}
 use Rattle.yaml_tree.specs.Tree.{pair_list, pair_list_size}
 use Rattle.yaml_tree.specs.View.{tree_of, trees_of}
 use Rattle.yaml_write.specs.Adds.{KeepsEvents}
@@ -24,7 +24,7 @@ pub write_sequence-returns : goal.write_sequence-returns
 write_sequence-returns t c =
     adds-between (emit_sequence_node (tag_bytes c.args.tag)) emit_nodes_events emit_node_events
     (emit_sequence_start (tag_bytes c.args.tag)) emit_sequence_end (λ ns. refl)
-    (written_values (items_of c.args.values.now)) c.args.out.now c.start_sequence.new.self c.write_values.new.out
+    (written_values (values_of c.args.values.now)) c.args.out.now c.start_sequence.new.self c.write_values.new.out
     c.end_sequence.new.self c.end_sequence.result
     c.in_ok-start_sequence.ensures c.in_ok-write_values.ensures c.end_sequence.ensures
 
@@ -65,7 +65,7 @@ write_values-loop-value-preserved t c = (
 pub write_values-returns-in_err-write_value : goal.write_values-returns-in_err-write_value
 write_values-returns-in_err-write_value t c =
     let rest = written_values (trees_of (drop (c.loop-value.value-index + 1) c.as_slice-value-items.result.now)) in
-    let refused : Fails c.in_err-write_value.field-0.0 (written_values (items_of c.args.values.now)) =
+    let refused : Fails c.in_err-write_value.field-0.0 (written_values (values_of c.args.values.now)) =
     fails-left emit_node (λ part. c.args.out.now ++ emit_nodes_events part)
     (λ part. c.loop-value.out ++ emit_nodes_events part) _ (written_value None (tree_of c.value-item.result)) rest _
     (ap (λ ts. made (λ part. c.args.out.now ++ emit_nodes_events part) (written_values ts))

@@ -4,7 +4,7 @@
 use Rattle.std.proofs.Common.{◌≡◌, ◌≤◌, ◌+◌, ◌*◌, ◌++◌, drop}
 use Rattle.yaml_base.specs.EmitTree.{emit_nodes_events, emit_pairs_events}
 use Rattle.yaml_tree.specs.Tree.{tree_size, trees_size, pairs_size, pair_list_size}
-use Rattle.yaml_tree.specs.Valid.{items_of, pairs_of, content_under_tag}
+use Rattle.yaml_tree.specs.Valid.{values_of, pairs_of, content_under_tag}
 use Rattle.yaml_tree.specs.View.{tree_of, trees_of}
 use Rattle.yaml_write.specs.Adds.{KeepsEvents}
 use Rattle.yaml_write.specs.Outcomes.{made}
@@ -16,10 +16,10 @@ abbrev pub decreases-write_value : goal.decreases-write_value
 decreases-write_value l = 3 * tree_size (tree_of l.value.now)
 
 abbrev pub decreases-write_sequence : goal.decreases-write_sequence
-decreases-write_sequence l = 3 * trees_size (items_of l.values.now) + 2
+decreases-write_sequence l = 3 * trees_size (values_of l.values.now) + 2
 
 abbrev pub decreases-write_values : goal.decreases-write_values
-decreases-write_values l = 3 * trees_size (items_of l.values.now) + 1
+decreases-write_values l = 3 * trees_size (values_of l.values.now) + 1
 
 abbrev pub decreases-write_mapping : goal.decreases-write_mapping
 decreases-write_mapping l = 3 * pairs_size (pairs_of l.pairs.now) + 2

@@ -3,7 +3,7 @@ use Rattle.std.proofs.Common.{rules, ◌≡◌, IfSome, IsSomeAnd, subst, sym}
 use Rattle.yaml_parse.proofs.TextLaws.{not_allowed, told_reader}
 use Rattle.yaml_parse.proofs.events.Events.into_list.Goals as goal
 use Rattle.yaml_parse.specs.Faults.{IsToldBy}
-use Rattle.yaml_parse.specs.Handed.{made}
+use Rattle.yaml_parse.specs.Handed.{made_so_far}
 use Rattle.yaml_parse.specs.Marks.{MarksAscend}
 use Rattle.yaml_parse.specs.PlainReading.{PlainReading}
 use Rattle.yaml_parse.specs.Sources.{IsSourceOf}
@@ -12,10 +12,10 @@ use Rattle.yaml_scan.specs.AllowedText.{IsAllowed, IsOfReader}
 pub returns-in_ok-ending-in-Text-clause-marks : goal.returns-in_ok-ending-in-Text-clause-marks
 returns-in_ok-ending-in-Text-clause-marks c = λ none.
     let parser = c.into_parts-fault.result.1 in
-    let all : made parser ≡ c.into_waiting.result.items = Prim.search rules in
+    let all : made_so_far parser ≡ c.into_waiting.result.items = Prim.search rules in
     let text : parser.text.now ≡ c.args.self.text = Prim.search rules in
     subst (MarksAscend c.args.self.text) all
-    (subst (λ (t : _). MarksAscend t (made parser)) text c.into_waiting.ensures.marks)
+    (subst (λ (t : _). MarksAscend t (made_so_far parser)) text c.into_waiting.ensures.marks)
 
 pub returns-in_ok-unread-in-Unread-clause-allowed : goal.returns-in_ok-unread-in-Unread-clause-allowed
 returns-in_ok-unread-in-Unread-clause-allowed c = λ allowed.

@@ -3,15 +3,16 @@ use Rattle.std.proofs.Common.{◌≡◌, ℕ, ◌-◌, ◌<◌, ap, arith, sym, 
 use Rattle.yaml_tree.specs.Equal.{tree_eq, trees_eq, pairs_eq}
 use Rattle.yaml_tree.specs.Mapping.{keys_distinct}
 use Rattle.yaml_tree.specs.View.{tree_of, trees_of, entry_pairs}
-use Rattle.yaml_tree.proofs.Indexed.{IsAbsentFrom, IsSought, sought-first, sought-next, other_key_here, place_of-absent}
-use Rattle.yaml_tree.proofs.Lookups.{holds_at_found, is_value_equal, has_pair-value_at, place_of-guess}
-use Rattle.yaml_tree.proofs.Views.{items_of-view, pairs_of-view, trees_eq-lengths, pairs_eq-lengths, pairs_eq-entries}
+use Rattle.yaml_tree.proofs.Indexed.{IsAbsentFrom, IsSought, sought-first, sought-next, other_key_here}
+use Rattle.yaml_tree.proofs.Indexed.{place_of_key-absent}
+use Rattle.yaml_tree.proofs.Lookups.{holds_at_found, is_value_equal, has_pair-value_at, place_of_key-guess}
+use Rattle.yaml_tree.proofs.Views.{values_of-view, pairs_of-view, trees_eq-lengths, pairs_eq-lengths, pairs_eq-entries}
 use Rattle.yaml_tree.proofs.value.equal.+same.Goals as goal
 
 pub find_near-returns-then-same_value-clause-place : goal.find_near-returns-then-same_value-clause-place
 find_near-returns-then-same_value-clause-place t c =
     let k = tree_of c.args.key.now in
-    sym (place_of-guess k c.args.entries.now c.args.guess c.index-entries-guess.result
+    sym (place_of_key-guess k c.args.entries.now c.args.guess c.index-entries-guess.result
     c.requires.distinct c.if-guess-entries.false (sym c.same_value.ensures ∙ c.if-same_value.true))
 
 pub is_among-returns-in-Some : goal.is_among-returns-in-Some
@@ -34,8 +35,8 @@ is_among-returns-in-None t c =
 
 pub same_items-returns-then-left-right : goal.same_items-returns-then-left-right
 same_items-returns-then-left-right t c =
-    let left = ap trees_of c.as_slice-left.ensures.value ∙ items_of-view _ _ c.a.view_is in
-    let right = ap trees_of c.as_slice-right.ensures.value ∙ items_of-view _ _ c.b.view_is in
+    let left = ap trees_of c.as_slice-left.ensures.value ∙ values_of-view _ _ c.a.view_is in
+    let right = ap trees_of c.as_slice-right.ensures.value ∙ values_of-view _ _ c.b.view_is in
     sym (trees_eq-lengths _ _ c.if-left-right.true) ∙ (λ i. trees_eq (left i) (right i))
 
 pub same_pairs-returns-then-wanted-entries : goal.same_pairs-returns-then-wanted-entries
@@ -64,7 +65,7 @@ find_in_chain-returns-then-same_value-clause-place t c =
     let es = c.args.entries.now in
     let left = c.loop-left.left in
     let d = c.index-entries-place.result in
-    sym (place_of-guess k es (left - 1) d c.requires.distinct
+    sym (place_of_key-guess k es (left - 1) d c.requires.distinct
     (omega (arith, c.loop-left-test.true, c.loop-left.invariant.1))
     (ap (λ e. tree_eq k (tree_of e.key)) (sym c.index-entries-place.is)
     ∙ (sym c.same_value.ensures ∙ c.if-same_value.true)))
@@ -98,4 +99,4 @@ find_in_chain-returns-clause-place t c =
     let k = tree_of c.args.key.now in
     let es = c.args.entries.now in
     let none : c.loop-left.left ≡ 0 = omega (arith, c.loop-left-test.false) in
-    sym (place_of-absent k es (subst (IsAbsentFrom k es) none c.loop-left.invariant.2))
+    sym (place_of_key-absent k es (subst (IsAbsentFrom k es) none c.loop-left.invariant.2))

@@ -1,7 +1,7 @@
 -- What is left to compare gives the answer.
 use Rattle.std.proofs.Common.{◌≡◌, ◌+◌, drop, option_map}
 use Rattle.yaml_tree.specs.Equal.{trees_eq}
-use Rattle.yaml_tree.specs.Lookup.{has_all_pairs, place_of}
+use Rattle.yaml_tree.specs.Lookup.{has_all_pairs, place_of_key}
 use Rattle.yaml_tree.specs.View.{tree_of, trees_of, entry_pairs}
 use Rattle.yaml_tree.proofs.Indexed.{IsSought}
 use Rattle.yaml_tree.proofs.value.equal.+same.Given as goal
@@ -17,8 +17,8 @@ invariant-has_all_entries-loop-i l =
 
 abbrev pub invariant-find_in_order-loop-i : goal.invariant-find_in_order-loop-i
 invariant-find_in_order-loop-i l =
-    place_of (tree_of l.key) (entry_pairs l.entries)
-    ≡ option_map (λ n. l.i + n) (place_of (tree_of l.key) (entry_pairs (drop l.i l.entries)))
+    place_of_key (tree_of l.key) (entry_pairs l.entries)
+    ≡ option_map (λ n. l.i + n) (place_of_key (tree_of l.key) (entry_pairs (drop l.i l.entries)))
 
 -- the key is in what is left of its chain, or nowhere
 abbrev pub invariant-find_in_chain-loop-left : goal.invariant-find_in_chain-loop-left

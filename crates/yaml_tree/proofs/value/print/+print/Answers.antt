@@ -6,13 +6,13 @@ use Rattle.yaml_tree.specs.Listed.{listed}
 use Rattle.yaml_tree.specs.TreeText.{pair_texts, tree_texts}
 use Rattle.yaml_tree.specs.View.{entry_pairs, trees_of}
 use Rattle.yaml_tree.proofs.Shown.{entries-listed, values-listed}
-use Rattle.yaml_tree.proofs.Views.{items_of-view, pairs_of-view}
+use Rattle.yaml_tree.proofs.Views.{pairs_of-view, values_of-view}
 use Rattle.yaml_tree.proofs.value.print.+print.Goals as goal
 
 pub write_items-returns : goal.write_items-returns
 write_items-returns g t c = λ plain ok.
     let row = values-listed c.as_slice.result.now ∙ ap (λ ts. listed (tree_texts ts))
-    (ap trees_of c.as_slice.ensures.value ∙ items_of-view _ _ c.items.view_is) in
+    (ap trees_of c.as_slice.ensures.value ∙ values_of-view _ _ c.items.view_is) in
     let one = c.write_str.ensures.writes plain (search rules) in
     let two = c.write_values.ensures one.plain (search rules) in
     let three = c.write_str-2.ensures.writes two.plain ok in

@@ -3,8 +3,8 @@ use Rattle.std.proofs.Common.{◌≡◌, ◌-◌, ◌<◌, ap, arith, sym, ◌�
 use Rattle.yaml_tree.specs.Equal.{tree_eq}
 use Rattle.yaml_tree.specs.Tree.{string}
 use Rattle.yaml_tree.specs.View.{tree_of}
-use Rattle.yaml_tree.proofs.Indexed.{IsAbsentFrom, IsSought, sought-first, sought-next, place_of-absent}
-use Rattle.yaml_tree.proofs.Lookups.{place_of-guess}
+use Rattle.yaml_tree.proofs.Indexed.{IsAbsentFrom, IsSought, sought-first, sought-next, place_of_key-absent}
+use Rattle.yaml_tree.proofs.Lookups.{place_of_key-guess}
 use Rattle.yaml_tree.proofs.value.text.find_in_chain.Goals as goal
 
 pub loop-left-init : goal.loop-left-init
@@ -19,7 +19,7 @@ returns-then-is_text-clause-place c =
     let es = c.args.entries.now in
     let left = c.loop-left.left in
     let d = c.index-entries-place.result in
-    sym (place_of-guess k es (left - 1) d c.requires.distinct
+    sym (place_of_key-guess k es (left - 1) d c.requires.distinct
     (omega (arith, c.loop-left-test.true, c.loop-left.invariant.1))
     (ap (λ e. tree_eq k (tree_of e.key)) (sym c.index-entries-place.is)
     ∙ (sym c.is_text.ensures ∙ c.if-is_text.true)))
@@ -44,4 +44,4 @@ returns-clause-place c =
     let k = string c.args.text.now in
     let es = c.args.entries.now in
     let none : c.loop-left.left ≡ 0 = omega (arith, c.loop-left-test.false) in
-    sym (place_of-absent k es (subst (IsAbsentFrom k es) none c.loop-left.invariant.2))
+    sym (place_of_key-absent k es (subst (IsAbsentFrom k es) none c.loop-left.invariant.2))

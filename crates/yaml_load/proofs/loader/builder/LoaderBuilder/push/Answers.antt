@@ -1,7 +1,7 @@
 -- The draft goes on with the event, or the event is wrong where the machine stops.
 use Rattle.std.specs.Prelude.{◌≡◌, ◌+◌, ◌∷◌, ◌++◌}
 use Rattle.yaml_load.proofs.Words.{rules, ◌∙◌, [], Some, ap, length, subst, sym, map-append, event_of, Position, Event}
-use Rattle.yaml_load.proofs.Words.{Input, events_in, plain_marked, state_of, IsWrongNext, HasTaken, NotAStream}
+use Rattle.yaml_load.proofs.Words.{Input, events_in, plain_marked, phase_state, IsWrongNext, HasTaken, NotAStream}
 use Rattle.yaml_load.proofs.Intakes.{ready_in, taken_on}
 use Rattle.yaml_load.proofs.WrongPlaces.{wrong_next}
 use Rattle.yaml_load.proofs.loader.builder.LoaderBuilder.push.Goals as goal
@@ -16,7 +16,7 @@ returns-in-None-clause-wrong c = λ _.
     let e = event_of c.args.event in
     subst (λ (v : Input). (c.new-in-None.result ≡ NotAStream (length v)) × IsWrongNext (events_in v) e) c.self.view_is (
       c.new-in-None.ensures ∙ ap NotAStream had.counted,
-      wrong_next _ e (state_of b.phase b.outer.items) had.ran (rw c.in-None.is at c.in_ok-after.ensures.0),
+      wrong_next _ e (phase_state b.phase b.outer.items) had.ran (rw c.in-None.is at c.in_ok-after.ensures.0),
     )
 
 pub invariant_of-self-2 : goal.invariant_of-self-2

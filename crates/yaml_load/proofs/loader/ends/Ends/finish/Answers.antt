@@ -1,7 +1,7 @@
 -- Each open collection ends where the document does.
 use Rattle.std.specs.Prelude.{◌∷◌}
 use Rattle.yaml_load.proofs.Words.{refl, ap, arith, length, set, reverse, [], ◌∙◌, length-append, length-set, rules}
-use Rattle.yaml_load.proofs.Words.{EndsView, filled}
+use Rattle.yaml_load.proofs.Words.{EndsView, numbers_ended}
 use Rattle.yaml_load.proofs.OpenEndsLaws.{finish_more, finished, in_set, last_in}
 use Rattle.yaml_load.proofs.loader.ends.Ends.finish.Goals as goal
 
@@ -9,7 +9,7 @@ pub unended-init : goal.unended-init
 unended-init c = record {
   within = c.self.invariant;
   count = ap (λ (v : EndsView). length v.numbers) c.self.view_is;
-  all = ap (λ (v : EndsView). filled (reverse v.unended) 0 c.args.size [] v.numbers) c.self.view_is;
+  all = ap (λ (v : EndsView). numbers_ended (reverse v.unended) 0 c.args.size [] v.numbers) c.self.view_is;
 }
 
 pub index_mut-requires : goal.index_mut-requires
