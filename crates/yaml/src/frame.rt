@@ -29,6 +29,31 @@ pub(crate) struct Frame {
     pub(crate) outer: usize,
 }
 
+/// The part of a collection that comes next, as faults name it.
+#[derive(Clone, Copy, Drop)]
+pub(crate) struct Part {
+    /// The place where the collection begins.
+    pub(crate) start: usize,
+    /// The place where the part begins.
+    pub(crate) place: usize,
+    /// The place where the one before it begins; that of the collection, where none is.
+    pub(crate) before: usize,
+    /// How many come before it. Keys and values of a mapping count each.
+    pub(crate) count: usize,
+}
+
+impl Part {
+    /// The first part of the collection that begins in a place.
+    pub(crate) fn first(start: usize) -> Part {
+        Part {
+            start,
+            place: start.saturating_add(1),
+            before: start,
+            count: 0,
+        }
+    }
+}
+
 /// Where a reading stands.
 #[derive(Clone, Copy, Drop)]
 pub(crate) struct Spot {
@@ -92,6 +117,8 @@ pub(crate) struct Last {
 pub(crate) struct Stranger {
     /// The step that read it.
     pub(crate) last: Last,
-    /// The names among which it was looked for, a zero byte behind each.
+    /// The names among which it was looked for, one behind the other.
     pub(crate) known: String,
+    /// Where each of them ends.
+    pub(crate) ends: Vec<usize>,
 }

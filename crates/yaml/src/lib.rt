@@ -9,13 +9,13 @@ mod kinds;
 mod leaf;
 mod makers;
 mod open;
-mod place_text;
 mod reader;
 mod sink;
 mod steps;
 mod stream;
 mod typed;
 mod values;
+mod way;
 mod write;
 
 pub use documents::Documents;

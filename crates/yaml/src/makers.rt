@@ -51,17 +51,8 @@ impl<'a, 'de> Reader<'a, 'de> {
         let Some(mark) = self.mark_at(start) else {
             return Ok(Error::new(cause));
         };
-        match self.way_to(at, top)? {
-            Some(text) => Error::new(cause).fix_mark(
-                self.alloc,
-                mark,
-                &Path::Map {
-                    parent: &Path::Root,
-                    key: text.as_str(),
-                },
-            ),
-            None => Error::new(cause).fix_mark(self.alloc, mark, &Path::Root),
-        }
+        let steps = self.steps_to(at, top)?;
+        self.placed(steps.as_slice(), &Path::Root, mark, Error::new(cause))
     }
 
     // The fault at the node of the last step.
@@ -103,10 +94,10 @@ impl<'a, 'de> Reader<'a, 'de> {
     // The names among which it was looked for.
     fn known_names(&self, stranger: &Stranger) -> Result<WordList> {
         let mut names = Vec::new(self.alloc);
-        for name in stranger.known.as_str().split('\0') {
-            if !name.is_empty() {
-                names.push(self.words(name)?)?;
-            }
+        let mut from = 0;
+        for end in &stranger.ends {
+            names.push(self.words(stranger.known.get(from..*end).unwrap_or(""))?)?;
+            from = *end;
         }
         Ok(WordList::new(names))
     }
@@ -238,7 +229,7 @@ impl<'a, 'de> Reader<'a, 'de> {
                     },
                 ),
             ) => {
-                let read = self.parts_before(start, self.spot.place).0;
+                let read = self.part_of(start, self.spot.place).count;
                 let length = self.parts_in(start);
                 let expected = Words::new(sequence_of(self.alloc, read)?);
                 self.at(

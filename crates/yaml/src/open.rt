@@ -10,7 +10,7 @@ ghost use Rattle.yaml.specs.declared.leaf.Leaf.TheVariants as leaf;
 ghost use Rattle.yaml_base.specs.PlainDocEvent.{PlainDocEvent};
 ghost use Rattle.yaml_shape.specs.PlainData.{map_data, seq_data, no_entries, no_items};
 
-use crate::frame::{Deed, Frame, Kind, Last, Spot};
+use crate::frame::{Deed, Frame, Kind, Last, Part, Spot};
 use crate::leaf::{Leaf, has_no_entries, has_no_items};
 use crate::reader::Reader;
 use yaml_base::Result;
@@ -50,7 +50,9 @@ impl<'a, 'de> Reader<'a, 'de> {
     {
         if self.marks == 0 {
             self.frames.truncate(self.spot.top);
+            self.parts.truncate(self.spot.top);
         }
+        self.parts.push(Part::first(frame.start))?;
         self.frames.push(frame)?;
         self.spot.top = self.frames.len();
         Ok(())

@@ -7,7 +7,7 @@ ghost use Rattle.yaml.specs.Around.{event_at, innermost_frame, place_behind_node
 ghost use Rattle.yaml.specs.NodeSteps.{Gave, Took, gone_on, node_at};
 ghost use Rattle.yaml_shape.specs.DataView.{data_of};
 
-use crate::frame::{Deed, Frame, Last, Spot, Stranger};
+use crate::frame::{Deed, Frame, Last, Part, Spot, Stranger};
 use crate::leaf::{Leaf, Leaves};
 use serde::Case;
 use std::alloc::Global;
@@ -21,12 +21,14 @@ use yaml_shape::Data;
 pub(crate) struct Reader<'a, 'de> {
     pub(crate) alloc: Global,
     pub(crate) document: &'a Document<'de>,
-    leaves: &'a Leaves,
+    pub(crate) leaves: &'a Leaves,
     pub(crate) spot: Spot,
     /// How many aliases may still be followed.
     pub(crate) follows: u128,
     /// What was opened. What lies above the innermost open one is kept while a mark is held.
     pub(crate) frames: Vec<Frame>,
+    /// The part that comes next in what each frame is around, as far as it was noted.
+    pub(crate) parts: Vec<Part>,
     /// How many marks are held.
     pub(crate) marks: usize,
     pub(crate) last: Last,
@@ -65,15 +67,18 @@ impl<'a, 'de> Reader<'a, 'de> {
             },
             follows: limits.follows() as u128 * document.events().len() as u128,
             frames: Vec::new(alloc),
+            parts: Vec::new(alloc),
             marks: 0,
             last,
             key: Stranger {
                 last,
                 known: String::new(alloc),
+                ends: Vec::new(alloc),
             },
             variant: Stranger {
                 last,
                 known: String::new(alloc),
+                ends: Vec::new(alloc),
             },
             spelling: None,
         }
@@ -141,8 +146,8 @@ impl<'a, 'de> Reader<'a, 'de> {
         }
     }
 
-    // Where a call that reads a node by itself is to begin.
-    fn node(&self) -> NodePlace
+    /// Where a call that reads a node by itself is to begin.
+    pub(crate) fn node(&self) -> NodePlace
         ensures { result ≡ node_at (standing self.now) }
     {
         NodePlace {
@@ -171,29 +176,6 @@ impl<'a, 'de> Reader<'a, 'de> {
         ensures { standing self.new ≡ standing self.old }
     {
         self.last.deed = deed;
-    }
-
-    /// The fault of reading the node at which the reading stands as this.
-    pub(crate) fn fault_of(&self, leaf: Leaf) -> Error {
-        let way = match self.way_to(self.spot.place, self.spot.top) {
-            Ok(way) => way,
-            Err(refused) => return refused,
-        };
-        let path = match &way {
-            Some(text) => Path::Map {
-                parent: &Path::Root,
-                key: text.as_str(),
-            },
-            None => Path::Root,
-        };
-        let mut at = self.node();
-        match self
-            .leaves
-            .read(self.document, self.alloc, leaf, &path, &mut at)
-        {
-            Ok(_) => self.ended(),
-            Err(fault) => fault,
-        }
     }
 
     /// The data of the node at which the reading stands, and the place behind it.

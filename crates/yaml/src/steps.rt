@@ -23,10 +23,11 @@ impl Stranger {
     fn meet(&mut self, last: Last, names: &[Name<'_>]) -> Result<()> {
         self.last = last;
         self.known.clear();
+        self.ends.clear();
         for name in names {
             if !name.skipped {
                 name.case.append(name.kind, name.name, &mut self.known)?;
-                self.known.push('\0')?;
+                self.ends.push(self.known.len())?;
             }
         }
         Ok(())
@@ -152,7 +153,10 @@ impl<'a, 'de> Reader<'a, 'de> {
         match (frame.kind, self.event(self.spot.place)) {
             (Kind::Items, _) | (Kind::Entries, None) => return Err(self.ended()),
             (Kind::Entries, Some(DocEvent::MappingEnd)) => {}
-            (Kind::Entries, Some(_)) => return Ok(true),
+            (Kind::Entries, Some(_)) => {
+                self.reach();
+                return Ok(true);
+            }
             _ => {}
         }
         self.close(frame);
@@ -184,6 +188,7 @@ impl<'a, 'de> Reader<'a, 'de> {
             (Kind::Empty, _) => {}
             (Kind::Items, Some(DocEvent::SequenceEnd)) => {}
             (Kind::Items, Some(_)) => {
+                self.reach();
                 self.note(Deed::Item);
                 return Ok(true);
             }
