@@ -85,7 +85,8 @@ pub none_left : {stream view : PlainStream} (cause : Cause) → view ≡ stream 
     → view.documents ≡ [] → RefusesAll stream cause
 none_left {stream} cause is fresh documents = λ limits table s. record {
   first = λ document others begins.
-      let none : [] ≡ document ∷ others = sym documents ∙ (ap (λ (s : PlainStream). s.documents) is ∙ begins.documents) in
+      let none : [] ≡ document ∷ others = sym documents
+      ∙ (ap (λ (s : PlainStream). s.documents) is ∙ begins.documents) in
       absurd (cc);
   iterated = λ e. absurd (both stream.iterated (ap (λ (s : PlainStream). s.iterated) (sym is) ∙ fresh) e);
 }

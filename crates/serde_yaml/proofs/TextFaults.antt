@@ -1,5 +1,6 @@
 -- What a text gives is never refused as no stream.
-use Rattle.std.proofs.Common.{◌≡◌, ◌≢◌, ◌⊎◌, ◌∙◌, ◌∷◌, ◌<◌, ℕ, zero, suc, List, [], All, Bool, true, false, Option, None}
+use Rattle.std.proofs.Common.{◌≡◌, ◌≢◌, ◌⊎◌, ◌∙◌, ◌∷◌, ◌<◌, ℕ, zero, suc, List, [], All, Bool, true, false, Option}
+use Rattle.std.proofs.Common.{None}
 use Rattle.std.proofs.Common.{Some, Result, Ok, Err, ap, arith, inl, inr, is_some, length, refl, sym, subst}
 use Rattle.yaml_base.specs.Answer.{Answers, is_memory}
 use Rattle.yaml_base.specs.PlainDocument.{PlainDocument}
@@ -100,7 +101,8 @@ typed_never : {limits : PlainLimits} {start : Start} {T : Type 0} {built : Plain
     {message : PlainData → List ℕ → Type 0} {input : Input} {fault : Option PlainFault} {given : Result T Cause}
     → IsWellFormed (is_some fault) (events_in input) → TypeGives limits start built message input fault given
     → (found : Cause) → given ≡ Err found → SaysNoStream found → ⊥
-typed_never formed (no_shape many) found refused says = subst SaysNoStream (sym (one_fault (Err no_schema) refl refused)) says
+typed_never formed (no_shape many) found refused says =
+    subst SaysNoStream (sym (one_fault (Err no_schema) refl refused)) says
 typed_never {built = built} {message = message} formed (of_shape {read = read} {given = given} valid at gives makes) found
     refused says =
     elim (made_never built message read given makes found refused) [

@@ -237,7 +237,8 @@ module _ (start : Start) (d : PlainData) (unwritten : List ℕ → Type 0) where
 
   -- a node between the start of a stream and its end is what the type writes
   pub node_written : (table : List PlainShape) (id : ℕ) (begun mid new : List PlainEmit) → table ≡ start.0
-      → id ≡ start.1 → IsValidSchema table → IsPut (λ es. es) (Ok (emit_stream_start ∷ emit_document_start ∷ [])) [] begun
+      → id ≡ start.1 → IsValidSchema table
+      → IsPut (λ es. es) (Ok (emit_stream_start ∷ emit_document_start ∷ [])) [] begun
       → IsPut emit_node_events (written_node table id d) begun mid
       → IsPut (λ es. es) (Ok (emit_document_end ∷ emit_stream_end ∷ [])) mid new
       → TypeWrites start d unwritten (Ok new)

@@ -26,7 +26,8 @@ some_follow (document ∷ others) = true
 
 -- the stream was not iterated, its first document is this one, and the flag says whether others follow
 abbrev pub IsFirst : PlainStream → PlainDocument → Bool → Type 0
-IsFirst stream document more = (others : List PlainDocument) × BeginsWithDocument stream document others × (more ≡ some_follow others)
+IsFirst stream document more = (others : List PlainDocument) × BeginsWithDocument stream document others
+    × (more ≡ some_follow others)
 
 -- what a first document gives, by whether others follow: then its data is refused, and its fault stays
 abbrev pub unless_more : Bool → Result PlainData Cause → Result PlainData Cause

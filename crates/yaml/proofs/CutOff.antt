@@ -1,5 +1,6 @@
 -- Inputs of one whole document, and one that is none.
-use Rattle.std.proofs.Common.{◌≡◌, ◌∷◌, ℕ, IsOk, IsSomeAnd, List, OnOk, [], Option, None, Some, Result, Ok, Err, ap, is_some, refl, sym}
+use Rattle.std.proofs.Common.{◌≡◌, ◌∷◌, ℕ, IsOk, IsSomeAnd, List, OnOk, [], Option, None, Some, Result, Ok, Err, ap}
+use Rattle.std.proofs.Common.{is_some, refl, sym}
 use Rattle.std.proofs.Common.{true, ◌∙◌}
 use Rattle.yaml.specs.OneDocument.{IsOneDocument}
 use Rattle.yaml_base.specs.MarkedEvents.{plain_marked}

@@ -26,7 +26,8 @@ data_of-Str text = search (rules, the_lemmas)
 -- the name that was found is the text that was read
 pub named : (old mid new : Standing) (names : List Name) (key : List ℕ) (d : Data) (text : Text)
     (found : Result ℕ Cause) → Took leaf.Identifier (data_of d) old mid → d ≡ Str text → key ≡ text_bytes text
-    → new ≡ mid → IfOk found (λ at. Finds names key at) → IfOk found (λ at. Chooses (λ name. TookName name old new) names at)
+    → new ≡ mid → IfOk found (λ at. Finds names key at)
+    → IfOk found (λ at. Chooses (λ name. TookName name old new) names at)
 named old mid new names key d text (Ok at) t of is same f = record {
   name = key;
   reads = subst (λ name. TookName name old new) (sym is)

@@ -21,4 +21,5 @@ GivesNext old given new = MatchOption given ((old ≡ []) × (new ≡ [])) (λ r
 pub data ReadsFurther {T : Type 0} (old new : PlainReader) (read : Result T Cause) : Type 0 where
   of_next : (document : PlainDocument) → HandsOut old (Some document) new → OnOk read (document.ending ≡ None)
       → ReadsFurther old new read
-  of_memory : (cause : Cause) → read ≡ Err cause → is_memory cause ≡ true → RunsOutOfMemory old new → ReadsFurther old new read
+  of_memory : (cause : Cause) → read ≡ Err cause → is_memory cause ≡ true → RunsOutOfMemory old new
+      → ReadsFurther old new read

@@ -15,8 +15,8 @@ use yaml_base::Result;
 use yaml_documents::DocumentReader;
 
 /// The documents of a YAML text, of which the first were read. They are parsed and loaded ahead, some at a time, as a
-/// `DocumentReader` does it, and let go before the next ones are loaded. So a text of many documents takes no more memory
-/// than some 40 kB, or than its largest document. Contracts see the documents that were read.
+/// `DocumentReader` does it, and let go before the next ones are loaded. So a text of many documents takes no more
+/// memory than some 40 kB, or than its largest document. Contracts see the documents that were read.
 #[derive(Drop)]
 pub struct DocumentStream<'de> {
     alloc: Global,

@@ -45,7 +45,8 @@ spelled_in hexadecimal ds p a z = digits_number-some 16 ds p a
 spelled_in octal ds p a z = digits_number-some 8 ds p a
 spelled_in binary ds p a z = digits_number-some 2 ds p a
 
-pub number_in_base-complete : (base : Base) (text : List ℕ) (n : ℕ) → IsNumber base text n → number_in_base base text ≡ Some n
+pub number_in_base-complete : (base : Base) (text : List ℕ) (n : ℕ) → IsNumber base text n
+    → number_in_base base text ≡ Some n
 number_in_base-complete base text n i =
     rw (i.spelled, i.value) (spelled_in base i.digits i.present i.all_digits i.zero_alone)
 
@@ -61,7 +62,8 @@ alone hexadecimal text e p = tt
 alone octal text e p = tt
 alone binary text e p = tt
 
-pub number_in_base-sound : (base : Base) (text : List ℕ) (n : ℕ) → number_in_base base text ≡ Some n → IsNumber base text n
+pub number_in_base-sound : (base : Base) (text : List ℕ) (n : ℕ) → number_in_base base text ≡ Some n
+    → IsNumber base text n
 number_in_base-sound base text n e =
     let g = guarded _ _ n e in
     let t = both _ _ g.0 in
@@ -88,7 +90,8 @@ no_prefix base x text p big a = refused _ _ _ (λ t. begun _ ((starts_is Decides
     refused true u o n = absurd (n refl)
     refused false u o n = refl
 
-pub number_in_any_base-complete : (base : Base) (text : List ℕ) (n : ℕ) → IsNumber base text n → number_in_any_base text ≡ Some n
+pub number_in_any_base-complete : (base : Base) (text : List ℕ) (n : ℕ) → IsNumber base text n
+    → number_in_any_base text ≡ Some n
 number_in_any_base-complete hexadecimal text n i = let e = number_in_base-complete hexadecimal text n i in rw e refl
 number_in_any_base-complete octal text n i =
     let x : number_in_base hexadecimal text ≡ None = rw i.spelled refl in
@@ -108,7 +111,8 @@ either : (o p : Option ℕ) (n : ℕ) → option_or o p ≡ Some n → (o ≡ So
 either None p n e = inr e
 either (Some x) p n e = inl e
 
-pub number_in_any_base-sound : (text : List ℕ) (n : ℕ) → number_in_any_base text ≡ Some n → (base : Base) × IsNumber base text n
+pub number_in_any_base-sound : (text : List ℕ) (n : ℕ) → number_in_any_base text ≡ Some n
+    → (base : Base) × IsNumber base text n
 number_in_any_base-sound text n e = elim (either _ _ n e) [
   | inl h ↦ (hexadecimal, number_in_base-sound _ _ _ h)
   | inr r ↦ elim (either _ _ n r) [

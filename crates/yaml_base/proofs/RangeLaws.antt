@@ -104,7 +104,8 @@ under_sign-none s n h =
     (in_range-outside (neg_ℤ (pos (2 ^ 127))) (pos (2 ^ 127 - 1)) _ (too_large (is_minus s) _ _ n (large n h)))
 
 -- the integer of a text whose number is too large, or is none
-pub integer_of-none : (text body : List ℕ) → body ≡ unsigned_part text → None ≡ up_to (2 ^ 128 - 1) (number_in_any_base body)
+pub integer_of-none : (text body : List ℕ) → body ≡ unsigned_part text
+    → None ≡ up_to (2 ^ 128 - 1) (number_in_any_base body)
     → None ≡ in_range (neg_ℤ (pos (2 ^ 127))) (pos (2 ^ 127 - 1)) (integer_of text)
 integer_of-none text body b e = elim (up_to-above (2 ^ 128 - 1) (number_in_any_base body) (sym e)) [
   | inl none ↦ rw (← b, none) refl

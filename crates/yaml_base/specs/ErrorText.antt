@@ -34,7 +34,8 @@ mark_part (Some mark) = if is_start mark then [] else codes " at " ++ mark_text 
 
 -- the message with the path in front and the mark behind it; a parser's fault has its own text
 abbrev pub error_text : Cause → List ℕ
-error_text cause = option_map_or parser_fault_text (parser_fault cause) (placed_text cause ++ mark_part (cause_mark cause))
+error_text cause =
+    option_map_or parser_fault_text (parser_fault cause) (placed_text cause ++ mark_part (cause_mark cause))
 
 -- where it happened, in debug, counted from 1
 abbrev pub mark_debug_part : Option Position → List ℕ

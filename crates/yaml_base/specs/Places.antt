@@ -2,8 +2,8 @@
 use Rattle.std.specs.Prelude.{ℕ, zero, suc, ◌+◌, ◌-◌, List, Bool, not, ◌&&◌, ◌||◌, ◌==◌, if◌then◌else◌, slice_index}
 use Rattle.std.specs.Int.{is_in_range}
 
--- A line ends with the byte at this index: a line feed; a carriage return that no line feed follows; or the last byte of
--- a next line, of a line separator or of a paragraph separator.
+-- A line ends with the byte at this index: a line feed; a carriage return that no line feed follows; or the last byte
+-- of a next line, of a line separator or of a paragraph separator.
 abbrev pub ends_line : List ℕ → ℕ → Bool
 ends_line text i =
     let byte = slice_index text i in

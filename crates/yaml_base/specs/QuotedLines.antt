@@ -38,7 +38,8 @@ pub data Escape : Type 0 where
   digits : (left code : ℕ) → Escape
 
 -- The rest of what stands between double quotes, behind a part of an escape, as a text: an escape stands for a
--- character, and any other byte for itself. A quote, a line break or an escape that is none or ends early makes it none.
+-- character, and any other byte for itself. A quote, a line break or an escape that is none or ends early makes it
+-- none.
 abbrev pub unescaped_behind : Escape → List ℕ → Option (List ℕ)
 unescaped_behind none [] = Some []
 unescaped_behind none (c ∷ cs) =

@@ -1,4 +1,5 @@
-//! What has gone by, as a list that only contracts read. It takes no memory, and its functions do nothing when they run.
+//! What has gone by, as a list that only contracts read. It takes no memory, and its functions do nothing when they
+//! run.
 
 ghost use Rattle.std.specs.Prelude.{◌≡◌, List, [], ◌∷◌, ◌++◌};
 ghost use Rattle.std.specs.Borrow.{ftrue};

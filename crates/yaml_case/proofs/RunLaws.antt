@@ -112,7 +112,8 @@ module _ (words : List (List ℕ)) (name nesting follows : List ℕ) (is : words
 
   -- and a name with limits is answered within them
   pub answers_within : (limits : PlainLimits) (input : List ℕ) (ended : Status) (text : List ℕ)
-      → WriteLimits nesting follows limits → IsAnswerByName name limits input ended text → IsAnswerTo words input ended text
+      → WriteLimits nesting follows limits → IsAnswerByName name limits input ended text
+      → IsAnswerTo words input ended text
   answers_within limits input ended text w (bad_argument none e t) = bad_arguments (unknown_within none) e t
   answers_within limits input ended text w (reply shape named r) =
       asked shape limits (shape_within nesting follows (is ∙ ap (λ n. n ∷ nesting ∷ follows ∷ []) (sym named)) w) r

@@ -29,7 +29,8 @@ pub closed_at : (input : Input) (s : State) → run (Some before_stream) (events
 closed_at input s ran outside = open_state before_stream input s ran ∙ outside
 
 -- the same of events of a text, behind a document
-closed_behind : (given : List (Event × Position)) → run (Some before_stream) (plain_events given) ≡ Some between_documents
+closed_behind : (given : List (Event × Position))
+    → run (Some before_stream) (plain_events given) ≡ Some between_documents
     → is_open_after false (plain_marked given) ≡ false
 closed_behind given ran =
     closed_at (plain_marked given) between_documents (ap (run (Some before_stream)) (events_of_marked given) ∙ ran) refl
@@ -150,7 +151,8 @@ module _ (text : List ℕ) (given : List (Event × Position)) (taken : Input) (g
       ∙ ap (λ o. is_open_after o ((document_end, mark) ∷ [])) open_inner
 
   first : AreFirstDocumentsOf text (begun_in None (plain_marked given) ++ begun_in None reads.more ++ one.0 ∷ [])
-  first = record { events = given_now; of_text = of_text; closed = closed_behind given_now between; cut = sym begun_now }
+  first =
+      record { events = given_now; of_text = of_text; closed = closed_behind given_now between; cut = sym begun_now }
 
   pub reads_one_more : IsFull text given taken given_now taken_now
   reads_one_more = record {

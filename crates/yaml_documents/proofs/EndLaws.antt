@@ -35,7 +35,8 @@ pub front_starts : (last : Option Position) (more : Input)
 front_starts None more = refl
 front_starts (Some mark) more = refl
 
-front_open : (last : Option Position) (more : Input) → is_open_after false (front last ++ more) ≡ is_open_after false more
+front_open : (last : Option Position) (more : Input)
+    → is_open_after false (front last ++ more) ≡ is_open_after false more
 front_open None more = refl
 front_open (Some mark) more = refl
 
@@ -48,7 +49,8 @@ no_void fault (s ∷ starts) end documents is some = append-nil (map (document_f
 
 -- the documents behind which a stream of its own ends, with an end of the stream or not
 pub end_documents : (input : Input) (mark : Position)
-    → run (Some before_stream) (events_in input) ≡ Some between_documents → begun_in None input ≢ [] → documents_of (input ++ (stream_end, mark) ∷ []) None ≡ begun_in None input
+    → run (Some before_stream) (events_in input) ≡ Some between_documents → begun_in None input ≢ []
+    → documents_of (input ++ (stream_end, mark) ∷ []) None ≡ begun_in None input
 end_documents input mark ran some =
     let all = input ++ (stream_end, mark) ∷ [] in
     no_void None (after_starts false all) (last_mark all) (begun_in None input)
@@ -56,7 +58,8 @@ end_documents input mark ran some =
     ∙ append-nil (begun_in None input)) some
 
 pub end_well_formed : (input : Input) (mark : Position)
-    → run (Some before_stream) (events_in input) ≡ Some between_documents → IsWellFormed false (events_in (input ++ (stream_end, mark) ∷ []))
+    → run (Some before_stream) (events_in input) ≡ Some between_documents
+    → IsWellFormed false (events_in (input ++ (stream_end, mark) ∷ []))
 end_well_formed input mark ran =
     let es : events_in (input ++ (stream_end, mark) ∷ []) ≡ events_in input ++ stream_end ∷ [] =
     map-append (λ (e : PlainEvent × Position). e.0) input ((stream_end, mark) ∷ []) in
@@ -208,7 +211,8 @@ module _ (text : List ℕ) (last : Option Position) (given : List (Event × Posi
           rest = [];
           short = tt;
           behind = sym (append-nil whole ∙ no_whole);
-          joined = no_void None (after_starts false (plain_marked given_now)) (last_mark (plain_marked given_now)) before
+          joined =
+              no_void None (after_starts false (plain_marked given_now)) (last_mark (plain_marked given_now)) before
               (given_whole ∙ ap (λ (ds : List PlainDocument). before ++ ds) no_whole ∙ append-nil before) there
               ∙ sym (append-nil before);
         }

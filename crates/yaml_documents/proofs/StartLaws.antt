@@ -5,7 +5,8 @@ use Rattle.std.specs.Prelude.{not}
 use Rattle.std.proofs.lemmas.Bool.{cases_Bool}
 use Rattle.std.proofs.lemmas.List.{map-append}
 use Rattle.yaml_load.proofs.DocumentLaws.{no_starts}
-use Rattle.yaml_load.proofs.Words.{Cause, Input, PlainDocument, PlainEvent, PlainFault, Position, after_starts, anchors_in}
+use Rattle.yaml_load.proofs.Words.{Cause, Input, PlainDocument, PlainEvent, PlainFault, Position, after_starts}
+use Rattle.yaml_load.proofs.Words.{anchors_in}
 use Rattle.yaml_load.proofs.Words.{body, document_from, document_of, ending_of, find_in, is_document_end}
 use Rattle.yaml_load.proofs.Words.{is_document_start, is_ended, is_open_after, known_events, unknown_mark}
 
@@ -142,7 +143,8 @@ no_start (e ∷ ys) h o =
     ]
 
 -- the start of a document that ends with the last event
-pub ended_start : (inner : Input) (e : PlainEvent × Position) → is_ended inner ≡ false → is_open_after false inner ≡ true
+pub ended_start : (inner : Input) (e : PlainEvent × Position) → is_ended inner ≡ false
+    → is_open_after false inner ≡ true
     → is_document_end e.0 ≡ true → (s : Input) × (after_starts false (inner ++ e ∷ []) ≡ s ∷ [])
 ended_start inner e h o ends =
     let one = one_start inner h o in (

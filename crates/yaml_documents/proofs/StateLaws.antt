@@ -3,7 +3,8 @@ use Rattle.std.proofs.Common.{◌≡◌, List, [], ◌∷◌, ◌++◌, refl, sy
 use Rattle.yaml_base.proofs.StreamMachineLaws.{goes_on_run, run_append, whole_run}
 use Rattle.yaml_base.specs.declared.open.Open.TheVariants.{Sequence, Key, Value}
 use Rattle.yaml_load.proofs.LoadingTurns.{turns}
-use Rattle.yaml_load.proofs.Words.{Input, IsBeginning, IsStream, IsWellFormed, PlainEvent, Position, State, after_stream}
+use Rattle.yaml_load.proofs.Words.{Input, IsBeginning, IsStream, IsWellFormed, PlainEvent, Position, State}
+use Rattle.yaml_load.proofs.Words.{after_stream}
 use Rattle.yaml_load.proofs.Words.{alias, before_root, before_stream, between_documents, document_end, document_start}
 use Rattle.yaml_load.proofs.Words.{events_in, is_inside, is_open_after, mapping_end, mapping_start, next_state}
 use Rattle.yaml_load.proofs.Words.{open_before, open_behind, run, scalar, sequence_end, sequence_start, stream_end}
@@ -78,7 +79,8 @@ pub run_on : (es : List PlainEvent) (x : PlainEvent) (s : State) → run (Some b
 run_on es x s ran = run_append es (x ∷ []) (Some before_stream) ∙ ap (λ o. run o (x ∷ [])) ran
 
 -- events that lead to one state are streams or beginnings of streams alike
-pub begins_alike : (es fs : List PlainEvent) → run (Some before_stream) es ≡ run (Some before_stream) fs → IsBeginning fs
+pub begins_alike : (es fs : List PlainEvent) → run (Some before_stream) es ≡ run (Some before_stream) fs
+    → IsBeginning fs
     → IsBeginning es
 begins_alike es fs same b = let on = (goes_on_run fs).0 b in (goes_on_run es).1 (on.0, same ∙ on.1)
 

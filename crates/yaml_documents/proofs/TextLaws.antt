@@ -1,5 +1,6 @@
 -- The events of a text are never refused as no stream, and what is told of them is what the text was parsed to.
-use Rattle.std.proofs.Common.{◌≡◌, ◌∙◌, ◌∷◌, ◌++◌, [], Bool, IsSomeAnd, List, Option, ap, false, is_some, refl, subst, sym}
+use Rattle.std.proofs.Common.{◌≡◌, ◌∙◌, ◌∷◌, ◌++◌, [], Bool, IsSomeAnd, List, Option, ap, false, is_some, refl, subst}
+use Rattle.std.proofs.Common.{sym}
 use Rattle.std.proofs.Common.{true, ℕ}
 use Rattle.std.proofs.lemmas.List.{map-append}
 use Rattle.yaml_base.specs.MarkedEvents.{events_in, plain_events, plain_marked}

@@ -14,10 +14,10 @@ use yaml_base::{History, Result};
 use yaml_parse::Events;
 use yaml_read::Document;
 
-/// The documents of a YAML text, of which the first were handed out. They are parsed and loaded ahead, some at a time: up
-/// to the end of the document by which they have at least 256 events. An event takes some 130 bytes, and 40 kB are taken
-/// for those that are loaded at a time, or more where one document needs more. So a text of many documents takes no more
-/// memory than that, or than its largest document, and what the parser keeps.
+/// The documents of a YAML text, of which the first were handed out. They are parsed and loaded ahead, some at a time:
+/// up to the end of the document by which they have at least 256 events. An event takes some 130 bytes, and 40 kB are
+/// taken for those that are loaded at a time, or more where one document needs more. So a text of many documents takes
+/// no more memory than that, or than its largest document, and what the parser keeps.
 ///
 /// A document that is held keeps the events of all that were loaded with it.
 #[derive(Drop)]
@@ -73,12 +73,12 @@ impl<'de> DocumentReader<'de> {
         })
     }
 
-    /// The next document, or `None` once each was handed out, for good. What can't be parsed is the fault of the document
-    /// that it stands in, which is the last. A text whose bytes are not all allowed, by the rules of UTF-8 or of YAML's
-    /// characters, has one document, cut off before its first event.
+    /// The next document, or `None` once each was handed out, for good. What can't be parsed is the fault of the
+    /// document that it stands in, which is the last. A text whose bytes are not all allowed, by the rules of UTF-8 or
+    /// of YAML's characters, has one document, cut off before its first event.
     ///
-    /// Where no document is loaded ahead, the next ones are, at least 256 events of them if the text has so many. The only
-    /// error is want of memory. Behind it no document is handed out any more: each call answers want of memory.
+    /// Where no document is loaded ahead, the next ones are, at least 256 events of them if the text has so many. The
+    /// only error is want of memory. Behind it no document is handed out any more: each call answers want of memory.
     pub fn next_document(&mut self) -> Result<Option<Document<'de>>>
         ensures text { self.new.text ≡ self.old.text }
         ensures ok { IfOk result (λ found. HandsOut self.old found self.new) }

@@ -122,7 +122,8 @@ abbrev one_line : List ℕ → Option (List ℕ)
 one_line [] = Some []
 one_line (b ∷ t) = if begins_with_break (b ∷ t) then None else before (b ∷ []) (one_line t)
 
-one_line-all : (cs : List ℕ) → scalars cs ≡ true → list_any is_break cs ≡ false → one_line (encodes cs) ≡ Some (encodes cs)
+one_line-all : (cs : List ℕ) → scalars cs ≡ true → list_any is_break cs ≡ false
+    → one_line (encodes cs) ≡ Some (encodes cs)
 one_line-all [] h alone = refl
 one_line-all (c ∷ cs) h alone =
     let p = and_parts _ _ h in
@@ -143,7 +144,8 @@ found_behind false t (Some s) h = (refl, refl)
 is_one_line : (bytes : List ℕ) → is_found (one_line bytes) ≡ true → IsOneLine bytes
 is_one_line [] h k inside = absurd (omega arith)
 is_one_line (b ∷ t) h zero inside = (found_behind (begins_with_break (b ∷ t)) (b ∷ []) (one_line t) h).0
-is_one_line (b ∷ t) h (suc k) inside = is_one_line t (found_behind (begins_with_break (b ∷ t)) (b ∷ []) (one_line t) h).1 k (omega arith)
+is_one_line (b ∷ t) h (suc k) inside =
+    is_one_line t (found_behind (begins_with_break (b ∷ t)) (b ∷ []) (one_line t) h).1 k (omega arith)
 
 -- a text without line breaks stands on one line
 pub one_line-IsOneLine : (text : List ℕ) → IsUtf8 text → list_any is_break (chars text) ≡ false → IsOneLine text
@@ -154,7 +156,8 @@ one_line-IsOneLine text u alone =
 -- a printable character ends no line
 printable_is_no_break : (c : ℕ) → is_printable c ≡ true → is_break c ≡ false
 printable_is_no_break c h =
-    let other : (k : ℕ) → is_printable k ≡ false → c ≡ k → ⊥ = λ k none e. false≢true (sym none ∙ (ap is_printable (sym e) ∙ h)) in
+    let other : (k : ℕ) → is_printable k ≡ false → c ≡ k
+    → ⊥ = λ k none e. false≢true (sym none ∙ (ap is_printable (sym e) ∙ h)) in
     rw (
       ne_eqb c 10 (other 10 refl),
       ne_eqb c 13 (other 13 refl),

@@ -1,5 +1,6 @@
 -- What is printed between single quotes is read as the text, where that has no line break.
-use Rattle.std.proofs.Common.{◌≡◌, ℕ, ◌+◌, false, true, List, [], ◌∷◌, ◌++◌, Some, inl, inr, refl, sym, ap, ◌∙◌, subst, arith}
+use Rattle.std.proofs.Common.{◌≡◌, ℕ, ◌+◌, false, true, List, [], ◌∷◌, ◌++◌, Some, inl, inr, refl, sym, ap, ◌∙◌, subst}
+use Rattle.std.proofs.Common.{arith}
 use Rattle.std.proofs.lemmas.Bool.{cases_eq, and_parts, or_parts, ne_eqb}
 use Rattle.std.proofs.lemmas.Str.{encodes-chars, scalars-chars}
 use Rattle.std.specs.List.{list_any}
@@ -16,7 +17,8 @@ as_it_is_in_single : (b : ℕ) (t : List ℕ) → (b ≡ 39 → ⊥) → begins_
     → undoubled_behind false (b ∷ t) ≡ before (b ∷ []) (undoubled_behind false t)
 as_it_is_in_single b t quote alone = rw (ne_eqb b 39 quote, alone) refl
 
-quote_itself : (t : List ℕ) → undoubled_behind false (quote_doubled 39 ++ t) ≡ before (encode 39) (undoubled_behind false t)
+quote_itself : (t : List ℕ)
+    → undoubled_behind false (quote_doubled 39 ++ t) ≡ before (encode 39) (undoubled_behind false t)
 unfolding encode
 quote_itself t = refl
 

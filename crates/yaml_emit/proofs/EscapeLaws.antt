@@ -76,7 +76,8 @@ byte_last code b t h =
 coded : (c : ℕ) (t : List ℕ) → scalar c ≡ true
     → unescaped_behind none ((92 ∷ code_digits c) ++ t) ≡ before (encode c) (unescaped_behind none t)
 coded c t h =
-    let is : (n : ℕ) → n ≡ c → character_before (character_code n) (unescaped_behind none t) ≡ before (encode c) (unescaped_behind none t)
+    let is : (n : ℕ) → n ≡ c
+    → character_before (character_code n) (unescaped_behind none t) ≡ before (encode c) (unescaped_behind none t)
     = λ n e. ap (λ m. character_before (character_code m) (unescaped_behind none t)) e
     ∙ ap (λ o. character_before o (unescaped_behind none t)) (code_of c h) in
     elim (cases_lt c 0x100) [

@@ -243,10 +243,12 @@ follows_run (e ∷ es) (Some s) text h = behind_step s e es (follows_run es (ste
 follows_run (e ∷ es) None text h = absurd (cc)
 
 -- events that are printed to their end are a stream, whose text is printed
-pub whole_text : (es : List PlainEmit) (text : List ℕ) → printed_from (Some unbegun) es ≡ Some text → IsStreamText es text
+pub whole_text : (es : List PlainEmit) (text : List ℕ) → printed_from (Some unbegun) es ≡ Some text
+    → IsStreamText es text
 whole_text es text h =
     let f = follows_run es (Some unbegun) text h in
-    let same : Some text ≡ Some (stream_text f.0) = sym h ∙ (ap (printed_from (Some unbegun)) f.1 ∙ prints_stream f.0) in
+    let same : Some text ≡ Some (stream_text f.0) = sym h
+    ∙ (ap (printed_from (Some unbegun)) f.1 ∙ prints_stream f.0) in
     record { roots = f.0; stream = f.1; printed = ap (λ o. unwrap_or o []) same }
 
 -- events that are refused are no stream

@@ -242,7 +242,8 @@ prints_documents (root ∷ roots) out =
     ∙ append_assoc out (later_document root) (flat_map later_document roots))))
 
 -- the events of a stream print its text
-pub prints_stream : (roots : List EmitNode) → printed_from (Some unbegun) (emit_stream_events roots) ≡ Some (stream_text roots)
+pub prints_stream : (roots : List EmitNode)
+    → printed_from (Some unbegun) (emit_stream_events roots) ≡ Some (stream_text roots)
 prints_stream [] = refl
 prints_stream (root ∷ roots) =
     ap (λ es. printed_from (Some unbegun) (emit_stream_start ∷ emit_document_start ∷ es)) (document_then root roots)

@@ -3,7 +3,8 @@
 ghost use Rattle.std.specs.Prelude.{◌≡◌, OnOk, string_bytes};
 ghost use Rattle.std.specs.Option.{option_map};
 ghost use Rattle.yaml_emit.specs.LayoutMachine.{NodeBegins, Steps, begun, closed_in, closes, document_begun};
-ghost use Rattle.yaml_emit.specs.LayoutMachine.{document_ended, finished, laid, pushed, stream_begun, stream_ended, unbegun};
+ghost use Rattle.yaml_emit.specs.LayoutMachine.{document_ended, finished, laid, pushed, stream_begun, stream_ended};
+ghost use Rattle.yaml_emit.specs.LayoutMachine.{unbegun};
 ghost use Rattle.yaml_emit.specs.LayoutMachine.{with_node_text, with_open};
 ghost use Rattle.yaml_emit.specs.Leaves.{leaf_node};
 

@@ -210,8 +210,8 @@ fn push_in_style(
     }
 }
 
-/// Adds a text as a scalar, in the style that is asked for where the text may stand in it, else between quotes. A key in
-/// a line with its value is no block, and stands between quotes if it is empty. Further lines stand behind so many
+/// Adds a text as a scalar, in the style that is asked for where the text may stand in it, else between quotes. A key
+/// in a line with its value is no block, and stands between quotes if it is empty. Further lines stand behind so many
 /// blanks. A literal block ends with a line feed, and no other style does.
 ///
 /// The only error is want of memory, and part of the scalar may then stand in `out`.

@@ -66,7 +66,8 @@ style_at-byte DoubleQuoted = refl
 style_at-byte Literal = refl
 style_at-byte Folded = refl
 
-content-unique : (text : List ℕ) (a b : ScalarStyle) (v w : List ℕ) → IsStyledText text a v → IsStyledText text b w → (a ≡ b)
+content-unique : (text : List ℕ) (a b : ScalarStyle) (v w : List ℕ) → IsStyledText text a v → IsStyledText text b w
+    → (a ≡ b)
     × (v ≡ w)
 content-unique text a b v w f g =
     let e = sym f.1 ∙ g.1 in
@@ -229,7 +230,8 @@ kind_at-name Emitter = refl
 kind_at-name Other = refl
 
 -- a fault, at its mark
-IsSpelledFault-unique : (text : List ℕ) (a b : PlainFault) → a.mark ≡ b.mark → IsSpelledFault text a → IsSpelledFault text b
+IsSpelledFault-unique : (text : List ℕ) (a b : PlainFault) → a.mark ≡ b.mark → IsSpelledFault text a
+    → IsSpelledFault text b
     → a ≡ b
 IsSpelledFault-unique text a b m f g =
     let u = kind_and_rest text (kind_name b.kind) g.behind_kind g.split (kind_spaceless b.kind) a f in

@@ -32,7 +32,8 @@ fn said(alloc: Global, text: &[u8], mark: Mark) -> Result<Line, LineFault>
 }
 
 impl Line {
-    /// Reads a line, which is given without its line feed. Refused by `Bad` where the line says nothing, and by `Memory`.
+    /// Reads a line, which is given without its line feed. Refused by `Bad` where the line says nothing, and by
+    /// `Memory`.
     pub fn parse(alloc: Global, line: &[u8]) -> Result<Line, LineFault>
         ensures { Parses said_of (IsLine line.now) result }
     {

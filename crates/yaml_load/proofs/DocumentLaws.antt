@@ -3,7 +3,8 @@ use Rattle.std.specs.Prelude.{◌≡◌, ◌∷◌}
 use Rattle.yaml_load.proofs.Words.{arith, [], refl, true, false, Input, after_starts, behind_document, is_ended}
 
 -- behind a document that ends
-pub starts_behind : (rest : Input) → is_ended rest ≡ true → after_starts true rest ≡ after_starts false (behind_document rest)
+pub starts_behind : (rest : Input) → is_ended rest ≡ true
+    → after_starts true rest ≡ after_starts false (behind_document rest)
 starts_behind [] h = absurd (cc)
 starts_behind (e ∷ rest) h = grind (arith, starts_behind rest)
 

@@ -19,7 +19,8 @@ in_set numbers starts at n h k d l = let i = h k d l in omega (arith, length-set
 -- a number that is put behind stays there
 filled_push : (starts : List ℕ) (inner place : ℕ) (later : List PlainDocEvent) (numbers : List ℕ) (n : ℕ)
     → AreIn numbers starts
-    → numbers_ended starts inner place later (numbers ++ n ∷ []) ≡ numbers_ended starts inner place later numbers ++ n ∷ []
+    → numbers_ended starts inner place later (numbers ++ n ∷ []) ≡ numbers_ended starts inner place later numbers
+    ++ n ∷ []
 filled_push [] inner place later numbers n h = refl
 filled_push (s ∷ starts) inner place later numbers n h =
     let v = end_place inner place later in
@@ -82,7 +83,8 @@ module _ {front : List ℕ} {seen : List PlainDocEvent} {old : EndsView} (h : Ha
   -- the numbers behind one event more
   abbrev Counted : List ℕ → List ℕ → Type 0
   Counted numbers starts = (later : List PlainDocEvent)
-      → numbers_ended starts 0 (size + 1) later numbers ++ ends_from (size + 1) later ≡ front ++ ends_of (seen ++ e ∷ later)
+      → numbers_ended starts 0 (size + 1) later numbers ++ ends_from (size + 1) later ≡ front
+      ++ ends_of (seen ++ e ∷ later)
 
   made : (new : EndsView) (numbers unended : List ℕ) → new.numbers ≡ numbers → new.unended ≡ unended
       → length numbers ≡ length front + length (seen ++ e ∷ []) → Counted numbers (reverse unended)

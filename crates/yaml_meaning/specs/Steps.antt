@@ -25,7 +25,8 @@ abbrev pub wrap : {A B C : Type 0} → (A → B) → Result (A × C) PlainRefusa
 wrap f read = read >>= λ x. Ok (f x.0, x.1)
 
 -- ends with what is made of the state, or with a fault
-abbrev pub finish : {S A C : Type 0} → (S → Result A ReadFault) → Result (S × C) PlainRefusal → Result (A × C) PlainRefusal
+abbrev pub finish : {S A C : Type 0} → (S → Result A ReadFault) → Result (S × C) PlainRefusal
+    → Result (A × C) PlainRefusal
 finish f read = read >>= λ x. ending x.1 (f x.0)
 
 -- goes into a collection with a mark, where a nesting is left

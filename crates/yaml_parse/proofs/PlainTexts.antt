@@ -1,5 +1,6 @@
 -- What the rest of a source says.
-use Rattle.std.proofs.Common.{◌≡◌, ℕ, ◌+◌, ◌-◌, ◌<◌, ◌≤◌, List, Option, None, length, drop, min, sym, ap, subst, ◌∙◌, arith}
+use Rattle.std.proofs.Common.{◌≡◌, ℕ, ◌+◌, ◌-◌, ◌<◌, ◌≤◌, List, Option, None, length, drop, min, sym, ap, subst, ◌∙◌}
+use Rattle.std.proofs.Common.{arith}
 use Rattle.std.proofs.lemmas.List.{drop-drop, length-drop}
 use Rattle.yaml_base.specs.LineBreaks.{IsOneLine, begins_with_break}
 
@@ -10,7 +11,8 @@ rest_has_none n bytes none k h =
     ap begins_with_break (drop-drop k n bytes) ∙ none (n + k) inside
 
 -- the last bytes of a list, by how many they are
-last_bytes : (n : ℕ) (bytes : List ℕ) → n ≤ length bytes → drop n bytes ≡ drop (length bytes - length (drop n bytes)) bytes
+last_bytes : (n : ℕ) (bytes : List ℕ) → n ≤ length bytes
+    → drop n bytes ≡ drop (length bytes - length (drop n bytes)) bytes
 last_bytes n bytes h =
     let count : n ≡ length bytes - length (drop n bytes) = let e = length-drop n bytes in omega arith in
     ap (λ k. drop k bytes) count

@@ -49,7 +49,8 @@ pub none_yet : IsWellFormed true []
 none_yet = cut_of phase.Before [] [] refl refl
 
 -- one collection more around
-pub opens-push : (outer : List (Frame × Position)) (x : Frame × Position) → opens (outer ++ x ∷ []) ≡ open_of x.0 ∷ opens outer
+pub opens-push : (outer : List (Frame × Position)) (x : Frame × Position)
+    → opens (outer ++ x ∷ []) ≡ open_of x.0 ∷ opens outer
 opens-push outer x =
     ap reverse (map-append (λ (y : Frame × Position). open_of y.0) outer (x ∷ []))
     ∙ reverse-append (map (λ (y : Frame × Position). open_of y.0) outer) (open_of x.0 ∷ [])
@@ -137,7 +138,8 @@ closes_mapping here opened is = ends_a_mapping (open_of here) opened is
 -- an event moves the machine on from a state that is the same
 pub moves_still : (was now : Phase) (before outer : List (Frame × Position)) (event : PlainEvent)
     → (to : List (Frame × Position) → State) → now ≡ was → outer ≡ before
-    → next_state (state_of was before) event ≡ Some (to before) → next_state (state_of now outer) event ≡ Some (to outer)
+    → next_state (state_of was before) event ≡ Some (to before)
+    → next_state (state_of now outer) event ≡ Some (to outer)
 moves_still was now before outer event to same_phase same_outer moves =
     subst (λ os. next_state (state_of now os) event ≡ Some (to os)) (sym same_outer)
     (subst (λ p. next_state (state_of p before) event ≡ Some (to before)) (sym same_phase) moves)
@@ -178,7 +180,8 @@ marks_to text before after x reached is all last on low_enough =
       IsNonDecreasingBy-push (λ (e : Event × Position). e.1.index) before x all.1
           (λ d some.
           let inside : length before - 1 < length before = omega arith in
-          let low = All-get_or (λ (e : Event × Position). e.1.index ≤ reached) before (length before - 1) d inside last in
+          let low =
+          All-get_or (λ (e : Event × Position). e.1.index ≤ reached) before (length before - 1) d inside last in
           omega arith),
     )
 

@@ -1,5 +1,6 @@
 -- What the reader refuses is not allowed, and how that is told.
-use Rattle.std.proofs.Common.{◌≡◌, ℕ, List, None, Option, Some, IfSome, IsSomeAnd, arith, is_some, length, subst, sym, true}
+use Rattle.std.proofs.Common.{◌≡◌, ℕ, List, None, Option, Some, IfSome, IsSomeAnd, arith, is_some, length, subst, sym}
+use Rattle.std.proofs.Common.{true}
 use Rattle.std.proofs.lemmas.List.{take_all}
 use Rattle.yaml_base.specs.PlainFault.{PlainFault}
 use Rattle.yaml_base.specs.declared.fault.FaultKind.{FaultKind}

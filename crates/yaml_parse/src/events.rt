@@ -163,9 +163,9 @@ impl<'a> Events<'a> {
         }
     }
 
-    /// Why no more events come, once `next_event` answered `None`: the parser's fault, if it met one. A text whose bytes
-    /// are not all allowed, by the rules of UTF-8 or of YAML's characters, has no events, and the fault tells where. The
-    /// only error is want of memory.
+    /// Why no more events come, once `next_event` answered `None`: the parser's fault, if it met one. A text whose
+    /// bytes are not all allowed, by the rules of UTF-8 or of YAML's characters, has no events, and the fault tells
+    /// where. The only error is want of memory.
     pub fn finish(self, alloc: Global) -> Result<Ending, AllocError>
         ensures taken { self.entry.over ≡ true → IfOk result (λ ending.
             IsWellFormed (is_some ending.fault) (plain_events self.entry.given)) }

@@ -82,7 +82,8 @@ same_value : {T : Type 0} {x y : T} → ◌≡◌ {A = Result T Cause} (Ok x) (O
 same_value h = cc
 
 -- a value that is read where an equal one has to be is equal
-pub equal_again : {T : Type 0} (eq : T → T → Bool) (unwritten : List ℕ → Type 0) (x found : T) (same : Bool) → same ≡ eq x found
+pub equal_again : {T : Type 0} (eq : T → T → Bool) (unwritten : List ℕ → Type 0) (x found : T) (same : Bool)
+    → same ≡ eq x found
     → (y : T) × (◌≡◌ {A = Result T Cause} (Ok found) (Ok y)) × (eq x y ≡ true)
     → IsSameUnless unwritten (Ok same)
 equal_again eq unwritten x found same is r =

@@ -131,10 +131,12 @@ module _ (table : List PlainShape) (root : DocNode) where
         let m = made_ok (emit_mapping_node tag) (written_pairs ps) e h in
         let r : IsRendered (emit_mapping_node tag m.0) n = subst (λ e. IsRendered e n) m.2 r in
         let all = pairs_return ps m.0 r.0 (second (keys_distinct ps) (are_pairs ps) is) fits m.1 r.2 in
-        let apart = distinct_again ps (pairs_in_entries all.found) all.same (first (keys_distinct ps) (are_pairs ps) is) in
+        let apart =
+        distinct_again ps (pairs_in_entries all.found) all.same (first (keys_distinct ps) (are_pairs ps) is) in
         record {
           found = mapping (pairs_in_entries all.found);
-          means = subst (λ n. Means table root any_shape n (is_some tag) (any_data (mapping (pairs_in_entries all.found)))
+          means =
+              subst (λ n. Means table root any_shape n (is_some tag) (any_data (mapping (pairs_in_entries all.found)))
               (tree_nestings (mapping ps)) 0) (sym r.1)
               (means_node refl (any_as_is tag (mapping_begins tag) refl)
               (means_mapping (means_any_mapping all.means apart)));

@@ -30,7 +30,8 @@ bytes-of-word a b c d w p q r s is =
     le_bytes_4 (a ∷ b ∷ c ∷ d ∷ []) w refl (are-bytes a b c d p q r s) (omega (arith, is))
 
 -- bytes below 128 that are so with 118 more are at most 9
-at-most-nine : (a b c d y : ℕ) → a < 128 → b < 128 → c < 128 → d < 128 → y ≡ word (a + 118) (b + 118) (c + 118) (d + 118)
+at-most-nine : (a b c d y : ℕ) → a < 128 → b < 128 → c < 128 → d < 128
+    → y ≡ word (a + 118) (b + 118) (c + 118) (d + 118)
     → HasLowBytes y → (a ≤ 9) × (b ≤ 9) × (c ≤ 9) × (d ≤ 9)
 at-most-nine a b c d y p q r s is low =
     let same = bytes-of-word (a + 118) (b + 118) (c + 118) (d + 118) y (omega (arith, p)) (omega (arith, q))
@@ -73,8 +74,8 @@ digits-value a b c d p q r s =
       omega (arith, first, second, third, fourth),
     )
 
--- Four bytes whose word, less that of four zeros, has low bytes, also with 118 more each, are digits, and their number is
--- read off it.
+-- Four bytes whose word, less that of four zeros, has low bytes, also with 118 more each, are digits, and their number
+-- is read off it.
 pub four-read : (bs : List ℕ) (w x y : ℕ) → length bs ≡ 4 → ((i : ℕ) → get_or bs i 0 < 256) → w ≡ from_le_bytes w32 bs
     → w < 2 ^ 32 → x ≡ (w + (2 ^ 32 - 808464432)) % 2 ^ 32 → y ≡ (x + 1987475062) % 2 ^ 32
     → HasLowBytes x → HasLowBytes y

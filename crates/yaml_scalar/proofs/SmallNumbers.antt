@@ -12,7 +12,8 @@ use Rattle.std.proofs.lemmas.Bool.Decides.{Decides-ltb}
 use Rattle.std.proofs.lemmas.List.{length-take-le, take-append-drop}
 use Rattle.std.proofs.lemmas.Fmt.{IsAscii-from_digits}
 use Rattle.std.proofs.lemmas.Str.{digit_value_digit, IsUtf8-from_ascii}
-use Rattle.std.proofs.Math.Nat.{pow-succ', pow-le-pow_right, mul-le-mul_left, mul-le-mul_right, le-mul_of_pos_right, one-le-pow}
+use Rattle.std.proofs.Math.Nat.{pow-succ', pow-le-pow_right, mul-le-mul_left, mul-le-mul_right, le-mul_of_pos_right}
+use Rattle.std.proofs.Math.Nat.{one-le-pow}
 use Rattle.yaml_meaning.specs.ScalarShapes.{utf8_text}
 use Rattle.yaml_scalar.proofs.TextLaws.{bytes-there}
 use Rattle.yaml_base.specs.Integers.{decimal, has_zero_in_front, number_in_base, place_value}
@@ -65,7 +66,8 @@ read-byte n c cs ds digit r =
     rw value at (read-digit n c cs ds (omega (arith, value, digit)) r)
 
 -- several are
-read-digits : (n : ℕ) (some cs ds : List ℕ) → AllDigits 10 some → IsRead n (some ++ cs) ds → IsRead (behind n some) cs ds
+read-digits : (n : ℕ) (some cs ds : List ℕ) → AllDigits 10 some → IsRead n (some ++ cs) ds
+    → IsRead (behind n some) cs ds
 read-digits n [] cs ds all r = rw behind-none r
 read-digits n (c ∷ some) cs ds all r =
     rw behind-digit (read-digits (n * 10 + digit_value c) some cs ds all.1 (read-digit n c (some ++ cs) ds all.0 r))

@@ -30,7 +30,8 @@ pub text-unshown : (s : PlainScalar) (part : List ℕ) → part ≡ s.text → (
 text-unshown s part same bad = sym (bytes-missing s.text (λ utf8. bad (subst IsUtf8 (sym same) utf8)))
 
 -- what the source shows is lent, where it is UTF-8
-pub lent-shown : (s : PlainScalar) (fault : ReadFault) (part text : List ℕ) (d : PlainData) → part ≡ s.text → text ≡ part
+pub lent-shown : (s : PlainScalar) (fault : ReadFault) (part text : List ℕ) (d : PlainData) → part ≡ s.text
+    → text ≡ part
     → IsUtf8 part → is_borrowable s.text s.source s.style ≡ true → d ≡ text_data true text
     → option_map_or (λ t. Ok (lent_text s t)) (text_of s) (Err fault) ≡ Ok d
 lent-shown s fault part text d same is utf8 shown seen =

@@ -61,8 +61,8 @@ impl Finding {
     }
 }
 
-/// Reading stopped: the text is wrong, and whoever reads keeps what was found; or else memory ran out. It says no more, so
-/// that a result with a `Stop` is small.
+/// Reading stopped: the text is wrong, and whoever reads keeps what was found; or else memory ran out. It says no more,
+/// so that a result with a `Stop` is small.
 #[derive(Clone, Copy, PartialEq, Eq)]
 pub struct Stop;
 

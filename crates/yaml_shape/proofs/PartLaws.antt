@@ -1,5 +1,6 @@
 -- Tables joined in a row, part by part.
-use Rattle.std.proofs.Common.{◌≡◌, ◌<◌, ◌≤◌, ◌+◌, ℕ, suc, List, [], ◌∷◌, ◌++◌, map, length, refl, sym, ◌∙◌, ap, subst, All}
+use Rattle.std.proofs.Common.{◌≡◌, ◌<◌, ◌≤◌, ◌+◌, ℕ, suc, List, [], ◌∷◌, ◌++◌, map, length, refl, sym, ◌∙◌, ap, subst}
+use Rattle.std.proofs.Common.{All}
 use Rattle.std.proofs.Common.{arith, append_assoc, append-nil, length-append, string_bytes}
 use Rattle.std.specs.Prelude.{String}
 use Rattle.std.specs.List.{zip}
@@ -27,7 +28,8 @@ pub record AreJoined (first : List PlainShape) (parts : Parts) (table : List Pla
       ≡ starts_behind (length first) (parts_of parts)
   pub within : All StartsWithin (parts_of rest)
 
-pub length-joined_tables : (first second : List PlainShape) → length (joined_tables first second) ≡ length first + length second
+pub length-joined_tables : (first second : List PlainShape)
+    → length (joined_tables first second) ≡ length first + length second
 length-joined_tables first second = length-append first (map (raised (length first)) second)
     ∙ ap (λ n. length first + n) (length-map second (raised (length first)))
 
@@ -50,7 +52,8 @@ one_joined first parts table next starts more schema start place rest made pushe
 -- a join is no shorter than its first table
 longer : (first : List PlainShape) (parts : List (List PlainShape × ℕ)) → length first ≤ length (joined_all first parts)
 longer first [] = omega arith
-longer first (part ∷ parts) = omega (arith, longer (joined_tables first part.0) parts, length-joined_tables first part.0)
+longer first (part ∷ parts) =
+    omega (arith, longer (joined_tables first part.0) parts, length-joined_tables first part.0)
 
 -- each start is in the join
 pub starts_inside : (first : List PlainShape) (parts : List (List PlainShape × ℕ)) → All StartsWithin parts

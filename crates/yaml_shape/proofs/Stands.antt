@@ -61,7 +61,8 @@ stands_first part back id within
     ∙ (at_left part back id within ∙ sym (option_zero (shape_at part id)))
 
 -- what stands in a table stands in a longer one
-stands_longer : (by : ℕ) (part whole back : List PlainShape) → IsRaisedIn by part whole → IsRaisedIn by part (whole ++ back)
+stands_longer : (by : ℕ) (part whole back : List PlainShape) → IsRaisedIn by part whole
+    → IsRaisedIn by part (whole ++ back)
 stands_longer by part whole back stands id within = at_left whole back (by + id) inside ∙ stands id within
   where
     some : (o : Option PlainShape) → (s : PlainShape) → o ≡ Some s → option_map (raised by) o ≡ Some (raised by s)

@@ -13,7 +13,8 @@ IsRaisedIn by part whole =
 
 -- data is of a shape of the part just where it is of the shape so much later in the whole
 abbrev pub KeepsShapes : ℕ → List PlainShape → List PlainShape → Type 0
-KeepsShapes by part whole = (id : ℕ) → (d : PlainData) → id < length part → has_shape whole (by + id) d ≡ has_shape part id d
+KeepsShapes by part whole = (id : ℕ) → (d : PlainData) → id < length part
+    → has_shape whole (by + id) d ≡ has_shape part id d
 
 -- so it is for each part, the first so much later, and the others behind it in a row
 abbrev pub KeepsAllShapes : ℕ → List (List PlainShape × ℕ) → List PlainShape → Type 0

@@ -120,7 +120,8 @@ sought-next size (suc i) k es d some chained is here sought =
       omega (arith, last_before-le chain i c),
     )
 
-place_of_key-none_by : (b : Bool) (k : Tree) (e : Entry) (es : List Entry) → b ≡ false → place_of_key k (entry_pairs es) ≡ None
+place_of_key-none_by : (b : Bool) (k : Tree) (e : Entry) (es : List Entry) → b ≡ false
+    → place_of_key k (entry_pairs es) ≡ None
     → (if b then Some 0 else option_map suc (place_of_key k (entry_pairs es))) ≡ None
 place_of_key-none_by true k e es n h = absurd (true≢false n)
 place_of_key-none_by false k e es n h = ap (option_map suc) h

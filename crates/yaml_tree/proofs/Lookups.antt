@@ -117,7 +117,8 @@ place_by false k e es i d is n lt q ih = ap (option_map suc) ih
 pub place_of_key-guess : (k : Tree) (es : List Entry) (i : ℕ) (d : Entry) → keys_distinct (entry_pairs es) ≡ true
     → i < length es → tree_eq k (tree_of (get_or es i d).key) ≡ true → place_of_key k (entry_pairs es) ≡ Some i
 place_of_key-guess k [] i d h lt q = absurd (omega (arith, lt))
-place_of_key-guess k (e ∷ es) zero d h lt q = ap (λ b. if b then Some 0 else option_map suc (place_of_key k (entry_pairs es))) q
+place_of_key-guess k (e ∷ es) zero d h lt q =
+    ap (λ b. if b then Some 0 else option_map suc (place_of_key k (entry_pairs es))) q
 place_of_key-guess k (e ∷ es) (suc i) d h lt q =
     let l = tree_of e.key in let w = tree_of e.value in
     place_by (tree_eq k l) k e es i d refl (first_key l w (entry_pairs es) h) (omega (arith, lt)) q

@@ -24,7 +24,8 @@ use Rattle.yaml_types.specs.Start.{Start, IsClosed}
 use Rattle.yaml_types.specs.StructLaws.{distinct_names, length-row}
 use Rattle.yaml_types.specs.Rows.{total, all_distinct}
 use Rattle.yaml_types.specs.Choices.{Content, no_content, one_content, tuple_content, struct_content, types_in}
-use Rattle.yaml_types.specs.Choices.{width_of, all_types, content_behind, VariantNames, variants_behind, enum_start, all_apart}
+use Rattle.yaml_types.specs.Choices.{width_of, all_types, content_behind, VariantNames, variants_behind, enum_start}
+use Rattle.yaml_types.specs.Choices.{all_apart}
 use Rattle.yaml_types.specs.Choices.{variant_names, IsContent, AreVariants, choice_matches}
 use Rattle.yaml_types.specs.ChoiceLaws.{total-append, names_variants, enum_has, first_of, others_of}
 use Rattle.yaml_types.proofs.StructFound.{Part, one_refused}

@@ -185,7 +185,8 @@ module _ {K V : Type 0} {k v : Start} {cmp : K → K → Ordering} {built : Plai
   -- where those in front were put in, then the last, and then the pairs behind, all were
   pub put_behind : {left : List Entry} {behind : List (K × V)} (front : List Entry) (e : Entry) (p : K × V)
       (first : List (K × V)) {with all : List (K × V)} → left ≡ front ++ e ∷ []
-      → BuiltBoth built built' (entry_of e) p → BuiltEntries cmp built built' (entries_view front) [] first → with ≡ insert_entry cmp first p.0 p.1
+      → BuiltBoth built built' (entry_of e) p → BuiltEntries cmp built built' (entries_view front) [] first
+      → with ≡ insert_entry cmp first p.0 p.1
       → all ≡ inserted_pairs cmp with behind → IsFront k v cmp built built' refused refused' whole left behind
       → BuiltEntries cmp built built' (entries_view whole) [] all
   put_behind {left} {behind} front e p first next b made put others h =

@@ -255,4 +255,5 @@ pub both_refused : {X : Type 0} (key value : Result EmitNode Cause) (old mid : L
     → IfErr r (IsFaultOf value second)
     → IfErr r (IsFaultOf (joined pair_node key value) (λ m. first m ⊎ second m))
 both_refused key value old mid first second (Ok x) k v = tt
-both_refused key value old mid first second (Err cause) k v = λ m. value_fault key value old mid first second cause k (v m)
+both_refused key value old mid first second (Err cause) k v =
+    λ m. value_fault key value old mid first second cause k (v m)

@@ -156,7 +156,8 @@ module _ {T : Type 0} {s : Start} {cmp : T → T → Ordering} {built : PlainDat
 
   -- where those in front were put in, then the last, and then the elements behind, all were
   pub put_behind : {left : List Data} {behind : List T} (front : List Data) (d : Data) (x : T)
-      {first with all : List T} → left ≡ front ++ d ∷ [] → built (data_of d) x → BuiltMembers cmp built (items_view front) first
+      {first with all : List T} → left ≡ front ++ d ∷ [] → built (data_of d) x
+      → BuiltMembers cmp built (items_view front) first
       → with ≡ insert_key cmp first x → all ≡ inserted_all cmp with behind
       → IsFront s cmp built refused whole left behind → BuiltMembers cmp built (items_view whole) all
   put_behind {left} {behind} front d x {first} next b made put others h =

@@ -54,7 +54,8 @@ seq_has s c ds =
     ∙ elements_have s c ds
 
 -- elements, each of its own shape
-pub parts_have : (by : ℕ) (parts : List Start) (whole : List PlainShape) → All StartsWithin parts → KeepsAllShapes by parts whole
+pub parts_have : (by : ℕ) (parts : List Start) (whole : List PlainShape) → All StartsWithin parts
+    → KeepsAllShapes by parts whole
     → (ds : PlainItems) → each_has whole (starts_behind by parts) ds ≡ items_match parts ds
 parts_have by [] whole w k no_items = refl
 parts_have by [] whole w k (item d ds) = refl

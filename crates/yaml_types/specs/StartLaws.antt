@@ -65,7 +65,8 @@ raised_names by size shape within =
 
 -- the join of closed tables
 pub closed_joined : (first second : List PlainShape) → AllNameWithin (length first) first
-    → AllNameWithin (length second) second → AllNameWithin (length (joined_tables first second)) (joined_tables first second)
+    → AllNameWithin (length second) second
+    → AllNameWithin (length (joined_tables first second)) (joined_tables first second)
 closed_joined first second a b =
     subst (λ n. AllNameWithin n (joined_tables first second)) (sym (length-joined_tables first second))
     (All-append (NamesWithin (length first + length second)) first (map (raised (length first)) second)
@@ -86,7 +87,8 @@ closed_map k v a b =
     (one_name (length k.0 + v.1) (length (joined_tables k.0 v.0)) (omega arith)))
 
 -- tables in a row
-pub closed_all : (first : List PlainShape) (parts : List Start) → AllNameWithin (length first) first → All IsClosed parts
+pub closed_all : (first : List PlainShape) (parts : List Start) → AllNameWithin (length first) first
+    → All IsClosed parts
     → AllNameWithin (length (joined_all first parts)) (joined_all first parts)
 closed_all first [] a c = a
 closed_all first (p ∷ ps) a c =

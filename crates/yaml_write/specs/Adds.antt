@@ -26,7 +26,8 @@ AddsOrStays view given old new (Err cause) = Fails cause given × (new ≡ old)
 
 -- The call left what is given, placed into what was there. Else it answers the cause that is given, or want of
 -- memory, and all is as it was.
-abbrev pub WritesOrStays : {A B : Type 0} → (B → Writing) → Result B Cause → (old new : Writing) → Result A Cause → Type 0
+abbrev pub WritesOrStays : {A B : Type 0} → (B → Writing) → Result B Cause → (old new : Writing) → Result A Cause
+    → Type 0
 WritesOrStays placed given old new (Ok a) = made placed given ≡ Ok new
 WritesOrStays placed given old new (Err cause) = Fails cause given × (new ≡ old)
 

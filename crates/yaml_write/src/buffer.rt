@@ -5,7 +5,8 @@ ghost use Rattle.std.specs.Prelude.{IfErr, OnErr, OnOk};
 ghost use Rattle.std.specs.Char.{encode_utf8};
 ghost use Rattle.yaml_base.specs.EmitEvents.{emit_of, tag_bytes, emit_sequence_start, emit_sequence_end};
 ghost use Rattle.yaml_base.specs.EmitEvents.{emit_mapping_start, emit_mapping_end};
-ghost use Rattle.yaml_base.specs.EmitEvents.{emit_stream_start, emit_stream_end, emit_document_start, emit_document_end};
+ghost use Rattle.yaml_base.specs.EmitEvents.{emit_stream_start, emit_stream_end, emit_document_start};
+ghost use Rattle.yaml_base.specs.EmitEvents.{emit_document_end};
 ghost use Rattle.yaml_base.specs.EmitTree.{emit_node_events, emit_scalar_node};
 ghost use Rattle.yaml_base.specs.declared.error.Cause.TheVariants.{Memory};
 ghost use Rattle.yaml_shape.specs.DataView.{data_of};
@@ -29,8 +30,8 @@ use yaml_tree::Value;
 
 /// Events in order, and the allocator of all that is made for them. Contracts see it as its list of plain events.
 ///
-/// A type writes its values here, one node behind another. Each call adds what it says behind the events that are there;
-/// where it is refused, those are kept, perhaps with others behind them.
+/// A type writes its values here, one node behind another. Each call adds what it says behind the events that are
+/// there; where it is refused, those are kept, perhaps with others behind them.
 #[derive(Drop)]
 pub struct EventBuffer {
     events: Vec<EmitEvent>,

@@ -2,7 +2,8 @@
 
 ghost use Rattle.std.specs.Prelude.{Some, string_bytes};
 ghost use Rattle.std.specs.Option.{option_map};
-ghost use Rattle.yaml_base.specs.ParserFaultText.{context_debug_part, context_part, fault_debug_text, parser_fault_text};
+ghost use Rattle.yaml_base.specs.ParserFaultText.{context_debug_part, context_part, fault_debug_text};
+ghost use Rattle.yaml_base.specs.ParserFaultText.{parser_fault_text};
 ghost use Rattle.yaml_base.specs.ParserFaultText.{kind_debug_part, problem_debug_part, problem_part};
 
 use crate::fault::{FaultKind, ParserFault};

@@ -13,8 +13,8 @@ abbrev pub is_over : Bool → List PlainDocument → Bool
 is_over true [] = true
 is_over _ _ = false
 
--- With each of the pending documents that is handed out those so far are the first of the text, unless it is the last of
--- all, which may be cut off.
+-- With each of the pending documents that is handed out those so far are the first of the text, unless it is the last
+-- of all, which may be cut off.
 abbrev pub ComeNext : List ℕ → Bool → List PlainDocument → List PlainDocument → Type 0
 ComeNext text ended handed [] = Unit {0}
 ComeNext text ended handed (d ∷ pending) =

@@ -33,8 +33,8 @@ IsBehind text (Reading events last) documents = AreLoaded text events last docum
 IsBehind text Ended documents = AreDocumentsOf text documents
 IsBehind text Failed documents = Unit {0}
 
--- Those that were handed out and those that are pending are all that were loaded, and each pending one comes next to the
--- first of the text. Where memory was wanting none is pending.
+-- Those that were handed out and those that are pending are all that were loaded, and each pending one comes next to
+-- the first of the text. Where memory was wanting none is pending.
 pub record IsAt (text : List ℕ) (stage : Stage) (pending handed : List PlainDocument) : Type 0 where
   pub behind : IsBehind text stage (handed ++ pending)
   pub next : ComeNext text (has_ended stage) handed pending

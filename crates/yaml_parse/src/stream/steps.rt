@@ -111,8 +111,8 @@ impl<'a> Stream<'a> {
         self.events.into_waiting()
     }
 
-    // The mark at which an event begins that is said to begin here, with the line and the column that the text has there,
-    // if it may: within the text, and not before the last one.
+    // The mark at which an event begins that is said to begin here, with the line and the column that the text has
+    // there, if it may: within the text, and not before the last one.
     #[inline(always)]
     fn reach(&mut self, said: Mark) -> Result<Mark, Stop>
         ensures kept { Keeps self.old self.new }

@@ -128,8 +128,8 @@ impl Cursor<'_> {
         Ok(())
     }
 
-    // Copies bytes up to the first that ends such a run, or else the character that it is of, and tells whether there was
-    // anything. Blanks stay if a line may end behind them.
+    // Copies bytes up to the first that ends such a run, or else the character that it is of, and tells whether there
+    // was anything. Blanks stay if a line may end behind them.
     pub(crate) fn read_quoted(&mut self, run: Run, out: &mut Vec<u8>) -> Result<bool, AllocError> {
         let rest = &self.text[self.at..];
         let part = run.part_of(rest);

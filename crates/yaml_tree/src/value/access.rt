@@ -25,9 +25,9 @@ impl Value {
         }
     }
 
-    /// The value at a key of a mapping, which is a `&Value`, or a `&str` or `&String` for the string of that text; or at
-    /// a place of a sequence, counted from 0, which in a mapping is the key of that number. `None` where there is none,
-    /// and where the value is of another kind. Takes no memory.
+    /// The value at a key of a mapping, which is a `&Value`, or a `&str` or `&String` for the string of that text; or
+    /// at a place of a sequence, counted from 0, which in a mapping is the key of that number. `None` where there is
+    /// none, and where the value is of another kind. Takes no memory.
     pub fn get<I: Index>(&self, index: I) -> Option<&Value>
     where
         I: Drop,

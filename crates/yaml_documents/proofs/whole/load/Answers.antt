@@ -26,7 +26,8 @@ returns-in-Ok-clause-documents c =
     record {
       events = given;
       fault = fault;
-      parsed = parsed_of (c.in_ok-has_next.ensures.text ∙ c.events.invariant.0) (ended.taken over) known.sources known.plain
+      parsed =
+          parsed_of (c.in_ok-has_next.ensures.text ∙ c.events.invariant.0) (ended.taken over) known.sources known.plain
           known.marks known.places ended.allowed ended.none ended.refused;
       holds = c.from.ensures ∙ c.in-Ok.ensures.documents
           ∙ ap (λ es. documents_of es fault) (c.events.invariant.1 ∙ ap plain_marked (sym all));

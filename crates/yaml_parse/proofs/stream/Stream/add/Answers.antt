@@ -5,7 +5,8 @@ use Rattle.yaml_base.specs.Position.{Position}
 use Rattle.yaml_base.specs.declared.event.Event.{Event}
 use Rattle.yaml_parse.specs.Frames.{state_of}
 use Rattle.yaml_parse.specs.Shown.{IsShown}
-use Rattle.yaml_parse.proofs.Streams.{goes_to, marks_to, moves_still, placed_to, reached_to, said_to, shown_there, shown_to}
+use Rattle.yaml_parse.proofs.Streams.{goes_to, marks_to, moves_still, placed_to, reached_to, said_to, shown_there}
+use Rattle.yaml_parse.proofs.Streams.{shown_to}
 use Rattle.yaml_parse.proofs.stream.Stream.add.Goals as goal
 
 pub invariant_of-self-2 : goal.invariant_of-self-2

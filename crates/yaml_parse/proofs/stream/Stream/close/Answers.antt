@@ -7,7 +7,8 @@ use Rattle.yaml_base.specs.declared.event.Event.{Event}
 use Rattle.yaml_parse.specs.declared.frame.Frame.{Frame}
 use Rattle.yaml_parse.specs.Frames.{opens, state_of}
 use Rattle.yaml_parse.specs.Shown.{IsShown}
-use Rattle.yaml_parse.proofs.Streams.{goes_to, marks_to, moves_still, placed_to, reached_to, said_to, shown_there, shown_to, left_none, left_open}
+use Rattle.yaml_parse.proofs.Streams.{goes_to, marks_to, moves_still, placed_to, reached_to, said_to, shown_there}
+use Rattle.yaml_parse.proofs.Streams.{shown_to, left_none, left_open}
 use Rattle.yaml_parse.proofs.stream.Stream.close.Goals as goal
 
 pub invariant_of-self-in-Some : goal.invariant_of-self-in-Some

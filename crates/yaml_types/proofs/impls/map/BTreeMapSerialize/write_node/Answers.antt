@@ -9,7 +9,8 @@ use Rattle.yaml_types.proofs.impls.map.BTreeMapSerialize.write_node.Goals as goa
 pub returns-clause-put : goal.returns-clause-put
 returns-clause-put g c =
     let shape = shape_at c.args.schema.now c.args.id.0 in
-    let keys : c.key_shape.result.0 ≡ key_shape shape = c.key_shape.ensures ∙ ap key_shape c.shape-shape.ensures.found in
+    let keys : c.key_shape.result.0 ≡ key_shape shape = c.key_shape.ensures
+    ∙ ap key_shape c.shape-shape.ensures.found in
     let values : c.value_shape.result.0 ≡ value_shape shape =
     c.value_shape.ensures ∙ ap value_shape c.shape-shape.ensures.found in
     mapping_put c.args.schema.now c.key_shape.result.0 (key_shape shape) c.value_shape.result.0 (value_shape shape)
