@@ -45,7 +45,7 @@ fn schema_of(alloc: Global, shapes: Vec<Shape>) -> Result<Schema, SchemaFault> {
 // How a call ended that was refused.
 fn refused(fault: SchemaFault) -> Outcome {
     match fault {
-        SchemaFault::S5 => Outcome::Refused,
+        SchemaFault::Memory => Outcome::Refused,
         _ => Outcome::Wrong("another fault"),
     }
 }

@@ -88,7 +88,7 @@ impl Serialize for Color {
         match Schema::new(alloc, shapes(alloc)?) {
             Ok(schema) => Ok((schema, ShapeId(1))),
             // the table is valid, so that only memory can have run out
-            Err(_) => Err(SchemaFault::S5),
+            Err(_) => Err(SchemaFault::Memory),
         }
     }
 

@@ -18,7 +18,7 @@ struct Wide;
 fn too_long() -> SchemaFault
     ensures { IsTooLarge (length wide_table) result }
 {
-    SchemaFault::S4
+    SchemaFault::TooManyShapes
 }
 
 impl<'de> Deserialize<'de> for Wide {

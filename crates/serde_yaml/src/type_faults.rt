@@ -15,7 +15,7 @@ pub(crate) fn schema_refusal(alloc: Global, fault: SchemaFault) -> Error
     ensures { (size : ℕ) → IsTooLarge size fault → is_memory result ≡ false → (4096 < size) × (result ≡ no_schema) }
 {
     match fault {
-        SchemaFault::S5 => Error::new(Cause::Memory),
+        SchemaFault::Memory => Error::new(Cause::Memory),
         fault => match fault.to_string(alloc) {
             Ok(text) => Error::custom(text),
             Err(refused) => refused.into(),

@@ -34,7 +34,7 @@ pub fn events_with_source<'de>(
 pub fn schema_of(alloc: Global, shapes: Vec<Shape>) -> Result<Schema, Fail> {
     match Schema::new(alloc, shapes) {
         Ok(schema) => Ok(schema),
-        Err(SchemaFault::S5) => Err("no memory for a schema")?,
+        Err(SchemaFault::Memory) => Err("no memory for a schema")?,
         Err(_) => Err("no schema")?,
     }
 }

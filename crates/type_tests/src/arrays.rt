@@ -114,6 +114,6 @@ fn the_table_has_that_of_the_type_for_each_element(rt: HostRuntime) -> Result<()
         _ => return Err(Fail::from("no tuple")),
     }
     assert!(rt; schema::<[u8; 4095]>(rt.alloc()).is_ok());
-    assert!(rt; matches!(schema::<[u8; 4096]>(rt.alloc()), Err(SchemaFault::S4)));
+    assert!(rt; matches!(schema::<[u8; 4096]>(rt.alloc()), Err(SchemaFault::TooManyShapes)));
     Ok(())
 }

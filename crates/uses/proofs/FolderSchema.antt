@@ -5,7 +5,7 @@ use Rattle.yaml_shape.specs.Validity.{NamesWithin, HasDistinctNames, AreDistinct
 use Rattle.yaml_shape.specs.SchemaRefusal.{IsRefused, IsFirstWithout}
 use Rattle.yaml_shape.specs.Join.{IsTooLarge}
 use Rattle.yaml_shape.specs.declared.fault.SchemaFault.{SchemaFault}
-use Rattle.yaml_shape.specs.declared.fault.SchemaFault.TheVariants.{S1, S2, S3, S4, S5}
+use Rattle.yaml_shape.specs.declared.fault.SchemaFault.TheVariants.{OutsideTable, OptionCycle, NameTwice, TooManyShapes, Memory}
 use Rattle.std.proofs.lemmas.List.Elements.{All-nil, All-cons}
 use Rattle.uses.specs.Folders.{folder_start}
 
@@ -44,8 +44,8 @@ no_cycle id (suc n) some w =
 
 -- why the table of folders is refused
 pub folder_refused : (fault : SchemaFault) → IsRefused folder_start.0 fault → IsTooLarge 3 fault
-folder_refused (S1 number) r = absurd (within_table number r.1)
-folder_refused (S2 number) r = absurd (no_cycle number r.first.cycle.0 r.first.cycle.1 r.first.cycle.2)
-folder_refused (S3 number) r = absurd (named_once number r.first)
-folder_refused S4 r = r
-folder_refused S5 r = tt
+folder_refused (OutsideTable number) r = absurd (within_table number r.1)
+folder_refused (OptionCycle number) r = absurd (no_cycle number r.first.cycle.0 r.first.cycle.1 r.first.cycle.2)
+folder_refused (NameTwice number) r = absurd (named_once number r.first)
+folder_refused TooManyShapes r = r
+folder_refused Memory r = tt

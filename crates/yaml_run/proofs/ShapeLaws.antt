@@ -15,7 +15,7 @@ use Rattle.yaml_shape.specs.SchemaRefusal.{IsRefused}
 use Rattle.yaml_shape.specs.Validity.{NamesWithin, AllNameWithin, AreDistinct, IsDistinctInside, HasDistinctNames}
 use Rattle.yaml_shape.specs.Validity.{named, step_from, walk}
 use Rattle.yaml_shape.specs.declared.fault.SchemaFault.{SchemaFault}
-use Rattle.yaml_shape.specs.declared.fault.SchemaFault.TheVariants.{S1, S2, S3, S4, S5}
+use Rattle.yaml_shape.specs.declared.fault.SchemaFault.TheVariants.{OutsideTable, OptionCycle, NameTwice, TooManyShapes, Memory}
 use Rattle.yaml_run.specs.Shapes.{table_of, shape_of_basic, shape_of_outer, shape_of_inner}
 use Rattle.yaml_run.specs.declared.shapes.Named.{Named}
 use Rattle.yaml_run.specs.declared.shapes.Named.TheVariants as shape
@@ -191,11 +191,11 @@ not_without P (s ∷ shapes) (suc number) all h w =
     not_without P shapes number (λ k d lt. all (suc k) d (omega arith)) (omega arith) w
 
 -- a named shape's table is refused for want of memory alone
-pub only_memory : (n : Named) (fault : SchemaFault) → IsRefused (table_of n) fault → fault ≡ S5
-only_memory n S4 r = absurd (omega (arith, few n))
-only_memory n (S1 number) r = absurd (not_without _ (table_of n) number (closed n) r.1.within r.1.without)
-only_memory n (S3 number) r = absurd (not_without _ (table_of n) number (distinct n) r.first.within r.first.without)
-only_memory n (S2 number) r =
+pub only_memory : (n : Named) (fault : SchemaFault) → IsRefused (table_of n) fault → fault ≡ Memory
+only_memory n TooManyShapes r = absurd (omega (arith, few n))
+only_memory n (OutsideTable number) r = absurd (not_without _ (table_of n) number (closed n) r.1.within r.1.without)
+only_memory n (NameTwice number) r = absurd (not_without _ (table_of n) number (distinct n) r.first.within r.first.without)
+only_memory n (OptionCycle number) r =
     let c = r.first.cycle in
     absurd (no_cycle (table_of n) number (step_from (table_of n) number) refl (ends n number) c.0 c.1 c.2)
-only_memory n S5 r = refl
+only_memory n Memory r = refl

@@ -2,7 +2,7 @@
 
 ghost use Rattle.std.specs.Prelude.{◌≡◌, ◌<◌, length, map, true, false, IfOk, IfErr, MatchOption};
 ghost use Rattle.yaml_shape.specs.ShapeView.{shape_of, field_of, fields_of, variant_of, content_of};
-ghost use Rattle.yaml_shape.specs.declared.fault.SchemaFault.TheVariants.{S5};
+ghost use Rattle.yaml_shape.specs.declared.fault.SchemaFault.TheVariants.{Memory};
 ghost use Rattle.yaml_run.specs.Shapes.{name_of, IsNoName, table_of};
 ghost use Rattle.yaml_run.specs.Shapes.{fields_of_basic, shape_of_basic, shape_of_outer, shape_of_inner};
 
@@ -169,11 +169,11 @@ impl Named {
     pub fn schema(self, alloc: Global) -> Result<Schema, SchemaFault>
         ensures ok { IfOk result (λ schema. schema ≡ table_of self) }
         ensures some { IfOk result (λ schema. 0 < length schema) }
-        ensures memory { IfErr result (λ fault. fault ≡ S5) }
+        ensures memory { IfErr result (λ fault. fault ≡ Memory) }
     {
         match self.shapes(alloc) {
             Ok(shapes) => Schema::new(alloc, shapes),
-            Err(_) => Err(SchemaFault::S5),
+            Err(_) => Err(SchemaFault::Memory),
         }
     }
 }

@@ -14,7 +14,7 @@ use Rattle.yaml_shape.specs.Join.{raised, joined_tables, joined_all, starts_behi
 use Rattle.yaml_shape.specs.Join.{IsTooLarge}
 use Rattle.yaml_shape.specs.declared.shape.ShapeId.{ShapeId}
 use Rattle.yaml_shape.specs.declared.fault.SchemaFault.{SchemaFault}
-use Rattle.yaml_shape.specs.declared.fault.SchemaFault.TheVariants.{S1, S2, S3, S4, S5}
+use Rattle.yaml_shape.specs.declared.fault.SchemaFault.TheVariants.{OutsideTable, OptionCycle, NameTwice, TooManyShapes, Memory}
 
 -- tables with their starts
 abbrev pub Parts : Type 0
@@ -69,11 +69,11 @@ starts_inside first (part ∷ parts) within =
     (starts_inside (joined_tables first part.0) parts (All-tail StartsWithin part parts within)))
 
 pub larger : (fault : SchemaFault) (size more : ℕ) → size ≤ more → IsTooLarge size fault → IsTooLarge more fault
-larger (S1 n) size more le h = h
-larger (S2 n) size more le h = h
-larger (S3 n) size more le h = h
-larger S4 size more le h = omega arith
-larger S5 size more le h = tt
+larger (OutsideTable n) size more le h = h
+larger (OptionCycle n) size more le h = h
+larger (NameTwice n) size more le h = h
+larger TooManyShapes size more le h = omega arith
+larger Memory size more le h = tt
 
 -- where one join is too large, the whole is
 pub too_large : (fault : SchemaFault) (first : List PlainShape) (parts : Parts) (table : List PlainShape)

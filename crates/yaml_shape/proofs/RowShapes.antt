@@ -12,7 +12,7 @@ use Rattle.yaml_shape.specs.Join.{IsNotAdded}
 use Rattle.yaml_shape.specs.Kept.{KeepsShapes, KeepsAllShapes}
 use Rattle.yaml_shape.specs.declared.shape.ShapeId.{ShapeId}
 use Rattle.yaml_shape.specs.declared.fault.SchemaFault.{SchemaFault}
-use Rattle.yaml_shape.specs.declared.fault.SchemaFault.TheVariants.{S1, S2, S3, S4, S5}
+use Rattle.yaml_shape.specs.declared.fault.SchemaFault.TheVariants.{OutsideTable, OptionCycle, NameTwice, TooManyShapes, Memory}
 use Rattle.yaml_shape.proofs.PartLaws.{Parts, starts_inside, length-starts}
 use Rattle.yaml_shape.proofs.Stands.{keeps_first, begins, keeps_all}
 
@@ -86,8 +86,8 @@ joined_keeps parts table shape made closed =
 -- where there is no room for a table, there is none for a shape behind it
 pub not_added : (size : ℕ) (shape : PlainShape) (fault : SchemaFault) → IsTooLarge size fault
     → IsNotAdded size shape fault
-not_added size shape (S1 n) h = h
-not_added size shape (S2 n) h = h
-not_added size shape (S3 n) h = absurd h
-not_added size shape S4 h = omega arith
-not_added size shape S5 h = tt
+not_added size shape (OutsideTable n) h = h
+not_added size shape (OptionCycle n) h = h
+not_added size shape (NameTwice n) h = absurd h
+not_added size shape TooManyShapes h = omega arith
+not_added size shape Memory h = tt

@@ -10,7 +10,7 @@ use Rattle.yaml_shape.specs.ShapeView.{ids_of}
 use Rattle.yaml_shape.specs.Validity.{HasDistinctNames}
 use Rattle.yaml_shape.specs.declared.shape.ShapeId.{ShapeId}
 use Rattle.yaml_shape.specs.declared.fault.SchemaFault.{SchemaFault}
-use Rattle.yaml_shape.specs.declared.fault.SchemaFault.TheVariants.{S1, S2, S3, S4, S5}
+use Rattle.yaml_shape.specs.declared.fault.SchemaFault.TheVariants.{OutsideTable, OptionCycle, NameTwice, TooManyShapes, Memory}
 
 -- numbers, each raised by so much
 abbrev pub raised_ids : ℕ → List ℕ → List ℕ
@@ -90,17 +90,17 @@ named_behind size names parts = zip names (starts_behind size parts)
 
 -- a join of so many shapes is refused: for being more than 4,096 shapes, or for want of memory
 abbrev pub IsTooLarge : ℕ → SchemaFault → Type 0
-IsTooLarge size (S1 number) = ⊥
-IsTooLarge size (S2 number) = ⊥
-IsTooLarge size (S3 number) = ⊥
-IsTooLarge size S4 = 4096 < size
-IsTooLarge size S5 = Unit {0}
+IsTooLarge size (OutsideTable number) = ⊥
+IsTooLarge size (OptionCycle number) = ⊥
+IsTooLarge size (NameTwice number) = ⊥
+IsTooLarge size TooManyShapes = 4096 < size
+IsTooLarge size Memory = Unit {0}
 
 -- A shape is not added behind so many: there is no room for it, or, where there is, it has a name twice and is told by
 -- its number; or memory runs out.
 abbrev pub IsNotAdded : ℕ → PlainShape → SchemaFault → Type 0
-IsNotAdded size shape (S1 number) = ⊥
-IsNotAdded size shape (S2 number) = ⊥
-IsNotAdded size shape (S3 number) = (size < 4096) × (number ≡ size) × (HasDistinctNames shape → ⊥)
-IsNotAdded size shape S4 = 4096 < size + 1
-IsNotAdded size shape S5 = Unit {0}
+IsNotAdded size shape (OutsideTable number) = ⊥
+IsNotAdded size shape (OptionCycle number) = ⊥
+IsNotAdded size shape (NameTwice number) = (size < 4096) × (number ≡ size) × (HasDistinctNames shape → ⊥)
+IsNotAdded size shape TooManyShapes = 4096 < size + 1
+IsNotAdded size shape Memory = Unit {0}

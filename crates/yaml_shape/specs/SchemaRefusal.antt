@@ -3,7 +3,7 @@ use Rattle.std.specs.Prelude.{ℕ, ◌<◌, ◌≤◌, List, length, take, All, 
 use Rattle.yaml_shape.specs.PlainShape.{PlainShape, shape_at}
 use Rattle.yaml_shape.specs.Validity.{NamesWithin, AllNameWithin, HasDistinctNames, IsCycle}
 use Rattle.yaml_shape.specs.declared.fault.SchemaFault.{SchemaFault}
-use Rattle.yaml_shape.specs.declared.fault.SchemaFault.TheVariants.{S1, S2, S3, S4, S5}
+use Rattle.yaml_shape.specs.declared.fault.SchemaFault.TheVariants.{OutsideTable, OptionCycle, NameTwice, TooManyShapes, Memory}
 
 -- the shape with this number isn't so, and each before it is
 pub record IsFirstWithout (P : PlainShape → Type 0) (shapes : List PlainShape) (number : ℕ) : Type 0 where
@@ -37,10 +37,10 @@ pub record IsCyclic (shapes : List PlainShape) (number : ℕ) : Type 0 where
   pub distinct : All HasDistinctNames shapes
   pub first : IsFirstCycle shapes number
 
--- the fault is the first that the table has in the order S4, S1, S3, S2, or want of memory
+-- the fault is the first that the table has in the order TooManyShapes, OutsideTable, NameTwice, OptionCycle, or want of memory
 abbrev pub IsRefused : List PlainShape → SchemaFault → Type 0
-IsRefused shapes S4 = 4096 < length shapes
-IsRefused shapes (S1 number) = (length shapes ≤ 4096) × IsFirstOutside shapes number
-IsRefused shapes (S3 number) = IsRepeated shapes number
-IsRefused shapes (S2 number) = IsCyclic shapes number
-IsRefused shapes S5 = Unit {0}
+IsRefused shapes TooManyShapes = 4096 < length shapes
+IsRefused shapes (OutsideTable number) = (length shapes ≤ 4096) × IsFirstOutside shapes number
+IsRefused shapes (NameTwice number) = IsRepeated shapes number
+IsRefused shapes (OptionCycle number) = IsCyclic shapes number
+IsRefused shapes Memory = Unit {0}

@@ -8,18 +8,51 @@ use std::error::Error;
 use std::fmt;
 
 /// Why a table of shapes is no schema. A number is that of the least shape concerned.
-#[derive(Debug, Drop)]
+#[derive(Debug, Drop, PartialEq, Eq)]
 pub enum SchemaFault {
     /// A shape names a number outside the table.
-    S1(u32),
+    OutsideTable(u32),
     /// A walk through optionals alone leads from a shape back to it.
-    S2(u32),
+    OptionCycle(u32),
     /// A struct, an enum or a struct variant has a name twice.
-    S3(u32),
+    NameTwice(u32),
     /// There are more than 4,096 shapes.
-    S4,
+    TooManyShapes,
     /// Memory ran out.
-    S5,
+    Memory,
+}
+
+// The short names that these faults had before. `S1` to `S3` make a fault, and can't be matched.
+#[allow(non_snake_case)]
+impl SchemaFault {
+    ghost use Rattle.yaml_shape.specs.declared.fault.SchemaFault.TheVariants.{NameTwice, OptionCycle, OutsideTable};
+
+    /// There are more than 4,096 shapes.
+    pub const S4: SchemaFault = SchemaFault::TooManyShapes;
+
+    /// Memory ran out.
+    pub const S5: SchemaFault = SchemaFault::Memory;
+
+    /// A shape names a number outside the table.
+    pub fn S1(number: u32) -> SchemaFault
+        ensures { result ≡ OutsideTable number }
+    {
+        SchemaFault::OutsideTable(number)
+    }
+
+    /// A walk through optionals alone leads from a shape back to it.
+    pub fn S2(number: u32) -> SchemaFault
+        ensures { result ≡ OptionCycle number }
+    {
+        SchemaFault::OptionCycle(number)
+    }
+
+    /// A struct, an enum or a struct variant has a name twice.
+    pub fn S3(number: u32) -> SchemaFault
+        ensures { result ≡ NameTwice number }
+    {
+        SchemaFault::NameTwice(number)
+    }
 }
 
 impl fmt::Display for SchemaFault {
@@ -27,11 +60,11 @@ impl fmt::Display for SchemaFault {
 
     fn fmt<W: fmt::Write>(&self, f: &mut fmt::Formatter<W>) -> fmt::Result {
         match self {
-            SchemaFault::S1(number) => write!(f, "shape {number} names a shape outside the table"),
-            SchemaFault::S2(number) => write!(f, "shape {number} is a cycle of options"),
-            SchemaFault::S3(number) => write!(f, "shape {number} has a name twice"),
-            SchemaFault::S4 => f.write_str("more than 4096 shapes"),
-            SchemaFault::S5 => f.write_str("out of memory"),
+            SchemaFault::OutsideTable(number) => write!(f, "shape {number} names a shape outside the table"),
+            SchemaFault::OptionCycle(number) => write!(f, "shape {number} is a cycle of options"),
+            SchemaFault::NameTwice(number) => write!(f, "shape {number} has a name twice"),
+            SchemaFault::TooManyShapes => f.write_str("more than 4096 shapes"),
+            SchemaFault::Memory => f.write_str("out of memory"),
         }
     }
 }
@@ -39,21 +72,21 @@ impl fmt::Display for SchemaFault {
 impl Error for SchemaFault {}
 
 impl From<AllocError> for SchemaFault {
-    ghost use Rattle.yaml_shape.specs.declared.fault.SchemaFault.TheVariants.{S5};
+    ghost use Rattle.yaml_shape.specs.declared.fault.SchemaFault.TheVariants.{Memory};
 
-    ghost from_gives = { λ _ fault. fault ≡ S5 };
+    ghost from_gives = { λ _ fault. fault ≡ Memory };
 
     fn from(_: AllocError) -> SchemaFault {
-        SchemaFault::S5
+        SchemaFault::Memory
     }
 }
 
 impl<T: Drop> From<AllocFailed<T>> for SchemaFault {
-    ghost use Rattle.yaml_shape.specs.declared.fault.SchemaFault.TheVariants.{S5};
+    ghost use Rattle.yaml_shape.specs.declared.fault.SchemaFault.TheVariants.{Memory};
 
-    ghost from_gives = { λ _ fault. fault ≡ S5 };
+    ghost from_gives = { λ _ fault. fault ≡ Memory };
 
     fn from(_: AllocFailed<T>) -> SchemaFault {
-        SchemaFault::S5
+        SchemaFault::Memory
     }
 }

@@ -22,7 +22,7 @@ pub(crate) fn join(first: Schema, second: Schema) -> Result<Schema, SchemaFault>
     let mut shapes = first.shapes;
     let mut others = second.shapes;
     if shapes.len() + others.len() > SHAPES {
-        return Err(SchemaFault::S4);
+        return Err(SchemaFault::TooManyShapes);
     }
     raise_all(&mut others, shapes.len() as u32);
     shapes.append(&mut others)?;
@@ -40,14 +40,14 @@ pub(crate) fn add(schema: Schema, shape: Shape) -> Result<(Schema, ShapeId), Sch
     let mut shapes = schema.shapes;
     let start = shapes.len();
     if start >= SHAPES {
-        return Err(SchemaFault::S4);
+        return Err(SchemaFault::TooManyShapes);
     }
     shapes.push(shape)?;
     Ok((Schema { shapes }, ShapeId(start as u32)))
 }
 
-/// The table with one more shape behind it, which may have a name twice, and the number of that shape. Refused by `S4`
-/// where there is no room for it, else by `S3` with its number where it has a name twice, and by `S5`.
+/// The table with one more shape behind it, which may have a name twice, and the number of that shape. Refused by `TooManyShapes`
+/// where there is no room for it, else by `NameTwice` with its number where it has a name twice, and by `Memory`.
 pub(crate) fn add_named(
     alloc: Global,
     schema: Schema,
@@ -61,10 +61,10 @@ pub(crate) fn add_named(
 {
     let number = schema.shapes.len();
     if number >= SHAPES {
-        return Err(SchemaFault::S4);
+        return Err(SchemaFault::TooManyShapes);
     }
     if !has_distinct_names(alloc, &shape)? {
-        return Err(SchemaFault::S3(number as u32));
+        return Err(SchemaFault::NameTwice(number as u32));
     }
     match add(schema, shape) {
         Ok(added) => Ok(added),
@@ -73,8 +73,8 @@ pub(crate) fn add_named(
 }
 
 /// The schema with a struct of this name behind it around one content, which is of the shape with this number, and the
-/// number of the struct. `Schema::has` is the test of what is asked. Refused by `S4` where there is no room for it, and
-/// by `S5`.
+/// number of the struct. `Schema::has` is the test of what is asked. Refused by `TooManyShapes` where there is no room for it, and
+/// by `Memory`.
 pub fn newtype_of(
     _alloc: Global,
     name: String,
@@ -96,7 +96,7 @@ pub fn newtype_of(
 }
 
 /// The schema with a sequence behind it whose elements are of the shape with this number, and the number of the
-/// sequence. `Schema::has` is the test of what is asked. Refused by `S4` where there is no room for it, and by `S5`.
+/// sequence. `Schema::has` is the test of what is asked. Refused by `TooManyShapes` where there is no room for it, and by `Memory`.
 pub fn seq_of(
     _alloc: Global,
     schema: Schema,
@@ -111,7 +111,7 @@ pub fn seq_of(
 }
 
 /// The schema with an optional behind it whose content is of the shape with this number, and the number of the
-/// optional. `Schema::has` is the test of what is asked. Refused by `S4` where there is no room for it, and by `S5`.
+/// optional. `Schema::has` is the test of what is asked. Refused by `TooManyShapes` where there is no room for it, and by `Memory`.
 pub fn option_of(
     _alloc: Global,
     schema: Schema,
@@ -127,7 +127,7 @@ pub fn option_of(
 
 /// Both schemas in a row, the numbers in the second moved, with a mapping behind them from keys of the shape with
 /// this number in the first to values of that in the second; and the number of the mapping. `Schema::has` is the test
-/// of what is asked. Refused by `S4` where there are too many, and by `S5`.
+/// of what is asked. Refused by `TooManyShapes` where there are too many, and by `Memory`.
 pub fn map_of(
     _alloc: Global,
     keys: Schema,
@@ -149,9 +149,9 @@ pub fn map_of(
 }
 
 /// The schema with an enum of this name behind it, whose variants have these names and contents, and the number of the
-/// enum. `Schema::has` is the test of what is asked of each number that a content names. Refused by `S4` where there is
-/// no room for it, else by `S3` with the number of the enum where two variants have one name or a variant has one name
-/// for two fields, and by `S5`.
+/// enum. `Schema::has` is the test of what is asked of each number that a content names. Refused by `TooManyShapes` where there is
+/// no room for it, else by `NameTwice` with the number of the enum where two variants have one name or a variant has one name
+/// for two fields, and by `Memory`.
 pub fn enum_of(
     alloc: Global,
     name: String,

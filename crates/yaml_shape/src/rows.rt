@@ -41,7 +41,7 @@ fn join_row(
 }
 
 /// The schema with all others in a row behind it, the numbers in each moved, and the number that the shape of each has
-/// there. `Schema::has` is the test of what is asked of each. Refused by `S4` where there are too many, and by `S5`.
+/// there. `Schema::has` is the test of what is asked of each. Refused by `TooManyShapes` where there are too many, and by `Memory`.
 pub fn row_behind(
     alloc: Global,
     first: Schema,
@@ -82,7 +82,7 @@ pub fn with_names(
 
 /// All schemas in a row, the numbers in each moved, with a tuple behind them whose elements are of the shapes with
 /// these numbers; and the number of the tuple. Without any it is the empty tuple. `Schema::has` is the test of what is
-/// asked of each. Refused by `S4` where there are too many, and by `S5`.
+/// asked of each. Refused by `TooManyShapes` where there are too many, and by `Memory`.
 pub fn tuple_of(
     alloc: Global,
     parts: Vec<(Schema, ShapeId)>,
@@ -101,7 +101,7 @@ pub fn tuple_of(
 
 /// All schemas in a row, the numbers in each moved, with a struct of this name behind them whose fields have no names
 /// and are of the shapes with these numbers; and the number of the struct. `Schema::has` is the test of what is asked
-/// of each. Refused by `S4` where there are too many, and by `S5`.
+/// of each. Refused by `TooManyShapes` where there are too many, and by `Memory`.
 pub fn tuple_struct_of(
     alloc: Global,
     name: String,
@@ -144,8 +144,8 @@ fn join_fields(
 
 /// All schemas in a row, the numbers in each moved, with a struct of this name behind them whose fields have these
 /// names and are of the shapes with these numbers, and which ignores every other field; and the number of the struct.
-/// There are as many names as schemas, and `Schema::has` is the test of what is asked of each. Refused by `S4` where
-/// there are too many, else by `S3` with the number of the struct where a name is there twice, and by `S5`.
+/// There are as many names as schemas, and `Schema::has` is the test of what is asked of each. Refused by `TooManyShapes` where
+/// there are too many, else by `NameTwice` with the number of the struct where a name is there twice, and by `Memory`.
 pub fn struct_of(
     alloc: Global,
     name: String,

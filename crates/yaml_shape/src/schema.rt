@@ -51,24 +51,24 @@ impl Schema {
         }
     }
 
-    /// The schema of these shapes, each named by its place. Of several faults the first of `S4`, `S1`, `S3`, `S2` is
-    /// answered, with the least shape concerned; `S5` may be answered in place of any. The shapes are dropped on
+    /// The schema of these shapes, each named by its place. Of several faults the first of `TooManyShapes`, `OutsideTable`, `NameTwice`, `OptionCycle` is
+    /// answered, with the least shape concerned; `Memory` may be answered in place of any. The shapes are dropped on
     /// refusal.
     pub fn new(alloc: Global, shapes: Vec<Shape>) -> Result<Schema, SchemaFault>
         ensures ok { IfOk result (λ schema. (schema ≡ map shape_of shapes.items) × IsValidSchema schema) }
         ensures refused { IfErr result (IsRefused (map shape_of shapes.items)) }
     {
         if shapes.len() > SHAPES {
-            return Err(SchemaFault::S4);
+            return Err(SchemaFault::TooManyShapes);
         }
         if let Some(number) = first_outside(&shapes) {
-            return Err(SchemaFault::S1(number as u32));
+            return Err(SchemaFault::OutsideTable(number as u32));
         }
         if let Some(number) = first_repeated(alloc, &shapes)? {
-            return Err(SchemaFault::S3(number as u32));
+            return Err(SchemaFault::NameTwice(number as u32));
         }
         if let Some(number) = first_cycle(alloc, &shapes)? {
-            return Err(SchemaFault::S2(number as u32));
+            return Err(SchemaFault::OptionCycle(number as u32));
         }
         Ok(Schema { shapes })
     }

@@ -6,7 +6,7 @@ use Rattle.yaml_shape.specs.Validity.{NamesWithin, HasDistinctNames, step_from, 
 use Rattle.yaml_shape.specs.SchemaRefusal.{IsRefused, IsFirstWithout}
 use Rattle.yaml_shape.specs.Join.{IsTooLarge}
 use Rattle.yaml_shape.specs.declared.fault.SchemaFault.{SchemaFault}
-use Rattle.yaml_shape.specs.declared.fault.SchemaFault.TheVariants.{S1, S2, S3, S4, S5}
+use Rattle.yaml_shape.specs.declared.fault.SchemaFault.TheVariants.{OutsideTable, OptionCycle, NameTwice, TooManyShapes, Memory}
 use Rattle.yaml_types.specs.Start.{IsLeaf}
 use Rattle.yaml_types.specs.StartLaws.{names_nothing}
 
@@ -45,8 +45,8 @@ no_cycle shape h id (suc n) some w = let none : step_from (shape ∷ []) id ≡ 
 -- why one shape alone is refused
 pub leaf_refused : (shape : PlainShape) (fault : SchemaFault) → IsLeaf shape → IsRefused (shape ∷ []) fault
     → IsTooLarge 1 fault
-leaf_refused shape (S1 number) h r = only (NamesWithin 1) shape number (names_nothing shape h) r.1
-leaf_refused shape (S2 number) h r = no_cycle shape h number r.first.cycle.0 r.first.cycle.1 r.first.cycle.2
-leaf_refused shape (S3 number) h r = only HasDistinctNames shape number (distinct shape h) r.first
-leaf_refused shape S4 h r = r
-leaf_refused shape S5 h r = tt
+leaf_refused shape (OutsideTable number) h r = only (NamesWithin 1) shape number (names_nothing shape h) r.1
+leaf_refused shape (OptionCycle number) h r = no_cycle shape h number r.first.cycle.0 r.first.cycle.1 r.first.cycle.2
+leaf_refused shape (NameTwice number) h r = only HasDistinctNames shape number (distinct shape h) r.first
+leaf_refused shape TooManyShapes h r = r
+leaf_refused shape Memory h r = tt

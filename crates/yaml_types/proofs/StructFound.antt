@@ -13,7 +13,7 @@ use Rattle.yaml_shape.specs.declared.data.Data.{Data, the_lemmas}
 use Rattle.yaml_shape.specs.declared.data.Data as code
 use Rattle.yaml_shape.specs.declared.shape.ShapeId.{ShapeId}
 use Rattle.yaml_shape.specs.declared.fault.SchemaFault.{SchemaFault}
-use Rattle.yaml_shape.specs.declared.fault.SchemaFault.TheVariants.{S1, S2, S3, S4, S5}
+use Rattle.yaml_shape.specs.declared.fault.SchemaFault.TheVariants.{OutsideTable, OptionCycle, NameTwice, TooManyShapes, Memory}
 use Rattle.yaml_shape.proofs.PartLaws.{larger}
 use Rattle.yaml_types.specs.Start.{Start, IsClosed, tuple_start}
 use Rattle.yaml_types.specs.PartShapes.{items_match}
@@ -67,11 +67,11 @@ fields_found strict name names parts same c found fields is h =
 
 pub one_refused : (fault : SchemaFault) (size more : ℕ) (shape : PlainShape) → more ≡ size + 1 → HasDistinctNames shape
     → IsNotAdded size shape fault → IsTooLarge more fault
-one_refused (S1 n) size more shape e distinct h = h
-one_refused (S2 n) size more shape e distinct h = h
-one_refused (S3 n) size more shape e distinct h = h.2 distinct
-one_refused S4 size more shape e distinct h = omega (arith, e, h)
-one_refused S5 size more shape e distinct h = tt
+one_refused (OutsideTable n) size more shape e distinct h = h
+one_refused (OptionCycle n) size more shape e distinct h = h
+one_refused (NameTwice n) size more shape e distinct h = h.2 distinct
+one_refused TooManyShapes size more shape e distinct h = omega (arith, e, h)
+one_refused Memory size more shape e distinct h = tt
 
 -- a struct with distinct names is refused only for its size
 pub struct_refused : (r : Result Part SchemaFault) (strict : Bool) (name : List ℕ) (names : List (List ℕ))

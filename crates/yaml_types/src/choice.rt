@@ -68,7 +68,7 @@ pub trait ReadChoice<'de>: Choice + Sized {
     ghost refused: { ℕ → PlainData → List ℕ → Type 0 };
 
     /// The schema with the types of what the variants hold behind it, and the variants with these names behind others.
-    /// Refused by `S4` where there are too many shapes, and by `S5`.
+    /// Refused by `TooManyShapes` where there are too many shapes, and by `Memory`.
     fn shapes(
         alloc: Global,
         before: Schema,
@@ -208,7 +208,7 @@ pub trait WriteChoice: Choice {
     ghost unwritten: { Self → List ℕ → Type 0 };
 
     /// The schema with the types of what the variants hold behind it, and the variants with these names behind others.
-    /// Refused by `S4` where there are too many shapes, and by `S5`.
+    /// Refused by `TooManyShapes` where there are too many shapes, and by `Memory`.
     fn shapes(
         alloc: Global,
         before: Schema,

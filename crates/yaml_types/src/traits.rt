@@ -30,8 +30,8 @@ pub trait Deserialize<'de>: Sized {
     // By which messages data is refused.
     ghost refused: { PlainData → List ℕ → Type 0 };
 
-    /// The shape of the type: a schema, and its number there. Refused by `S4` where the table would have more than
-    /// 4,096 shapes, and by `S5`.
+    /// The shape of the type: a schema, and its number there. Refused by `TooManyShapes` where the table would have more than
+    /// 4,096 shapes, and by `Memory`.
     fn schema(alloc: Global) -> Result<(Schema, ShapeId), SchemaFault>
         ensures ok { IfOk result (IsStart start) }
         ensures refused { IfErr result (IsTooLarge (length start.0)) };
@@ -61,8 +61,8 @@ pub trait Serialize {
     // By which messages a value is not written.
     ghost unwritten: { Self → List ℕ → Type 0 } = { λ _ _. ⊥ };
 
-    /// The shape of the type: a schema, and its number there. Refused by `S4` where the table would have more than
-    /// 4,096 shapes, and by `S5`.
+    /// The shape of the type: a schema, and its number there. Refused by `TooManyShapes` where the table would have more than
+    /// 4,096 shapes, and by `Memory`.
     fn schema(alloc: Global) -> Result<(Schema, ShapeId), SchemaFault>
         ensures ok { IfOk result (IsStart start) }
         ensures refused { IfErr result (IsTooLarge (length start.0)) };

@@ -34,7 +34,7 @@ pub trait ReadVariant<'de>: Variant + Sized {
     ghost refused: { PlainData → List ℕ → Type 0 };
 
     /// The schema with the types of what the variant holds behind it, and what the variant holds there, its fields by
-    /// these names. Refused by `S4` where there are too many shapes, and by `S5`.
+    /// these names. Refused by `TooManyShapes` where there are too many shapes, and by `Memory`.
     fn shape(
         alloc: Global,
         before: Schema,
@@ -72,7 +72,7 @@ pub trait WriteVariant: Variant {
     ghost unwritten: { Self → List ℕ → Type 0 };
 
     /// The schema with the types of what the variant holds behind it, and what the variant holds there, its fields by
-    /// these names. Refused by `S4` where there are too many shapes, and by `S5`.
+    /// these names. Refused by `TooManyShapes` where there are too many shapes, and by `Memory`.
     fn shape(
         alloc: Global,
         before: Schema,

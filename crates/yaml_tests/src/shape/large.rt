@@ -97,7 +97,7 @@ fn has_no_room_behind(alloc: Global, count: u32) -> Result<bool, Fail> {
     if !schema.has(last) {
         return Ok(false);
     }
-    Ok(matches!(seq_of(alloc, schema, last), Err(SchemaFault::S4)))
+    Ok(matches!(seq_of(alloc, schema, last), Err(SchemaFault::TooManyShapes)))
 }
 
 // Whether a sequence of the last of so many shapes stands behind them.
@@ -129,7 +129,7 @@ fn mapping_behind(alloc: Global, keys: u32, values: u32) -> Result<Option<u32>, 
     }
     match map_of(alloc, keys, FIRST, values, FIRST) {
         Ok((_, ShapeId(number))) => Ok(Some(number)),
-        Err(SchemaFault::S4) => Ok(None),
+        Err(SchemaFault::TooManyShapes) => Ok(None),
         Err(fault) => Err(fault)?,
     }
 }

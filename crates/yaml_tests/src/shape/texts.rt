@@ -157,7 +157,7 @@ fn texts_of_numbers_of_elements(rt: HostRuntime) -> Result<(), Fail> {
         assert!(rt; says(text, expected), "{expected}");
     }
     assert_eq!(rt;
-        SchemaFault::S5.to_string(rt.alloc())?.as_str(),
+        SchemaFault::Memory.to_string(rt.alloc())?.as_str(),
         "out of memory"
     );
     Ok(())
