@@ -1,10 +1,10 @@
 #!/usr/bin/env bash
-# Prints how many instructions it takes from text to events, the events let go too, in millions: of `yaml_text::parse`
+# Prints how many instructions it takes from text to events, the events let go too, in millions: of `yaml_parse::parse`
 # and of libyaml's parser, and the ratio of both, as rows of docs/PERFORMANCE.md.
 #
 #     bash bench/text.sh [PROGRAM]
 #
-# The script makes a program of its own over copies of the crates below yaml_text, and `rt` proves and builds it, which
+# The script makes a program of its own over copies of the crates below yaml_parse, and `rt` proves and builds it, which
 # takes some minutes, or some seconds where the crates are proved. PROGRAM is one that an earlier run made, by which a
 # change is compared: KEEP names a file for the program of this run. Wanted are valgrind, `cc` and libyaml's headers.
 set -eu
@@ -17,14 +17,14 @@ trap 'rm -rf "$room"' EXIT
 # Makes the program, which reads standard input, and parses it unless its argument says to read alone.
 make_program() {
     mkdir -p "$room/crates/text_cost/src"
-    for crate in yaml_tree yaml_base yaml_history yaml_token yaml_scan yaml_parse yaml_text; do
+    for crate in yaml_tree yaml_base yaml_scan yaml_parse; do
         mkdir -p "$room/crates/$crate"
         for part in src specs proofs; do
             [ ! -d "$root/crates/$crate/$part" ] || cp -a "$root/crates/$crate/$part" "$room/crates/$crate/"
         done
         grep "^$crate:" "$root/crates.txt" >> "$room/crates.txt"
     done
-    echo 'text_cost: yaml_text yaml_parse yaml_scan yaml_token yaml_base yaml_tree yaml_history' >> "$room/crates.txt"
+    echo 'text_cost: yaml_parse yaml_scan yaml_base yaml_tree' >> "$room/crates.txt"
     cat > "$room/crates/text_cost/src/main.rt" <<'RT'
 //! Parses standard input, unless the argument is `read`, and prints how many events or bytes there were.
 #![tactic(auto)]
@@ -37,7 +37,7 @@ fn main(rt: HostRuntime) -> io::Result<()> {
     let mut text: Vec<u8> = Vec::new(rt.alloc());
     rt.stdin().read_to_end(&mut text)?;
     let count = if arguments.is_empty() {
-        match yaml_text::parse(rt.alloc(), text.as_slice()) {
+        match yaml_parse::parse(rt.alloc(), text.as_slice()) {
             Ok(parsed) => parsed.events.len(),
             Err(_) => 0,
         }

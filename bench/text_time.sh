@@ -3,8 +3,8 @@
 #
 #     bash bench/text_time.sh [small|large]..
 #
-# A row tells the events, then in milliseconds `yaml_text::Events` beside libyaml's parser, both of which let go of each
-# event before the next, and their ratio, and `yaml_text::parse` beside libyaml with its events in a list, both lists let
+# A row tells the events, then in milliseconds `yaml_parse::Events` beside libyaml's parser, both of which let go of each
+# event before the next, and their ratio, and `yaml_parse::parse` beside libyaml with its events in a list, both lists let
 # go at the end, and their ratio: in a process that keeps freed memory, and then in processes that have parsed nothing
 # before. Each is the least of RUNS runs (200 of small texts at first, and 40 of others), the sides by turns, of the
 # processor's time. At last the most memory that each of the four held beyond the text, in megabytes, counted as malloc
@@ -12,7 +12,7 @@
 # let go, and of memory also what was held at the end, and the largest block.
 #
 # `small` are the texts of bench/text.sh, `large` such of about a megabyte and of a million events. The script makes a
-# static library over copies of the crates below yaml_text, and `rt` proves and builds it, which takes some minutes, or
+# static library over copies of the crates below yaml_parse, and `rt` proves and builds it, which takes some minutes, or
 # some seconds where the crates are proved. KEEP names a folder in which the programs are kept, and taken from there by
 # a later run. Wanted are `cc` and libyaml's headers and static library.
 set -eu
@@ -28,14 +28,14 @@ mkdir -p "$programs"
 # Makes the port's static library.
 make_library() {
     mkdir -p "$room/crates/text_library/src" "$room/crates/text_library/c"
-    for crate in yaml_tree yaml_base yaml_history yaml_token yaml_scan yaml_parse yaml_text; do
+    for crate in yaml_tree yaml_base yaml_scan yaml_parse; do
         mkdir -p "$room/crates/$crate"
         for part in src specs proofs; do
             [ ! -d "$root/crates/$crate/$part" ] || cp -a "$root/crates/$crate/$part" "$room/crates/$crate/"
         done
         grep "^$crate:" "$root/crates.txt" >> "$room/crates.txt"
     done
-    echo 'text_library staticlib: yaml_text yaml_parse yaml_scan yaml_token yaml_base yaml_tree yaml_history' >> "$room/crates.txt"
+    echo 'text_library staticlib: yaml_parse yaml_scan yaml_base yaml_tree' >> "$room/crates.txt"
     cat > "$room/crates/text_library/src/lib.rt" <<'RT'
 //! What is timed, behind C's interface: nothing is promised of what is answered.
 #![tactic(auto)]
@@ -50,7 +50,7 @@ unsafe extern "C" {
 #[unsafe(no_mangle)]
 pub extern "C" fn port_parse(alloc: Global, text: &[u8]) -> u64 {
     tick(0);
-    let Ok(parsed) = yaml_text::parse(alloc, text) else {
+    let Ok(parsed) = yaml_parse::parse(alloc, text) else {
         return 0;
     };
     tick(1);
@@ -64,7 +64,7 @@ pub extern "C" fn port_parse(alloc: Global, text: &[u8]) -> u64 {
 #[unsafe(no_mangle)]
 pub extern "C" fn port_hand_out(alloc: Global, text: &[u8]) -> u64 {
     tick(0);
-    let Ok(mut events) = yaml_text::Events::new(alloc, text) else {
+    let Ok(mut events) = yaml_parse::Events::new(alloc, text) else {
         return 0;
     };
     let mut count: u64 = 0;

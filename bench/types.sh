@@ -32,8 +32,8 @@ mkdir -p "$programs"
 # Builds the port's program, over what earlier checks kept of the crates.
 make_port() {
     local crates crate
-    crates=$(sed -n 's/^yaml_serde: //p; s/^serde_yaml: //p' "$here/../crates.txt" | tr ' ' '\n' | sort -u | grep -v 'itoa\|^serde$')
-    crates="$crates yaml_serde serde_yaml"
+    crates=$(sed -n 's/^yaml: //p; s/^serde_yaml: //p' "$here/../crates.txt" | tr ' ' '\n' | sort -u | grep -v 'itoa\|^serde$')
+    crates="$crates yaml serde_yaml"
     mkdir -p "$room/port/crates/bench_port/src"
     for crate in $crates; do
         cp -al "$here/../crates/$crate" "$room/port/crates/" 2> /dev/null || cp -a "$here/../crates/$crate" "$room/port/crates/"

@@ -1,5 +1,5 @@
 //! Types with the derives of the crate `serde`, read from YAML text and written as it: the callers that
-//! `yaml_serde/CALLING.md` quotes.
+//! `yaml/CALLING.md` quotes.
 #![tactic(auto)]
 
 pub mod readme;

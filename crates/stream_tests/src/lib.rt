@@ -1,4 +1,4 @@
-//! Tests of `yaml_stream`, and of what `yaml_serde` reads by it, by their public calls.
+//! Tests of `yaml_stream`, and of what `yaml` reads by it, by their public calls.
 #![tactic(auto)]
 
 #[cfg(test)]
