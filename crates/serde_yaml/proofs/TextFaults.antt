@@ -77,7 +77,8 @@ stream_never input fault gives (d ∷ others) is some ends found refused = λ sa
     elim (more_never (some_follow others) first.0 _ first.2 found refused) [
       | inl w ↦
           document_never first.1 d.ending refl
-          (let all = subst (All (λ (d : PlainDocument). IsEnding d.ending)) is ends in all zero d (omega arith)) found w says
+          (let all = subst (All (λ (d : PlainDocument). IsEnding d.ending)) is ends in all zero d (omega arith)) found w
+          says
       | inr w ↦ w says
     ]
 
@@ -86,7 +87,8 @@ input_never : {limits : PlainLimits} {table : List PlainShape} {s : PlainShape} 
     → InputGives limits table s input fault given → (found : Cause) → given ≡ Err found → SaysNoStream found → ⊥
 input_never formed (no_stream place wrong) found refused says = wrong_not_well_formed _ _ place wrong formed
 input_never {input = input} {fault = fault} formed (a_stream is gives) found refused says =
-    stream_never input fault gives (documents_of input fault) refl (has_some input fault formed) (all_endings input fault) found
+    stream_never input fault gives (documents_of input fault) refl (has_some input fault formed)
+    (all_endings input fault) found
     refused says
 
 made_never : {T : Type 0} (built : PlainData → T → Type 0) (message : PlainData → List ℕ → Type 0)
@@ -103,7 +105,8 @@ typed_never : {limits : PlainLimits} {start : Start} {T : Type 0} {built : Plain
     → (found : Cause) → given ≡ Err found → SaysNoStream found → ⊥
 typed_never formed (no_shape many) found refused says =
     subst SaysNoStream (sym (one_fault (Err no_schema) refl refused)) says
-typed_never {built = built} {message = message} formed (of_shape {read = read} {given = given} valid at gives makes) found
+typed_never {built = built} {message = message} formed (of_shape {read = read} {given = given} valid at gives makes)
+    found
     refused says =
     elim (made_never built message read given makes found refused) [
       | inl w ↦ input_never formed gives found w says

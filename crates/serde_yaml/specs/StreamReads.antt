@@ -15,7 +15,8 @@ use Rattle.yaml_read.specs.WrongPlace.{IsWrongAt}
 use Rattle.serde_yaml.specs.PlainStream.{PlainStream}
 
 -- the stream was not iterated, its first document is this one, and others follow
-pub record BeginsWithDocument (stream : PlainStream) (document : PlainDocument) (others : List PlainDocument) : Type 0 where
+pub record BeginsWithDocument (stream : PlainStream) (document : PlainDocument)
+    (others : List PlainDocument) : Type 0 where
   pub fresh : stream.iterated ≡ false
   pub documents : stream.documents ≡ document ∷ others
 

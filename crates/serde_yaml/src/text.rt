@@ -101,7 +101,8 @@ impl<'de> Deserializer<'de> {
     /// Takes a YAML text, whose documents may borrow from it. What can't be parsed is the fault of the document that it
     /// stands in, and comes when that document is read. The only error is want of memory.
     pub fn from_str(alloc: Global, text: &'de str) -> Result<Deserializer<'de>>
-        ensures documents { IfOk result (λ stream. IsParsed text.now (λ events fault. stream ≡ stream_of events fault)) }
+        ensures documents { IfOk result
+            (λ stream. IsParsed text.now (λ events fault. stream ≡ stream_of events fault)) }
         ensures memory { IfErr result (λ cause. is_memory cause ≡ true) }
     {
         Deserializer::from_slice(alloc, text.as_bytes())
@@ -109,7 +110,8 @@ impl<'de> Deserializer<'de> {
 
     /// The same of bytes.
     pub fn from_slice(alloc: Global, text: &'de [u8]) -> Result<Deserializer<'de>>
-        ensures documents { IfOk result (λ stream. IsParsed text.now (λ events fault. stream ≡ stream_of events fault)) }
+        ensures documents { IfOk result
+            (λ stream. IsParsed text.now (λ events fault. stream ≡ stream_of events fault)) }
         ensures memory { IfErr result (λ cause. is_memory cause ≡ true) }
     {
         Ok(Deserializer::of_documents(load(alloc, text)?))

@@ -8,7 +8,8 @@ use Rattle.yaml_documents.specs.PlainReader.{PlainReader}
 
 -- The first document that was left was read, and those behind it are left. A value was read of a document that nothing
 -- cut off.
-pub record ReadsNext {T : Type 0} (old : List PlainDocument) (read : Result T Cause) (new : List PlainDocument) : Type 0 where
+pub record ReadsNext {T : Type 0} (old : List PlainDocument) (read : Result T Cause)
+    (new : List PlainDocument) : Type 0 where
   pub document : PlainDocument
   pub first : old ≡ document ∷ new
   pub whole : OnOk read (document.ending ≡ None)

@@ -172,7 +172,8 @@ module _ (text : List ℕ) (given : List (Event × Position)) (taken : Input) (g
   }
 
 -- the first document of a batch was read
-pub reads_first : {text : List ℕ} {given : List (Event × Position)} {taken : Input} {given_now : List (Event × Position)}
+pub reads_first : {text : List ℕ} {given : List (Event × Position)} {taken : Input}
+    {given_now : List (Event × Position)}
     {taken_now : Input} {end : Option Position} {mark : Position} → is_open_after false (plain_marked given) ≡ false
     → Agree given taken → end ≡ Some mark → ReadsOn given taken given_now taken_now end
     → IfSome end (λ _. AreEventsOf text given_now) → IsFull text given taken given_now taken_now
@@ -182,7 +183,8 @@ reads_first {text} {given} {taken} {given_now} {taken_now} {end} {mark} closed a
     (subst (λ (o : Option Position). IfSome o (λ _. AreEventsOf text given_now)) is of_text)
 
 -- a further one was read
-pub reads_next : {text : List ℕ} {given : List (Event × Position)} {taken : Input} {given_whole : List (Event × Position)}
+pub reads_next : {text : List ℕ} {given : List (Event × Position)} {taken : Input}
+    {given_whole : List (Event × Position)}
     {taken_whole : Input} {given_now : List (Event × Position)} {taken_now : Input} {end : Option Position}
     {mark : Position} → is_open_after false (plain_marked given) ≡ false
     → IsFull text given taken given_whole taken_whole → end ≡ Some mark

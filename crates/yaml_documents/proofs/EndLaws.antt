@@ -177,7 +177,8 @@ module _ (text : List ℕ) (last : Option Position) (given : List (Event × Posi
     no_rest : after_starts false rest ≡ []
     no_rest =
         no_start rest end.on.ends
-        (sym taken_open ∙ closed_at taken_now after_stream (end.on.agree ∙ (whole_run (plain_events given_now)).0 w) refl)
+        (sym taken_open ∙ closed_at taken_now after_stream (end.on.agree ∙ (whole_run (plain_events given_now)).0 w)
+        refl)
 
     taken_whole : begun_in None taken_now ≡ whole
     taken_whole =

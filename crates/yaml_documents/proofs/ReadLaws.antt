@@ -20,7 +20,8 @@ never_refused taken e begins wrong = wrong.1 begins
 -- the same event more leads to one state too
 run_more : (given given_now : List (Event × Position)) (taken : Input) (x : Event × Position) → Agree given taken
     → given_now ≡ given ++ x ∷ []
-    → run (Some before_stream) (events_in taken ++ event_of x.0 ∷ []) ≡ run (Some before_stream) (plain_events given_now)
+    → run (Some before_stream) (events_in taken ++ event_of x.0 ∷ [])
+    ≡ run (Some before_stream) (plain_events given_now)
 run_more given given_now taken x agree is =
     let e = event_of x.0 in
     run_append (events_in taken) (e ∷ []) (Some before_stream) ∙ ap (λ o. run o (e ∷ [])) agree

@@ -81,7 +81,8 @@ closed_starts fault ys false (e ∷ xs) h =
     elim (cases_Bool (is_document_start e.0)) [
       | inl yes_ ↦
           let closed : is_open_after true xs ≡ false = ap (λ b. is_open_after b xs) (sym yes_) ∙ h in
-          simp yes_ (ap (λ (d : PlainDocument). d ∷ map (document_from fault) (map (λ s. s ++ ys) (after_starts true xs)))
+          simp yes_ (ap (λ (d : PlainDocument). d
+          ∷ map (document_from fault) (map (λ s. s ++ ys) (after_starts true xs)))
           (document_append fault xs ys (ended_where_closed xs closed))
           ∙ ap (λ (ds : List PlainDocument). document_from None xs ∷ ds) (closed_starts fault ys true xs closed))
       | inr no_ ↦ simp no_ (closed_starts fault ys false xs (ap (λ b. is_open_after b xs) (sym no_) ∙ h))
@@ -136,7 +137,8 @@ no_start [] h o = refl
 no_start (e ∷ ys) h o =
     let u = unended_tail e ys h in
     elim (cases_Bool (is_document_start e.0)) [
-      | inl yes_ ↦ absurd (let closed = ap (λ b. is_open_after b ys) (sym yes_) ∙ o in let there = open_unended ys u in cc)
+      | inl yes_ ↦ absurd (let closed = ap (λ b. is_open_after b ys) (sym yes_) ∙ o in let there = open_unended ys u in
+          cc)
       | inr no_ ↦
           ap (λ b. cond b (ys ∷ after_starts true ys) (after_starts false ys)) no_
           ∙ no_start ys u (ap (λ b. is_open_after b ys) (sym no_) ∙ o)

@@ -36,7 +36,8 @@ calm_triple : (a b c : ℕ) (t : List ℕ) → (a ≡ 10 → ⊥) → (a ≡ 13 
     → begins_with_break (a ∷ b ∷ c ∷ t) ≡ false
 calm_triple a b c t lf cr two line para = elim (cases_eq a 0xE2) [
   | inl e ↦ subst (λ x. begins_with_break (x ∷ b ∷ c ∷ t) ≡ false) (sym e) (elim (cases_eq b 0x80) [
-    | inl f ↦ subst (λ x. begins_with_break (0xE2 ∷ x ∷ c ∷ t) ≡ false) (sym f) (rw (ne_eqb c 0xA8 (line e f), ne_eqb c 0xA9 (para e f)) refl)
+    | inl f ↦ subst (λ x. begins_with_break (0xE2 ∷ x ∷ c ∷ t) ≡ false) (sym f)
+        (rw (ne_eqb c 0xA8 (line e f), ne_eqb c 0xA9 (para e f)) refl)
     | inr other ↦ rw (ne_eqb b 0x80 other) refl
   ])
   | inr other ↦ calm a (b ∷ c ∷ t) lf cr two other
@@ -70,7 +71,8 @@ top_of c h = elim (scalar_cases c h) [ inl low ↦ omega arith | inr high ↦ om
 
 -- a reader that takes a byte as itself where that is plain and no line break begins there; bytes beyond ASCII are plain
 module _ (read : List ℕ → Option (List ℕ)) (IsPlain : ℕ → Type 0) (beyond : (b : ℕ) → 128 ≤ b → IsPlain b)
-    (as_it_is : (b : ℕ) (t : List ℕ) → IsPlain b → begins_with_break (b ∷ t) ≡ false → read (b ∷ t) ≡ before (b ∷ []) (read t)) where
+    (as_it_is : (b : ℕ) (t : List ℕ) → IsPlain b → begins_with_break (b ∷ t) ≡ false
+    → read (b ∷ t) ≡ before (b ∷ []) (read t)) where
   -- a byte behind the first of a character
   inner : (b : ℕ) (t : List ℕ) → 128 ≤ b → b < 192 → read (b ∷ t) ≡ before (b ∷ []) (read t)
   inner b t low high = as_it_is b t (beyond b low)
@@ -81,7 +83,8 @@ module _ (read : List ℕ → Option (List ℕ)) (IsPlain : ℕ → Type 0) (bey
       → read (encode c ++ t) ≡ before (encode c) (read t)
   unfolding encode
   shown c t plain u small = elim (cases_lt c 0x80) [
-    | inl one ↦ rw (lt-ltb c 0x80 one) (as_it_is c t (plain one) (calm c t u.feed u.return (λ e. omega arith) (λ e. omega arith)))
+    | inl one ↦ rw (lt-ltb c 0x80 one)
+        (as_it_is c t (plain one) (calm c t u.feed u.return (λ e. omega arith) (λ e. omega arith)))
     | inr more ↦ elim (cases_lt c 0x800) [
       | inl two ↦
           let b0 = 192 + c / 64 in let b1 = 128 + c % 64 in

@@ -26,8 +26,10 @@ quote_itself t = refl
 doubled : (c : ℕ) (t : List ℕ) → EndsNoLine c → scalar c ≡ true
     → undoubled_behind false (quote_doubled c ++ t) ≡ before (encode c) (undoubled_behind false t)
 doubled c t u h = elim (cases_eq c 39) [
-  | inl e ↦ subst (λ x. undoubled_behind false (quote_doubled x ++ t) ≡ before (encode x) (undoubled_behind false t)) (sym e) (quote_itself t)
-  | inr other ↦ rw (ne_eqb c 39 other) (shown (undoubled_behind false) (λ b. b ≡ 39 → ⊥) (λ b far e. omega arith) as_it_is_in_single
+  | inl e ↦ subst (λ x. undoubled_behind false (quote_doubled x ++ t) ≡ before (encode x) (undoubled_behind false t))
+      (sym e) (quote_itself t)
+  | inr other ↦ rw (ne_eqb c 39 other)
+      (shown (undoubled_behind false) (λ b. b ≡ 39 → ⊥) (λ b far e. omega arith) as_it_is_in_single
       c t (λ ascii. other) u (omega (arith, top_of c h)))
 ]
 
@@ -38,7 +40,8 @@ undoubled-all indent (c ∷ cs) h alone =
     let p = and_parts _ _ h in
     let a = or_parts _ _ alone in
     let u = ends_no_line c a.0 in
-    rw (ne_eqb c 10 u.feed) (doubled c (single_rest indent false cs) u p.0 ∙ ap (before (encode c)) (undoubled-all indent cs p.1 a.1))
+    rw (ne_eqb c 10 u.feed)
+    (doubled c (single_rest indent false cs) u p.0 ∙ ap (before (encode c)) (undoubled-all indent cs p.1 a.1))
 
 -- what is printed between single quotes of a text without line breaks stands for it
 pub undoubled-printed : (indent : ℕ) (text : List ℕ) → IsUtf8 text → list_any is_break (chars text) ≡ false

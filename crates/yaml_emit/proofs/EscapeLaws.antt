@@ -43,7 +43,8 @@ code_of c h = elim (scalar_cases c h) [
 
 -- a digit that is not the last
 digit_more : (left code d : ℕ) (t : List ℕ) → d < 16 → (left == 1) ≡ false
-    → unescaped_behind (digits left code) (digit_glyph true d ∷ t) ≡ unescaped_behind (digits (left - 1) (16 * code + d)) t
+    → unescaped_behind (digits left code) (digit_glyph true d ∷ t)
+    ≡ unescaped_behind (digits (left - 1) (16 * code + d)) t
 digit_more left code d t h more = rw (digit d h, lt-ltb d 16 h, more) refl
 
 -- the last digit
@@ -92,8 +93,10 @@ coded c t h =
             let high = 256 * (256 * 0 + 0) + c / 0x10000 % 0x100 in
             let middle = 256 * high + c / 0x100 % 0x100 in
             rw (le-ltb c 0x100 more, le-ltb c 0x10000 eight) (
-            byte_more 8 0 0 (hex_digits (c / 0x10000 % 0x100) ++ (hex_digits (c / 0x100 % 0x100) ++ (hex_digits (c % 0x100) ++ t))) (omega arith) refl refl
-            ∙ byte_more 6 (256 * 0 + 0) (c / 0x10000 % 0x100) (hex_digits (c / 0x100 % 0x100) ++ (hex_digits (c % 0x100) ++ t)) (omega arith) refl refl
+            byte_more 8 0 0 (hex_digits (c / 0x10000 % 0x100)
+            ++ (hex_digits (c / 0x100 % 0x100) ++ (hex_digits (c % 0x100) ++ t))) (omega arith) refl refl
+            ∙ byte_more 6 (256 * 0 + 0) (c / 0x10000 % 0x100)
+            (hex_digits (c / 0x100 % 0x100) ++ (hex_digits (c % 0x100) ++ t)) (omega arith) refl refl
             ∙ byte_more 4 high (c / 0x100 % 0x100) (hex_digits (c % 0x100) ++ t) (omega arith) refl refl
             ∙ byte_last middle (c % 0x100) t (omega arith) ∙ is (256 * middle + c % 0x100) (omega arith))
       ]
@@ -107,7 +110,9 @@ Passes c = (t : List ℕ) → unescaped_behind none (escaped_character c ++ t) �
 
 passes_unnamed : (c : ℕ) → scalar c ≡ true → Unnamed c → Passes c
 passes_unnamed c h u t = rw u.letter (elim (cases_Bool (is_printable c)) [
-  | inl yes_it_is ↦ rw yes_it_is (shown (unescaped_behind none) IsPlainInDouble (λ b far. ((λ e. omega arith), (λ e. omega arith))) as_it_is_in_double
+  | inl yes_it_is ↦ rw yes_it_is
+      (shown (unescaped_behind none) IsPlainInDouble (λ b far. ((λ e. omega arith), (λ e. omega arith)))
+      as_it_is_in_double
       c t (λ ascii. u.plain) u.ends (omega (arith, top_of c h)))
   | inr not_it ↦ rw not_it (coded c t h)
 ])

@@ -111,7 +111,8 @@ behind_leaf out first between_documents n simple es h = h
 behind_leaf out first after_stream n simple es h = h
 
 -- a sequence is the next node
-sequence_first : (st : LayoutState) (tag : Option (List ℕ)) (es : List PlainEmit) (nodes : EmitNodes) (rest : List PlainEmit)
+sequence_first : (st : LayoutState) (tag : Option (List ℕ)) (es : List PlainEmit) (nodes : EmitNodes)
+    (rest : List PlainEmit)
     → es ≡ emit_nodes_events nodes ++ (emit_sequence_end ∷ rest) → NodeFollows st false rest
     → Follows st (emit_sequence_start tag ∷ es)
 sequence_first st tag es nodes rest is h =
@@ -120,7 +121,8 @@ sequence_first st tag es nodes rest is h =
     (node_first st false (emit_sequence_node tag nodes) rest h)
 
 -- a mapping is the next node
-mapping_first : (st : LayoutState) (tag : Option (List ℕ)) (es : List PlainEmit) (pairs : EmitPairs) (rest : List PlainEmit)
+mapping_first : (st : LayoutState) (tag : Option (List ℕ)) (es : List PlainEmit) (pairs : EmitPairs)
+    (rest : List PlainEmit)
     → es ≡ emit_pairs_events pairs ++ (emit_mapping_end ∷ rest) → NodeFollows st false rest
     → Follows st (emit_mapping_start tag ∷ es)
 mapping_first st tag es pairs rest is h =

@@ -93,10 +93,12 @@ opened_at awaits tag parts out first outer place more rest ih =
     (parts (behind_tag place.lead tag) (parts_column awaits place (behind_tag place.lead tag))))
 
 -- the same wherever a node may stand
-opened_then : (awaits : Awaits) (tag : List ℕ) (parts : Lead → ℕ → List ℕ) (out : List ℕ) (first : Bool) (st : LayoutState)
+opened_then : (awaits : Awaits) (tag : List ℕ) (parts : Lead → ℕ → List ℕ) (out : List ℕ) (first : Bool)
+    (st : LayoutState)
     (more rest : List PlainEmit) → PrintsParts awaits first parts more rest
     → printed_from (with_open (standing out first st) tag awaits) more
-    ≡ printed_from (option_map (λ b. with_text b.0 (behind awaits tag parts b.1)) (begun (standing out first st) false)) rest
+    ≡ printed_from (option_map (λ b. with_text b.0 (behind awaits tag parts b.1)) (begun (standing out first st) false))
+    rest
 opened_then awaits tag parts out first before_stream more rest ih = refl
 opened_then awaits tag parts out first between_documents more rest ih = refl
 opened_then awaits tag parts out first after_stream more rest ih = refl
@@ -104,7 +106,8 @@ opened_then awaits tag parts out first (within []) more rest ih = refl
 opened_then awaits tag parts out first before_root more rest ih =
     opened_at awaits tag parts out first [] (root_place (root_lead first)) more rest ih
 opened_then awaits tag parts out first (within (o ∷ outer)) more rest ih =
-    opened_at awaits tag parts (out ++ margin_and_indicator o.awaits o.lead o.column false) first (part_begun o false ∷ outer)
+    opened_at awaits tag parts (out ++ margin_and_indicator o.awaits o.lead o.column false) first
+    (part_begun o false ∷ outer)
     (part_place o.awaits o.column false) more rest ih
 
 -- a sequence, empty or not, is printed where its items are
@@ -153,7 +156,8 @@ pair_then : (simple : Bool) (key value : EmitNode) (pairs : EmitPairs) (out : Li
     ≡ printed_from (Some (standing (o ++ pairs_text Fresh col pairs) first (within outer))) rest)
     → printed_from (option_map (λ b. with_text b.0 (node_text b.1 key))
     (begun (standing out first (within (opening Key col l ∷ outer))) simple)) (emit_node_events value ++ more)
-    ≡ printed_from (Some (standing (out ++ (margin l col ++ (pair_text simple col key value ++ pairs_text Fresh col pairs)))
+    ≡ printed_from (Some (standing
+    (out ++ (margin l col ++ (pair_text simple col key value ++ pairs_text Fresh col pairs)))
     first (within outer))) rest
 pair_then true key value pairs out first l col outer more rest ihv ihp =
     ihv (standing ((out ++ margin l col) ++ node_text (key_place col) key) first
@@ -233,7 +237,8 @@ prints_documents : (roots : List EmitNode) (out : List ℕ)
     ≡ Some (out ++ flat_map later_document roots)
 prints_documents [] out = ap Some (sym (append-nil out))
 prints_documents (root ∷ roots) out =
-    ap (λ es. printed_from (Some (standing out false between_documents)) (emit_document_start ∷ es)) (document_then root roots)
+    ap (λ es. printed_from (Some (standing out false between_documents)) (emit_document_start ∷ es))
+    (document_then root roots)
     ∙ (prints_node root (standing (out ++ codes "---") false before_root)
     (emit_document_end ∷ (emit_documents_events roots ++ emit_stream_end ∷ []))
     ∙ (prints_documents roots ((out ++ codes "---") ++ node_text (root_place Text) root)

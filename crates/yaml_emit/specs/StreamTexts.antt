@@ -71,7 +71,8 @@ abbrev mutual
   node_text place (emit_sequence_node tag no_emit_nodes) = leaf_text place (tag_or_empty tag) (codes "[]") false
   node_text place (emit_sequence_node tag (emit_node n nodes)) =
       tag_in_line place.lead (tag_or_empty tag)
-      ++ items_text (behind_tag place.lead (tag_or_empty tag)) (items_column place (behind_tag place.lead (tag_or_empty tag)))
+      ++ items_text (behind_tag place.lead (tag_or_empty tag))
+      (items_column place (behind_tag place.lead (tag_or_empty tag)))
       (emit_node n nodes)
   node_text place (emit_mapping_node tag no_emit_pairs) = leaf_text place (tag_or_empty tag) (codes "{}") false
   node_text place (emit_mapping_node tag (emit_pair key value pairs)) =

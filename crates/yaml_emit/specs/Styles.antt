@@ -52,7 +52,8 @@ begins_otherwise (c ∷ cs) =
 -- its ends, no `:` before a blank or the end, no `#` behind a blank, and only printable characters.
 abbrev pub fits_plain : List ℕ → Bool
 fits_plain text =
-    not (begins_otherwise text) && not (is_first 32 text) && not (ends_with_byte 32 text) && not (ends_with_byte 58 text)
+    not (begins_otherwise text) && not (is_first 32 text) && not (ends_with_byte 32 text)
+    && not (ends_with_byte 58 text)
     && not (stand_side_by_side 58 32 text) && not (stand_side_by_side 32 35 text) && list_all is_printable (chars text)
 
 -- the text may stand between single quotes: no blank beside a line feed, and only printable characters and line feeds
@@ -64,7 +65,8 @@ fits_single_quotes text =
 -- printable characters and line feeds
 abbrev pub fits_block : List ℕ → Bool
 fits_block text =
-    not (length text == 0) && not (ends_with_byte 32 text) && not (stand_side_by_side 32 10 text) && list_all is_line_text (chars text)
+    not (length text == 0) && not (ends_with_byte 32 text) && not (stand_side_by_side 32 10 text)
+    && list_all is_line_text (chars text)
 
 -- some line of the text ends
 abbrev pub has_break : List ℕ → Bool

@@ -151,7 +151,8 @@ module _ {events : Events} {numbers : List ℕ} {seen : Input} {old : Draft} (h 
       (sym (ends_of_cut find seen at size) ∙ shown_ends (take at late) _ known) (marked ∙ sym found.1) ending
 
 -- a document without events behind others
-pub failed_more : {old : Draft} {documents : List PlainDocument} (h : IsDraftBetween documents old) (new : Draft) (cut : Cut)
+pub failed_more : {old : Draft} {documents : List PlainDocument} (h : IsDraftBetween documents old) (new : Draft)
+    (cut : Cut)
     → new.events ≡ old.events → new.ends ≡ old.ends → new.anchors ≡ old.anchors
     → new.cuts.items ≡ old.cuts.items ++ cut ∷ [] → cut.from ≡ length old.events.items → cut.to ≡ cut.from
     → IsDraftBetween (documents ++ held [] (ending_in cut.error) ∷ []) new

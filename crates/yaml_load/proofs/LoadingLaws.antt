@@ -73,7 +73,8 @@ module _ {fault : Option PlainFault} {all rest : Input} {mark : Position} {old n
 
   -- the open document ends
   pub on_end : (h : IsOpenDraft fault all ((document_end, mark) ∷ rest) old)
-      → IsDraftBetween (documents_in h.events old.cuts.items ++ document_of (anchors_in 0 h.seen) h.seen false None ∷ []) new
+      → IsDraftBetween (documents_in h.events old.cuts.items
+      ++ document_of (anchors_in 0 h.seen) h.seen false None ∷ []) new
       → IsClosedDraft fault all rest new
   on_end h between = record {
     documents = documents_in h.events old.cuts.items ++ document_of (anchors_in 0 h.seen) h.seen false None ∷ [];
@@ -112,7 +113,8 @@ takes e mark old new d place node there from cuts pushed named taken ends = λ f
 
 -- the documents of all events, where no event is left
 pub all_open : (f : PlainFault) (all : Input) (old new : Draft) (h : IsOpenDraft (Some f) all [] old)
-    → IsDraftBetween (documents_in h.events old.cuts.items ++ document_of (anchors_in 0 h.seen) h.seen false (Some f) ∷ [])
+    → IsDraftBetween (documents_in h.events old.cuts.items
+    ++ document_of (anchors_in 0 h.seen) h.seen false (Some f) ∷ [])
     new
     → IsDraftBetween (documents_of all (Some f)) new
 all_open f all old new h between =

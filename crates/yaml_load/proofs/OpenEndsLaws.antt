@@ -50,7 +50,8 @@ stays_open false inner = refl
 
 filled_next : (e : PlainDocEvent) (later : List PlainDocEvent) (starts : List ℕ) (inner place : ℕ)
     (numbers : List ℕ) → (is_closing e && (inner == 0)) ≡ false
-    → numbers_ended starts inner place (e ∷ later) numbers ≡ numbers_ended starts (inner_after e inner) (place + 1) later numbers
+    → numbers_ended starts inner place (e ∷ later) numbers
+    ≡ numbers_ended starts (inner_after e inner) (place + 1) later numbers
 filled_next e later [] inner place numbers h = refl
 filled_next e later (s ∷ starts) inner place numbers h =
     let v = end_place (inner_after e inner) (place + 1) later in
@@ -113,7 +114,8 @@ module _ {front : List ℕ} {seen : List PlainDocEvent} {old : EndsView} (h : Ha
       (longer old.numbers size refl)
       (λ later.
       let v = end_place 0 (size + 1) later in
-      let all : numbers_ended (reverse old.unended) 1 (size + 1) later (set (old.numbers ++ size ∷ []) (length old.numbers) v)
+      let all : numbers_ended (reverse old.unended) 1 (size + 1) later
+      (set (old.numbers ++ size ∷ []) (length old.numbers) v)
       ++ ends_from (size + 1) later ≡ front ++ ends_of (seen ++ e ∷ later) =
       let next = rw o at (filled_next e later (reverse old.unended) 0 size old.numbers (rw (opens_alone e o))) in
       rw (set-append_seam old.numbers size [] v, filled_push, append_assoc, ← next) (rw o at (h.all (e ∷ later))) in

@@ -191,7 +191,8 @@ pub reached_to : (before after : List (Event × Position)) (x : Event × Positio
 reached_to before after x reached now is last on here =
     subst (All (λ (e : Event × Position). e.1.index ≤ now)) (sym is)
     (All-push (λ (e : Event × Position). e.1.index ≤ now) before x
-    (All-weaker (λ (e : Event × Position). e.1.index ≤ reached) (λ (e : Event × Position). e.1.index ≤ now) (λ e h. omega arith) before last)
+    (All-weaker (λ (e : Event × Position). e.1.index ≤ reached) (λ (e : Event × Position). e.1.index ≤ now)
+    (λ e h. omega arith) before last)
     (omega arith))
 
 -- so are the marks in place, with that of the new event

@@ -165,7 +165,8 @@ impl<'a> Parser<'a> {
     /// Why no more events come: for the parser's own first fault, or else for this fault of the tokens, if there is
     /// one. Tokens that neither end nor have a fault give a fault of kind `Other`. The only error is want of memory.
     pub fn finish(&self, alloc: Global, fault: Option<Fault>) -> Result<Ending, AllocError>
-        ensures taken { IfOk result (λ ending. IsWellFormed (is_some ending.fault) (plain_events (made_so_far self.now))) }
+        ensures taken { IfOk result
+        (λ ending. IsWellFormed (is_some ending.fault) (plain_events (made_so_far self.now))) }
         ensures found { IfOk result (λ ending. is_some ending.found ≡ is_some ending.fault) }
         ensures not_readers { ForSome fault (λ f. f.kind ≢ kind.Reader) →
             IfOk result (λ ending. IsNotReaders ending.fault) }

@@ -207,6 +207,7 @@ module _ (table : List PlainShape) (root : DocNode) where
           means = subst (λ ns. MeanPairs table root any_shape any_shape ns
               (entry (any_data key.found) (any_data value.found) all.found) (pairs_nestings (pair k v ps)) 0) (sym r.3)
               (means_pair key.means value.means all.means);
-          same = both (same_tree k key.found) (same_tree v value.found && same_pairs ps (pairs_in_entries all.found)) key.same
+          same = both (same_tree k key.found) (same_tree v value.found && same_pairs ps (pairs_in_entries all.found))
+          key.same
               (both (same_tree v value.found) (same_pairs ps (pairs_in_entries all.found)) value.same all.same);
         }

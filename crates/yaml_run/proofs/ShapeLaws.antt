@@ -194,7 +194,8 @@ not_without P (s ∷ shapes) (suc number) all h w =
 pub only_memory : (n : Named) (fault : SchemaFault) → IsRefused (table_of n) fault → fault ≡ Memory
 only_memory n TooManyShapes r = absurd (omega (arith, few n))
 only_memory n (OutsideTable number) r = absurd (not_without _ (table_of n) number (closed n) r.1.within r.1.without)
-only_memory n (NameTwice number) r = absurd (not_without _ (table_of n) number (distinct n) r.first.within r.first.without)
+only_memory n (NameTwice number) r =
+    absurd (not_without _ (table_of n) number (distinct n) r.first.within r.first.without)
 only_memory n (OptionCycle number) r =
     let c = r.first.cycle in
     absurd (no_cycle (table_of n) number (step_from (table_of n) number) refl (ends n number) c.0 c.1 c.2)

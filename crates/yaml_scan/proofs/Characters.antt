@@ -33,7 +33,8 @@ against false p q = cc
 
 each : (cs : List ℕ) → NonePass is_forbidden cs → list_all is_allowed cs ≡ true
 each [] n = refl
-each (c ∷ cs) n = let here : is_allowed c ≡ true = flips (is_allowed c) n.0 in let more : list_all is_allowed cs ≡ true = each cs n.1 in rw (here, more) refl
+each (c ∷ cs) n = let here : is_allowed c ≡ true = flips (is_allowed c) n.0 in
+    let more : list_all is_allowed cs ≡ true = each cs n.1 in rw (here, more) refl
 
 pub none_forbidden : (text : List ℕ) → IsUtf8 text → NoCharPasses is_forbidden text → IsAllowed text
 none_forbidden text u n =
@@ -65,7 +66,8 @@ begins t more rest c (h ∷ hs, (s, e)) some u q all =
     let every : list_all is_allowed (h ∷ hs) ≡ true = subst (λ cs. list_all is_allowed cs ≡ true) (sym here) all in
     subst (λ k. is_allowed k ≡ true) same (both (is_allowed h) (list_all is_allowed hs) every).0
 
-module _ (text : List ℕ) (i c : ℕ) (rest : List ℕ) (u : IsUtf8 text) (at : IsCharBoundary text i) (split : drop i text ≡ encode_utf8 c ++ rest) (bad : is_forbidden c ≡ true) where
+module _ (text : List ℕ) (i c : ℕ) (rest : List ℕ) (u : IsUtf8 text) (at : IsCharBoundary text i)
+    (split : drop i text ≡ encode_utf8 c ++ rest) (bad : is_forbidden c ≡ true) where
   some : i < length text
   some =
       let long : length (drop i text) ≡ length (encode_utf8 c ++ rest) = ap length split in
@@ -92,7 +94,9 @@ module _ (text : List ℕ) (i c : ℕ) (rest : List ℕ) (u : IsUtf8 text) (at :
       let whole : drop i text ≡ drop i t ++ drop m text = ap (drop i) (sym (take-append-drop m text))
       ∙ drop-append-le i t (drop m text) left in
       let is_some : 0 < length (drop i t) = let k = some in let d = length-drop i t in omega arith in
-      let there : is_allowed c ≡ true = begins (drop i t) (drop m text) rest c tail is_some (subst IsUtf8 whole (IsUtf8-drop text i u at)) (sym whole ∙ split) (both _ _ every).1 in
+      let there : is_allowed c ≡ true =
+      begins (drop i t) (drop m text) rest c tail is_some (subst IsUtf8 whole (IsUtf8-drop text i u at))
+      (sym whole ∙ split) (both _ _ every).1 in
       against (is_allowed c) there bad
 
   pub first_at : NoCharPasses is_forbidden (take i text) → IsAllowedUpTo text i
@@ -102,7 +106,8 @@ module _ (text : List ℕ) (i c : ℕ) (rest : List ℕ) (u : IsUtf8 text) (at :
 -- where `find` finds nothing, the text is allowed, and what it finds is the first that is not
 pub finds : (text : List ℕ) (M : (ℕ → Bool) → Type 0) → IsUtf8 text → (result : Option ℕ)
     → MatchOption result ((k : ℕ → Bool) → M k → FindsBy k text None)
-    (λ i. (j : ℕ) × ((k : ℕ → Bool) → M k → FindsBy k text (Some (i, j))) × (i ≤ j) × IsCharBoundary text i × IsCharBoundary text j)
+    (λ i. (j : ℕ) × ((k : ℕ → Bool) → M k → FindsBy k text (Some (i, j))) × (i ≤ j) × IsCharBoundary text i
+    × IsCharBoundary text j)
     → M is_forbidden → MatchOption result (IsAllowed text) (IsAllowedUpTo text)
 finds text M u None m by = none_forbidden text u (m is_forbidden by)
 finds text M u (Some i) (j, f, le, start, end) by =

@@ -44,12 +44,14 @@ content-raised by _ = refl
 
 -- the shape of the second table in the join
 pub at_joined : (first second : List PlainShape) (id : ℕ)
-    → shape_at (joined_tables first second) (length first + id) ≡ option_map (raised (length first)) (shape_at second id)
+    → shape_at (joined_tables first second) (length first + id)
+    ≡ option_map (raised (length first)) (shape_at second id)
 at_joined first second id = at_right first (map (raised (length first)) second) id
     ∙ slice_get-map (raised (length first)) second id
 
 step_joined : (first second : List PlainShape) (id : ℕ)
-    → step_from (joined_tables first second) (length first + id) ≡ option_map (λ n. length first + n) (step_from second id)
+    → step_from (joined_tables first second) (length first + id)
+    ≡ option_map (λ n. length first + n) (step_from second id)
 step_joined first second id = ap (option_and_then optional_content) (at_joined first second id)
     ∙ by_shape (shape_at second id)
   where

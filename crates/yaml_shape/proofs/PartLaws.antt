@@ -81,7 +81,8 @@ pub too_large : (fault : SchemaFault) (first : List PlainShape) (parts : Parts) 
     → AreJoined first parts table starts ((schema, start) ∷ rest) → IsTooLarge (length table + length schema) fault
     → IsTooLarge (length (joined_all first (parts_of parts))) fault
 too_large fault first parts table starts schema start rest are h =
-    let whole : length (joined_all (joined_tables table schema) (parts_of rest)) ≡ length (joined_all first (parts_of parts)) =
+    let whole : length (joined_all (joined_tables table schema) (parts_of rest))
+    ≡ length (joined_all first (parts_of parts)) =
     ap length are.tables in
     larger fault (length table + length schema) (length (joined_all first (parts_of parts)))
     (omega (arith, longer (joined_tables table schema) (parts_of rest), length-joined_tables table schema)) h

@@ -120,7 +120,8 @@ keeps_all first (part ∷ parts) back closed =
           (stands_longer (length first) part.0 (joined_tables first part.0) (rest.0 ++ back)
           (λ id within. at_joined first part.0 id))
           (All-head (λ p. AllNameWithin (length p.0) p.0) part parts closed)),
-      subst (λ n. KeepsAllShapes n parts (joined_all (joined_tables first part.0) parts ++ back)) (length-joined_tables first part.0)
+      subst (λ n. KeepsAllShapes n parts (joined_all (joined_tables first part.0) parts ++ back))
+      (length-joined_tables first part.0)
           (keeps_all (joined_tables first part.0) parts back
           (All-tail (λ p. AllNameWithin (length p.0) p.0) part parts closed)),
     )

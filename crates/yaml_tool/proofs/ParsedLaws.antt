@@ -31,7 +31,8 @@ pub many-documents : (text : List ℕ) (stream : PlainStream) → IsOfText text 
 many-documents text stream p = ap (λ x. x.is_document) p.holds
 
 -- what is told of its documents is told of the text's
-pub turns-parsed : (bytes : List ℕ) (limits : PlainLimits) (table named : List PlainShape) (s : PlainShape) (stream : PlainStream)
+pub turns-parsed : (bytes : List ℕ) (limits : PlainLimits) (table named : List PlainShape) (s : PlainShape)
+    (stream : PlainStream)
     (ended : Status) (text : List ℕ) → table ≡ named → IsOfText bytes stream
     → AreToldInTurn limits table s stream.documents ended text
     → IsParsed bytes (λ events fault. AreToldInTurn limits named s (documents_of events fault) ended text)

@@ -66,7 +66,8 @@ module _ {X A B : Type 0} (f : A → B → B) (va : A → List PlainEmit) (vb : 
     front = are.front ++ x ∷ [];
     is = append_assoc are.front (x ∷ []) rest ∙ (ap (λ l. are.front ++ l) (sym next) ∙ are.is);
     put = are.put ∙ (ap (λ l. made (λ part. mid ++ vb part) (all l)) next
-        ∙ (ap (made (λ part. mid ++ vb part)) (step x rest) ∙ left-joined f va vb vb row (one x) (all rest) mid new put));
+        ∙ (ap (made (λ part. mid ++ vb part)) (step x rest)
+        ∙ left-joined f va vb vb row (one x) (all rest) mid new put));
     keep = All-push kept are.front x are.keep keeps;
     hold = λ h. are.hold (subst held (sym next) (cons x rest hold h));
   }
@@ -111,33 +112,38 @@ module _ {T : Type 0} (table : List PlainShape) (id : ℕ) (written : T → Plai
   -- the elements that are not left are put
   abbrev pub ElementsPut : (whole left : List T) (old now : List PlainEmit) → Type 0
   ElementsPut =
-      AreFront emit_node emit_node_events emit_nodes_events node-row (λ x. written_node table id (written x)) elements_of kept
+      AreFront emit_node emit_node_events emit_nodes_events node-row (λ x. written_node table id (written x))
+      elements_of kept
       (λ x. IsHeld (written x)) (λ xs. AreHeld (items_of (map written xs)))
 
   pub no_element_put : (whole : List T) (old : List PlainEmit) → ElementsPut whole whole old old
   no_element_put =
-      none_put emit_node emit_node_events emit_nodes_events node-row (λ x. written_node table id (written x)) elements_of kept
+      none_put emit_node emit_node_events emit_nodes_events node-row (λ x. written_node table id (written x))
+      elements_of kept
       (λ x. IsHeld (written x)) (λ xs. AreHeld (items_of (map written xs)))
 
   pub element_put : (whole left rest : List T) (x : T) (old mid new : List PlainEmit) → left ≡ x ∷ rest
       → IsPut emit_node_events (written_node table id (written x)) mid new → kept x → IsHeld (written x)
       → ElementsPut whole left old mid → ElementsPut whole rest old new
   element_put =
-      one_put emit_node emit_node_events emit_nodes_events node-row (λ x. written_node table id (written x)) elements_of kept
+      one_put emit_node emit_node_events emit_nodes_events node-row (λ x. written_node table id (written x)) elements_of
+      kept
       (λ x. IsHeld (written x)) (λ xs. AreHeld (items_of (map written xs))) (λ x xs. refl) (λ x xs one all. (one, all))
 
   pub elements_put : (whole left : List T) (old now : List PlainEmit) → left ≡ [] → ElementsPut whole left old now
       → IsPut emit_nodes_events (elements_of whole) old now × All kept whole
       × AreHeld (items_of (map written whole))
   elements_put =
-      all_put emit_node emit_node_events emit_nodes_events node-row (λ x. written_node table id (written x)) elements_of kept
+      all_put emit_node emit_node_events emit_nodes_events node-row (λ x. written_node table id (written x)) elements_of
+      kept
       (λ x. IsHeld (written x)) (λ xs. AreHeld (items_of (map written xs))) no_emit_nodes refl refl tt
 
   pub element_refused : (unwritten : T → List ℕ → Type 0) (whole left rest : List T) (x : T) (old mid : List PlainEmit)
       (cause : Cause) → left ≡ x ∷ rest → IsFaultOf (written_node table id (written x)) (unwritten x) cause
       → ElementsPut whole left old mid → IsFaultOf (elements_of whole) (SomeUnwritten unwritten whole) cause
   element_refused =
-      next_refused emit_node emit_node_events emit_nodes_events node-row (λ x. written_node table id (written x)) elements_of
+      next_refused emit_node emit_node_events emit_nodes_events node-row (λ x. written_node table id (written x))
+      elements_of
       kept (λ x. IsHeld (written x)) (λ xs. AreHeld (items_of (map written xs))) (λ x xs. refl)
 
 -- Keys of one shape, each with its value of another.

@@ -78,12 +78,14 @@ pub trait Serialize {
     /// number. Where nothing else is said, the data is made first. Refused where memory runs out, by a message, or for
     /// bytes or a tag upon a tag in the data; then part of the node may be there.
     fn write_node(&self, out: &mut EventBuffer, schema: &Schema, id: ShapeId) -> Result<(), Error>
-        ensures put { OnOk result (IsPut emit_node_events (written_node schema.now id.0 (written self.now)) out.old out.new) }
+        ensures put { OnOk result
+        (IsPut emit_node_events (written_node schema.now id.0 (written self.now)) out.old out.new) }
         ensures kept { OnOk result (kept self.now) }
 
         // The texts of its data are UTF-8, the characters are characters, and the values are values.
         ensures held { OnOk result (IsHeld (written self.now)) }
-        ensures refused { IfErr result (IsFaultOf (written_node schema.now id.0 (written self.now)) (unwritten self.now)) }
+        ensures refused { IfErr result
+        (IsFaultOf (written_node schema.now id.0 (written self.now)) (unwritten self.now)) }
     {
         let content = self.to_data(out.alloc())?;
         data_is_held(&content);

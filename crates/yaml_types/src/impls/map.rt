@@ -142,7 +142,8 @@ fn put_pair<K: Serialize, V: Serialize>(
     ensures kept { OnOk result (K.kept key.now × V.kept value.now) }
     ensures held { OnOk result (IsHeld (K.written key.now) × IsHeld (V.written value.now)) }
     ensures refused { IfErr result (IsFaultOf (joined pair_node (written_node schema.now ids.0.0 (K.written key.now))
-        (written_node schema.now ids.1.0 (V.written value.now))) (PairUnwritten K.unwritten V.unwritten (key.now, value.now))) }
+        (written_node schema.now ids.1.0 (V.written value.now)))
+        (PairUnwritten K.unwritten V.unwritten (key.now, value.now))) }
 {
     key.write_node(out, schema, ids.0)?;
     value.write_node(out, schema, ids.1)

@@ -22,7 +22,8 @@ build_items-build_folder-requires t c =
     let smaller = item_smaller c.args.items.now c.loop-item.item-index c.item-item.result c.loop-item-test.true
     c.item-item.is in (
       omega (arith, smaller, c.decreases),
-      item_has c.args.items.now c.loop-item.item-index c.item-item.result c.loop-item-test.true c.item-item.is c.requires,
+      item_has c.args.items.now c.loop-item.item-index c.item-item.result c.loop-item-test.true c.item-item.is
+          c.requires,
     )
 
 pub build_items-loop-item-preserved : goal.build_items-loop-item-preserved

@@ -20,6 +20,7 @@ pub documents-preserved : goal.documents-preserved
 documents-preserved c = (
   c.in_ok-mark-2.ensures.text ∙ c.documents.invariant.0,
   reads_next c.requires.closed c.documents.invariant.1 c.in-Some-2.is c.in_ok-mark-2.ensures.on
-      (subst (λ (t : List ℕ). IfSome c.in_ok-mark-2.field-0 (λ _. AreEventsOf t c.read_on-in-documents.new.events.given))
+      (subst (λ (t : List ℕ). IfSome c.in_ok-mark-2.field-0
+      (λ _. AreEventsOf t c.read_on-in-documents.new.events.given))
       c.documents.invariant.0 c.in_ok-mark-2.ensures.of_text),
 )

@@ -35,7 +35,8 @@ returns-then-ends-clause-on c =
     reads_more c.args.events.now.given c.args.builder.now c.events.events.given c.take_next-event.new.self.given
     c.events.builder c.push.new.self (e.0, e.1) (Some e.1) on
     (c.take_next-event.ensures.given ∙ ap (λ (es : _). es ++ e ∷ []) c.has_next.ensures.given)
-    c.in_default.ensures.taken (ends_now on.more (event_of e.0) e.1 on.ends (sym c.is_end-ends.ensures ∙ c.if-ends.true))
+    c.in_default.ensures.taken
+    (ends_now on.more (event_of e.0) e.1 on.ends (sym c.is_end-ends.ensures ∙ c.if-ends.true))
 
 pub events-preserved : goal.events-preserved
 events-preserved c =

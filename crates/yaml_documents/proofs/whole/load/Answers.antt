@@ -10,7 +10,8 @@ use Rattle.yaml_read.specs.Documents.{documents_of}
 pub returns-in-Err-clause-memory : goal.returns-in-Err-clause-memory
 returns-in-Err-clause-memory c =
     not_false (is_memory c.in-Err.fault) (λ other.
-    never_wrong c.events.builder c.events.events.given c.take_next-event.new.self.given (c.take_next-event.result.0, c.take_next-event.result.1)
+    never_wrong c.events.builder c.events.events.given c.take_next-event.new.self.given
+    (c.take_next-event.result.0, c.take_next-event.result.1)
     c.events.invariant.1
     (c.take_next-event.ensures.given ∙ ap (λ (es : _). es ++ c.take_next-event.result ∷ []) c.has_next.ensures.given)
     c.has_events.ensures.begins (c.in-Err.ensures.wrong other).1)

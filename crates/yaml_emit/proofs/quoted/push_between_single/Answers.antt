@@ -12,7 +12,8 @@ loop-letter-preserved c =
     let t = YieldsList-turn (YieldsList-from_chars c.args.text.now c.utf8.text cc) c.loop-letter.yielded _
     c.loop-letter.yielded_by _ _ c.in-Some.letter c.in-Some.is c.next.ensures.steps in
     piece_kept (single_rest c.args.indent) (single_piece c.args.indent) (λ _ _ _. refl) (chars c.args.text.now)
-    c.loop-letter.yielded c.in-Some.letter c.loop-letter.broken _ _ _ c.in_ok-push_single_piece.ensures c.loop-letter.invariant t
+    c.loop-letter.yielded c.in-Some.letter c.loop-letter.broken _ _ _ c.in_ok-push_single_piece.ensures
+    c.loop-letter.invariant t
 
 pub returns : goal.returns
 returns c =

@@ -25,12 +25,14 @@ pub returns-in-Some-into_text-clause-printed : goal.returns-in-Some-into_text-cl
 returns-in-Some-into_text-clause-printed c =
     whole_text (map emit_of c.args.events.now) (string_bytes c.in-Some-into_text.text)
     (sym c.loop-event.invariant
-    ∙ (ap (λ es. printed_from (Some (laid c.loop-event.layout)) es) (none_left c.loop-event.left.now c.in_default.ensures.cases)
+    ∙ (ap (λ es. printed_from (Some (laid c.loop-event.layout)) es)
+    (none_left c.loop-event.left.now c.in_default.ensures.cases)
     ∙ sym c.in-Some-into_text.ensures))
 
 pub returns-in-None-clause-no_stream : goal.returns-in-None-clause-no_stream
 returns-in-None-clause-no_stream c = λ not_memory stream.
     no_stream (map emit_of c.args.events.now)
     (sym c.loop-event.invariant
-    ∙ (ap (λ es. printed_from (Some (laid c.loop-event.layout)) es) (none_left c.loop-event.left.now c.in_default.ensures.cases)
+    ∙ (ap (λ es. printed_from (Some (laid c.loop-event.layout)) es)
+    (none_left c.loop-event.left.now c.in_default.ensures.cases)
     ∙ sym c.in-None.ensures)) stream

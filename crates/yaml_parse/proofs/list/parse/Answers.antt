@@ -11,7 +11,8 @@ pub returns-clause-refused : goal.returns-clause-refused
 returns-clause-refused c = λ against.
     let text = c.in_ok-new.ensures.text in
     let told =
-    c.in_ok-events.ensures.refused (λ (allowed : IsAllowed c.in_ok-new.field-0.text). against (subst IsAllowed text allowed)) in (
+    c.in_ok-events.ensures.refused
+    (λ (allowed : IsAllowed c.in_ok-new.field-0.text). against (subst IsAllowed text allowed)) in (
       told.0,
       subst (λ (t : _). IsSomeAnd c.in_ok-events.field-0-1.fault (λ f. IsOfReader t f.kind f.offset)) text told.1,
     )

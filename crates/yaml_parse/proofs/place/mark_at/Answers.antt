@@ -17,7 +17,8 @@ loop-at-preserved c =
           goes_to_column text at line column _ _ c.loop-at.invariant (c.is_printed.ensures.goes_on w.if-is_printed.true)
           (c.is_printed.ensures.counts w.if-is_printed.true) w.line-is w.column-is
       | else-is_printed+then-ends_line w ↦
-          goes_to_line text at line column _ _ c.loop-at.invariant (sym w.ends_line.ensures ∙ w.if-ends_line.true) w.line-is
+          goes_to_line text at line column _ _ c.loop-at.invariant (sym w.ends_line.ensures ∙ w.if-ends_line.true)
+          w.line-is
           w.column-is
       | else-is_printed+else-ends_line+then-begins_character w ↦
           goes_to_column text at line column _ _ c.loop-at.invariant (sym w.ends_line.ensures ∙ w.if-ends_line.false)

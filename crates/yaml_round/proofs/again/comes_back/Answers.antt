@@ -17,7 +17,8 @@ returns-in-Err-render g c = λ few fits m. let bad : true ≡ false = sym c.in-E
 
 pub returns-in-Ok-from_events_limited : goal.returns-in-Ok-from_events_limited
 returns-in-Ok-from_events_limited g c = λ few fits.
-    equal_again g.T.PartialEq.eq (g.T.Serialize.unwritten c.args.value.now) c.args.value.now c.in-Ok-from_events_limited.found _ c.eq.ensures
+    equal_again g.T.PartialEq.eq (g.T.Serialize.unwritten c.args.value.now) c.args.value.now
+    c.in-Ok-from_events_limited.found _ c.eq.ensures
     (c.a_written_value_reads_back.ensures c.args.limits c.args.value.now (map emit_of c.in-Ok.written.items)
     (plain_marked c.in-Ok-render.input.items) (Ok c.in-Ok-from_events_limited.found) c.in-Ok.ensures.table
     c.in-Ok.ensures.kept c.in-Ok.ensures.held fits c.in-Ok.ensures.written

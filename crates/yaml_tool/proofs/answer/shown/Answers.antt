@@ -12,7 +12,8 @@ returns c = (
   c.in_ok-line.ensures.1,
   subst (λ ended. IsTextReading c.args.limits (table_of c.args.named) (first_shape c.args.named) c.args.text.now ended
       (string_bytes c.in_ok-told.told.text)) (sym c.in_ok-line.ensures.0)
-      (subst (λ table. IsTextReading c.args.limits table (first_shape c.args.named) c.args.text.now c.in_ok-told.told.ended
+      (subst (λ table. IsTextReading c.args.limits table (first_shape c.args.named) c.args.text.now
+      c.in_ok-told.told.ended
       (string_bytes c.in_ok-told.told.text)) c.in-Ok.ensures.ok
       (c.in_ok-told.ensures (first_shape c.args.named)
       (ap (λ t. shape_at t 0) c.in-Ok.ensures.ok ∙ is_first c.args.named))),

@@ -15,9 +15,11 @@ returns c =
     IfOk-weaker c.read_in_turn.result
     (λ told. AreToldInTurn c.args.limits c.in-Ok.schema (first_shape c.args.named) c.in-Ok-from_slice.stream.documents
     told.ended (string_bytes told.text))
-    (λ told. IsParsed c.args.text.now (λ events fault. AreToldInTurn c.args.limits (table_of c.args.named) (first_shape c.args.named)
+    (λ told. IsParsed c.args.text.now
+    (λ events fault. AreToldInTurn c.args.limits (table_of c.args.named) (first_shape c.args.named)
     (documents_of events fault) told.ended (string_bytes told.text)))
-    (λ told turns. turns-parsed c.args.text.now c.args.limits c.in-Ok.schema (table_of c.args.named) (first_shape c.args.named)
+    (λ told turns. turns-parsed c.args.text.now c.args.limits c.in-Ok.schema (table_of c.args.named)
+    (first_shape c.args.named)
     c.in-Ok-from_slice.stream told.ended (string_bytes told.text) c.in-Ok.ensures.ok
     c.in-Ok-from_slice.ensures.documents turns)
     (c.read_in_turn.ensures (first_shape c.args.named)

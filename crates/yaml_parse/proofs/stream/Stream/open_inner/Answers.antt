@@ -24,21 +24,25 @@ invariant_of-self-2 c =
     shown_there now.text.now (event_of c.args.event) said begins c.in_ok-begins.ensures.index
     (subst (λ t. IsShown t (event_of c.args.event) said) (sym c.in_ok-begins.ensures.kept.0) c.requires.shown) in
     let moves =
-    moves_still old.phase now.phase old.outer.items now.outer.items (event_of c.args.event) (λ os. within (open_of c.args.first ∷ open_of c.args.back ∷ opens os))
+    moves_still old.phase now.phase old.outer.items now.outer.items (event_of c.args.event)
+    (λ os. within (open_of c.args.first ∷ open_of c.args.back ∷ opens os))
     c.in_ok-begins.ensures.phase c.in_ok-begins.ensures.outer c.requires.moves in
     let index = c.in_ok-begins.ensures.index in
     let here = c.in_ok-begins.ensures.here in
     let around : Frame × Position = (c.args.back, now.opened) in
     record {
-      ran = goes_to now.events.made.items c.push_reserved.new.self.made.items x (state_of now.phase now.outer.items) _ grown
+      ran = goes_to now.events.made.items c.push_reserved.new.self.made.items x (state_of now.phase now.outer.items) _
+      grown
           now.ran moves
           ∙ ap Some (opened_more now.outer.items c.push_reserved-2.new.self.items c.args.first around
           (c.push_reserved-2.ensures.items ∙ ap (λ xs. xs ++ around ∷ []) c.reserve-2.ensures.items));
       shown = shown_to now.text.now now.events.made.items c.push_reserved.new.self.made.items x grown now.shown shown;
       plain = said_to now.events.made.items c.push_reserved.new.self.made.items x grown now.plain c.requires.plain;
-      marks = marks_to now.text.now now.events.made.items c.push_reserved.new.self.made.items x now.reached.index grown now.marks
+      marks = marks_to now.text.now now.events.made.items c.push_reserved.new.self.made.items x now.reached.index grown
+      now.marks
           now.last (omega (arith, index, here)) (omega (arith, index, c.in_ok-begins.ensures.within));
-      last = reached_to now.events.made.items c.push_reserved.new.self.made.items x now.reached.index now.reached.index grown
+      last = reached_to now.events.made.items c.push_reserved.new.self.made.items x now.reached.index now.reached.index
+      grown
           now.last (omega (arith, index, here)) (omega (arith, index, here));
       places = placed_to now.text.now now.events.made.items c.push_reserved.new.self.made.items x grown now.places
           c.in_ok-begins.ensures.place;
