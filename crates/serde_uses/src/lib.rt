@@ -74,8 +74,8 @@ pub fn all_jobs(alloc: Global, text: &str) -> Result<u32, Error> {
     Ok(jobs)
 }
 
-/// How many services the documents of a text are. One is there at a time, so that a text of many takes the memory of its
-/// largest.
+/// How many services the documents of a text are. One is there at a time, so that a text of many takes the memory of
+/// its largest.
 pub fn count_services(alloc: Global, text: &str) -> Result<u64, Error> {
     let mut documents = DocumentStream::from_str(alloc, text)?;
     for count in 0..u64::MAX {

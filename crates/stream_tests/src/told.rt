@@ -59,8 +59,8 @@ pub fn at_once(alloc: Global, text: &[u8]) -> Result<String, Error> {
     Ok(out)
 }
 
-/// Those that are handed out one by one, and how many they are. The reader is asked until it has answered none, and once
-/// more.
+/// Those that are handed out one by one, and how many they are. The reader is asked until it has answered none, and
+/// once more.
 pub fn one_by_one(alloc: Global, text: &[u8]) -> Result<(String, usize), Error> {
     let mut documents = reader(alloc, text)?;
     let mut out = String::new(alloc);

@@ -2,8 +2,8 @@
 
 use std::alloc::Global;
 use std::test::Fail;
-use yaml_base::Result as Answer;
 use yaml::DocumentStream;
+use yaml_base::Result as Answer;
 
 // The values of the documents of a text, or the faults by which they are refused, one after another.
 const ROWS: &[(&str, &str)] = &[

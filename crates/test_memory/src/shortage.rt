@@ -11,8 +11,8 @@ const LARGEST: usize = 1 << 40;
 // The size of a block that the allocator takes from its heap, and does not ask of the system by itself.
 const RESERVE: usize = 100_000;
 
-// How many such blocks are kept for making what a call needs. Small blocks that a run gives back stay where they were, in
-// lists of the allocator, and the next run's memory has to lie behind them.
+// How many such blocks are kept for making what a call needs. Small blocks that a run gives back stay where they were,
+// in lists of the allocator, and the next run's memory has to lie behind them.
 const RESERVES: usize = 8;
 
 // A block that is too large for the lists of small blocks that the allocator keeps when they are freed.

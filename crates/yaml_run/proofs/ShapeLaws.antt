@@ -15,7 +15,8 @@ use Rattle.yaml_shape.specs.SchemaRefusal.{IsRefused}
 use Rattle.yaml_shape.specs.Validity.{NamesWithin, AllNameWithin, AreDistinct, IsDistinctInside, HasDistinctNames}
 use Rattle.yaml_shape.specs.Validity.{named, step_from, walk}
 use Rattle.yaml_shape.specs.declared.fault.SchemaFault.{SchemaFault}
-use Rattle.yaml_shape.specs.declared.fault.SchemaFault.TheVariants.{OutsideTable, OptionCycle, NameTwice, TooManyShapes, Memory}
+use Rattle.yaml_shape.specs.declared.fault.SchemaFault.TheVariants.{OutsideTable, OptionCycle, NameTwice, TooManyShapes}
+use Rattle.yaml_shape.specs.declared.fault.SchemaFault.TheVariants.{Memory}
 use Rattle.yaml_run.specs.Shapes.{table_of, shape_of_basic, shape_of_outer, shape_of_inner}
 use Rattle.yaml_run.specs.declared.shapes.Named.{Named}
 use Rattle.yaml_run.specs.declared.shapes.Named.TheVariants as shape

@@ -8,13 +8,14 @@ use Rattle.std.specs.declared.alloc.Global.{Global}
 use Rattle.std.proofs.lemmas.List.{length-map, map-append}
 use Rattle.std.proofs.lemmas.List.Elements.{All-nil, All-cons, All-head, All-tail, All-push, All-map}
 use Rattle.yaml_shape.specs.PlainShape.{PlainShape}
-use Rattle.yaml_shape.specs.ShapeView.{ids_of, field_of, fields_of}
+use Rattle.yaml_shape.specs.ShapeView.{ids_of, fields_of}
 use Rattle.yaml_shape.specs.Validity.{AllNameWithin}
 use Rattle.yaml_shape.specs.Join.{raised, joined_tables, joined_all, starts_behind, parts_of, StartsWithin, IsRow}
 use Rattle.yaml_shape.specs.Join.{IsTooLarge}
 use Rattle.yaml_shape.specs.declared.shape.ShapeId.{ShapeId}
 use Rattle.yaml_shape.specs.declared.fault.SchemaFault.{SchemaFault}
-use Rattle.yaml_shape.specs.declared.fault.SchemaFault.TheVariants.{OutsideTable, OptionCycle, NameTwice, TooManyShapes, Memory}
+use Rattle.yaml_shape.specs.declared.fault.SchemaFault.TheVariants.{OutsideTable, OptionCycle, NameTwice, TooManyShapes}
+use Rattle.yaml_shape.specs.declared.fault.SchemaFault.TheVariants.{Memory}
 
 -- tables with their starts
 abbrev pub Parts : Type 0
@@ -142,26 +143,3 @@ pub record AreNamed (names : List (String Global)) (ids : List ShapeId) (fields 
     (rest : List (String Global)) (left : List ShapeId) : Type 0 where
   pub row : fields_of fields ++ zip (map string_bytes rest) (ids_of left) ≡ zip (map string_bytes names) (ids_of ids)
   pub same : length rest ≡ length left
-
--- one more has
-pub one_named : (names : List (String Global)) (ids : List ShapeId) (fields more : List (String Global × ShapeId))
-    (name : String Global) (id : ShapeId) (before rest : List (String Global)) (all left : List ShapeId)
-    → before ≡ name ∷ rest → all ≡ id ∷ left → more ≡ fields ++ (name, id) ∷ []
-    → AreNamed names ids fields before all → AreNamed names ids more rest left
-one_named names ids fields more name id before rest all left next first pushed are =
-    let here : AreNamed names ids fields (name ∷ rest) (id ∷ left) =
-    subst (λ l. AreNamed names ids fields (name ∷ rest) l) first
-    (subst (λ l. AreNamed names ids fields l all) next are) in
-    record {
-      row = ap (λ l. fields_of l ++ zip (map string_bytes rest) (ids_of left)) pushed
-          ∙ (ap (λ l. l ++ zip (map string_bytes rest) (ids_of left)) (map-append field_of fields ((name, id) ∷ []))
-          ∙ (append_assoc (fields_of fields) (field_of (name, id) ∷ []) (zip (map string_bytes rest) (ids_of left))
-          ∙ here.row));
-      same = omega (arith, here.same);
-    }
-
--- all have
-pub all_named : (names : List (String Global)) (ids : List ShapeId) (fields : List (String Global × ShapeId))
-    (left : List ShapeId) → AreNamed names ids fields [] left
-    → fields_of fields ≡ zip (map string_bytes names) (ids_of ids)
-all_named names ids fields left are = sym (append-nil (fields_of fields)) ∙ are.row

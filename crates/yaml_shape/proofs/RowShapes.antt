@@ -12,7 +12,8 @@ use Rattle.yaml_shape.specs.Join.{IsNotAdded}
 use Rattle.yaml_shape.specs.Kept.{KeepsShapes, KeepsAllShapes}
 use Rattle.yaml_shape.specs.declared.shape.ShapeId.{ShapeId}
 use Rattle.yaml_shape.specs.declared.fault.SchemaFault.{SchemaFault}
-use Rattle.yaml_shape.specs.declared.fault.SchemaFault.TheVariants.{OutsideTable, OptionCycle, NameTwice, TooManyShapes, Memory}
+use Rattle.yaml_shape.specs.declared.fault.SchemaFault.TheVariants.{OutsideTable, OptionCycle, NameTwice, TooManyShapes}
+use Rattle.yaml_shape.specs.declared.fault.SchemaFault.TheVariants.{Memory}
 use Rattle.yaml_shape.proofs.PartLaws.{Parts, starts_inside, length-starts}
 use Rattle.yaml_shape.proofs.Stands.{keeps_first, begins, keeps_all}
 

@@ -121,7 +121,7 @@ keeps_all first (part ∷ parts) back closed =
           (λ id within. at_joined first part.0 id))
           (All-head (λ p. AllNameWithin (length p.0) p.0) part parts closed)),
       subst (λ n. KeepsAllShapes n parts (joined_all (joined_tables first part.0) parts ++ back))
-      (length-joined_tables first part.0)
+          (length-joined_tables first part.0)
           (keeps_all (joined_tables first part.0) parts back
           (All-tail (λ p. AllNameWithin (length p.0) p.0) part parts closed)),
     )

@@ -10,7 +10,8 @@ use Rattle.yaml_shape.specs.ShapeView.{ids_of}
 use Rattle.yaml_shape.specs.Validity.{HasDistinctNames}
 use Rattle.yaml_shape.specs.declared.shape.ShapeId.{ShapeId}
 use Rattle.yaml_shape.specs.declared.fault.SchemaFault.{SchemaFault}
-use Rattle.yaml_shape.specs.declared.fault.SchemaFault.TheVariants.{OutsideTable, OptionCycle, NameTwice, TooManyShapes, Memory}
+use Rattle.yaml_shape.specs.declared.fault.SchemaFault.TheVariants.{OutsideTable, OptionCycle, NameTwice, TooManyShapes}
+use Rattle.yaml_shape.specs.declared.fault.SchemaFault.TheVariants.{Memory}
 
 -- numbers, each raised by so much
 abbrev pub raised_ids : ℕ → List ℕ → List ℕ

@@ -3,7 +3,8 @@ use Rattle.std.specs.Prelude.{ℕ, ◌<◌, ◌≤◌, List, length, take, All, 
 use Rattle.yaml_shape.specs.PlainShape.{PlainShape, shape_at}
 use Rattle.yaml_shape.specs.Validity.{NamesWithin, AllNameWithin, HasDistinctNames, IsCycle}
 use Rattle.yaml_shape.specs.declared.fault.SchemaFault.{SchemaFault}
-use Rattle.yaml_shape.specs.declared.fault.SchemaFault.TheVariants.{OutsideTable, OptionCycle, NameTwice, TooManyShapes, Memory}
+use Rattle.yaml_shape.specs.declared.fault.SchemaFault.TheVariants.{OutsideTable, OptionCycle, NameTwice, TooManyShapes}
+use Rattle.yaml_shape.specs.declared.fault.SchemaFault.TheVariants.{Memory}
 
 -- the shape with this number isn't so, and each before it is
 pub record IsFirstWithout (P : PlainShape → Type 0) (shapes : List PlainShape) (number : ℕ) : Type 0 where
@@ -37,7 +38,8 @@ pub record IsCyclic (shapes : List PlainShape) (number : ℕ) : Type 0 where
   pub distinct : All HasDistinctNames shapes
   pub first : IsFirstCycle shapes number
 
--- the fault is the first that the table has in the order TooManyShapes, OutsideTable, NameTwice, OptionCycle, or want of memory
+-- the fault is the first that the table has in the order TooManyShapes, OutsideTable, NameTwice, OptionCycle, or want
+-- of memory
 abbrev pub IsRefused : List PlainShape → SchemaFault → Type 0
 IsRefused shapes TooManyShapes = 4096 < length shapes
 IsRefused shapes (OutsideTable number) = (length shapes ≤ 4096) × IsFirstOutside shapes number

@@ -60,7 +60,10 @@ impl fmt::Display for SchemaFault {
 
     fn fmt<W: fmt::Write>(&self, f: &mut fmt::Formatter<W>) -> fmt::Result {
         match self {
-            SchemaFault::OutsideTable(number) => write!(f, "shape {number} names a shape outside the table"),
+            SchemaFault::OutsideTable(number) => write!(
+                f,
+                "shape {number} names a shape outside the table"
+            ),
             SchemaFault::OptionCycle(number) => write!(f, "shape {number} is a cycle of options"),
             SchemaFault::NameTwice(number) => write!(f, "shape {number} has a name twice"),
             SchemaFault::TooManyShapes => f.write_str("more than 4096 shapes"),

@@ -46,8 +46,9 @@ pub(crate) fn add(schema: Schema, shape: Shape) -> Result<(Schema, ShapeId), Sch
     Ok((Schema { shapes }, ShapeId(start as u32)))
 }
 
-/// The table with one more shape behind it, which may have a name twice, and the number of that shape. Refused by `TooManyShapes`
-/// where there is no room for it, else by `NameTwice` with its number where it has a name twice, and by `Memory`.
+/// The table with one more shape behind it, which may have a name twice, and the number of that shape. Refused by
+/// `TooManyShapes` where there is no room for it, else by `NameTwice` with its number where it has a name twice, and by
+/// `Memory`.
 pub(crate) fn add_named(
     alloc: Global,
     schema: Schema,
@@ -73,8 +74,8 @@ pub(crate) fn add_named(
 }
 
 /// The schema with a struct of this name behind it around one content, which is of the shape with this number, and the
-/// number of the struct. `Schema::has` is the test of what is asked. Refused by `TooManyShapes` where there is no room for it, and
-/// by `Memory`.
+/// number of the struct. `Schema::has` is the test of what is asked. Refused by `TooManyShapes` where there is no room
+/// for it, and by `Memory`.
 pub fn newtype_of(
     _alloc: Global,
     name: String,
@@ -96,7 +97,8 @@ pub fn newtype_of(
 }
 
 /// The schema with a sequence behind it whose elements are of the shape with this number, and the number of the
-/// sequence. `Schema::has` is the test of what is asked. Refused by `TooManyShapes` where there is no room for it, and by `Memory`.
+/// sequence. `Schema::has` is the test of what is asked. Refused by `TooManyShapes` where there is no room for it, and
+/// by `Memory`.
 pub fn seq_of(
     _alloc: Global,
     schema: Schema,
@@ -111,7 +113,8 @@ pub fn seq_of(
 }
 
 /// The schema with an optional behind it whose content is of the shape with this number, and the number of the
-/// optional. `Schema::has` is the test of what is asked. Refused by `TooManyShapes` where there is no room for it, and by `Memory`.
+/// optional. `Schema::has` is the test of what is asked. Refused by `TooManyShapes` where there is no room for it, and
+/// by `Memory`.
 pub fn option_of(
     _alloc: Global,
     schema: Schema,
@@ -149,9 +152,9 @@ pub fn map_of(
 }
 
 /// The schema with an enum of this name behind it, whose variants have these names and contents, and the number of the
-/// enum. `Schema::has` is the test of what is asked of each number that a content names. Refused by `TooManyShapes` where there is
-/// no room for it, else by `NameTwice` with the number of the enum where two variants have one name or a variant has one name
-/// for two fields, and by `Memory`.
+/// enum. `Schema::has` is the test of what is asked of each number that a content names. Refused by `TooManyShapes`
+/// where there is no room for it, else by `NameTwice` with the number of the enum where two variants have one name or a
+/// variant has one name for two fields, and by `Memory`.
 pub fn enum_of(
     alloc: Global,
     name: String,

@@ -41,7 +41,8 @@ fn join_row(
 }
 
 /// The schema with all others in a row behind it, the numbers in each moved, and the number that the shape of each has
-/// there. `Schema::has` is the test of what is asked of each. Refused by `TooManyShapes` where there are too many, and by `Memory`.
+/// there. `Schema::has` is the test of what is asked of each. Refused by `TooManyShapes` where there are too many, and
+/// by `Memory`.
 pub fn row_behind(
     alloc: Global,
     first: Schema,
@@ -144,8 +145,9 @@ fn join_fields(
 
 /// All schemas in a row, the numbers in each moved, with a struct of this name behind them whose fields have these
 /// names and are of the shapes with these numbers, and which ignores every other field; and the number of the struct.
-/// There are as many names as schemas, and `Schema::has` is the test of what is asked of each. Refused by `TooManyShapes` where
-/// there are too many, else by `NameTwice` with the number of the struct where a name is there twice, and by `Memory`.
+/// There are as many names as schemas, and `Schema::has` is the test of what is asked of each. Refused by
+/// `TooManyShapes` where there are too many, else by `NameTwice` with the number of the struct where a name is there
+/// twice, and by `Memory`.
 pub fn struct_of(
     alloc: Global,
     name: String,

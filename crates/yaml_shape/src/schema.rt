@@ -51,9 +51,9 @@ impl Schema {
         }
     }
 
-    /// The schema of these shapes, each named by its place. Of several faults the first of `TooManyShapes`, `OutsideTable`, `NameTwice`, `OptionCycle` is
-    /// answered, with the least shape concerned; `Memory` may be answered in place of any. The shapes are dropped on
-    /// refusal.
+    /// The schema of these shapes, each named by its place. Of several faults the first of `TooManyShapes`,
+    /// `OutsideTable`, `NameTwice`, `OptionCycle` is answered, with the least shape concerned; `Memory` may be answered
+    /// in place of any. The shapes are dropped on refusal.
     pub fn new(alloc: Global, shapes: Vec<Shape>) -> Result<Schema, SchemaFault>
         ensures ok { IfOk result (λ schema. (schema ≡ map shape_of shapes.items) × IsValidSchema schema) }
         ensures refused { IfErr result (IsRefused (map shape_of shapes.items)) }

@@ -6,7 +6,8 @@ use Rattle.yaml_shape.specs.Validity.{NamesWithin, HasDistinctNames, step_from, 
 use Rattle.yaml_shape.specs.SchemaRefusal.{IsRefused, IsFirstWithout}
 use Rattle.yaml_shape.specs.Join.{IsTooLarge}
 use Rattle.yaml_shape.specs.declared.fault.SchemaFault.{SchemaFault}
-use Rattle.yaml_shape.specs.declared.fault.SchemaFault.TheVariants.{OutsideTable, OptionCycle, NameTwice, TooManyShapes, Memory}
+use Rattle.yaml_shape.specs.declared.fault.SchemaFault.TheVariants.{OutsideTable, OptionCycle, NameTwice, TooManyShapes}
+use Rattle.yaml_shape.specs.declared.fault.SchemaFault.TheVariants.{Memory}
 use Rattle.yaml_types.specs.Start.{IsLeaf}
 use Rattle.yaml_types.specs.StartLaws.{names_nothing}
 

@@ -202,16 +202,6 @@ pub between : {A : Type 0} (f : A → EmitNode) (va : A → List PlainEmit) (sta
 between f va start end row parts old begun mid new s e h =
     adds-between f va emit_node_events start end row parts old begun mid new (Ok old) s e h
 
-parts_fault_by : {A : Type 0} (f : A → EmitNode) (parts : Result A Cause) (unwritten : List ℕ → Type 0) (cause : Cause)
-    → (parts ≡ Err cause) ⊎ IsWriteRefusal unwritten cause → (made f parts ≡ Err cause) ⊎ IsWriteRefusal unwritten cause
-parts_fault_by f parts unwritten cause (inl e) = inl (ap (made f) e)
-parts_fault_by f parts unwritten cause (inr by) = inr by
-
--- what its parts are refused for, it is refused for
-pub parts_fault : {A : Type 0} (f : A → EmitNode) (parts : Result A Cause) (unwritten : List ℕ → Type 0) (cause : Cause)
-    → IsFaultOf parts unwritten cause → IsFaultOf (made f parts) unwritten cause
-parts_fault f parts unwritten cause h m = parts_fault_by f parts unwritten cause (h m)
-
 -- elements between the start of a sequence and its end, by a shape that is known by another name
 pub sequence_put : (table : List PlainShape) (id id' : ℕ) (items : PlainItems) (old begun mid new : List PlainEmit)
     → id ≡ id' → made (λ e. old ++ e ∷ []) (Ok (emit_sequence_start None)) ≡ Ok begun

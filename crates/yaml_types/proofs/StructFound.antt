@@ -13,7 +13,8 @@ use Rattle.yaml_shape.specs.declared.data.Data.{Data, the_lemmas}
 use Rattle.yaml_shape.specs.declared.data.Data as code
 use Rattle.yaml_shape.specs.declared.shape.ShapeId.{ShapeId}
 use Rattle.yaml_shape.specs.declared.fault.SchemaFault.{SchemaFault}
-use Rattle.yaml_shape.specs.declared.fault.SchemaFault.TheVariants.{OutsideTable, OptionCycle, NameTwice, TooManyShapes, Memory}
+use Rattle.yaml_shape.specs.declared.fault.SchemaFault.TheVariants.{OutsideTable, OptionCycle, NameTwice, TooManyShapes}
+use Rattle.yaml_shape.specs.declared.fault.SchemaFault.TheVariants.{Memory}
 use Rattle.yaml_shape.proofs.PartLaws.{larger}
 use Rattle.yaml_types.specs.Start.{Start, IsClosed, tuple_start}
 use Rattle.yaml_types.specs.PartShapes.{items_match}

@@ -46,7 +46,8 @@ pub trait ReadRow<'de>: Row + Sized {
     // By which messages items are refused.
     ghost refused: { PlainItems → List ℕ → Type 0 };
 
-    /// The schemas of the types behind others. Refused by `TooManyShapes` where one has more than 4,096 shapes, and by `Memory`.
+    /// The schemas of the types behind others. Refused by `TooManyShapes` where one has more than 4,096 shapes, and by
+    /// `Memory`.
     fn schemas(
         alloc: Global,
         before: Vec<(Schema, ShapeId)>,
@@ -155,7 +156,8 @@ pub trait WriteRow: Row {
     // By which messages one of the values is not written.
     ghost unwritten: { Self → List ℕ → Type 0 };
 
-    /// The schemas of the types behind others. Refused by `TooManyShapes` where one has more than 4,096 shapes, and by `Memory`.
+    /// The schemas of the types behind others. Refused by `TooManyShapes` where one has more than 4,096 shapes, and by
+    /// `Memory`.
     fn schemas(
         alloc: Global,
         before: Vec<(Schema, ShapeId)>,

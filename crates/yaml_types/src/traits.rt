@@ -30,8 +30,8 @@ pub trait Deserialize<'de>: Sized {
     // By which messages data is refused.
     ghost refused: { PlainData → List ℕ → Type 0 };
 
-    /// The shape of the type: a schema, and its number there. Refused by `TooManyShapes` where the table would have more than
-    /// 4,096 shapes, and by `Memory`.
+    /// The shape of the type: a schema, and its number there. Refused by `TooManyShapes` where the table would have
+    /// more than 4,096 shapes, and by `Memory`.
     fn schema(alloc: Global) -> Result<(Schema, ShapeId), SchemaFault>
         ensures ok { IfOk result (IsStart start) }
         ensures refused { IfErr result (IsTooLarge (length start.0)) };
@@ -61,8 +61,8 @@ pub trait Serialize {
     // By which messages a value is not written.
     ghost unwritten: { Self → List ℕ → Type 0 } = { λ _ _. ⊥ };
 
-    /// The shape of the type: a schema, and its number there. Refused by `TooManyShapes` where the table would have more than
-    /// 4,096 shapes, and by `Memory`.
+    /// The shape of the type: a schema, and its number there. Refused by `TooManyShapes` where the table would have
+    /// more than 4,096 shapes, and by `Memory`.
     fn schema(alloc: Global) -> Result<(Schema, ShapeId), SchemaFault>
         ensures ok { IfOk result (IsStart start) }
         ensures refused { IfErr result (IsTooLarge (length start.0)) };
@@ -79,13 +79,13 @@ pub trait Serialize {
     /// bytes or a tag upon a tag in the data; then part of the node may be there.
     fn write_node(&self, out: &mut EventBuffer, schema: &Schema, id: ShapeId) -> Result<(), Error>
         ensures put { OnOk result
-        (IsPut emit_node_events (written_node schema.now id.0 (written self.now)) out.old out.new) }
+            (IsPut emit_node_events (written_node schema.now id.0 (written self.now)) out.old out.new) }
         ensures kept { OnOk result (kept self.now) }
 
         // The texts of its data are UTF-8, the characters are characters, and the values are values.
         ensures held { OnOk result (IsHeld (written self.now)) }
         ensures refused { IfErr result
-        (IsFaultOf (written_node schema.now id.0 (written self.now)) (unwritten self.now)) }
+            (IsFaultOf (written_node schema.now id.0 (written self.now)) (unwritten self.now)) }
     {
         let content = self.to_data(out.alloc())?;
         data_is_held(&content);

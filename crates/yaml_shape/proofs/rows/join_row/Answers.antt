@@ -24,7 +24,7 @@ loop-schema-preserved c =
     let size : length (map shape_of c.all.inside.shapes.items) ≡ length c.all.inside.shapes.items =
     length-map c.all.inside.shapes.items shape_of in (
       one_joined c.args.first c.args.parts.items c.loop-schema.all c.in-Ok.both c.loop-schema.starts.items
-      c.push.new.self.items
+          c.push.new.self.items
           c.in-Some.schema c.in-Some.start _ c.next.new.self.rest.items
           c.in-Ok.ensures.ok c.in_ok-push.ensures.items (omega (arith, c.all.inside.shapes.ok.0))
           (subst (AreJoined c.args.first c.args.parts.items c.loop-schema.all c.loop-schema.starts.items)
@@ -40,8 +40,8 @@ returns-in-Err-clause-refused c =
     too_large c.in-Err.fault c.args.first c.args.parts.items c.loop-schema.all c.loop-schema.starts.items
     c.in-Some.schema
     c.in-Some.start c.next.new.self.rest.items
-          (subst (AreJoined c.args.first c.args.parts.items c.loop-schema.all c.loop-schema.starts.items)
-          c.in-Some.ensures.steps.0
+    (subst (AreJoined c.args.first c.args.parts.items c.loop-schema.all c.loop-schema.starts.items)
+    c.in-Some.ensures.steps.0
     c.loop-schema.invariant.0)
     c.in-Err.ensures.refused
 
