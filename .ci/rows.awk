@@ -81,8 +81,8 @@ function written(text,    part, parts, i, out) {
     return out
 }
 
-# The lines that calls tell, of a text in which they stand with `; ` between, and documents with ` | `. A document begins
-# before its first event and ends behind its last; `..` stands for what is open at the end.
+# The lines that calls tell, of a text in which they stand with `; ` between, and documents with ` | `. A document
+# begins before its first event and ends behind its last; `..` stands for what is open at the end.
 function called(text,    part, parts, line, lines, i, j, first, last, open, out) {
     out = "+STR"
     parts = text == "-" ? 0 : split(text, part, / \| /)
@@ -94,7 +94,10 @@ function called(text,    part, parts, line, lines, i, j, first, last, open, out)
             if (line[j] ~ /^[-+=]/) { last = j; if (!first) first = j }
         for (j = 1; j <= lines - open; j++) {
             if (j == first) out = out "\\u000a+DOC"
-            if (sub(/^! /, "", line[j])) { failing = 1; line[j] = "! " ((line[j] in fault) ? fault[line[j]] : line[j]) }
+            if (sub(/^! /, "", line[j])) {
+                failing = 1
+                line[j] = "! " ((line[j] in fault) ? fault[line[j]] : line[j])
+            }
             out = out "\\u000a" line[j]
             if (j == last && !open) out = out "\\u000a-DOC"
         }
