@@ -81,10 +81,12 @@ function written(text,    part, parts, i, out) {
     return out
 }
 
-# Writes what an answer wants: data, `! ` and a fault, `!table ` and why the table is refused, or `? ` and why the case is.
+# Writes what an answer wants: data, `! ` and a fault, `!table ` and why the table is refused, or `? ` and why the case
+# is; of an emitter the text that it prints, between quotes, as it stands.
 function answer(task, text) {
     failing = 0
-    if (sub(/^!table /, "schema: ", text)) wanted(1, text)
+    if (task == "emit" && text ~ /^"/) printf "%s:%d\t0\t%s\n", topic, FNR, text > WANTED
+    else if (sub(/^!table /, "schema: ", text)) wanted(1, text)
     else if (sub(/^\? /, "", text)) wanted(2, text)
     else if (task == "write") { failing = ""; text = written(text); wanted(failing != "", text) }
     else if (task == "documents" || task == "texts") { text = in_turn(text); wanted(failing, text) }
@@ -92,7 +94,13 @@ function answer(task, text) {
     else wanted(0, text)
 }
 
-# A row: a shape and words, the lines of a case, and what is wanted.
+# The lines of events for an emitter, which stand with `; ` between.
+function print_emitted(text) {
+    gsub(/; /, "\n", text)
+    print text
+}
+
+# A row: a shape and words, or `emit`, the lines of a case, and what is wanted.
 function row(    cut, head, lines, want, word, words, i, task, flags, whole) {
     cut = index($0, "  => ")
     if (!cut) { complain("no answer"); return }
@@ -103,7 +111,7 @@ function row(    cut, head, lines, want, word, words, i, task, flags, whole) {
     lines = substr(head, cut + 2)
     sub(/^ +/, "", lines)
     words = split(substr(head, 1, cut - 1), word, " ")
-    task = "shape"
+    task = word[1] == "emit" ? "emit" : "shape"
     for (i = 2; i <= words; i++) {
         if (word[i] == "stream") whole = 1
         else if (word[i] == "documents") { task = "documents"; whole = 1 }
@@ -112,10 +120,11 @@ function row(    cut, head, lines, want, word, words, i, task, flags, whole) {
     }
     if (sub(/^write: /, "", lines)) task = "write"
     else if (lines ~ /^".*"$/) task = task == "documents" ? "texts" : "text"
-    if (numbered(word[1]) !~ /^[0-9][0-9,]*$/) complain("no such shape: " word[1])
+    if (task != "emit" && numbered(word[1]) !~ /^[0-9][0-9,]*$/) complain("no such shape: " word[1])
     if (!cases++) print ""
-    print "@@ " topic ":" FNR " " task ":" numbered(word[1]) flags
+    print "@@ " topic ":" FNR " " task (task == "emit" ? "" : ":" numbered(word[1])) flags
     if (task == "write") print_data(lines)
+    else if (task == "emit") print_emitted(lines)
     else if (task ~ /^text/) print substr(lines, 2, length(lines) - 2)
     else if (whole) print_events(lines == "-" ? "" : lines)
     else print_events(lines == "-" ? "+STR; -STR" : "+STR; +DOC; " lines "; -DOC; -STR")

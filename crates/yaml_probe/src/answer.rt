@@ -1,5 +1,6 @@
 //! The answer to a case.
 
+mod emitting;
 mod events;
 mod text;
 mod turns;
@@ -8,6 +9,7 @@ mod writing;
 use crate::case::{Case, Task};
 use crate::table::Table;
 use crate::text::quote;
+use emitting::emit;
 use std::alloc::{AllocError, Global};
 use text::{read_text, read_text_in_turn};
 use turns::read_in_turn;
@@ -40,6 +42,7 @@ fn asked(
             read_text_in_turn(alloc, schema, id, case.limits, lines)
         }
         Task::Write(id) if schema.has(id) => write(alloc, schema, id, lines),
+        Task::Emit => emit(alloc, lines),
         _ => refused(alloc, "bad shape"),
     }
 }

@@ -18,6 +18,8 @@ pub enum Task {
     ReadTextInTurn(ShapeId),
     /// Its lines are data of this shape, to be written, each as a document.
     Write(ShapeId),
+    /// Its lines are events for an emitter, to be printed.
+    Emit,
 }
 
 /// A case, but for its lines.
@@ -40,6 +42,9 @@ pub fn is_case(line: &[u8]) -> bool {
 
 // What is asked by a word.
 fn task_of(word: &str) -> Option<Task> {
+    if word == "emit" {
+        return Some(Task::Emit);
+    }
     if let Some(id) = word.strip_prefix("shape:") {
         return Some(Task::Read(number(id)?));
     }
