@@ -100,8 +100,8 @@ function print_emitted(text) {
     print text
 }
 
-# A row: a shape and words, or `emit`, the lines of a case, and what is wanted.
-function row(    cut, head, lines, want, word, words, i, task, flags, whole) {
+# A row: a shape and words, or `emit` or `handed`, the lines of a case, and what is wanted.
+function row(    cut, head, lines, want, word, words, i, task, bare, flags, whole) {
     cut = index($0, "  => ")
     if (!cut) { complain("no answer"); return }
     head = substr($0, 1, cut - 1)
@@ -111,7 +111,8 @@ function row(    cut, head, lines, want, word, words, i, task, flags, whole) {
     lines = substr(head, cut + 2)
     sub(/^ +/, "", lines)
     words = split(substr(head, 1, cut - 1), word, " ")
-    task = word[1] == "emit" ? "emit" : "shape"
+    bare = word[1] == "emit" || word[1] == "handed"
+    task = bare ? word[1] : "shape"
     for (i = 2; i <= words; i++) {
         if (word[i] == "stream") whole = 1
         else if (word[i] == "documents") { task = "documents"; whole = 1 }
@@ -119,13 +120,13 @@ function row(    cut, head, lines, want, word, words, i, task, flags, whole) {
         else complain("no such word: " word[i])
     }
     if (sub(/^write: /, "", lines)) task = "write"
-    else if (lines ~ /^".*"$/) task = task == "documents" ? "texts" : "text"
-    if (task != "emit" && numbered(word[1]) !~ /^[0-9][0-9,]*$/) complain("no such shape: " word[1])
+    else if (lines ~ /^".*"$/ && !bare) task = task == "documents" ? "texts" : "text"
+    if (!bare && numbered(word[1]) !~ /^[0-9][0-9,]*$/) complain("no such shape: " word[1])
     if (!cases++) print ""
-    print "@@ " topic ":" FNR " " task (task == "emit" ? "" : ":" numbered(word[1])) flags
+    print "@@ " topic ":" FNR " " task (bare ? "" : ":" numbered(word[1])) flags
     if (task == "write") print_data(lines)
     else if (task == "emit") print_emitted(lines)
-    else if (task ~ /^text/) print substr(lines, 2, length(lines) - 2)
+    else if (task ~ /^text|^handed/) print substr(lines, 2, length(lines) - 2)
     else if (whole) print_events(lines == "-" ? "" : lines)
     else print_events(lines == "-" ? "+STR; -STR" : "+STR; +DOC; " lines "; -DOC; -STR")
     answer(task, want)

@@ -20,6 +20,8 @@ pub enum Task {
     Write(ShapeId),
     /// Its lines are events for an emitter, to be printed.
     Emit,
+    /// Its one line spells a YAML text, whose documents are to be handed out one at a time.
+    HandOut,
 }
 
 /// A case, but for its lines.
@@ -44,6 +46,9 @@ pub fn is_case(line: &[u8]) -> bool {
 fn task_of(word: &str) -> Option<Task> {
     if word == "emit" {
         return Some(Task::Emit);
+    }
+    if word == "handed" {
+        return Some(Task::HandOut);
     }
     if let Some(id) = word.strip_prefix("shape:") {
         return Some(Task::Read(number(id)?));
