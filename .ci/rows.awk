@@ -148,10 +148,12 @@ function calls_row(where, calls, told,    i, j) {
     answer("calls", all_told)
 }
 
-# Writes what an answer wants: data, `! ` and a fault, `!table ` and why the table is refused, or `? ` and why the case is.
+# Writes what an answer wants: data, `! ` and a fault, `!table ` and why the table is refused, or `? ` and why the case
+# is; of an emitter the text that it prints, between quotes, as it stands.
 function answer(task, text) {
     failing = 0
-    if (sub(/^!table /, "schema: ", text)) wanted(1, text)
+    if (task == "emit" && text ~ /^"/) printf "%s:%d\t0\t%s\n", topic, FNR, text > WANTED
+    else if (sub(/^!table /, "schema: ", text)) wanted(1, text)
     else if (sub(/^\? /, "", text)) wanted(2, text)
     else if (task == "calls") { text = called(text); wanted(failing, text) }
     else if (task == "write") { failing = ""; text = written(text); wanted(failing != "", text) }
@@ -160,8 +162,14 @@ function answer(task, text) {
     else wanted(0, text)
 }
 
-# A row: a shape and words, the lines of a case, and what is wanted.
-function row(    cut, head, lines, want, word, words, i, task, flags, whole) {
+# The lines of events for an emitter, which stand with `; ` between.
+function print_emitted(text) {
+    gsub(/; /, "\n", text)
+    print text
+}
+
+# A row: a shape and words, or `emit` or `handed`, the lines of a case, and what is wanted.
+function row(    cut, head, lines, want, word, words, i, task, bare, flags, whole) {
     cut = index($0, "  => ")
     if (!cut) { complain("no answer"); return }
     head = substr($0, 1, cut - 1)
@@ -172,7 +180,8 @@ function row(    cut, head, lines, want, word, words, i, task, flags, whole) {
     sub(/^ +/, "", lines)
     words = split(substr(head, 1, cut - 1), word, " ")
     if (word[1] == "calls") { calls_row(words == 1 ? "" : word[words], lines, want); return }
-    task = "shape"
+    bare = word[1] == "emit" || word[1] == "handed"
+    task = bare ? word[1] : "shape"
     for (i = 2; i <= words; i++) {
         if (word[i] == "stream") whole = 1
         else if (word[i] == "documents") { task = "documents"; whole = 1 }
@@ -180,12 +189,13 @@ function row(    cut, head, lines, want, word, words, i, task, flags, whole) {
         else complain("no such word: " word[i])
     }
     if (sub(/^write: /, "", lines)) task = "write"
-    else if (lines ~ /^".*"$/) task = task == "documents" ? "texts" : "text"
-    if (numbered(word[1]) !~ /^[0-9][0-9,]*$/) complain("no such shape: " word[1])
+    else if (lines ~ /^".*"$/ && !bare) task = task == "documents" ? "texts" : "text"
+    if (!bare && numbered(word[1]) !~ /^[0-9][0-9,]*$/) complain("no such shape: " word[1])
     if (!cases++) print ""
-    print "@@ " topic ":" FNR " " task ":" numbered(word[1]) flags
+    print "@@ " topic ":" FNR " " task (bare ? "" : ":" numbered(word[1])) flags
     if (task == "write") print_data(lines)
-    else if (task ~ /^text/) print substr(lines, 2, length(lines) - 2)
+    else if (task == "emit") print_emitted(lines)
+    else if (task ~ /^text|^handed/) print substr(lines, 2, length(lines) - 2)
     else if (whole) print_events(lines == "-" ? "" : lines)
     else print_events(lines == "-" ? "+STR; -STR" : "+STR; +DOC; " lines "; -DOC; -STR")
     answer(task, want)

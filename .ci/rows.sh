@@ -1,26 +1,28 @@
 #!/bin/sh
 # Makes the stored run of yaml_probe: what crates/yaml_probe/rows/by_hand.* says as it stands, and each file of rows
-# beside it, expanded.
+# beside it, expanded. And the input of derived_case: its output without the answers.
 #
-# usage: rows.sh [--check]   With --check nothing is written; status 1 where the stored run is not that of the rows.
+# usage: rows.sh [--check]   With --check nothing is written; status 1 where a stored run is not that of the rows.
 set -eu
-cd "$(dirname "$0")/../crates/yaml_probe"
+cd "$(dirname "$0")/.."
 work=$(mktemp -d)
 trap 'rm -rf "$work"' EXIT
-cp rows/by_hand.stdin "$work/stdin"
-cp rows/by_hand.stdout "$work/stdout"
-for rows in rows/*.rows; do
-    echo %% >> "$work/stdin"
+probe=crates/yaml_probe
+mkdir -p "$work/$probe" "$work/crates/derived_case"
+cp $probe/rows/by_hand.stdin "$work/$probe/stdin"
+cp $probe/rows/by_hand.stdout "$work/$probe/stdout"
+for rows in $probe/rows/*.rows; do
+    echo %% >> "$work/$probe/stdin"
     : > "$work/wanted"
-    LC_ALL=C awk -v WANTED="$work/wanted" -f ../../.ci/rows.awk "$rows" "$rows" >> "$work/stdin"
-    cat "$work/wanted" >> "$work/stdout"
+    LC_ALL=C awk -v WANTED="$work/wanted" -f .ci/rows.awk "$rows" "$rows" >> "$work/$probe/stdin"
+    cat "$work/wanted" >> "$work/$probe/stdout"
 done
-if [ "${1:-}" != --check ]; then
-    cp "$work/stdin" "$work/stdout" .
-    exit
-fi
-for file in stdin stdout; do
-    cmp -s "$work/$file" "$file" && continue
-    echo "crates/yaml_probe/$file is not what crates/yaml_probe/rows/ gives: run sh .ci/rows.sh"
-    exit 1
+sed 's/  => .*//' crates/derived_case/stdout > "$work/crates/derived_case/stdin"
+for file in $probe/stdin $probe/stdout crates/derived_case/stdin; do
+    if [ "${1:-}" != --check ]; then
+        cp "$work/$file" $file
+    elif ! cmp -s "$work/$file" $file; then
+        echo "$file is not what the rows give: run sh .ci/rows.sh"
+        exit 1
+    fi
 done

@@ -1,10 +1,10 @@
 #!/usr/bin/env python3
 """Compares what types with derives hold of texts with what serde_yaml 0.9.34 makes of them, row by row.
 
-usage: derive_compare.py THEIRS rows FILE            the rows of a file, as crates/serde_case/stdin
+usage: derive_compare.py THEIRS rows FILE            the rows of a file, as crates/derived_case/stdin
        derive_compare.py THEIRS random SEED COUNT    random rows
-       add OURS.. behind `--` to name our program, as crates/serde_case/out/serde_case: else it is `rt try` in
-       crates/serde_case, which proves nothing, and takes some 5,000 rows at a time
+       add OURS.. behind `--` to name our program, as crates/derived_case/out/derived_case: else it is `rt try` in
+       crates/derived_case, which proves nothing, and takes some 5,000 rows at a time
 
 THEIRS is the program of tools/derived, built by `cargo build --release` there. Both programs read rows and print each
 with its answer. Answers that differ as docs/DIFFERENCES.md says count as listed. Prints the first other ones, then how
@@ -240,7 +240,7 @@ def kind(name, text, ours, theirs):
         return "names of types and widths of numbers"
     if ours.startswith("! floating point numbers are not"):
         return "floating point numbers"
-    if name.endswith("/documents"):
+    if name.endswith(("/documents", "/stream")):
         return kind_of_documents(ours, theirs)
     if name in COPIED:
         return kind_of_copy(name, text, ours, theirs)
@@ -299,7 +299,7 @@ def main():
     else:
         sys.exit(__doc__)
     theirs = answers([words[0]], rows, None)
-    ours = answers(ours, rows, None if "--" in sys.argv else os.path.join(HERE, "..", "crates", "serde_case"))
+    ours = answers(ours, rows, None if "--" in sys.argv else os.path.join(HERE, "..", "crates", "derived_case"))
     if len(ours) != len(rows) or len(theirs) != len(rows):
         sys.exit("a program did not answer each row")
     counts = {"same": 0, "listed": 0, "left out": 0, "different": 0}

@@ -4,9 +4,10 @@
 usage: emit_compare.py PROGRAM random SEED COUNT    random streams of events
        emit_compare.py PROGRAM rows FILE..          what the rows with `write:` are written as
 
-PROGRAM is the built emit_case: it reads the lines that emit_libyaml.c describes, and prints its answers in the same
-way. The library comes with `apt-get install -y libyaml-dev`; emit_libyaml.c beside this script is compiled by `cc`. libyaml
-is driven as serde_yaml drives it: unicode, no limit of width, implicit documents, and no end of the stream.
+PROGRAM is the built yaml_probe, which is given a case `emit` of each stream. The library comes with
+`apt-get install -y libyaml-dev`; emit_libyaml.c beside this script, which says what lines it reads and what it prints,
+is compiled by `cc`. libyaml is driven as serde_yaml drives it: unicode, no limit of width, implicit documents, and no
+end of the stream.
 
 What differs by intent is told apart:
 - characters above U+FFFF stand as they are, as in serde_yaml's port of libyaml; libyaml is given others in their place
@@ -18,6 +19,7 @@ Prints the first streams that differ, and in the last line how many were compare
 and how many else. Status 0 only if none of these.
 """
 
+import json
 import os
 import random
 import re
@@ -131,8 +133,34 @@ def row_cases(paths):
                         yield row_case(nodes)
 
 
+def escaped(found):
+    """The text of hexadecimal digits as a line of yaml_probe has it."""
+    return "".join(
+        chr(byte) if 32 <= byte <= 126 and byte not in b"\\>" else "\\x%02x" % byte for byte in bytes.fromhex(found[0])
+    )
+
+
+def probe_case(number, case):
+    """The case of yaml_probe with these events, whose tags and texts are hexadecimal digits."""
+    lines = "\n".join(["@@ %d emit" % number, "+STR", *case, "-STR"]) + "\n"
+    return re.sub("(?<=<)[0-9a-f]+(?=>)|(?<=[a-z] )[0-9a-f]+$", escaped, lines, flags=re.M)
+
+
+def probe_answers(program, cases):
+    """The texts that yaml_probe prints, and None for each case that it refuses by a fault."""
+    text = "\n" + "".join(probe_case(number, case) for number, case in enumerate(cases))
+    out = subprocess.run([program], input=text.encode(), stdout=subprocess.PIPE, check=True).stdout
+    told = [line.split("\t") for line in out.decode().splitlines()]
+    if [number for number, _, _ in told] != [str(number) for number in range(len(cases))]:
+        sys.exit("yaml_probe answers other cases than it is given")
+    for number, status, text in told:
+        if status == "2":
+            sys.exit("yaml_probe reads no case %s: %s" % (number, text))
+    return [json.loads(text).encode() if status == "0" else None for _, status, text in told]
+
+
 def answers(command, text, count):
-    """The texts that a program prints, and None for each case that it refuses."""
+    """The texts that emit_libyaml prints, and None for each case that it refuses."""
     out = subprocess.run(command, input=text, stdout=subprocess.PIPE, check=True).stdout
     texts, place = [], 0
     for _ in range(count):
@@ -166,12 +194,11 @@ def differs_by_intent(case):
 
 def compare(program, oracle, cases):
     theirs = "".join("\n".join(["+STR", *case, "."]) + "\n" for case in cases)
-    ours = "".join("\n".join(["+STR", *case, "-STR", "."]) + "\n" for case in cases)
     for letter, other in STAND_INS.items():
         theirs = theirs.replace(digits(letter), digits(other))
     intended, different = 0, []
     wanted = answers([oracle], theirs.encode(), len(cases))
-    for case, want, got in zip(cases, wanted, answers([program], ours.encode(), len(cases))):
+    for case, want, got in zip(cases, wanted, probe_answers(program, cases)):
         if want is not None:
             for letter, other in STAND_INS.items():
                 want = want.replace(other.encode(), letter.encode())

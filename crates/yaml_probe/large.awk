@@ -230,6 +230,44 @@ function texts(    key, deep) {
     text("a-long-text", repeat("k", 1000000), 0, "\\\"" repeat("k", 1000000) "\\\"")
 }
 
+# A text whose documents are handed out one at a time, and how many they are.
+function handed(id, spelled, count) {
+    print "@@ " id " handed\n" spelled > IN
+    print id "\t0\t\"" count "\"" > WANTED
+}
+
+# Texts of more documents than are loaded at a time: some 86 of one scalar, and 85 at first.
+function batches(    one, i, id) {
+    one = "--- a\\n"
+    handed("documents-100", repeat(one, 100), 100)
+    handed("documents-260", repeat(one, 260) "...\\n", 260)
+    # one that is longer than what is loaded at a time: alone, between others, the last, and cut off
+    handed("long-alone", repeat("- b\\n", 300), 1)
+    handed("long-between", one "---\\n" repeat("- b\\n", 300) "--- c\\n--- d\\n", 4)
+    handed("long-last", one "--- [" repeat("b, ", 300) "c]\\n", 2)
+    handed("long-cut-off", one "--- [" repeat("b, ", 300) "c\\n", 2)
+    # a fault amid those that are loaded at a time: in a document, and in front of one
+    handed("fault-at-21", repeat(one, 20) "--- [b\\n", 21)
+    handed("fault-at-121", repeat(one, 120) "--- b: [c\\n", 121)
+    handed("fault-in-front", repeat(one, 120) "...\\n%YAML 9\\n--- b\\n", 121)
+    # an alias that refers to nothing cuts off its document alone
+    handed("unknown-anchors", repeat(one "--- [*b, c]\\n", 60) "--- d\\n", 121)
+    # an anchor is known in its document alone, wherever that is loaded
+    handed("known-anchors", repeat("--- &a b\\n--- *a\\n", 60), 120)
+    # what a text ends with, near where the last of those that are loaded at a time ends
+    for (i = 84; i < 88; i++) {
+        id = "documents-" i
+        handed(id, repeat(one, i), i)
+        handed(id "-ended", repeat(one, i) "...\\n", i)
+        handed(id "-and-none", repeat(one, i) "---\\n", i + 1)
+        handed(id "-and-cut-off", repeat(one, i) "--- [b\\n", i + 1)
+        handed(id "-and-unknown", repeat(one, i) "--- *b\\n", i + 1)
+        handed(id "-and-fault", repeat(one, i) "...\\n%YAML 9\\n", i + 1)
+        # bytes that no text has cut off the first document
+        handed(id "-and-no-text", repeat(one, i) "--- \\x01\\n", 1)
+    }
+}
+
 BEGIN {
     print "seq 0\nany\nnewtype N 3\nseq 2\nignored\ni64\nseq 5\nseq 6\nstr\nmap 8 5" > IN
     printf "strict_struct Wide" > IN
@@ -241,4 +279,5 @@ BEGIN {
     wide()
     structs()
     texts()
+    batches()
 }

@@ -1,7 +1,9 @@
 //! The answer to a case.
 
 mod calls;
+mod emitting;
 mod events;
+mod handed;
 mod text;
 mod turns;
 mod writing;
@@ -10,6 +12,8 @@ use crate::case::{Case, Task};
 use crate::table::Table;
 use crate::text::quote;
 use calls::make_calls;
+use emitting::emit;
+use handed::hand_out;
 use std::alloc::{AllocError, Global};
 use text::{read_text, read_text_in_turn};
 use turns::read_in_turn;
@@ -43,6 +47,8 @@ fn asked(
         }
         Task::Write(id) if schema.has(id) => write(alloc, schema, id, lines),
         Task::Calls => make_calls(alloc, schema, lines),
+        Task::Emit => emit(alloc, lines),
+        Task::HandOut => hand_out(alloc, lines),
         _ => refused(alloc, "bad shape"),
     }
 }

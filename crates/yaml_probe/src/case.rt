@@ -20,6 +20,10 @@ pub enum Task {
     Write(ShapeId),
     /// Its lines are calls of a serializer, to be made in a row.
     Calls,
+    /// Its lines are events for an emitter, to be printed.
+    Emit,
+    /// Its one line spells a YAML text, whose documents are to be handed out one at a time.
+    HandOut,
 }
 
 /// A case, but for its lines.
@@ -44,6 +48,12 @@ pub fn is_case(line: &[u8]) -> bool {
 fn task_of(word: &str) -> Option<Task> {
     if word == "calls" {
         return Some(Task::Calls);
+    }
+    if word == "emit" {
+        return Some(Task::Emit);
+    }
+    if word == "handed" {
+        return Some(Task::HandOut);
     }
     if let Some(id) = word.strip_prefix("shape:") {
         return Some(Task::Read(number(id)?));

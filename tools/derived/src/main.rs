@@ -1,8 +1,8 @@
-//! Answers rows as `crates/serde_case` does, by Rust's serde and serde_yaml: the types are those of `serde_types` and
-//! `serde_uses`.
+//! Answers rows as `crates/derived_case` does, by Rust's serde and serde_yaml.
 
 mod types;
 
+use serde::de::DeserializeOwned;
 use serde::{Deserialize, Serialize};
 use serde_yaml::{from_slice, from_str, to_string, Error};
 use std::borrow::Cow;
@@ -25,8 +25,18 @@ fn answer_of_slice<'a, T: Deserialize<'a> + Serialize>(text: &'a str) -> Answer 
 }
 
 fn answer_of_documents<'a, T: Deserialize<'a> + Serialize>(text: &'a str) -> Answer {
+    answer_of_each::<T>(serde_yaml::Deserializer::from_str(text))
+}
+
+// The bytes that the letters of a text count, read document by document.
+fn answer_of_stream<T: DeserializeOwned + Serialize>(text: &str) -> Answer {
+    let bytes: Vec<u8> = text.chars().map(|letter| letter as u8).collect();
+    answer_of_each::<T>(serde_yaml::Deserializer::from_slice(&bytes))
+}
+
+fn answer_of_each<'a, T: Deserialize<'a> + Serialize>(documents: serde_yaml::Deserializer<'a>) -> Answer {
     let mut answer = String::new();
-    for document in serde_yaml::Deserializer::from_str(text).take(DOCUMENTS) {
+    for document in documents.take(DOCUMENTS) {
         answer.push_str("--- ");
         match T::deserialize(document) {
             Ok(value) => answer.push_str(&to_string(&value)?),
@@ -61,12 +71,22 @@ fn all_jobs(text: &str) -> Answer {
     to_string(&jobs)
 }
 
+fn count_services(text: &str) -> Answer {
+    let mut count = 0u64;
+    for document in serde_yaml::Deserializer::from_str(text) {
+        Service::deserialize(document)?;
+        count += 1;
+    }
+    to_string(&count)
+}
+
 fn answer_as(name: &str, text: &str) -> Answer {
     match name {
         "bool" => answer::<bool>(text),
         "i8" => answer::<i8>(text),
         "u8" => answer::<u8>(text),
         "i64" => answer::<i64>(text),
+        "i64/stream" => answer_of_stream::<i64>(text),
         "u64" => answer::<u64>(text),
         "i128" => answer::<i128>(text),
         "u128" => answer::<u128>(text),
@@ -87,6 +107,7 @@ fn answer_as(name: &str, text: &str) -> Answer {
         "Person/documents" => answer_of_documents::<Person<'_>>(text),
         "longest_name" => longest_name(text),
         "all_jobs" => all_jobs(text),
+        "count_services" => count_services(text),
         "renamed" => renamed(text),
         "Note" => answer::<Note<'_>>(text),
         "Setting" => answer::<Setting>(text),
@@ -118,6 +139,10 @@ fn unquoted(quoted: &str) -> Option<String> {
             '\\' => match letters.next()? {
                 'n' => '\n',
                 't' => '\t',
+                'u' => {
+                    let digits: String = letters.by_ref().take(4).collect();
+                    char::from_u32(u32::from_str_radix(&digits, 16).ok()?)?
+                }
                 escaped => escaped,
             },
             plain => plain,

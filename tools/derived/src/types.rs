@@ -1,4 +1,4 @@
-//! The types of `crates/serde_types` and `crates/serde_uses`, with the same attributes.
+//! The types of `crates/derived_types` and of the callers in `crates/derived_case`, with the same attributes.
 
 use serde::{Deserialize, Deserializer, Serialize, Serializer};
 use std::borrow::Cow;

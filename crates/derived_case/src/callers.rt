@@ -1,15 +1,11 @@
-//! Types with the derives of the crate `serde`, read from YAML text and written as it: the callers that
-//! `yaml/CALLING.md` quotes.
-#![tactic(auto)]
-
-pub mod readme;
+//! Types with derives, read from YAML text and written as it: the callers that `yaml/CALLING.md` quotes.
 
 use serde::{Deserialize, Serialize};
 use std::alloc::Global;
 use yaml::{DocumentStream, Documents, Error};
 
 /// How a service is reached.
-#[derive(Debug, Drop, Serialize, Deserialize)]
+#[derive(Drop, Serialize, Deserialize)]
 #[serde(rename_all = "lowercase")]
 pub enum Listen {
     /// By whatever the system has.
@@ -21,7 +17,7 @@ pub enum Listen {
 }
 
 /// A service.
-#[derive(Debug, Drop, Serialize, Deserialize)]
+#[derive(Drop, Serialize, Deserialize)]
 #[serde(rename_all = "camelCase", deny_unknown_fields)]
 pub struct Service {
     pub name: String,
@@ -43,7 +39,7 @@ pub fn write_service(alloc: Global, service: &Service) -> Result<String, Error> 
 }
 
 /// Someone, by a name that is lent from the text.
-#[derive(Debug, Drop, Serialize, Deserialize)]
+#[derive(Drop, Serialize, Deserialize)]
 pub struct Person<'a> {
     pub name: &'a str,
 }

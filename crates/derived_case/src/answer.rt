@@ -2,7 +2,9 @@
 
 use serde::{Deserialize, DeserializeOwned, Serialize};
 use std::alloc::Global;
-use yaml::{Documents, Error, from_events, from_slice, from_str, to_events, to_string};
+use yaml::{
+    DocumentStream, Documents, Error, from_events, from_slice, from_str, to_events, to_string,
+};
 use yaml_emit::emit;
 use yaml_parse::{Parsed, parse};
 
@@ -56,6 +58,35 @@ pub fn answer_of_documents<'a, T: Deserialize<'a> + Serialize>(
         };
         answer.push_str("--- ")?;
         answer.push_str(told(alloc, read)?.as_str())?;
+    }
+    Ok(answer)
+}
+
+/// The bytes that the letters of a text stand for, each by its code.
+pub fn bytes_of(alloc: Global, text: &str) -> Result<Vec<u8>, Error> {
+    let mut bytes = Vec::new(alloc);
+    for letter in text.chars() {
+        match u8::try_from(letter as u32) {
+            Ok(byte) => bytes.push(byte)?,
+            Err(_) => return Err(Error::custom(String::from_str(alloc, "no byte")?)),
+        }
+    }
+    Ok(bytes)
+}
+
+/// What `DocumentStream` reads, likewise. The next document is asked for until it has answered that there is none, and
+/// once more: bytes have no more documents than there are of them, and one where there are none.
+pub fn answer_of_stream<'a, T: Deserialize<'a> + Serialize>(
+    alloc: Global,
+    bytes: &'a [u8],
+) -> Result<String, Error> {
+    let mut documents = DocumentStream::from_slice(alloc, bytes)?;
+    let mut answer = String::new(alloc);
+    for _ in 0..bytes.len() + 2 {
+        if let Some(read) = documents.read_next::<T>() {
+            answer.push_str("--- ")?;
+            answer.push_str(told(alloc, read)?.as_str())?;
+        }
     }
     Ok(answer)
 }

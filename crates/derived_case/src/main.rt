@@ -3,7 +3,9 @@
 #![tactic(auto)]
 
 mod answer;
+mod callers;
 mod named;
+mod readme;
 mod row;
 
 use row::answered;

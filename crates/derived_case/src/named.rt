@@ -1,12 +1,16 @@
 //! The types by their names.
 
-use crate::answer::{answer, answer_of_documents, answer_of_events, answer_of_slice};
-use serde_types::enums::{Command, Figure, Scalar, Step};
-use serde_types::limits::{Nest, Passed};
-use serde_types::plain::{Ends, Metres, Nothing, Pair, Percent};
-use serde_types::structs::{Mark, Note, Setting, Window};
-use serde_uses::readme::renamed;
-use serde_uses::{Person, Service, all_jobs, longest_name, read_service, write_service};
+use crate::answer::{
+    answer, answer_of_documents, answer_of_events, answer_of_slice, answer_of_stream, bytes_of,
+};
+use crate::callers::{
+    Person, Service, all_jobs, count_services, longest_name, read_service, write_service,
+};
+use crate::readme::renamed;
+use derived_types::enums::{Command, Figure, Scalar, Step};
+use derived_types::limits::{Nest, Passed};
+use derived_types::plain::{Ends, Metres, Nothing, Pair, Percent};
+use derived_types::structs::{Mark, Note, Setting, Window};
 use std::alloc::Global;
 use std::borrow::CowStr;
 use std::collections::{BTreeMap, HashMap};
@@ -19,6 +23,7 @@ fn answer_as_standard(alloc: Global, name: &str, text: &str) -> Result<String, E
         "i8" => answer::<i8>(alloc, text),
         "u8" => answer::<u8>(alloc, text),
         "i64" => answer::<i64>(alloc, text),
+        "i64/stream" => answer_of_stream::<i64>(alloc, bytes_of(alloc, text)?.as_slice()),
         "u64" => answer::<u64>(alloc, text),
         "i128" => answer::<i128>(alloc, text),
         "u128" => answer::<u128>(alloc, text),
@@ -43,6 +48,7 @@ fn answer_by_function(alloc: Global, name: &str, text: &str) -> Result<String, E
         "read_service" => write_service(alloc, &read_service(alloc, text)?),
         "longest_name" => Ok(String::from_str(alloc, longest_name(alloc, text)?)?),
         "all_jobs" => to_string(alloc, &all_jobs(alloc, text)?),
+        "count_services" => to_string(alloc, &count_services(alloc, text)?),
         "renamed" => renamed(alloc, text),
         _ => answer_as_standard(alloc, name, text),
     }
