@@ -38,9 +38,9 @@ function quoted(text,    out) {
     return "\"" out "\""
 }
 
-# Writes what is wanted of the row: a status and a text.
+# Writes what is wanted of the row: a status and a text, behind what stands before it where memory is refused.
 function wanted(status, text) {
-    printf "%s:%d\t%s\t%s\n", topic, FNR, status, quoted(text) > WANTED
+    printf "%s:%d\t%s\t%s\n", topic, FNR, status, quoted(before text) > WANTED
 }
 
 # Prints the lines of events, which stand with `; ` between. A line without a mark has its number as its index, line 0,
@@ -55,6 +55,12 @@ function print_events(text,    line, lines, i) {
 function print_data(text) {
     if (text == "-") return
     gsub(/ \| /, "\n", text)
+    print text
+}
+
+# Prints shapes, a line each, of a text in which they stand with `; ` between.
+function print_shapes(text) {
+    gsub(/; /, "\n", text)
     print text
 }
 
@@ -87,6 +93,7 @@ function answer(task, text) {
     if (sub(/^!table /, "schema: ", text)) wanted(1, text)
     else if (sub(/^\? /, "", text)) wanted(2, text)
     else if (task == "write") { failing = ""; text = written(text); wanted(failing != "", text) }
+    else if (task == "schema") { gsub(/ \| /, "\\u000a", text); wanted(0, text) }
     else if (task == "documents" || task == "texts") { text = in_turn(text); wanted(failing, text) }
     else if (sub(/^! /, "fault: ", text)) wanted(1, text)
     else wanted(0, text)
@@ -108,14 +115,18 @@ function row(    cut, head, lines, want, word, words, i, task, flags, whole) {
         if (word[i] == "stream") whole = 1
         else if (word[i] == "documents") { task = "documents"; whole = 1 }
         else if (word[i] == "limits") flags = flags " limits:" word[++i]
+        else if (word[i] == "budget" || word[i] == "free") flags = flags " " word[i]
+        else if (word[i] == "copy" || word[i] == "schema") task = word[i]
         else complain("no such word: " word[i])
     }
     if (sub(/^write: /, "", lines)) task = "write"
     else if (lines ~ /^".*"$/) task = task == "documents" ? "texts" : "text"
     if (numbered(word[1]) !~ /^[0-9][0-9,]*$/) complain("no such shape: " word[1])
     if (!cases++) print ""
-    print "@@ " topic ":" FNR " " task ":" numbered(word[1]) flags
+    print "@@ " topic ":" FNR " " task (task == "schema" ? "" : ":" numbered(word[1])) flags
+    before = flags ~ / budget/ ? "refused, then: " : ""
     if (task == "write") print_data(lines)
+    else if (task == "schema") print_shapes(lines)
     else if (task ~ /^text/) print substr(lines, 2, length(lines) - 2)
     else if (whole) print_events(lines == "-" ? "" : lines)
     else print_events(lines == "-" ? "+STR; -STR" : "+STR; +DOC; " lines "; -DOC; -STR")

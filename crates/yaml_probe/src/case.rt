@@ -18,6 +18,21 @@ pub enum Task {
     ReadTextInTurn(ShapeId),
     /// Its lines are data of this shape, to be written, each as a document.
     Write(ShapeId),
+    /// What its lines of events are read as, as this shape, is to be copied: any value, or a fault.
+    Copy(ShapeId),
+    /// Its lines are shapes, to be made a schema.
+    MakeSchema,
+}
+
+/// How much memory there is for what is asked of a case.
+#[derive(Clone, Copy, PartialEq, Eq)]
+pub enum Room {
+    /// As much as it takes.
+    Ample,
+    /// Little, and a little more each time.
+    Little,
+    /// Nothing.
+    Nothing,
 }
 
 /// A case, but for its lines.
@@ -31,6 +46,8 @@ pub struct Case<'a> {
     pub limits: Limits,
     /// Whether the line feed of its last line is to be left out.
     pub cut: bool,
+    /// How much memory there is for what is asked.
+    pub room: Room,
 }
 
 /// Whether a line begins a case.
@@ -40,6 +57,12 @@ pub fn is_case(line: &[u8]) -> bool {
 
 // What is asked by a word.
 fn task_of(word: &str) -> Option<Task> {
+    if word == "schema" {
+        return Some(Task::MakeSchema);
+    }
+    if let Some(id) = word.strip_prefix("copy:") {
+        return Some(Task::Copy(number(id)?));
+    }
     if let Some(id) = word.strip_prefix("shape:") {
         return Some(Task::Read(number(id)?));
     }
@@ -61,10 +84,23 @@ fn limits_of(text: &str) -> Option<Limits> {
     Limits::new(nesting.parse::<u8>().ok()?, follows.parse::<u16>().ok()?)
 }
 
+// How much memory a word says that there is.
+fn room_of(word: &str) -> Option<Room> {
+    match word {
+        "budget" => Some(Room::Little),
+        "free" => Some(Room::Nothing),
+        _ => None,
+    }
+}
+
 // Adds what one more word says of a case, and gives whether it says anything.
-fn add(word: &str, limits: &mut Limits, cut: &mut bool) -> bool {
+fn add(word: &str, limits: &mut Limits, cut: &mut bool, room: &mut Room) -> bool {
     if word == "nolf" {
         *cut = true;
+        return true;
+    }
+    if let Some(given) = room_of(word) {
+        *room = given;
         return true;
     }
     let Some(text) = word.strip_prefix("limits:") else {
@@ -81,7 +117,8 @@ fn add(word: &str, limits: &mut Limits, cut: &mut bool) -> bool {
 
 impl<'a> Case<'a> {
     /// The case that a line begins: `@@`, the case's name, what is asked, and, in any order, `nolf`, if the last line
-    /// feed is to be left out, and `limits:` with nestings and follows, if they are not the default ones.
+    /// feed is to be left out, `limits:` with nestings and follows, if they are not the default ones, and `budget`, if
+    /// there is to be little memory, or `free`, if there is to be none.
     pub fn parse(line: &'a [u8]) -> Option<Case<'a>> {
         let Ok(line) = str::from_utf8(line) else {
             return None;
@@ -91,8 +128,9 @@ impl<'a> Case<'a> {
         let task = task_of(word)?;
         let mut limits = Limits::DEFAULT;
         let mut cut = false;
+        let mut room = Room::Ample;
         for flag in flags.split(' ') {
-            if !flag.is_empty() && !add(flag, &mut limits, &mut cut) {
+            if !flag.is_empty() && !add(flag, &mut limits, &mut cut, &mut room) {
                 return None;
             }
         }
@@ -101,6 +139,7 @@ impl<'a> Case<'a> {
             task,
             limits,
             cut,
+            room,
         })
     }
 }
