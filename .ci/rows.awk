@@ -87,16 +87,94 @@ function written(text,    part, parts, i, out) {
     return out
 }
 
+# The lines that calls tell, of a text in which they stand with `; ` between, and documents with ` | `. A document
+# begins before its first event and ends behind its last; `..` stands for what is open at the end.
+function called(text,    part, parts, line, lines, i, j, first, last, open, out) {
+    out = "+STR"
+    parts = text == "-" ? 0 : split(text, part, / \| /)
+    for (i = 1; i <= parts; i++) {
+        lines = split(part[i], line, "; ")
+        open = line[lines] == ".."
+        first = last = 0
+        for (j = 1; j <= lines; j++)
+            if (line[j] ~ /^[-+=]/) { last = j; if (!first) first = j }
+        for (j = 1; j <= lines - open; j++) {
+            if (j == first) out = out "\\u000a+DOC"
+            if (sub(/^! /, "", line[j])) {
+                failing = 1
+                line[j] = "! " ((line[j] in fault) ? fault[line[j]] : line[j])
+            }
+            out = out "\\u000a" line[j]
+            if (j == last && !open) out = out "\\u000a-DOC"
+        }
+    }
+    return out (open ? "" : "\\u000a-STR")
+}
+
+# A text with another in the place of its `..`.
+function filled(text, inner,    cut) {
+    cut = index(text, "..")
+    return substr(text, 1, cut - 1) inner substr(text, cut + 2)
+}
+
+# The same, without the looks at what is open.
+function filled_blindly(text, inner) {
+    gsub(/\([a-z_ ]*\); |; \([a-z_ ]*\)|open; |; open/, "", text)
+    return filled(text, inner)
+}
+
+# Keeps a place of calls: its name, calls with `..` amid them, and what they tell.
+function keep_place(    part) {
+    split($0, part, /  (=> )?/)
+    place[++places] = substr(part[1], 7)
+    place_calls[places] = part[2]
+    place_told[places] = part[3]
+}
+
+# Puts calls, and what they tell, into a place of the text, as a document behind the others.
+function put(calls, told, number) {
+    all_calls = all_calls (all_calls == "" ? "" : "; ") filled(place_calls[number], calls)
+    all_told = all_told (all_told == "" ? "" : " | ") filled(place_told[number], told)
+}
+
+# A row of calls: alone, or in places, which are named with commas between, everywhere, or everywhere within each.
+function calls_row(where, calls, told,    i, j) {
+    all_calls = all_told = ""
+    if (where == "") { all_calls = calls; all_told = told }
+    for (i = 1; i <= places && where != ""; i++)
+        if (where == "within")
+            for (j = 1; j <= places; j++)
+                put(filled_blindly(place_calls[j], calls), filled_blindly(place_told[j], told), i)
+        else if (where == "everywhere" || index("," where ",", "," place[i] ",")) put(calls, told, i)
+    if (all_calls == "") complain("no such place: " where)
+    if (!cases++) print ""
+    print "@@ " topic ":" FNR " calls" room
+    gsub(/; /, "\n", all_calls)
+    if (all_calls != "-") print numbered(all_calls)
+    answer("calls", all_told)
+}
+
 # Writes what an answer wants: data, `! ` and a fault, `!table ` and why the table is refused, or `? ` and why the case is.
 function answer(task, text) {
     failing = 0
     if (sub(/^!table /, "schema: ", text)) wanted(1, text)
     else if (sub(/^\? /, "", text)) wanted(2, text)
+    else if (task == "calls") { text = called(text); wanted(failing, text) }
     else if (task == "write") { failing = ""; text = written(text); wanted(failing != "", text) }
     else if (task == "schema") { gsub(/ \| /, "\\u000a", text); wanted(0, text) }
     else if (task == "documents" || task == "texts") { text = in_turn(text); wanted(failing, text) }
     else if (sub(/^! /, "fault: ", text)) wanted(1, text)
     else wanted(0, text)
+}
+
+# Takes `budget` and `free` out of the words of a row, and gives how many are left.
+function left(word, words,    i, kept) {
+    room = before = ""
+    for (i = 1; i <= words; i++)
+        if (word[i] == "budget" || word[i] == "free") room = " " word[i]
+        else word[++kept] = word[i]
+    if (room == " budget") before = "refused, then: "
+    return kept
 }
 
 # A row: a shape and words, the lines of a case, and what is wanted.
@@ -109,13 +187,13 @@ function row(    cut, head, lines, want, word, words, i, task, flags, whole) {
     if (!cut) { complain("no events"); return }
     lines = substr(head, cut + 2)
     sub(/^ +/, "", lines)
-    words = split(substr(head, 1, cut - 1), word, " ")
+    words = left(word, split(substr(head, 1, cut - 1), word, " "))
+    if (word[1] == "calls") { calls_row(words == 1 ? "" : word[words], lines, want); return }
     task = "shape"
     for (i = 2; i <= words; i++) {
         if (word[i] == "stream") whole = 1
         else if (word[i] == "documents") { task = "documents"; whole = 1 }
         else if (word[i] == "limits") flags = flags " limits:" word[++i]
-        else if (word[i] == "budget" || word[i] == "free") flags = flags " " word[i]
         else if (word[i] == "copy" || word[i] == "schema") task = word[i]
         else complain("no such word: " word[i])
     }
@@ -123,8 +201,7 @@ function row(    cut, head, lines, want, word, words, i, task, flags, whole) {
     else if (lines ~ /^".*"$/) task = task == "documents" ? "texts" : "text"
     if (numbered(word[1]) !~ /^[0-9][0-9,]*$/) complain("no such shape: " word[1])
     if (!cases++) print ""
-    print "@@ " topic ":" FNR " " task (task == "schema" ? "" : ":" numbered(word[1])) flags
-    before = flags ~ / budget/ ? "refused, then: " : ""
+    print "@@ " topic ":" FNR " " task (task == "schema" ? "" : ":" numbered(word[1])) flags room
     if (task == "write") print_data(lines)
     else if (task == "schema") print_shapes(lines)
     else if (task ~ /^text/) print substr(lines, 2, length(lines) - 2)
@@ -143,7 +220,8 @@ function number_shapes(line,    name) {
             sub(/ .*/, "", name)
             at[name] = shapes++
         }
-    cases = 0
+    cases = places = 0
+    split("", fault)
 }
 
 FNR == NR { all[lines_read = FNR] = $0; next }   # the first reading keeps the lines
@@ -151,5 +229,7 @@ FNR == 1 { topic = FILENAME; sub(/.*\//, "", topic); sub(/\.rows$/, "", topic); 
 /^(#|$)/ { next }
 $0 == "%%" { print; number_shapes(FNR); next }
 /^[A-Z][A-Z_0-9]+ = / { sub(/^[A-Z_0-9]+ = /, ""); print numbered($0); next }
+/^fault [a-z]+ = / { fault[$2] = substr($0, index($0, "=") + 2); next }
+/^place / { keep_place(); next }
 { row() }
 END { exit bad }

@@ -61,6 +61,10 @@ want "a mapping of 100,000 keys"
 awk -v IN="$work/in" -v WANTED="$work/wanted" -f "$root/large.awk"
 want "nodes that are deep or wide"
 
+# Data that is written and calls, deep, wide or many.
+awk -v IN="$work/in" -v WANTED="$work/wanted" -f "$root/large_calls.awk"
+want "calls that are deep, wide or many"
+
 # A table that is refused, and no case: only the status tells it.
 printf 'option 0\n\n' > "$work/in"
 : > "$work/wanted"

@@ -1,6 +1,7 @@
 //! The answer to a case.
 
 mod budget;
+mod calls;
 mod copying;
 mod events;
 mod free;
@@ -14,6 +15,7 @@ use crate::case::{Case, Room, Task};
 use crate::table::Table;
 use crate::text::quote;
 use budget::under_budget;
+use calls::make_calls;
 use copying::copy_read;
 use free::read_with_nothing;
 use schemas::{make_schema, told_of_table};
@@ -51,6 +53,7 @@ fn asked(
         Task::Write(id) if schema.has(id) => write(alloc, schema, id, lines),
         Task::Copy(id) if schema.has(id) => copy_read(alloc, schema, id, case.limits, lines),
         Task::MakeSchema => make_schema(alloc, lines),
+        Task::Calls => make_calls(alloc, schema, lines),
         _ => refused(alloc, "bad shape"),
     }
 }

@@ -18,6 +18,8 @@ pub enum Task {
     ReadTextInTurn(ShapeId),
     /// Its lines are data of this shape, to be written, each as a document.
     Write(ShapeId),
+    /// Its lines are calls of a serializer, to be made in a row.
+    Calls,
     /// What its lines of events are read as, as this shape, is to be copied: any value, or a fault.
     Copy(ShapeId),
     /// Its lines are shapes, to be made a schema.
@@ -57,8 +59,10 @@ pub fn is_case(line: &[u8]) -> bool {
 
 // What is asked by a word.
 fn task_of(word: &str) -> Option<Task> {
-    if word == "schema" {
-        return Some(Task::MakeSchema);
+    match word {
+        "schema" => return Some(Task::MakeSchema),
+        "calls" => return Some(Task::Calls),
+        _ => {}
     }
     if let Some(id) = word.strip_prefix("copy:") {
         return Some(Task::Copy(number(id)?));

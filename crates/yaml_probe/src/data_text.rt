@@ -3,12 +3,13 @@
 mod source;
 mod value;
 
-use source::Source;
+pub use source::Source;
 use std::alloc::Global;
 use value::value;
 use yaml_base::{parse_signed_int, parse_unsigned_int};
 use yaml_lines::LineFault;
 use yaml_shape::{Data, Entry, Schema, Shape, ShapeId, Text, VariantShape};
+use yaml_tree::Value;
 
 // How deep data may be nested.
 const NESTINGS: u32 = 500;
@@ -240,6 +241,21 @@ fn variant(
     Ok(Data::Variant(place, Box::new(alloc, content)?))
 }
 
+/// The data of the shape with this number that a text begins with. Whether it is of the shape is still to be tested.
+pub fn next_data(
+    alloc: Global,
+    schema: &Schema,
+    id: ShapeId,
+    source: &mut Source<'_>,
+) -> Result<Data<'static>, LineFault> {
+    node(alloc, schema, id, source, NESTINGS)
+}
+
+/// The value that a text begins with.
+pub fn next_value(alloc: Global, source: &mut Source<'_>) -> Result<Value, LineFault> {
+    value(alloc, source, NESTINGS)
+}
+
 /// The data of the shape with this number that a text says. Whether it is of the shape is still to be tested, since
 /// an integer may be out of range.
 pub fn data(
@@ -249,7 +265,7 @@ pub fn data(
     text: &[u8],
 ) -> Result<Data<'static>, LineFault> {
     let mut source = Source::new(text);
-    let content = node(alloc, schema, id, &mut source, NESTINGS)?;
+    let content = next_data(alloc, schema, id, &mut source)?;
     if source.left() == 0 {
         Ok(content)
     } else {

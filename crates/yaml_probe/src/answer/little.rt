@@ -91,6 +91,7 @@ fn made_of(
         Task::Write(id) => Ok(Made::Data(all_data(alloc, schema, id, lines)?)),
         Task::Copy(id) => read_original(alloc, schema, id, case.limits, lines),
         Task::MakeSchema => shapes(alloc, lines),
+        _ => Ok(Made::Nothing),
     }
 }
 
