@@ -40,7 +40,12 @@ function quoted(text,    out) {
 
 # Writes what is wanted of the row: a status and a text.
 function wanted(status, text) {
-    printf "%s:%d\t%s\t%s\n", topic, FNR, status, quoted(text) > WANTED
+    wanted_as_it_stands(status, quoted(text))
+}
+
+# The same of a text that stands between quotes already.
+function wanted_as_it_stands(status, text) {
+    printf "%s:%d\t%s\t%s\n", topic, FNR, status, text > WANTED
 }
 
 # Prints the lines of events, which stand with `; ` between. A line without a mark has its number as its index, line 0,
@@ -86,10 +91,19 @@ function answer(task, text) {
     failing = 0
     if (sub(/^!table /, "schema: ", text)) wanted(1, text)
     else if (sub(/^\? /, "", text)) wanted(2, text)
+    else if (task == "typed" && text ~ /^".*"$/) wanted_as_it_stands(0, text)
     else if (task == "write") { failing = ""; text = written(text); wanted(failing != "", text) }
     else if (task == "documents" || task == "texts") { text = in_turn(text); wanted(failing, text) }
     else if (sub(/^! /, "fault: ", text)) wanted(1, text)
     else wanted(0, text)
+}
+
+# A row of a type: its name, a text between quotes, and what is wanted.
+function typed_row(name, text, want) {
+    if (!cases++) print ""
+    print "@@ " topic ":" FNR " typed:" name
+    print substr(text, 2, length(text) - 2)
+    answer("typed", want)
 }
 
 # A row: a shape and words, the lines of a case, and what is wanted.
@@ -103,6 +117,7 @@ function row(    cut, head, lines, want, word, words, i, task, flags, whole) {
     lines = substr(head, cut + 2)
     sub(/^ +/, "", lines)
     words = split(substr(head, 1, cut - 1), word, " ")
+    if (word[1] == "typed") { typed_row(word[2], lines, want); return }
     task = "shape"
     for (i = 2; i <= words; i++) {
         if (word[i] == "stream") whole = 1

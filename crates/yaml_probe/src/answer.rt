@@ -3,6 +3,7 @@
 mod events;
 mod text;
 mod turns;
+mod typed;
 mod writing;
 
 use crate::case::{Case, Task};
@@ -11,6 +12,7 @@ use crate::text::quote;
 use std::alloc::{AllocError, Global};
 use text::{read_text, read_text_in_turn};
 use turns::read_in_turn;
+use typed::read_typed;
 use writing::write;
 use yaml_run::{Status, Told, read_events};
 use yaml_shape::Schema;
@@ -39,6 +41,7 @@ fn asked(
         Task::ReadTextInTurn(id) if schema.has(id) => {
             read_text_in_turn(alloc, schema, id, case.limits, lines)
         }
+        Task::Typed(name) => read_typed(alloc, name, lines),
         Task::Write(id) if schema.has(id) => write(alloc, schema, id, lines),
         _ => refused(alloc, "bad shape"),
     }
