@@ -40,7 +40,12 @@ function quoted(text,    out) {
 
 # Writes what is wanted of the row: a status and a text, behind what stands before it where memory is refused.
 function wanted(status, text) {
-    printf "%s:%d\t%s\t%s\n", topic, FNR, status, quoted(before text) > WANTED
+    wanted_as_it_stands(status, quoted(text))
+}
+
+# The same of a text that stands between quotes already.
+function wanted_as_it_stands(status, text) {
+    printf "%s:%d\t%s\t\"%s%s\n", topic, FNR, status, before, substr(text, 2) > WANTED
 }
 
 # Prints the lines of events, which stand with `; ` between. A line without a mark has its number as its index, line 0,
@@ -160,6 +165,7 @@ function answer(task, text) {
     if (sub(/^!table /, "schema: ", text)) wanted(1, text)
     else if (sub(/^\? /, "", text)) wanted(2, text)
     else if (task == "calls") { text = called(text); wanted(failing, text) }
+    else if (task == "typed" && text ~ /^".*"$/) wanted_as_it_stands(0, text)
     else if (task == "write") { failing = ""; text = written(text); wanted(failing != "", text) }
     else if (task == "schema") { gsub(/ \| /, "\\u000a", text); wanted(0, text) }
     else if (task == "documents" || task == "texts") { text = in_turn(text); wanted(failing, text) }
@@ -177,6 +183,14 @@ function left(word, words,    i, kept) {
     return kept
 }
 
+# A row of a type: its name, a text between quotes, and what is wanted.
+function typed_row(name, text, want) {
+    if (!cases++) print ""
+    print "@@ " topic ":" FNR " typed:" name room
+    print substr(text, 2, length(text) - 2)
+    answer("typed", want)
+}
+
 # A row: a shape and words, the lines of a case, and what is wanted.
 function row(    cut, head, lines, want, word, words, i, task, flags, whole) {
     cut = index($0, "  => ")
@@ -189,6 +203,7 @@ function row(    cut, head, lines, want, word, words, i, task, flags, whole) {
     sub(/^ +/, "", lines)
     words = left(word, split(substr(head, 1, cut - 1), word, " "))
     if (word[1] == "calls") { calls_row(words == 1 ? "" : word[words], lines, want); return }
+    if (word[1] == "typed") { typed_row(word[2], lines, want); return }
     task = "shape"
     for (i = 2; i <= words; i++) {
         if (word[i] == "stream") whole = 1

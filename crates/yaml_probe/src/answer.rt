@@ -9,6 +9,7 @@ mod little;
 mod schemas;
 mod text;
 mod turns;
+mod typed;
 mod writing;
 
 use crate::case::{Case, Room, Task};
@@ -22,6 +23,7 @@ use schemas::{make_schema, told_of_table};
 use std::alloc::{AllocError, Global};
 use text::{read_text, read_text_in_turn};
 use turns::read_in_turn;
+use typed::read_typed;
 use writing::write;
 use yaml_run::{Status, Told, read_events};
 use yaml_shape::Schema;
@@ -50,6 +52,7 @@ fn asked(
         Task::ReadTextInTurn(id) if schema.has(id) => {
             read_text_in_turn(alloc, schema, id, case.limits, lines)
         }
+        Task::Typed(name) => read_typed(alloc, name, lines),
         Task::Write(id) if schema.has(id) => write(alloc, schema, id, lines),
         Task::Copy(id) if schema.has(id) => copy_read(alloc, schema, id, case.limits, lines),
         Task::MakeSchema => make_schema(alloc, lines),

@@ -7,7 +7,7 @@ use yaml_shape::ShapeId;
 
 /// What is asked of a case.
 #[derive(Clone, Copy, PartialEq, Eq)]
-pub enum Task {
+pub enum Task<'a> {
     /// Its lines are events, to be read as this shape.
     Read(ShapeId),
     /// Its lines are events, of which each document is to be read in turn, as this shape.
@@ -16,6 +16,8 @@ pub enum Task {
     ReadText(ShapeId),
     /// The same, of whose documents each is to be read in turn, as this shape.
     ReadTextInTurn(ShapeId),
+    /// Its one line spells a YAML text, to be read as the type with this name and printed again.
+    Typed(&'a str),
     /// Its lines are data of this shape, to be written, each as a document.
     Write(ShapeId),
     /// Its lines are calls of a serializer, to be made in a row.
@@ -43,7 +45,7 @@ pub struct Case<'a> {
     /// The name that its answer has.
     pub id: &'a str,
     /// What is asked.
-    pub task: Task,
+    pub task: Task<'a>,
     /// How much a document may ask of a reading.
     pub limits: Limits,
     /// Whether the line feed of its last line is to be left out.
@@ -58,7 +60,7 @@ pub fn is_case(line: &[u8]) -> bool {
 }
 
 // What is asked by a word.
-fn task_of(word: &str) -> Option<Task> {
+fn task_of(word: &str) -> Option<Task<'_>> {
     match word {
         "schema" => return Some(Task::MakeSchema),
         "calls" => return Some(Task::Calls),
@@ -78,6 +80,9 @@ fn task_of(word: &str) -> Option<Task> {
     }
     if let Some(id) = word.strip_prefix("texts:") {
         return Some(Task::ReadTextInTurn(number(id)?));
+    }
+    if let Some(name) = word.strip_prefix("typed:") {
+        return Some(Task::Typed(name));
     }
     Some(Task::Write(number(word.strip_prefix("write:")?)?))
 }

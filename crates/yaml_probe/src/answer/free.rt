@@ -93,7 +93,7 @@ fn told_of_first(
 pub fn read_with_nothing(
     alloc: Global,
     schema: &Schema,
-    task: Task,
+    task: Task<'_>,
     lines: &[u8],
 ) -> std::result::Result<Told, AllocError> {
     match task {

@@ -4,6 +4,7 @@ use super::copying::{Original, original_of, told_of_copy};
 use super::schemas::told_of_table;
 use super::text::{read_documents, spelled};
 use super::turns::read_input;
+use super::typed::read_as_type;
 use super::writing::{all_data, write_data};
 use super::{asked, refused};
 use crate::case::{Case, Task};
@@ -87,7 +88,7 @@ fn made_of(
 ) -> Result<Made, LineFault> {
     match case.task {
         Task::Read(_) | Task::ReadInTurn(_) => Ok(Made::Events(events(alloc, lines)?)),
-        Task::ReadText(_) | Task::ReadTextInTurn(_) => text(alloc, lines),
+        Task::ReadText(_) | Task::ReadTextInTurn(_) | Task::Typed(_) => text(alloc, lines),
         Task::Write(id) => Ok(Made::Data(all_data(alloc, schema, id, lines)?)),
         Task::Copy(id) => read_original(alloc, schema, id, case.limits, lines),
         Task::MakeSchema => shapes(alloc, lines),
@@ -140,6 +141,7 @@ fn answer_text(
         Task::ReadTextInTurn(id) if schema.has(id) => {
             read_documents(alloc, schema, id, case.limits, text)
         }
+        Task::Typed(name) => read_as_type(alloc, name, text),
         _ => refused(alloc, "bad shape"),
     }
 }
