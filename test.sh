@@ -2,9 +2,9 @@
 # Runs all rows and tests without proofs: the tests of each crate by `rt try --test`, and each program on its stored run
 # by `rt try`. Prints each failure, and in the last line how many passed and failed. Status 0 only if none failed.
 #
-# Two things are left to the gate, sh .ci/run. The tests of refused memory (memory_tests, and the module `memory` of
-# yaml_case's tests) use up a process's memory, which ends it under the allocator of rt try. And crates/NAME/program.sh
-# needs the built program: of its runs of yaml_case, those that read a shape are read here by yaml_probe.
+# The runs of crates/NAME/program.sh, which need the built program, are left to the gate, sh .ci/run: of those of
+# yaml_case, the ones that read a shape are read here by yaml_probe. Its rows of refused memory use up a process's
+# memory, which ends it under the allocator of rt try.
 #
 # usage: test.sh [CRATE..]   With no CRATE all are run.
 #   JOBS=N        N crates at a time, each of which takes up to 1.3 GB; else as many as there are processors
@@ -29,10 +29,9 @@ tests() {
     awk -v crate="$crate" -v counts="$work/$crate.count" '
         /^test result: / { next }
         /^test .* \.\.\. / {
-            left = $2 ~ /(^|::)memory::/
-            failing = !left && $NF != "ok"
+            failing = $NF != "ok"
             if (failing) print crate ": " $0
-            if (!left) { if (failing) failed++; else passed++ }
+            if (failing) failed++; else passed++
             shown = 0
             next
         }
@@ -110,11 +109,11 @@ for source in crates/*/src; do
     [ $# = 0 ] || case " $* " in *" $name "*) ;; *) continue ;; esac
     size=$(find "$source" -name '*.rt' -exec cat {} + | wc -c)
     [ -e "$source/main.rt" ] && [ -e "crates/$name/stdout" ] && echo "$size program $name"
-    [ "$name" != memory_tests ] && grep -rq '#\[test\]' "$source" && echo "$size tests $name"
+    grep -rq '#\[test\]' "$source" && echo "$size tests $name"
 done | sort -rn | cut -d ' ' -f 2- > "$work/crates"
 xargs -P "${JOBS:-$(nproc 2> /dev/null || echo 2)}" -L 1 sh -c 'sh test.sh --one "$2" "$3" "$1"' sh "$work" < "$work/crates"
 
-echo "left to the gate: the tests of refused memory, and the runs of built programs (crates/*/program.sh)"
+echo "left to the gate: the runs of built programs (crates/*/program.sh), those with refused memory among them"
 cat "$work"/*.count | awk '
     { passed += $1; failed += $2 }
     END { print passed + 0 " passed, " failed + 0 " failed"; exit failed > 0 }

@@ -38,9 +38,14 @@ function quoted(text,    out) {
     return "\"" out "\""
 }
 
-# Writes what is wanted of the row: a status and a text.
+# Writes what is wanted of the row: a status and a text, behind what stands before it where memory is refused.
 function wanted(status, text) {
-    printf "%s:%d\t%s\t%s\n", topic, FNR, status, quoted(text) > WANTED
+    wanted_as_it_stands(status, quoted(text))
+}
+
+# The same of a text that stands between quotes already.
+function wanted_as_it_stands(status, text) {
+    printf "%s:%d\t%s\t\"%s%s\n", topic, FNR, status, before, substr(text, 2) > WANTED
 }
 
 # Prints the lines of events, which stand with `; ` between. A line without a mark has its number as its index, line 0,
@@ -55,6 +60,12 @@ function print_events(text,    line, lines, i) {
 function print_data(text) {
     if (text == "-") return
     gsub(/ \| /, "\n", text)
+    print text
+}
+
+# Prints shapes, a line each, of a text in which they stand with `; ` between.
+function print_shapes(text) {
+    gsub(/; /, "\n", text)
     print text
 }
 
@@ -142,7 +153,7 @@ function calls_row(where, calls, told,    i, j) {
         else if (where == "everywhere" || index("," where ",", "," place[i] ",")) put(calls, told, i)
     if (all_calls == "") complain("no such place: " where)
     if (!cases++) print ""
-    print "@@ " topic ":" FNR " calls"
+    print "@@ " topic ":" FNR " calls" room
     gsub(/; /, "\n", all_calls)
     if (all_calls != "-") print numbered(all_calls)
     answer("calls", all_told)
@@ -156,7 +167,9 @@ function answer(task, text) {
     else if (sub(/^!table /, "schema: ", text)) wanted(1, text)
     else if (sub(/^\? /, "", text)) wanted(2, text)
     else if (task == "calls") { text = called(text); wanted(failing, text) }
+    else if (task == "typed" && text ~ /^".*"$/) wanted_as_it_stands(0, text)
     else if (task == "write") { failing = ""; text = written(text); wanted(failing != "", text) }
+    else if (task == "schema") { gsub(/ \| /, "\\u000a", text); wanted(0, text) }
     else if (task == "documents" || task == "texts") { text = in_turn(text); wanted(failing, text) }
     else if (sub(/^! /, "fault: ", text)) wanted(1, text)
     else wanted(0, text)
@@ -166,6 +179,24 @@ function answer(task, text) {
 function print_emitted(text) {
     gsub(/; /, "\n", text)
     print text
+}
+
+# Takes `budget` and `free` out of the words of a row, and gives how many are left.
+function left(word, words,    i, kept) {
+    room = before = ""
+    for (i = 1; i <= words; i++)
+        if (word[i] == "budget" || word[i] == "free") room = " " word[i]
+        else word[++kept] = word[i]
+    if (room == " budget") before = "refused, then: "
+    return kept
+}
+
+# A row of a type: its name, a text between quotes, and what is wanted.
+function typed_row(name, text, want) {
+    if (!cases++) print ""
+    print "@@ " topic ":" FNR " typed:" name room
+    print substr(text, 2, length(text) - 2)
+    answer("typed", want)
 }
 
 # A row: a shape and words, or `emit` or `handed`, the lines of a case, and what is wanted.
@@ -178,23 +209,26 @@ function row(    cut, head, lines, want, word, words, i, task, bare, flags, whol
     if (!cut) { complain("no events"); return }
     lines = substr(head, cut + 2)
     sub(/^ +/, "", lines)
-    words = split(substr(head, 1, cut - 1), word, " ")
+    words = left(word, split(substr(head, 1, cut - 1), word, " "))
     if (word[1] == "calls") { calls_row(words == 1 ? "" : word[words], lines, want); return }
+    if (word[1] == "typed") { typed_row(word[2], lines, want); return }
     bare = word[1] == "emit" || word[1] == "handed"
     task = bare ? word[1] : "shape"
     for (i = 2; i <= words; i++) {
         if (word[i] == "stream") whole = 1
         else if (word[i] == "documents") { task = "documents"; whole = 1 }
         else if (word[i] == "limits") flags = flags " limits:" word[++i]
+        else if (word[i] == "copy" || word[i] == "schema") task = word[i]
         else complain("no such word: " word[i])
     }
     if (sub(/^write: /, "", lines)) task = "write"
     else if (lines ~ /^".*"$/ && !bare) task = task == "documents" ? "texts" : "text"
     if (!bare && numbered(word[1]) !~ /^[0-9][0-9,]*$/) complain("no such shape: " word[1])
     if (!cases++) print ""
-    print "@@ " topic ":" FNR " " task (bare ? "" : ":" numbered(word[1])) flags
+    print "@@ " topic ":" FNR " " task (bare || task == "schema" ? "" : ":" numbered(word[1])) flags room
     if (task == "write") print_data(lines)
     else if (task == "emit") print_emitted(lines)
+    else if (task == "schema") print_shapes(lines)
     else if (task ~ /^text|^handed/) print substr(lines, 2, length(lines) - 2)
     else if (whole) print_events(lines == "-" ? "" : lines)
     else print_events(lines == "-" ? "+STR; -STR" : "+STR; +DOC; " lines "; -DOC; -STR")

@@ -75,8 +75,8 @@ if [ -w /dev/full ]; then
     compare "full standard output" $? 2 ""
 fi
 
-# Memory that runs out: while the input is read, and, at the least limit under which the program starts, while the
-# arguments are gathered.
+# Memory that runs out: while the input is read; at the least limit under which the program starts, while the arguments
+# are gathered; and with a little more each time from there on, wherever that is, until a run is answered.
 if command -v prlimit > /dev/null; then
     yes '0:0:0 =VAL :7' | head -n 1000000 > "$work/large"
     prlimit --as=30000000 "$program" list < "$work/large" > "$work/out" 2> "$work/err"
@@ -89,6 +89,32 @@ if command -v prlimit > /dev/null; then
         [ "$status" = 127 ] || break
     done
     compare "arguments that are too large" "$status" 1 "fault: out of memory$line_feed"
+    awk 'BEGIN {
+        print "0:0:0 +STR\n0:0:0 +DOC\n0:0:0 +SEQ"
+        for (i = 0; i < 5000; i++) print "0:0:0 =VAL :7"
+        print "0:0:0 -SEQ\n0:0:0 -DOC\n0:0:0 -STR"
+    }' > "$work/long"
+    refused=0
+    limit=3000000
+    while [ "$limit" -lt 30000000 ]; do
+        prlimit --as="$limit" "$program" list < "$work/long" > "$work/out" 2> "$work/err"
+        status=$?
+        [ "$status" = 0 ] && break
+        if [ "$status" != 127 ]; then
+            compare "$limit bytes of memory" "$status" 1 "fault: out of memory$line_feed"
+            refused=$((refused + 1))
+        fi
+        limit=$((limit + 40000))
+    done
+    compare "enough memory" "$status" 0 "$(awk 'BEGIN {
+        printf "[7"
+        for (i = 1; i < 5000; i++) printf ", 7"
+        print "]"
+    }')$line_feed"
+    if [ "$refused" -lt 10 ]; then
+        echo "program: of the runs with little memory, only $refused were refused"
+        failed=1
+    fi
 fi
 
 finish

@@ -1,7 +1,7 @@
 #!/bin/sh
 # Runs the built program on inputs that are too large for a line of rows, on a document of each shape that is cut off at
-# each event, and on a refused table without a case, and compares what it prints and its status. Ends with status 0 only
-# if each run is as it should be.
+# each event, on a refused table without a case, and on the rows of memory.rows, and compares what it prints and its
+# status. Ends with status 0 only if each run is as it should be.
 #
 # usage: program.sh [PROGRAM]   With no PROGRAM it is proved and built first, over what earlier checks kept in out/.
 set -u
@@ -105,5 +105,11 @@ nodes='0 =VAL :true
 } > "$work/in"
 awk '/^@@ / { print $2 "\t1\t\"fault: bad at line 2 column 1\"" }' "$work/in" > "$work/wanted"
 want "documents that were cut off"
+
+# Rows that are answered with little memory, or with none.
+LC_ALL=C awk -v WANTED="$work/wanted" -f "$root/../../.ci/rows.awk" "$root/memory.rows" "$root/memory.rows" \
+    > "$work/in" || exit 1
+want "rows of refused memory"
+[ "$failed" = 0 ] || diff "$work/wanted" "$work/out"
 
 finish

@@ -1,22 +1,33 @@
 //! The answer to a case.
 
+mod budget;
 mod calls;
+mod copying;
 mod emitting;
 mod events;
+mod free;
 mod handed;
+mod little;
+mod schemas;
 mod text;
 mod turns;
+mod typed;
 mod writing;
 
-use crate::case::{Case, Task};
+use crate::case::{Case, Room, Task};
 use crate::table::Table;
 use crate::text::quote;
+use budget::under_budget;
 use calls::make_calls;
+use copying::copy_read;
 use emitting::emit;
+use free::read_with_nothing;
 use handed::hand_out;
+use schemas::{make_schema, told_of_table};
 use std::alloc::{AllocError, Global};
 use text::{read_text, read_text_in_turn};
 use turns::read_in_turn;
+use typed::read_typed;
 use writing::write;
 use yaml_run::{Status, Told, read_events};
 use yaml_shape::Schema;
@@ -45,7 +56,10 @@ fn asked(
         Task::ReadTextInTurn(id) if schema.has(id) => {
             read_text_in_turn(alloc, schema, id, case.limits, lines)
         }
+        Task::Typed(name) => read_typed(alloc, name, lines),
         Task::Write(id) if schema.has(id) => write(alloc, schema, id, lines),
+        Task::Copy(id) if schema.has(id) => copy_read(alloc, schema, id, case.limits, lines),
+        Task::MakeSchema => make_schema(alloc, lines),
         Task::Calls => make_calls(alloc, schema, lines),
         Task::Emit => emit(alloc, lines),
         Task::HandOut => hand_out(alloc, lines),
@@ -61,6 +75,20 @@ fn kept<'a>(case: &Case<'_>, lines: &'a [u8]) -> &'a [u8] {
     }
 }
 
+// The answer to what a case asks of lines, with as much memory as the case says.
+fn asked_within(
+    alloc: Global,
+    schema: &Schema,
+    case: &Case<'_>,
+    lines: &[u8],
+) -> Result<Told, AllocError> {
+    match case.room {
+        Room::Ample => asked(alloc, schema, case, lines),
+        Room::Little => under_budget(alloc, schema, case, lines),
+        Room::Nothing => read_with_nothing(alloc, schema, case.task, lines),
+    }
+}
+
 // The answer to a case of a table.
 fn answer_of(
     alloc: Global,
@@ -69,15 +97,8 @@ fn answer_of(
     lines: &[u8],
 ) -> Result<Told, AllocError> {
     match table {
-        Table::Schema(schema) => asked(alloc, schema, case, kept(case, lines)),
-        Table::BadLine(number) => Ok(Told {
-            ended: Status::Refused,
-            text: format!(in alloc; "schema: bad line {number}")?,
-        }),
-        Table::Refused(fault) => Ok(Told {
-            ended: Status::Fault,
-            text: format!(in alloc; "schema: {fault}")?,
-        }),
+        Table::Schema(schema) => asked_within(alloc, schema, case, kept(case, lines)),
+        _ => told_of_table(alloc, table),
     }
 }
 

@@ -7,7 +7,7 @@ use yaml_shape::ShapeId;
 
 /// What is asked of a case.
 #[derive(Clone, Copy, PartialEq, Eq)]
-pub enum Task {
+pub enum Task<'a> {
     /// Its lines are events, to be read as this shape.
     Read(ShapeId),
     /// Its lines are events, of which each document is to be read in turn, as this shape.
@@ -16,6 +16,8 @@ pub enum Task {
     ReadText(ShapeId),
     /// The same, of whose documents each is to be read in turn, as this shape.
     ReadTextInTurn(ShapeId),
+    /// Its one line spells a YAML text, to be read as the type with this name and printed again.
+    Typed(&'a str),
     /// Its lines are data of this shape, to be written, each as a document.
     Write(ShapeId),
     /// Its lines are calls of a serializer, to be made in a row.
@@ -24,6 +26,21 @@ pub enum Task {
     Emit,
     /// Its one line spells a YAML text, whose documents are to be handed out one at a time.
     HandOut,
+    /// What its lines of events are read as, as this shape, is to be copied: any value, or a fault.
+    Copy(ShapeId),
+    /// Its lines are shapes, to be made a schema.
+    MakeSchema,
+}
+
+/// How much memory there is for what is asked of a case.
+#[derive(Clone, Copy, PartialEq, Eq)]
+pub enum Room {
+    /// As much as it takes.
+    Ample,
+    /// Little, and a little more each time.
+    Little,
+    /// Nothing.
+    Nothing,
 }
 
 /// A case, but for its lines.
@@ -32,11 +49,13 @@ pub struct Case<'a> {
     /// The name that its answer has.
     pub id: &'a str,
     /// What is asked.
-    pub task: Task,
+    pub task: Task<'a>,
     /// How much a document may ask of a reading.
     pub limits: Limits,
     /// Whether the line feed of its last line is to be left out.
     pub cut: bool,
+    /// How much memory there is for what is asked.
+    pub room: Room,
 }
 
 /// Whether a line begins a case.
@@ -45,15 +64,16 @@ pub fn is_case(line: &[u8]) -> bool {
 }
 
 // What is asked by a word.
-fn task_of(word: &str) -> Option<Task> {
-    if word == "calls" {
-        return Some(Task::Calls);
+fn task_of(word: &str) -> Option<Task<'_>> {
+    match word {
+        "schema" => return Some(Task::MakeSchema),
+        "calls" => return Some(Task::Calls),
+        "emit" => return Some(Task::Emit),
+        "handed" => return Some(Task::HandOut),
+        _ => {}
     }
-    if word == "emit" {
-        return Some(Task::Emit);
-    }
-    if word == "handed" {
-        return Some(Task::HandOut);
+    if let Some(id) = word.strip_prefix("copy:") {
+        return Some(Task::Copy(number(id)?));
     }
     if let Some(id) = word.strip_prefix("shape:") {
         return Some(Task::Read(number(id)?));
@@ -67,6 +87,9 @@ fn task_of(word: &str) -> Option<Task> {
     if let Some(id) = word.strip_prefix("texts:") {
         return Some(Task::ReadTextInTurn(number(id)?));
     }
+    if let Some(name) = word.strip_prefix("typed:") {
+        return Some(Task::Typed(name));
+    }
     Some(Task::Write(number(word.strip_prefix("write:")?)?))
 }
 
@@ -76,10 +99,23 @@ fn limits_of(text: &str) -> Option<Limits> {
     Limits::new(nesting.parse::<u8>().ok()?, follows.parse::<u16>().ok()?)
 }
 
+// How much memory a word says that there is.
+fn room_of(word: &str) -> Option<Room> {
+    match word {
+        "budget" => Some(Room::Little),
+        "free" => Some(Room::Nothing),
+        _ => None,
+    }
+}
+
 // Adds what one more word says of a case, and gives whether it says anything.
-fn add(word: &str, limits: &mut Limits, cut: &mut bool) -> bool {
+fn add(word: &str, limits: &mut Limits, cut: &mut bool, room: &mut Room) -> bool {
     if word == "nolf" {
         *cut = true;
+        return true;
+    }
+    if let Some(given) = room_of(word) {
+        *room = given;
         return true;
     }
     let Some(text) = word.strip_prefix("limits:") else {
@@ -96,7 +132,8 @@ fn add(word: &str, limits: &mut Limits, cut: &mut bool) -> bool {
 
 impl<'a> Case<'a> {
     /// The case that a line begins: `@@`, the case's name, what is asked, and, in any order, `nolf`, if the last line
-    /// feed is to be left out, and `limits:` with nestings and follows, if they are not the default ones.
+    /// feed is to be left out, `limits:` with nestings and follows, if they are not the default ones, and `budget`, if
+    /// there is to be little memory, or `free`, if there is to be none.
     pub fn parse(line: &'a [u8]) -> Option<Case<'a>> {
         let Ok(line) = str::from_utf8(line) else {
             return None;
@@ -106,8 +143,9 @@ impl<'a> Case<'a> {
         let task = task_of(word)?;
         let mut limits = Limits::DEFAULT;
         let mut cut = false;
+        let mut room = Room::Ample;
         for flag in flags.split(' ') {
-            if !flag.is_empty() && !add(flag, &mut limits, &mut cut) {
+            if !flag.is_empty() && !add(flag, &mut limits, &mut cut, &mut room) {
                 return None;
             }
         }
@@ -116,6 +154,7 @@ impl<'a> Case<'a> {
             task,
             limits,
             cut,
+            room,
         })
     }
 }

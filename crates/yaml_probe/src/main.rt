@@ -9,6 +9,7 @@ mod data_text;
 mod print;
 mod reply;
 mod run;
+mod shortage;
 mod status;
 mod table;
 mod text;

@@ -11,10 +11,19 @@ use make::make;
 use parse::parse;
 use std::alloc::{AllocError, Global};
 use std::str;
+use yaml_base::{Cause, Error};
 use yaml_lines::LineFault;
 use yaml_run::{Status, Told};
 use yaml_shape::Schema;
 use yaml_write::Serializer;
+
+// Tells why a call was refused, unless memory ran out.
+fn tell_fault(log: &mut Log, fault: &Error) -> Result<(), LineFault> {
+    match fault.cause() {
+        Cause::Memory => Err(LineFault::Memory),
+        _ => Ok(log.tell_refusal(fault)?),
+    }
+}
 
 // Makes the call that a line says, if it may be made now, and tells what came of it. It answers whether it may.
 fn make_line(
@@ -31,7 +40,7 @@ fn make_line(
     let call = parse(alloc, schema, line)?;
     match make(out, schema, &call) {
         Some(Ok(())) => log.tell_events(out.events())?,
-        Some(Err(fault)) => log.tell_refusal(&fault)?,
+        Some(Err(fault)) => tell_fault(log, &fault)?,
         None => return Ok(false),
     }
     Ok(true)

@@ -38,6 +38,22 @@ pub fn read_text(
     }
 }
 
+/// What each document of a text is read as, under the shape with this number and within limits: a line each.
+pub fn read_documents(
+    alloc: Global,
+    schema: &Schema,
+    id: ShapeId,
+    limits: Limits,
+    text: &[u8],
+) -> Result<Told, AllocError>
+    requires { id.0 < length schema.now }
+{
+    match Deserializer::from_slice(alloc, text) {
+        Ok(stream) => read_in_turn(alloc, stream, schema, id, limits),
+        Err(fault) => told_of(alloc, Err(fault)),
+    }
+}
+
 /// What each document of the text is read as that a line spells: a line each.
 pub fn read_text_in_turn(
     alloc: Global,
@@ -48,11 +64,8 @@ pub fn read_text_in_turn(
 ) -> Result<Told, AllocError>
     requires { id.0 < length schema.now }
 {
-    let Some(text) = spelled(alloc, lines)? else {
-        return refused(alloc, "bad text");
-    };
-    match Deserializer::from_slice(alloc, text.as_slice()) {
-        Ok(stream) => read_in_turn(alloc, stream, schema, id, limits),
-        Err(fault) => told_of(alloc, Err(fault)),
+    match spelled(alloc, lines)? {
+        Some(text) => read_documents(alloc, schema, id, limits, text.as_slice()),
+        None => refused(alloc, "bad text"),
     }
 }

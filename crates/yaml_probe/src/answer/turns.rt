@@ -8,6 +8,22 @@ use yaml_lines::{Input, InputFault};
 use yaml_run::{Told, told_of, told_of_bad_line};
 use yaml_shape::{Schema, ShapeId};
 
+/// What each document of events is read as, under the shape with this number and within limits: a line each.
+pub fn read_input(
+    alloc: Global,
+    schema: &Schema,
+    id: ShapeId,
+    limits: Limits,
+    input: Input,
+) -> Result<Told, AllocError>
+    requires { id.0 < length schema.now }
+{
+    match Deserializer::from_events(alloc, input.events, input.fault) {
+        Ok(stream) => yaml_run::read_in_turn(alloc, stream, schema, id, limits),
+        Err(fault) => told_of(alloc, Err(fault)),
+    }
+}
+
 /// What each document of lines of events is read as, under the shape with this number and within limits: a line each.
 pub fn read_in_turn(
     alloc: Global,
@@ -18,13 +34,9 @@ pub fn read_in_turn(
 ) -> Result<Told, AllocError>
     requires { id.0 < length schema.now }
 {
-    let input = match Input::parse(alloc, lines) {
-        Ok(input) => input,
-        Err(InputFault::BadLine(number)) => return told_of_bad_line(alloc, number),
-        Err(InputFault::Memory) => return Err(AllocError),
-    };
-    match Deserializer::from_events(alloc, input.events, input.fault) {
-        Ok(stream) => yaml_run::read_in_turn(alloc, stream, schema, id, limits),
-        Err(fault) => told_of(alloc, Err(fault)),
+    match Input::parse(alloc, lines) {
+        Ok(input) => read_input(alloc, schema, id, limits, input),
+        Err(InputFault::BadLine(number)) => told_of_bad_line(alloc, number),
+        Err(InputFault::Memory) => Err(AllocError),
     }
 }

@@ -12,8 +12,8 @@ use yaml_run::{Status, Told};
 use yaml_shape::{Data, Schema, ShapeId, Typed};
 use yaml_write::Serializer;
 
-// The data of each line.
-fn all_data(
+/// The data of each line.
+pub fn all_data(
     alloc: Global,
     schema: &Schema,
     id: ShapeId,
@@ -68,6 +68,20 @@ fn shown(
     Ok(Told { ended, text })
 }
 
+/// What data is written as, each a document of its own.
+pub fn write_data(
+    alloc: Global,
+    schema: &Schema,
+    id: ShapeId,
+    all: &[Data<'_>],
+) -> std::result::Result<Told, AllocError> {
+    let Ok(mut out) = Serializer::new(alloc) else {
+        return Err(AllocError);
+    };
+    let written = write_all(&mut out, schema, id, all);
+    shown(alloc, out, written)
+}
+
 /// What lines of data are written as.
 pub fn write(
     alloc: Global,
@@ -75,14 +89,9 @@ pub fn write(
     id: ShapeId,
     lines: &[u8],
 ) -> std::result::Result<Told, AllocError> {
-    let all = match all_data(alloc, schema, id, lines) {
-        Ok(all) => all,
-        Err(LineFault::Bad) => return refused(alloc, "bad data"),
-        Err(LineFault::Memory) => return Err(AllocError),
-    };
-    let Ok(mut out) = Serializer::new(alloc) else {
-        return Err(AllocError);
-    };
-    let written = write_all(&mut out, schema, id, all.as_slice());
-    shown(alloc, out, written)
+    match all_data(alloc, schema, id, lines) {
+        Ok(all) => write_data(alloc, schema, id, all.as_slice()),
+        Err(LineFault::Bad) => refused(alloc, "bad data"),
+        Err(LineFault::Memory) => Err(AllocError),
+    }
 }

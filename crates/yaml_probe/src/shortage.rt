@@ -11,7 +11,7 @@ const LARGEST: usize = 1 << 40;
 // The size of a block that the allocator takes from its heap, and does not ask of the system by itself.
 const RESERVE: usize = 100_000;
 
-// How many such blocks are kept for making what a call needs. Small blocks that a run gives back stay where they were,
+// How many such blocks are kept for making what a case takes. Small blocks that a run gives back stay where they were,
 // in lists of the allocator, and the next run's memory has to lie behind them.
 const RESERVES: usize = 8;
 
@@ -20,6 +20,19 @@ const PAD: usize = 4096;
 
 // The least by which two blocks of the allocator differ.
 const PIECE: usize = 16;
+
+// The size of the largest block that goes into the lists of small ones, each for one size.
+const SMALL: usize = 1040;
+
+// The size of the blocks to ask for once there is none of this size: half of it, or, where each size has a list of its
+// own, the next one.
+fn next_size(size: usize) -> usize {
+    if size > SMALL {
+        size / 2
+    } else {
+        size.saturating_sub(PIECE)
+    }
+}
 
 // Takes blocks, each as large as can be had, until not a byte is left.
 fn drain(alloc: Global, blocks: &mut Vec<Vec<u8>>, largest: usize) {
@@ -34,7 +47,7 @@ fn drain(alloc: Global, blocks: &mut Vec<Vec<u8>>, largest: usize) {
                     return;
                 }
             }
-            Err(_) => size /= 2,
+            Err(_) => size = next_size(size),
         }
     }
 }
@@ -51,7 +64,7 @@ fn reserve(alloc: Global) -> Result<Vec<Vec<u8>>, AllocError> {
     Ok(blocks)
 }
 
-/// Memory of this process that is used up, but for a reserve in which a test makes what it needs. Dropping it gives all
+/// Memory of this process that is used up, but for a reserve in which a run makes what it takes. Dropping it gives all
 /// memory back.
 ///
 /// It counts on an allocator that takes blocks by halves of a size of its own, as glibc's does, and on a system that

@@ -1,0 +1,119 @@
+//! Documents read where there is no memory.
+
+ghost use Rattle.std.specs.Prelude.{◌<◌, length};
+
+use super::refused;
+use super::text::spelled;
+use crate::case::Task;
+use crate::shortage::Shortage;
+use std::alloc::{AllocError, Global};
+use yaml_base::Result;
+use yaml_lines::{Input, InputFault};
+use yaml_read::{Document, Loader};
+use yaml_run::{Told, told_of, told_of_bad_line};
+use yaml_shape::{Data, Schema, Shape, ShapeId};
+
+// What a document is read as under a shape of integers, if it is one.
+fn read_integer<'de>(
+    alloc: Global,
+    document: &Document<'de>,
+    shape: &Shape,
+) -> Option<Result<Data<'de>>> {
+    Some(match shape {
+        Shape::I8 => document.deserialize_i8(alloc),
+        Shape::I16 => document.deserialize_i16(alloc),
+        Shape::I32 => document.deserialize_i32(alloc),
+        Shape::I64 => document.deserialize_i64(alloc),
+        Shape::I128 => document.deserialize_i128(alloc),
+        Shape::Isize => document.deserialize_isize(alloc),
+        Shape::U8 => document.deserialize_u8(alloc),
+        Shape::U16 => document.deserialize_u16(alloc),
+        Shape::U32 => document.deserialize_u32(alloc),
+        Shape::U64 => document.deserialize_u64(alloc),
+        Shape::U128 => document.deserialize_u128(alloc),
+        Shape::Usize => document.deserialize_usize(alloc),
+        _ => return None,
+    })
+}
+
+// What a document is read as under a shape that has a call of its own which may take no memory.
+fn read_alone<'de>(
+    alloc: Global,
+    document: &Document<'de>,
+    shape: &Shape,
+) -> Option<Result<Data<'de>>> {
+    Some(match shape {
+        Shape::Bool => document.deserialize_bool(alloc),
+        Shape::Char => document.deserialize_char(alloc),
+        Shape::Unit => document.deserialize_unit(alloc),
+        Shape::Str => document.deserialize_str(alloc),
+        Shape::Identifier => document.deserialize_identifier(alloc),
+        Shape::IgnoredAny => document.deserialize_ignored_any(alloc),
+        _ => return read_integer(alloc, document, shape),
+    })
+}
+
+// The same where not a byte can be had; no answer where there is still one, or the shape has no such call.
+fn read_then<'de>(
+    alloc: Global,
+    document: &Document<'de>,
+    shape: &Shape,
+) -> std::result::Result<Option<Result<Data<'de>>>, AllocError> {
+    let mut memory = Shortage::new(alloc)?;
+    memory.leave(alloc, 0)?;
+    let answer = read_alone(alloc, document, shape);
+    let used_up = Vec::<u8>::with_capacity(alloc, 1).is_err();
+    drop(memory);
+    Ok(if used_up { answer } else { None })
+}
+
+// What is told of the first document.
+fn told_of_first(
+    alloc: Global,
+    schema: &Schema,
+    id: ShapeId,
+    loaded: Result<Loader<'_>>,
+) -> std::result::Result<Told, AllocError>
+    requires { id.0 < length schema.now }
+{
+    let mut loader = match loaded {
+        Ok(loader) => loader,
+        Err(fault) => return told_of(alloc, Err(fault)),
+    };
+    let Some(document) = loader.next_document() else {
+        return refused(alloc, "no document");
+    };
+    match read_then(alloc, &document, schema.get(id))? {
+        Some(answer) => told_of(alloc, answer),
+        None => refused(alloc, "not read where there is no memory"),
+    }
+}
+
+/// What the first document of a stream is read as where there is no memory, by the call for a shape that needs none.
+pub fn read_with_nothing(
+    alloc: Global,
+    schema: &Schema,
+    task: Task<'_>,
+    lines: &[u8],
+) -> std::result::Result<Told, AllocError> {
+    match task {
+        Task::Read(id) if schema.has(id) => match Input::parse(alloc, lines) {
+            Ok(input) => {
+                let loaded = Loader::new(alloc, input.events, input.fault);
+                told_of_first(alloc, schema, id, loaded)
+            }
+            Err(InputFault::BadLine(number)) => told_of_bad_line(alloc, number),
+            Err(InputFault::Memory) => Err(AllocError),
+        },
+        Task::ReadText(id) if schema.has(id) => match spelled(alloc, lines)? {
+            Some(text) => told_of_first(
+                alloc,
+                schema,
+                id,
+                yaml_documents::load(alloc, text.as_slice()),
+            ),
+            None => refused(alloc, "bad text"),
+        },
+        _ => refused(alloc, "not read where there is no memory"),
+    }
+}
