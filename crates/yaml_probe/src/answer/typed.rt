@@ -87,15 +87,18 @@ fn comes_back(alloc: Global, name: &str, text: &str) -> bool {
 
 // What a text is read as under the type with this name.
 fn read(alloc: Global, name: &str, text: &str) -> std::result::Result<Told, AllocError> {
-    match printed_as(alloc, name, text) {
-        Some(Ok(text)) if comes_back(alloc, name, text.as_str()) => Ok(Told {
-            ended: Status::Read,
-            text,
-        }),
-        Some(Ok(_)) => refused(alloc, "another text comes back"),
-        Some(Err(fault)) => told_of(alloc, Err(fault)),
-        None => refused(alloc, "bad type"),
+    let text = match printed_as(alloc, name, text) {
+        Some(Ok(text)) => text,
+        Some(Err(fault)) => return told_of(alloc, Err(fault)),
+        None => return refused(alloc, "bad type"),
+    };
+    if !comes_back(alloc, name, text.as_str()) {
+        return refused(alloc, "another text comes back");
     }
+    Ok(Told {
+        ended: Status::Read,
+        text,
+    })
 }
 
 /// What the value prints that the text is read as which a line spells, under the type with this name. It is refused
