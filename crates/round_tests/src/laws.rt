@@ -1,15 +1,16 @@
 //! What is known of data and schemas in memory, and the laws over writing and reading together, may be asked for
 //! anywhere.
 
-use super::shapes::schema;
 use std::alloc::{AllocError, Global};
 use std::test::Fail;
+use uses::Server;
 use yaml_round::held::{data_is_held, schema_is_held};
 use yaml_round::laws::{
     a_written_string_means_itself, a_written_value_reads_back, equal_in_one_order_is_equal,
     written_data_reads_back,
 };
 use yaml_shape::{Data, Entry, Text};
+use yaml_types::Serialize;
 
 // Data with a part of each kind.
 fn parts<'a>(alloc: Global) -> Result<Data<'a>, AllocError> {
@@ -26,7 +27,8 @@ fn go_over(data: Data<'_>) {
 
 #[test]
 fn laws_and_what_is_held(rt: HostRuntime) -> Result<(), Fail> {
-    schema_is_held(&schema(rt.alloc())?);
+    let (schema, _) = <Server as Serialize>::schema(rt.alloc())?;
+    schema_is_held(&schema);
     go_over(parts(rt.alloc())?);
     a_written_string_means_itself();
     equal_in_one_order_is_equal();

@@ -1,23 +1,11 @@
-//! Tests that what is written reads back, by the public calls of the writer and of the reader.
+//! Tests of types by the public calls that no program makes: what is written reads back, and what is not written.
 #![tactic(auto)]
 
 #[cfg(test)]
-mod again;
+mod calls;
 #[cfg(test)]
-mod arrays;
-#[cfg(test)]
-mod color;
+mod kept;
 #[cfg(test)]
 mod laws;
 #[cfg(test)]
-mod own_types;
-#[cfg(test)]
-mod printed;
-#[cfg(test)]
-mod renderer;
-#[cfg(test)]
-mod shapes;
-#[cfg(test)]
-mod typed;
-#[cfg(test)]
-mod wide;
+mod refused;

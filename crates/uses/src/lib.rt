@@ -20,6 +20,3 @@ pub use ports::Ports;
 pub use server::Server;
 pub use timeouts::Timeouts;
 pub use workers::Workers;
-
-#[cfg(test)]
-mod tests;

@@ -114,8 +114,8 @@ fn read(alloc: Global, name: &str, text: &str) -> std::result::Result<Told, Allo
     }
 }
 
-/// What the value prints that a text is read as, under the type with this name. It is refused where the printed text does
-/// not read back as what prints the same.
+/// What the value prints that a text is read as, under the type with this name. It is refused where the printed text
+/// does not read back as what prints the same.
 pub fn read_as_type(
     alloc: Global,
     name: &str,

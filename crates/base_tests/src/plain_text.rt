@@ -1,5 +1,0 @@
-//! Texts and what they are, as the rules for plain scalars say.
-
-mod integers;
-mod kinds;
-mod strings;
