@@ -81,19 +81,27 @@ function written(text,    part, parts, i, out) {
     return out
 }
 
+# What the layers below a reading tell, as lines, of a text in which they stand with ` | ` between.
+function told(text) {
+    failing = gsub(/! /, "fault: ", text) > 0
+    gsub(/ \| /, "\\u000a", text)
+    return text "\\u000a"
+}
+
 # Writes what an answer wants: data, `! ` and a fault, `!table ` and why the table is refused, or `? ` and why the case is.
 function answer(task, text) {
     failing = 0
     if (sub(/^!table /, "schema: ", text)) wanted(1, text)
     else if (sub(/^\? /, "", text)) wanted(2, text)
     else if (task == "write") { failing = ""; text = written(text); wanted(failing != "", text) }
+    else if (task ~ LAYERS) { text = told(text); wanted(failing, text) }
     else if (task == "documents" || task == "texts") { text = in_turn(text); wanted(failing, text) }
     else if (sub(/^! /, "fault: ", text)) wanted(1, text)
     else wanted(0, text)
 }
 
 # A row: a shape and words, the lines of a case, and what is wanted.
-function row(    cut, head, lines, want, word, words, i, task, flags, whole) {
+function row(    cut, head, lines, want, word, words, i, task, flags, whole, steps, more) {
     cut = index($0, "  => ")
     if (!cut) { complain("no answer"); return }
     head = substr($0, 1, cut - 1)
@@ -103,20 +111,27 @@ function row(    cut, head, lines, want, word, words, i, task, flags, whole) {
     lines = substr(head, cut + 2)
     sub(/^ +/, "", lines)
     words = split(substr(head, 1, cut - 1), word, " ")
-    task = "shape"
+    task = word[1] ~ ALONE ? word[1] : "shape"
     for (i = 2; i <= words; i++) {
-        if (word[i] == "stream") whole = 1
+        if (task == "cursor") steps = steps (i > 2 ? " " : "") word[i]
+        else if (word[i] == "stream") whole = 1
+        else if (word[i] == "call" || word[i] == "expected") task = word[i]
+        else if (word[i] == "fits") { task = word[i]; more = "," word[++i] }
         else if (word[i] == "documents") { task = "documents"; whole = 1 }
         else if (word[i] == "limits") flags = flags " limits:" word[++i]
         else complain("no such word: " word[i])
     }
-    if (sub(/^write: /, "", lines)) task = "write"
+    if (task ~ ALONE) { whole = 1; if (lines ~ /^"/ && task == "loaded") task = "loaded_text" }
+    else if (sub(/^write: /, "", lines)) task = "write"
+    else if (task == "fits") { }
     else if (lines ~ /^".*"$/) task = task == "documents" ? "texts" : "text"
-    if (numbered(word[1]) !~ /^[0-9][0-9,]*$/) complain("no such shape: " word[1])
+    if (task !~ ALONE && numbered(word[1] more) !~ /^[0-9][0-9,]*$/) complain("no such shape: " word[1] more)
     if (!cases++) print ""
-    print "@@ " topic ":" FNR " " task ":" numbered(word[1]) flags
-    if (task == "write") print_data(lines)
-    else if (task ~ /^text/) print substr(lines, 2, length(lines) - 2)
+    print "@@ " topic ":" FNR " " task (task ~ ALONE ? "" : ":" numbered(word[1] more)) flags
+    if (task == "cursor") print numbered(steps)
+    if (task == "write" || task == "fits") print_data(lines)
+    else if (task == "expected") { }
+    else if (task ~ /^text|^events|_text/) print substr(lines, 2, length(lines) - 2)
     else if (whole) print_events(lines == "-" ? "" : lines)
     else print_events(lines == "-" ? "+STR; -STR" : "+STR; +DOC; " lines "; -DOC; -STR")
     answer(task, want)
@@ -135,6 +150,11 @@ function number_shapes(line,    name) {
     cases = 0
 }
 
+BEGIN {
+    # what is asked of the layers below a reading, and what of it under no shape
+    ALONE = "^(loaded|loaded_text|marked|events|cursor)$"
+    LAYERS = "^(loaded|loaded_text|marked|events|cursor|call|fits|expected)$"
+}
 FNR == NR { all[lines_read = FNR] = $0; next }   # the first reading keeps the lines
 FNR == 1 { topic = FILENAME; sub(/.*\//, "", topic); sub(/\.rows$/, "", topic); number_shapes(0) }
 /^(#|$)/ { next }

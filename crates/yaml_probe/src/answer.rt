@@ -1,6 +1,7 @@
 //! The answer to a case.
 
 mod events;
+mod layers;
 mod text;
 mod turns;
 mod writing;
@@ -8,6 +9,7 @@ mod writing;
 use crate::case::{Case, Task};
 use crate::table::Table;
 use crate::text::quote;
+use layers::answer_layer;
 use std::alloc::{AllocError, Global};
 use text::{read_text, read_text_in_turn};
 use turns::read_in_turn;
@@ -40,6 +42,7 @@ fn asked(
             read_text_in_turn(alloc, schema, id, case.limits, lines)
         }
         Task::Write(id) if schema.has(id) => write(alloc, schema, id, lines),
+        Task::Layer(task) => answer_layer(alloc, schema, task, lines),
         _ => refused(alloc, "bad shape"),
     }
 }

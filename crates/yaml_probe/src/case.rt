@@ -1,5 +1,6 @@
 //! The line that begins a case.
 
+use crate::layer_task::LayerTask;
 use crate::text::{first_word, number};
 use serde_yaml::Limits;
 use std::str;
@@ -18,6 +19,8 @@ pub enum Task {
     ReadTextInTurn(ShapeId),
     /// Its lines are data of this shape, to be written, each as a document.
     Write(ShapeId),
+    /// Something is asked of the layers below a whole reading.
+    Layer(LayerTask),
 }
 
 /// A case, but for its lines.
@@ -40,6 +43,9 @@ pub fn is_case(line: &[u8]) -> bool {
 
 // What is asked by a word.
 fn task_of(word: &str) -> Option<Task> {
+    if let Some(task) = LayerTask::parse(word) {
+        return Some(Task::Layer(task));
+    }
     if let Some(id) = word.strip_prefix("shape:") {
         return Some(Task::Read(number(id)?));
     }
@@ -55,8 +61,8 @@ fn task_of(word: &str) -> Option<Task> {
     Some(Task::Write(number(word.strip_prefix("write:")?)?))
 }
 
-// The limits that two numbers give, with a comma between.
-fn limits_of(text: &str) -> Option<Limits> {
+/// The limits that two numbers give, with a comma between.
+pub fn limits_of(text: &str) -> Option<Limits> {
     let (nesting, follows) = text.split_once(',')?;
     Limits::new(nesting.parse::<u8>().ok()?, follows.parse::<u16>().ok()?)
 }

@@ -9,8 +9,8 @@ use yaml_lines::{LineFault, first_line, unescape};
 use yaml_run::{Told, read_in_turn, told_of};
 use yaml_shape::{Schema, ShapeId};
 
-// The text that the first of some lines spells; none where there is no line or an escape is wrong.
-fn spelled(alloc: Global, lines: &[u8]) -> Result<Option<Vec<u8>>, AllocError> {
+/// The text that the first of some lines spells; none where there is no line or an escape is wrong.
+pub fn spelled(alloc: Global, lines: &[u8]) -> Result<Option<Vec<u8>>, AllocError> {
     if lines.is_empty() {
         return Ok(None);
     }
