@@ -159,6 +159,13 @@ function calls_row(where, calls, told,    i, j) {
     answer("calls", all_told)
 }
 
+# What the layers below a reading tell, as lines, of a text in which they stand with ` | ` between.
+function told(text) {
+    failing = gsub(/! /, "fault: ", text) > 0
+    gsub(/ \| /, "\\u000a", text)
+    return text "\\u000a"
+}
+
 # Writes what an answer wants: data, `! ` and a fault, `!table ` and why the table is refused, or `? ` and why the case
 # is; of an emitter the text that it prints, between quotes, as it stands.
 function answer(task, text) {
@@ -170,6 +177,7 @@ function answer(task, text) {
     else if (task == "typed" && text ~ /^".*"$/) wanted_as_it_stands(0, text)
     else if (task == "write") { failing = ""; text = written(text); wanted(failing != "", text) }
     else if (task == "schema") { gsub(/ \| /, "\\u000a", text); wanted(0, text) }
+    else if (task ~ LAYERS) { text = told(text); wanted(failing, text) }
     else if (task == "documents" || task == "texts") { text = in_turn(text); wanted(failing, text) }
     else if (sub(/^! /, "fault: ", text)) wanted(1, text)
     else wanted(0, text)
@@ -199,8 +207,8 @@ function typed_row(name, text, want) {
     answer("typed", want)
 }
 
-# A row: a shape and words, or `emit` or `handed`, the lines of a case, and what is wanted.
-function row(    cut, head, lines, want, word, words, i, task, bare, flags, whole) {
+# A row: a shape and words, or what is asked under no shape, the lines of a case, and what is wanted.
+function row(    cut, head, lines, want, word, words, i, task, flags, whole, steps, more, bare) {
     cut = index($0, "  => ")
     if (!cut) { complain("no answer"); return }
     head = substr($0, 1, cut - 1)
@@ -212,24 +220,31 @@ function row(    cut, head, lines, want, word, words, i, task, bare, flags, whol
     words = left(word, split(substr(head, 1, cut - 1), word, " "))
     if (word[1] == "calls") { calls_row(words == 1 ? "" : word[words], lines, want); return }
     if (word[1] == "typed") { typed_row(word[2], lines, want); return }
-    bare = word[1] == "emit" || word[1] == "handed"
-    task = bare ? word[1] : "shape"
+    task = word[1] ~ ALONE ? word[1] : "shape"
     for (i = 2; i <= words; i++) {
-        if (word[i] == "stream") whole = 1
+        if (task == "cursor") steps = steps (i > 2 ? " " : "") word[i]
+        else if (word[i] == "stream") whole = 1
+        else if (word[i] == "call" || word[i] == "expected") task = word[i]
+        else if (word[i] == "fits") { task = word[i]; more = "," word[++i] }
         else if (word[i] == "documents") { task = "documents"; whole = 1 }
         else if (word[i] == "limits") flags = flags " limits:" word[++i]
         else if (word[i] == "copy" || word[i] == "schema") task = word[i]
         else complain("no such word: " word[i])
     }
-    if (sub(/^write: /, "", lines)) task = "write"
-    else if (lines ~ /^".*"$/ && !bare) task = task == "documents" ? "texts" : "text"
-    if (!bare && numbered(word[1]) !~ /^[0-9][0-9,]*$/) complain("no such shape: " word[1])
+    if (task ~ ALONE) { whole = 1; if (lines ~ /^"/ && task == "loaded") task = "loaded_text" }
+    else if (sub(/^write: /, "", lines)) task = "write"
+    else if (task == "fits") { }
+    else if (lines ~ /^".*"$/) task = task == "documents" ? "texts" : "text"
+    bare = task ~ ALONE || task == "schema"
+    if (task !~ ALONE && numbered(word[1] more) !~ /^[0-9][0-9,]*$/) complain("no such shape: " word[1] more)
     if (!cases++) print ""
-    print "@@ " topic ":" FNR " " task (bare || task == "schema" ? "" : ":" numbered(word[1])) flags room
-    if (task == "write") print_data(lines)
+    print "@@ " topic ":" FNR " " task (bare ? "" : ":" numbered(word[1] more)) flags room
+    if (task == "cursor") print numbered(steps)
+    if (task == "write" || task == "fits") print_data(lines)
     else if (task == "emit") print_emitted(lines)
     else if (task == "schema") print_shapes(lines)
-    else if (task ~ /^text|^handed/) print substr(lines, 2, length(lines) - 2)
+    else if (task == "expected") { }
+    else if (task ~ /^text|^events|_text|^handed/) print substr(lines, 2, length(lines) - 2)
     else if (whole) print_events(lines == "-" ? "" : lines)
     else print_events(lines == "-" ? "+STR; -STR" : "+STR; +DOC; " lines "; -DOC; -STR")
     answer(task, want)
@@ -249,6 +264,11 @@ function number_shapes(line,    name) {
     split("", fault)
 }
 
+BEGIN {
+    # what is asked under no shape, and what is asked of the layers below a reading
+    ALONE = "^(loaded|loaded_text|marked|events|cursor|emit|handed)$"
+    LAYERS = "^(loaded|loaded_text|marked|events|cursor|call|fits|expected)$"
+}
 FNR == NR { all[lines_read = FNR] = $0; next }   # the first reading keeps the lines
 FNR == 1 { topic = FILENAME; sub(/.*\//, "", topic); sub(/\.rows$/, "", topic); number_shapes(0) }
 /^(#|$)/ { next }

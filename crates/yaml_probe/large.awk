@@ -268,6 +268,52 @@ function batches(    one, i, id) {
     }
 }
 
+# Ends a case that the parser's fault cuts off, and the answer that tells its events by then.
+function cut_off() {
+    print "10:1:0 !ERR PARSER 0 bad" > IN
+    print "fault: bad at line 2 column 1\\n\"" > WANTED
+}
+
+# A list in which so many lists begin, with a fault behind them and with none.
+function starts(count,    i) {
+    begin("starts", "loaded")
+    printf "starts\t1\t\"" > WANTED
+    events("+SEQ", count)
+    for (i = 0; i < count; i++) printf "+SEQ; " > WANTED
+    cut_off()
+    begin("starts-unended", "loaded")
+    events("+SEQ", count)
+    print "starts-unended\t1\t\"fault: event list is not a stream at event " (count + 2) "\\n\"" > WANTED
+}
+
+# So many lists with an anchor each and an alias of it within, by names that rise or fall.
+function anchors(id, count, step,    i, name) {
+    begin(id, "loaded")
+    printf "%s\t1\t\"+SEQ; ", id > WANTED
+    event("+SEQ")
+    name = step > 0 ? 0 : count
+    for (i = 0; i < count; i++) {
+        event("+SEQ &" sprintf("%06d", name))
+        event("=ALI *" sprintf("%06d", name))
+        event("-SEQ")
+        printf "+SEQ; =ALI %d; -SEQ; ", 3 * i + 1 > WANTED
+        name += step
+    }
+    cut_off()
+}
+
+# So many documents.
+function documents(count,    i) {
+    print "@@ documents loaded\n0:0:0 +STR" > IN
+    printf "documents\t0\t\"" > WANTED
+    for (i = 0; i < count; i++) {
+        print "0:0:0 +DOC\n0:0:0 +SEQ\n0:0:0 -SEQ\n0:0:0 -DOC" > IN
+        printf "+SEQ; -SEQ\\n" > WANTED
+    }
+    print "0:0:0 -STR" > IN
+    print "\"" > WANTED
+}
+
 BEGIN {
     print "seq 0\nany\nnewtype N 3\nseq 2\nignored\ni64\nseq 5\nseq 6\nstr\nmap 8 5" > IN
     printf "strict_struct Wide" > IN
@@ -280,4 +326,8 @@ BEGIN {
     structs()
     texts()
     batches()
+    starts(300000)
+    anchors("rising-anchors", 50000, 1)
+    anchors("falling-anchors", 50000, -1)
+    documents(50000)
 }

@@ -1,7 +1,7 @@
 #!/bin/sh
-# Runs the built program on inputs that are too large for a line of rows, on a document of each shape that is cut off at
-# each event, on a refused table without a case, and on the rows of memory.rows, and compares what it prints and its
-# status. Ends with status 0 only if each run is as it should be.
+# Runs the built program on inputs and tables that are too large for a line of rows, on a document of each shape that is
+# cut off at each event, on a refused table without a case, and on the rows of memory.rows, and compares what it prints
+# and its status. Ends with status 0 only if each run is as it should be.
 #
 # usage: program.sh [PROGRAM]   With no PROGRAM it is proved and built first, over what earlier checks kept in out/.
 set -u
@@ -69,6 +69,44 @@ want "calls that are deep, wide or many"
 printf 'option 0\n\n' > "$work/in"
 : > "$work/wanted"
 want "a refused table without a case" 1
+
+# Tables of the most shapes and of one more, cycles of optionals, and structs of many names.
+awk 'function shapes(shape, count) { while (count-- > 0) print shape }
+function chain(last,    shape) {
+    for (shape = 1; shape <= 4095; shape++) print "option " shape
+    print last
+}
+function fields(count, last,    i) {
+    printf "struct S"
+    for (i = 0; i < count; i++) printf " f%d:0", i
+    print " " last ":0"
+}
+function next_table(name) { print "\n@@ " name " expected:0\n%%" }
+BEGIN {
+    shapes("seq 0", 4096); next_table("lists")
+    shapes("unit", 4097); next_table("one-more")
+    shapes("seq 9999", 4097); next_table("one-more-outside")
+    chain("unit"); next_table("chain")
+    chain("option 0"); next_table("cycle")
+    chain("option 4000"); next_table("late-cycle")
+    fields(100000, "last"); next_table("fields")
+    fields(100000, "f50000"); next_table("field-twice")
+    for (i = 0; i < 4096; i++) fields(99, "last")
+    print "\n@@ structs expected:0"
+}' > "$work/in"
+awk 'function told(name, status, text) { printf "%s\t%d\t\"%s\"\n", name, status, text }
+BEGIN {
+    told("lists", 0, "a sequence\\n")
+    told("one-more", 1, "schema: more than 4096 shapes")
+    told("one-more-outside", 1, "schema: more than 4096 shapes")
+    told("chain", 0, "option\\n")
+    told("cycle", 1, "schema: shape 0 is a cycle of options")
+    told("late-cycle", 1, "schema: shape 4000 is a cycle of options")
+    told("fields", 0, "struct S\\n")
+    told("field-twice", 1, "schema: shape 0 has a name twice")
+    told("structs", 0, "struct S\\n")
+}' > "$work/wanted"
+want "large tables" 1
 
 # A document of each shape, cut off behind each of its events: always by what the parser said.
 nodes='0 =VAL :true

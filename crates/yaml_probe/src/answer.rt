@@ -7,6 +7,7 @@ mod emitting;
 mod events;
 mod free;
 mod handed;
+mod layers;
 mod little;
 mod schemas;
 mod text;
@@ -23,6 +24,7 @@ use copying::copy_read;
 use emitting::emit;
 use free::read_with_nothing;
 use handed::hand_out;
+use layers::answer_layer;
 use schemas::{make_schema, told_of_table};
 use std::alloc::{AllocError, Global};
 use text::{read_text, read_text_in_turn};
@@ -63,6 +65,7 @@ fn asked(
         Task::Calls => make_calls(alloc, schema, lines),
         Task::Emit => emit(alloc, lines),
         Task::HandOut => hand_out(alloc, lines),
+        Task::Layer(task) => answer_layer(alloc, schema, task, lines),
         _ => refused(alloc, "bad shape"),
     }
 }

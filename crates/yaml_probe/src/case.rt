@@ -1,5 +1,6 @@
 //! The line that begins a case.
 
+use crate::layer_task::LayerTask;
 use crate::text::{first_word, number};
 use serde_yaml::Limits;
 use std::str;
@@ -30,6 +31,8 @@ pub enum Task<'a> {
     Copy(ShapeId),
     /// Its lines are shapes, to be made a schema.
     MakeSchema,
+    /// Something is asked of the layers below a whole reading.
+    Layer(LayerTask),
 }
 
 /// How much memory there is for what is asked of a case.
@@ -75,6 +78,9 @@ fn task_of(word: &str) -> Option<Task<'_>> {
     if let Some(id) = word.strip_prefix("copy:") {
         return Some(Task::Copy(number(id)?));
     }
+    if let Some(task) = LayerTask::parse(word) {
+        return Some(Task::Layer(task));
+    }
     if let Some(id) = word.strip_prefix("shape:") {
         return Some(Task::Read(number(id)?));
     }
@@ -93,8 +99,8 @@ fn task_of(word: &str) -> Option<Task<'_>> {
     Some(Task::Write(number(word.strip_prefix("write:")?)?))
 }
 
-// The limits that two numbers give, with a comma between.
-fn limits_of(text: &str) -> Option<Limits> {
+/// The limits that two numbers give, with a comma between.
+pub fn limits_of(text: &str) -> Option<Limits> {
     let (nesting, follows) = text.split_once(',')?;
     Limits::new(nesting.parse::<u8>().ok()?, follows.parse::<u16>().ok()?)
 }

@@ -6,6 +6,7 @@ mod answer;
 mod batch;
 mod case;
 mod data_text;
+mod layer_task;
 mod print;
 mod reply;
 mod run;

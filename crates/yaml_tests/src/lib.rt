@@ -1,19 +1,16 @@
-//! Tests of the libraries that read, by what no line of rows can ask: single calls, cursors, documents and their marks,
-//! what is lent, joins, and large inputs. They stand together, since a crate that has tests is proved once more with
-//! them.
+//! Tests of the libraries that read, by what no line of rows can ask: what is lent and what outlives its reader, where
+//! a fault stands, schemas that are joined, and calls by a type.
 #![tactic(auto)]
 
 #[cfg(test)]
-mod data_text;
+mod behind;
 #[cfg(test)]
-mod handed;
+mod by_type;
 #[cfg(test)]
-mod loader;
+mod faults;
 #[cfg(test)]
-mod ports;
+mod integers;
 #[cfg(test)]
-mod shape;
+mod joins;
 #[cfg(test)]
-mod stream;
-#[cfg(test)]
-mod text;
+mod lent;

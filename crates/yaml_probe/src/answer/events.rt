@@ -13,8 +13,8 @@ fn style_name(style: AskedStyle) -> &'static str {
     }
 }
 
-// Appends a text with escapes for all that is not printable ASCII.
-fn escape(out: &mut String, text: &str) -> Result<(), AllocError> {
+/// Appends a text with escapes for all that is not printable ASCII.
+pub fn escape(out: &mut String, text: &str) -> Result<(), AllocError> {
     for byte in text.bytes() {
         match byte {
             b'\\' => out.push_str("\\\\")?,

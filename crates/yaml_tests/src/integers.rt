@@ -56,59 +56,69 @@ fn shape_of(kind: IntegerType) -> Shape {
     }
 }
 
+// Whether a type has a sign, and these integers and none beside them.
+fn is_signed(kind: IntegerType, least: i128, greatest: i128) -> bool {
+    kind.has_sign()
+        && kind.range() == IntegerRange::Signed { least, greatest }
+        && kind.takes_signed(least)
+        && kind.takes_signed(greatest)
+        && !least
+            .checked_sub(1)
+            .is_some_and(|below| kind.takes_signed(below))
+        && !greatest
+            .checked_add(1)
+            .is_some_and(|above| kind.takes_signed(above))
+        && !kind.takes_unsigned(0)
+}
+
+// Whether a type has no sign, and the integers up to this one and none above.
+fn is_unsigned(kind: IntegerType, greatest: u128) -> bool {
+    !kind.has_sign()
+        && kind.range() == IntegerRange::Unsigned { greatest }
+        && kind.takes_unsigned(0)
+        && kind.takes_unsigned(greatest)
+        && !greatest
+            .checked_add(1)
+            .is_some_and(|above| kind.takes_unsigned(above))
+        && !kind.takes_signed(0)
+}
+
+// Whether the shape of a type reads scalars alone, as the integers of that type.
+fn has_shape(kind: IntegerType) -> bool {
+    let shape = shape_of(kind);
+    shape.is_leaf() && shape.integer() == Some(kind)
+}
+
 #[test]
-fn integers_with_a_sign_lie_in_their_range(rt: HostRuntime) -> Result<(), Fail> {
+fn integers_lie_in_the_range_of_their_type(rt: HostRuntime) -> Result<(), Fail> {
     for (kind, least, greatest) in SIGNED {
-        let range = IntegerRange::Signed {
-            least: *least,
-            greatest: *greatest,
-        };
-        assert!(rt; kind.range() == range, "{greatest}");
-        assert!(rt; shape_of(*kind).integer() == Some(*kind), "{greatest}");
-        assert!(rt; kind.has_sign() && !kind.takes_unsigned(0), "{greatest}");
         assert!(rt;
-            kind.takes_signed(*least) && kind.takes_signed(*greatest),
+            has_shape(*kind) && is_signed(*kind, *least, *greatest),
             "{greatest}"
         );
-        if let Some(above) = greatest.checked_add(1) {
-            assert!(rt; !kind.takes_signed(above), "{above}");
-        }
-        if let Some(below) = least.checked_sub(1) {
-            assert!(rt; !kind.takes_signed(below), "{below}");
-        }
     }
-    Ok(())
-}
-
-#[test]
-fn integers_without_a_sign_lie_in_their_range(rt: HostRuntime) -> Result<(), Fail> {
     for (kind, greatest) in UNSIGNED {
-        let range = IntegerRange::Unsigned {
-            greatest: *greatest,
-        };
-        assert!(rt; kind.range() == range, "{greatest}");
-        assert!(rt; shape_of(*kind).integer() == Some(*kind), "{greatest}");
-        assert!(rt; !kind.has_sign() && !kind.takes_signed(0), "{greatest}");
         assert!(rt;
-            kind.takes_unsigned(0) && kind.takes_unsigned(*greatest),
+            has_shape(*kind) && is_unsigned(*kind, *greatest),
             "{greatest}"
         );
-        if let Some(above) = greatest.checked_add(1) {
-            assert!(rt; !kind.takes_unsigned(above), "{above}");
-        }
     }
-    Ok(())
-}
-
-#[test]
-fn shapes_of_scalars_are_leaves(rt: HostRuntime) -> Result<(), Fail> {
-    for (kind, _) in UNSIGNED {
-        assert!(rt; shape_of(*kind).is_leaf());
+    for shape in [
+        Shape::Bool,
+        Shape::Char,
+        Shape::Str,
+        Shape::Identifier,
+        Shape::Unit,
+    ] {
+        assert!(rt; shape.is_leaf() && shape.integer().is_none());
     }
-    assert!(rt; Shape::Bool.is_leaf() && Shape::Char.is_leaf() && Shape::Str.is_leaf());
-    assert!(rt; Shape::Identifier.is_leaf() && Shape::Unit.is_leaf());
-    assert!(rt; !Shape::Any.is_leaf() && !Shape::Bytes.is_leaf() && !Shape::IgnoredAny.is_leaf());
-    assert!(rt; !Shape::Option(ShapeId(0)).is_leaf() && !Shape::Seq(ShapeId(0)).is_leaf());
-    assert!(rt; Shape::Str.integer().is_none());
+    for shape in [
+        Shape::Any,
+        Shape::Bytes,
+        Shape::IgnoredAny,
+        Shape::Seq(ShapeId(0)),
+    ] {
+        assert!(rt; !shape.is_leaf());
+    }
     Ok(())
 }

@@ -1,0 +1,78 @@
+//! What the layers below a whole reading tell, in lines.
+
+mod calls;
+mod doc_event;
+mod events;
+mod fit;
+mod loaded;
+mod steps;
+
+use super::refused;
+use crate::layer_task::LayerTask;
+use calls::read_by_calls;
+use events::show_events_of;
+use fit::{expected, fit};
+use loaded::{load_events, load_text};
+use std::alloc::{AllocError, Global};
+use steps::do_steps;
+use yaml_lines::{Input, InputFault, LineFault};
+use yaml_run::{Status, Told};
+use yaml_shape::Schema;
+
+// What lines of events say.
+fn input(alloc: Global, lines: &[u8]) -> Result<Input, LineFault> {
+    match Input::parse(alloc, lines) {
+        Ok(input) => Ok(input),
+        Err(InputFault::BadLine(_)) => Err(LineFault::Bad),
+        Err(InputFault::Memory) => Err(LineFault::Memory),
+    }
+}
+
+// This text, of what succeeded.
+fn said(alloc: Global, text: &str) -> Result<Told, AllocError> {
+    Ok(Told {
+        ended: Status::Read,
+        text: String::from_str(alloc, text)?,
+    })
+}
+
+// What is told of two ways of doing one thing: one text, or both where they differ.
+fn agreed(first: Told, next: Told) -> Result<Told, AllocError> {
+    if first.text.as_str() == next.text.as_str() {
+        return Ok(first);
+    }
+    let Told { ended, mut text } = first;
+    text.push_str(next.text.as_str())?;
+    Ok(Told {
+        ended: ended.and(next.ended),
+        text,
+    })
+}
+
+// What is told of a task.
+fn told(alloc: Global, schema: &Schema, task: LayerTask, lines: &[u8]) -> Result<Told, LineFault> {
+    match task {
+        LayerTask::Call(id) => read_by_calls(alloc, schema, id, lines),
+        LayerTask::Load => load_events(alloc, lines, false),
+        LayerTask::LoadMarked => load_events(alloc, lines, true),
+        LayerTask::LoadText => load_text(alloc, lines),
+        LayerTask::Events => show_events_of(alloc, lines),
+        LayerTask::Steps => do_steps(alloc, schema, lines),
+        LayerTask::Fit(from, to) => fit(alloc, schema, from, to, lines),
+        LayerTask::Expect(id) => expected(alloc, schema, id),
+    }
+}
+
+/// The answer to what a case asks of the layers below a whole reading.
+pub fn answer_layer(
+    alloc: Global,
+    schema: &Schema,
+    task: LayerTask,
+    lines: &[u8],
+) -> Result<Told, AllocError> {
+    match told(alloc, schema, task, lines) {
+        Ok(told) => Ok(told),
+        Err(LineFault::Bad) => refused(alloc, "bad case"),
+        Err(LineFault::Memory) => Err(AllocError),
+    }
+}
