@@ -87,7 +87,7 @@ fn take<'a>(
     rest: &'a [EmitEvent],
 ) -> std::result::Result<&'a [EmitEvent], Stop>
     ensures length { IfOk result (λ left. length left.now ≤ length rest.now) }
-    ensures printed_from { Takes (λ left. map emit_of left.now)
+    ensures run { Takes (λ left. map emit_of left.now)
         (printed_from (Some (laid layout.old)) (emit_of event.now ∷ map emit_of rest.now))
         (laid layout.new) result }
 {

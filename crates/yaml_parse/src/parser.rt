@@ -80,7 +80,7 @@ impl<'a> Parser<'a> {
     /// error is want of memory.
     pub fn take(&mut self, placed: Placed) -> Result<bool, AllocError>
         ensures text { self.new.text.now ≡ self.old.text.now }
-        ensures handed_out { handed_out self.new ≡ handed_out self.old }
+        ensures handed { handed_out self.new ≡ handed_out self.old }
     {
         if self.own.is_some() {
             return Ok(false);
@@ -99,8 +99,8 @@ impl<'a> Parser<'a> {
     #[inline(always)]
     pub fn next_event(&mut self) -> Option<(Event<'a>, Mark)>
         ensures text { self.new.text.now ≡ self.old.text.now }
-        ensures handed_out { handed_out self.new ≡ handed_out self.old ++ option_to_list result }
-        ensures made_so_far { made_so_far self.new ≡ made_so_far self.old }
+        ensures handed { handed_out self.new ≡ handed_out self.old ++ option_to_list result }
+        ensures made { made_so_far self.new ≡ made_so_far self.old }
         ensures none { IfNone result (handed_out self.new ≡ made_so_far self.new) }
     {
         if self.has_waiting() {
@@ -124,8 +124,8 @@ impl<'a> Parser<'a> {
     pub fn take_waiting(&mut self) -> (Event<'a>, Mark)
         requires { 0 < waiting self.old }
         ensures text { self.new.text.now ≡ self.old.text.now }
-        ensures handed_out { handed_out self.new ≡ handed_out self.old ++ result ∷ [] }
-        ensures made_so_far { made_so_far self.new ≡ made_so_far self.old }
+        ensures handed { handed_out self.new ≡ handed_out self.old ++ result ∷ [] }
+        ensures made { made_so_far self.new ≡ made_so_far self.old }
     {
         self.machine.stream.take()
     }
@@ -166,7 +166,7 @@ impl<'a> Parser<'a> {
     /// one. Tokens that neither end nor have a fault give a fault of kind `Other`. The only error is want of memory.
     pub fn finish(&self, alloc: Global, fault: Option<Fault>) -> Result<Ending, AllocError>
         ensures taken { IfOk result
-        (λ ending. IsWellFormed (is_some ending.fault) (plain_events (made_so_far self.now))) }
+            (λ ending. IsWellFormed (is_some ending.fault) (plain_events (made_so_far self.now))) }
         ensures found { IfOk result (λ ending. is_some ending.found ≡ is_some ending.fault) }
         ensures not_readers { ForSome fault (λ f. f.kind ≢ kind.Reader) →
             IfOk result (λ ending. IsNotReaders ending.fault) }

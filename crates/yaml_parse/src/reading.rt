@@ -26,7 +26,7 @@ pub(crate) struct Reading<'a> {
 #[inline(always)]
 fn hand_over(tokens: &mut Tokens<'_>, parser: &mut Parser<'_>) -> Result<bool, AllocError>
     ensures text { parser.new.text.now ≡ parser.old.text.now }
-    ensures handed_out { handed_out parser.new ≡ handed_out parser.old }
+    ensures handed { handed_out parser.new ≡ handed_out parser.old }
 {
     'ready: for _ in 0..tokens.ready() {
         match tokens.next() {
@@ -58,7 +58,7 @@ impl<'a> Reading<'a> {
     fn advance(&mut self) -> Result<(), AllocError>
         requires { 0 < self.old.steps }
         ensures text { self.new.parser.text.now ≡ self.old.parser.text.now }
-        ensures handed_out { handed_out self.new.parser ≡ handed_out self.old.parser }
+        ensures handed { handed_out self.new.parser ≡ handed_out self.old.parser }
         ensures fewer { self.new.steps < self.old.steps }
     {
         self.steps -= 1;
@@ -72,7 +72,7 @@ impl<'a> Reading<'a> {
     // Scans and parses until enough events wait, or the tokens have ended.
     fn refill(&mut self) -> Result<(), AllocError>
         ensures text { self.new.parser.text.now ≡ self.old.parser.text.now }
-        ensures handed_out { handed_out self.new.parser ≡ handed_out self.old.parser }
+        ensures handed { handed_out self.new.parser ≡ handed_out self.old.parser }
     {
         'steps: while self.steps > 0 && self.parser.waiting() < BATCH {
             self.advance()?;
@@ -83,7 +83,7 @@ impl<'a> Reading<'a> {
     // Scans and parses all that is left.
     pub(crate) fn read_all(&mut self) -> Result<(), AllocError>
         ensures text { self.new.parser.text.now ≡ self.old.parser.text.now }
-        ensures handed_out { handed_out self.new.parser ≡ handed_out self.old.parser }
+        ensures handed { handed_out self.new.parser ≡ handed_out self.old.parser }
     {
         'steps: while self.steps > 0 {
             self.advance()?;
@@ -111,7 +111,7 @@ impl<'a> Reading<'a> {
     #[inline(always)]
     pub(crate) fn has_next(&mut self) -> Result<bool, AllocError>
         ensures text { self.new.parser.text.now ≡ self.old.parser.text.now }
-        ensures handed_out { handed_out self.new.parser ≡ handed_out self.old.parser }
+        ensures handed { handed_out self.new.parser ≡ handed_out self.old.parser }
         ensures waits { IfOk result (λ more. more ≡ true → 0 < waiting self.new.parser) }
         ensures none { IfOk result (λ more. more ≡ false → handed_out self.new.parser ≡ made_so_far self.new.parser) }
     {
@@ -126,7 +126,7 @@ impl<'a> Reading<'a> {
     pub(crate) fn take_next(&mut self) -> (Event<'a>, Mark)
         requires { 0 < waiting self.old.parser }
         ensures text { self.new.parser.text.now ≡ self.old.parser.text.now }
-        ensures handed_out { handed_out self.new.parser ≡ handed_out self.old.parser ++ result ∷ [] }
+        ensures handed { handed_out self.new.parser ≡ handed_out self.old.parser ++ result ∷ [] }
     {
         self.parser.take_waiting()
     }

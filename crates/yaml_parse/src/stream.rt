@@ -40,8 +40,7 @@ pub(crate) struct Stream<'a> {
     reached: Mark,
     // What is wrong with the text, if that was found.
     found: Option<Finding>,
-    ghost ran: { run (Some before_stream) (plain_events events.made.items) ≡ Some (state_of phase outer.items) }
-    by { Prim.hlevel props },
+    ghost ran: { run (Some before_stream) (plain_events events.made.items) ≡ Some (state_of phase outer.items) } by { Prim.hlevel props },
     ghost shown: { AreShown text.now events.made.items } by { Prim.hlevel props },
     ghost plain: { SaySources events.made.items } by { Prim.hlevel props },
     ghost marks: { MarksAscend text.now events.made.items },

@@ -61,8 +61,7 @@ impl<'a> Stream<'a> {
     }
 
     // What is known of the events that were handed out, always. This is a law: the call does nothing.
-    #[tactic(auto, using(crate::proofs::Fronts::begins_front, crate::proofs::Fronts::shown_front,
-    crate::proofs::Fronts::said_front, crate::proofs::Fronts::marks_front, crate::proofs::Fronts::placed_front,))]
+    #[tactic(auto, using(crate::proofs::Fronts::begins_front, crate::proofs::Fronts::shown_front, crate::proofs::Fronts::said_front, crate::proofs::Fronts::marks_front, crate::proofs::Fronts::placed_front,))]
     pub(crate) fn has_events(&self)
         ensures begins { IsBeginning (plain_events self.now.events.handed.items) }
         ensures shown { AreShown self.now.text.now self.now.events.handed.items }

@@ -31,16 +31,16 @@ invariant_of-self-in-Some c =
     let around : Frame × Position = (c.in-Some.frame, c.in-Some.start) in
     record {
       ran = goes_to now.events.made.items c.push_reserved.new.self.made.items x (state_of now.phase now.outer.items) _
-      grown
+          grown
           now.ran moves
           ∙ ap Some (left_open now.outer.items c.pop.new.self.items around c.in-Some.ensures.items);
       shown = shown_to now.text.now now.events.made.items c.push_reserved.new.self.made.items x grown now.shown shown;
       plain = said_to now.events.made.items c.push_reserved.new.self.made.items x grown now.plain c.requires.plain;
       marks = marks_to now.text.now now.events.made.items c.push_reserved.new.self.made.items x now.reached.index grown
-      now.marks
+          now.marks
           now.last (omega (arith, index, here)) (omega (arith, index, c.in_ok-begins.ensures.within));
       last = reached_to now.events.made.items c.push_reserved.new.self.made.items x now.reached.index now.reached.index
-      grown
+          grown
           now.last (omega (arith, index, here)) (omega (arith, index, here));
       places = placed_to now.text.now now.events.made.items c.push_reserved.new.self.made.items x grown now.places
           c.in_ok-begins.ensures.place;
@@ -66,16 +66,16 @@ invariant_of-self-in-None c =
     let here = c.in_ok-begins.ensures.here in
     record {
       ran = goes_to now.events.made.items c.push_reserved.new.self.made.items x (state_of now.phase now.outer.items) _
-      grown
+          grown
           now.ran moves
           ∙ ap Some (left_none now.outer.items (omega (arith, now.outer.ok, c.in-None.ensures.cases.0)));
       shown = shown_to now.text.now now.events.made.items c.push_reserved.new.self.made.items x grown now.shown shown;
       plain = said_to now.events.made.items c.push_reserved.new.self.made.items x grown now.plain c.requires.plain;
       marks = marks_to now.text.now now.events.made.items c.push_reserved.new.self.made.items x now.reached.index grown
-      now.marks
+          now.marks
           now.last (omega (arith, index, here)) (omega (arith, index, c.in_ok-begins.ensures.within));
       last = reached_to now.events.made.items c.push_reserved.new.self.made.items x now.reached.index now.reached.index
-      grown
+          grown
           now.last (omega (arith, index, here)) (omega (arith, index, here));
       places = placed_to now.text.now now.events.made.items c.push_reserved.new.self.made.items x grown now.places
           c.in_ok-begins.ensures.place;

@@ -32,17 +32,17 @@ invariant_of-self-2 c =
     let around : Frame × Position = (c.args.back, now.opened) in
     record {
       ran = goes_to now.events.made.items c.push_reserved.new.self.made.items x (state_of now.phase now.outer.items) _
-      grown
+          grown
           now.ran moves
           ∙ ap Some (opened_more now.outer.items c.push_reserved-2.new.self.items c.args.first around
           (c.push_reserved-2.ensures.items ∙ ap (λ xs. xs ++ around ∷ []) c.reserve-2.ensures.items));
       shown = shown_to now.text.now now.events.made.items c.push_reserved.new.self.made.items x grown now.shown shown;
       plain = said_to now.events.made.items c.push_reserved.new.self.made.items x grown now.plain c.requires.plain;
       marks = marks_to now.text.now now.events.made.items c.push_reserved.new.self.made.items x now.reached.index grown
-      now.marks
+          now.marks
           now.last (omega (arith, index, here)) (omega (arith, index, c.in_ok-begins.ensures.within));
       last = reached_to now.events.made.items c.push_reserved.new.self.made.items x now.reached.index now.reached.index
-      grown
+          grown
           now.last (omega (arith, index, here)) (omega (arith, index, here));
       places = placed_to now.text.now now.events.made.items c.push_reserved.new.self.made.items x grown now.places
           c.in_ok-begins.ensures.place;

@@ -30,16 +30,16 @@ invariant_of-self-2 c =
     let here = c.in_ok-begins.ensures.here in
     record {
       ran = goes_to now.events.made.items c.push_reserved.new.self.made.items x (state_of now.phase now.outer.items) _
-      grown
+          grown
           now.ran moves
           ∙ ap (λ xs. Some (within (open_of c.args.first ∷ opens xs))) (sym c.clear.ensures.items);
       shown = shown_to now.text.now now.events.made.items c.push_reserved.new.self.made.items x grown now.shown shown;
       plain = said_to now.events.made.items c.push_reserved.new.self.made.items x grown now.plain c.requires.plain;
       marks = marks_to now.text.now now.events.made.items c.push_reserved.new.self.made.items x now.reached.index grown
-      now.marks
+          now.marks
           now.last (omega (arith, index, here)) (omega (arith, index, c.in_ok-begins.ensures.within));
       last = reached_to now.events.made.items c.push_reserved.new.self.made.items x now.reached.index now.reached.index
-      grown
+          grown
           now.last (omega (arith, index, here)) (omega (arith, index, here));
       places = placed_to now.text.now now.events.made.items c.push_reserved.new.self.made.items x grown now.places
           c.in_ok-begins.ensures.place;
