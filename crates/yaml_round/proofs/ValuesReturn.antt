@@ -208,6 +208,6 @@ module _ (table : List PlainShape) (root : DocNode) where
               (entry (any_data key.found) (any_data value.found) all.found) (pairs_nestings (pair k v ps)) 0) (sym r.3)
               (means_pair key.means value.means all.means);
           same = both (same_tree k key.found) (same_tree v value.found && same_pairs ps (pairs_in_entries all.found))
-          key.same
+              key.same
               (both (same_tree v value.found) (same_pairs ps (pairs_in_entries all.found)) value.same all.same);
         }
