@@ -156,7 +156,7 @@ fn unsigned_of(integer: IntegerType, bytes: &[u8]) -> Option<u128>
 }
 
 /// The integer that a scalar writes, of a type with a sign, or past it in the bits that are read.
-#[tactic(auto, unfolding(crate::specs::CoreTags::int_tag))]
+#[tactic(auto, unfolding(yaml_meaning::specs::CoreTags::int_tag))]
 pub(crate) fn signed_in(integer: IntegerType, taken: bool, scalar: &DocScalar<'_>) -> Option<i128>
     requires { has_sign (integer_type_of integer) ≡ true }
     ensures { result ≡ option_and_then (signed_text (integer_type_of integer))
@@ -169,7 +169,7 @@ pub(crate) fn signed_in(integer: IntegerType, taken: bool, scalar: &DocScalar<'_
 }
 
 /// The integer that a scalar writes, of a type without a sign, or past it in the bits that are read.
-#[tactic(auto, unfolding(crate::specs::CoreTags::int_tag))]
+#[tactic(auto, unfolding(yaml_meaning::specs::CoreTags::int_tag))]
 pub(crate) fn unsigned_in(integer: IntegerType, taken: bool, scalar: &DocScalar<'_>) -> Option<u128>
     requires { has_sign (integer_type_of integer) ≡ false }
     ensures { result ≡ option_and_then (unsigned_text (integer_type_of integer))

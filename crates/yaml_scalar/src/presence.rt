@@ -18,7 +18,7 @@ fn is_untagged_null(scalar: &DocScalar<'_>, taken: bool) -> bool
 }
 
 // Whether the scalar is plain, and with the untaken tag of null has a word for null.
-#[tactic(auto, unfolding(crate::specs::CoreTags::null_tag))]
+#[tactic(auto, unfolding(yaml_meaning::specs::CoreTags::null_tag))]
 fn is_tagged_null(scalar: &DocScalar<'_>, taken: bool) -> bool
     ensures { result ≡ is_tagged_null taken (doc_scalar_of scalar.now) }
 {
@@ -28,7 +28,7 @@ fn is_tagged_null(scalar: &DocScalar<'_>, taken: bool) -> bool
 }
 
 // Whether the scalar is plain, and with the untaken tag of null has another text.
-#[tactic(auto, unfolding(crate::specs::CoreTags::null_tag))]
+#[tactic(auto, unfolding(yaml_meaning::specs::CoreTags::null_tag))]
 fn is_false_null(scalar: &DocScalar<'_>, taken: bool) -> bool
     ensures { result ≡ is_false_null taken (doc_scalar_of scalar.now) }
 {

@@ -30,7 +30,7 @@ use yaml_shape::{Data, Shape, ShapeId};
 use yaml_tree::Value;
 
 // The boolean that a scalar is a word for.
-#[tactic(auto, unfolding(crate::specs::CoreTags::bool_tag))]
+#[tactic(auto, unfolding(yaml_meaning::specs::CoreTags::bool_tag))]
 fn boolean_of(taken: bool, scalar: &DocScalar<'_>) -> Option<bool>
     ensures { result ≡ option_and_then boolean_of (plain_text bool_tag taken (doc_scalar_of scalar.now)) }
 {

@@ -114,7 +114,7 @@ pub(crate) fn is_plain_or_tagged_literal(name: &str, taken: bool, scalar: &DocSc
 }
 
 // Whether the scalar has the tag of booleans, and it is not taken.
-#[tactic(auto, unfolding(crate::specs::CoreTags::bool_tag))]
+#[tactic(auto, unfolding(yaml_meaning::specs::CoreTags::bool_tag))]
 fn has_bool_tag(taken: bool, scalar: &DocScalar<'_>) -> bool
     ensures { result ≡ has_untaken bool_tag taken (doc_scalar_of scalar.now) }
 {
@@ -122,7 +122,7 @@ fn has_bool_tag(taken: bool, scalar: &DocScalar<'_>) -> bool
 }
 
 // Whether the scalar has the tag of integers, and it is not taken.
-#[tactic(auto, unfolding(crate::specs::CoreTags::int_tag))]
+#[tactic(auto, unfolding(yaml_meaning::specs::CoreTags::int_tag))]
 fn has_int_tag(taken: bool, scalar: &DocScalar<'_>) -> bool
     ensures { result ≡ has_untaken int_tag taken (doc_scalar_of scalar.now) }
 {
@@ -130,7 +130,7 @@ fn has_int_tag(taken: bool, scalar: &DocScalar<'_>) -> bool
 }
 
 // Whether the scalar has the tag of floats, and it is not taken.
-#[tactic(auto, unfolding(crate::specs::CoreTags::float_tag))]
+#[tactic(auto, unfolding(yaml_meaning::specs::CoreTags::float_tag))]
 fn has_float_tag(taken: bool, scalar: &DocScalar<'_>) -> bool
     ensures { result ≡ has_untaken float_tag taken (doc_scalar_of scalar.now) }
 {
@@ -138,7 +138,7 @@ fn has_float_tag(taken: bool, scalar: &DocScalar<'_>) -> bool
 }
 
 // Whether the scalar has the tag of null, and it is not taken.
-#[tactic(auto, unfolding(crate::specs::CoreTags::null_tag))]
+#[tactic(auto, unfolding(yaml_meaning::specs::CoreTags::null_tag))]
 fn has_null_tag(taken: bool, scalar: &DocScalar<'_>) -> bool
     ensures { result ≡ has_untaken null_tag taken (doc_scalar_of scalar.now) }
 {
