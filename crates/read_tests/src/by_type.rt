@@ -28,7 +28,7 @@ fn texts_are_read_by_their_type(rt: HostRuntime) -> std::result::Result<(), Fail
         assert_eq!(rt; found.as_slice(), numbers, "{text}");
         for (nesting, follows, enough) in [
             (nesting, follows, true),
-            (nesting - 1, follows, false),
+            (nesting.saturating_sub(1), follows, false),
             (nesting, follows.saturating_sub(1), follows == 0),
         ] {
             let limits = Limits::new(nesting, follows).ok_or("no limits")?;
