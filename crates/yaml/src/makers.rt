@@ -51,8 +51,17 @@ impl<'a, 'de> Reader<'a, 'de> {
         let Some(mark) = self.mark_at(start) else {
             return Ok(Error::new(cause));
         };
-        let steps = self.steps_to(at, top)?;
-        self.placed(steps.as_slice(), &Path::Root, mark, Error::new(cause))
+        match self.way_to(at, top)? {
+            Some(text) => Error::new(cause).fix_mark(
+                self.alloc,
+                mark,
+                &Path::Map {
+                    parent: &Path::Root,
+                    key: text.as_str(),
+                },
+            ),
+            None => Error::new(cause).fix_mark(self.alloc, mark, &Path::Root),
+        }
     }
 
     // The fault at the node of the last step.

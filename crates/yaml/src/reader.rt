@@ -21,7 +21,7 @@ use yaml_shape::Data;
 pub(crate) struct Reader<'a, 'de> {
     pub(crate) alloc: Global,
     pub(crate) document: &'a Document<'de>,
-    pub(crate) leaves: &'a Leaves,
+    leaves: &'a Leaves,
     pub(crate) spot: Spot,
     /// How many aliases may still be followed.
     pub(crate) follows: u128,
@@ -146,8 +146,8 @@ impl<'a, 'de> Reader<'a, 'de> {
         }
     }
 
-    /// Where a call that reads a node by itself is to begin.
-    pub(crate) fn node(&self) -> NodePlace
+    // Where a call that reads a node by itself is to begin.
+    fn node(&self) -> NodePlace
         ensures { result ≡ node_at (standing self.now) }
     {
         NodePlace {
@@ -158,10 +158,11 @@ impl<'a, 'de> Reader<'a, 'de> {
         }
     }
 
-    /// Notes what a step did with the node at which the reading stands.
+    /// Notes what a step did with the node at which the reading stands, and which part it is of what is around it.
     pub(crate) fn note(&mut self, deed: Deed)
         ensures { standing self.new ≡ standing self.old }
     {
+        self.reach();
         let at = self.spot.place;
         self.last = Last {
             deed,
@@ -176,6 +177,29 @@ impl<'a, 'de> Reader<'a, 'de> {
         ensures { standing self.new ≡ standing self.old }
     {
         self.last.deed = deed;
+    }
+
+    /// The fault of reading the node at which the reading stands as this.
+    pub(crate) fn fault_of(&self, leaf: Leaf) -> Error {
+        let way = match self.way_to(self.spot.place, self.spot.top) {
+            Ok(way) => way,
+            Err(refused) => return refused,
+        };
+        let path = match &way {
+            Some(text) => Path::Map {
+                parent: &Path::Root,
+                key: text.as_str(),
+            },
+            None => Path::Root,
+        };
+        let mut at = self.node();
+        match self
+            .leaves
+            .read(self.document, self.alloc, leaf, &path, &mut at)
+        {
+            Ok(_) => self.ended(),
+            Err(fault) => fault,
+        }
     }
 
     /// The data of the node at which the reading stands, and the place behind it.

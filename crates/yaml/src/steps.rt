@@ -153,10 +153,7 @@ impl<'a, 'de> Reader<'a, 'de> {
         match (frame.kind, self.event(self.spot.place)) {
             (Kind::Items, _) | (Kind::Entries, None) => return Err(self.ended()),
             (Kind::Entries, Some(DocEvent::MappingEnd)) => {}
-            (Kind::Entries, Some(_)) => {
-                self.reach();
-                return Ok(true);
-            }
+            (Kind::Entries, Some(_)) => return Ok(true),
             _ => {}
         }
         self.close(frame);
@@ -188,7 +185,6 @@ impl<'a, 'de> Reader<'a, 'de> {
             (Kind::Empty, _) => {}
             (Kind::Items, Some(DocEvent::SequenceEnd)) => {}
             (Kind::Items, Some(_)) => {
-                self.reach();
                 self.note(Deed::Item);
                 return Ok(true);
             }

@@ -4,22 +4,21 @@ ghost use Rattle.std.specs.Prelude.{◌≡◌};
 ghost use Rattle.yaml.specs.Around.{standing};
 
 use crate::frame::{Frame, Kind, Part};
-use crate::leaf::Leaf;
 use crate::reader::Reader;
 use std::alloc::AllocError;
-use yaml_base::{Cause, Error, Mark, Path, Result};
+use yaml_base::{Path, Result};
 use yaml_read::DocEvent;
 
-/// One step of the way.
+// One step of the way.
 #[derive(Clone, Copy)]
-pub(crate) enum Step<'a> {
-    /// To an element of a sequence, by its number.
+enum Step<'a> {
+    // To an element of a sequence, by its number.
     Element(usize),
-    /// To the value of a key.
+    // To the value of a key.
     Value(&'a str),
-    /// To the value of a key that is no text.
+    // To the value of a key that is no text.
     Unknown,
-    /// To a key, or to the content of a variant.
+    // To a key, or to the content of a variant.
     None,
 }
 
@@ -109,12 +108,8 @@ impl<'a, 'de> Reader<'a, 'de> {
         }
     }
 
-    /// The steps to the node in a place, within so many frames, the last of them first.
-    pub(crate) fn steps_to(
-        &self,
-        at: usize,
-        top: usize,
-    ) -> std::result::Result<Vec<Step<'_>>, AllocError> {
+    // The steps to the node in a place, within so many frames, the last of them first.
+    fn steps_to(&self, at: usize, top: usize) -> std::result::Result<Vec<Step<'_>>, AllocError> {
         let mut steps = Vec::new(self.alloc);
         let mut place = at;
         let mut number = top;
@@ -132,59 +127,49 @@ impl<'a, 'de> Reader<'a, 'de> {
         Ok(steps)
     }
 
-    /// The fault, at a mark and behind these steps from a way on.
-    pub(crate) fn placed(
-        &self,
-        steps: &[Step<'_>],
-        way: &Path<'_>,
-        mark: Mark,
-        fault: Error,
-    ) -> Result<Error> {
-        let Some((step, rest)) = steps.split_last() else {
-            return fault.fix_mark(self.alloc, mark, way);
+    // The text of a way that is a step longer, or none where the step shows nothing.
+    fn stepped(&self, before: &Path<'_>, step: Step<'_>) -> Result<Option<String>> {
+        let longer = match step {
+            Step::Element(index) => Path::Seq {
+                parent: before,
+                index,
+            }
+            .to_string(self.alloc)?,
+            Step::Value(key) => Path::Map {
+                parent: before,
+                key,
+            }
+            .to_string(self.alloc)?,
+            Step::Unknown => Path::Unknown { parent: before }.to_string(self.alloc)?,
+            Step::None => return Ok(None),
         };
-        match *step {
-            Step::Element(index) => self.placed(
-                rest,
-                &Path::Seq { parent: way, index },
-                mark,
-                fault,
-            ),
-            Step::Value(key) => self.placed(rest, &Path::Map { parent: way, key }, mark, fault),
-            Step::Unknown => self.placed(rest, &Path::Unknown { parent: way }, mark, fault),
-            Step::None => self.placed(rest, way, mark, fault),
+        Ok(Some(longer))
+    }
+
+    // The same behind a way that is a text, or behind the root.
+    fn stepped_on(&self, way: Option<&str>, step: Step<'_>) -> Result<Option<String>> {
+        match way {
+            Some(text) => {
+                let before = Path::Map {
+                    parent: &Path::Root,
+                    key: text,
+                };
+                self.stepped(&before, step)
+            }
+            None => self.stepped(&Path::Root, step),
         }
     }
 
-    // The fault of reading the node at which the reading stands as this, behind these steps from a way on.
-    fn fault_behind(&self, steps: &[Step<'_>], way: &Path<'_>, leaf: Leaf) -> Error {
-        let Some((step, rest)) = steps.split_last() else {
-            let mut at = self.node();
-            return match self
-                .leaves
-                .read(self.document, self.alloc, leaf, way, &mut at)
-            {
-                Ok(_) => self.ended(),
-                Err(fault) => fault,
-            };
-        };
-        match *step {
-            Step::Element(index) => self.fault_behind(
-                rest,
-                &Path::Seq { parent: way, index },
-                leaf,
-            ),
-            Step::Value(key) => self.fault_behind(rest, &Path::Map { parent: way, key }, leaf),
-            Step::Unknown => self.fault_behind(rest, &Path::Unknown { parent: way }, leaf),
-            Step::None => self.fault_behind(rest, way, leaf),
+    /// The way to the node in a place, within so many frames, or none where it is the root.
+    pub(crate) fn way_to(&self, at: usize, top: usize) -> Result<Option<String>> {
+        let mut way: Option<String> = None;
+        let steps = self.steps_to(at, top)?;
+        for step in steps.iter().rev() {
+            let longer = self.stepped_on(way.as_deref(), *step)?;
+            if let Some(text) = longer {
+                way = Some(text);
+            }
         }
-    }
-
-    /// The fault of reading the node at which the reading stands as this.
-    pub(crate) fn fault_of(&self, leaf: Leaf) -> Error {
-        match self.steps_to(self.spot.place, self.spot.top) {
-            Ok(steps) => self.fault_behind(steps.as_slice(), &Path::Root, leaf),
-            Err(_) => Error::new(Cause::Memory),
-        }
+        Ok(way)
     }
 }
