@@ -4,7 +4,7 @@ use Rattle.std.specs.Fmt.{signed_decimal}
 use Rattle.std.specs.List.{flat_map}
 use Rattle.yaml_base.specs.ParserFaultText.{parser_fault_text}
 use Rattle.yaml_base.specs.FoundText.{bool_text, found_text}
-use Rattle.yaml_base.specs.Quoted.{quoted}
+use Rattle.yaml_base.specs.Quoted.{quoted_text}
 use Rattle.yaml_base.specs.declared.entry_key.EntryKey.{EntryKey}
 use Rattle.yaml_base.specs.declared.entry_key.EntryKey.TheVariants as key
 use Rattle.yaml_base.specs.declared.error.Cause.{Cause}
@@ -28,7 +28,7 @@ abbrev pub key_text : EntryKey → List ℕ
 key_text key.Null = codes "with null key"
 key_text (key.Bool b) = codes "with key " ++ ticked (bool_text b)
 key_text (key.Number n) = codes "with key " ++ signed_decimal (number_of n)
-key_text (key.String text) = codes "with key " ++ quoted text
+key_text (key.String text) = codes "with key " ++ quoted_text text
 key_text key.Other = codes "in YAML map"
 
 -- what the fault says; a text of its own is said as it is

@@ -8,7 +8,7 @@ use Rattle.yaml_base.specs.ParserFaultText.{fault_debug_text, parser_fault_text}
 use Rattle.yaml_base.specs.MarkText.{is_start, mark_text}
 use Rattle.yaml_base.specs.PlainFault.{PlainFault}
 use Rattle.yaml_base.specs.Position.{Position}
-use Rattle.yaml_base.specs.Quoted.{quoted}
+use Rattle.yaml_base.specs.Quoted.{quoted_text}
 use Rattle.yaml_base.specs.declared.error.Cause.{Cause}
 use Rattle.yaml_base.specs.declared.error.Cause.TheVariants.{Parser}
 use Rattle.yaml_base.specs.declared.error.Place.{Place}
@@ -46,4 +46,4 @@ mark_debug_part (Some mark) =
 -- the same in debug, with the message between quotes
 abbrev pub error_debug_text : Cause → List ℕ
 error_debug_text cause = option_map_or fault_debug_text (parser_fault cause)
-    (codes "Error(" ++ (quoted (placed_text cause) ++ (mark_debug_part (cause_mark cause) ++ codes ")")))
+    (codes "Error(" ++ (quoted_text (placed_text cause) ++ (mark_debug_part (cause_mark cause) ++ codes ")")))

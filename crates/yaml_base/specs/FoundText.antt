@@ -1,7 +1,7 @@
 -- The printed text of what was found.
 use Rattle.std.specs.Prelude.{ℕ, ℤ, negsuc, ◌-◌, ◌^◌, nat_lt, int_lt, Bool, List, ◌++◌, if◌then◌else◌, codes, decimal}
 use Rattle.std.specs.Fmt.{signed_decimal}
-use Rattle.yaml_base.specs.Quoted.{quoted}
+use Rattle.yaml_base.specs.Quoted.{quoted_text}
 use Rattle.yaml_base.specs.declared.found.Found.{Found}
 use Rattle.yaml_base.specs.declared.found.Found.TheVariants as found
 
@@ -25,7 +25,7 @@ found_text (found.Unsigned n) =
 found_text (found.Signed z) =
     codes "integer `" ++ (signed_decimal z ++ (if int_lt z least_i64 then codes "` as i128" else codes "`"))
 found_text (found.Float text) = codes "floating point `" ++ (text ++ codes "`")
-found_text (found.Str text) = codes "string " ++ quoted text
+found_text (found.Str text) = codes "string " ++ quoted_text text
 found_text found.Bytes = codes "byte array"
 found_text found.Unit = codes "unit value"
 found_text found.Seq = codes "sequence"

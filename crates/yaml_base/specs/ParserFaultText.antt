@@ -3,7 +3,7 @@ use Rattle.std.specs.Prelude.{ℕ, ◌==◌, ◌||◌, List, [], ◌++◌, if◌
 use Rattle.yaml_base.specs.Position.{Position}
 use Rattle.yaml_base.specs.MarkText.{is_beside, is_start, mark_debug_text, mark_text}
 use Rattle.yaml_base.specs.PlainFault.{PlainFault}
-use Rattle.yaml_base.specs.Quoted.{quoted}
+use Rattle.yaml_base.specs.Quoted.{quoted_text}
 use Rattle.yaml_base.specs.declared.fault.FaultKind.{FaultKind}
 use Rattle.yaml_base.specs.declared.fault.FaultKind.TheVariants as kind
 
@@ -56,9 +56,9 @@ context_mark_debug_part mark = if is_start mark then [] else codes ", context_ma
 -- the context in debug, where there is one
 abbrev pub context_debug_part : Position → Option (List ℕ) → List ℕ
 context_debug_part mark None = []
-context_debug_part mark (Some context) = codes ", context: " ++ (quoted context ++ context_mark_debug_part mark)
+context_debug_part mark (Some context) = codes ", context: " ++ (quoted_text context ++ context_mark_debug_part mark)
 
 -- the parts that are there, by their names
 abbrev pub fault_debug_text : PlainFault → List ℕ
-fault_debug_text f = codes "Error { " ++ (kind_debug_part f.kind ++ (codes "problem: " ++ (quoted f.problem
+fault_debug_text f = codes "Error { " ++ (kind_debug_part f.kind ++ (codes "problem: " ++ (quoted_text f.problem
     ++ (problem_debug_part f.mark f.offset ++ (context_debug_part f.context_mark f.context ++ codes " }")))))

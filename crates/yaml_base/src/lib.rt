@@ -43,4 +43,4 @@ pub use resolver::{
 pub use style::infer_style;
 pub use tag::{Anchor, Tag};
 pub use words::{WordList, Words};
-pub use yaml_tree::{Quoted, QuotedBytes, hex_digit};
+pub use yaml_tree::{Quoted, QuotedBytes, Visible, hex_digit};

@@ -1,6 +1,7 @@
 //! What single bytes mean.
 
-ghost use Rattle.std.specs.Prelude.{◌≡◌, ◌-◌, ◌≤◌, length};
+ghost use Rattle.std.specs.Prelude.{◌≡◌, ◌-◌, ◌≤◌, None, Some, length, nat_lt, if◌then◌else◌};
+ghost use Rattle.std.specs.Char.{digit_value};
 
 // Bytes that end no line: how many they are, and how many characters begin among them.
 #[derive(Clone, Copy)]
@@ -175,11 +176,8 @@ pub(crate) fn is_uri(byte: u8, wide: bool) -> bool {
 }
 
 // The value of a hexadecimal digit.
-pub(crate) fn hex_value(byte: u8) -> Option<u32> {
-    match byte {
-        b'0'..=b'9' => Some((byte - b'0') as u32),
-        b'a'..=b'f' => Some((byte - b'a') as u32 + 10),
-        b'A'..=b'F' => Some((byte - b'A') as u32 + 10),
-        _ => None,
-    }
+pub(crate) fn hex_value(byte: u8) -> Option<u32>
+    ensures { result ≡ (if nat_lt (digit_value byte) 16 then Some (digit_value byte) else None) }
+{
+    (byte as char).to_digit(16)
 }

@@ -29,8 +29,8 @@ pub enum Problem {
     DidNotFindExpectedDigitOrDotCharacter,
     /// did not find expected <document start>
     DidNotFindExpectedDocumentStart,
-    /// did not find expected hexdecimal number
-    DidNotFindExpectedHexdecimalNumber,
+    /// did not find expected hexadecimal number
+    DidNotFindExpectedHexadecimalNumber,
     /// did not find expected key
     DidNotFindExpectedKey,
     /// did not find expected node content
@@ -125,8 +125,8 @@ impl Problem {
             Problem::DidNotFindExpectedDigitOrDotCharacter =>
                 "did not find expected digit or '.' character",
             Problem::DidNotFindExpectedDocumentStart => "did not find expected <document start>",
-            Problem::DidNotFindExpectedHexdecimalNumber =>
-                "did not find expected hexdecimal number",
+            Problem::DidNotFindExpectedHexadecimalNumber =>
+                "did not find expected hexadecimal number",
             Problem::DidNotFindExpectedKey => "did not find expected key",
             Problem::DidNotFindExpectedNodeContent => "did not find expected node content",
             Problem::DidNotFindExpectedTagUri => "did not find expected tag URI",

@@ -15,7 +15,7 @@ pub use fault::TreeFault;
 pub use look_up::{Index, MappingIndex};
 pub use mapping::{IntoIter, Iter, Mapping};
 pub use number::Number;
-pub use quoted::{Quoted, QuotedBytes, hex_digit};
+pub use quoted::{Quoted, QuotedBytes, Visible, hex_digit};
 pub use sequence::Sequence;
 pub use tag::Tag;
 pub use value::{TaggedValue, Value};

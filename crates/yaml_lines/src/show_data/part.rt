@@ -6,14 +6,13 @@ ghost use Rattle.yaml_base.specs.Quoted.{quoted};
 ghost use Rattle.yaml_lines.specs.Listed.{before_part};
 
 use std::alloc::AllocError;
-use yaml_base::{Quoted, QuotedBytes};
+use yaml_base::QuotedBytes;
 
 /// Appends a text between quotes.
 pub fn show_text(out: &mut String, text: &str) -> Result<(), AllocError>
     ensures { OnOk result (string_bytes out.new ≡ string_bytes out.old ++ quoted text.now) }
 {
-    let text = Quoted(text);
-    write!(out, "{text}")
+    show_bytes(out, text.as_bytes())
 }
 
 /// Appends a character between quotes.
@@ -21,8 +20,8 @@ pub fn show_char(out: &mut String, letter: char) -> Result<(), AllocError>
     ensures { OnOk result
         (string_bytes out.new ≡ string_bytes out.old ++ quoted (encode_utf8 letter)) }
 {
-    let letter = Quoted(letter);
-    write!(out, "{letter}")
+    let mut bytes = [0u8; 4];
+    show_text(out, letter.encode_utf8(&mut bytes))
 }
 
 /// Appends bytes between quotes.

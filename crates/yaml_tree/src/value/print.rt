@@ -8,7 +8,7 @@ ghost use Rattle.yaml_tree.specs.Valid.{pairs_of, tree_of_tagged, values_of};
 ghost use Rattle.yaml_tree.specs.View.{tree_of};
 
 use crate::mapping::{Entry, Mapping};
-use crate::quoted::Quoted;
+use crate::quoted::QuotedBytes;
 use crate::sequence::Sequence;
 use crate::value::{TaggedValue, Value};
 use std::fmt;
@@ -22,7 +22,7 @@ fn write_value<W: fmt::Write>(value: &Value, f: &mut fmt::Formatter<W>) -> fmt::
         Value::Bool(truth) => write!(f, "{truth}"),
         Value::Number(number) => write!(f, "{number}"),
         Value::String(text) => {
-            let text = Quoted(text.as_str());
+            let text = QuotedBytes(text.as_bytes());
             write!(f, "{text}")
         }
         Value::Sequence(items) => write_items(items, f),
@@ -106,7 +106,7 @@ fn write_entry<W: fmt::Write>(entry: &Entry, f: &mut fmt::Formatter<W>) -> fmt::
     write_value(&entry.value, f)
 }
 
-/// A value in one line: `null`, `true`, an integer, a text between double quotes as `Quoted` prints it, `[1, 2]`,
+/// A value in one line: `null`, `true`, an integer, a text between double quotes as `QuotedBytes` prints it, `[1, 2]`,
 /// `{"a": 1, "b": 2}`, or its tag behind a `!` and then the value under it. Debug prints the same.
 impl fmt::Display for Value {
     ghost output = { λ value. Some (tree_text (tree_of value)) };

@@ -1,0 +1,9 @@
+-- What was written so far is the characters so far, but control characters by their codes.
+use Rattle.std.specs.List.{flat_map}
+use Rattle.std.specs.Fmt.{HasWritten, IsPlainFormatter}
+use Rattle.yaml_tree.specs.Quoted.{visible_character}
+use Rattle.yaml_tree.proofs.quoted.write_visible_text.Given as goal
+
+abbrev pub invariant-loop-c : goal.invariant-loop-c
+invariant-loop-c g l = IsPlainFormatter l.fn.f
+    → HasWritten g.W.Write.write_str_gives l.fn.f (flat_map visible_character l.yielded) l.f
