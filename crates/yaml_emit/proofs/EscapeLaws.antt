@@ -38,7 +38,10 @@ digit d h = grind arith
 code_of : (c : ℕ) → scalar c ≡ true → character_code c ≡ Some c
 code_of c h = elim (scalar_cases c h) [
   | inl low ↦ rw (lt-ltb c 0xD800 low) refl
-  | inr high ↦ rw (le-ltb c 0xD800 (omega (arith, high.0)), le-leb 0xE000 c high.0, le-leb c 0x10FFFF (omega (arith, high.1))) refl
+  | inr high ↦
+      let least = le-ltb c 0xD800 (omega (arith, high.0)) in
+      let most = le-leb c 0x10FFFF (omega (arith, high.1)) in
+      rw (least, le-leb 0xE000 c high.0, most) refl
 ]
 
 -- a digit that is not the last
@@ -187,7 +190,13 @@ named c =
                                                                                             ne_eqb c 0x2029 paragraph,
                                                                                           ) refl;
                                                                                           plain = (n92, n34);
-                                                                                          ends = record { feed = n10; return = n13; next = next; line = line; paragraph = paragraph };
+                                                                                          ends = record {
+                                                                                            feed = n10;
+                                                                                            return = n13;
+                                                                                            next = next;
+                                                                                            line = line;
+                                                                                            paragraph = paragraph;
+                                                                                          };
                                                                                         })
                                                                                   ]
                                                                             ]

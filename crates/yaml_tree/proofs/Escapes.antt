@@ -18,7 +18,8 @@ abbrev within_quotes : List ℕ → List ℕ
 within_quotes text = flat_map readable_character (chars text)
 
 -- one text behind another, where the first ends no character's bytes early
-both_within : (text rest : List ℕ) → IsUtf8 text → within_quotes (text ++ rest) ≡ within_quotes text ++ within_quotes rest
+both_within : (text rest : List ℕ) → IsUtf8 text
+    → within_quotes (text ++ rest) ≡ within_quotes text ++ within_quotes rest
 both_within text rest whole =
     ap (flat_map readable_character) (chars-append text rest whole)
     ∙ flat_map-append readable_character (chars text) (chars rest)
@@ -35,8 +36,10 @@ module _ {W : Type 0} (took : W → List ℕ → W → Type 0) where
       → IsPlainFormatter s.out.now
       → HasWritten took s.out.now (within_quotes (concat parts)) t.out.now × (t.out.ghost_name ≡ s.out.ghost_name)
   along s [] t path plain =
-      subst (λ (e : Escaping W). HasWritten took s.out.now (within_quotes []) e.out.now × (e.out.ghost_name ≡ s.out.ghost_name)) path
-      (has_written_of_eq took _ _ _ _ (ap (flat_map readable_character) (sym chars-nil)) (record { wrote = writes_in_calls_nil took _; plain = plain }), refl)
+      let nothing = record { wrote = writes_in_calls_nil took _; plain = plain } in
+      subst (λ (e : Escaping W). HasWritten took s.out.now (within_quotes []) e.out.now
+          × (e.out.ghost_name ≡ s.out.ghost_name)) path
+      (has_written_of_eq took _ _ _ _ (ap (flat_map readable_character) (sym chars-nil)) nothing, refl)
   along s (part ∷ parts) t path plain =
       let first = path.1.1 plain in
       let rest = along path.0 parts t path.2 first.plain in

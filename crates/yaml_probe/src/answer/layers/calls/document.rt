@@ -48,8 +48,8 @@ fn leaf<'de>(
     }
 }
 
-/// What a document is read as by the call for the shape with this number, if the schema has it. Of two calls for a shape
-/// the one is made that gives a text or bytes of their own, if `owned`.
+/// What a document is read as by the call for the shape with this number, if the schema has it. Of two calls for a
+/// shape the one is made that gives a text or bytes of their own, if `owned`.
 pub fn read_document<'de>(
     alloc: Global,
     document: &Document<'de>,
