@@ -38,7 +38,7 @@ module _ {W : Type 0} (took : W → List ℕ → W → Type 0) where
   along s [] t path plain =
       let nothing = record { wrote = writes_in_calls_nil took _; plain = plain } in
       subst (λ (e : Escaping W). HasWritten took s.out.now (within_quotes []) e.out.now
-          × (e.out.ghost_name ≡ s.out.ghost_name)) path
+      × (e.out.ghost_name ≡ s.out.ghost_name)) path
       (has_written_of_eq took _ _ _ _ (ap (flat_map readable_character) (sym chars-nil)) nothing, refl)
   along s (part ∷ parts) t path plain =
       let first = path.1.1 plain in

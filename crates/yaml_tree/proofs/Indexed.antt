@@ -177,7 +177,7 @@ chained-next size c i es d e some le lt is before =
     ap (λ n. set (earliers_of es) i (get_or (lasts_of es) n 0)) (sym c_is)
     ∙ (ap (set (earliers_of es) i) (get_or-map (λ e. e.last) es c d 0 c_less)
     ∙ (ap (λ xs. set xs i last)
-        (sym (map-set_same (λ e. e.earlier) es c (with_last_place (get_or es c d) (i + 1)) d refl))
+    (sym (map-set_same (λ e. e.earlier) es c (with_last_place (get_or es c d) (i + 1)) d refl))
     ∙ sym (map-set (λ e. e.earlier) first i new))) in
     let hashes : hashes_of es ≡ hashes_of (set first i new) =
     sym (map-set_same keep es c (with_last_place (get_or es c d) (i + 1)) d refl)

@@ -12,13 +12,13 @@ loop-c-preserved g c = λ plain.
     let before = c.loop-c.invariant plain in
     let written = readable_character c.in-Some.c in
     has_written_of_eq g.W.Write.write_str_gives _ _ _ _
-        (ap (λ t. flat_map readable_character c.loop-c.yielded ++ t) (sym (append-nil written))
-        ∙ sym (flat_map-append readable_character c.loop-c.yielded (c.in-Some.c ∷ [])))
-        (has_written_append _ _ _ _ _ _ before (search rules))
+    (ap (λ t. flat_map readable_character c.loop-c.yielded ++ t) (sym (append-nil written))
+    ∙ sym (flat_map-append readable_character c.loop-c.yielded (c.in-Some.c ∷ [])))
+    (has_written_append _ _ _ _ _ _ before (search rules))
 
 pub returns : goal.returns
 returns g c =
     let letters = YieldsList-from_chars c.args.text.now c.utf8.text cc in
     let all = YieldsList-end letters c.loop-c.yielded _ c.loop-c.yielded_by _ _ c.in-None.is c.next.ensures.steps in
     λ plain ok. has_written_of_eq g.W.Write.write_str_gives _ _ _ _
-        (ap (flat_map readable_character) (sym (map-id c.loop-c.yielded) ∙ all.0)) (c.loop-c.invariant plain)
+    (ap (flat_map readable_character) (sym (map-id c.loop-c.yielded) ∙ all.0)) (c.loop-c.invariant plain)

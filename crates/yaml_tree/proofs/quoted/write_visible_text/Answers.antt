@@ -11,4 +11,4 @@ returns g c =
     let letters = YieldsList-from_chars c.args.text.now c.utf8.text cc in
     let all = YieldsList-end letters c.loop-c.yielded _ c.loop-c.yielded_by _ _ c.in-None.is c.next.ensures.steps in
     λ plain ok. has_written_of_eq g.W.Write.write_str_gives _ _ _ _
-        (ap (flat_map visible_character) (sym (map-id c.loop-c.yielded) ∙ all.0)) (c.loop-c.invariant plain)
+    (ap (flat_map visible_character) (sym (map-id c.loop-c.yielded) ∙ all.0)) (c.loop-c.invariant plain)
