@@ -6,9 +6,8 @@ ghost use Rattle.yaml_shape.specs.DataView.{data_of};
 ghost use Rattle.yaml_shape.specs.HasShape.{HasShape};
 ghost use Rattle.yaml_shape.specs.PlainShape.{PlainShape, shape_at};
 ghost use Rattle.yaml_read.specs.TreeReader.{default_limits};
-ghost use Rattle.serde_yaml.specs.Headline.{GivesMeaning};
 ghost use Rattle.serde_yaml.specs.StreamReads.{stream_of};
-ghost use Rattle.serde_yaml.specs.TextReads.{IsOfAStream, IsParsed};
+ghost use Rattle.serde_yaml.specs.TextReads.{IsOfAStream, IsParsed, TextGives};
 ghost use Rattle.serde_yaml.specs.TypedHeadline.{GivesValue};
 ghost use Rattle.serde_yaml.specs.TypedReads.{TypeGives};
 
@@ -71,8 +70,8 @@ pub fn data_from_str<'de>(
     limits: Limits,
 ) -> Result<Data<'de>>
     requires { id.0 < length schema.now }
-    ensures meaning { (s : PlainShape) → shape_at schema.now id.0 ≡ Some s → Answers data_of result (λ given.
-        IsParsed text.now (λ events fault. GivesMeaning limits schema.now s events fault given)) }
+    ensures given { (s : PlainShape) → shape_at schema.now id.0 ≡ Some s
+        → Answers data_of result (TextGives limits schema.now s text.now) }
     ensures typed { IfOk result (λ found. HasShape schema.now id.0 (data_of found)) }
     ensures stream { IsOfAStream result }
 {
@@ -88,8 +87,8 @@ pub fn data_from_slice<'de>(
     limits: Limits,
 ) -> Result<Data<'de>>
     requires { id.0 < length schema.now }
-    ensures meaning { (s : PlainShape) → shape_at schema.now id.0 ≡ Some s → Answers data_of result (λ given.
-        IsParsed text.now (λ events fault. GivesMeaning limits schema.now s events fault given)) }
+    ensures given { (s : PlainShape) → shape_at schema.now id.0 ≡ Some s
+        → Answers data_of result (TextGives limits schema.now s text.now) }
     ensures typed { IfOk result (λ found. HasShape schema.now id.0 (data_of found)) }
     ensures stream { IsOfAStream result }
 {

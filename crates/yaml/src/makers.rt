@@ -205,11 +205,11 @@ impl<'a, 'de> Reader<'a, 'de> {
                     ..
                 },
             ) => {
-                let key = self.key_before(start, self.spot.place).unwrap_or(name);
-                let name = self.words(key)?;
+                let key = self.key_before(start, self.spot.place);
+                let name = self.words(self.text_at(self.target(key)).unwrap_or(name))?;
                 self.at(
                     Cause::DuplicateField { name, place: None },
-                    start,
+                    key,
                     at,
                     outer,
                 )

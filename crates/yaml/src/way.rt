@@ -23,8 +23,8 @@ enum Step<'a> {
 }
 
 impl<'a, 'de> Reader<'a, 'de> {
-    // The text of the scalar in a place.
-    fn text_at(&self, place: usize) -> Option<&str> {
+    /// The text of the scalar in a place.
+    pub(crate) fn text_at(&self, place: usize) -> Option<&str> {
         match self.event(place) {
             Some(DocEvent::Scalar(scalar)) => std::str::from_utf8(scalar.value.as_slice()).ok(),
             _ => None,
@@ -86,13 +86,13 @@ impl<'a, 'de> Reader<'a, 'de> {
         }
     }
 
-    /// The text of the last key before a place in the mapping that begins in another.
-    pub(crate) fn key_before(&self, start: usize, place: usize) -> Option<&str> {
+    /// The place of the last key before a place in the mapping that begins in another.
+    pub(crate) fn key_before(&self, start: usize, place: usize) -> usize {
         let part = self.part_of(start, place);
         if part.count % 2 == 1 {
-            return self.text_at(part.before);
+            return part.before;
         }
-        self.text_at(self.part_of(start, part.before).before)
+        self.part_of(start, part.before).before
     }
 
     // The step from what the frame with a number is around to the part of it in a place.

@@ -11,10 +11,9 @@ use Rattle.yaml_read.specs.TreeReader.{PlainLimits}
 use Rattle.yaml_shape.specs.DataView.{data_of}
 use Rattle.yaml_shape.specs.PlainShape.{PlainShape}
 use Rattle.yaml_shape.specs.declared.data.Data.{Data}
-use Rattle.serde_yaml.specs.Headline.{GivesMeaning}
 use Rattle.serde_yaml.specs.PlainStream.{PlainStream, document_alone}
 use Rattle.serde_yaml.specs.StreamReads.{InputGives, StreamGives}
-use Rattle.serde_yaml.specs.TextReads.{IsParsed}
+use Rattle.serde_yaml.specs.TextReads.{TextGives}
 use Rattle.yaml_run.specs.EventReadings.{IsReading}
 use Rattle.yaml_run.specs.EventReadings.IsReading.{bad_line as lines_bad, found as lines_found}
 use Rattle.yaml_run.specs.EventReadings.IsReading.{refused as lines_refused, out_of_memory as lines_no_memory}
@@ -39,7 +38,7 @@ module _ (limits : PlainLimits) (table : List PlainShape) (s : PlainShape) where
 
   -- of a text
   pub tells_text : (text : List ℕ) (found : Result Data Cause) (ended : Status) (told : List ℕ)
-      → Answers data_of found (λ given. IsParsed text (λ events fault. GivesMeaning limits table s events fault given))
+      → Answers data_of found (TextGives limits table s text)
       → Tells found ended told → IsTextReading limits table s text ended told
   tells_text text (Ok content) ended told gives t = text_found _ gives t.0 t.1
   tells_text text (Err Memory) ended told gives t = text_no_memory t.0 t.1

@@ -8,15 +8,14 @@ use Rattle.yaml_run.specs.declared.status.Status.TheVariants as status
 use Rattle.yaml_read.specs.TreeReader.{PlainLimits}
 use Rattle.yaml_shape.specs.PlainData.{PlainData}
 use Rattle.yaml_shape.specs.PlainShape.{PlainShape}
-use Rattle.serde_yaml.specs.Headline.{GivesMeaning}
-use Rattle.serde_yaml.specs.TextReads.{IsParsed}
+use Rattle.serde_yaml.specs.TextReads.{TextGives}
 
 -- how a reading of a text ends, within limits as a shape of a table, and what tells what it gave
 pub data IsTextReading (limits : PlainLimits) (table : List PlainShape) (shape : PlainShape) (text : List ℕ)
     (ended : Status) (told : List ℕ) : Type 0 where
-  found : (value : PlainData) → IsParsed text (λ events fault. GivesMeaning limits table shape events fault (Ok value))
+  found : (value : PlainData) → TextGives limits table shape text (Ok value)
       → ended ≡ status.Read → told ≡ data_text value → IsTextReading limits table shape text ended told
-  refused : (cause : Cause) → IsParsed text (λ events fault. GivesMeaning limits table shape events fault (Err cause))
+  refused : (cause : Cause) → TextGives limits table shape text (Err cause)
       → ended ≡ status.Fault → told ≡ codes "fault: " ++ error_text cause
       → IsTextReading limits table shape text ended told
   out_of_memory : ended ≡ status.Fault → told ≡ codes "fault: out of memory"

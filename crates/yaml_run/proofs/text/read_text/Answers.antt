@@ -12,5 +12,5 @@ returns c = λ s at.
     (λ told. Tells c.data_from_slice.result told.ended (string_bytes told.text))
     (λ told. IsTextReading c.args.limits c.args.schema.now s c.args.text.now told.ended (string_bytes told.text))
     (λ told tells. tells_text c.args.limits c.args.schema.now s c.args.text.now c.data_from_slice.result told.ended
-    (string_bytes told.text) (c.data_from_slice.ensures.meaning s at) tells)
+    (string_bytes told.text) (c.data_from_slice.ensures.given s at) tells)
     c.told_of.ensures
