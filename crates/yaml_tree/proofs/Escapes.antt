@@ -36,7 +36,10 @@ module _ {W : Type 0} (took : W → List ℕ → W → Type 0) where
       → IsPlainFormatter s.out.now
       → HasWritten took s.out.now (within_quotes (concat parts)) t.out.now × (t.out.ghost_name ≡ s.out.ghost_name)
   along s [] t path plain =
-      let nothing = record { wrote = writes_in_calls_nil took _; plain = plain } in
+      let nothing : HasWritten took s.out.now [] s.out.now = record {
+        wrote = writes_in_calls_nil took _;
+        plain = plain;
+      } in
       subst (λ (e : Escaping W). HasWritten took s.out.now (within_quotes []) e.out.now
       × (e.out.ghost_name ≡ s.out.ghost_name)) path
       (has_written_of_eq took _ _ _ _ (ap (flat_map readable_character) (sym chars-nil)) nothing, refl)
