@@ -13,7 +13,7 @@ ghost use Rattle.yaml_shape.specs.DataView.{data_of};
 ghost use Rattle.yaml_tree.specs.View.{tree_of};
 ghost use Rattle.yaml_write.specs.Adds.{Adds};
 ghost use Rattle.yaml_write.specs.Brackets.{start_by, end_by};
-ghost use Rattle.yaml_write.specs.Outcomes.{plain_node, null_node, string_node};
+ghost use Rattle.yaml_write.specs.Outcomes.{is_number_text, null_node, number_node, plain_node, string_node};
 ghost use Rattle.yaml_write.specs.Written.{written};
 ghost use Rattle.yaml_write.specs.WrittenValue.{written_value, truth_text};
 
@@ -24,9 +24,16 @@ use itoa::Integer;
 use std::alloc::Global;
 use std::marker::Model;
 use yaml_base::emitter::{AskedStyle, EmitEvent, EmitScalar, Mapping, Sequence};
-use yaml_base::infer_style;
+use yaml_base::{Kind, infer_style, resolve};
 use yaml_shape::{Data, Schema, ShapeId};
 use yaml_tree::Value;
+
+// Whether the text is an integer's or a float's.
+fn is_number_text(text: &str) -> bool
+    ensures { result ≡ is_number_text text.now }
+{
+    matches!(resolve(text), Kind::Unsigned(_) | Kind::Signed(_) | Kind::Float)
+}
 
 /// Events in order, and the allocator of all that is made for them. Contracts see it as its list of plain events.
 ///
@@ -136,6 +143,18 @@ impl EventBuffer {
     {
         let mut digits = itoa::Buffer::new();
         self.plain(tag, digits.format(number))
+    }
+
+    /// The text of a number, plain. A text that is no number's is written as a string. The only fault is `Memory`.
+    pub fn number(&mut self, tag: Option<String>, text: &str) -> Result<()>
+        ensures { Adds emit_node_events (Ok (number_node (tag_bytes tag) text.now))
+            self.old self.new result }
+    {
+        if is_number_text(text) {
+            self.plain(tag, text)
+        } else {
+            self.string(tag, text)
+        }
     }
 
     /// A string, in the style that it has to be asked in. The only fault is `Memory`.

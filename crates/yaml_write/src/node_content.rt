@@ -30,6 +30,8 @@ pub(crate) enum Content<'a, 'de> {
     Char(char),
     // A string.
     Str(&'a str),
+    // The text of a number, under a tag, if there is one.
+    Number(Option<String>, &'a str),
     // A value under a tag.
     Tagged(String, &'a Value),
     // Data of a shape of a schema, under a tag, if there is one.
@@ -47,6 +49,7 @@ pub(crate) fn write_content(out: &mut EventBuffer, content: Content<'_, '_>) -> 
         Content::Unsigned(number) => out.integer(None, number),
         Content::Char(letter) => out.character(None, letter),
         Content::Str(text) => out.string(None, text),
+        Content::Number(tag, text) => out.number(tag, text),
         Content::Tagged(tag, value) => write_value(out, Some(tag), value),
         Content::Data(tag, schema, id, content) => write_data(out, schema, id, tag, content),
     }

@@ -3,6 +3,7 @@
 ghost use Rattle.std.specs.Prelude.{◌≡◌, Err, None, Ok, Some, codes, decimal};
 ghost use Rattle.std.specs.Char.{encode_utf8};
 ghost use Rattle.std.specs.Fmt.{signed_decimal};
+ghost use Rattle.std.specs.Option.{option_map};
 ghost use Rattle.yaml_base.specs.EmitTree.{emit_scalar_node};
 ghost use Rattle.yaml_base.specs.declared.emitter.AskedStyle.TheVariants.{SingleQuoted};
 ghost use Rattle.yaml_base.specs.declared.error.Cause.TheVariants.{BytesUnsupported};
@@ -10,7 +11,7 @@ ghost use Rattle.yaml_tree.specs.TagView.{tag_text};
 ghost use Rattle.yaml_tree.specs.View.{tree_of};
 ghost use Rattle.yaml_write.specs.Adds.{WritesOrStays};
 ghost use Rattle.yaml_write.specs.LocalTags.{local_tag, value_tag};
-ghost use Rattle.yaml_write.specs.Outcomes.{plain_node, null_node, string_node};
+ghost use Rattle.yaml_write.specs.Outcomes.{plain_node, null_node, number_node, string_node};
 ghost use Rattle.yaml_write.specs.Writing.{with_node};
 ghost use Rattle.yaml_write.specs.WrittenTyped.{typed_written};
 ghost use Rattle.yaml_write.specs.WrittenValue.{truth_text, written_value};
@@ -126,6 +127,20 @@ impl Serializer {
             self.old self.new result }
     {
         self.place(Content::Str(value))
+    }
+
+    /// Writes the text of a number, plain, under the name as a tag, if there is one. A text that is no number's is
+    /// written as a string.
+    pub fn serialize_number(&mut self, tag: Option<&str>, text: &str) -> Result<()>
+        ensures { WritesOrStays (with_node self.old)
+            (Ok (number_node (option_map (λ name. local_tag name.now) tag) text.now))
+            self.old self.new result }
+    {
+        let tag = match tag {
+            Some(name) => Some(local_tag(self.alloc, name)?),
+            None => None,
+        };
+        self.place(Content::Number(tag, text))
     }
 
     /// Refuses bytes. Nothing changes, and nothing begins.

@@ -1,0 +1,8 @@
+-- What its bits say.
+use Rattle.std.proofs.Common.{refl}
+use lib.Ieee.{of_bits}
+use Rattle.yaml_float.proofs.parse.infinity_f32.Goals as goal
+
+pub returns : goal.returns
+unfolding of_bits
+returns c = refl
