@@ -1,5 +1,6 @@
 -- Lemmas of this crate.
 pub mod BehindLaws
 pub mod CutOff
+pub mod FloatLaws
 pub mod NameLaws
 pub mod StepLaws

@@ -1,6 +1,7 @@
 -- What contracts of this crate cite.
 pub mod Around
 pub mod Collections
+pub mod FloatSteps
 pub mod Leaves
 pub mod NextDocument
 pub mod NodeSteps

@@ -1,20 +1,24 @@
 -- What the steps of a reading read: each what a node of the document means under a shape, or a way into a collection
 -- or out of it.
 use Rattle.std.specs.Prelude.{◌≡◌, ◌⊎◌, ℕ, List}
-use Rattle.serde.specs.Event.{Event, boolean, signed, unsigned, character, text, nothing}
+use Rattle.std.specs.Float.{binary32, binary64}
+use Rattle.serde.specs.Event.{Event, boolean, signed, unsigned, single, double, character, text, nothing}
 use Rattle.serde.specs.Event.{seq_begins, seq_ends, map_begins, map_ends, key_begins}
 use Rattle.yaml.specs.Around.{Standing, standing}
 use Rattle.yaml.specs.Collections.{BeginsSeq, BeginsMap, once_begun, ReachesEntry, LeavesSeq, LeavesMap}
+use Rattle.yaml.specs.FloatSteps.{TookFloat}
 use Rattle.yaml.specs.NodeSteps.{Took, TookText, TookNothing}
 use Rattle.yaml.specs.declared.leaf.Leaf.TheVariants as leaf
 use Rattle.yaml.specs.declared.reader.Reader.{Reader}
 use Rattle.yaml_shape.specs.PlainData.{bool_data, char_data, signed_data, unsigned_data}
 
--- What a step read. Floats, bytes, and what is only written are never read.
+-- What a step read. Bytes, and what is only written, are never read.
 abbrev pub ReadsBy : Event → Standing → Standing → Type 0
 ReadsBy (boolean b) old new = Took leaf.Bool (bool_data b) old new
 ReadsBy (signed z) old new = Took leaf.I64 (signed_data z) old new ⊎ Took leaf.I128 (signed_data z) old new
 ReadsBy (unsigned n) old new = Took leaf.U64 (unsigned_data n) old new ⊎ Took leaf.U128 (unsigned_data n) old new
+ReadsBy (single x) old new = TookFloat binary32 x old new
+ReadsBy (double x) old new = TookFloat binary64 x old new
 ReadsBy (character c) old new = Took leaf.Char (char_data c) old new
 ReadsBy (text s) old new = TookText leaf.Str s old new
 ReadsBy nothing old new = TookNothing leaf.Unit old new ⊎ TookNothing leaf.Option old new

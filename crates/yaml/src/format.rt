@@ -81,13 +81,11 @@ impl<'a, 'de> Format for Reader<'a, 'de> {
     }
 
     fn f32(&mut self, _input: &[u8]) -> Result<f32, Error> {
-        self.note(Deed::Read);
-        Err(self.told("floating point numbers are not read"))
+        self.f32_here()
     }
 
     fn f64(&mut self, _input: &[u8]) -> Result<f64, Error> {
-        self.note(Deed::Read);
-        Err(self.told("floating point numbers are not read"))
+        self.f64_here()
     }
 
     fn char(&mut self, _input: &[u8]) -> Result<char, Error> {

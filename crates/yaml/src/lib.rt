@@ -3,6 +3,7 @@
 
 mod borrowed;
 mod documents;
+mod float;
 mod format;
 mod frame;
 mod kinds;

@@ -207,12 +207,7 @@ impl<'a, 'de> Reader<'a, 'de> {
             ) => {
                 let key = self.key_before(start, self.spot.place);
                 let name = self.words(self.text_at(self.target(key)).unwrap_or(name))?;
-                self.at(
-                    Cause::DuplicateField { name, place: None },
-                    key,
-                    at,
-                    outer,
-                )
+                self.at(Cause::DuplicateField { name, place: None }, key, at, outer)
             }
             _ => self.at_last(Cause::DuplicateField {
                 name: self.words(name)?,

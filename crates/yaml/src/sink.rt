@@ -4,11 +4,13 @@ ghost use Rattle.std.specs.Prelude.{map, IfOk};
 ghost use Rattle.yaml_base.specs.EmitEvents.{emit_of};
 ghost use Rattle.yaml_base.specs.EmitTree.{IsEmitStream};
 
+use ryu::Buffer;
 use serde::{Case, NameKind};
 use std::alloc::Global;
 use std::fmt::Display;
 use yaml_base::emitter::EmitEvent;
 use yaml_base::{Cause, Error, Result};
+use yaml_float::{print_f32, print_f64};
 use yaml_shape::{Data, Schema, Shape, ShapeId, Text, Typed};
 use yaml_write::Serializer;
 
@@ -163,6 +165,18 @@ impl Sink {
         }
     }
 
+    // The text of a number, under a tag if one is held back.
+    fn number(&mut self, text: &str) -> Result<()> {
+        self.settle()?;
+        if self.is_shared {
+            return Err(self.told("only structs and maps can be flattened"));
+        }
+        match self.tag.take() {
+            Some(tag) => self.events.serialize_number(Some(tag.as_str()), text),
+            None => self.events.serialize_number(None, text),
+        }
+    }
+
     fn untagged(&mut self, scalar: Scalar<'_>) -> Result<()> {
         match scalar {
             Scalar::Null => self.events.serialize_unit(),
@@ -207,12 +221,12 @@ impl serde::Serializer for Sink {
         self.scalar(Scalar::Unsigned(v))
     }
 
-    fn f32(&mut self, _v: f32) -> Result<()> {
-        Err(self.told("floating point numbers are not written"))
+    fn f32(&mut self, v: f32) -> Result<()> {
+        self.number(print_f32(&mut Buffer::new(), v))
     }
 
-    fn f64(&mut self, _v: f64) -> Result<()> {
-        Err(self.told("floating point numbers are not written"))
+    fn f64(&mut self, v: f64) -> Result<()> {
+        self.number(print_f64(&mut Buffer::new(), v))
     }
 
     fn char(&mut self, v: char) -> Result<()> {

@@ -24,5 +24,5 @@ pub use mismatch::{
 pub use presence::{is_absent, is_empty_plain, is_present};
 pub use refusal::{Refusal, Result, ended, refuse, refused_bytes};
 pub use scalar::{read_scalar, read_void};
-pub use sort::text_of;
+pub use sort::{is_plain_or_tagged_literal, text_of};
 pub use variant_names::{nested_enum, unknown_variant, variant_named};

@@ -107,7 +107,7 @@ pub fn text_of<'a>(scalar: &'a DocScalar<'_>) -> Option<&'a str>
 }
 
 /// Whether the scalar is plain, whatever its tag, or literal with just this tag, which is not taken.
-pub(crate) fn is_plain_or_tagged_literal(name: &str, taken: bool, scalar: &DocScalar<'_>) -> bool
+pub fn is_plain_or_tagged_literal(name: &str, taken: bool, scalar: &DocScalar<'_>) -> bool
     ensures { result ≡ is_plain_or_tagged_literal name.now taken (doc_scalar_of scalar.now) }
 {
     is_plain(scalar.style) || (is_literal(scalar.style) && has_untaken(name, taken, scalar))

@@ -32,7 +32,10 @@ use yaml_tree::Value;
 fn is_number_text(text: &str) -> bool
     ensures { result ≡ is_number_text text.now }
 {
-    matches!(resolve(text), Kind::Unsigned(_) | Kind::Signed(_) | Kind::Float)
+    matches!(
+        resolve(text),
+        Kind::Unsigned(_) | Kind::Signed(_) | Kind::Float
+    )
 }
 
 /// Events in order, and the allocator of all that is made for them. Contracts see it as its list of plain events.

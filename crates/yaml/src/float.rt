@@ -1,0 +1,141 @@
+//! Floats.
+
+ghost use Rattle.std.specs.Prelude.{◌≡◌, IfOk, IsTrue};
+ghost use Rattle.std.specs.Float.{binary32, binary64};
+ghost use Rattle.yaml.specs.Around.{standing};
+ghost use Rattle.yaml.specs.FloatSteps.{AsksForNumber, TookFloat};
+ghost use Rattle.yaml.specs.NodeSteps.{Gave};
+ghost use Rattle.yaml.specs.declared.leaf.Leaf.TheVariants as leaf;
+ghost use Rattle.yaml_float.specs.Float.{float_of};
+ghost use Rattle.yaml_shape.specs.DataView.{text_data_of};
+ghost use Rattle.yaml_shape.specs.TextView.{text_bytes};
+
+use crate::frame::Deed;
+use crate::leaf::Leaf;
+use crate::reader::Reader;
+use yaml_base::{Cause, Error, Found, Kind, Result, ScalarStyle, Tag, resolve};
+use yaml_float::{parse_f32, parse_f64};
+use yaml_read::{DocEvent, DocScalar, NodePlace};
+use yaml_scalar::is_plain_or_tagged_literal;
+use yaml_shape::{Data, Text};
+
+fn f32_in(text: &Text<'_>) -> Option<f32>
+    ensures { result ≡ float_of binary32 (text_bytes text.now) }
+{
+    parse_f32(text.as_str().as_bytes())
+}
+
+fn f64_in(text: &Text<'_>) -> Option<f64>
+    ensures { result ≡ float_of binary64 (text_bytes text.now) }
+{
+    parse_f64(text.as_str().as_bytes())
+}
+
+impl<'a, 'de> Reader<'a, 'de> {
+    // Whether the next node is a scalar that is asked for a number.
+    fn asks_for_number(&self) -> bool
+        ensures { IsTrue result → AsksForNumber (standing self.now) }
+    {
+        match self.event(self.target(self.spot.place)) {
+            Some(DocEvent::Scalar(scalar)) => {
+                is_plain_or_tagged_literal(Tag::FLOAT, self.spot.taken, scalar)
+            }
+            _ => false,
+        }
+    }
+
+    // The text of the next node, of which a number is asked, and the place behind it.
+    fn number_text(&self, expected: &str) -> Result<(Text<'de>, NodePlace)>
+        ensures asks { IfOk result (λ r. AsksForNumber (standing self.now)) }
+        ensures gave { IfOk result (λ r. Gave leaf.Str (standing self.now) (text_data_of r.0) r.1) }
+    {
+        if self.is_bare() {
+            return Err(self.fault_of_content());
+        }
+        if !self.asks_for_number() {
+            return Err(self.fault_of_float(expected));
+        }
+        match self.look(Leaf::Str)? {
+            (Data::Str(text), behind) => Ok((text, behind)),
+            _ => Err(self.ended()),
+        }
+    }
+
+    /// The `f32` that the next node's text is. The reading then stands behind the node.
+    #[tactic(auto, using(crate::proofs::FloatLaws::took_float))]
+    pub(crate) fn f32_here(&mut self) -> Result<f32>
+        ensures { IfOk result (λ x. TookFloat binary32 x (standing self.old) (standing self.new)) }
+    {
+        self.note(Deed::Read);
+        let (text, behind) = self.number_text("f32")?;
+        match f32_in(&text) {
+            Some(number) => {
+                self.go(behind);
+                Ok(number)
+            }
+            None => Err(self.fault_of_float("f32")),
+        }
+    }
+
+    /// The `f64` that the next node's text is. The reading then stands behind the node.
+    #[tactic(auto, using(crate::proofs::FloatLaws::took_float))]
+    pub(crate) fn f64_here(&mut self) -> Result<f64>
+        ensures { IfOk result (λ x. TookFloat binary64 x (standing self.old) (standing self.new)) }
+    {
+        self.note(Deed::Read);
+        let (text, behind) = self.number_text("f64")?;
+        match f64_in(&text) {
+            Some(number) => {
+                self.go(behind);
+                Ok(number)
+            }
+            None => Err(self.fault_of_float("f64")),
+        }
+    }
+
+    // What a plain text is found to be.
+    fn found_text(&self, text: &str) -> Result<Found> {
+        match resolve(text) {
+            Kind::Null => Ok(Found::Unit),
+            Kind::Bool(value) => Ok(Found::Bool(value)),
+            Kind::Unsigned(number) => Ok(Found::Unsigned(number)),
+            Kind::Signed(number) => Ok(Found::Signed(number)),
+            Kind::Float => Ok(Found::Float(self.words(text)?)),
+            Kind::Str => Ok(Found::Str(self.words(text)?)),
+        }
+    }
+
+    // What a scalar is found to be.
+    fn found_scalar(&self, scalar: &DocScalar<'_>) -> Result<Found> {
+        let Ok(text) = std::str::from_utf8(scalar.value.as_slice()) else {
+            return Ok(Found::Bytes);
+        };
+        match scalar.style {
+            ScalarStyle::Plain => self.found_text(text),
+            _ => Ok(Found::Str(self.words(text)?)),
+        }
+    }
+
+    // What the node of the last step is found to be.
+    fn found(&self) -> Result<Found> {
+        match self.event(self.last.start) {
+            Some(DocEvent::Scalar(scalar)) => self.found_scalar(scalar),
+            Some(DocEvent::SequenceStart(_)) => Ok(Found::Seq),
+            Some(DocEvent::MappingStart(_)) => Ok(Found::Map),
+            _ => Ok(Found::Unit),
+        }
+    }
+
+    // The fault of the last step's node, which is no float.
+    fn fault_of_float(&self, expected: &str) -> Error {
+        Self::made(self.try_float(expected))
+    }
+
+    fn try_float(&self, expected: &str) -> Result<Error> {
+        self.at_last(Cause::InvalidType {
+            found: self.found()?,
+            expected: self.words(expected)?,
+            place: None,
+        })
+    }
+}
