@@ -8,6 +8,7 @@ use crate::callers::{
 };
 use crate::readme::renamed;
 use derived_types::enums::{Command, Figure, Scalar, Step};
+use derived_types::floats::Weather;
 use derived_types::limits::{Nest, Passed};
 use derived_types::plain::{Ends, Metres, Nothing, Pair, Percent};
 use derived_types::structs::{Mark, Note, Setting, Window};
@@ -27,6 +28,7 @@ fn answer_as_standard(alloc: Global, name: &str, text: &str) -> Result<String, E
         "u64" => answer::<u64>(alloc, text),
         "i128" => answer::<i128>(alloc, text),
         "u128" => answer::<u128>(alloc, text),
+        "f32" => answer::<f32>(alloc, text),
         "f64" => answer::<f64>(alloc, text),
         "char" => answer::<char>(alloc, text),
         "()" => answer::<()>(alloc, text),
@@ -79,6 +81,7 @@ pub fn answer_as(alloc: Global, name: &str, text: &str) -> Result<String, Error>
         "Ends<i8>" => answer::<Ends<i8>>(alloc, text),
         "Ends<Option<Pair>>" => answer::<Ends<Option<Pair>>>(alloc, text),
         "Percent" => answer::<Percent>(alloc, text),
+        "Weather" => answer::<Weather>(alloc, text),
         _ => answer_by_function(alloc, name, text),
     }
 }

@@ -2,6 +2,7 @@
 #![tactic(auto)]
 
 pub mod enums;
+pub mod floats;
 pub mod limits;
 pub mod plain;
 pub mod structs;

@@ -19,6 +19,7 @@ pub mod SameOrders
 pub mod ScalarLeaves
 pub mod ShapesOfData
 pub mod SimpleFits
+pub mod PartsFit
 pub mod StreamsReturn
 pub mod TagsWritten
 pub mod TypedReturn

@@ -22,7 +22,7 @@ use Rattle.yaml_round.specs.SimpleData.{is_simple, are_simple, entries_are_simpl
 use Rattle.yaml_round.proofs.SameOrders.{both, first, second}
 
 -- two parts that are written are written together
-joined_ok : {A B C : Type 0} (f : A → B → C) {a : Result A Cause} {b : Result B Cause} {x : A} {y : B} → a ≡ Ok x
+pub joined_ok : {A B C : Type 0} (f : A → B → C) {a : Result A Cause} {b : Result B Cause} {x : A} {y : B} → a ≡ Ok x
     → b ≡ Ok y → joined f a b ≡ Ok (f x y)
 joined_ok f {a} {b} {x} {y} h k = ap (λ a. joined f a b) h ∙ ap (made (f x)) k
 

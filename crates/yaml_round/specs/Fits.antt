@@ -108,3 +108,8 @@ pub record Fits (nesting : ℕ) (t : List PlainShape) (id : ℕ) (d : PlainData)
   pub written : (e : EmitNode) × (written t id None d ≡ Ok e)
   pub nests_within : nestings d ≤ nesting
   pub returns : IsTrue (data_fits t id d)
+
+-- each of the elements, all of one shape, reads back within so many nestings
+abbrev pub EachFits : (nesting : ℕ) → List PlainShape → (id : ℕ) → PlainItems → Type 0
+EachFits nesting t id no_items = Unit {0}
+EachFits nesting t id (item d ds) = Fits nesting t id d × EachFits nesting t id ds

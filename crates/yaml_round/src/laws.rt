@@ -1,6 +1,7 @@
 //! Laws of writing and reading together, each the contract of a function that does nothing.
 
-ghost use Rattle.std.specs.Prelude.{◌≡◌, ◌≢◌, ◌≤◌, ℕ, List, Option, None, Some, Ok, Result, true, IsTrue};
+ghost use Rattle.std.specs.Prelude.{◌≡◌, ◌≢◌, ◌≤◌, ℕ, suc, List, Option, None, Some, Ok, Result, true, false, IsTrue};
+ghost use Rattle.std.specs.Prelude.{slice_get};
 ghost use Rattle.std.specs.Option.{is_some};
 ghost use Rattle.std.specs.Str.{is_utf8};
 ghost use Rattle.yaml_base.specs.AskedStyles.{asked_style};
@@ -15,10 +16,16 @@ ghost use Rattle.yaml_base.specs.declared.event.ScalarStyle.{ScalarStyle};
 ghost use Rattle.yaml_base.specs.declared.event.ScalarStyle.TheVariants as style;
 ghost use Rattle.yaml_shape.specs.EqualData.{EqualData};
 ghost use Rattle.yaml_shape.specs.HasShape.{HasShape};
-ghost use Rattle.yaml_shape.specs.PlainData.{PlainData, any_data};
-ghost use Rattle.yaml_shape.specs.PlainShape.{PlainShape, any_shape, str_shape, shape_at};
+ghost use Rattle.yaml_shape.specs.PlainData.{PlainData, PlainItems, any_data, seq_data, some_data};
+ghost use Rattle.yaml_shape.specs.PlainData.{variant_data};
+ghost use Rattle.yaml_shape.specs.PlainShape.{PlainShape, PlainVariant, any_shape, enum_shape, newtype_variant};
+ghost use Rattle.yaml_shape.specs.PlainShape.{option_shape, seq_shape, str_shape, shape_at};
 ghost use Rattle.yaml_shape.specs.Validity.{IsValidSchema};
-ghost use Rattle.yaml_tree.specs.Tree.{string};
+ghost use Rattle.yaml_base.specs.EmitTree.{EmitNode};
+ghost use Rattle.yaml_tree.specs.Tree.{Tree, string};
+ghost use Rattle.yaml_write.specs.LocalTags.{local_tag};
+ghost use Rattle.yaml_write.specs.Written.{written};
+ghost use Rattle.yaml_write.specs.WrittenValue.{written_value};
 ghost use Rattle.yaml_read.specs.Documents.{Input};
 ghost use Rattle.yaml_read.specs.MarkedEvents.{events_in};
 ghost use Rattle.yaml_meaning.specs.Meaning.{Means};
@@ -27,8 +34,8 @@ ghost use Rattle.yaml_read.specs.TreeReader.{PlainLimits};
 ghost use Rattle.serde_yaml.specs.StreamReads.{InputGives};
 ghost use Rattle.serde_yaml.specs.TypedReads.{TypeGives};
 ghost use Rattle.serde_yaml.specs.TypedWrites.{TypeWrites};
-ghost use Rattle.yaml_round.specs.Fits.{Fits};
-ghost use Rattle.yaml_round.specs.Nestings.{nestings};
+ghost use Rattle.yaml_round.specs.Fits.{EachFits, Fits, data_fits, is_variant_name, is_written_null, tree_fits};
+ghost use Rattle.yaml_round.specs.Nestings.{nestings, tree_nestings};
 ghost use Rattle.yaml_shape.specs.Held.{IsHeld, is_table};
 ghost use Rattle.yaml_round.specs.ReadsBack.{ComesBack, ReadsBack};
 ghost use Rattle.yaml_round.specs.Rendered.{rendered};
@@ -93,6 +100,39 @@ pub fn equal_in_one_order_is_equal()
 pub fn simple_data_fits()
     ensures { (nesting : ℕ) (table : List PlainShape) (id : ℕ) (d : PlainData) → HasShape table id d
         → IsTrue (is_simple d) → nestings d ≤ nesting → Fits nesting table id d }
+{}
+
+/// A present optional fits where its content does, and is not written as null by itself.
+pub fn an_optional_fits()
+    ensures { (nesting : ℕ) (table : List PlainShape) (id inner : ℕ) (d : PlainData)
+        → shape_at table id ≡ Some (option_shape inner) → Fits nesting table inner d
+        → is_written_null (written table inner None d) ≡ false → Fits nesting table id (some_data d) }
+{}
+
+/// A value of any kind fits where it is written, and where no tag in it begins with two `!`.
+pub fn a_value_fits()
+    ensures { (nesting : ℕ) (table : List PlainShape) (id : ℕ) (v : Tree) (e : EmitNode)
+        → shape_at table id ≡ Some any_shape → written_value None v ≡ Ok e → tree_nestings v ≤ nesting
+        → IsTrue (tree_fits v) → Fits nesting table id (any_data v) }
+{}
+
+/// A variant around one content fits where its name is one, and where the content is written under the name as a tag
+/// and fits otherwise.
+pub fn a_variant_fits()
+    ensures { (nesting : ℕ) (table : List PlainShape) (id inner place : ℕ) (name owner : List ℕ)
+        (variants : List (List ℕ × PlainVariant)) (d : PlainData) (e : EmitNode)
+        → shape_at table id ≡ Some (enum_shape owner variants)
+        → slice_get variants place ≡ Some (name, newtype_variant inner) → IsTrue (is_variant_name name)
+        → HasShape table inner d → written table inner (Some (local_tag name)) d ≡ Ok e
+        → nestings d ≤ nesting → IsTrue (data_fits table inner d)
+        → Fits nesting table id (variant_data place d) }
+{}
+
+/// A list fits where each of its elements does, within one nesting less.
+pub fn a_list_fits()
+    ensures { (nesting : ℕ) (table : List PlainShape) (id element : ℕ) (ds : PlainItems)
+        → shape_at table id ≡ Some (seq_shape element) → EachFits nesting table element ds
+        → Fits (suc nesting) table id (seq_data ds) }
 {}
 
 /// Written events come back in each choice of permitted styles for their scalars, and with any slices of a source.
