@@ -1,5 +1,5 @@
-//! The part of `yaml_probe` that needs no reader: its tables of shapes, its words for data, the cases that only write or
-//! ask something of shapes, and memory that is used up. It stands apart, so that it is proved beside the reader.
+//! The part of `yaml_probe` that needs no reader: its tables of shapes, its words for data, the cases that only write
+//! or ask something of shapes, and memory that is used up. It stands apart, so that it is proved beside the reader.
 #![tactic(auto)]
 
 mod answer;
