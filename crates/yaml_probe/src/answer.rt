@@ -1,36 +1,26 @@
 //! The answer to a case.
 
 mod budget;
-mod calls;
 mod copying;
-mod emitting;
-mod events;
 mod free;
 mod handed;
 mod layers;
 mod little;
-mod schemas;
 mod text;
 mod turns;
 mod typed;
-mod writing;
 
 use crate::case::{Case, Room, Task};
-use crate::table::Table;
-use crate::text::quote;
 use budget::under_budget;
-use calls::make_calls;
 use copying::copy_read;
-use emitting::emit;
 use free::read_with_nothing;
 use handed::hand_out;
 use layers::answer_layer;
-use schemas::{make_schema, told_of_table};
+use probe_writing::{Outcome, Table, quote, told_of_table};
 use std::alloc::{AllocError, Global};
 use text::{read_text, read_text_in_turn};
 use turns::read_in_turn;
 use typed::read_typed;
-use writing::write;
 use yaml_run::{Status, Told, read_events};
 use yaml_shape::Schema;
 
@@ -40,6 +30,24 @@ fn refused(alloc: Global, text: &str) -> Result<Told, AllocError> {
         ended: Status::Refused,
         text: String::from_str(alloc, text)?,
     })
+}
+
+// What is told of a case that needed no reader.
+fn told_of_outcome(outcome: Outcome) -> Told {
+    match outcome {
+        Outcome::Done(text) => Told {
+            ended: Status::Read,
+            text,
+        },
+        Outcome::Fault(text) => Told {
+            ended: Status::Fault,
+            text,
+        },
+        Outcome::Refused(text) => Told {
+            ended: Status::Refused,
+            text,
+        },
+    }
 }
 
 // The answer to what a case asks of lines.
@@ -59,13 +67,12 @@ fn asked(
             read_text_in_turn(alloc, schema, id, case.limits, lines)
         }
         Task::Typed(name) => read_typed(alloc, name, lines),
-        Task::Write(id) if schema.has(id) => write(alloc, schema, id, lines),
         Task::Copy(id) if schema.has(id) => copy_read(alloc, schema, id, case.limits, lines),
-        Task::MakeSchema => make_schema(alloc, lines),
-        Task::Calls => make_calls(alloc, schema, lines),
-        Task::Emit => emit(alloc, lines),
         Task::HandOut => hand_out(alloc, lines),
         Task::Layer(task) => answer_layer(alloc, schema, task, lines),
+        Task::Writing(task) => Ok(told_of_outcome(probe_writing::answer(
+            alloc, schema, task, lines,
+        )?)),
         _ => refused(alloc, "bad shape"),
     }
 }
@@ -101,7 +108,7 @@ fn answer_of(
 ) -> Result<Told, AllocError> {
     match table {
         Table::Schema(schema) => asked_within(alloc, schema, case, kept(case, lines)),
-        _ => told_of_table(alloc, table),
+        _ => Ok(told_of_outcome(told_of_table(alloc, table)?)),
     }
 }
 

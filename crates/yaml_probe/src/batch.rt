@@ -4,7 +4,7 @@ ghost use Rattle.std.specs.Prelude.{◌≡◌, ◌≤◌, ◌-◌, ◌++◌, len
 
 use crate::answer::append_answer;
 use crate::case::is_case;
-use crate::table::Table;
+use probe_writing::Table;
 use std::alloc::{AllocError, Global};
 use yaml_lines::first_line;
 

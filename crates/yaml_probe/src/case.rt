@@ -1,13 +1,13 @@
 //! The line that begins a case.
 
 use crate::layer_task::LayerTask;
-use crate::text::{first_word, number};
+use probe_writing::{WritingTask, first_word, number};
 use serde_yaml::Limits;
 use std::str;
 use yaml_shape::ShapeId;
 
 /// What is asked of a case.
-#[derive(Clone, Copy, PartialEq, Eq)]
+#[derive(Clone, Copy)]
 pub enum Task<'a> {
     /// Its lines are events, to be read as this shape.
     Read(ShapeId),
@@ -19,24 +19,18 @@ pub enum Task<'a> {
     ReadTextInTurn(ShapeId),
     /// Its one line spells a YAML text, to be read as the type with this name and printed again.
     Typed(&'a str),
-    /// Its lines are data of this shape, to be written, each as a document.
-    Write(ShapeId),
-    /// Its lines are calls of a serializer, to be made in a row.
-    Calls,
-    /// Its lines are events for an emitter, to be printed.
-    Emit,
     /// Its one line spells a YAML text, whose documents are to be handed out one at a time.
     HandOut,
     /// What its lines of events are read as, as this shape, is to be copied: any value, or a fault.
     Copy(ShapeId),
-    /// Its lines are shapes, to be made a schema.
-    MakeSchema,
     /// Something is asked of the layers below a whole reading.
     Layer(LayerTask),
+    /// Something is asked that needs no reader.
+    Writing(WritingTask),
 }
 
 /// How much memory there is for what is asked of a case.
-#[derive(Clone, Copy, PartialEq, Eq)]
+#[derive(Clone, Copy)]
 pub enum Room {
     /// As much as it takes.
     Ample,
@@ -66,37 +60,32 @@ pub fn is_case(line: &[u8]) -> bool {
     line.starts_with(b"@@ ")
 }
 
+// What is asked by a word with a number of a shape or the name of a type.
+fn with_argument(word: &str) -> Option<Task<'_>> {
+    let (kind, rest) = word.split_once(':')?;
+    match kind {
+        "shape" => Some(Task::Read(number(rest)?)),
+        "documents" => Some(Task::ReadInTurn(number(rest)?)),
+        "text" => Some(Task::ReadText(number(rest)?)),
+        "texts" => Some(Task::ReadTextInTurn(number(rest)?)),
+        "typed" => Some(Task::Typed(rest)),
+        "copy" => Some(Task::Copy(number(rest)?)),
+        _ => None,
+    }
+}
+
 // What is asked by a word.
 fn task_of(word: &str) -> Option<Task<'_>> {
-    match word {
-        "schema" => return Some(Task::MakeSchema),
-        "calls" => return Some(Task::Calls),
-        "emit" => return Some(Task::Emit),
-        "handed" => return Some(Task::HandOut),
-        _ => {}
+    if word == "handed" {
+        return Some(Task::HandOut);
     }
-    if let Some(id) = word.strip_prefix("copy:") {
-        return Some(Task::Copy(number(id)?));
+    if let Some(task) = WritingTask::parse(word) {
+        return Some(Task::Writing(task));
     }
     if let Some(task) = LayerTask::parse(word) {
         return Some(Task::Layer(task));
     }
-    if let Some(id) = word.strip_prefix("shape:") {
-        return Some(Task::Read(number(id)?));
-    }
-    if let Some(id) = word.strip_prefix("documents:") {
-        return Some(Task::ReadInTurn(number(id)?));
-    }
-    if let Some(id) = word.strip_prefix("text:") {
-        return Some(Task::ReadText(number(id)?));
-    }
-    if let Some(id) = word.strip_prefix("texts:") {
-        return Some(Task::ReadTextInTurn(number(id)?));
-    }
-    if let Some(name) = word.strip_prefix("typed:") {
-        return Some(Task::Typed(name));
-    }
-    Some(Task::Write(number(word.strip_prefix("write:")?)?))
+    with_argument(word)
 }
 
 /// The limits that two numbers give, with a comma between.

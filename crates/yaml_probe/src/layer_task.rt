@@ -1,10 +1,10 @@
 //! What a case asks of the layers below a whole reading.
 
-use crate::text::number;
+use probe_writing::number;
 use yaml_shape::ShapeId;
 
 /// What is asked of the layers below a whole reading.
-#[derive(Clone, Copy, PartialEq, Eq)]
+#[derive(Clone, Copy)]
 pub enum LayerTask {
     /// Its lines are events, to be read by the calls for this shape alone.
     Call(ShapeId),
@@ -18,24 +18,6 @@ pub enum LayerTask {
     Events,
     /// Its first line has steps of a cursor, to be done in the first document of the events behind it.
     Steps,
-    /// Its one line is data of the first shape, to be shown if it is of the second.
-    Fit(ShapeId, ShapeId),
-    /// What is expected of this shape is to be shown.
-    Expect(ShapeId),
-}
-
-// What is asked by a word with numbers of shapes.
-fn with_shapes(word: &str) -> Option<LayerTask> {
-    let (kind, rest) = word.split_once(':')?;
-    match kind {
-        "call" => Some(LayerTask::Call(number(rest)?)),
-        "expected" => Some(LayerTask::Expect(number(rest)?)),
-        "fits" => {
-            let (from, to) = rest.split_once(',')?;
-            Some(LayerTask::Fit(number(from)?, number(to)?))
-        }
-        _ => None,
-    }
 }
 
 impl LayerTask {
@@ -47,7 +29,7 @@ impl LayerTask {
             "loaded_text" => Some(LayerTask::LoadText),
             "events" => Some(LayerTask::Events),
             "cursor" => Some(LayerTask::Steps),
-            _ => with_shapes(word),
+            _ => Some(LayerTask::Call(number(word.strip_prefix("call:")?)?)),
         }
     }
 }

@@ -5,15 +5,11 @@
 mod answer;
 mod batch;
 mod case;
-mod data_text;
 mod layer_task;
 mod print;
 mod reply;
 mod run;
-mod shortage;
 mod status;
-mod table;
-mod text;
 
 use run::run;
 use std::process::ExitCode;

@@ -1,7 +1,7 @@
 //! How a run ended.
 
 /// How a run ended.
-#[derive(Clone, Copy, PartialEq, Eq, Debug)]
+#[derive(Clone, Copy)]
 pub enum Status {
     /// Each case was answered.
     Answered,

@@ -3,7 +3,7 @@
 use super::asked;
 use super::little::{answer, make};
 use crate::case::Case;
-use crate::shortage::Shortage;
+use probe_writing::Shortage;
 use std::alloc::{AllocError, Global};
 use yaml_run::{Status, Told};
 use yaml_shape::Schema;

@@ -2,10 +2,11 @@
 
 ghost use Rattle.std.specs.Prelude.{◌<◌, length};
 
+use super::layers::read_leaf;
 use super::refused;
 use super::text::spelled;
 use crate::case::Task;
-use crate::shortage::Shortage;
+use probe_writing::Shortage;
 use std::alloc::{AllocError, Global};
 use yaml_base::Result;
 use yaml_lines::{Input, InputFault};
@@ -13,44 +14,16 @@ use yaml_read::{Document, Loader};
 use yaml_run::{Told, told_of, told_of_bad_line};
 use yaml_shape::{Data, Schema, Shape, ShapeId};
 
-// What a document is read as under a shape of integers, if it is one.
-fn read_integer<'de>(
-    alloc: Global,
-    document: &Document<'de>,
-    shape: &Shape,
-) -> Option<Result<Data<'de>>> {
-    Some(match shape {
-        Shape::I8 => document.deserialize_i8(alloc),
-        Shape::I16 => document.deserialize_i16(alloc),
-        Shape::I32 => document.deserialize_i32(alloc),
-        Shape::I64 => document.deserialize_i64(alloc),
-        Shape::I128 => document.deserialize_i128(alloc),
-        Shape::Isize => document.deserialize_isize(alloc),
-        Shape::U8 => document.deserialize_u8(alloc),
-        Shape::U16 => document.deserialize_u16(alloc),
-        Shape::U32 => document.deserialize_u32(alloc),
-        Shape::U64 => document.deserialize_u64(alloc),
-        Shape::U128 => document.deserialize_u128(alloc),
-        Shape::Usize => document.deserialize_usize(alloc),
-        _ => return None,
-    })
-}
-
 // What a document is read as under a shape that has a call of its own which may take no memory.
 fn read_alone<'de>(
     alloc: Global,
     document: &Document<'de>,
     shape: &Shape,
 ) -> Option<Result<Data<'de>>> {
-    Some(match shape {
-        Shape::Bool => document.deserialize_bool(alloc),
-        Shape::Char => document.deserialize_char(alloc),
-        Shape::Unit => document.deserialize_unit(alloc),
-        Shape::Str => document.deserialize_str(alloc),
-        Shape::Identifier => document.deserialize_identifier(alloc),
-        Shape::IgnoredAny => document.deserialize_ignored_any(alloc),
-        _ => return read_integer(alloc, document, shape),
-    })
+    match shape {
+        Shape::Any | Shape::Bytes => None,
+        _ => read_leaf(alloc, document, shape, false),
+    }
 }
 
 // The same where not a byte can be had; no answer where there is still one, or the shape has no such call.

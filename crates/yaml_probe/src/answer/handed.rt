@@ -80,13 +80,15 @@ pub fn hand_out(alloc: Global, lines: &[u8]) -> Result<Told, AllocError> {
     let Some(text) = spelled(alloc, lines)? else {
         return refused(alloc, "bad text");
     };
-    let (ended, text) = match count(alloc, text.as_slice()) {
-        Ok(Some(count)) => (Status::Read, format!(in alloc; "{count}")?),
-        Ok(None) => (
-            Status::Fault,
-            String::from_str(alloc, "fault: not those that are loaded at once")?,
-        ),
-        Err(_) => return Err(AllocError),
-    };
-    Ok(Told { ended, text })
+    match count(alloc, text.as_slice()) {
+        Ok(Some(count)) => Ok(Told {
+            ended: Status::Read,
+            text: format!(in alloc; "{count}")?,
+        }),
+        Ok(None) => Ok(Told {
+            ended: Status::Fault,
+            text: String::from_str(alloc, "fault: not those that are loaded at once")?,
+        }),
+        Err(_) => Err(AllocError),
+    }
 }

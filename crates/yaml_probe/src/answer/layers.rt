@@ -3,15 +3,14 @@
 mod calls;
 mod doc_event;
 mod events;
-mod fit;
 mod loaded;
 mod steps;
 
 use super::refused;
 use crate::layer_task::LayerTask;
 use calls::read_by_calls;
+pub use calls::read_leaf;
 use events::show_events_of;
-use fit::{expected, fit};
 use loaded::{load_events, load_text};
 use std::alloc::{AllocError, Global};
 use steps::do_steps;
@@ -19,8 +18,8 @@ use yaml_lines::{Input, InputFault, LineFault};
 use yaml_run::{Status, Told};
 use yaml_shape::Schema;
 
-// What lines of events say.
-fn input(alloc: Global, lines: &[u8]) -> Result<Input, LineFault> {
+/// What lines of events say.
+pub fn input(alloc: Global, lines: &[u8]) -> Result<Input, LineFault> {
     match Input::parse(alloc, lines) {
         Ok(input) => Ok(input),
         Err(InputFault::BadLine(_)) => Err(LineFault::Bad),
@@ -58,8 +57,6 @@ fn told(alloc: Global, schema: &Schema, task: LayerTask, lines: &[u8]) -> Result
         LayerTask::LoadText => load_text(alloc, lines),
         LayerTask::Events => show_events_of(alloc, lines),
         LayerTask::Steps => do_steps(alloc, schema, lines),
-        LayerTask::Fit(from, to) => fit(alloc, schema, from, to, lines),
-        LayerTask::Expect(id) => expected(alloc, schema, id),
     }
 }
 

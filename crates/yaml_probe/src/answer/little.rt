@@ -1,19 +1,18 @@
 //! What is made of the lines of a case where there is memory, and what is then answered, for which there may be little.
 
 use super::copying::{Original, original_of, told_of_copy};
-use super::schemas::told_of_table;
+use super::layers::input;
 use super::text::{read_documents, spelled};
 use super::turns::read_input;
 use super::typed::read_as_type;
-use super::writing::{all_data, write_data};
-use super::{asked, refused};
+use super::{asked, refused, told_of_outcome};
 use crate::case::{Case, Task};
-use crate::table::{Table, shapes_of};
+use probe_writing::{Prepared, WritingTask, answer_prepared, prepare};
 use serde_yaml::{Limits, data_from_events};
 use std::alloc::{AllocError, Global};
-use yaml_lines::{Input, InputFault, LineFault};
+use yaml_lines::{Input, LineFault};
 use yaml_run::{Told, told_of};
-use yaml_shape::{Data, Schema, Shape, ShapeId};
+use yaml_shape::{Schema, ShapeId};
 
 /// What is made of the lines of a case.
 #[derive(Drop)]
@@ -22,38 +21,12 @@ pub enum Made {
     Events(Input),
     /// A text.
     Text(Vec<u8>),
-    /// Data to be written.
-    Data(Vec<Data<'static>>),
     /// What is to be copied.
     Original(Original),
-    /// Shapes to be made a schema.
-    Shapes(Vec<Shape>),
+    /// What is made for this task, which needs no reader.
+    Writing(WritingTask, Prepared),
     /// Nothing: all is made of them as they are answered.
     Nothing,
-}
-
-// The fault of a line where lines are no input.
-fn line_fault(fault: InputFault) -> LineFault {
-    match fault {
-        InputFault::BadLine(_) => LineFault::Bad,
-        InputFault::Memory => LineFault::Memory,
-    }
-}
-
-// The events of lines.
-fn events(alloc: Global, lines: &[u8]) -> Result<Input, LineFault> {
-    match Input::parse(alloc, lines) {
-        Ok(input) => Ok(input),
-        Err(fault) => Err(line_fault(fault)),
-    }
-}
-
-// The shapes of lines.
-fn shapes(alloc: Global, lines: &[u8]) -> Result<Made, LineFault> {
-    match shapes_of(alloc, lines) {
-        Ok(shapes) => Ok(Made::Shapes(shapes)),
-        Err(fault) => Err(line_fault(fault)),
-    }
 }
 
 // The text that a line spells.
@@ -75,7 +48,7 @@ fn read_original(
     if !schema.has(id) {
         return Err(LineFault::Bad);
     }
-    let input = events(alloc, lines)?;
+    let input = input(alloc, lines)?;
     Ok(Made::Original(original_of(alloc, schema, id, limits, input)))
 }
 
@@ -87,12 +60,11 @@ fn made_of(
     lines: &[u8],
 ) -> Result<Made, LineFault> {
     match case.task {
-        Task::Read(_) | Task::ReadInTurn(_) => Ok(Made::Events(events(alloc, lines)?)),
+        Task::Read(_) | Task::ReadInTurn(_) => Ok(Made::Events(input(alloc, lines)?)),
         Task::ReadText(_) | Task::ReadTextInTurn(_) | Task::Typed(_) => text(alloc, lines),
-        Task::Write(id) => Ok(Made::Data(all_data(alloc, schema, id, lines)?)),
         Task::Copy(id) => read_original(alloc, schema, id, case.limits, lines),
-        Task::MakeSchema => shapes(alloc, lines),
-        _ => Ok(Made::Nothing),
+        Task::Writing(task) => Ok(Made::Writing(task, prepare(alloc, schema, task, lines)?)),
+        Task::HandOut | Task::Layer(_) => Ok(Made::Nothing),
     }
 }
 
@@ -146,19 +118,6 @@ fn answer_text(
     }
 }
 
-// What data is written as.
-fn answer_data(
-    alloc: Global,
-    schema: &Schema,
-    case: &Case<'_>,
-    all: &[Data<'_>],
-) -> Result<Told, AllocError> {
-    match case.task {
-        Task::Write(id) => write_data(alloc, schema, id, all),
-        _ => refused(alloc, "bad shape"),
-    }
-}
-
 /// The answer to a case, of whose lines this was made.
 pub fn answer(
     alloc: Global,
@@ -170,9 +129,10 @@ pub fn answer(
     match made {
         Made::Events(input) => answer_events(alloc, schema, case, input),
         Made::Text(text) => answer_text(alloc, schema, case, text.as_slice()),
-        Made::Data(all) => answer_data(alloc, schema, case, all.as_slice()),
         Made::Original(original) => told_of_copy(alloc, &original),
-        Made::Shapes(shapes) => told_of_table(alloc, &Table::new(alloc, shapes)),
+        Made::Writing(task, prepared) => Ok(told_of_outcome(answer_prepared(
+            alloc, schema, task, lines, prepared,
+        )?)),
         Made::Nothing => asked(alloc, schema, case, lines),
     }
 }

@@ -40,41 +40,41 @@ fn printed_greeting(alloc: Global, text: &str) -> Result<String> {
 
 // The same of a type of std with this name; none where there is no such type.
 fn printed_as_standard(alloc: Global, name: &str, text: &str) -> Option<Result<String>> {
-    Some(match name {
-        "Signed" => printed::<Signed>(alloc, text),
-        "Unsigned" => printed::<Unsigned>(alloc, text),
-        "(bool,char,i8)" => printed::<(bool, char, i8)>(alloc, text),
-        "(u128,Box<i128>)" => printed::<(u128, Box<i128>)>(alloc, text),
-        "String" => printed::<String>(alloc, text),
-        "&str" => printed_lent(alloc, text),
-        "Box<str>" => printed::<BoxedStr>(alloc, text),
-        "Option<()>" => printed::<Option<()>>(alloc, text),
-        "Vec<Option<i64>>" => printed::<Vec<Option<i64>>>(alloc, text),
-        "[(i32,i32);2]" => printed::<[(i32, i32); 2]>(alloc, text),
-        "[u16;3]" => printed::<[u16; 3]>(alloc, text),
-        "[u8;0]" => printed::<[u8; 0]>(alloc, text),
-        "[u8;4096]" => printed::<[u8; 4096]>(alloc, text),
-        "BTreeMap<String,i64>" => printed::<BTreeMap<String, i64>>(alloc, text),
-        "BTreeSet<String>" => printed::<BTreeSet<String>>(alloc, text),
-        _ => return None,
-    })
+    match name {
+        "Signed" => Some(printed::<Signed>(alloc, text)),
+        "Unsigned" => Some(printed::<Unsigned>(alloc, text)),
+        "(bool,char,i8)" => Some(printed::<(bool, char, i8)>(alloc, text)),
+        "(u128,Box<i128>)" => Some(printed::<(u128, Box<i128>)>(alloc, text)),
+        "String" => Some(printed::<String>(alloc, text)),
+        "&str" => Some(printed_lent(alloc, text)),
+        "Box<str>" => Some(printed::<BoxedStr>(alloc, text)),
+        "Option<()>" => Some(printed::<Option<()>>(alloc, text)),
+        "Vec<Option<i64>>" => Some(printed::<Vec<Option<i64>>>(alloc, text)),
+        "[(i32,i32);2]" => Some(printed::<[(i32, i32); 2]>(alloc, text)),
+        "[u16;3]" => Some(printed::<[u16; 3]>(alloc, text)),
+        "[u8;0]" => Some(printed::<[u8; 0]>(alloc, text)),
+        "[u8;4096]" => Some(printed::<[u8; 4096]>(alloc, text)),
+        "BTreeMap<String,i64>" => Some(printed::<BTreeMap<String, i64>>(alloc, text)),
+        "BTreeSet<String>" => Some(printed::<BTreeSet<String>>(alloc, text)),
+        _ => None,
+    }
 }
 
 // The same of the type with this name.
 fn printed_as(alloc: Global, name: &str, text: &str) -> Option<Result<String>> {
-    Some(match name {
-        "Value" => printed::<Value>(alloc, text),
-        "Address" => printed::<Address>(alloc, text),
-        "Backup" => printed::<Backup>(alloc, text),
-        "Folder" => printed::<Folder>(alloc, text),
-        "Greeting" => printed_greeting(alloc, text),
-        "Listen" => printed::<Listen>(alloc, text),
-        "Ports" => printed::<Ports>(alloc, text),
-        "Server" => printed::<Server>(alloc, text),
-        "Timeouts" => printed::<Timeouts>(alloc, text),
-        "Workers" => printed::<Workers>(alloc, text),
-        _ => return printed_as_standard(alloc, name, text),
-    })
+    match name {
+        "Value" => Some(printed::<Value>(alloc, text)),
+        "Address" => Some(printed::<Address>(alloc, text)),
+        "Backup" => Some(printed::<Backup>(alloc, text)),
+        "Folder" => Some(printed::<Folder>(alloc, text)),
+        "Greeting" => Some(printed_greeting(alloc, text)),
+        "Listen" => Some(printed::<Listen>(alloc, text)),
+        "Ports" => Some(printed::<Ports>(alloc, text)),
+        "Server" => Some(printed::<Server>(alloc, text)),
+        "Timeouts" => Some(printed::<Timeouts>(alloc, text)),
+        "Workers" => Some(printed::<Workers>(alloc, text)),
+        _ => printed_as_standard(alloc, name, text),
+    }
 }
 
 // Whether a printed text reads back as what prints the same. The only fault is want of memory.

@@ -6,6 +6,7 @@ mod stream;
 use super::{agreed, input};
 use crate::answer::refused;
 use document::read_document;
+pub use document::read_leaf;
 use serde_yaml::Deserializer;
 use std::alloc::Global;
 use stream::read_stream;

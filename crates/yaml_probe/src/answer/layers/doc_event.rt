@@ -1,6 +1,6 @@
 //! Events of documents, in short.
 
-use crate::answer::events::escape;
+use probe_writing::escape;
 use std::alloc::AllocError;
 use std::str;
 use yaml_read::DocEvent;

@@ -5,7 +5,7 @@ use super::doc_event::push_event;
 use super::{input, said};
 use crate::answer::refused;
 use crate::case::limits_of;
-use crate::text::{number, until};
+use probe_writing::{number, until};
 use std::alloc::{AllocError, Global};
 use std::str;
 use yaml_base::{Mark, Result as Answer};

@@ -23,8 +23,9 @@ fn integer<'de>(alloc: Global, document: &Document<'de>, kind: IntegerType) -> R
     }
 }
 
-// The call for a shape without parts, if it is one.
-fn leaf<'de>(
+/// What a document is read as by the call for a shape without parts, if it is one. Of two calls for a shape the one is
+/// made that gives a text or bytes of their own, if `owned`.
+pub fn read_leaf<'de>(
     alloc: Global,
     document: &Document<'de>,
     shape: &Shape,
@@ -70,7 +71,7 @@ pub fn read_document<'de>(
         Some(Shape::Struct { .. }) => Some(document.deserialize_struct(alloc, schema, id)),
         Some(Shape::StrictStruct { .. }) => Some(document.deserialize_struct(alloc, schema, id)),
         Some(Shape::Enum { .. }) => Some(document.deserialize_enum(alloc, schema, id)),
-        Some(shape) => leaf(alloc, document, shape, owned),
+        Some(shape) => read_leaf(alloc, document, shape, owned),
         None => None,
     }
 }

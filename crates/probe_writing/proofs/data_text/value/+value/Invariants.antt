@@ -1,6 +1,6 @@
 -- Each value takes a nesting.
 use Rattle.std.proofs.Common.{◌+◌, ◌*◌}
-use Rattle.yaml_probe.proofs.data_text.value.+value.Given as goal
+use Rattle.probe_writing.proofs.data_text.value.+value.Given as goal
 
 abbrev pub decreases-value : goal.decreases-value
 decreases-value l = 2 * l.depth

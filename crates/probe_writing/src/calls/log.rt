@@ -1,10 +1,10 @@
 //! What is told of calls.
 
-use crate::answer::events::show_events;
+use crate::events::show_events;
+use crate::outcome::Outcome;
 use std::alloc::{AllocError, Global};
 use yaml_base::Error;
 use yaml_base::emitter::EmitEvent;
-use yaml_run::{Status, Told};
 use yaml_write::OpenKind;
 
 // The name of a kind of collection.
@@ -80,15 +80,11 @@ impl Log {
     }
 
     /// All that is told, and whether a call was refused.
-    pub fn into_told(self) -> Told {
-        let ended = if self.refused {
-            Status::Fault
+    pub fn into_outcome(self) -> Outcome {
+        if self.refused {
+            Outcome::Fault(self.text)
         } else {
-            Status::Read
-        };
-        Told {
-            ended,
-            text: self.text,
+            Outcome::Done(self.text)
         }
     }
 }

@@ -2,9 +2,9 @@
 
 ghost use Rattle.std.specs.Prelude.{◌<◌, length};
 
+use crate::outcome::Outcome;
 use crate::table::Table;
 use std::alloc::{AllocError, Global};
-use yaml_run::{Status, Told};
 use yaml_shape::{Schema, ShapeId};
 
 // Appends what data of a shape is expected to be, behind a line feed where something stands before.
@@ -39,24 +39,17 @@ fn all_expected(alloc: Global, schema: &Schema) -> Result<String, AllocError> {
 }
 
 /// What is told of a table: what data of each of its shapes is expected to be, or why it is no schema.
-pub fn told_of_table(alloc: Global, table: &Table) -> Result<Told, AllocError> {
+pub fn told_of_table(alloc: Global, table: &Table) -> Result<Outcome, AllocError> {
     match table {
-        Table::Schema(schema) => Ok(Told {
-            ended: Status::Read,
-            text: all_expected(alloc, schema)?,
-        }),
-        Table::BadLine(number) => Ok(Told {
-            ended: Status::Refused,
-            text: format!(in alloc; "schema: bad line {number}")?,
-        }),
-        Table::Refused(fault) => Ok(Told {
-            ended: Status::Fault,
-            text: format!(in alloc; "schema: {fault}")?,
-        }),
+        Table::Schema(schema) => Ok(Outcome::Done(all_expected(alloc, schema)?)),
+        Table::BadLine(number) => Ok(Outcome::Refused(format!(in alloc;
+            "schema: bad line {number}"
+        )?)),
+        Table::Refused(fault) => Ok(Outcome::Fault(format!(in alloc; "schema: {fault}")?)),
     }
 }
 
 /// What is told of the table that lines are.
-pub fn make_schema(alloc: Global, lines: &[u8]) -> Result<Told, AllocError> {
+pub fn make_schema(alloc: Global, lines: &[u8]) -> Result<Outcome, AllocError> {
     told_of_table(alloc, &Table::parse(alloc, lines)?)
 }

@@ -1,6 +1,6 @@
 -- Each line has a byte at least.
 use Rattle.std.proofs.Common.{◌+◌, ◌≤◌, length}
-use Rattle.yaml_probe.proofs.table.shapes_of.Given as goal
+use Rattle.probe_writing.proofs.table.shapes_of.Given as goal
 
 abbrev pub invariant-loop-rest : goal.invariant-loop-rest
 invariant-loop-rest l = l.number + length l.rest ≤ length l.text

@@ -2,13 +2,12 @@
 
 ghost use Rattle.std.specs.Prelude.{◌≡◌, []};
 
-use super::events::show_events;
-use super::refused;
 use crate::data_text::data;
+use crate::events::show_events;
+use crate::outcome::{Outcome, refused};
 use std::alloc::{AllocError, Global};
 use yaml_base::Result;
 use yaml_lines::{LineFault, first_line};
-use yaml_run::{Status, Told};
 use yaml_shape::{Data, Schema, ShapeId, Typed};
 use yaml_write::Serializer;
 
@@ -46,26 +45,36 @@ fn write_all(out: &mut Serializer, schema: &Schema, id: ShapeId, all: &[Data<'_>
     Ok(())
 }
 
+// Appends the events that were written.
+fn show_written(out: Serializer, text: &mut String) -> std::result::Result<(), AllocError>
+    requires { out.opened ≡ [] }
+{
+    match out.into_inner() {
+        Ok(events) => show_events(text, events.as_slice()),
+        Err(_) => Err(AllocError),
+    }
+}
+
 // The events that were written, behind why no more were, if they are not all.
 fn shown(
     alloc: Global,
     out: Serializer,
     written: Result<()>,
-) -> std::result::Result<Told, AllocError>
+) -> std::result::Result<Outcome, AllocError>
     requires { out.opened ≡ [] }
 {
-    let (ended, mut text) = match written {
-        Ok(()) => (Status::Read, String::new(alloc)),
-        Err(fault) => (
-            Status::Fault,
-            format!(in alloc; "fault: {fault}\n-- events by then:\n")?,
-        ),
-    };
-    match out.into_inner() {
-        Ok(events) => show_events(&mut text, events.as_slice())?,
-        Err(_) => return Err(AllocError),
+    match written {
+        Ok(()) => {
+            let mut text = String::new(alloc);
+            show_written(out, &mut text)?;
+            Ok(Outcome::Done(text))
+        }
+        Err(fault) => {
+            let mut text = format!(in alloc; "fault: {fault}\n-- events by then:\n")?;
+            show_written(out, &mut text)?;
+            Ok(Outcome::Fault(text))
+        }
     }
-    Ok(Told { ended, text })
 }
 
 /// What data is written as, each a document of its own.
@@ -74,7 +83,7 @@ pub fn write_data(
     schema: &Schema,
     id: ShapeId,
     all: &[Data<'_>],
-) -> std::result::Result<Told, AllocError> {
+) -> std::result::Result<Outcome, AllocError> {
     let Ok(mut out) = Serializer::new(alloc) else {
         return Err(AllocError);
     };
@@ -88,7 +97,7 @@ pub fn write(
     schema: &Schema,
     id: ShapeId,
     lines: &[u8],
-) -> std::result::Result<Told, AllocError> {
+) -> std::result::Result<Outcome, AllocError> {
     match all_data(alloc, schema, id, lines) {
         Ok(all) => write_data(alloc, schema, id, all.as_slice()),
         Err(LineFault::Bad) => refused(alloc, "bad data"),

@@ -1,12 +1,11 @@
 //! Events for an emitter as lines of text, and what is printed of them.
 
-use super::refused;
+use crate::outcome::{Outcome, refused};
 use crate::text::first_word;
 use std::alloc::{AllocError, Global};
 use std::str;
 use yaml_base::emitter::{AskedStyle, EmitEvent, EmitScalar, Mapping, Sequence};
 use yaml_lines::{LineFault, first_line, unescape};
-use yaml_run::{Status, Told, told_of};
 
 // The text that a text with escapes stands for.
 fn spelled(alloc: Global, text: &str) -> Result<String, LineFault> {
@@ -89,17 +88,14 @@ fn all_events(alloc: Global, lines: &[u8]) -> Result<Vec<EmitEvent>, LineFault> 
 }
 
 /// What an emitter prints of the events that lines say, as `write` writes them.
-pub fn emit(alloc: Global, lines: &[u8]) -> Result<Told, AllocError> {
+pub fn emit(alloc: Global, lines: &[u8]) -> Result<Outcome, AllocError> {
     let events = match all_events(alloc, lines) {
         Ok(events) => events,
         Err(LineFault::Bad) => return refused(alloc, "bad event"),
         Err(LineFault::Memory) => return Err(AllocError),
     };
     match yaml_emit::emit(alloc, events.as_slice()) {
-        Ok(text) => Ok(Told {
-            ended: Status::Read,
-            text,
-        }),
-        Err(fault) => told_of(alloc, Err(fault)),
+        Ok(text) => Ok(Outcome::Done(text)),
+        Err(fault) => Ok(Outcome::Fault(format!(in alloc; "fault: {fault}")?)),
     }
 }

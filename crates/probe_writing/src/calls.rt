@@ -5,7 +5,7 @@ mod log;
 mod make;
 mod parse;
 
-use super::refused;
+use crate::outcome::{Outcome, refused};
 use log::Log;
 use make::make;
 use parse::parse;
@@ -13,7 +13,6 @@ use std::alloc::{AllocError, Global};
 use std::str;
 use yaml_base::{Cause, Error};
 use yaml_lines::LineFault;
-use yaml_run::{Status, Told};
 use yaml_shape::Schema;
 use yaml_write::Serializer;
 
@@ -62,20 +61,17 @@ fn refused_call(
     alloc: Global,
     number: usize,
     fault: Option<LineFault>,
-) -> Result<Told, AllocError> {
+) -> Result<Outcome, AllocError> {
     let text = match fault {
         None => format!(in alloc; "call {number} may not be made now")?,
         Some(LineFault::Bad) => format!(in alloc; "bad call {number}")?,
         Some(LineFault::Memory) => return Err(AllocError),
     };
-    Ok(Told {
-        ended: Status::Refused,
-        text,
-    })
+    Ok(Outcome::Refused(text))
 }
 
 // What calls leave that are made in a row, one a line.
-fn told_of_calls(alloc: Global, schema: &Schema, lines: &str) -> Result<Told, AllocError> {
+fn told_of_calls(alloc: Global, schema: &Schema, lines: &str) -> Result<Outcome, AllocError> {
     let Ok(mut out) = Serializer::new(alloc) else {
         return Err(AllocError);
     };
@@ -90,12 +86,12 @@ fn told_of_calls(alloc: Global, schema: &Schema, lines: &str) -> Result<Told, Al
         }
     }
     tell_end(out, &mut log)?;
-    Ok(log.into_told())
+    Ok(log.into_outcome())
 }
 
 /// What calls leave that are made in a row, one a line: the events, and among them why a call was refused, and what was
 /// open where a line asks for it.
-pub fn make_calls(alloc: Global, schema: &Schema, lines: &[u8]) -> Result<Told, AllocError> {
+pub fn make_calls(alloc: Global, schema: &Schema, lines: &[u8]) -> Result<Outcome, AllocError> {
     match str::from_utf8(lines) {
         Ok(lines) => told_of_calls(alloc, schema, lines),
         Err(_) => refused(alloc, "bad calls"),

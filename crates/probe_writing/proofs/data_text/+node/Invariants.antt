@@ -1,6 +1,6 @@
 -- Each node takes a nesting.
 use Rattle.std.proofs.Common.{◌+◌, ◌*◌}
-use Rattle.yaml_probe.proofs.data_text.+node.Given as goal
+use Rattle.probe_writing.proofs.data_text.+node.Given as goal
 
 abbrev pub decreases-node : goal.decreases-node
 decreases-node l = 3 * l.depth
