@@ -133,7 +133,7 @@ impl Serializer {
     /// written as a string.
     pub fn serialize_number(&mut self, tag: Option<&str>, text: &str) -> Result<()>
         ensures { WritesOrStays (with_node self.old)
-            (Ok (number_node (option_map (λ name. local_tag name.now) tag) text.now))
+            (Ok (number_node (option_map (λ name. local_tag name.now) tag.entry) text.now))
             self.old self.new result }
     {
         let tag = match tag {
