@@ -12,7 +12,7 @@ function function_at(file, part, line, name, found, given, own) {
     own = 0
     while ((getline line < file) > 0) {
         if (line ~ /^ *#\[cycle\(/) given = 1
-        if (match(line, /^ *(pub(\([a-z]+\))? )?(const )?fn [a-z_0-9]+/)) {
+        if (match(line, /^ *(pub(\([a-z]+\))? )?(const )?fn [A-Za-z_0-9]+/)) {
             name = substr(line, RSTART, RLENGTH)
             sub(/.* /, "", name)
             own = given

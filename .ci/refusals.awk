@@ -11,7 +11,7 @@ function lies_in(name, file, place, line, number, inside, above, at, found) {
     while ((getline line < file) > 0) {
         number++
         if (line ~ /^ *#\[/ && number <= place) above = number
-        if (match(line, /^ *(pub(\([a-z]+\))? )?(const )?fn [a-z_0-9]+/)) {
+        if (match(line, /^ *(pub(\([a-z]+\))? )?(const )?fn [A-Za-z_0-9]+/)) {
             at = substr(line, RSTART, RLENGTH)
             sub(/.* /, "", at)
             inside = at == name
@@ -35,7 +35,7 @@ function is_in_cycle(name, file, cycle, line, at, given, found) {
             sub(/^ *#\[cycle\(/, "", given)
             sub(/\).*/, "", given)
         }
-        if (match(line, /^ *(pub(\([a-z]+\))? )?(const )?fn [a-z_0-9]+/)) {
+        if (match(line, /^ *(pub(\([a-z]+\))? )?(const )?fn [A-Za-z_0-9]+/)) {
             at = substr(line, RSTART, RLENGTH)
             sub(/.* /, "", at)
             if (at == name && given == cycle) found = 1
