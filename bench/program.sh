@@ -2,6 +2,7 @@
 # `over CRATE NAME` makes the room a place of copies of the crate and of those that it stands on, with a crate NAME
 # beside them, whose src/main.rt is what stands on standard input; and `make_program NAME ARGUMENT..` proves and builds
 # it, by `rt`, as $room/crates/NAME/out/NAME. That takes some minutes, and much longer where the crates are not proved.
+# Where PROGRAM names a program that an earlier run built, it is taken instead, and KEEP names a file for this run's.
 
 over() {
     local crate crates
@@ -21,5 +22,11 @@ over() {
 make_program() {
     local name=$1
     shift
-    (cd "$room/crates/$name" && rt run -- "$@") > "$room/log" 2>&1 || { tail -n 3 "$room/log"; exit 1; }
+    if [ -n "${PROGRAM-}" ]; then
+        mkdir -p "$room/crates/$name/out"
+        cp "$PROGRAM" "$room/crates/$name/out/$name"
+        return
+    fi
+    (cd "$room/crates/$name" && rt run -- "$@" < /dev/null) > "$room/log" 2>&1 || { tail -n 3 "$room/log"; exit 1; }
+    [ -z "${KEEP-}" ] || cp "$room/crates/$name/out/$name" "$KEEP"
 }

@@ -15,13 +15,12 @@ trap 'rm -rf "$room"' EXIT
 
 . "$root/bench/program.sh"
 over yaml_documents stack_probe <<'END'
-//! Reads nested text under a shape that holds itself: the arguments are the shape, what opens and what closes a nesting,
-//! and how many there are.
+//! Reads the text of standard input under a shape that holds itself, which the argument names.
 #![tactic(auto)]
 
 use std::alloc::Global;
 use std::env;
-use std::io;
+use std::io::{self, Read};
 use yaml_documents::load;
 use yaml_shape::{Schema, Shape, ShapeId, VariantShape};
 
@@ -90,17 +89,6 @@ fn shapes(alloc: Global, kind: &str) -> Option<Vec<Shape>> {
     Some(shapes)
 }
 
-fn nested(alloc: Global, opening: &str, closing: &str, depth: usize) -> Option<String> {
-    let mut text = String::new(alloc);
-    for _ in 0..depth {
-        text.push_str(opening).ok()?;
-    }
-    for _ in 0..depth {
-        text.push_str(closing).ok()?;
-    }
-    Some(text)
-}
-
 fn read(alloc: Global, kind: &str, text: &str) -> Option<bool> {
     let Ok(schema) = Schema::new(alloc, shapes(alloc, kind)?) else {
         return None;
@@ -115,15 +103,11 @@ fn read(alloc: Global, kind: &str, text: &str) -> Option<bool> {
 
 fn main(rt: HostRuntime) -> io::Result<()> {
     let arguments: Vec<String> = env::args(&rt)?.skip(1).collect(rt.alloc())?;
-    let [kind, opening, closing, depth] = arguments.as_slice() else {
+    let [kind] = arguments.as_slice() else {
         return Ok(());
     };
-    let Ok(depth) = depth.as_str().parse::<usize>() else {
-        return Ok(());
-    };
-    let Some(text) = nested(rt.alloc(), opening.as_str(), closing.as_str(), depth) else {
-        return Ok(());
-    };
+    let mut text = String::new(rt.alloc());
+    rt.stdin().read_to_string(&mut text)?;
     match read(rt.alloc(), kind.as_str(), text.as_str()) {
         Some(read) => println!(rt; "{read}"),
         None => println!(rt; "none"),
@@ -131,15 +115,45 @@ fn main(rt: HostRuntime) -> io::Result<()> {
 }
 END
 
-make_program stack_probe sequence '[' ']' 1
+make_program stack_probe any
 cd "$room/crates/stack_probe"
+nestings=${1:-128}
 
-# Prints the least limit under which the text of so many openings and closings, $2 and $3, is read under the shape $1.
+# Prints so many openings and closings.
+nested() {
+    awk -v opening="$1" -v closing="$2" -v depth="$3" 'BEGIN {
+        for (i = 0; i < depth; i++) printf "%s", opening
+        for (i = 0; i < depth; i++) printf "%s", closing
+        print ""
+    }'
+}
+
+# Prints a collection behind a tag, which may be missing, of such that stand one within another by aliases: each holds
+# the one before between an opening and a closing, and the first holds nothing.
+chain() {
+    awk -v tag="$1" -v opening="$2" -v closing="$3" -v depth="$((nestings - 1))" 'BEGIN {
+        print "--- " tag
+        part = opening
+        sub(/a: $/, "", part)
+        for (i = 0; i < depth; i++) {
+            print (closing == "]" ? "- " : "k" i ": ") "&a" i " " part closing
+            part = opening "*a" i " "
+        }
+    }'
+}
+
+# Prints the least limit under which the program ends that reads the text of standard input under the shape $1. Where $2
+# is there, the program has to print it.
 least() {
     local low=16 high=4096 middle
+    cat > "$room/text"
+    if [ $# = 2 ] && [ "$(out/stack_probe "$1" < "$room/text")" != "$2" ]; then
+        echo "stack: not read as $1: $(head -c 100 "$room/text")" >&2
+        return
+    fi
     while [ $((high - low)) -gt 1 ]; do
         middle=$(((low + high) / 2))
-        if { (ulimit -s "$middle" && out/stack_probe "$1" "$2" "$3" "$4"); } > /dev/null 2>&1; then
+        if { (ulimit -s "$middle" && out/stack_probe "$1" < "$room/text"); } > /dev/null 2>&1; then
             high=$middle
         else
             low=$middle
@@ -149,17 +163,22 @@ least() {
 }
 
 # Prints the row of a shape, with its text in sequences and in mappings, of which one may be missing.
-nestings=${1:-128}
 row() {
     local lists= maps=
-    [ -z "$3" ] || lists=$(least "$2" "$3" ']' "$nestings")
-    [ -z "$4" ] || maps=$(least "$2" "$4" '}' "$nestings")
+    [ -z "$3" ] || lists=$(nested "$3" ']' "$nestings" | least "$2")
+    [ -z "$4" ] || maps=$(nested "$4" '}' "$nestings" | least "$2")
     echo "| $1 | $lists | $maps |"
 }
 
 # The same where each turn has two nestings, a mapping and a list in it.
 row_of_two() {
-    echo "| $1 | | $(least "$2" "$3" ']}' "$(((nestings + 1) / 2))") |"
+    echo "| $1 | | $(nested "$3" ']}' "$(((nestings + 1) / 2))" | least "$2") |"
+}
+
+# The same where each collection is an alias in the next one: $4 and $6 are what opens them, $3 and $5 their shapes, and
+# $2 is the tag around.
+row_of_aliases() {
+    echo "| $1 | $(chain "$2" "$4" ']' | least "$3" true) | $(chain "$2" "$6" '}' | least "$5" true) |"
 }
 
 row 'any value' any '[' '{a: '
@@ -182,3 +201,8 @@ row_of_two 'a variant with a list of itself in a field' list_in_field '!v {a: ['
 row 'a variant with an optional of itself in a field' optional_in_field '' '!v {a: '
 row 'a variant around a struct with an optional of itself' around_struct '' '!v {a: '
 row 'a variant around an optional of a struct with an optional of itself' around_optional_struct '' '!v {a: '
+row_of_aliases 'any value, each an alias in the next' '' any '[' any '{a: '
+row_of_aliases 'any value, each an alias with a tag in the next' '!t' any '!t [' any '!t {a: '
+row_of_aliases 'a sequence, or a mapping, of itself, each an alias in the next' '' sequence '[' mapping '{a: '
+row_of_aliases 'a variant around a list, or a mapping, of itself, each an alias in the next' '!v' \
+    around_list '!v [' around_mapping '!v {a: '

@@ -142,6 +142,10 @@ class Texts:
         if name == "Scalar":
             return self.pick(self.of("bool", depth), self.of("i64", depth), self.word(), self.of("Vec<u8>", depth),
                              self.entries([(("left",), to("u8")), (("right",), to("u8"))], depth))
+        if name == "Vec<Scalar>":
+            return self.list([to("Scalar")] * self.random.randint(0, 6), depth)
+        if name == "BTreeMap<String,Scalar>":
+            return self.entries([(("a", "b", "1", "~", "'x'"), to("Scalar"))] * self.random.randint(0, 3), depth)
         if name == "Nest":
             return "[%s]" % ", ".join(self.of("Nest", depth + 1) for _ in range(self.random.randint(0, 3 - min(depth, 3))))
         if name == "Passed":
@@ -163,7 +167,7 @@ class Texts:
 
 NAMES = """bool i8 u8 i64 u64 i128 u128 char () String &str CowStr Option<u8> Vec<u8> (u8,bool) BTreeMap<String,u8>
 Service Service/slice Service/events Person Person/documents Note Setting Window Mark Figure Vec<Figure> Command Step
-Scalar Nest Passed Metres Nothing Pair Ends<i8> Ends<Option<Pair>> Percent""".split()
+Scalar Vec<Scalar> BTreeMap<String,Scalar> Nest Passed Metres Nothing Pair Ends<i8> Ends<Option<Pair>> Percent""".split()
 WEIGHED = NAMES + "Service Setting Mark Figure Vec<Figure> Command Step Scalar".split() * 3
 
 
@@ -221,7 +225,7 @@ EXPECTED = [
     (r"duplicate field `(enabled|is-on)`", "duplicate field `on`"),
 ]
 # What is copied first by the original: such a fault says how the copy read, and other faults may come before it.
-COPIED = {"Mark", "Command", "Step", "Scalar"}
+COPIED = {"Mark", "Command", "Step", "Scalar", "Vec<Scalar>", "BTreeMap<String,Scalar>"}
 
 
 def plain(answer):

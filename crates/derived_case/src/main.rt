@@ -3,6 +3,7 @@
 #![tactic(auto)]
 
 mod answer;
+mod budget;
 mod callers;
 mod named;
 mod readme;

@@ -73,6 +73,8 @@ pub fn answer_as(alloc: Global, name: &str, text: &str) -> Result<String, Error>
         "Command" => answer::<Command>(alloc, text),
         "Step" => answer::<Step>(alloc, text),
         "Scalar" => answer::<Scalar>(alloc, text),
+        "Vec<Scalar>" => answer::<Vec<Scalar>>(alloc, text),
+        "BTreeMap<String,Scalar>" => answer::<BTreeMap<String, Scalar>>(alloc, text),
         "Nest" => answer::<Nest>(alloc, text),
         "Passed" => answer::<Passed>(alloc, text),
         "Metres" => answer::<Metres>(alloc, text),

@@ -118,6 +118,8 @@ fn answer_as(name: &str, text: &str) -> Answer {
         "Command" => answer::<Command>(text),
         "Step" => answer::<Step>(text),
         "Scalar" => answer::<Scalar>(text),
+        "Vec<Scalar>" => answer::<Vec<Scalar>>(text),
+        "BTreeMap<String,Scalar>" => answer::<BTreeMap<String, Scalar>>(text),
         "Nest" => answer::<Nest>(text),
         "Passed" => answer::<Passed>(text),
         "Metres" => answer::<Metres>(text),
