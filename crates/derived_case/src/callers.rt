@@ -1,7 +1,7 @@
 //! Types with derives, read from YAML text and written as it: the callers that `yaml/CALLING.md` quotes.
 
 use serde::{Deserialize, Serialize};
-use std::alloc::Global;
+use std::alloc::{AllocError, Global};
 use yaml::{DocumentStream, Documents, Error};
 
 /// How a service is reached.
@@ -36,6 +36,15 @@ pub fn read_service(alloc: Global, text: &str) -> Result<Service, Error> {
 /// A service as YAML text.
 pub fn write_service(alloc: Global, service: &Service) -> Result<String, Error> {
     yaml::to_string(alloc, service)
+}
+
+/// A fault of a file's text, as `FILE:LINE:COLUMN: FAULT` where its place is known.
+pub fn placed(alloc: Global, file: &str, fault: &Error) -> Result<String, AllocError> {
+    let Some(place) = fault.location() else {
+        return format!(in alloc; "{file}: {fault}");
+    };
+    let (line, column) = (place.line(), place.column());
+    format!(in alloc; "{file}:{line}:{column}: {fault}")
 }
 
 /// Someone, by a name that is lent from the text.

@@ -5,6 +5,7 @@
 mod answer;
 mod budget;
 mod callers;
+mod json;
 mod named;
 mod readme;
 mod row;

@@ -4,8 +4,9 @@ use crate::answer::{
     answer, answer_of_documents, answer_of_events, answer_of_slice, answer_of_stream, bytes_of,
 };
 use crate::callers::{
-    Person, Service, all_jobs, count_services, longest_name, read_service, write_service,
+    Person, Service, all_jobs, count_services, longest_name, placed, read_service, write_service,
 };
+use crate::json::{Job, to_json};
 use crate::readme::renamed;
 use derived_types::enums::{Command, Figure, Scalar, Step};
 use derived_types::floats::Weather;
@@ -44,6 +45,14 @@ fn answer_as_standard(alloc: Global, name: &str, text: &str) -> Result<String, E
     }
 }
 
+// A service that is written again, or its fault with the place in front.
+fn answer_with_place(alloc: Global, text: &str) -> Result<String, Error> {
+    match read_service(alloc, text) {
+        Ok(service) => write_service(alloc, &service),
+        Err(fault) => Ok(placed(alloc, "web.yaml", &fault)?),
+    }
+}
+
 // What the functions of this name answer.
 fn answer_by_function(alloc: Global, name: &str, text: &str) -> Result<String, Error> {
     match name {
@@ -51,6 +60,8 @@ fn answer_by_function(alloc: Global, name: &str, text: &str) -> Result<String, E
         "longest_name" => Ok(String::from_str(alloc, longest_name(alloc, text)?)?),
         "all_jobs" => to_string(alloc, &all_jobs(alloc, text)?),
         "count_services" => to_string(alloc, &count_services(alloc, text)?),
+        "placed" => answer_with_place(alloc, text),
+        "to_json" => to_json(alloc, text),
         "renamed" => renamed(alloc, text),
         _ => answer_as_standard(alloc, name, text),
     }
@@ -65,6 +76,7 @@ pub fn answer_as(alloc: Global, name: &str, text: &str) -> Result<String, Error>
         "Person" => answer::<Person<'_>>(alloc, text),
         "Person/documents" => answer_of_documents::<Person<'_>>(alloc, text),
         "Note" => answer::<Note<'_>>(alloc, text),
+        "Job" => answer::<Job>(alloc, text),
         "Setting" => answer::<Setting>(alloc, text),
         "Window" => answer::<Window>(alloc, text),
         "Mark" => answer::<Mark>(alloc, text),
