@@ -2,7 +2,7 @@
 //! or ask something of shapes, and memory that is used up. It stands apart, so that it is proved beside the reader.
 #![tactic(auto)]
 
-mod answer;
+mod answers;
 mod calls;
 mod data_text;
 mod emitting;
@@ -16,7 +16,7 @@ mod task;
 mod text;
 mod writing;
 
-pub use answer::{Prepared, answer, answer_prepared, prepare};
+pub use answers::{Prepared, answer, answer_prepared, prepare};
 pub use events::escape;
 pub use outcome::Outcome;
 pub use schemas::told_of_table;
