@@ -32,6 +32,15 @@ compare() {
     fi
 }
 
+# A list of so many sevens, as it prints.
+sevens() {
+    awk -v count="$1" 'BEGIN {
+        printf "[7"
+        for (i = 1; i < count; i++) printf ", 7"
+        print "]"
+    }'
+}
+
 # The runs of runs.txt. Where the arguments are refused, all of the input has to be left.
 LC_ALL=C awk -v FOLDER="$work" -f "$root/../../.ci/runs.awk" "$root/runs.txt" || exit 1
 number=1
@@ -75,6 +84,17 @@ if [ -w /dev/full ]; then
     compare "full standard output" $? 2 ""
 fi
 
+# An input of twenty million bytes: a hundred thousand lines of 200.
+awk 'BEGIN {
+    tag = sprintf("%183s", "")
+    gsub(/ /, "x", tag)
+    print "0:0:0 +STR\n0:0:0 +DOC\n0:0:0 +SEQ"
+    for (i = 0; i < 100000; i++) print "0:0:0 =VAL <" tag "> :7"
+    print "0:0:0 -SEQ\n0:0:0 -DOC\n0:0:0 -STR"
+}' > "$work/long"
+"$program" list < "$work/long" > "$work/out" 2> "$work/err"
+compare "an input of twenty million bytes" $? 0 "$(sevens 100000)$line_feed"
+
 # Memory that runs out: while the input is read; at the least limit under which the program starts, while the arguments
 # are gathered; and with a little more each time from there on, wherever that is, until a run is answered.
 if command -v prlimit > /dev/null; then
@@ -106,11 +126,7 @@ if command -v prlimit > /dev/null; then
         fi
         limit=$((limit + 40000))
     done
-    compare "enough memory" "$status" 0 "$(awk 'BEGIN {
-        printf "[7"
-        for (i = 1; i < 5000; i++) printf ", 7"
-        print "]"
-    }')$line_feed"
+    compare "enough memory" "$status" 0 "$(sevens 5000)$line_feed"
     if [ "$refused" -lt 10 ]; then
         echo "program: of the runs with little memory, only $refused were refused"
         failed=1

@@ -1,8 +1,7 @@
 //! Texts that are lent from the source.
 
 use serde_yaml::{Limits, data_from_str};
-use std::alloc::Global;
-use std::test::Fail;
+use std::process::Abort;
 use yaml_shape::{Data, Schema, Shape, ShapeId, Text};
 
 // The text of data, if that is one.
@@ -14,13 +13,15 @@ fn text_in<'de>(content: Data<'de>) -> Option<Text<'de>> {
 }
 
 // The text that a source is; the reader and the schema are gone when it is answered.
-fn text_of<'de>(alloc: Global, source: &'de str) -> Result<Option<Text<'de>>, Fail> {
-    let schema = Schema::new(alloc, vec![in alloc; Shape::Str]?)?;
+fn text_of<'de>(rt: &(impl Abort + AllocGlobal), source: &'de str) -> Option<Text<'de>> {
+    let shapes = vec![in rt.alloc(); Shape::Str].expect(rt, "memory");
+    let schema = Schema::new(rt.alloc(), shapes).expect(rt, "a schema");
     let id = ShapeId(0);
     if !schema.has(id) {
-        return Ok(None);
+        return None;
     }
-    Ok(text_in(data_from_str(alloc, source, &schema, id, Limits::DEFAULT)?))
+    let found = data_from_str(rt.alloc(), source, &schema, id, Limits::DEFAULT);
+    text_in(found.expect(rt, "data"))
 }
 
 // Whether a text is lent, and is this one and no other.
@@ -36,15 +37,13 @@ fn is(found: &Option<Text<'_>>, lent: bool, text: &str) -> bool {
 }
 
 #[test]
-fn lends_a_text_where_the_source_shows_it(rt: HostRuntime) -> Result<(), Fail> {
+fn lends_a_text_where_the_source_shows_it(rt: HostRuntime) {
     for &(source, lent, text) in &[
         ("'it'", true, "it"),
         ("'it''s'", false, "it's"),
         ("a", true, "a"),
         ("|-\n  a", false, "a"),
     ] {
-        let found = text_of(rt.alloc(), source)?;
-        assert!(rt; is(&found, lent, text), "{source}");
+        assert!(rt; is(&text_of(&rt, source), lent, text), "{source}");
     }
-    Ok(())
 }

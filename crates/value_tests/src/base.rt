@@ -1,6 +1,6 @@
 //! Tests of what events and faults are made of.
-mod bytes;
 mod causes;
 mod marks;
+mod names;
 mod parser;
 mod places;

@@ -4,4 +4,6 @@
 #[cfg(test)]
 mod base;
 #[cfg(test)]
+mod texts;
+#[cfg(test)]
 mod tree;

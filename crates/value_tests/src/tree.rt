@@ -1,6 +1,5 @@
 //! Tests of values.
+mod asked;
 mod collections;
 mod faults;
-mod parts;
 mod plain;
-mod values;

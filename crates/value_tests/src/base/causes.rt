@@ -1,33 +1,11 @@
-//! Faults without parts.
+//! Faults that no row of `yaml_probe` copies: those of writing and of memory, and those that are never made yet.
 
-use std::alloc::Global;
-use std::error;
-use std::test::Fail;
+use crate::texts::says;
+use std::process::Abort;
 use yaml_base::{Cause, Error};
 
-// The causes that have no parts, by their numbers.
-fn cause(number: usize) -> Cause {
-    match number {
-        0 => Cause::EndOfStream,
-        1 => Cause::MoreThanOneDocument,
-        2 => Cause::RepetitionLimitExceeded,
-        3 => Cause::BytesUnsupported,
-        4 => Cause::SerializeNestedEnum,
-        5 => Cause::ScalarInMerge,
-        6 => Cause::TaggedInMerge,
-        7 => Cause::ScalarInMergeElement,
-        8 => Cause::SequenceInMergeElement,
-        9 => Cause::EmptyTag,
-        10 => Cause::FailedToParseNumber,
-        _ => Cause::Memory,
-    }
-}
-
+// What the causes say that have no parts, by their numbers.
 const TEXTS: &[&str] = &[
-    "EOF while parsing a value",
-    "deserializing from YAML containing more than one document is not supported",
-    "repetition limit exceeded",
-    "serialization and deserialization of bytes in YAML is not implemented",
     "serializing nested enums in YAML is not supported yet",
     "expected a mapping or list of mappings for merging, but found scalar",
     "unexpected tagged value in merge",
@@ -38,22 +16,29 @@ const TEXTS: &[&str] = &[
     "out of memory",
 ];
 
-// What a fault says, as any error is asked.
-fn said(alloc: Global, fault: &impl error::Error) -> Result<String, Fail> {
-    Ok(fault.to_string(alloc)?)
+// The cause with this number.
+fn cause(number: usize) -> Cause {
+    match number {
+        0 => Cause::SerializeNestedEnum,
+        1 => Cause::ScalarInMerge,
+        2 => Cause::TaggedInMerge,
+        3 => Cause::ScalarInMergeElement,
+        4 => Cause::SequenceInMergeElement,
+        5 => Cause::EmptyTag,
+        6 => Cause::FailedToParseNumber,
+        _ => Cause::Memory,
+    }
 }
 
-// What the copy of a fault says.
-fn said_again(alloc: Global, fault: &Error) -> Result<String, Fail> {
-    said(alloc, &fault.copy(alloc)?)
+// Asserts what a fault and its copy say.
+fn say(rt: &(impl Abort + AllocGlobal), fault: Error, wanted: &str) {
+    says(rt, &fault, wanted);
+    says(rt, &fault.copy(rt.alloc()).expect(rt, "memory"), wanted);
 }
 
 #[test]
-fn faults_and_their_copies_say_what_is_wrong(rt: HostRuntime) -> Result<(), Fail> {
+fn faults_and_their_copies_say_what_is_wrong(rt: HostRuntime) {
     for (number, wanted) in TEXTS.iter().enumerate() {
-        let fault = Error::new(cause(number));
-        assert_eq!(rt; said(rt.alloc(), &fault)?.as_str(), *wanted);
-        assert_eq!(rt; said_again(rt.alloc(), &fault)?.as_str(), *wanted);
+        say(&rt, Error::new(cause(number)), wanted);
     }
-    Ok(())
 }

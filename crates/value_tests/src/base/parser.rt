@@ -1,12 +1,12 @@
 //! Faults of the parser.
 
-use std::alloc::{AllocError, Global};
-use std::test::Fail;
+use crate::texts::{owned, shows};
+use std::process::Abort;
 use yaml_base::{Error, FaultKind, Mark, ParserFault};
 
-// A kind, an offset, the line of a mark, the column of the context's mark, if there is a context, what such a fault
-// says, and what it shows in debug behind its kind and its problem.
-type Row = (FaultKind, u64, u64, Option<u64>, &'static str, &'static str);
+// A kind, an offset, the line of a mark, the column of the context's mark, if there is a context, and what a copy of such
+// a fault shows in debug.
+type Row = (FaultKind, u64, u64, Option<u64>, &'static str);
 
 const ROWS: &[Row] = &[
     (
@@ -14,7 +14,6 @@ const ROWS: &[Row] = &[
         0,
         0,
         None,
-        "no",
         "Error { kind: MEMORY, problem: \"no\" }",
     ),
     (
@@ -22,7 +21,6 @@ const ROWS: &[Row] = &[
         10,
         0,
         None,
-        "no at position 10",
         "Error { kind: READER, problem: \"no\", problem_offset: 10 }",
     ),
     (
@@ -30,7 +28,6 @@ const ROWS: &[Row] = &[
         10,
         1,
         Some(2),
-        "no at line 2 column 1, in it at line 1 column 3",
         "Error { kind: SCANNER, problem: \"no\", problem_mark: Mark { line: 2, column: 1 }, context: \"in it\", \
             context_mark: Mark { line: 1, column: 3 } }",
     ),
@@ -39,7 +36,6 @@ const ROWS: &[Row] = &[
         10,
         1,
         Some(0),
-        "no at line 2 column 1, in it",
         "Error { kind: PARSER, problem: \"no\", problem_mark: Mark { line: 2, column: 1 }, context: \"in it\" }",
     ),
     (
@@ -47,7 +43,6 @@ const ROWS: &[Row] = &[
         0,
         0,
         None,
-        "no",
         "Error { kind: COMPOSER, problem: \"no\" }",
     ),
     (
@@ -55,7 +50,6 @@ const ROWS: &[Row] = &[
         0,
         0,
         None,
-        "no",
         "Error { kind: WRITER, problem: \"no\" }",
     ),
     (
@@ -63,66 +57,38 @@ const ROWS: &[Row] = &[
         0,
         0,
         None,
-        "no",
         "Error { kind: EMITTER, problem: \"no\" }",
     ),
-    (
-        FaultKind::Other,
-        0,
-        0,
-        None,
-        "no",
-        "Error { problem: \"no\" }",
-    ),
+    (FaultKind::Other, 0, 0, None, "Error { problem: \"no\" }"),
 ];
 
-// The mark of a line and a column, whose index is the column.
-fn mark(line: u64, column: u64) -> Result<Mark, Fail> {
-    Ok(Mark::new(column, line, column).ok_or("no mark")?)
-}
-
 // The fault of a row.
-fn fault(alloc: Global, row: &Row) -> Result<ParserFault, Fail> {
+fn fault(rt: &(impl Abort + AllocGlobal), row: &Row) -> ParserFault {
     let context = match row.3 {
-        Some(_) => Some(String::from_str(alloc, "in it")?),
+        Some(_) => Some(owned(rt, "in it")),
         None => None,
     };
-    Ok(ParserFault::new(
-        row.0,
-        String::from_str(alloc, "no")?,
-        row.1,
-        mark(row.2, 0)?,
-        context,
-        mark(0, row.3.unwrap_or(0))?,
-    ))
+    let mark = Mark::new(0, row.2, 0).expect(rt, "a mark");
+    let context_mark = Mark::new(0, 0, row.3.unwrap_or(0)).expect(rt, "a mark");
+    ParserFault::new(row.0, owned(rt, "no"), row.1, mark, context, context_mark)
 }
 
-// A parser's fault's offset, the line of its mark, and the column of its context's mark.
-fn parts(fault: &ParserFault) -> (u64, u64, Option<u64>) {
-    let context = match fault.context() {
-        Some(_) => Some(fault.context_mark().column()),
-        None => None,
-    };
-    (fault.offset(), fault.mark().line(), context)
-}
-
-// What an error says, and what it shows in debug.
-fn told(alloc: Global, error: &Error) -> Result<(String, String), AllocError> {
-    Ok((
-        format!(in alloc; "{error}")?,
-        format!(in alloc; "{error:?}")?,
-    ))
+// Whether a fault has the parts of a row.
+fn has_parts(fault: &ParserFault, row: &Row) -> bool {
+    fault.kind() == row.0
+        && fault.problem() == "no"
+        && fault.offset() == row.1
+        && fault.mark().line() == row.2
+        && fault.context().is_some() == row.3.is_some()
+        && fault.context_mark().column() == row.3.unwrap_or(0)
 }
 
 #[test]
-fn faults_of_the_parser_tell_their_parts(rt: HostRuntime) -> Result<(), Fail> {
+fn faults_of_the_parser_tell_their_parts(rt: HostRuntime) {
     for row in ROWS {
-        let fault = fault(rt.alloc(), row)?;
-        assert!(rt; fault.kind() == row.0);
-        assert_eq!(rt; parts(&fault), (row.1, row.2, row.3));
-        assert_eq!(rt; fault.problem(), "no");
-        let (text, debug) = told(rt.alloc(), &Error::from(fault))?;
-        assert_eq!(rt; (text.as_str(), debug.as_str()), (row.4, row.5));
+        let fault = fault(&rt, row);
+        assert!(rt; has_parts(&fault, row), "{}", row.4);
+        let fault = Error::from(fault).copy(rt.alloc()).expect(&rt, "memory");
+        shows(&rt, &fault, row.4);
     }
-    Ok(())
 }

@@ -1,55 +1,67 @@
 //! Values written down in place, for tables.
-use std::alloc::Global;
-use std::test::Fail;
+use crate::texts::owned;
+use std::process::Abort;
 use yaml_tree::{Mapping, Number, Sequence, Tag, TaggedValue, Value};
 
-/// A value as a literal.
-#[derive(Clone, Copy)]
-pub enum Plain<'a> {
+/// A value without parts, as a literal.
+#[derive(Drop)]
+pub enum Plain {
     Null,
     Bool(bool),
     Unsigned(u64),
     Signed(i64),
-    Text(&'a str),
-    List(&'a [Plain<'a>]),
-    Pairs(&'a [(Plain<'a>, Plain<'a>)]),
-    Tagged(&'a str, &'a Plain<'a>),
+    Text(&'static str),
+    /// The text `a` under this tag.
+    Tagged(&'static str),
 }
 
-// A value with a tag.
-fn tagged(alloc: Global, tag: &str, value: Value) -> Result<Value, Fail> {
-    let tag = Tag::new(alloc, tag)?;
-    Ok(Value::Tagged(Box::new(alloc, TaggedValue { tag, value })?))
-}
-
-/// Puts a pair into a mapping, and says whether its key was there.
-pub fn put(mapping: &mut Mapping, key: Value, value: Value) -> Result<bool, Fail> {
-    Ok(mapping.insert(key, value)?.is_some())
+/// A value under a tag.
+pub fn tagged(rt: &(impl Abort + AllocGlobal), tag: &str, value: Value) -> Value {
+    let tag = Tag::new(rt.alloc(), tag).expect(rt, "a tag");
+    let tagged = TaggedValue { tag, value };
+    Value::Tagged(Box::new(rt.alloc(), tagged).expect(rt, "memory"))
 }
 
 /// The value of a literal.
-pub fn value(alloc: Global, plain: &Plain) -> Result<Value, Fail> {
+pub fn value(rt: &(impl Abort + AllocGlobal), plain: &Plain) -> Value {
     match plain {
-        Plain::Null => Ok(Value::Null),
-        Plain::Bool(truth) => Ok(Value::Bool(*truth)),
-        Plain::Unsigned(n) => Ok(Value::Number(Number::from_u64(*n))),
-        Plain::Signed(n) => Ok(Value::Number(Number::from_i64(*n))),
-        Plain::Text(text) => Ok(Value::String(String::from_str(alloc, text)?)),
-        Plain::List(list) => {
-            let mut items = Vec::new(alloc);
-            for item in *list {
-                items.push(value(alloc, item)?)?;
-            }
-            Ok(Value::Sequence(Sequence::from(items)))
-        }
-        Plain::Pairs(pairs) => {
-            let mut mapping = Mapping::new(alloc);
-            for pair in *pairs {
-                let key = value(alloc, &pair.0)?;
-                put(&mut mapping, key, value(alloc, &pair.1)?)?;
-            }
-            Ok(Value::Mapping(mapping))
-        }
-        Plain::Tagged(tag, content) => tagged(alloc, tag, value(alloc, content)?),
+        Plain::Null => Value::Null,
+        Plain::Bool(truth) => Value::Bool(*truth),
+        Plain::Unsigned(number) => Value::Number(Number::from_u64(*number)),
+        Plain::Signed(number) => Value::Number(Number::from_i64(*number)),
+        Plain::Text(text) => Value::String(owned(rt, text)),
+        Plain::Tagged(tag) => tagged(rt, tag, Value::String(owned(rt, "a"))),
     }
+}
+
+/// The sequence of these values.
+pub fn sequence(rt: &(impl Abort + AllocGlobal), items: &[Plain]) -> Sequence {
+    let mut sequence = Sequence::from(Vec::new(rt.alloc()));
+    for item in items {
+        sequence.push(value(rt, item)).expect(rt, "memory");
+    }
+    sequence
+}
+
+/// Puts a number at a key of a mapping, and says whether the key was there.
+pub fn put(
+    rt: &(impl Abort + AllocGlobal),
+    mapping: &mut Mapping,
+    key: &Plain,
+    number: u64,
+) -> bool {
+    let number = Value::Number(Number::from_u64(number));
+    mapping
+        .insert(value(rt, key), number)
+        .expect(rt, "memory")
+        .is_some()
+}
+
+/// The mapping of these keys to these numbers.
+pub fn mapping(rt: &(impl Abort + AllocGlobal), pairs: &[(Plain, u64)]) -> Mapping {
+    let mut mapping = Mapping::new(rt.alloc());
+    for (key, number) in pairs {
+        put(rt, &mut mapping, key, *number);
+    }
+    mapping
 }

@@ -1,4 +1,4 @@
-//! Readers that give one byte a call, that fail, that are interrupted and that are at their end; and large inputs.
+//! Readers that give one byte a call, that fail, that are interrupted and that are at their end.
 
 use super::stream;
 use crate::run::run;
@@ -95,26 +95,20 @@ fn a_reader_that_fails_ends_the_run(rt: HostRuntime) -> Result<(), Fail> {
 }
 
 #[test]
-fn an_interrupted_read_is_tried_again(rt: HostRuntime) -> Result<(), Fail> {
+fn a_reader_is_tried_again_and_not_called_behind_its_end(rt: HostRuntime) -> Result<(), Fail> {
     let text = stream(rt.alloc(), "0:0:0 =VAL :true\n")?;
-    let reader = SlowReader::new(text.as_bytes(), usize::MAX, true);
-    expect(&rt, "bool", reader, "true\n", Status::Read);
-    Ok(())
-}
-
-#[test]
-fn a_reader_is_not_called_behind_its_end(rt: HostRuntime) -> Result<(), Fail> {
-    let text = stream(rt.alloc(), "0:0:0 =VAL :true\n")?;
-    for (rest, output, status) in [
-        (text.as_str(), "true\n", Status::Read),
+    for (rest, interrupts, output, status) in [
+        (text.as_str(), false, "true\n", Status::Read),
+        (text.as_str(), true, "true\n", Status::Read),
         (
             "",
+            false,
             "fault: event list is not a stream at event 0\n",
             Status::Fault,
         ),
-        ("0:0:0 +SEQX\n", "bad line 1\n", Status::Refused),
+        ("0:0:0 +SEQX\n", false, "bad line 1\n", Status::Refused),
     ] {
-        let reader = SlowReader::new(rest.as_bytes(), usize::MAX, false);
+        let reader = SlowReader::new(rest.as_bytes(), usize::MAX, interrupts);
         expect(&rt, "bool", reader, output, status);
     }
     Ok(())
@@ -144,36 +138,5 @@ fn so_many_calls_read_an_input(rt: HostRuntime) -> Result<(), Fail> {
         let reader = SlowReader::new(text.as_bytes(), usize::MAX, interrupts);
         expect(&rt, "bool", reader, output, status);
     }
-    Ok(())
-}
-
-// The lines of a stream of so many integers in a sequence, each on a line of 200 bytes, and what is printed of them.
-fn long_lines(alloc: Global, count: usize) -> Result<(String, String), AllocError> {
-    let mut line = String::from_str(alloc, "0:0:0 =VAL <")?;
-    for _ in 0..183 {
-        line.push('x')?;
-    }
-    line.push_str("> :7\n")?;
-    let mut text = String::from_str(alloc, "0:0:0 +STR\n0:0:0 +DOC\n0:0:0 +SEQ\n")?;
-    let mut output = String::from_str(alloc, "[7")?;
-    text.push_str(&line)?;
-    for _ in 1..count {
-        text.push_str(&line)?;
-        output.push_str(", 7")?;
-    }
-    text.push_str("0:0:0 -SEQ\n0:0:0 -DOC\n0:0:0 -STR\n")?;
-    output.push_str("]\n")?;
-    Ok((text, output))
-}
-
-#[test]
-fn an_input_of_twenty_million_bytes_is_read(rt: HostRuntime) -> Result<(), Fail> {
-    let (text, output) = long_lines(rt.alloc(), 100_000)?;
-    assert!(rt; text.len() > 20_000_000);
-    let mut reader = text.as_bytes();
-    let mut writer = Vec::new(rt.alloc());
-    let ended = run(rt.alloc(), "list", &mut reader, &mut writer);
-    assert_eq!(rt; ended, Status::Read);
-    assert!(rt; writer.as_slice() == output.as_bytes());
     Ok(())
 }
