@@ -40,23 +40,34 @@ fn lent(value: &Value) -> u64 {
     digits
 }
 
-// The digits of the items or the pairs that a value hands out.
-fn handed_out(value: Value) -> u64 {
+// The digits of the items that a sequence hands out.
+fn items_out(items: Sequence) -> u64 {
     let mut digits = 0;
-    match value {
-        Value::Sequence(items) => {
-            for item in items {
-                digits = with_digit(digits, &item);
-            }
-        }
-        Value::Mapping(pairs) => {
-            for (_key, content) in pairs {
-                digits = with_digit(digits, &content);
-            }
-        }
-        _ => {}
+    for item in items {
+        digits = with_digit(digits, &item);
     }
     digits
+}
+
+// The digits of the contents that a mapping hands out.
+fn contents_out(pairs: Mapping) -> u64 {
+    let mut digits = 0;
+    for (_key, content) in pairs {
+        digits = with_digit(digits, &content);
+    }
+    digits
+}
+
+// The digits of the items or the pairs that a value hands out.
+fn handed_out(value: Value) -> u64 {
+    match value {
+        Value::Sequence(items) => items_out(items),
+        Value::Mapping(pairs) => contents_out(pairs),
+        other => {
+            drop(other);
+            0
+        }
+    }
 }
 
 #[test]
