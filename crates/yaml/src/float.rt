@@ -1,21 +1,20 @@
 //! Floats.
 
-ghost use Rattle.std.specs.Prelude.{◌≡◌, IfOk, IsTrue};
+ghost use Rattle.std.specs.Prelude.{◌≡◌, IfOk};
 ghost use Rattle.std.specs.Float.{binary32, binary64};
 ghost use Rattle.yaml.specs.Around.{standing};
-ghost use Rattle.yaml.specs.FloatSteps.{AsksForNumber, TookFloat};
-ghost use Rattle.yaml.specs.NodeSteps.{Gave};
+ghost use Rattle.yaml.specs.FloatSteps.{TookFloat};
+ghost use Rattle.yaml.specs.NodeSteps.{TookText};
 ghost use Rattle.yaml.specs.declared.leaf.Leaf.TheVariants as leaf;
 ghost use Rattle.yaml_float.specs.Float.{float_of};
-ghost use Rattle.yaml_shape.specs.DataView.{text_data_of};
 ghost use Rattle.yaml_shape.specs.TextView.{text_bytes};
 
-use crate::frame::Deed;
+use crate::frame::{Deed, Spot};
 use crate::leaf::Leaf;
 use crate::reader::Reader;
 use yaml_base::{Cause, Error, Found, Kind, Result, ScalarStyle, Tag, resolve};
 use yaml_float::{parse_f32, parse_f64};
-use yaml_read::{DocEvent, DocScalar, NodePlace};
+use yaml_read::{DocEvent, DocScalar};
 use yaml_scalar::is_plain_or_tagged_literal;
 use yaml_shape::{Data, Text};
 
@@ -32,10 +31,8 @@ fn f64_in(text: &Text<'_>) -> Option<f64>
 }
 
 impl<'a, 'de> Reader<'a, 'de> {
-    // Whether the next node is a scalar that is asked for a number.
-    fn asks_for_number(&self) -> bool
-        ensures { IsTrue result → AsksForNumber (standing self.now) }
-    {
+    // Whether the next node is a scalar that is asked for a number: a plain one, or a literal one with the float's tag.
+    fn asks_for_number(&self) -> bool {
         match self.event(self.target(self.spot.place)) {
             Some(DocEvent::Scalar(scalar)) => {
                 is_plain_or_tagged_literal(Tag::FLOAT, self.spot.taken, scalar)
@@ -44,21 +41,27 @@ impl<'a, 'de> Reader<'a, 'de> {
         }
     }
 
-    // The text of the next node, of which a number is asked, and the place behind it.
-    fn number_text(&self, expected: &str) -> Result<(Text<'de>, NodePlace)>
-        ensures asks { IfOk result (λ r. AsksForNumber (standing self.now)) }
-        ensures gave { IfOk result (λ r. Gave leaf.Str (standing self.now) (text_data_of r.0) r.1) }
+    // The text of the next node, of which a number is asked. The reading then stands behind the node.
+    #[tactic(auto, using(crate::proofs::StepLaws::took_text))]
+    fn number_text(&mut self, expected: &str) -> Result<Text<'de>>
+        ensures { IfOk result (λ text. TookText leaf.Str (text_bytes text) (standing self.old) (standing self.new)) }
     {
-        if self.is_bare() {
-            return Err(self.fault_of_content());
-        }
-        if !self.asks_for_number() {
+        if !self.is_bare() && !self.asks_for_number() {
+            self.note(Deed::Read);
             return Err(self.fault_of_float(expected));
         }
-        match self.look(Leaf::Str)? {
-            (Data::Str(text), behind) => Ok((text, behind)),
+        match self.leaf(Leaf::Str, Deed::Read)? {
+            Data::Str(Text::Borrowed(text)) => Ok(Text::Borrowed(text)),
+            Data::Str(Text::Owned(text)) => Ok(Text::Owned(text)),
             _ => Err(self.ended()),
         }
+    }
+
+    // The fault of the node that was read and is no float. The reading stands before it again.
+    fn refused_float(&mut self, spot: Spot, follows: u128, expected: &str) -> Error {
+        self.spot = spot;
+        self.follows = follows;
+        self.fault_of_float(expected)
     }
 
     /// The `f32` that the next node's text is. The reading then stands behind the node.
@@ -66,14 +69,11 @@ impl<'a, 'de> Reader<'a, 'de> {
     pub(crate) fn f32_here(&mut self) -> Result<f32>
         ensures { IfOk result (λ x. TookFloat binary32 x (standing self.old) (standing self.new)) }
     {
-        self.note(Deed::Read);
-        let (text, behind) = self.number_text("f32")?;
+        let (spot, follows) = (self.spot, self.follows);
+        let text = self.number_text("f32")?;
         match f32_in(&text) {
-            Some(number) => {
-                self.go(behind);
-                Ok(number)
-            }
-            None => Err(self.fault_of_float("f32")),
+            Some(number) => Ok(number),
+            None => Err(self.refused_float(spot, follows, "f32")),
         }
     }
 
@@ -82,14 +82,11 @@ impl<'a, 'de> Reader<'a, 'de> {
     pub(crate) fn f64_here(&mut self) -> Result<f64>
         ensures { IfOk result (λ x. TookFloat binary64 x (standing self.old) (standing self.new)) }
     {
-        self.note(Deed::Read);
-        let (text, behind) = self.number_text("f64")?;
+        let (spot, follows) = (self.spot, self.follows);
+        let text = self.number_text("f64")?;
         match f64_in(&text) {
-            Some(number) => {
-                self.go(behind);
-                Ok(number)
-            }
-            None => Err(self.fault_of_float("f64")),
+            Some(number) => Ok(number),
+            None => Err(self.refused_float(spot, follows, "f64")),
         }
     }
 
