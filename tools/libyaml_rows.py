@@ -74,7 +74,7 @@ def fault_of(events):
     """The events before the fault that ends them, and the fault, as serde_yaml prints it."""
     for number, event in enumerate(events):
         if event.kind == "!ERR":
-            _, offset, problem = event.rest.decode().split(" ", 2)
+            _, offset, problem = event.rest.decode().replace("hexdecimal", "hexadecimal").split(" ", 2)
             shown = problem + (at(event.place) or (" at position " + offset if offset != "0" else ""))
             for context in events[number + 1:]:
                 shown += ", " + context.rest.decode() + (at(context.place) if context.place != event.place else "")
