@@ -1,7 +1,7 @@
 # Applies an edit to files below the current folder: the text of each `old:` line, which stands once in the file that
 # the `file:` line before it names, gives way to the text of the `new:` line behind it. The text of a `misuse:` line
-# stands once in what was made, and is taken away where `control` is 1. Ends with status 1, and says why, where a text
-# does not stand once.
+# stands once in what was made, and is taken away where `control` is 1. Where `dry` is 1 no file is changed. Ends with
+# status 1, and says why, where a text does not stand once.
 
 function give_up(why) {
     print why
@@ -45,6 +45,7 @@ function replace(old, new, text, at, found) {
 END {
     if (failed) exit 1
     if (!pairs) { print "it changes nothing"; exit 1 }
+    if (dry) exit 0
     for (file in texts) {
         printf "%s", texts[file] > file
         close(file)
