@@ -1,2 +1,3 @@
 pub mod AllowedText
 pub mod Scanning
+pub mod Surrogates

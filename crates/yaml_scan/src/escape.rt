@@ -1,8 +1,9 @@
 //! Escapes between double quotes.
 
-ghost use Rattle.std.specs.Prelude.{◌≡◌, ◌++◌, OnOk, vec_items};
+ghost use Rattle.std.specs.Prelude.{◌≡◌, ◌≤◌, ◌<◌, ◌++◌, IfSome, OnOk, vec_items};
 ghost use Rattle.std.specs.Char.{encode_utf8};
 ghost use Rattle.yaml_base.specs.QuotedLines.{letter_code};
+ghost use Rattle.yaml_scan.specs.Surrogates.{surrogate_pair};
 
 use crate::byte::hex_value;
 use crate::cursor::Cursor;
@@ -21,27 +22,60 @@ fn push_character(out: &mut Vec<u8>, character: char) -> Result<(), AllocError>
     out.extend_from_slice(text.as_bytes())
 }
 
-// Reads so many hexadecimal digits as a character's code.
+// The code that so many hexadecimal digits say, the first of them so many bytes from here.
+fn code_at(cursor: &Cursor<'_>, from: usize, digits: usize) -> Option<u32>
+    requires { (from ≤ 8) × (digits ≤ 8) }
+{
+    let mut code: u32 = 0;
+    for index in 0..digits {
+        let digit = hex_value(cursor.byte(from + index))?;
+        code = ((code & 0x0FFF_FFFF) << 4) | (digit & 0xF);
+    }
+    Some(code)
+}
+
+// The character that two codes stand for, of which the first is a high surrogate and the second a low one.
+fn paired(high: u32, low: u32) -> Option<char>
+    ensures { IfSome result (λ character. (character ≡ surrogate_pair high low)
+        × (0xd800 ≤ high) × (high < 0xdc00) × (0xdc00 ≤ low) × (low < 0xe000)) }
+{
+    if !(0xD800..0xDC00).contains(&high) || !(0xDC00..0xE000).contains(&low) {
+        return None;
+    }
+    char::from_u32(0x10000 + (high - 0xD800) * 1024 + (low - 0xDC00))
+}
+
+// The character past U+FFFF whose first half, of four digits, stands here, and its second half behind it.
+fn joined(cursor: &Cursor<'_>, high: u32) -> Option<char> {
+    if cursor.byte(4) != b'\\' || cursor.byte(5) != b'u' {
+        return None;
+    }
+    paired(high, code_at(cursor, 6, 4)?)
+}
+
+// Reads so many hexadecimal digits as a character's code, or as the first of the two that JSON writes for it.
 fn read_code(
     cursor: &mut Cursor<'_>,
     start: Mark,
     digits: usize,
     out: &mut Vec<u8>,
-) -> Result<(), Stop> {
+) -> Result<(), Stop>
+    requires { digits ≤ 8 }
+{
     cursor.skip_many(2);
-    let mut code: u32 = 0;
-    for index in 0..digits {
-        let Some(digit) = hex_value(cursor.byte(index)) else {
-            return Err(cursor.fault(CONTEXT, start, Problem::DidNotFindExpectedHexadecimalNumber));
-        };
-        code = ((code & 0x0FFF_FFFF) << 4) | (digit & 0xF);
-    }
-    let Some(character) = char::from_u32(code) else {
+    let Some(code) = code_at(cursor, 0, digits) else {
+        return Err(cursor.fault(CONTEXT, start, Problem::DidNotFindExpectedHexadecimalNumber));
+    };
+    let (found, length) = match char::from_u32(code) {
+        None if digits == 4 => (joined(cursor, code), 10),
+        found => (found, digits),
+    };
+    let Some(character) = found else {
         let problem = Problem::FoundInvalidUnicodeCharacterEscapeCode;
         return Err(cursor.fault(CONTEXT, start, problem));
     };
     push_character(out, character)?;
-    cursor.skip_many(digits);
+    cursor.skip_many(length);
     Ok(())
 }
 
