@@ -34,3 +34,4 @@ pub mod Signs
 pub mod Stream
 pub mod StreamMachine
 pub mod Tree
+pub mod TreeFaultCause

@@ -22,6 +22,7 @@ use crate::path::Path;
 use crate::words::{WordList, Words};
 use std::alloc::{AllocError, AllocFailed, Global};
 use std::marker::Model;
+use yaml_tree::TreeFault;
 
 /// The answer of a call that may fail.
 pub type Result<T> = std::result::Result<T, Error>;
@@ -206,6 +207,13 @@ impl Error {
         &self.cause
     }
 
+    /// Why the call failed, for whoever makes another fault of it. Takes no memory.
+    pub fn into_cause(self) -> Cause
+        ensures { result ≡ self }
+    {
+        self.cause
+    }
+
     /// Where the fault is, if that is known. Takes no memory.
     pub fn location(&self) -> Option<Location>
         ensures { result ≡ option_map counted_from_one (cause_mark self.now) }
@@ -248,6 +256,21 @@ impl From<ParserFault> for Error {
         Error {
             cause: Cause::Parser(fault),
         }
+    }
+}
+
+impl From<TreeFault> for Error {
+    ghost use Rattle.std.specs.Prelude.{◌≡◌};
+    ghost use Rattle.yaml_base.specs.TreeFaultCause.{tree_fault_cause};
+
+    ghost from_gives = { λ fault e. e ≡ tree_fault_cause fault };
+
+    fn from(fault: TreeFault) -> Error {
+        let cause = match fault {
+            TreeFault::Memory => Cause::Memory,
+            TreeFault::EmptyTag => Cause::EmptyTag,
+        };
+        Error { cause }
     }
 }
 

@@ -3,6 +3,7 @@
 use std::alloc::{AllocError, AllocFailed};
 use std::error::Error;
 use std::fmt;
+use yaml_base::Cause;
 
 /// Why data makes no value.
 #[derive(Debug, Drop)]
@@ -32,6 +33,20 @@ impl<T: Drop> From<AllocFailed<T>> for BuildFault {
 
     fn from(_: AllocFailed<T>) -> BuildFault {
         BuildFault::Memory
+    }
+}
+
+impl From<BuildFault> for yaml_base::Error {
+    ghost use Rattle.std.specs.Prelude.{◌≡◌};
+    ghost use Rattle.yaml_types.specs.BuildFaultText.{build_cause};
+
+    ghost from_gives = { λ fault e. e ≡ build_cause fault };
+
+    fn from(fault: BuildFault) -> yaml_base::Error {
+        match fault {
+            BuildFault::Memory => yaml_base::Error::new(Cause::Memory),
+            BuildFault::Message(text) => yaml_base::Error::custom(text),
+        }
     }
 }
 

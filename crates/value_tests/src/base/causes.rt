@@ -30,10 +30,11 @@ fn cause(number: usize) -> Cause {
     }
 }
 
-// Asserts what a fault and its copy say.
+// Asserts what a fault says, its copy, and another fault of its cause.
 fn say(rt: &(impl Abort + AllocGlobal), fault: Error, wanted: &str) {
     says(rt, &fault, wanted);
     says(rt, &fault.copy(rt.alloc()).expect(rt, "memory"), wanted);
+    says(rt, &Error::new(fault.into_cause()), wanted);
 }
 
 #[test]
