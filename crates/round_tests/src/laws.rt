@@ -6,7 +6,8 @@ use std::test::Fail;
 use uses::Server;
 use yaml_round::held::{data_is_held, schema_is_held};
 use yaml_round::laws::{
-    a_written_string_means_itself, a_written_value_reads_back, equal_in_one_order_is_equal,
+    a_list_fits, a_value_fits, a_variant_fits, a_written_string_means_itself,
+    a_written_value_reads_back, an_optional_fits, equal_in_one_order_is_equal,
     written_data_reads_back,
 };
 use yaml_shape::{Data, Entry, Text};
@@ -32,6 +33,10 @@ fn laws_and_what_is_held(rt: HostRuntime) -> Result<(), Fail> {
     go_over(parts(rt.alloc())?);
     a_written_string_means_itself();
     equal_in_one_order_is_equal();
+    an_optional_fits();
+    a_value_fits();
+    a_variant_fits();
+    a_list_fits();
     written_data_reads_back();
     a_written_value_reads_back::<Vec<Option<i64>>>();
     Ok(())

@@ -33,6 +33,8 @@ fn a_value_that_is_withheld_has_no_text(rt: HostRuntime) {
 #[test]
 fn data_that_makes_no_value_is_refused_by_why(rt: HostRuntime) {
     let why = String::from_str(rt.alloc(), "no day").expect(&rt, "memory");
-    says(&rt, &BuildFault::Message(why), "no day");
+    let refused = BuildFault::Message(why);
+    says(&rt, &refused, "no day");
+    says(&rt, &yaml_base::Error::from(refused), "no day");
     says(&rt, &BuildFault::Memory, "out of memory");
 }

@@ -32,10 +32,10 @@ not_null text h = by (is_null_text text) refl
 string_not_null : (text : List ℕ) → kind_of text ≡ kind.Str → is_null_text text ≡ false
 string_not_null text str = not_null text (λ e. let k : kind.Null ≡ kind.Str = rw e at str in absurd cc)
 
-integer_not_null : (text : List ℕ) (z : ℤ) → integer_of text ≡ Some z → is_null_text text ≡ false
+pub integer_not_null : (text : List ℕ) (z : ℤ) → integer_of text ≡ Some z → is_null_text text ≡ false
 integer_not_null text z i = not_null text (λ e. none-some z (sym (null_integer text e) ∙ i))
 
-unsigned_not_null : (text : List ℕ) (n : ℕ) → unsigned_of text ≡ Some n → is_null_text text ≡ false
+pub unsigned_not_null : (text : List ℕ) (n : ℕ) → unsigned_of text ≡ Some n → is_null_text text ≡ false
 unsigned_not_null text n u = not_null text (λ e. none-some n (sym (null_unsigned text e) ∙ u))
 
 -- no tag of the core schema is local

@@ -10,6 +10,7 @@ pub mod LeafPresence
 pub mod LeavesReturn
 pub mod ListsReturn
 pub mod LocalNames
+pub mod NullWritten
 pub mod Outcomes
 pub mod PartsReturn
 pub mod RenderLaws
@@ -21,6 +22,8 @@ pub mod ShapesOfData
 pub mod SimpleFits
 pub mod PartsFit
 pub mod StreamsReturn
+pub mod SurvivesLaws
+pub mod SurvivesMeans
 pub mod TagsWritten
 pub mod TypedReturn
 pub mod ValuesReturn

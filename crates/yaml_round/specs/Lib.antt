@@ -5,3 +5,4 @@ pub mod ReadsBack
 pub mod Rendered
 pub mod SameOrder
 pub mod SimpleData
+pub mod Survives

@@ -1,10 +1,11 @@
 //! A value that is written, comes back from a parser, and is read.
 
-ghost use Rattle.std.specs.Prelude.{◌≤◌, length};
+ghost use Rattle.std.specs.Prelude.{◌≤◌, ◌↔◌, length, IfOk, IsTrue};
 ghost use Rattle.yaml_base.specs.Answer.{Answers};
 ghost use Rattle.yaml_round.specs.Fits.{Fits};
 ghost use Rattle.yaml_round.specs.ReadsBack.{IsSameUnless};
 
+use crate::fit::value_fits;
 use crate::laws::a_written_value_reads_back;
 use crate::renderer::Renderer;
 use serde_yaml::{from_events_limited, to_events};
@@ -39,4 +40,22 @@ pub fn comes_back<'de, T: RoundTrip<'de> + Drop, R: Renderer<'de>>(
         Ok(found) => Ok(*value == found),
         Err(fault) => Err(fault),
     }
+}
+
+/// Whether the value fits within the limits, and what is read of it within these, once it was rendered, is equal to it.
+/// That is so exactly of the values that fit, of a type whose table has at most 4,096 shapes, whatever stands between.
+/// Refused where memory runs out, where the type has no schema, or by a message of `to_data`.
+pub fn fits_and_comes_back<'de, T: RoundTrip<'de> + Drop, R: Renderer<'de>>(
+    alloc: Global,
+    value: &T,
+    renderer: &mut R,
+    limits: Limits,
+) -> Result<bool>
+    ensures { length T.Serialize.start.0 ≤ 4096 → IfOk result (λ does. IsTrue does
+        ↔ Fits limits.nesting T.Serialize.start.0 T.Serialize.start.1 (T.written value.now)) }
+{
+    if !value_fits(alloc, value, limits)? {
+        return Ok(false);
+    }
+    comes_back(alloc, value, renderer, limits)
 }

@@ -2,6 +2,9 @@
 #![tactic(auto)]
 
 pub mod again;
+mod fit;
 pub mod held;
 pub mod laws;
 pub mod renderer;
+
+pub use fit::{fits, value_fits};
