@@ -14,3 +14,5 @@ mod integers;
 mod joins;
 #[cfg(test)]
 mod lent;
+#[cfg(test)]
+mod reader;

@@ -4,5 +4,6 @@ pub mod KindLaws
 pub mod PrintedLaws
 pub mod HeadlineLaws
 pub mod TextFaults
+pub mod ReaderTexts
 pub mod TextLaws
 pub mod TypedLaws

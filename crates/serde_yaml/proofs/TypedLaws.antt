@@ -31,6 +31,7 @@ use Rattle.yaml_read.specs.Documents.{Input}
 use Rattle.yaml_read.specs.MarkedEvents.{events_in, plain_events, plain_marked}
 use Rattle.yaml_read.specs.TreeReader.{PlainLimits}
 use Rattle.yaml_read.specs.WrongPlace.{IsWrongAt}
+use Rattle.yaml_types.specs.BuildFaultText.{build_cause}
 use Rattle.yaml_types.specs.BuildRefusal.{IsBuildRefusal}
 use Rattle.yaml_types.specs.NodeWrites.{written_node, IsPut, IsFaultOf}
 use Rattle.yaml_types.specs.WriteRefusal.{IsWriteRefusal}
@@ -40,7 +41,7 @@ use Rattle.yaml_types.specs.declared.fault.BuildFault.TheVariants as build
 use Rattle.yaml_types.specs.declared.fault.BuildFault.TheVariants.{Message}
 use Rattle.yaml_write.specs.Outcomes.{made}
 use Rattle.serde_yaml.specs.TypedReads as reads
-use Rattle.serde_yaml.specs.TypedReads.{TypeGives, Makes, no_schema, build_cause}
+use Rattle.serde_yaml.specs.TypedReads.{TypeGives, Makes, no_schema}
 use Rattle.serde_yaml.specs.TypedWrites as writes
 use Rattle.serde_yaml.specs.TypedWrites.{TypeWrites, written_stream}
 use Rattle.serde_yaml.specs.Headline.{ReadsAs, one_document, no_document, GivesMeaning}

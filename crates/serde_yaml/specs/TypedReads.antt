@@ -1,8 +1,7 @@
 -- What an input gives as a value of a type.
-use Rattle.std.specs.Prelude.{◌≡◌, ◌<◌, ℕ, List, length, Option, None, Some, Result, Ok, Err, codes, string_bytes}
+use Rattle.std.specs.Prelude.{◌≡◌, ◌<◌, ℕ, List, length, Option, None, Some, Result, Ok, Err, codes}
 use Rattle.yaml_base.specs.PlainFault.{PlainFault}
 use Rattle.yaml_base.specs.declared.error.Cause.{Cause}
-use Rattle.yaml_base.specs.declared.error.Cause.TheVariants as cause
 use Rattle.yaml_base.specs.declared.error.Cause.TheVariants.{Custom}
 use Rattle.yaml_shape.specs.PlainData.{PlainData}
 use Rattle.yaml_shape.specs.PlainShape.{PlainShape, shape_at}
@@ -10,19 +9,11 @@ use Rattle.yaml_shape.specs.Validity.{IsValidSchema}
 use Rattle.yaml_read.specs.Documents.{Input}
 use Rattle.yaml_read.specs.TreeReader.{PlainLimits}
 use Rattle.yaml_types.specs.Start.{Start}
-use Rattle.yaml_types.specs.declared.fault.BuildFault.{BuildFault}
-use Rattle.yaml_types.specs.declared.fault.BuildFault.TheVariants as build
-use Rattle.yaml_types.specs.declared.fault.BuildFault.TheVariants.{Message}
 use Rattle.serde_yaml.specs.StreamReads.{InputGives}
 
 -- a type whose table would have more than 4,096 shapes has no schema
 abbrev pub no_schema : Cause
 no_schema = Custom (codes "more than 4096 shapes") None
-
--- data that makes no value is refused by the message, or for want of memory
-abbrev pub build_cause : BuildFault → Cause
-build_cause (Message text) = Custom (string_bytes text) None
-build_cause build.Memory = cause.Memory
 
 -- What a type makes of what was read: of data a value that is the data's, or one of the messages by which the type
 -- refuses the data; and a fault stays.

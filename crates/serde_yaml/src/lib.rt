@@ -2,6 +2,7 @@
 #![tactic(auto)]
 
 mod de;
+mod input;
 pub mod laws;
 pub mod mapping;
 mod printed;
@@ -11,7 +12,8 @@ mod type_faults;
 pub mod value;
 
 pub use de::{Deserializer, data_from_events, from_events, from_events_limited};
-pub use printed::{WriteFault, data_to_string, to_string, to_writer};
+pub use input::from_reader;
+pub use printed::{data_to_string, to_string, to_writer};
 pub use ser::to_events;
 pub use text::{data_from_slice, data_from_str, from_slice, from_slice_limited, from_str};
 pub use yaml_base::{
@@ -19,6 +21,8 @@ pub use yaml_base::{
     ParserFault, Path, Place, Result, Scalar, ScalarStyle, SequenceStart, Tag, WordList, Words,
     emitter,
 };
+pub use yaml_documents::ReaderFault;
+pub use yaml_emit::WriteFault;
 pub use yaml_read::Limits;
 pub use yaml_shape::{Data, Entry, Schema, SchemaFault, Shape, ShapeId, Text, Typed, VariantShape};
 pub use yaml_tree::{Mapping, Number, Sequence, TaggedValue, TreeFault, Value};

@@ -7,43 +7,19 @@ ghost use Rattle.yaml_shape.specs.TypedView.{content_in, id_in, schema_in};
 ghost use Rattle.yaml_base.specs.EmitEvents.{emit_of};
 ghost use Rattle.yaml_base.specs.EmitTree.{IsEmitStream};
 ghost use Rattle.yaml_emit.specs.StreamTexts.{IsStreamText};
-ghost use Rattle.serde_yaml.specs.Printed.{AddsText, HasEvents, HasText, IfOfValue, IsDataWritten, IsOutOfPlace};
+ghost use Rattle.yaml_emit.specs.WriteFaults.{IfOfValue};
+ghost use Rattle.serde_yaml.specs.Printed.{AddsText, HasEvents, HasText, IsDataWritten, IsOutOfPlace};
 ghost use Rattle.serde_yaml.specs.Printed.{IsTextRefused};
 ghost use Rattle.serde_yaml.specs.TypedWrites.{TypeWrites};
 
 use crate::ser::{to_events, write_stream};
 use std::alloc::Global;
-use std::fmt;
-use std::io::{self, Write};
+use std::io::Write;
+use yaml_base::Result;
 use yaml_base::emitter::EmitEvent;
-use yaml_base::{Error, Result};
-use yaml_emit::emit;
+use yaml_emit::{WriteFault, emit};
 use yaml_shape::Typed;
 use yaml_types::Serialize;
-
-/// Why a value was not written to a writer.
-#[derive(Debug, Drop)]
-pub enum WriteFault {
-    /// The value has no text. Nothing was written.
-    Value(Error),
-    /// The writer failed. Part of the text may be written.
-    Writer(io::Error),
-}
-
-impl fmt::Display for WriteFault {
-    ghost use Rattle.serde_yaml.specs.Printed.{write_fault_text};
-
-    ghost output = { write_fault_text };
-
-    fn fmt<W: fmt::Write>(&self, f: &mut fmt::Formatter<W>) -> fmt::Result {
-        match self {
-            WriteFault::Value(fault) => write!(f, "{fault}"),
-            WriteFault::Writer(fault) => write!(f, "{fault}"),
-        }
-    }
-}
-
-impl std::error::Error for WriteFault {}
 
 // The text of events.
 fn printed(alloc: Global, events: &[EmitEvent]) -> Result<String>

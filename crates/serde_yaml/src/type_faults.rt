@@ -3,7 +3,8 @@
 ghost use Rattle.std.specs.Prelude.{◌≡◌, ◌<◌, ℕ, false};
 ghost use Rattle.yaml_base.specs.Answer.{is_memory};
 ghost use Rattle.yaml_shape.specs.Join.{IsTooLarge};
-ghost use Rattle.serde_yaml.specs.TypedReads.{no_schema, build_cause};
+ghost use Rattle.yaml_types.specs.BuildFaultText.{build_cause};
+ghost use Rattle.serde_yaml.specs.TypedReads.{no_schema};
 
 use std::alloc::Global;
 use yaml_base::{Cause, Error};
@@ -27,8 +28,5 @@ pub(crate) fn schema_refusal(alloc: Global, fault: SchemaFault) -> Error
 pub(crate) fn build_refusal(fault: BuildFault) -> Error
     ensures { result ≡ build_cause fault }
 {
-    match fault {
-        BuildFault::Memory => Error::new(Cause::Memory),
-        BuildFault::Message(text) => Error::custom(text),
-    }
+    fault.into()
 }

@@ -2,6 +2,7 @@
 pub mod FirstDocuments
 pub mod HandingOut
 pub mod PlainReader
+pub mod ReaderFaults
 pub mod TextDocuments
 pub mod TextEvents
 pub mod inner

@@ -5,9 +5,11 @@
 mod ahead;
 mod batch;
 mod filling;
+mod input;
 mod pending;
 mod reader;
 mod whole;
 
+pub use input::{ReaderFault, read_bytes};
 pub use reader::DocumentReader;
 pub use whole::load;

@@ -9,3 +9,4 @@ pub mod Scalars
 pub mod StreamTexts
 pub mod Styles
 pub mod Tags
+pub mod WriteFaults

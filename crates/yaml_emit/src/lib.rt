@@ -12,7 +12,9 @@ mod stop;
 mod stream;
 mod style;
 mod tag;
+mod write_fault;
 
 pub use leaf::push_scalar;
 pub use stream::emit;
 pub use tag::push_tag;
+pub use write_fault::WriteFault;
