@@ -3,4 +3,6 @@ pub mod BehindLaws
 pub mod CutOff
 pub mod FloatLaws
 pub mod NameLaws
+pub mod ReaderTexts
 pub mod StepLaws
+pub mod DocumentCounts

@@ -1,11 +1,13 @@
 -- Steps that read a name and look for it.
 use Rattle.std.proofs.Common.{◌≡◌, ◌∙◌, ℕ, List, Result, Ok, Err, Some, IfOk, true, false, ap, subst, sym}
-use Rattle.std.proofs.Common.{inl, rules}
+use Rattle.std.proofs.Common.{inl, inr, refl, rules}
 use Rattle.serde.specs.Names.{Finds}
 use Rattle.serde.specs.declared.name.Name.{Name}
 use Rattle.yaml.specs.Around.{Standing, next_tag}
 use Rattle.yaml.specs.NodeSteps.{Took, TookText}
-use Rattle.yaml.specs.Picks.{Chooses, TakesTag, TookKeyOr, TookName}
+use Rattle.yaml.specs.Picks.{Chooses, TakesTag, TookAs, TookKeyOr, TookName}
+use Rattle.yaml.specs.TagSteps.{TakesMark}
+use Rattle.yaml_value.specs.TagMark.{tag_mark}
 use Rattle.yaml.specs.declared.leaf.Leaf.{Leaf}
 use Rattle.yaml.specs.declared.leaf.Leaf.TheVariants as leaf
 use Rattle.yaml_base.specs.declared.error.Cause.{Cause}
@@ -45,4 +47,13 @@ picked_tag old mid new names at name tagged f same takes = record {
   name = name;
   reads = inl (record { tagged = tagged; takes = subst (λ r. TakesTag r new) same takes });
   finds = f;
+}
+
+-- the tag was asked for by its own name, and taken
+pub picked_mark : (old new : Standing) (names : List Name) → Finds names tag_mark 0 → TakesMark old new
+    → Chooses (λ name. TookAs true names name old new) names 0
+picked_mark old new names finds takes = record {
+  name = tag_mark;
+  reads = inr (record { asked = finds; mark = refl; takes = takes });
+  finds = finds;
 }

@@ -7,4 +7,8 @@ pub mod NextDocument
 pub mod NodeSteps
 pub mod OneDocument
 pub mod Picks
+pub mod PlaceSteps
+pub mod Printed
 pub mod Steps
+pub mod TagSteps
+pub mod WrittenDocument

@@ -8,6 +8,7 @@ use Rattle.serde.specs.declared.name.NameKind.TheVariants.{Field, Variant}
 use Rattle.yaml.specs.Around.{Standing, standing, next_tag, next_target, LeftFollowing, frame_here, Opens}
 use Rattle.yaml.specs.Collections.{ReachesEntry}
 use Rattle.yaml.specs.NodeSteps.{TookText}
+use Rattle.yaml.specs.TagSteps.{TookMark}
 use Rattle.yaml.specs.declared.frame.Kind.TheVariants as kind
 use Rattle.yaml.specs.declared.leaf.Leaf.TheVariants as leaf
 use Rattle.yaml.specs.declared.reader.Reader.{Reader}
@@ -60,9 +61,10 @@ TookKeyOr true name old new = TookTag name old new ⊎ TookBare name old new
 TookKeyOr false name old new = TookKey name old new
 
 -- The text that was read as a name. The first key of a map that is only begun is a variant, where variants are asked
--- for.
+-- for. Or nothing but the tag of the node was asked for, by a name of its own, and was taken.
 abbrev pub TookAs : (is_key : Bool) → List Name → List ℕ → Standing → Standing → Type 0
-TookAs true names name old new = TookKeyOr (old.spot.begun && asks_for_variants names) name old new
+TookAs true names name old new =
+    TookKeyOr (old.spot.begun && asks_for_variants names) name old new ⊎ TookMark names name old new
 TookAs false names name old new = TookName name old new
 
 -- A step read a name in this way, and the number is that of the first of the names for which it stands, or `usize::MAX`

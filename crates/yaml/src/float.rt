@@ -1,18 +1,21 @@
 //! Floats.
 
-ghost use Rattle.std.specs.Prelude.{◌≡◌, IfOk};
+ghost use Rattle.std.specs.Prelude.{◌≡◌, IfOk, IsTrue, OnOk};
 ghost use Rattle.std.specs.Float.{binary32, binary64};
 ghost use Rattle.yaml.specs.Around.{standing};
-ghost use Rattle.yaml.specs.FloatSteps.{TookFloat};
+ghost use Rattle.yaml.specs.FloatSteps.{TookFloat, asks_for_float, is_asked_for_float};
 ghost use Rattle.yaml.specs.NodeSteps.{TookText};
 ghost use Rattle.yaml.specs.declared.leaf.Leaf.TheVariants as leaf;
+ghost use Rattle.yaml_base.specs.DocEventView.{doc_event_of};
 ghost use Rattle.yaml_float.specs.Float.{float_of};
 ghost use Rattle.yaml_shape.specs.TextView.{text_bytes};
 
 use crate::frame::{Deed, Spot};
 use crate::leaf::Leaf;
 use crate::reader::Reader;
-use yaml_base::{Cause, Error, Found, Kind, Result, ScalarStyle, Tag, resolve};
+use yaml_base::{
+    Cause, Error, Found, Kind, Result, ScalarStyle, Tag, core_tags_have_their_texts, resolve,
+};
 use yaml_float::{parse_f32, parse_f64};
 use yaml_read::{DocEvent, DocScalar};
 use yaml_scalar::is_plain_or_tagged_literal;
@@ -30,23 +33,40 @@ fn f64_in(text: &Text<'_>) -> Option<f64>
     parse_f64(text.as_str().as_bytes())
 }
 
+// Whether the event is a scalar that is asked for a float.
+fn is_asked_for_float(taken: bool, event: &DocEvent<'_>) -> bool
+    ensures { result ≡ is_asked_for_float taken (doc_event_of event.now) }
+{
+    core_tags_have_their_texts();
+    match event {
+        DocEvent::Scalar(scalar) => is_plain_or_tagged_literal(Tag::FLOAT, taken, scalar),
+        _ => false,
+    }
+}
+
 impl<'a, 'de> Reader<'a, 'de> {
-    // Whether the next node is a scalar that is asked for a number: a plain one, or a literal one with the float's tag.
-    fn asks_for_number(&self) -> bool {
+    // Whether the next node is a scalar that is asked for a float: a plain one, or a literal one with the float's tag.
+    fn asks_for_float(&self) -> bool
+        ensures { result ≡ asks_for_float (standing self.now) }
+    {
         match self.event(self.target(self.spot.place)) {
-            Some(DocEvent::Scalar(scalar)) => {
-                is_plain_or_tagged_literal(Tag::FLOAT, self.spot.taken, scalar)
-            }
-            _ => false,
+            Some(event) => is_asked_for_float(self.spot.taken, event),
+            None => false,
         }
     }
 
-    // The text of the next node, of which a number is asked. The reading then stands behind the node.
+    // The text of the next node, of which a float is asked. The reading then stands behind the node.
     #[tactic(auto, using(crate::proofs::StepLaws::took_text))]
     fn number_text(&mut self, expected: &str) -> Result<Text<'de>>
-        ensures { IfOk result (λ text. TookText leaf.Str (text_bytes text) (standing self.old) (standing self.new)) }
+        ensures asks { OnOk result (IsTrue (asks_for_float (standing self.old))) }
+        ensures took { IfOk result
+            (λ text. TookText leaf.Str (text_bytes text) (standing self.old) (standing self.new)) }
     {
-        if !self.is_bare() && !self.asks_for_number() {
+        if self.is_bare() {
+            self.note(Deed::Read);
+            return Err(self.fault_of_content());
+        }
+        if !self.asks_for_float() {
             self.note(Deed::Read);
             return Err(self.fault_of_float(expected));
         }

@@ -124,7 +124,15 @@ impl<'a, 'de> Format for Reader<'a, 'de> {
         }
     }
 
-    fn byte_buf(&mut self, _alloc: Global, _input: &[u8]) -> Result<Vec<u8>, Error> {
+    // Bytes are given of the name of a tag that was asked for, and where a map was begun of the place where the node
+    // stands, which `Spanned` asks for.
+    fn byte_buf(&mut self, alloc: Global, _input: &[u8]) -> Result<Vec<u8>, Error> {
+        if matches!(self.last.deed, Deed::TagAsked) && self.is_at_mark() {
+            return self.marked_name(alloc);
+        }
+        if self.spot.begun {
+            return self.place_here(alloc);
+        }
         match self.leaf(Leaf::Bytes, Deed::Read) {
             Ok(_) => Err(self.ended()),
             Err(fault) => Err(fault),
@@ -132,7 +140,11 @@ impl<'a, 'de> Format for Reader<'a, 'de> {
     }
 
     fn peek(&mut self, _input: &[u8]) -> Result<Kind, Error> {
-        self.kind()
+        let kind = self.kind()?;
+        if matches!(kind, Kind::Bytes) {
+            self.note(Deed::SawTag);
+        }
+        Ok(kind)
     }
 
     fn take_unit(&mut self, _input: &[u8]) -> Result<bool, Error> {

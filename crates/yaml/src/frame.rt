@@ -90,6 +90,10 @@ pub(crate) enum Deed {
     Named,
     /// It read the node's tag as a name.
     Tagged,
+    /// It took the node's tag for a value of any kind, which asks for its name next.
+    TagAsked,
+    /// It looked at a node with a local tag.
+    SawTag,
     /// It came to the end of the collection.
     Ended,
     /// It found an element.

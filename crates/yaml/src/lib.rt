@@ -2,26 +2,38 @@
 #![tactic(auto)]
 
 mod borrowed;
+mod convert;
 mod documents;
 mod float;
 mod format;
 mod frame;
+mod input;
 mod kinds;
 mod leaf;
 mod makers;
 mod open;
+mod place;
 mod reader;
 mod sink;
+mod spanned;
 mod steps;
 mod stream;
+mod tagged;
 mod typed;
 mod values;
 mod way;
 mod write;
+mod written;
 
+pub use convert::{from_value, to_value};
 pub use documents::Documents;
+pub use input::from_reader;
+pub use spanned::Spanned;
 pub use stream::DocumentStream;
 pub use typed::{from_events, from_slice, from_str};
 pub use values::Values;
-pub use write::{to_events, to_string};
+pub use write::{to_events, to_string, to_writer};
 pub use yaml_base::{Error, Result};
+pub use yaml_documents::ReaderFault;
+pub use yaml_emit::WriteFault;
+pub use yaml_value::{Entry, Mapping, Number, Rest, Tag, TaggedValue, Value};

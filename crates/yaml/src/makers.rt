@@ -271,12 +271,27 @@ impl<'a, 'de> Reader<'a, 'de> {
     pub(crate) fn fault_of_value(&self) -> Error {
         match self.last.deed {
             Deed::NoUnit => self.fault_of(Leaf::Unit),
-            Deed::Named | Deed::Tagged => self.fault_of_content(),
+            Deed::Named | Deed::Tagged | Deed::TagAsked => self.fault_of_content(),
+            Deed::SawTag => Self::made(self.try_tag()),
             Deed::WentBack => self.told("data did not match any variant of untagged enum"),
             Deed::Signed(number) => Self::made(self.try_range(Found::Signed(number as i128))),
             Deed::Unsigned(number) => Self::made(self.try_range(Found::Unsigned(number as u128))),
             Deed::Ended | Deed::Item | Deed::Read => self.told("invalid value"),
         }
+    }
+
+    fn try_tag(&self) -> Result<Error> {
+        let tag = match self.event(self.last.start) {
+            Some(event) => tag_of(event).unwrap_or(""),
+            None => "",
+        };
+        let text = format!(in self.alloc;
+            "invalid type: tag `!{tag}`, expected a value without a tag"
+        )?;
+        self.at_last(Cause::Custom {
+            text: Words::new(text),
+            place: None,
+        })
     }
 
     fn try_range(&self, found: Found) -> Result<Error> {

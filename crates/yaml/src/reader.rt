@@ -5,6 +5,7 @@ ghost use Rattle.std.specs.Option.{option_map};
 ghost use Rattle.yaml_base.specs.DocEventView.{doc_event_of};
 ghost use Rattle.yaml.specs.Around.{event_at, innermost_frame, place_behind_node, standing, target_of};
 ghost use Rattle.yaml.specs.NodeSteps.{Gave, Took, gone_on, node_at};
+ghost use Rattle.yaml.specs.PlaceSteps.{mark_in};
 ghost use Rattle.yaml_shape.specs.DataView.{data_of};
 
 use crate::frame::{Deed, Frame, Last, Part, Spot, Stranger};
@@ -98,7 +99,9 @@ impl<'a, 'de> Reader<'a, 'de> {
     }
 
     /// The mark of the event in a place.
-    pub(crate) fn mark_at(&self, place: usize) -> Option<Mark> {
+    pub(crate) fn mark_at(&self, place: usize) -> Option<Mark>
+        ensures { result ≡ mark_in self.now.document.now place }
+    {
         match self.document.events().get(place) {
             Some((_, mark)) => Some(*mark),
             None => None,

@@ -1,9 +1,11 @@
 //! The serializer of events as one of the crate `serde`.
 
 ghost use Rattle.std.specs.Prelude.{map, IfOk};
+ghost use Rattle.yaml.specs.WrittenDocument.{IsWrittenDocument};
 ghost use Rattle.yaml_base.specs.EmitEvents.{emit_of};
 ghost use Rattle.yaml_base.specs.EmitTree.{IsEmitStream};
 
+use crate::written::of_one_document;
 use ryu::Buffer;
 use serde::{Case, NameKind};
 use std::alloc::Global;
@@ -62,6 +64,14 @@ fn typed_parts(scalar: Scalar<'_>) -> (Shape, Data<'_>) {
     }
 }
 
+// The name without one leading `!` that has something behind it.
+fn unbanged(name: &str) -> &str {
+    match name.strip_prefix('!') {
+        Some(rest) if !rest.is_empty() => rest,
+        _ => name,
+    }
+}
+
 // A schema of one shape.
 fn schema_of(alloc: Global, shape: Shape) -> Result<Schema> {
     match Schema::new(alloc, vec![in alloc; shape]?) {
@@ -82,15 +92,17 @@ impl Sink {
         })
     }
 
-    /// All events, with the end of the stream behind them.
+    /// All events, with the end of the stream behind them, where they are one document.
     pub(crate) fn into_events(self) -> Result<Vec<EmitEvent>>
-        ensures { IfOk result (λ events. IsEmitStream (map emit_of events.items)) }
+        ensures stream { IfOk result (λ events. IsEmitStream (map emit_of events.items)) }
+        ensures one { IfOk result (λ events. IsWrittenDocument (map emit_of events.items)) }
     {
         if self.events.open_kind().is_some() || self.is_held || self.tag.is_some() {
             return Err(self.told("a value began something and did not end it"));
         }
+        let alloc = self.alloc;
         match self.events.into_inner() {
-            Ok(events) => Ok(events),
+            Ok(events) => of_one_document(alloc, events),
             Err((fault, _)) => Err(fault),
         }
     }
@@ -295,7 +307,7 @@ impl serde::Serializer for Sink {
         if self.tag.is_some() {
             return Err(Error::new(Cause::SerializeNestedEnum));
         }
-        let text = self.spelled(NameKind::Variant, name, case)?;
+        let text = self.spelled(NameKind::Variant, unbanged(name), case)?;
         self.levels.push(Level::Variant)?;
         self.is_held = false;
         self.tag = Some(text);

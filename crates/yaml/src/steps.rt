@@ -13,6 +13,7 @@ use crate::frame::{Deed, Kind, Last, Stranger};
 use crate::leaf::Leaf;
 use crate::makers::is_fatal;
 use crate::reader::Reader;
+use crate::tagged::asks_for_tag;
 use serde::{Case, Name, NameKind, find};
 use yaml_base::Result;
 use yaml_read::DocEvent;
@@ -119,7 +120,7 @@ impl<'a, 'de> Reader<'a, 'de> {
     }
 
     /// The place among names of the next key, or none at the end. The first key of a map that was begun and is asked
-    /// for variants is the variant that the node is.
+    /// for variants is the variant that the node is. Where nothing but the tag is asked for, that is taken.
     pub(crate) fn key(&mut self, names: &[Name<'_>]) -> Result<Option<usize>>
         ensures { IfOk result (λ found. MatchOption found
             (LeavesMap (standing self.old) (standing self.new))
@@ -127,6 +128,10 @@ impl<'a, 'de> Reader<'a, 'de> {
             (λ name. TookAs true names.now name (standing self.old) (standing self.new))
             names.now at)) }
     {
+        if asks_for_tag(names) {
+            self.enter_tag()?;
+            return Ok(Some(0));
+        }
         if self.spot.begun && asks_for_variants(names) {
             return Ok(Some(self.variant_of_node(names)?));
         }

@@ -52,8 +52,8 @@ fn read_alone<'de, T: Deserialize<'de>>(
     read(alloc, input, document, &leaves)
 }
 
-// The same of a value that borrows nothing.
-fn read_owned<T: DeserializeOwned>(alloc: Global, document: &Document<'_>) -> Result<T>
+/// The same of a value that borrows nothing, for which the shapes are made.
+pub(crate) fn read_owned<T: DeserializeOwned>(alloc: Global, document: &Document<'_>) -> Result<T>
     ensures { OnOk result (document.now.ending ≡ None) }
 {
     let leaves = Leaves::new(alloc)?;
@@ -62,8 +62,8 @@ fn read_owned<T: DeserializeOwned>(alloc: Global, document: &Document<'_>) -> Re
     whole(alloc, read, document)
 }
 
-// The value, unless another document follows.
-fn alone<T: Drop>(read: Result<T>, documents: &mut Loader<'_>) -> Result<T>
+/// The value, unless another document follows.
+pub(crate) fn alone<T: Drop>(read: Result<T>, documents: &mut Loader<'_>) -> Result<T>
     ensures same { OnOk result (OnOk read (documents.old ≡ [])) }
     ensures read { OnOk result (IsOk read) }
 {

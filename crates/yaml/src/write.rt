@@ -1,20 +1,26 @@
 //! Writing a value of any type that `serde` writes.
 
-ghost use Rattle.std.specs.Prelude.{List, map, string_bytes, IfOk};
+ghost use Rattle.std.specs.Prelude.{◌≡◌, List, map, string_bytes, IfErr, IfOk, OnOk};
+ghost use Rattle.yaml.specs.Printed.{AddsText};
+ghost use Rattle.yaml.specs.WrittenDocument.{IsWrittenDocument};
 ghost use Rattle.yaml_base.specs.EmitEvents.{PlainEmit, emit_of};
 ghost use Rattle.yaml_base.specs.EmitTree.{IsEmitStream};
 ghost use Rattle.yaml_emit.specs.StreamTexts.{IsStreamText};
+ghost use Rattle.yaml_emit.specs.WriteFaults.{IfOfValue};
 
 use crate::sink::Sink;
 use serde::Serialize;
 use std::alloc::Global;
+use std::io::Write;
 use yaml_base::Result;
 use yaml_base::emitter::EmitEvent;
-use yaml_emit::emit;
+use yaml_emit::{WriteFault, emit};
 
-/// The events of a whole stream whose document is the value.
+/// The events of a whole stream whose one document is the value. A value that writes nothing, or more than one value, is
+/// refused.
 pub fn to_events<T: Serialize>(alloc: Global, value: &T) -> Result<Vec<EmitEvent>>
-    ensures { IfOk result (λ events. IsEmitStream (map emit_of events.items)) }
+    ensures stream { IfOk result (λ events. IsEmitStream (map emit_of events.items)) }
+    ensures one { IfOk result (λ events. IsWrittenDocument (map emit_of events.items)) }
 {
     let mut sink = Sink::new(alloc)?;
     value.serialize(&mut sink)?;
@@ -23,9 +29,33 @@ pub fn to_events<T: Serialize>(alloc: Global, value: &T) -> Result<Vec<EmitEvent
 
 /// The value as YAML text, a document that ends with a line feed: what `emit` prints for the events of `to_events`.
 pub fn to_string<T: Serialize>(alloc: Global, value: &T) -> Result<String>
-    ensures { IfOk result (λ text. (events : List PlainEmit) × IsEmitStream events
+    ensures stream { IfOk result (λ text. (events : List PlainEmit) × IsEmitStream events
+        × IsStreamText events (string_bytes text)) }
+    ensures one { IfOk result (λ text. (events : List PlainEmit) × IsWrittenDocument events
         × IsStreamText events (string_bytes text)) }
 {
     let events = to_events(alloc, value)?;
     emit(alloc, events.as_slice())
+}
+
+/// The same text to a writer, whole and at once, which is then flushed. What has no text leaves the writer as it was.
+pub fn to_writer<W: Write, T: Serialize>(
+    alloc: Global,
+    writer: &mut W,
+    value: &T,
+) -> std::result::Result<(), WriteFault>
+    ensures text { OnOk result (AddsText (W.contents writer.old) (W.contents writer.new)) }
+    ensures untouched { IfErr result (IfOfValue (λ _. W.contents writer.new ≡ W.contents writer.old)) }
+{
+    let text = match to_string(alloc, value) {
+        Ok(text) => text,
+        Err(fault) => return Err(WriteFault::Value(fault)),
+    };
+    if let Err(fault) = writer.write_all(text.as_bytes()) {
+        return Err(WriteFault::Writer(fault));
+    }
+    match writer.flush() {
+        Ok(()) => Ok(()),
+        Err(fault) => Err(WriteFault::Writer(fault)),
+    }
 }
