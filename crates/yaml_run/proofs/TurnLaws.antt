@@ -8,6 +8,7 @@ use Rattle.serde_yaml.specs.PlainStream.{PlainStream, document_alone, items_left
 use Rattle.yaml_run.proofs.StreamWalks.{Leaves, leaves-all, leaves-next, leaves-none}
 use Rattle.yaml_run.specs.Turns.{in_all, AreToldInTurn, IsToldOf}
 use Rattle.yaml_run.specs.Turns.AreToldInTurn.{no_more, one_more}
+use Rattle.yaml_run.specs.declared.audience.Audience.{Audience}
 use Rattle.yaml_run.specs.declared.status.Status.{Status}
 use Rattle.yaml_run.specs.declared.status.Status.TheVariants as status
 
@@ -28,12 +29,13 @@ in_all-read status.OutOfMemory = refl
 in_all-read status.ReadFailed = refl
 in_all-read status.WriteFailed = refl
 
-module _ (limits : PlainLimits) (table : List PlainShape) where
+module _ (audience : Audience) (limits : PlainLimits) (table : List PlainShape) where
   -- what was told ends so, and what is told of the documents that are left, put behind it, is told of all
   abbrev pub Follows : PlainShape → (all : List PlainDocument) → (ended : Status) → (text : List ℕ)
       → (left : List PlainDocument) → Type 0
-  Follows s all ended text left = (others : Status) (lines : List ℕ) → AreToldInTurn limits table s left others lines
-      → AreToldInTurn limits table s all (in_all ended others) (text ++ lines)
+  Follows s all ended text left = (others : Status) (lines : List ℕ)
+      → AreToldInTurn audience limits table s left others lines
+      → AreToldInTurn audience limits table s all (in_all ended others) (text ++ lines)
 
   -- so it is where the documents of a stream are read in turn
   abbrev pub Turning : (id : ℕ) → (all now : PlainStream) → (ended : Status) → (text : List ℕ) → Type 0
@@ -46,12 +48,12 @@ module _ (limits : PlainLimits) (table : List PlainShape) where
       leaves-all (Follows s all.documents status.Read []) all many (λ others lines h. h)
 
   told_more : (s : PlainShape) (all : List PlainDocument) (ended one : Status) (text line : List ℕ)
-      (d : PlainDocument) (ds : List PlainDocument) → IsToldOf limits table s d one line
+      (d : PlainDocument) (ds : List PlainDocument) → IsToldOf audience limits table s d one line
       → Follows s all ended text (d ∷ ds) → Follows s all (in_all ended one) (text ++ (line ++ 10 ∷ [])) ds
   told_more s all ended one text line d ds told f = λ others lines h.
-      subst (λ e. AreToldInTurn limits table s all e ((text ++ (line ++ 10 ∷ [])) ++ lines))
+      subst (λ e. AreToldInTurn audience limits table s all e ((text ++ (line ++ 10 ∷ [])) ++ lines))
       (sym (in_all-assoc ended one others))
-      (subst (λ t. AreToldInTurn limits table s all (in_all ended (in_all one others)) t)
+      (subst (λ t. AreToldInTurn audience limits table s all (in_all ended (in_all one others)) t)
       (sym (append_assoc text (line ++ 10 ∷ []) lines ∙ ap (λ l. text ++ l) (append_assoc line (10 ∷ []) lines)))
       (f (in_all one others) (line ++ 10 ∷ lines) (one_more d ds one others line lines told h)))
 
@@ -59,7 +61,7 @@ module _ (limits : PlainLimits) (table : List PlainShape) where
   pub turning-next : (id : ℕ) (all old given new : PlainStream) (ended one : Status) (text line : List ℕ)
       → items_left old ≡ given ∷ items_left new
       → ((s : PlainShape) (d : PlainDocument) → shape_at table id ≡ Some s → given ≡ document_alone d
-      → IsToldOf limits table s d one line) → Turning id all old ended text
+      → IsToldOf audience limits table s d one line) → Turning id all old ended text
       → Turning id all new (in_all ended one) (text ++ (line ++ 10 ∷ []))
   turning-next id all old given new ended one text line steps told t = λ s at many.
       leaves-next (Follows s all.documents ended text)
@@ -69,9 +71,9 @@ module _ (limits : PlainLimits) (table : List PlainShape) where
   -- and at last
   pub turning-ends : (id : ℕ) (all now : PlainStream) (ended : Status) (text : List ℕ) → items_left now ≡ []
       → Turning id all now ended text → (s : PlainShape) → shape_at table id ≡ Some s → all.is_document ≡ false
-      → AreToldInTurn limits table s all.documents ended text
+      → AreToldInTurn audience limits table s all.documents ended text
   turning-ends id all now ended text none t = λ s at many.
       let f = leaves-none (Follows s all.documents ended text) now none (t s at many) in
-      subst (λ e. AreToldInTurn limits table s all.documents e text) (in_all-read ended)
-      (subst (λ l. AreToldInTurn limits table s all.documents (in_all ended status.Read) l) (append-nil text)
+      subst (λ e. AreToldInTurn audience limits table s all.documents e text) (in_all-read ended)
+      (subst (λ l. AreToldInTurn audience limits table s all.documents (in_all ended status.Read) l) (append-nil text)
       (f status.Read [] no_more))

@@ -1,4 +1,5 @@
 -- What contracts of this crate cite.
+pub mod Audiences
 pub mod EventReadings
 pub mod ExitCode
 pub mod Printed

@@ -8,6 +8,7 @@ ghost use Rattle.yaml_shape.specs.PlainShape.{PlainShape, shape_at};
 ghost use Rattle.serde_yaml.specs.StreamReads.{InputGives};
 ghost use Rattle.yaml_run.specs.EventReadings.{IsReading};
 
+use crate::audience::Audience;
 use crate::told::{Told, told_of, told_of_bad_line};
 use serde_yaml::{Limits, data_from_events};
 use std::alloc::{AllocError, Global};
@@ -30,8 +31,8 @@ fn content_of(
     data_from_events(alloc, input.events, input.fault, schema, id, limits)
 }
 
-/// What lines of events are read as, under the shape with this number and within limits. No line feed stands behind it.
-/// The only error is that memory runs out.
+/// What programs are told that lines of events are read as, under the shape with this number and within limits. No line
+/// feed stands behind it. The only error is that memory runs out.
 pub fn read_events(
     alloc: Global,
     schema: &Schema,
@@ -44,7 +45,10 @@ pub fn read_events(
         IsReading limits schema.now s lines.now told.ended (string_bytes told.text)) }
 {
     match Input::parse(alloc, lines) {
-        Ok(input) => told_of(alloc, content_of(alloc, schema, id, limits, input)),
+        Ok(input) => {
+            let found = content_of(alloc, schema, id, limits, input);
+            told_of(alloc, Audience::Programs, found)
+        }
         Err(InputFault::BadLine(number)) => told_of_bad_line(alloc, number),
         Err(InputFault::Memory) => Err(AllocError),
     }

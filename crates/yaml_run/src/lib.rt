@@ -3,7 +3,9 @@
 #![tactic(auto)]
 
 mod answer;
+mod audience;
 mod events;
+mod faults;
 mod input;
 mod printing;
 mod shapes;
@@ -11,13 +13,16 @@ mod status;
 mod text;
 mod told;
 mod turns;
+mod watched;
 
 pub use answer::Answer;
+pub use audience::Audience;
 pub use events::read_events;
 pub use input::{Unanswered, Unread, read_input};
 pub use printing::{conclude, print, print_bytes};
 pub use shapes::Named;
 pub use status::Status;
 pub use text::read_text;
-pub use told::{Told, told_of, told_of_bad_line};
+pub use told::{Told, told_for, told_of, told_of_bad_line};
 pub use turns::read_in_turn;
+pub use watched::Watched;

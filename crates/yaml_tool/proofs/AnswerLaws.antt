@@ -5,32 +5,36 @@ use Rattle.yaml_base.specs.PlainDocument.{PlainDocument}
 use Rattle.yaml_base.specs.PlainFault.{PlainFault}
 use Rattle.yaml_read.specs.TreeReader.{PlainLimits}
 use Rattle.yaml_shape.specs.PlainShape.{PlainShape}
-use Rattle.yaml_run.specs.Shapes.{table_of, first_shape}
 use Rattle.yaml_run.specs.Turns.{AreToldInTurn, IsToldOf, in_all}
 use Rattle.yaml_run.specs.Turns.AreToldInTurn.{no_more, one_more}
 use Rattle.yaml_run.specs.Turns.IsToldOf.{found, refused, out_of_memory as no_memory}
+use Rattle.yaml_run.specs.declared.audience.Audience.{Audience}
+use Rattle.yaml_run.specs.declared.audience.Audience.TheVariants.{People}
 use Rattle.yaml_run.specs.declared.status.Status.{Status}
 use Rattle.yaml_run.specs.declared.status.Status.TheVariants as status
 use Rattle.yaml_run.proofs.ReadingLaws.{text-read}
-use Rattle.yaml_tool.specs.Answers.{IsAnswer, IsAsked}
+use Rattle.yaml_tool.specs.Answers.{any_first, any_table, IsAnswer, IsAsked}
 use Rattle.yaml_tool.specs.Answers.IsAnswer.{answered, out_of_memory}
 use Rattle.yaml_tool.specs.ToldEvents.{ended_by}
 use Rattle.yaml_tool.specs.declared.task.Task.{Task}
 use Rattle.yaml_tool.specs.declared.task.Task.TheVariants as task
 
--- an ending that is one of two is no failed read
+-- an ending that is one of three is no failed read
 read-apart : (ended : Status) → ended ≡ status.Read → ended ≢ status.ReadFailed
 read-apart ended e = λ f. let same = sym e ∙ f in absurd cc
 
 fault-apart : (ended : Status) → ended ≡ status.Fault → ended ≢ status.ReadFailed
 fault-apart ended e = λ f. let same = sym e ∙ f in absurd cc
 
-module _ (limits : PlainLimits) (table : List PlainShape) (s : PlainShape) where
-  one-read : (d : PlainDocument) (ended : Status) (text : List ℕ) → IsToldOf limits table s d ended text
+memory-apart : (ended : Status) → ended ≡ status.OutOfMemory → ended ≢ status.ReadFailed
+memory-apart ended e = λ f. let same = sym e ∙ f in absurd cc
+
+module _ (audience : Audience) (limits : PlainLimits) (table : List PlainShape) (s : PlainShape) where
+  one-read : (d : PlainDocument) (ended : Status) (text : List ℕ) → IsToldOf audience limits table s d ended text
       → ended ≢ status.ReadFailed
   one-read d ended text (found value gives e t) = read-apart ended e
   one-read d ended text (refused cause gives e t) = fault-apart ended e
-  one-read d ended text (no_memory e t) = fault-apart ended e
+  one-read d ended text (no_memory to e t) = fault-apart ended e
 
   both-read : (a b : Status) → a ≢ status.ReadFailed → b ≢ status.ReadFailed → in_all a b ≢ status.ReadFailed
   both-read status.Read b x y = y
@@ -40,8 +44,8 @@ module _ (limits : PlainLimits) (table : List PlainShape) (s : PlainShape) where
   both-read status.ReadFailed b x y = x
   both-read status.WriteFailed b x y = x
 
-  turns-read : (ds : List PlainDocument) (ended : Status) (text : List ℕ) → AreToldInTurn limits table s ds ended text
-      → ended ≢ status.ReadFailed
+  turns-read : (ds : List PlainDocument) (ended : Status) (text : List ℕ)
+      → AreToldInTurn audience limits table s ds ended text → ended ≢ status.ReadFailed
   turns-read [] status.Read [] no_more = λ f. absurd cc
   turns-read [] status.Read (_ ∷ _) told = elim told [ ]
   turns-read [] status.Fault text told = elim told [ ]
@@ -62,10 +66,8 @@ events-read (Some fault) ended e = fault-apart ended e
 
 asked-read : (t : Task) (bytes : List ℕ) (ended : Status) (text : List ℕ) → IsAsked t bytes ended text
     → ended ≢ status.ReadFailed
-asked-read (task.Show shape limits) bytes ended text h =
-    text-read limits (table_of shape) (first_shape shape) bytes ended h.0 h.2
-asked-read (task.ShowEach shape limits) bytes ended text h =
-    turns-read limits (table_of shape) (first_shape shape) _ ended text h.holds
+asked-read (task.Show limits) bytes ended text h = text-read limits any_table any_first People bytes ended h.0 h.2
+asked-read (task.ShowEach limits) bytes ended text h = turns-read People limits any_table any_first _ ended text h.holds
 asked-read (task.Format limits) bytes ended text h = either-read ended h
 asked-read task.Events bytes ended text h = events-read h.fault ended h.ends
 asked-read task.FullEvents bytes ended text h = either-read ended h
@@ -74,4 +76,4 @@ asked-read task.FullEvents bytes ended text h = either-read ended h
 pub answer-read : (t : Task) (bytes : List ℕ) (ended : Status) (text : List ℕ) → IsAnswer t bytes ended text
     → ended ≢ status.ReadFailed
 answer-read t bytes ended text (answered h) = asked-read t bytes ended text h
-answer-read t bytes ended text (out_of_memory e l) = fault-apart ended e
+answer-read t bytes ended text (out_of_memory e l) = memory-apart ended e

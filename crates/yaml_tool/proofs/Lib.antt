@@ -1,4 +1,5 @@
 -- Lemmas of this crate.
 pub mod AnswerLaws
+pub mod ComplaintLaws
 pub mod ParsedLaws
 pub mod WritingLaws

@@ -9,6 +9,7 @@ use Rattle.serde_yaml.specs.PlainStream.{PlainStream}
 use Rattle.serde_yaml.specs.StreamReads.{stream_of}
 use Rattle.serde_yaml.specs.TextReads.{IsParsed}
 use Rattle.yaml_run.specs.Turns.{AreToldInTurn}
+use Rattle.yaml_run.specs.declared.audience.Audience.{Audience}
 use Rattle.yaml_run.specs.declared.status.Status.{Status}
 
 -- what follows from what holds of it holds of it too
@@ -31,16 +32,16 @@ pub many-documents : (text : List ℕ) (stream : PlainStream) → IsOfText text 
 many-documents text stream p = ap (λ x. x.is_document) p.holds
 
 -- what is told of its documents is told of the text's
-pub turns-parsed : (bytes : List ℕ) (limits : PlainLimits) (table named : List PlainShape) (s : PlainShape)
-    (stream : PlainStream)
+pub turns-parsed : (bytes : List ℕ) (audience : Audience) (limits : PlainLimits) (table named : List PlainShape)
+    (s : PlainShape) (stream : PlainStream)
     (ended : Status) (text : List ℕ) → table ≡ named → IsOfText bytes stream
-    → AreToldInTurn limits table s stream.documents ended text
-    → IsParsed bytes (λ events fault. AreToldInTurn limits named s (documents_of events fault) ended text)
-turns-parsed bytes limits table named s stream ended text same p told =
+    → AreToldInTurn audience limits table s stream.documents ended text
+    → IsParsed bytes (λ events fault. AreToldInTurn audience limits named s (documents_of events fault) ended text)
+turns-parsed bytes audience limits table named s stream ended text same p told =
     parsed-weaker bytes (λ events fault. stream ≡ stream_of events fault)
-    (λ events fault. AreToldInTurn limits named s (documents_of events fault) ended text)
-    (λ events fault is. subst (λ x. AreToldInTurn limits named s x.documents ended text) is
-    (subst (λ t. AreToldInTurn limits t s stream.documents ended text) same told)) p
+    (λ events fault. AreToldInTurn audience limits named s (documents_of events fault) ended text)
+    (λ events fault is. subst (λ x. AreToldInTurn audience limits named s x.documents ended text) is
+    (subst (λ t. AreToldInTurn audience limits t s stream.documents ended text) same told)) p
 
 -- two parts, put behind nothing
 pub two_parts : (a b c one two : List ℕ) → a ≡ [] → b ≡ a ++ one → c ≡ b ++ two → c ≡ one ++ two

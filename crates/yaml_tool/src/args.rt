@@ -5,7 +5,6 @@ use clap::builder::ValueParser;
 use clap::{Arg, ArgAction, ArgMatches, Command, Error};
 use serde_yaml::Limits;
 use std::alloc::{AllocError, Global};
-use yaml_run::Named;
 
 /// What the words ask for.
 #[derive(Drop)]
@@ -15,12 +14,6 @@ pub struct Request<'a> {
     /// The files that it is asked of; standard input where there are none.
     pub files: Vec<&'a str>,
 }
-
-// The names of shapes.
-const SHAPES: &[&str] = &[
-    "any", "bool", "i64", "u64", "str", "list", "map", "option", "pair", "basic", "strict",
-    "outer", "ignored",
-];
 
 // The files that a command is asked of.
 fn files<'a>(alloc: Global) -> Arg<'a> {
@@ -55,14 +48,6 @@ fn follows<'a>(alloc: Global) -> Arg<'a> {
 fn show<'a>(alloc: Global) -> Result<Command<'a>, AllocError> {
     Command::new(alloc, "show")
         .about("Prints the data of the one document, or the fault")
-        .arg(
-            Arg::new(alloc, "shape")
-                .long("shape")
-                .value_name("NAME")
-                .value_parser(ValueParser::Names(SHAPES))
-                .default_value("any")
-                .help("What the document has to be"),
-        )?
         .arg(
             Arg::new(alloc, "documents")
                 .long("documents")
@@ -128,13 +113,11 @@ fn limits_of(matches: &ArgMatches<'_>) -> Limits {
 
 // What is asked of data.
 fn show_task(matches: &ArgMatches<'_>) -> Task {
-    let name = matches.get_str("shape").unwrap_or("any");
-    let shape = Named::find(name).unwrap_or(Named::Any);
     let limits = limits_of(matches);
     if matches.get_flag("documents") {
-        Task::ShowEach(shape, limits)
+        Task::ShowEach(limits)
     } else {
-        Task::Show(shape, limits)
+        Task::Show(limits)
     }
 }
 

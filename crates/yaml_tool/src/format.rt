@@ -7,7 +7,7 @@ use std::alloc::{AllocError, Global};
 use yaml_base::emitter::EmitEvent;
 use yaml_base::{Cause, Error, Result};
 use yaml_emit::emit;
-use yaml_run::{Named, Status, Told};
+use yaml_run::{Audience, Named, Status, Told, told_of};
 use yaml_shape::{Data, Schema, ShapeId, Typed};
 use yaml_write::Serializer;
 
@@ -77,9 +77,8 @@ pub fn formatted(
             Ok(Told { ended, text })
         }
         Err(fault) => {
-            let ended = Status::Fault;
-            let text = format!(in alloc; "fault: {fault}\n")?;
-            Ok(Told { ended, text })
+            let told = told_of(alloc, Audience::People, Err(fault))?;
+            told.with_line_feed()
         }
     }
 }

@@ -4,7 +4,7 @@ ghost use Rattle.std.specs.Prelude.{◌≡◌, List, ℕ, IfOk, IfSome};
 ghost use Rattle.yaml_run.specs.Printed.{line_of, status_of};
 ghost use Rattle.yaml_tool.specs.Answers.{IsAnswer};
 
-use crate::answer::answer_to;
+use crate::answer::{answer_to, no_answer};
 use crate::task::Task;
 use std::alloc::Global;
 use std::io::Read;
@@ -18,7 +18,7 @@ pub fn reply<R: Read>(alloc: Global, task: Task, reader: &mut R) -> Result<Answe
 {
     match read_input(alloc, reader) {
         Ok(input) => Ok(answer_to(alloc, task, input.as_slice())),
-        Err(Unanswered::OutOfMemory) => Ok(Answer::OutOfMemory),
+        Err(Unanswered::OutOfMemory) => Ok(no_answer(alloc)),
         Err(Unanswered::Unread) => Err(Unread),
     }
 }

@@ -13,7 +13,8 @@ use yaml_run::{Status, conclude};
 
 /// Reads the input, and prints what is asked of it.
 ///
-/// All of the input is read before any of it is looked at. Nothing is written where it can't be read.
+/// All of the input is read before any of it is looked at. Nothing is written where it can't be read, or where memory
+/// runs out.
 pub fn run<R: Read, W: Write>(alloc: Global, task: Task, reader: &mut R, writer: &mut W) -> Status
     // Unless the reader failed, the answer to the input is printed.
     ensures prints { result ≢ Status.ReadFailed

@@ -126,17 +126,12 @@ fn long_stream(alloc: Global, length: usize) -> Result<String, AllocError> {
 }
 
 #[test]
-fn so_many_calls_read_an_input(rt: HostRuntime) -> Result<(), Fail> {
-    for (calls, interrupts, output, status) in [
-        // The last call finds the end.
-        (1_048_575, false, "true\n", Status::Read),
-        (1_048_576, false, "", Status::ReadFailed),
-        (524_288, true, "", Status::ReadFailed),
-    ] {
-        let text = long_stream(rt.alloc(), calls)?;
-        assert_eq!(rt; text.len(), calls);
+fn an_input_is_read_in_however_many_calls(rt: HostRuntime) -> Result<(), Fail> {
+    for (length, interrupts) in [(1_048_576, false), (524_288, true)] {
+        let text = long_stream(rt.alloc(), length)?;
+        assert_eq!(rt; text.len(), length);
         let reader = SlowReader::new(text.as_bytes(), usize::MAX, interrupts);
-        expect(&rt, "bool", reader, output, status);
+        expect(&rt, "bool", reader, "true\n", Status::Read);
     }
     Ok(())
 }

@@ -9,10 +9,10 @@ use Rattle.yaml_run.proofs.turns.read_document.Goals as goal
 pub returns : goal.returns
 returns c = λ s d at is.
     IfOk-weaker c.told_of.result
-    (λ told. Tells c.deserialize_limited.result told.ended (string_bytes told.text))
-    (λ told. IsToldOf c.args.limits c.args.schema.now s d told.ended (string_bytes told.text))
-    (λ told tells. tells_document c.args.limits c.args.schema.now s d c.deserialize_limited.result told.ended
-    (string_bytes told.text)
-    (alone_gives c.args.limits c.args.schema.now s d c.args.document c.deserialize_limited.result is
-    (c.deserialize_limited.ensures.gives s at)) tells)
+    (λ told. Tells c.args.audience c.deserialize_limited-found.result told.ended (string_bytes told.text))
+    (λ told. IsToldOf c.args.audience c.args.limits c.args.schema.now s d told.ended (string_bytes told.text))
+    (λ told tells. tells_document c.args.limits c.args.schema.now s c.args.audience d c.deserialize_limited-found.result
+    told.ended (string_bytes told.text)
+    (alone_gives c.args.limits c.args.schema.now s d c.args.document c.deserialize_limited-found.result is
+    (c.deserialize_limited-found.ensures.gives s at)) tells)
     c.told_of.ensures

@@ -8,14 +8,14 @@ use Rattle.yaml_tool.proofs.answer.told_of.Goals as goal
 
 pub returns-in-Show : goal.returns-in-Show
 returns-in-Show c =
-    let asked = task.Show c.in-Show.named c.in-Show.limits in
+    let asked = task.Show c.in-Show.limits in
     rw c.in-Show.is
     (IfOk-weaker c.shown.result (λ told. IsAsked asked c.args.text.now told.ended (string_bytes told.text))
     (λ told. IsAnswer asked c.args.text.now told.ended (string_bytes told.text)) (λ told h. answered h) c.shown.ensures)
 
 pub returns-in-ShowEach : goal.returns-in-ShowEach
 returns-in-ShowEach c =
-    let asked = task.ShowEach c.in-ShowEach.named c.in-ShowEach.limits in
+    let asked = task.ShowEach c.in-ShowEach.limits in
     rw c.in-ShowEach.is
     (IfOk-weaker c.shown_in_turn.result (λ told. IsAsked asked c.args.text.now told.ended (string_bytes told.text))
     (λ told. IsAnswer asked c.args.text.now told.ended (string_bytes told.text)) (λ told h. answered h)

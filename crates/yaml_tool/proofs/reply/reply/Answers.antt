@@ -1,5 +1,5 @@
 -- What is answered to the input.
-use Rattle.std.proofs.Common.{refl, subst}
+use Rattle.std.proofs.Common.{subst}
 use Rattle.yaml_run.specs.Printed.{line_of, status_of}
 use Rattle.yaml_run.proofs.RunLaws.{some_input}
 use Rattle.yaml_tool.specs.Answers.{IsAnswer}
@@ -19,4 +19,4 @@ returns-in-Ok g c = record {
 pub returns-in-Err-OutOfMemory : goal.returns-in-Err-OutOfMemory
 returns-in-Err-OutOfMemory g c =
     let given = some_input (g.R.Read.remaining c.args.reader.now) in
-    record { answers = (given.0, given.1, out_of_memory refl refl) }
+    record { answers = (given.0, given.1, out_of_memory c.no_answer.ensures.status c.no_answer.ensures.line) }
