@@ -7,7 +7,7 @@ use serde_yaml::{Limits, data_from_events};
 use std::alloc::{AllocError, Global};
 use yaml_base::{Cause, Error, Result};
 use yaml_lines::{Input, InputFault};
-use yaml_run::{Told, told_of, told_of_bad_line};
+use yaml_run::{Audience, Told, told_of, told_of_bad_line};
 use yaml_shape::{Data, Schema, ShapeId};
 use yaml_tree::Value;
 
@@ -50,10 +50,10 @@ fn copy_of_value(alloc: Global, value: &Value) -> Result<Data<'static>> {
 /// What is told of a copy.
 pub fn told_of_copy(alloc: Global, original: &Original) -> std::result::Result<Told, AllocError> {
     match original {
-        Original::Value(value) => told_of(alloc, copy_of_value(alloc, value)),
+        Original::Value(value) => told_of(alloc, Audience::Programs, copy_of_value(alloc, value)),
         Original::Fault(fault) => match fault.copy(alloc) {
-            Ok(copy) => told_of(alloc, Err(copy)),
-            Err(refusal) => told_of(alloc, Err(refusal)),
+            Ok(copy) => told_of(alloc, Audience::Programs, Err(copy)),
+            Err(refusal) => told_of(alloc, Audience::Programs, Err(refusal)),
         },
         Original::Other => refused(alloc, "not copied"),
     }

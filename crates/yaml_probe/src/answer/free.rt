@@ -11,7 +11,7 @@ use std::alloc::{AllocError, Global};
 use yaml_base::Result;
 use yaml_lines::{Input, InputFault};
 use yaml_read::{Document, Loader};
-use yaml_run::{Told, told_of, told_of_bad_line};
+use yaml_run::{Audience, Told, told_of, told_of_bad_line};
 use yaml_shape::{Data, Schema, Shape, ShapeId};
 
 // What a document is read as under a shape that has a call of its own which may take no memory.
@@ -51,13 +51,13 @@ fn told_of_first(
 {
     let mut loader = match loaded {
         Ok(loader) => loader,
-        Err(fault) => return told_of(alloc, Err(fault)),
+        Err(fault) => return told_of(alloc, Audience::Programs, Err(fault)),
     };
     let Some(document) = loader.next_document() else {
         return refused(alloc, "no document");
     };
     match read_then(alloc, &document, schema.get(id))? {
-        Some(answer) => told_of(alloc, answer),
+        Some(answer) => told_of(alloc, Audience::Programs, answer),
         None => refused(alloc, "not read where there is no memory"),
     }
 }

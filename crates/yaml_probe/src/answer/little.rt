@@ -11,7 +11,7 @@ use probe_writing::{Prepared, WritingTask, answer_prepared, prepare};
 use serde_yaml::{Limits, data_from_events};
 use std::alloc::{AllocError, Global};
 use yaml_lines::{Input, LineFault};
-use yaml_run::{Told, told_of};
+use yaml_run::{Audience, Told, told_of};
 use yaml_shape::{Schema, ShapeId};
 
 /// What is made of the lines of a case.
@@ -92,6 +92,7 @@ fn answer_events(
     match case.task {
         Task::Read(id) if schema.has(id) => told_of(
             alloc,
+            Audience::Programs,
             data_from_events(alloc, input.events, input.fault, schema, id, case.limits),
         ),
         Task::ReadInTurn(id) if schema.has(id) => read_input(alloc, schema, id, case.limits, input),
@@ -108,7 +109,7 @@ fn answer_text(
 ) -> Result<Told, AllocError> {
     match case.task {
         Task::ReadText(id) if schema.has(id) => {
-            yaml_run::read_text(alloc, schema, id, case.limits, text)
+            yaml_run::read_text(alloc, Audience::Programs, schema, id, case.limits, text)
         }
         Task::ReadTextInTurn(id) if schema.has(id) => {
             read_documents(alloc, schema, id, case.limits, text)

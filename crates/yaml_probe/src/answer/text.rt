@@ -6,7 +6,7 @@ use super::refused;
 use serde_yaml::{Deserializer, Limits};
 use std::alloc::{AllocError, Global};
 use yaml_lines::{LineFault, first_line, unescape};
-use yaml_run::{Told, read_in_turn, told_of};
+use yaml_run::{Audience, Told, read_in_turn, told_of};
 use yaml_shape::{Schema, ShapeId};
 
 /// The text that the first of some lines spells; none where there is no line or an escape is wrong.
@@ -33,7 +33,14 @@ pub fn read_text(
     requires { id.0 < length schema.now }
 {
     match spelled(alloc, lines)? {
-        Some(text) => yaml_run::read_text(alloc, schema, id, limits, text.as_slice()),
+        Some(text) => yaml_run::read_text(
+            alloc,
+            Audience::Programs,
+            schema,
+            id,
+            limits,
+            text.as_slice(),
+        ),
         None => refused(alloc, "bad text"),
     }
 }
@@ -49,8 +56,8 @@ pub fn read_documents(
     requires { id.0 < length schema.now }
 {
     match Deserializer::from_slice(alloc, text) {
-        Ok(stream) => read_in_turn(alloc, stream, schema, id, limits),
-        Err(fault) => told_of(alloc, Err(fault)),
+        Ok(stream) => read_in_turn(alloc, Audience::Programs, stream, schema, id, limits),
+        Err(fault) => told_of(alloc, Audience::Programs, Err(fault)),
     }
 }
 

@@ -5,7 +5,7 @@ ghost use Rattle.std.specs.Prelude.{◌<◌, length};
 use serde_yaml::{Deserializer, Limits};
 use std::alloc::{AllocError, Global};
 use yaml_lines::{Input, InputFault};
-use yaml_run::{Told, told_of, told_of_bad_line};
+use yaml_run::{Audience, Told, told_of, told_of_bad_line};
 use yaml_shape::{Schema, ShapeId};
 
 /// What each document of events is read as, under the shape with this number and within limits: a line each.
@@ -19,8 +19,8 @@ pub fn read_input(
     requires { id.0 < length schema.now }
 {
     match Deserializer::from_events(alloc, input.events, input.fault) {
-        Ok(stream) => yaml_run::read_in_turn(alloc, stream, schema, id, limits),
-        Err(fault) => told_of(alloc, Err(fault)),
+        Ok(stream) => yaml_run::read_in_turn(alloc, Audience::Programs, stream, schema, id, limits),
+        Err(fault) => told_of(alloc, Audience::Programs, Err(fault)),
     }
 }
 

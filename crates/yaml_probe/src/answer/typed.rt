@@ -9,7 +9,7 @@ use std::boxed::BoxedStr;
 use std::collections::{BTreeMap, BTreeSet};
 use std::str;
 use uses::{Address, Backup, Folder, Greeting, Listen, Ports, Server, Timeouts, Workers};
-use yaml_run::{Status, Told, told_of};
+use yaml_run::{Audience, Status, Told, told_of};
 
 // An integer of each type with a sign, and what else has no parts.
 type Signed = (i8, i16, i32, i64, i128, isize, bool, char);
@@ -101,7 +101,7 @@ fn told_of_printed(
             text,
         }),
         Ok(false) => refused(alloc, "another text comes back"),
-        Err(fault) => told_of(alloc, Err(fault)),
+        Err(fault) => told_of(alloc, Audience::Programs, Err(fault)),
     }
 }
 
@@ -109,7 +109,7 @@ fn told_of_printed(
 fn read(alloc: Global, name: &str, text: &str) -> std::result::Result<Told, AllocError> {
     match printed_as(alloc, name, text) {
         Some(Ok(text)) => told_of_printed(alloc, name, text),
-        Some(Err(fault)) => told_of(alloc, Err(fault)),
+        Some(Err(fault)) => told_of(alloc, Audience::Programs, Err(fault)),
         None => refused(alloc, "bad type"),
     }
 }

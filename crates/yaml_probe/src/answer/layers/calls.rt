@@ -13,7 +13,7 @@ use stream::read_stream;
 use yaml_base::{Cause, Error, Result as Answer};
 use yaml_lines::{Input, LineFault};
 use yaml_read::{Document, Loader};
-use yaml_run::{Told, told_of};
+use yaml_run::{Audience, Told, told_of};
 use yaml_shape::{Data, Schema, ShapeId};
 
 /// The first document of events.
@@ -69,7 +69,7 @@ fn told_by(
         of_document(alloc, schema, id, owned, input)
     };
     let told = match found {
-        Some(answer) => told_of(alloc, answer)?,
+        Some(answer) => told_of(alloc, Audience::Programs, answer)?,
         None => refused(alloc, "no call")?,
     };
     Ok(told.with_line_feed()?)

@@ -11,7 +11,7 @@ use std::str;
 use yaml_base::{Mark, Result as Answer};
 use yaml_lines::{LineFault, first_line};
 use yaml_read::{Cursor, DocEvent, Document};
-use yaml_run::{Status, Told, told_of};
+use yaml_run::{Audience, Status, Told, told_of};
 use yaml_shape::{Schema, ShapeId};
 
 // An event with its mark, or why there is none.
@@ -44,11 +44,16 @@ fn read(
         return refused(alloc, "bad shape");
     }
     if limits.is_empty() {
-        return told_of(alloc, document.deserialize_with(alloc, schema, id, cursor));
+        return told_of(
+            alloc,
+            Audience::Programs,
+            document.deserialize_with(alloc, schema, id, cursor),
+        );
     }
     match limits_of(limits) {
         Some(limits) => told_of(
             alloc,
+            Audience::Programs,
             document.deserialize_limited_with(alloc, schema, id, limits, cursor),
         ),
         None => refused(alloc, "bad limits"),
@@ -94,7 +99,7 @@ pub fn do_steps(alloc: Global, schema: &Schema, lines: &[u8]) -> Result<Told, Li
     };
     let document = match first_document(alloc, input(alloc, rest)?) {
         Ok(document) => document,
-        Err(fault) => return Ok(told_of(alloc, Err(fault))?),
+        Err(fault) => return Ok(told_of(alloc, Audience::Programs, Err(fault))?),
     };
     document.has_tree();
     let mut cursor = Cursor::new();
