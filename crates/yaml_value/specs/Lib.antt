@@ -1,0 +1,4 @@
+-- What contracts of this crate cite.
+pub mod Kinds
+pub mod Numbers
+pub mod TagMark

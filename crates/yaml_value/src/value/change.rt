@@ -1,0 +1,79 @@
+//! Changing a value in place.
+
+use crate::mapping::Mapping;
+use crate::tag::Tag;
+use crate::value::{TaggedValue, Value};
+use std::alloc::{AllocError, Global};
+use std::mem;
+
+impl Value {
+    /// A text, which is copied.
+    pub fn text(alloc: Global, text: &str) -> Result<Value, AllocError> {
+        Ok(Value::String(String::from_str(alloc, text)?))
+    }
+
+    /// A value under a tag.
+    pub fn under_tag(alloc: Global, tag: Tag, value: Value) -> Result<Value, AllocError> {
+        Ok(Value::Tagged(Box::new(alloc, TaggedValue { tag, value })?))
+    }
+
+    /// The sequence that it is, to be changed.
+    pub fn as_sequence_mut(&mut self) -> Option<&mut Vec<Value>> {
+        match self {
+            Value::Sequence(items) => Some(items),
+            Value::Tagged(tagged) => tagged.value.as_sequence_mut(),
+            _ => None,
+        }
+    }
+
+    /// The mapping that it is, to be changed.
+    pub fn as_mapping_mut(&mut self) -> Option<&mut Mapping> {
+        match self {
+            Value::Mapping(mapping) => Some(mapping),
+            Value::Tagged(tagged) => tagged.value.as_mapping_mut(),
+            _ => None,
+        }
+    }
+
+    /// The value at a key that is a text, to be changed, as `get` finds it.
+    pub fn get_mut(&mut self, key: &str) -> Option<&mut Value> {
+        self.as_mapping_mut()?.get_mut(key)
+    }
+
+    /// The element in a place of a sequence, to be changed.
+    pub fn at_mut(&mut self, place: usize) -> Option<&mut Value> {
+        let items = self.as_sequence_mut()?;
+        if place < items.len() {
+            Some(&mut items[place])
+        } else {
+            None
+        }
+    }
+
+    /// Puts a value at a key that is a text, and answers the one that was there. Null becomes a mapping first. What is
+    /// neither stays as it is, and the value is given back.
+    pub fn insert(
+        &mut self,
+        alloc: Global,
+        key: &str,
+        value: Value,
+    ) -> Result<Option<Value>, AllocError> {
+        if matches!(self, Value::Null) {
+            *self = Value::Mapping(Mapping::new(alloc));
+        }
+        match self.as_mapping_mut() {
+            Some(mapping) => mapping.insert(Value::text(alloc, key)?, value),
+            None => Ok(Some(value)),
+        }
+    }
+
+    /// Takes the value at a key that is a text out of the mapping that it is. The others stay in their order.
+    pub fn remove(&mut self, key: &str) -> Option<Value> {
+        self.as_mapping_mut()?.remove(key)
+    }
+
+    /// Takes the value out, and leaves null.
+    pub fn take(&mut self) -> Value {
+        mem::replace(self, Value::Null)
+    }
+}
