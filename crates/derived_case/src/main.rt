@@ -5,10 +5,13 @@
 mod answer;
 mod budget;
 mod callers;
+mod ends;
 mod json;
 mod named;
+mod places;
 mod readme;
 mod row;
+mod values;
 
 use row::answered;
 use std::alloc::Global;

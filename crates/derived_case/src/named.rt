@@ -6,17 +6,35 @@ use crate::answer::{
 use crate::callers::{
     Person, Service, all_jobs, count_services, longest_name, placed, read_service, write_service,
 };
+use crate::ends::{answer_of_broken, answer_of_reader};
 use crate::json::{Job, to_json};
+use crate::places::{Asked, Way, is_read_of_json, places, told_complaint};
 use crate::readme::renamed;
+use crate::values::answer_of_value;
+use derived_types::any::{Choice, Either, Parcel, Sign, Task};
 use derived_types::enums::{Command, Figure, Scalar, Step};
 use derived_types::floats::Weather;
+use derived_types::holders::{Backoff, Chain, Timeout};
 use derived_types::limits::{Nest, Passed};
 use derived_types::plain::{Ends, Metres, Nothing, Pair, Percent};
 use derived_types::structs::{Mark, Note, Setting, Window};
 use std::alloc::Global;
 use std::borrow::CowStr;
-use std::collections::{BTreeMap, HashMap};
-use yaml::{Error, to_string};
+use std::collections::{BTreeMap, BTreeSet, HashMap, HashSet, VecDeque};
+use yaml::{Error, Mapping, Number, Value, to_string};
+
+// What a text is answered that is read with places.
+fn answer_with_places(alloc: Global, name: &str, text: &str) -> Result<String, Error> {
+    match name {
+        "Asked" => answer::<Asked>(alloc, text),
+        "Asked/events" => answer_of_events::<Asked>(alloc, text),
+        "Way" => answer::<Way>(alloc, text),
+        "complaint" => told_complaint(alloc, text),
+        "places" => places(alloc, text),
+        "is_read_of_json" => is_read_of_json(alloc, text),
+        _ => answer_as_any(alloc, name, text),
+    }
+}
 
 // What a text is answered that is read as a type of std.
 fn answer_as_standard(alloc: Global, name: &str, text: &str) -> Result<String, Error> {
@@ -41,12 +59,57 @@ fn answer_as_standard(alloc: Global, name: &str, text: &str) -> Result<String, E
         "(u8,bool)" => answer::<(u8, bool)>(alloc, text),
         "BTreeMap<String,u8>" => answer::<BTreeMap<String, u8>>(alloc, text),
         "HashMap<String,u8>" => answer::<HashMap<String, u8>>(alloc, text),
+        _ => answer_as_holder(alloc, name, text),
+    }
+}
+
+// The same, of types of std around others.
+fn answer_as_holder(alloc: Global, name: &str, text: &str) -> Result<String, Error> {
+    match name {
+        "(u8,)" => answer::<(u8,)>(alloc, text),
+        "(u8,bool,char)" => answer::<(u8, bool, char)>(alloc, text),
+        "(u8,bool,char,String)" => answer::<(u8, bool, char, String)>(alloc, text),
+        "[u8;2]" => answer::<[u8; 2]>(alloc, text),
+        "VecDeque<u8>" => answer::<VecDeque<u8>>(alloc, text),
+        "HashSet<u8>" => answer::<HashSet<u8>>(alloc, text),
+        "BTreeSet<String>" => answer::<BTreeSet<String>>(alloc, text),
+        "BTreeMap<i64,bool>" => answer::<BTreeMap<i64, bool>>(alloc, text),
+        "BTreeMap<bool,u8>" => answer::<BTreeMap<bool, u8>>(alloc, text),
+        "BTreeMap<char,()>" => answer::<BTreeMap<char, ()>>(alloc, text),
+        "HashMap<u16,Vec<Option<u8>>>" => answer::<HashMap<u16, Vec<Option<u8>>>>(alloc, text),
+        "Box<Pair>" => answer::<Box<Pair>>(alloc, text),
+        "Option<Option<u8>>" => answer::<Option<Option<u8>>>(alloc, text),
+        "Vec<Option<Option<u8>>>" => answer::<Vec<Option<Option<u8>>>>(alloc, text),
+        "Timeout" => answer::<Timeout>(alloc, text),
+        "Backoff" => answer::<Backoff>(alloc, text),
+        "Chain" => answer::<Chain>(alloc, text),
         _ => Err(Error::custom(String::from_str(alloc, "no such type")?)),
     }
 }
 
+// What a text is answered that is read as a value of any kind, or as a type with one.
+fn answer_as_any(alloc: Global, name: &str, text: &str) -> Result<String, Error> {
+    match name {
+        "Value" => answer::<Value>(alloc, text),
+        "Value/events" => answer_of_events::<Value>(alloc, text),
+        "Value/documents" => answer_of_documents::<Value>(alloc, text),
+        "Vec<Value>" => answer::<Vec<Value>>(alloc, text),
+        "Option<Value>" => answer::<Option<Value>>(alloc, text),
+        "Mapping" => answer::<Mapping>(alloc, text),
+        "Number" => answer::<Number>(alloc, text),
+        "Parcel" => answer::<Parcel>(alloc, text),
+        "Task" => answer::<Task>(alloc, text),
+        "Task/events" => answer_of_events::<Task>(alloc, text),
+        "Sign" => answer::<Sign>(alloc, text),
+        "Either" => answer::<Either>(alloc, text),
+        "Choice" => answer::<Choice>(alloc, text),
+        "BTreeMap<String,Value>" => answer::<BTreeMap<String, Value>>(alloc, text),
+        _ => answer_as_standard(alloc, name, text),
+    }
+}
+
 // A service that is written again, or its fault with the place in front.
-fn answer_with_place(alloc: Global, text: &str) -> Result<String, Error> {
+fn answer_in_front(alloc: Global, text: &str) -> Result<String, Error> {
     match read_service(alloc, text) {
         Ok(service) => write_service(alloc, &service),
         Err(fault) => Ok(placed(alloc, "web.yaml", &fault)?),
@@ -60,10 +123,13 @@ fn answer_by_function(alloc: Global, name: &str, text: &str) -> Result<String, E
         "longest_name" => Ok(String::from_str(alloc, longest_name(alloc, text)?)?),
         "all_jobs" => to_string(alloc, &all_jobs(alloc, text)?),
         "count_services" => to_string(alloc, &count_services(alloc, text)?),
-        "placed" => answer_with_place(alloc, text),
+        "placed" => answer_in_front(alloc, text),
         "to_json" => to_json(alloc, text),
         "renamed" => renamed(alloc, text),
-        _ => answer_as_standard(alloc, name, text),
+        _ => match name.strip_prefix("Value:") {
+            Some(deed) => answer_of_value(alloc, deed, text),
+            None => answer_with_places(alloc, name, text),
+        },
     }
 }
 
@@ -73,6 +139,8 @@ pub fn answer_as(alloc: Global, name: &str, text: &str) -> Result<String, Error>
         "Service" => answer::<Service>(alloc, text),
         "Service/slice" => answer_of_slice::<Service>(alloc, text),
         "Service/events" => answer_of_events::<Service>(alloc, text),
+        "Service/reader" => answer_of_reader::<Service>(alloc, text),
+        "Service/broken" => answer_of_broken::<Service>(alloc, text),
         "Person" => answer::<Person<'_>>(alloc, text),
         "Person/documents" => answer_of_documents::<Person<'_>>(alloc, text),
         "Note" => answer::<Note<'_>>(alloc, text),

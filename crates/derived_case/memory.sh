@@ -1,0 +1,21 @@
+#!/bin/sh
+# Gives the built program the rows of memory.rows, and compares what it prints and its status. Ends with status 0 only if
+# each row has the answer that stands behind it.
+#
+# usage: memory.sh [PROGRAM]   With no PROGRAM it is proved and built first, over what earlier checks kept in out/.
+set -u
+root=$(cd "$(dirname "$0")" && pwd)
+. "$root/../../.ci/program.sh"
+start "$root" "${1:-}"
+
+# Where glibc keeps lists of small blocks that were freed, they break up the memory that a run is measured out of.
+sed 's/  => .*//' "$root/memory.rows" > "$work/in"
+count=$(grep -c '^[^#]' "$work/in")
+GLIBC_TUNABLES=glibc.malloc.tcache_count=0 "$program" < "$work/in" > "$work/out"
+status=$?
+if [ "$status" != 0 ] || ! diff "$root/memory.rows" "$work/out"; then
+    echo "memory: rows of refused memory: status $status, and not what is wanted"
+    failed=1
+fi
+
+finish
