@@ -6,7 +6,7 @@ use serde::de::DeserializeOwned;
 use serde::{Deserialize, Serialize};
 use serde_yaml::{from_slice, from_str, to_string, Error};
 use std::borrow::Cow;
-use std::collections::{BTreeMap, HashMap};
+use std::collections::{BTreeMap, BTreeSet, HashMap, HashSet, VecDeque};
 use std::io::{self, Read, Write};
 use std::panic::catch_unwind;
 use types::*;
@@ -101,6 +101,23 @@ fn answer_as(name: &str, text: &str) -> Answer {
         "(u8,bool)" => answer::<(u8, bool)>(text),
         "BTreeMap<String,u8>" => answer::<BTreeMap<String, u8>>(text),
         "HashMap<String,u8>" => answer::<HashMap<String, u8>>(text),
+        "(u8,)" => answer::<(u8,)>(text),
+        "(u8,bool,char)" => answer::<(u8, bool, char)>(text),
+        "(u8,bool,char,String)" => answer::<(u8, bool, char, String)>(text),
+        "[u8;2]" => answer::<[u8; 2]>(text),
+        "VecDeque<u8>" => answer::<VecDeque<u8>>(text),
+        "HashSet<u8>" => answer::<HashSet<u8>>(text),
+        "BTreeSet<String>" => answer::<BTreeSet<String>>(text),
+        "BTreeMap<i64,bool>" => answer::<BTreeMap<i64, bool>>(text),
+        "BTreeMap<bool,u8>" => answer::<BTreeMap<bool, u8>>(text),
+        "BTreeMap<char,()>" => answer::<BTreeMap<char, ()>>(text),
+        "HashMap<u16,Vec<Option<u8>>>" => answer::<HashMap<u16, Vec<Option<u8>>>>(text),
+        "Box<Pair>" => answer::<Box<Pair>>(text),
+        "Option<Option<u8>>" => answer::<Option<Option<u8>>>(text),
+        "Vec<Option<Option<u8>>>" => answer::<Vec<Option<Option<u8>>>>(text),
+        "Timeout" => answer::<Timeout>(text),
+        "Backoff" => answer::<Backoff>(text),
+        "Chain" => answer::<Chain>(text),
         "Service" | "Service/events" | "read_service" => answer::<Service>(text),
         "Service/slice" => answer_of_slice::<Service>(text),
         "Person" => answer::<Person<'_>>(text),

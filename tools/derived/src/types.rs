@@ -176,3 +176,37 @@ pub struct Passed {
     #[serde(skip_serializing)]
     nest: Nest,
 }
+
+#[derive(Serialize, Deserialize)]
+pub struct Timeout(#[serde(with = "milliseconds")] std::time::Duration);
+
+mod milliseconds {
+    use serde::de::Error;
+    use serde::{Deserialize, Deserializer, Serializer};
+    use std::borrow::Cow;
+    use std::time::Duration;
+
+    pub fn serialize<S: Serializer>(time: &Duration, out: S) -> Result<S::Ok, S::Error> {
+        out.collect_str(&format_args!("{}ms", time.as_millis()))
+    }
+
+    pub fn deserialize<'de, D: Deserializer<'de>>(from: D) -> Result<Duration, D::Error> {
+        let text = Cow::<str>::deserialize(from)?;
+        let number = text.strip_suffix("ms").and_then(|number| number.parse().ok());
+        number.map(Duration::from_millis).ok_or_else(|| D::Error::custom("no milliseconds"))
+    }
+}
+
+#[derive(Serialize, Deserialize)]
+pub struct Backoff {
+    first: Timeout,
+    #[serde(default)]
+    others: Vec<Timeout>,
+    last: Option<Box<Timeout>>,
+}
+
+#[derive(Serialize, Deserialize)]
+pub struct Chain {
+    link: u8,
+    next: Option<Box<Chain>>,
+}
