@@ -17,3 +17,4 @@ pub mod JoinData
 pub mod Stands
 pub mod RowShapes
 pub mod EqualDataLaws
+pub mod ShortNames
