@@ -4,6 +4,10 @@
 count=0
 failed=0
 
+# What glibc is told where the memory that is left is measured: to keep no lists of small blocks that were freed, which
+# would break that memory up.
+one_piece=glibc.malloc.tcache_count=0:glibc.malloc.mxfast=0
+
 # Makes a folder for files, and sets the program: the one that is given, or else the one of the crate in a folder, which
 # is proved and built by a run with the arguments behind, over what earlier checks kept in out/.
 start() {

@@ -8,10 +8,9 @@ root=$(cd "$(dirname "$0")" && pwd)
 . "$root/../../.ci/program.sh"
 start "$root" "${1:-}"
 
-# Where glibc keeps lists of small blocks that were freed, they break up the memory that a run is measured out of.
 sed 's/  => .*//' "$root/memory.rows" > "$work/in"
 count=$(grep -c '^[^#]' "$work/in")
-GLIBC_TUNABLES=glibc.malloc.tcache_count=0 "$program" < "$work/in" > "$work/out"
+GLIBC_TUNABLES="$one_piece" "$program" < "$work/in" > "$work/out"
 status=$?
 if [ "$status" != 0 ] || ! diff "$root/memory.rows" "$work/out"; then
     echo "memory: rows of refused memory: status $status, and not what is wanted"

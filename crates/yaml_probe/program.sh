@@ -145,6 +145,7 @@ awk '/^@@ / { print $2 "\t1\t\"fault: bad at line 2 column 1\"" }' "$work/in" > 
 want "documents that were cut off"
 
 # Rows that are answered with little memory, or with none.
+export GLIBC_TUNABLES="$one_piece"
 LC_ALL=C awk -v WANTED="$work/wanted" -f "$root/../../.ci/rows.awk" "$root/memory.rows" "$root/memory.rows" \
     > "$work/in" || exit 1
 want "rows of refused memory"
