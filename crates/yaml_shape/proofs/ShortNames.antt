@@ -6,4 +6,4 @@ use Rattle.yaml_shape.specs.declared.fault.TheConstants.SchemaFault.{S4, S5}
 
 -- `S4` and `S5` stand for their faults
 pub short_names_have_their_faults : (S4 ≡ TooManyShapes) × (S5 ≡ Memory)
-short_names_have_their_faults = refl, refl
+short_names_have_their_faults = (refl, refl)
