@@ -22,3 +22,4 @@ mod stream;
 pub use events::Events;
 pub use list::{Parsed, parse};
 pub use parser::{Ending, Parser, unread};
+pub use place::{mark_at, mark_of_event};

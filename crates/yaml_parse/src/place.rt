@@ -44,8 +44,8 @@ fn begins_character(text: &[u8], at: usize) -> bool
     byte < 0x80 || byte > 0xBF
 }
 
-// The mark at this index, by the one at an index that is no greater.
-pub(crate) fn mark_at(text: &[u8], from: Mark, index: u64) -> Mark
+/// The mark at this index of a text, by the one at an index that is no greater.
+pub fn mark_at(text: &[u8], from: Mark, index: u64) -> Mark
     requires forward { from.index ≤ index }
     requires within { index ≤ length text.now }
     requires place { (from.line, from.column) ≡ place_of text.now from.index }
@@ -70,10 +70,10 @@ pub(crate) fn mark_at(text: &[u8], from: Mark, index: u64) -> Mark
     }
 }
 
-// The mark at the same index where the next event begins: the same one, or behind a last line that has no line break,
-// where the next event is said to begin in column 0, the start of the line behind it.
+/// The mark at the same index where the next event begins: the same one, or behind a last line that has no line break,
+/// where the next event is said to begin in column 0, the start of the line behind it.
 #[inline(always)]
-pub(crate) fn mark_of_event(text: &[u8], here: Mark, said: Mark) -> Mark
+pub fn mark_of_event(text: &[u8], here: Mark, said: Mark) -> Mark
     requires index { said.index ≡ here.index }
     requires place { (here.line, here.column) ≡ place_of text.now here.index }
     requires within { here.index ≤ length text.now }
