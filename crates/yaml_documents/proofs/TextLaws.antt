@@ -1,5 +1,5 @@
 -- The events of a text are never refused as no stream, and what is told of them is what the text was parsed to.
-use Rattle.std.proofs.Common.{◌≡◌, ◌∙◌, ◌∷◌, ◌++◌, [], Bool, IsSomeAnd, List, Option, ap, false, is_some, refl, subst}
+use Rattle.std.proofs.Common.{◌≡◌, ◌∙◌, ◌∷◌, ◌++◌, [], Bool, IsSomeAnd, List, None, Option, ap, false, is_some, refl, subst}
 use Rattle.std.proofs.Common.{sym}
 use Rattle.std.proofs.Common.{true, ℕ}
 use Rattle.std.proofs.lemmas.List.{map-append}
@@ -56,3 +56,12 @@ parsed_of {told} {text} {events} {fault} same taken sources plain marks places a
       refused = λ against. (none against, refused against);
     } in
     subst (λ (t : List ℕ). AreParsed t events fault) same parsed
+
+-- events that are a whole stream of a text that is allowed are those that it was parsed to, with no fault
+pub parsed_whole : {told text : List ℕ} {events : List (Event × Position)} → told ≡ text → IsAllowed text
+    → IsWellFormed false (plain_events events) → AreShown told events → SaySources events → MarksAscend told events
+    → AreInPlace told events → AreParsed text events None
+parsed_whole {told} {text} {events} same is_allowed taken sources plain marks places =
+    let held : IsAllowed told = subst IsAllowed (sym same) is_allowed in
+    parsed_of same taken sources plain marks places (λ _. tt) (λ against. absurd (against held))
+    (λ against. absurd (against held))

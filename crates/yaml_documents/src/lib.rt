@@ -4,6 +4,7 @@
 
 mod ahead;
 mod batch;
+mod direct;
 mod filling;
 mod input;
 mod pending;

@@ -1,21 +1,18 @@
-//! All documents of a text, whose events are loaded as they are parsed.
+//! All documents of a text.
 
 ghost use Rattle.std.specs.Prelude.{◌≡◌, IfErr, IfOk, true};
 ghost use Rattle.yaml_base.specs.Answer.{is_memory};
 ghost use Rattle.yaml_documents.specs.TextDocuments.{AreDocumentsOf};
 
+use crate::direct::load_directly;
 use std::alloc::Global;
 use yaml_base::Result;
 use yaml_load::LoaderBuilder;
 use yaml_parse::{Ending, Events};
 use yaml_read::Loader;
 
-/// The documents of a YAML text, which may borrow from it. What can't be parsed is the fault of the document that it
-/// stands in. A text whose bytes are not all allowed, by the rules of UTF-8 or of YAML's characters, has one document,
-/// cut off before its first event. The only error is want of memory.
-///
-/// They are those that `Loader::new` makes of the text's events, and no list of these is made.
-pub fn load<'de>(alloc: Global, text: &'de [u8]) -> Result<Loader<'de>>
+// The documents of a text, by its tokens, whose events are loaded as they are parsed.
+fn load_by_tokens<'de>(alloc: Global, text: &'de [u8]) -> Result<Loader<'de>>
     ensures documents { IfOk result (AreDocumentsOf text.now) }
     ensures memory { IfErr result (λ cause. is_memory cause ≡ true) }
 {
@@ -33,5 +30,21 @@ pub fn load<'de>(alloc: Global, text: &'de [u8]) -> Result<Loader<'de>>
     match builder.finish(fault) {
         Ok(documents) => Ok(Loader::from(documents)),
         Err(fault) => Err(fault),
+    }
+}
+
+/// The documents of a YAML text, which may borrow from it. What can't be parsed is the fault of the document that it
+/// stands in. A text whose bytes are not all allowed, by the rules of UTF-8 or of YAML's characters, has one document,
+/// cut off before its first event. The only error is want of memory.
+///
+/// They are those that `Loader::new` makes of the text's events, and no list of these is made. A text of which some part
+/// is left by the direct parser is read anew by its tokens, so each fault is the one that these tell.
+pub fn load<'de>(alloc: Global, text: &'de [u8]) -> Result<Loader<'de>>
+    ensures documents { IfOk result (AreDocumentsOf text.now) }
+    ensures memory { IfErr result (λ cause. is_memory cause ≡ true) }
+{
+    match load_directly(alloc, text)? {
+        Some(documents) => Ok(documents),
+        None => load_by_tokens(alloc, text),
     }
 }

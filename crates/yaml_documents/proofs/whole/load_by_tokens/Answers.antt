@@ -4,7 +4,7 @@ use Rattle.yaml_base.specs.Answer.{is_memory}
 use Rattle.yaml_base.specs.MarkedEvents.{events_in, plain_events, plain_marked}
 use Rattle.yaml_base.specs.Stream.{IsWellFormed}
 use Rattle.yaml_documents.proofs.TextLaws.{never_wrong, not_false, parsed_of, same_events}
-use Rattle.yaml_documents.proofs.whole.load.Goals as goal
+use Rattle.yaml_documents.proofs.whole.load_by_tokens.Goals as goal
 use Rattle.yaml_read.specs.Documents.{documents_of}
 
 pub returns-in-Err-clause-memory : goal.returns-in-Err-clause-memory

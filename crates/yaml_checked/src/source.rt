@@ -1,0 +1,50 @@
+//! What the source of a plain scalar says.
+
+ghost use Rattle.std.specs.Prelude.{◌≡◌, ◌-◌, ◌↔◌, IsTrue, drop, false, length, true};
+ghost use Rattle.yaml_base.specs.LineBreaks.{IsOneLine};
+
+// Whether the bytes are a text.
+#[inline(always)]
+fn is(bytes: &[u8], text: &[u8]) -> bool
+    ensures { IsTrue result ↔ (bytes.now ≡ text.now) }
+{
+    bytes == text
+}
+
+// Whether the bytes end with a text.
+#[inline(always)]
+fn ends_with(source: &[u8], text: &[u8]) -> bool
+    ensures { result ≡ true → text.now ≡ drop (length source.now - length text.now) source.now }
+{
+    if text.len() > source.len() {
+        return false;
+    }
+    is(&source[source.len() - text.len()..], text)
+}
+
+// Whether a line feed stands in the bytes.
+#[inline(never)]
+fn has_line_feed(source: &[u8]) -> bool
+    ensures { result ≡ true → IsOneLine source.now → ⊥ }
+{
+    for byte in source {
+        if *byte == b'\n' {
+            return true;
+        }
+    }
+    false
+}
+
+// Whether the source of a plain scalar says this text: it ends with it, and is nothing else where no name stands before
+// it; or it has more than one line.
+#[inline(always)]
+pub(crate) fn says(source: &[u8], text: &[u8], has_names: bool) -> bool
+    ensures rest { result ≡ true → IsOneLine source.now
+        → text.now ≡ drop (length source.now - length text.now) source.now }
+    ensures whole { result ≡ true → has_names ≡ false → IsOneLine source.now → text.now ≡ source.now }
+{
+    if ends_with(source, text) && (has_names || text.len() == source.len()) {
+        return true;
+    }
+    has_line_feed(source)
+}

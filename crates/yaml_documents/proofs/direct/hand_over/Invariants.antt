@@ -1,0 +1,7 @@
+-- The builder took the events that were handed out.
+use Rattle.std.proofs.Common.{◌≡◌}
+use Rattle.yaml_base.specs.MarkedEvents.{plain_marked}
+use Rattle.yaml_documents.proofs.direct.hand_over.Given as goal
+
+abbrev pub invariant-events : goal.invariant-events
+invariant-events l = (l.events.text ≡ l.fn.events.text) × (l.builder ≡ plain_marked l.events.given)
