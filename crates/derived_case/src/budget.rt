@@ -84,9 +84,9 @@ fn all_runs(
     found
 }
 
-/// The answer to a text that is read as the type of this name, behind a word where it was refused with less memory. Each
-/// request for memory is refused in one run or another, since no block takes less than 32 bytes, and each run has 16
-/// more.
+/// The answer to a text that is read as the type of this name, behind a word where it was refused with less memory.
+/// Each request for memory is refused in one run or another, since no block takes less than 32 bytes, and each run has
+/// 16 more.
 pub fn under_budget(alloc: Global, name: &str, text: &str) -> Result<String, AllocError> {
     let plain = answer_of(alloc, name, text)?;
     match all_runs(alloc, name, text, plain.as_str())? {

@@ -16,8 +16,8 @@ use yaml_base::Result;
 use yaml_base::emitter::EmitEvent;
 use yaml_emit::{WriteFault, emit};
 
-/// The events of a whole stream whose one document is the value. A value that writes nothing, or more than one value, is
-/// refused.
+/// The events of a whole stream whose one document is the value. A value that writes nothing, or more than one value,
+/// is refused.
 pub fn to_events<T: Serialize>(alloc: Global, value: &T) -> Result<Vec<EmitEvent>>
     ensures stream { IfOk result (λ events. IsEmitStream (map emit_of events.items)) }
     ensures one { IfOk result (λ events. IsWrittenDocument (map emit_of events.items)) }

@@ -4,8 +4,8 @@ use crate::texts::{owned, shows};
 use std::process::Abort;
 use yaml_base::{Error, FaultKind, Mark, ParserFault};
 
-// A kind, an offset, the line of a mark, the column of the context's mark, if there is a context, and what a copy of such
-// a fault shows in debug.
+// A kind, an offset, the line of a mark, the column of the context's mark, if there is a context, and what a copy of
+// such a fault shows in debug.
 type Row = (FaultKind, u64, u64, Option<u64>, &'static str);
 
 const ROWS: &[Row] = &[
