@@ -25,6 +25,10 @@ pub grows_pushed : (a b : Reader) (e : PlainEvent × Position)
     → marked_on b.tape ≡ marked_on a.tape ++ e ∷ [] → Grows a b
 grows_pushed a b e h = record { more = e ∷ []; added = h }
 
+around : {A : Type 0} (xs more : List A) (x y : A)
+    → ((xs ++ x ∷ []) ++ more) ++ y ∷ [] ≡ (xs ++ x ∷ more) ++ y ∷ []
+around xs more x y = ap (λ z. z ++ y ∷ []) (append_assoc xs (x ∷ []) more)
+
 -- a start, what it holds, and an end make a document
 pub document_added : (a b c d : Reader) (start end : Position)
     → marked_on b.tape ≡ marked_on a.tape ++ (document_start, start) ∷ [] → Grows b c
@@ -35,8 +39,7 @@ document_added a b c d start end f g h = record {
   nodes = g.more;
   end = end;
   added = h ∙ ap (λ x. x ++ (document_end, end) ∷ []) (g.added ∙ ap (λ x. x ++ g.more) f)
-      ∙ append_assoc (marked_on a.tape ++ (document_start, start) ∷ []) g.more ((document_end, end) ∷ [])
-      ∙ append_assoc (marked_on a.tape) ((document_start, start) ∷ []) (g.more ++ (document_end, end) ∷ []);
+      ∙ around (marked_on a.tape) g.more (document_start, start) (document_end, end);
 }
 
 -- what was added is taken off again
@@ -46,7 +49,7 @@ first_of xs ys = take-append-le (length xs) xs ys (omega arith) ∙ take_all (le
 pub given_up : (a b : Reader) (t : Tape) → Grows a b
     → marked_on t ≡ take (length a.tape.entries.items) (marked_on b.tape) → marked_on t ≡ marked_on a.tape
 given_up a b t g h =
-    let count = length-map (marked_by a.tape.text.now a.tape.arena.items a.tape.names.items) a.tape.entries.items in
+    let count = length-map a.tape.entries.items (marked_by a.tape.text.now a.tape.arena.items a.tape.names.items) in
     h ∙ subst (λ n. take n (marked_on b.tape) ≡ take (length (marked_on a.tape)) (marked_on b.tape)) count refl
     ∙ ap (take (length (marked_on a.tape))) g.added ∙ first_of (marked_on a.tape) g.more
 

@@ -20,7 +20,7 @@ pub record AddsDocument (old new : List (PlainEvent × Position)) : Type 0 where
   pub start : Position
   pub nodes : List (PlainEvent × Position)
   pub end : Position
-  pub added : new ≡ old ++ (document_start, start) ∷ nodes ++ (document_end, end) ∷ []
+  pub added : new ≡ (old ++ (document_start, start) ∷ nodes) ++ (document_end, end) ∷ []
 
 -- the end of the stream
 pub record AddsEnd (old new : List (PlainEvent × Position)) : Type 0 where

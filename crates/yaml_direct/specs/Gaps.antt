@@ -35,8 +35,7 @@ pub data Gap (text : List ℕ) : (broken : Bool) → (i j : ℕ) → Type 0 wher
 
 -- a token may begin here
 abbrev pub begins_token : List ℕ → ℕ → Bool
-begins_token text i =
-    not (at text i == 32 || (at text i == 10 || ((at text i == 13 && at text (i + 1) == 10) || at text i == 35)))
+begins_token text i = not (at text i == 32 || (at text i == 10 || (at text i == 13 || at text i == 35)))
 
 -- all that stands before the next token, or before the end of the text
 pub record Between (text : List ℕ) (broken : Bool) (i j : ℕ) : Type 0 where

@@ -105,6 +105,14 @@ pub(crate) fn blanks_end(text: &[u8], from: usize) -> usize
     text.len()
 }
 
+// Whether a line feed stands here.
+#[inline(always)]
+pub(crate) fn is_feed(text: &[u8], place: usize) -> bool
+    ensures { IsTrue result → at text.now place ≡ 10 }
+{
+    at(text, place) == b'\n'
+}
+
 // The place of the line feed, where a line ends here: this one, or the next where a carriage return stands before it.
 // If none does, this one.
 #[inline(always)]

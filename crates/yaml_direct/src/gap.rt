@@ -5,7 +5,7 @@ ghost use Rattle.std.specs.Prelude.{◌≡◌, ◌==◌, not, ◌≢◌, ◌<◌
 ghost use Rattle.yaml_direct.specs.Gaps.{Between, is_apart};
 ghost use Rattle.yaml_direct.specs.Places.{IsHere, Keeps, Reaches, no_place};
 
-use crate::byte::{at, line_end, spaces_end};
+use crate::byte::{at, is_feed, line_end, spaces_end};
 use crate::place::{NO_PLACE, reach};
 use crate::reader::Reader;
 use crate::text::has_order_mark;
@@ -42,7 +42,13 @@ impl Reader<'_> {
         'gap: while place < text.len() {
             match text[place] {
                 b' ' => place += 1,
-                b'\r' if at(text, place + 1) == b'\n' => place += 1,
+                b'\r' => {
+                    if is_feed(text, place + 1) {
+                        place += 1;
+                    } else {
+                        return NO_PLACE;
+                    }
+                }
                 b'\n' => {
                     place += 1;
                     self.begin_line(place);

@@ -17,8 +17,8 @@ gap-preserved-in-32 c =
       front = λ b k g. i.front b k (a_blank c.in-32.is g);
     }
 
-pub gap-preserved-then-at : goal.gap-preserved-then-at
-gap-preserved-then-at c =
+pub gap-preserved-then-is_feed : goal.gap-preserved-then-is_feed
+gap-preserved-then-is_feed c =
     let i = c.gap.invariant in
     record {
       forward = omega (arith, i.forward);
@@ -28,7 +28,7 @@ gap-preserved-then-at c =
       start = i.start;
       tape = i.tape;
       lines = i.lines;
-      front = λ b k g. i.front b k (a_return c.in-13.is (sym c.at.ensures.value ∙ c.if-at.true) g);
+      front = λ b k g. i.front b k (a_return c.in-13.is (c.is_feed.ensures c.if-is_feed.true) g);
     }
 
 pub gap-preserved-in-10 : goal.gap-preserved-in-10
