@@ -1,8 +1,8 @@
--- What is found in a plain value: at a key, in a place, or at the end of a path.
-use Rattle.std.specs.Prelude.{ℕ, suc, zero, pos, Bool, if◌then◌else◌}
+-- What is found in a plain value: at a key, or under tags.
+use Rattle.std.specs.Prelude.{ℕ, suc, zero, Bool, if◌then◌else◌}
 use Rattle.std.specs.Prelude.{◌<◌, List, Option, Some, None, option_and_then, option_map, IfSome}
-use Rattle.yaml_value.specs.PlainValue.{PlainValue, text, integer, sequence, mapping, tagged}
-use Rattle.yaml_value.specs.PlainValue.{PlainItems, no_items, item, PlainPairs, no_pairs, pair, pair_count}
+use Rattle.yaml_value.specs.PlainValue.{PlainValue, text, sequence, mapping, tagged}
+use Rattle.yaml_value.specs.PlainValue.{PlainItems, PlainPairs, no_pairs, pair, pair_count}
 use Rattle.yaml_value.specs.PlainEqual.{plain_eq, value_where}
 
 -- the value under all its tags
@@ -31,22 +31,9 @@ tagged_in _ = None
 abbrev pub value_at : PlainValue → PlainPairs → Option PlainValue
 value_at k ps = value_where (plain_eq k) ps
 
--- the value in this place of a list
-abbrev pub item_at : ℕ → PlainItems → Option PlainValue
-item_at place no_items = None
-item_at zero (item v vs) = Some v
-item_at (suc place) (item v vs) = item_at place vs
-
 -- the value at the key that is this text, where it is a mapping
 abbrev pub get : List ℕ → PlainValue → Option PlainValue
 get key v = option_and_then (value_at (text key)) (pairs_in v)
-
--- the value in this place of a sequence, or at the key of a mapping that is this number
-abbrev pub at : ℕ → PlainValue → Option PlainValue
-at place (sequence vs) = item_at place vs
-at place (mapping ps) = value_at (integer (pos place)) ps
-at place (tagged t v) = at place v
-at place _ = None
 
 -- the place of the first pair whose key passes
 abbrev pub place_where : (PlainValue → Bool) → PlainPairs → Option ℕ
