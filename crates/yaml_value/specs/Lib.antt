@@ -1,4 +1,10 @@
 -- What contracts of this crate cite.
+pub mod Find
+pub mod Forms
 pub mod Kinds
 pub mod Numbers
+pub mod PlainEqual
+pub mod PlainValue
 pub mod TagMark
+pub mod TagText
+pub mod View

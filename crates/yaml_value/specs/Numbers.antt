@@ -1,25 +1,15 @@
 -- What a number is, for one who asks for an integer of some width or a float.
-use Rattle.std.specs.Prelude.{ℕ, ◌^◌, ℤ, pos, negsuc, Bool, true, false, Option, Some, None, nat_lt, if◌then◌else◌}
+use Rattle.std.specs.Prelude.{ℕ, ◌^◌, ℤ, pos, negsuc, Option, Some, None, nat_lt, if◌then◌else◌}
+use Rattle.std.specs.Prelude.{List, option_map}
 use Rattle.std.specs.Float.Ieee.{Float}
+use Rattle.std.specs.Fmt.{signed_decimal}
 use Rattle.std.specs.Option.{option_and_then}
-use Rattle.yaml_value.specs.declared.number.Form.{Form}
-use Rattle.yaml_value.specs.declared.number.Form.TheVariants as form
+use Rattle.yaml_value.specs.Forms.{integer_of, float_of, float_near}
 use Rattle.yaml_value.specs.declared.number.Number.{Number}
-
--- the integer that a form stands for
-abbrev pub integer_of : Form → Option ℤ
-integer_of (form.Unsigned n) = Some (pos n)
-integer_of (form.Negative z) = Some z
-integer_of (form.Float x) = None
 
 -- the integer that a number is
 abbrev pub integer_in : Number → Option ℤ
 integer_in number = integer_of number.form
-
--- the float that a form stands for
-abbrev pub float_of : Form → Option Float
-float_of (form.Float x) = Some x
-float_of _ = None
 
 -- the float that a number is
 abbrev pub float_in : Number → Option Float
@@ -47,3 +37,11 @@ as_u64 number = option_and_then (unsigned_below (2 ^ 64)) (integer_in number)
 
 abbrev pub as_i64 : Number → Option ℤ
 as_i64 number = option_and_then (signed_below (2 ^ 63)) (integer_in number)
+
+-- the number as a float
+abbrev pub as_f64 : Number → Option Float
+as_f64 number = float_near number.form
+
+-- the text of an integer; that of a float is known by what it is read back as
+abbrev pub integer_text : Number → Option (List ℕ)
+integer_text number = option_map signed_decimal (integer_in number)

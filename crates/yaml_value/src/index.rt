@@ -4,6 +4,10 @@
 //! the chain's last entry is, and each entry where the one before it is. A place is kept as one more than it is, so
 //! that 0 says that there is none.
 
+ghost use Rattle.std.specs.Prelude.{◌≡◌, ◌<◌};
+ghost use Rattle.yaml_value.specs.Find.{few};
+ghost use Rattle.yaml_value.specs.View.{entry_pairs, plain_entry};
+
 use crate::mapping::Entry;
 use crate::value::hash::hash_value;
 
@@ -12,7 +16,9 @@ const FEW: usize = 16;
 
 // How many chains so many entries have: none while they are few, and else the greatest power of 2 that is no more than
 // they are.
-pub(crate) fn chain_count(entries: usize) -> usize {
+pub(crate) fn chain_count(entries: usize) -> usize
+    ensures { entries < few → result ≡ 0 }
+{
     if entries < FEW {
         0
     } else {
@@ -37,7 +43,9 @@ pub(crate) fn first_of(hash: u64, entries: &[Entry]) -> usize {
 }
 
 // Puts the last entry into the index of those before it.
-pub(crate) fn index_last(entries: &mut Vec<Entry>) {
+pub(crate) fn index_last(entries: &mut Vec<Entry>)
+    ensures { entry_pairs entries.new.items ≡ entry_pairs entries.old.items }
+{
     let Some(last) = entries.len().checked_sub(1) else {
         return;
     };
@@ -53,7 +61,9 @@ pub(crate) fn index_last(entries: &mut Vec<Entry>) {
 }
 
 // Makes the index of all entries.
-pub(crate) fn index_all(entries: &mut Vec<Entry>) {
+pub(crate) fn index_all(entries: &mut Vec<Entry>)
+    ensures { entry_pairs entries.new.items ≡ entry_pairs entries.old.items }
+{
     let chains = chain_count(entries.len());
     if chains == 0 {
         return;
@@ -67,7 +77,9 @@ pub(crate) fn index_all(entries: &mut Vec<Entry>) {
 }
 
 // Puts the entry at a place into its chain, behind those before it.
-fn chain(entries: &mut Vec<Entry>, place: usize, chains: usize) {
+fn chain(entries: &mut Vec<Entry>, place: usize, chains: usize)
+    ensures { entry_pairs entries.new.items ≡ entry_pairs entries.old.items }
+{
     let Some(entry) = entries.get(place) else {
         return;
     };
@@ -80,16 +92,32 @@ fn chain(entries: &mut Vec<Entry>, place: usize, chains: usize) {
     set_earlier(entries, place, earlier);
 }
 
-fn set_last(entries: &mut Vec<Entry>, i: usize, last: usize) {
+// Keeps in an entry where the last one of a chain is.
+fn keep_last(entry: &mut Entry, last: usize)
+    ensures { plain_entry entry.new ≡ plain_entry entry.old }
+{
+    entry.last = last;
+}
+
+// Keeps in an entry where the one before it is.
+fn keep_earlier(entry: &mut Entry, earlier: usize)
+    ensures { plain_entry entry.new ≡ plain_entry entry.old }
+{
+    entry.earlier = earlier;
+}
+
+fn set_last(entries: &mut Vec<Entry>, i: usize, last: usize)
+    ensures { entry_pairs entries.new.items ≡ entry_pairs entries.old.items }
+{
     if i < entries.len() {
-        let entry = &mut entries[i];
-        entry.last = last;
+        keep_last(&mut entries[i], last);
     }
 }
 
-fn set_earlier(entries: &mut Vec<Entry>, i: usize, earlier: usize) {
+fn set_earlier(entries: &mut Vec<Entry>, i: usize, earlier: usize)
+    ensures { entry_pairs entries.new.items ≡ entry_pairs entries.old.items }
+{
     if i < entries.len() {
-        let entry = &mut entries[i];
-        entry.earlier = earlier;
+        keep_earlier(&mut entries[i], earlier);
     }
 }

@@ -1,5 +1,15 @@
 //! Mappings of values to values.
 
+ghost use Rattle.std.specs.Prelude.{◌≡◌, ◌==◌, ◌<◌, Some, is_some, length, option_and_then, option_map};
+ghost use Rattle.std.specs.Prelude.{OnErr, OnOk, slice_index_or};
+ghost use Rattle.std.specs.List.{remove};
+ghost use Rattle.std.specs.Slice.Iter.{iter_rest};
+ghost use Rattle.yaml_value.specs.Find.{few, place_where, value_at, value_in_place};
+ghost use Rattle.yaml_value.specs.Find.{without_found, without_key, without_place};
+ghost use Rattle.yaml_value.specs.PlainEqual.{plain_eq};
+ghost use Rattle.yaml_value.specs.PlainValue.{no_pairs, pair_count, text, with_last};
+ghost use Rattle.yaml_value.specs.View.{entry_pairs, plain, plain_entry, plain_pairs};
+
 use crate::index::{index_all, index_last};
 use crate::number::Number;
 use crate::value::Value;
@@ -20,17 +30,23 @@ pub struct Entry {
 
 impl Entry {
     /// The key.
-    pub fn key(&self) -> &Value {
+    pub fn key(&self) -> &Value
+        ensures { plain result.now ≡ (plain_entry self.now).0 }
+    {
         &self.key
     }
 
     /// The value at the key.
-    pub fn value(&self) -> &Value {
+    pub fn value(&self) -> &Value
+        ensures { plain result.now ≡ (plain_entry self.now).1 }
+    {
         &self.value
     }
 
     /// The key and the value.
-    pub fn into_pair(self) -> (Value, Value) {
+    pub fn into_pair(self) -> (Value, Value)
+        ensures { (plain result.0, plain result.1) ≡ plain_entry self }
+    {
         let Entry { key, value, .. } = self;
         (key, value)
     }
@@ -45,47 +61,168 @@ pub struct Mapping {
 
 fn discard(_value: Value) {}
 
+// How many entries there are.
+pub(crate) fn count(entries: &[Entry]) -> usize
+    ensures { result ≡ pair_count (entry_pairs entries.now) }
+{
+    entries.len()
+}
+
 // The value of the entry in a place.
-fn value_in(entries: &[Entry], place: Option<usize>) -> Option<&Value> {
-    match entries.get(place?) {
-        Some(entry) => Some(&entry.value),
+fn value_in(entries: &[Entry], place: Option<usize>) -> Option<&Value>
+    ensures { option_map (λ value. plain value.now) result
+        ≡ option_and_then (λ i. value_in_place i (entry_pairs entries.now)) place }
+{
+    match place {
+        Some(i) => {
+            if i < entries.len() {
+                Some(entries[i].value())
+            } else {
+                None
+            }
+        }
         None => None,
     }
 }
 
+// The value at the key that is this text.
+fn value_of_text<'e>(entries: &'e [Entry], key: &str) -> Option<&'e Value>
+    ensures { pair_count (entry_pairs entries.now) < few → option_map (λ value. plain value.now) result
+        ≡ value_at (text key.now) (entry_pairs entries.now) }
+{
+    value_in(entries, place_of_text(key, entries))
+}
+
+// Takes the entry out of its place. The others stay in their order.
+fn removed(entries: &mut Vec<Entry>, i: usize) -> Entry
+    requires { i < length entries.old.items }
+    ensures items { entries.new.items ≡ remove entries.old.items i }
+    ensures value { result ≡ slice_index_or entries.old.items i result }
+{
+    entries.remove(i)
+}
+
 // The entry in a place, taken out of these. The index is made anew.
-fn taken_from(entries: &mut Vec<Entry>, place: Option<usize>) -> Option<Entry> {
-    let place = place?;
-    if place >= entries.len() {
-        return None;
-    }
-    let entry = entries.remove(place);
+fn take_out(entries: &mut Vec<Entry>, i: usize) -> Entry
+    requires { i < length entries.old.items }
+    ensures after { entry_pairs entries.new.items ≡ without_place i (entry_pairs entries.old.items) }
+    ensures answer { value_in_place i (entry_pairs entries.old.items) ≡ Some (plain_entry result).1 }
+{
+    let entry = removed(entries, i);
     index_all(entries);
-    Some(entry)
+    entry
+}
+
+// The same, where the place is one of theirs.
+fn taken_from(entries: &mut Vec<Entry>, place: Option<usize>) -> Option<Entry>
+    ensures after { entry_pairs entries.new.items ≡ without_found place (entry_pairs entries.old.items) }
+    ensures answer { option_map (λ entry. (plain_entry entry).1) result
+        ≡ option_and_then (λ i. value_in_place i (entry_pairs entries.old.items)) place }
+{
+    match place {
+        Some(i) => {
+            if i < entries.len() {
+                Some(take_out(entries, i))
+            } else {
+                None
+            }
+        }
+        None => None,
+    }
+}
+
+// The value of the entry that was taken out.
+fn value_taken(entry: Option<Entry>) -> Option<Value>
+    ensures { option_map plain result ≡ option_map (λ taken. (plain_entry taken).1) entry }
+{
+    match entry {
+        Some(entry) => Some(entry.into_pair().1),
+        None => None,
+    }
+}
+
+// The place of the key that is this text.
+fn place_in(entries: &Vec<Entry>, key: &str) -> Option<usize>
+    ensures { pair_count (entry_pairs entries.now.items) < few
+        → result ≡ place_where (plain_eq (text key.now)) (entry_pairs entries.now.items) }
+{
+    place_of_text(key, entries.as_slice())
+}
+
+// Takes the entry out whose key is this text, and answers its value.
+fn remove_text(entries: &mut Vec<Entry>, key: &str) -> Option<Value>
+    ensures after { let old = entry_pairs entries.old.items in
+        pair_count old < few → entry_pairs entries.new.items ≡ without_key (text key.now) old }
+    ensures answer { let old = entry_pairs entries.old.items in
+        pair_count old < few → option_map plain result ≡ value_at (text key.now) old }
+{
+    let place = place_in(entries, key);
+    value_taken(taken_from(entries, place))
+}
+
+// An entry that is in no chain.
+fn new_entry(key: Value, value: Value) -> Entry
+    ensures { plain_entry result ≡ (plain key, plain value) }
+{
+    Entry {
+        key,
+        value,
+        last: 0,
+        earlier: 0,
+    }
+}
+
+// Adds an entry at the end, and leaves the index.
+fn push_entry(entries: &mut Vec<Entry>, entry: Entry) -> Result<(), AllocError>
+    ensures ok { let pair = plain_entry entry in
+        OnOk result (entry_pairs entries.new.items ≡ with_last (entry_pairs entries.old.items) pair.0 pair.1) }
+    ensures err { OnErr result (entry_pairs entries.new.items ≡ entry_pairs entries.old.items) }
+{
+    entries.push(entry)?;
+    Ok(())
+}
+
+// Adds a pair whose key is not there yet.
+fn add(entries: &mut Vec<Entry>, key: Value, value: Value) -> Result<(), AllocError>
+    ensures ok { let old = entry_pairs entries.old.items in
+        OnOk result (entry_pairs entries.new.items ≡ with_last old (plain key) (plain value)) }
+    ensures err { OnErr result (entry_pairs entries.new.items ≡ entry_pairs entries.old.items) }
+{
+    push_entry(entries, new_entry(key, value))?;
+    index_last(entries);
+    Ok(())
 }
 
 impl Mapping {
     /// The empty mapping. It takes no memory until a pair goes in.
-    pub fn new(alloc: Global) -> Mapping {
+    pub fn new(alloc: Global) -> Mapping
+        ensures { plain_pairs result ≡ no_pairs }
+    {
         Mapping {
             entries: Vec::new(alloc),
         }
     }
 
     /// How many pairs there are.
-    pub fn len(&self) -> usize {
-        self.entries.len()
+    pub fn len(&self) -> usize
+        ensures { result ≡ pair_count (plain_pairs self.now) }
+    {
+        count(self.entries.as_slice())
     }
 
     /// Whether there is no pair.
-    pub fn is_empty(&self) -> bool {
-        self.entries.is_empty()
+    pub fn is_empty(&self) -> bool
+        ensures { result ≡ (pair_count (plain_pairs self.now) == 0) }
+    {
+        self.len() == 0
     }
 
     /// The value at the key that is this text. Takes no memory.
-    pub fn get(&self, key: &str) -> Option<&Value> {
-        let entries = self.entries.as_slice();
-        value_in(entries, place_of_text(key, entries))
+    pub fn get(&self, key: &str) -> Option<&Value>
+        ensures { pair_count (plain_pairs self.now) < few → option_map (λ value. plain value.now) result
+            ≡ value_at (text key.now) (plain_pairs self.now) }
+    {
+        value_of_text(self.entries.as_slice(), key)
     }
 
     /// The value at a key of any kind. Takes no memory.
@@ -104,7 +241,10 @@ impl Mapping {
     }
 
     /// Whether there is a pair with this key.
-    pub fn contains_key(&self, key: &str) -> bool {
+    pub fn contains_key(&self, key: &str) -> bool
+        ensures { pair_count (plain_pairs self.now) < few
+            → result ≡ is_some (value_at (text key.now) (plain_pairs self.now)) }
+    {
         self.get(key).is_some()
     }
 
@@ -120,7 +260,9 @@ impl Mapping {
 
     /// Puts a value at a key, and answers the one that was there. A new key goes last, and a key that is there keeps
     /// its place. Where memory is wanting, the mapping stays as it was.
-    pub fn insert(&mut self, key: Value, value: Value) -> Result<Option<Value>, AllocError> {
+    pub fn insert(&mut self, key: Value, value: Value) -> Result<Option<Value>, AllocError>
+        ensures err { OnErr result (plain_pairs self.new ≡ plain_pairs self.old) }
+    {
         match place_of(&key, self.entries.as_slice()) {
             Some(place) => {
                 discard(key);
@@ -143,33 +285,34 @@ impl Mapping {
     }
 
     // Adds a pair whose key is not there yet.
-    pub(crate) fn append(&mut self, key: Value, value: Value) -> Result<(), AllocError> {
-        self.entries.push(Entry {
-            key,
-            value,
-            last: 0,
-            earlier: 0,
-        })?;
-        index_last(&mut self.entries);
-        Ok(())
+    pub(crate) fn append(&mut self, key: Value, value: Value) -> Result<(), AllocError>
+        ensures ok { let old = plain_pairs self.old in
+            OnOk result (plain_pairs self.new ≡ with_last old (plain key) (plain value)) }
+        ensures err { OnErr result (plain_pairs self.new ≡ plain_pairs self.old) }
+    {
+        add(&mut self.entries, key, value)
     }
 
     /// Takes the pair out whose key is this text, and answers its value. The others stay in their order.
-    pub fn remove(&mut self, key: &str) -> Option<Value> {
-        let place = place_of_text(key, self.entries.as_slice());
-        let entry = taken_from(&mut self.entries, place)?;
-        Some(entry.into_pair().1)
+    pub fn remove(&mut self, key: &str) -> Option<Value>
+        ensures after { let old = plain_pairs self.old in
+            pair_count old < few → plain_pairs self.new ≡ without_key (text key.now) old }
+        ensures answer { let old = plain_pairs self.old in
+            pair_count old < few → option_map plain result ≡ value_at (text key.now) old }
+    {
+        remove_text(&mut self.entries, key)
     }
 
     /// The same of a key of any kind.
     pub fn remove_at(&mut self, key: &Value) -> Option<Value> {
         let place = place_of(key, self.entries.as_slice());
-        let entry = taken_from(&mut self.entries, place)?;
-        Some(entry.into_pair().1)
+        value_taken(taken_from(&mut self.entries, place))
     }
 
     /// The pairs in order.
-    pub fn iter(&self) -> slice::Iter<'_, Entry> {
+    pub fn iter(&self) -> slice::Iter<'_, Entry>
+        ensures { entry_pairs (iter_rest result) ≡ plain_pairs self.now }
+    {
         self.entries.iter()
     }
 }

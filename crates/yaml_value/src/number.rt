@@ -1,7 +1,8 @@
 //! Numbers: integers of 128 bits, signed or not, and floats.
 
-ghost use Rattle.std.specs.Prelude.{◌≡◌, Some, is_some, pos};
-ghost use Rattle.yaml_value.specs.Numbers.{as_i128, as_i64, as_u128, as_u64, float_in, integer_in};
+ghost use Rattle.std.specs.Prelude.{◌≡◌, Some, is_some, pos, true};
+ghost use Rattle.yaml_value.specs.Forms.{is_canonical};
+ghost use Rattle.yaml_value.specs.PlainEqual.{same_float};
 
 use ryu::Buffer;
 use std::fmt;
@@ -21,9 +22,15 @@ pub(crate) enum Form {
 #[derive(Clone, Copy, Drop)]
 pub struct Number {
     pub(crate) form: Form,
+    ghost canonical: { is_canonical form ≡ true },
 }
 
 impl Number {
+    ghost use Rattle.std.specs.Prelude.{◌≡◌, Some, is_some, pos};
+    ghost use Rattle.yaml_value.specs.Numbers.{as_f64, as_i128, as_i64, as_u128, as_u64, float_in, integer_in};
+    ghost use Rattle.yaml_value.specs.PlainEqual.{plain_eq};
+    ghost use Rattle.yaml_value.specs.View.{plain_number};
+
     /// The number of an integer that is 0 or above.
     pub fn from_u128(n: u128) -> Number
         ensures { integer_in result ≡ Some (pos n) }
@@ -91,7 +98,9 @@ impl Number {
     }
 
     /// The float that it is, or the one nearest to the integer that it is; `None` of an integer beyond 64 bits.
-    pub fn as_f64(self) -> Option<f64> {
+    pub fn as_f64(self) -> Option<f64>
+        ensures { result ≡ as_f64 self }
+    {
         if let Form::Float(x) = self.form {
             return Some(x);
         }
@@ -111,7 +120,9 @@ impl Number {
 
     /// Whether both are the same integer, or the same float. What is no number is the same as itself, and 0.0 as -0.0.
     /// No integer is the same as a float.
-    pub fn equals(self, other: Number) -> bool {
+    pub fn equals(self, other: Number) -> bool
+        ensures { result ≡ plain_eq (plain_number self) (plain_number other) }
+    {
         match (self.form, other.form) {
             (Form::Unsigned(a), Form::Unsigned(b)) => a == b,
             (Form::Negative(a), Form::Negative(b)) => a == b,
@@ -130,7 +141,9 @@ impl Number {
     }
 }
 
-fn same_floats(a: f64, b: f64) -> bool {
+fn same_floats(a: f64, b: f64) -> bool
+    ensures { result ≡ same_float a b }
+{
     if a.is_nan() {
         return b.is_nan();
     }
@@ -157,6 +170,10 @@ fn hash_float(x: f64) -> u64 {
 
 /// The number as YAML has it: a float with a point or an exponent, or as `.inf`, `-.inf` or `.nan`.
 impl fmt::Display for Number {
+    ghost use Rattle.yaml_value.specs.Numbers.{integer_text};
+
+    ghost output = { integer_text };
+
     fn fmt<W: fmt::Write>(&self, f: &mut fmt::Formatter<W>) -> fmt::Result {
         match self.form {
             Form::Unsigned(n) => write!(f, "{n}"),

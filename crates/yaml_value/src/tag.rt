@@ -1,5 +1,9 @@
 //! Tags of values.
 
+ghost use Rattle.std.specs.Prelude.{◌≡◌, ◌∷◌, ◌↔◌, [], IfOk, IsErrOf, bytes_eq, option_map, string_bytes};
+ghost use Rattle.yaml_value.specs.TagText.{behind_byte, name_of_text, text_of_name, unbanged};
+ghost use Rattle.yaml_value.specs.View.{tag_text};
+
 use std::alloc::{AllocError, Global};
 use std::fmt;
 use std::fmt::Write;
@@ -12,16 +16,27 @@ pub struct Tag {
     text: String,
 }
 
+// What stands behind a leading `!`.
+fn behind_bang(text: &str) -> Option<&str>
+    ensures { option_map (λ rest. rest.now) result ≡ behind_byte 33 text.now }
+{
+    text.strip_prefix('!')
+}
+
 // The text without one leading `!` that has something behind it.
-fn unbanged(text: &str) -> &str {
-    match text.strip_prefix('!') {
+fn unbanged(text: &str) -> &str
+    ensures { result.now ≡ unbanged text.now }
+{
+    match behind_bang(text) {
         Some(rest) if !rest.is_empty() => rest,
         _ => text,
     }
 }
 
 // The name behind a `!`.
-fn banged(alloc: Global, name: &str) -> Result<String, AllocError> {
+fn banged(alloc: Global, name: &str) -> Result<String, AllocError>
+    ensures { IfOk result (λ text. string_bytes text ≡ 33 ∷ name.now) }
+{
     let mut text = String::from_str(alloc, "!")?;
     text.push_str(name)?;
     Ok(text)
@@ -30,7 +45,10 @@ fn banged(alloc: Global, name: &str) -> Result<String, AllocError> {
 impl Tag {
     /// The tag of this name, which is copied, and may have a `!` in front. Refused by `EmptyTag` where the name is
     /// empty, and by `Memory`.
-    pub fn new(alloc: Global, name: &str) -> Result<Tag, TreeFault> {
+    pub fn new(alloc: Global, name: &str) -> Result<Tag, TreeFault>
+        ensures ok { IfOk result (λ tag. tag_text tag ≡ text_of_name name.now) }
+        ensures empty { IsErrOf result TreeFault.EmptyTag ↔ (name.now ≡ []) }
+    {
         if name.is_empty() {
             return Err(TreeFault::EmptyTag);
         }
@@ -41,22 +59,30 @@ impl Tag {
     }
 
     /// The name, without the `!` before it.
-    pub fn name(&self) -> &str {
-        self.text.strip_prefix('!').unwrap_or("")
+    pub fn name(&self) -> &str
+        ensures { result.now ≡ name_of_text (tag_text self.now) }
+    {
+        behind_bang(self.text.as_str()).unwrap_or("")
     }
 
     /// The name with the `!` before it.
-    pub fn as_str(&self) -> &str {
+    pub fn as_str(&self) -> &str
+        ensures { result.now ≡ tag_text self.now }
+    {
         self.text.as_str()
     }
 
     /// Whether both have the same name.
-    pub fn equals(&self, other: &Tag) -> bool {
+    pub fn equals(&self, other: &Tag) -> bool
+        ensures { result ≡ bytes_eq (tag_text self.now) (tag_text other.now) }
+    {
         self.text.as_bytes() == other.text.as_bytes()
     }
 
     // The same tag.
-    pub(crate) fn copy(&self) -> Result<Tag, AllocError> {
+    pub(crate) fn copy(&self) -> Result<Tag, AllocError>
+        ensures { IfOk result (λ tag. tag_text tag ≡ tag_text self.now) }
+    {
         Ok(Tag {
             text: self.text.clone()?,
         })

@@ -2,7 +2,9 @@
 
 ghost use Rattle.std.specs.Prelude.{◌≡◌, is_some, option_and_then, option_map};
 ghost use Rattle.yaml_value.specs.Kinds.{boolean_in, is_null, number_in, text_in};
-ghost use Rattle.yaml_value.specs.Numbers.{as_i128, as_i64, as_u128, as_u64};
+ghost use Rattle.yaml_value.specs.Find.{get, HasFewPairs, items_in, pairs_in, tagged_in, untagged};
+ghost use Rattle.yaml_value.specs.Numbers.{as_f64, as_i128, as_i64, as_u128, as_u64, float_in};
+ghost use Rattle.yaml_value.specs.View.{plain, plain_items, plain_pairs, plain_tagged};
 
 use crate::mapping::Mapping;
 use crate::number::Number;
@@ -10,7 +12,9 @@ use crate::value::{TaggedValue, Value};
 
 impl Value {
     /// The value under all its tags.
-    pub fn untagged(&self) -> &Value {
+    pub fn untagged(&self) -> &Value
+        ensures { plain result.now ≡ untagged (plain self.now) }
+    {
         match self {
             Value::Tagged(tagged) => tagged.value.untagged(),
             _ => self,
@@ -100,7 +104,9 @@ impl Value {
     }
 
     /// The float that it is, or the one nearest to the integer that it is; `None` of an integer beyond 64 bits.
-    pub fn as_f64(&self) -> Option<f64> {
+    pub fn as_f64(&self) -> Option<f64>
+        ensures { result ≡ option_and_then as_f64 (number_in self.now) }
+    {
         self.as_number()?.as_f64()
     }
 
@@ -119,7 +125,9 @@ impl Value {
     }
 
     /// Whether it is a float.
-    pub fn is_f64(&self) -> bool {
+    pub fn is_f64(&self) -> bool
+        ensures { result ≡ is_some (option_and_then float_in (number_in self.now)) }
+    {
         match self.as_number() {
             Some(number) => number.is_float(),
             None => false,
@@ -145,7 +153,9 @@ impl Value {
     }
 
     /// The elements of the sequence that it is.
-    pub fn as_sequence(&self) -> Option<&Vec<Value>> {
+    pub fn as_sequence(&self) -> Option<&Vec<Value>>
+        ensures { option_map (λ items. plain_items items.now.items) result ≡ items_in (plain self.now) }
+    {
         match self {
             Value::Sequence(items) => Some(items),
             Value::Tagged(tagged) => tagged.value.as_sequence(),
@@ -154,12 +164,16 @@ impl Value {
     }
 
     /// Whether it is a sequence.
-    pub fn is_sequence(&self) -> bool {
+    pub fn is_sequence(&self) -> bool
+        ensures { result ≡ is_some (items_in (plain self.now)) }
+    {
         self.as_sequence().is_some()
     }
 
     /// The mapping that it is.
-    pub fn as_mapping(&self) -> Option<&Mapping> {
+    pub fn as_mapping(&self) -> Option<&Mapping>
+        ensures { option_map (λ mapping. plain_pairs mapping.now) result ≡ pairs_in (plain self.now) }
+    {
         match self {
             Value::Mapping(mapping) => Some(mapping),
             Value::Tagged(tagged) => tagged.value.as_mapping(),
@@ -168,12 +182,16 @@ impl Value {
     }
 
     /// Whether it is a mapping.
-    pub fn is_mapping(&self) -> bool {
+    pub fn is_mapping(&self) -> bool
+        ensures { result ≡ is_some (pairs_in (plain self.now)) }
+    {
         self.as_mapping().is_some()
     }
 
     /// The tag that it has, with what is under it. No tag is looked through here.
-    pub fn as_tagged(&self) -> Option<&TaggedValue> {
+    pub fn as_tagged(&self) -> Option<&TaggedValue>
+        ensures { option_map (λ tagged. plain_tagged tagged.now) result ≡ tagged_in (plain self.now) }
+    {
         match self {
             Value::Tagged(tagged) => Some(&**tagged),
             _ => None,
@@ -181,7 +199,10 @@ impl Value {
     }
 
     /// The value at a key that is a text, where it is a mapping that has one. Takes no memory.
-    pub fn get(&self, key: &str) -> Option<&Value> {
+    pub fn get(&self, key: &str) -> Option<&Value>
+        ensures { HasFewPairs (pairs_in (plain self.now)) → option_map (λ value. plain value.now) result
+            ≡ get key.now (plain self.now) }
+    {
         self.as_mapping()?.get(key)
     }
 

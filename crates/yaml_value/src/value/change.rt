@@ -1,5 +1,10 @@
 //! Changing a value in place.
 
+ghost use Rattle.std.specs.Prelude.{◌≡◌, IfOk, option_map};
+ghost use Rattle.yaml_value.specs.Find.{items_in, pairs_in};
+ghost use Rattle.yaml_value.specs.PlainValue.{null, tagged, text as plain_text};
+ghost use Rattle.yaml_value.specs.View.{plain, plain_items, plain_pairs, tag_text};
+
 use crate::mapping::Mapping;
 use crate::tag::Tag;
 use crate::value::{TaggedValue, Value};
@@ -8,17 +13,23 @@ use std::mem;
 
 impl Value {
     /// A text, which is copied.
-    pub fn text(alloc: Global, text: &str) -> Result<Value, AllocError> {
+    pub fn text(alloc: Global, text: &str) -> Result<Value, AllocError>
+        ensures { IfOk result (λ value. plain value ≡ plain_text text.now) }
+    {
         Ok(Value::String(String::from_str(alloc, text)?))
     }
 
     /// A value under a tag.
-    pub fn under_tag(alloc: Global, tag: Tag, value: Value) -> Result<Value, AllocError> {
+    pub fn under_tag(alloc: Global, tag: Tag, value: Value) -> Result<Value, AllocError>
+        ensures { IfOk result (λ under. plain under ≡ tagged (tag_text tag) (plain value)) }
+    {
         Ok(Value::Tagged(Box::new(alloc, TaggedValue { tag, value })?))
     }
 
     /// The sequence that it is, to be changed.
-    pub fn as_sequence_mut(&mut self) -> Option<&mut Vec<Value>> {
+    pub fn as_sequence_mut(&mut self) -> Option<&mut Vec<Value>>
+        ensures value { option_map (λ items. plain_items items.now.items) result ≡ items_in (plain self.old) }
+    {
         match self {
             Value::Sequence(items) => Some(items),
             Value::Tagged(tagged) => tagged.value.as_sequence_mut(),
@@ -27,7 +38,9 @@ impl Value {
     }
 
     /// The mapping that it is, to be changed.
-    pub fn as_mapping_mut(&mut self) -> Option<&mut Mapping> {
+    pub fn as_mapping_mut(&mut self) -> Option<&mut Mapping>
+        ensures value { option_map (λ mapping. plain_pairs mapping.now) result ≡ pairs_in (plain self.old) }
+    {
         match self {
             Value::Mapping(mapping) => Some(mapping),
             Value::Tagged(tagged) => tagged.value.as_mapping_mut(),
@@ -73,7 +86,10 @@ impl Value {
     }
 
     /// Takes the value out, and leaves null.
-    pub fn take(&mut self) -> Value {
+    pub fn take(&mut self) -> Value
+        ensures value { plain result ≡ plain self.old }
+        ensures left { plain self.new ≡ null }
+    {
         mem::replace(self, Value::Null)
     }
 }

@@ -1,25 +1,34 @@
 //! Copies of values.
 
+ghost use Rattle.std.specs.Prelude.{◌≡◌, IfOk};
+ghost use Rattle.yaml_value.specs.View.{plain, plain_entry, plain_items, plain_pairs, plain_tagged};
+
 use crate::mapping::{Entry, Mapping};
 use crate::value::{TaggedValue, Value};
 use std::alloc::{AllocError, Global};
 
 impl Value {
     /// A copy: an equal value, with the pairs of mappings in the same order.
-    pub fn copy(&self, alloc: Global) -> Result<Value, AllocError> {
+    pub fn copy(&self, alloc: Global) -> Result<Value, AllocError>
+        ensures { IfOk result (λ copied. plain copied ≡ plain self.now) }
+    {
         copy_value(alloc, self)
     }
 }
 
 impl Mapping {
     /// A copy: the same pairs in the same order.
-    pub fn copy(&self, alloc: Global) -> Result<Mapping, AllocError> {
+    pub fn copy(&self, alloc: Global) -> Result<Mapping, AllocError>
+        ensures { IfOk result (λ copied. plain_pairs copied ≡ plain_pairs self.now) }
+    {
         copy_mapping(alloc, self)
     }
 }
 
 #[cycle(copy)]
-fn copy_value(alloc: Global, value: &Value) -> Result<Value, AllocError> {
+fn copy_value(alloc: Global, value: &Value) -> Result<Value, AllocError>
+    ensures { IfOk result (λ copied. plain copied ≡ plain value.now) }
+{
     match value {
         Value::Null => Ok(Value::Null),
         Value::Bool(truth) => Ok(Value::Bool(*truth)),
@@ -35,14 +44,18 @@ fn copy_value(alloc: Global, value: &Value) -> Result<Value, AllocError> {
 }
 
 #[cycle(copy)]
-fn copy_tagged(alloc: Global, tagged: &TaggedValue) -> Result<TaggedValue, AllocError> {
+fn copy_tagged(alloc: Global, tagged: &TaggedValue) -> Result<TaggedValue, AllocError>
+    ensures { IfOk result (λ copied. plain_tagged copied ≡ plain_tagged tagged.now) }
+{
     let tag = tagged.tag.copy()?;
     let value = copy_value(alloc, &tagged.value)?;
     Ok(TaggedValue { tag, value })
 }
 
 #[cycle(copy)]
-fn copy_items(alloc: Global, items: &Vec<Value>) -> Result<Vec<Value>, AllocError> {
+fn copy_items(alloc: Global, items: &Vec<Value>) -> Result<Vec<Value>, AllocError>
+    ensures { IfOk result (λ copied. plain_items copied.items ≡ plain_items items.now.items) }
+{
     let mut copies = Vec::with_capacity(alloc, items.len())?;
     for item in items {
         copies.push(copy_value(alloc, item)?)?;
@@ -51,7 +64,9 @@ fn copy_items(alloc: Global, items: &Vec<Value>) -> Result<Vec<Value>, AllocErro
 }
 
 #[cycle(copy)]
-fn copy_mapping(alloc: Global, mapping: &Mapping) -> Result<Mapping, AllocError> {
+fn copy_mapping(alloc: Global, mapping: &Mapping) -> Result<Mapping, AllocError>
+    ensures { IfOk result (λ copied. plain_pairs copied ≡ plain_pairs mapping.now) }
+{
     let mut entries = Vec::with_capacity(alloc, mapping.entries.len())?;
     for entry in &mapping.entries {
         entries.push(copy_entry(alloc, entry)?)?;
@@ -60,7 +75,9 @@ fn copy_mapping(alloc: Global, mapping: &Mapping) -> Result<Mapping, AllocError>
 }
 
 #[cycle(copy)]
-fn copy_entry(alloc: Global, entry: &Entry) -> Result<Entry, AllocError> {
+fn copy_entry(alloc: Global, entry: &Entry) -> Result<Entry, AllocError>
+    ensures { IfOk result (λ copied. plain_entry copied ≡ plain_entry entry.now) }
+{
     let key = copy_value(alloc, &entry.key)?;
     let value = copy_value(alloc, &entry.value)?;
     Ok(Entry {

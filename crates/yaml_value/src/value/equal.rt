@@ -1,7 +1,13 @@
 //! Equality of values.
 
+ghost use Rattle.std.specs.Prelude.{◌≡◌, ◌<◌};
+ghost use Rattle.yaml_value.specs.Find.{few, place_where};
+ghost use Rattle.yaml_value.specs.PlainEqual.{plain_eq};
+ghost use Rattle.yaml_value.specs.PlainValue.{pair_count, text as plain_text};
+ghost use Rattle.yaml_value.specs.View.{entry_pairs, plain, plain_entry};
+
 use crate::index::{chain_count, first_of};
-use crate::mapping::{Entry, Mapping};
+use crate::mapping::{Entry, Mapping, count};
 use crate::value::hash::{hash_text, hash_value};
 use crate::value::{TaggedValue, Value};
 
@@ -110,25 +116,39 @@ fn place_in_chain(key: &Value, entries: &[Entry], first: usize) -> Option<usize>
     None
 }
 
-// Whether a key is the string of this text.
-fn is_text(key: &Value, text: &str) -> bool {
+// Whether a value is the string of this text.
+fn is_text(key: &Value, text: &str) -> bool
+    ensures { result ≡ plain_eq (plain_text text.now) (plain key.now) }
+{
     match key {
         Value::String(own) => text.as_bytes() == own.as_bytes(),
         _ => false,
     }
 }
 
+// Whether the key of an entry is.
+fn has_text(entry: &Entry, text: &str) -> bool
+    ensures { result ≡ plain_eq (plain_text text.now) (plain_entry entry.now).0 }
+{
+    is_text(entry.key(), text)
+}
+
 /// The place of the key of a text among entries with distinct keys. No key is made of the text.
-pub(crate) fn place_of_text(text: &str, entries: &[Entry]) -> Option<usize> {
-    if chain_count(entries.len()) == 0 {
+pub(crate) fn place_of_text(text: &str, entries: &[Entry]) -> Option<usize>
+    ensures { pair_count (entry_pairs entries.now) < few
+        → result ≡ place_where (plain_eq (plain_text text.now)) (entry_pairs entries.now) }
+{
+    if chain_count(count(entries)) == 0 {
         return text_in_order(text, entries);
     }
     text_in_chain(text, entries, first_of(hash_text(text), entries))
 }
 
-fn text_in_order(text: &str, entries: &[Entry]) -> Option<usize> {
+fn text_in_order(text: &str, entries: &[Entry]) -> Option<usize>
+    ensures { result ≡ place_where (plain_eq (plain_text text.now)) (entry_pairs entries.now) }
+{
     for i in 0..entries.len() {
-        if is_text(&entries[i].key, text) {
+        if has_text(&entries[i], text) {
             return Some(i);
         }
     }
@@ -142,7 +162,7 @@ fn text_in_chain(text: &str, entries: &[Entry], first: usize) -> Option<usize> {
         if place >= entries.len() {
             return None;
         }
-        if is_text(&entries[place].key, text) {
+        if has_text(&entries[place], text) {
             return Some(place);
         }
         left = entries[place].earlier;

@@ -1,0 +1,3 @@
+-- What proofs of this crate share.
+pub mod Texts
+pub mod Views

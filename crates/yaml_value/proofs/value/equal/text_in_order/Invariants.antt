@@ -1,0 +1,12 @@
+-- The key is behind the entries so far, or nowhere.
+use Rattle.std.proofs.Common.{◌≡◌, ◌+◌, drop, option_map}
+use Rattle.yaml_value.specs.Find.{place_where}
+use Rattle.yaml_value.specs.PlainEqual.{plain_eq}
+use Rattle.yaml_value.specs.PlainValue.{text}
+use Rattle.yaml_value.specs.View.{entry_pairs}
+use Rattle.yaml_value.proofs.value.equal.text_in_order.Given as goal
+
+abbrev pub invariant-loop-i : goal.invariant-loop-i
+invariant-loop-i l =
+    place_where (plain_eq (text l.text)) (entry_pairs l.entries)
+    ≡ option_map (λ n. l.i + n) (place_where (plain_eq (text l.text)) (entry_pairs (drop l.i l.entries)))
