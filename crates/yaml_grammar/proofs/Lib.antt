@@ -1,0 +1,3 @@
+pub mod TextsOfEnds
+pub mod TextsOfFiles
+pub mod TextsOfKinds
