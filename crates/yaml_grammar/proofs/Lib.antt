@@ -1,3 +1,7 @@
+pub mod DoubleLaws
+pub mod LeafLaws
+pub mod RestLaws
+pub mod SingleLaws
 pub mod TextsOfEnds
 pub mod TextsOfFiles
 pub mod TextsOfKinds

@@ -59,7 +59,7 @@ kinds_of_scalars =
     ++ codes "\n"
     ++ codes "   deep\n"
     ++ codes "  four\n"
-    ++ codes "kept: |2+\n"
+    ++ codes "kept: |1+\n"
     ++ codes "\n"
     ++ codes "  x\n"
     ++ codes "\n"
@@ -69,7 +69,7 @@ abbrev pub kinds_of_scalars_events : List ℕ
 kinds_of_scalars_events =
     codes " +STR +DOC +MAP =VAL :plain =VAL :one line and another\\nand a third =VAL :single"
     ++ codes " =VAL 'it's quoted =VAL :double =VAL \"tab\\there A =VAL :literal =VAL |a\\n  b\\n\\nc"
-    ++ codes " =VAL :folded =VAL >one two\\nthree\\n\\n deep\\nfour\\n =VAL :kept =VAL |\\nx\\n\\n -MAP -DOC"
+    ++ codes " =VAL :folded =VAL >one two\\nthree\\n\\n deep\\nfour\\n =VAL :kept =VAL |\\n x\\n\\n -MAP -DOC"
     ++ codes " -STR"
 
 -- collections in brackets, over lines, with pairs and with keys alone

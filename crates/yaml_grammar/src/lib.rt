@@ -1,10 +1,27 @@
 //! Which events a YAML text has: a definition over the places of a text, and no parser.
 #![tactic(auto)]
 
+ghost use Rattle.std.specs.Prelude.{◌≡◌, ◌≢◌, ℕ, ◌+◌, List, ◌∷◌, ◌++◌, Some, drop, length};
+ghost use Rattle.yaml_base.specs.QuotedLines.{undoubled, unescaped};
+ghost use Rattle.yaml_base.specs.declared.event.ScalarStyle.TheVariants as style;
+ghost use Rattle.yaml_grammar.specs.Bytes.{at};
 ghost use Rattle.yaml_grammar.specs.Examples.{TheseTextsStand};
+ghost use Rattle.yaml_grammar.specs.Leaves.{in_style, leaf_at};
+ghost use Rattle.yaml_grammar.specs.Plain.{Context};
 
 /// A law, and nothing to be run: ten texts of several kinds have the events that are written beside them, and one the
 /// marks, so that the definition leaves none of them out.
 pub fn these_texts_stand()
     ensures { TheseTextsStand }
+{}
+
+/// A law: what stands between quotes in one line, and is a text there by the definition of `yaml_base`, is a leaf that
+/// says this text, wherever it stands. What an emitter prints between quotes is such.
+pub fn a_quoted_text_is_a_leaf()
+    ensures single { (source inside after text : List ℕ) (context : Context) (i : ℕ)
+        → drop i source ≡ 39 ∷ (inside ++ 39 ∷ after) → at after 0 ≢ 39 → undoubled inside ≡ Some text
+        → leaf_at source context i ≡ Some (in_style style.SingleQuoted text, i + length inside + 2) }
+    ensures double { (source inside after text : List ℕ) (context : Context) (i : ℕ)
+        → drop i source ≡ 34 ∷ (inside ++ 34 ∷ after) → unescaped inside ≡ Some text
+        → leaf_at source context i ≡ Some (in_style style.DoubleQuoted text, i + length inside + 2) }
 {}
