@@ -1,14 +1,16 @@
 -- What stands between double quotes in one line, by the definition of yaml_base, is read so here.
-use Rattle.std.proofs.Common.{◌≡◌, ℕ, ◌+◌, ◌-◌, ◌*◌, ◌==◌, not, ◌||◌, Bool, true, false, List, [], ◌∷◌, ◌++◌, length, Option, Some, None}
+use Rattle.std.proofs.Common.{◌≡◌, ℕ, ◌+◌, ◌-◌, ◌*◌, ◌==◌, ◌||◌, Bool, true, false, List, [], ◌∷◌, ◌++◌, length}
+use Rattle.std.proofs.Common.{Option, Some, None}
 use Rattle.std.proofs.Common.{refl, sym, ap, ◌∙◌, append_assoc, append-nil, arith, subst, nat_lt, encode_utf8, eqb-true}
 use Rattle.std.proofs.lemmas.Bool.{or_parts}
 use Rattle.std.proofs.lemmas.Option.{same_Some, none-some}
 use Rattle.std.specs.Char.{digit_value}
 use Rattle.yaml_base.specs.LineBreaks.{begins_with_break}
-use Rattle.yaml_base.specs.QuotedLines.{Escape, none, backslash, digits, before, character_before, character_code, letter_code}
+use Rattle.yaml_base.specs.QuotedLines.{Escape, none, backslash, digits, before, character_before, character_code}
+use Rattle.yaml_base.specs.QuotedLines.{letter_code}
 use Rattle.yaml_base.specs.QuotedLines.{unescaped_behind}
 use Rattle.yaml_grammar.specs.Bytes.{is_blank}
-use Rattle.yaml_grammar.specs.Folding.{Passed, Rest, blanks, with_bytes}
+use Rattle.yaml_grammar.specs.Folding.{Rest, blanks, with_bytes}
 use Rattle.yaml_grammar.specs.Quotes.{double_rest, with_character}
 use Rattle.yaml_grammar.proofs.RestLaws.{before_is, no_feed, some_rest}
 

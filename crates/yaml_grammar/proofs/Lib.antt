@@ -1,5 +1,6 @@
 pub mod DoubleLaws
 pub mod LeafLaws
+pub mod PlainLaws
 pub mod RestLaws
 pub mod SingleLaws
 pub mod TextsOfEnds

@@ -16,7 +16,8 @@ pub record IsBefore (bytes : List ℕ) (rest : Option (List ℕ)) (t : List ℕ)
   pub is : rest ≡ Some later
   pub all : bytes ++ later ≡ t
 
-pub before_is : (bytes : List ℕ) (rest : Option (List ℕ)) (t : List ℕ) → before bytes rest ≡ Some t → IsBefore bytes rest t
+pub before_is : (bytes : List ℕ) (rest : Option (List ℕ)) (t : List ℕ) → before bytes rest ≡ Some t
+    → IsBefore bytes rest t
 before_is bytes None t e = absurd (none-some t e)
 before_is bytes (Some later) t e = record { later = later; is = refl; all = same_Some _ _ e }
 

@@ -11,5 +11,6 @@ pub mod Leaves
 pub mod Names
 pub mod Nodes
 pub mod Plain
+pub mod PlainLines
 pub mod Quotes
 pub mod Shown

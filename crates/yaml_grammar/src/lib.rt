@@ -1,13 +1,14 @@
 //! Which events a YAML text has: a definition over the places of a text, and no parser.
 #![tactic(auto)]
 
-ghost use Rattle.std.specs.Prelude.{◌≡◌, ◌≢◌, ℕ, ◌+◌, List, ◌∷◌, ◌++◌, Some, drop, length};
+ghost use Rattle.std.specs.Prelude.{◌≡◌, ◌≢◌, ℕ, false, true, ◌+◌, List, ◌∷◌, ◌++◌, Some, drop, length};
 ghost use Rattle.yaml_base.specs.QuotedLines.{undoubled, unescaped};
 ghost use Rattle.yaml_base.specs.declared.event.ScalarStyle.TheVariants as style;
-ghost use Rattle.yaml_grammar.specs.Bytes.{at};
+ghost use Rattle.yaml_grammar.specs.Bytes.{at, is_gap};
 ghost use Rattle.yaml_grammar.specs.Examples.{TheseTextsStand};
 ghost use Rattle.yaml_grammar.specs.Leaves.{in_style, leaf_at};
-ghost use Rattle.yaml_grammar.specs.Plain.{Context};
+ghost use Rattle.yaml_grammar.specs.Plain.{Context, as_key, begins_plain, by_columns};
+ghost use Rattle.yaml_grammar.specs.PlainLines.{fits_line, is_less_in};
 
 /// A law, and nothing to be run: ten texts of several kinds have the events that are written beside them, and one the
 /// marks, so that the definition leaves none of them out.
@@ -24,4 +25,15 @@ pub fn a_quoted_text_is_a_leaf()
     ensures double { (source inside after text : List ℕ) (context : Context) (i : ℕ)
         → drop i source ≡ 34 ∷ (inside ++ 34 ∷ after) → unescaped inside ≡ Some text
         → leaf_at source context i ≡ Some (in_style style.DoubleQuoted text, i + length inside + 2) }
+{}
+
+/// A law: a text that fits in one line without quotes, and may begin there, is a leaf that says it: as a key before its
+/// `:`, and in a line behind which the next text stands less far in.
+pub fn a_plain_text_is_a_leaf()
+    ensures key { (source after text : List ℕ) (d i : ℕ) → drop i source ≡ text ++ 58 ∷ d ∷ after
+        → is_gap d ≡ true → begins_plain source false i ≡ true → fits_line false text ≡ true
+        → leaf_at source as_key i ≡ Some (in_style style.Plain text, i + length text) }
+    ensures line { (source after text : List ℕ) (least i : ℕ) → drop i source ≡ text ++ 10 ∷ after
+        → is_less_in least 0 after ≡ true → begins_plain source false i ≡ true → fits_line false text ≡ true
+        → leaf_at source (by_columns least) i ≡ Some (in_style style.Plain text, i + length text) }
 {}
