@@ -16,11 +16,11 @@ use Rattle.yaml_grammar.proofs.RestLaws.{some_rest}
 use Rattle.yaml_grammar.proofs.SingleLaws.{single_all}
 
 -- the first of the bytes from a place on, and those behind it
-first_is : (source : List ℕ) (i c : ℕ) (cs : List ℕ) → drop i source ≡ c ∷ cs → at source i ≡ c
+pub first_is : (source : List ℕ) (i c : ℕ) (cs : List ℕ) → drop i source ≡ c ∷ cs → at source i ≡ c
 first_is source i c cs e =
     ap (λ k. at source k) (omega arith) ∙ sym (get_or-drop i source 0 0) ∙ ap (λ l. get_or l 0 0) e
 
-later_are : (source : List ℕ) (i c : ℕ) (cs : List ℕ) → drop i source ≡ c ∷ cs → drop (suc i) source ≡ cs
+pub later_are : (source : List ℕ) (i c : ℕ) (cs : List ℕ) → drop i source ≡ c ∷ cs → drop (suc i) source ≡ cs
 later_are source i c cs e =
     let there : suc i ≡ i + 1 = omega arith in
     ap (λ k. drop k source) there ∙ sym (drop-drop 1 i source) ∙ ap (λ l. drop 1 l) e

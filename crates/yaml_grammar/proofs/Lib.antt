@@ -1,5 +1,7 @@
 pub mod DoubleLaws
+pub mod ItemLaws
 pub mod LeafLaws
+pub mod LineLaws
 pub mod PlainLaws
 pub mod RestLaws
 pub mod SingleLaws
