@@ -66,7 +66,8 @@ plain_is_leaf source context i size said flow begins e =
 
 -- a text that fits, up to where it ends
 plain_leaf : (source after text : List ℕ) (context : Context) (i : ℕ) → is_flow context ≡ false
-    → drop i source ≡ text ++ after → begins_plain source false i ≡ true → fits_line false text ≡ true → Ends context after
+    → drop i source ≡ text ++ after → begins_plain source false i ≡ true → fits_line false text ≡ true
+    → Ends context after
     → leaf_at source context i ≡ Some (in_style style.Plain text, i + length text)
 plain_leaf source after [] context i flow e begins fits ends =
     plain_is_leaf source context i 0 [] flow begins

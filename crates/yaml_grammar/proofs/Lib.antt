@@ -2,6 +2,7 @@ pub mod DoubleLaws
 pub mod ItemLaws
 pub mod LeafLaws
 pub mod LineLaws
+pub mod ListLaws
 pub mod PlainLaws
 pub mod RestLaws
 pub mod SingleLaws

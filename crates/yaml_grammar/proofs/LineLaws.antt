@@ -1,13 +1,11 @@
 -- Where tokens stand in lines of items.
-use Rattle.std.proofs.Common.{◌≡◌, ◌≢◌, ℕ, zero, suc, ◌+◌, ◌-◌, ◌==◌, ◌&&◌, ◌||◌, not, Bool, true, false, List, [], ◌∷◌, ◌++◌}
-use Rattle.std.proofs.Common.{length, refl, sym, ap, ap₂, ◌∙◌, arith, subst, drop, nat_le, true≢false, ne_eqb, if◌then◌else◌}
-use Rattle.std.proofs.lemmas.Bool.{and_parts, or_parts}
+use Rattle.std.proofs.Common.{◌≡◌, ℕ, suc, ◌+◌, ◌-◌, ◌==◌, ◌||◌, Bool, true, false, List, [], ◌∷◌, ◌++◌}
+use Rattle.std.proofs.Common.{length, refl, sym, ap, ap₂, ◌∙◌, arith, drop, nat_le, true≢false, ne_eqb, if◌then◌else◌}
+use Rattle.std.proofs.lemmas.Bool.{or_parts}
 use Rattle.std.proofs.lemmas.List.{drop-drop, drop_at, length-drop}
 use Rattle.yaml_base.specs.Places.{place_behind, place_of}
 use Rattle.yaml_grammar.specs.Bytes.{at, column, is_gap, is_indicator}
-use Rattle.yaml_grammar.specs.Gaps.{Before, apart, before, breaks, ends_its_line, gap, next, token}
-use Rattle.yaml_grammar.proofs.LeafLaws.{first_is, later_are}
-use Rattle.yaml_grammar.proofs.PlainLaws.{not_true}
+use Rattle.yaml_grammar.specs.Gaps.{apart, before, breaks, ends_its_line, gap, next, token}
 
 -- a byte that begins a token and is no anchor's or tag's
 pub record IsWord (c : ℕ) : Type 0 where
@@ -103,7 +101,8 @@ behind_feed text i e = ap (λ q. q.1) (line_behind (place_of text i))
 -- the column behind a space that is not the first byte
 pub behind_space_column : (text : List ℕ) (i : ℕ) → at text (suc i) ≡ 32 → (column text (suc (suc i)) == 0) ≡ false
 behind_space_column text i e =
-    ne_eqb (column text (suc (suc i))) 0 (λ z. absurd (omega (arith, z, ap (λ q. q.1) (next_column (place_of text (suc i))))))
+    ne_eqb (column text (suc (suc i))) 0
+    (λ z. absurd (omega (arith, z, ap (λ q. q.1) (next_column (place_of text (suc i))))))
   where
     next_column : (q : ℕ × ℕ) → place_behind text (suc i) q ≡ (q.0, q.1 + 1)
     next_column q = rw (e, ne_eqb (suc i) 0 (λ z. absurd (omega (arith, z)))) refl

@@ -64,3 +64,12 @@ pub record HasMarks (text : List ℕ) (marks : List (ℕ × (ℕ × ℕ))) : Typ
   pub documents : List Document
   pub stand : Stands text documents
   pub there : map numbers_of (events_of text documents) ≡ marks
+
+-- the words of a list of plain texts
+abbrev pub item_words : List (List ℕ) → List ℕ
+item_words [] = []
+item_words (text ∷ texts) = codes " =VAL :" ++ (flat_map shown_byte text ++ item_words texts)
+
+-- the words of a document that is such a list
+abbrev pub list_words : List (List ℕ) → List ℕ
+list_words texts = codes " +STR +DOC +SEQ" ++ (item_words texts ++ codes " -SEQ -DOC -STR")

@@ -2,13 +2,15 @@
 #![tactic(auto)]
 
 ghost use Rattle.std.specs.Prelude.{◌≡◌, ◌≢◌, ℕ, false, true, ◌+◌, List, ◌∷◌, ◌++◌, Some, drop, length};
+ghost use Rattle.std.specs.List.{list_all};
 ghost use Rattle.yaml_base.specs.QuotedLines.{undoubled, unescaped};
 ghost use Rattle.yaml_base.specs.declared.event.ScalarStyle.TheVariants as style;
-ghost use Rattle.yaml_grammar.specs.Bytes.{at, is_gap};
+ghost use Rattle.yaml_grammar.specs.Bytes.{at, is_gap, is_text};
 ghost use Rattle.yaml_grammar.specs.Examples.{TheseTextsStand};
 ghost use Rattle.yaml_grammar.specs.Leaves.{in_style, leaf_at};
 ghost use Rattle.yaml_grammar.specs.Plain.{Context, as_key, begins_plain, by_columns};
-ghost use Rattle.yaml_grammar.specs.PlainLines.{fits_line, is_less_in};
+ghost use Rattle.yaml_grammar.specs.PlainLines.{fits_line, is_less_in, is_plain_line, item_lines};
+ghost use Rattle.yaml_grammar.specs.Shown.{HasEvents, list_words};
 
 /// A law, and nothing to be run: ten texts of several kinds have the events that are written beside them, and one the
 /// marks, so that the definition leaves none of them out.
@@ -36,4 +38,12 @@ pub fn a_plain_text_is_a_leaf()
     ensures line { (source after text : List ℕ) (least i : ℕ) → drop i source ≡ text ++ 10 ∷ after
         → is_less_in least 0 after ≡ true → begins_plain source false i ≡ true → fits_line false text ≡ true
         → leaf_at source (by_columns least) i ≡ Some (in_style style.Plain text, i + length text) }
+{}
+
+/// A law: texts that fit in lines without quotes, each behind `-` in a line of its own, are a document that is the list
+/// of them.
+pub fn lines_of_items_are_a_list()
+    ensures { (text : List ℕ) (texts : List (List ℕ)) → list_all is_plain_line (text ∷ texts) ≡ true
+        → is_text (item_lines (text ∷ texts)) ≡ true
+        → HasEvents (item_lines (text ∷ texts)) (list_words (text ∷ texts)) }
 {}
