@@ -1,0 +1,11 @@
+pub mod DoubleLaws
+pub mod ItemLaws
+pub mod LeafLaws
+pub mod LineLaws
+pub mod ListLaws
+pub mod PlainLaws
+pub mod RestLaws
+pub mod SingleLaws
+pub mod TextsOfEnds
+pub mod TextsOfFiles
+pub mod TextsOfKinds
