@@ -1,0 +1,2 @@
+pub mod OnTape
+pub mod Pushes
