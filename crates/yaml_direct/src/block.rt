@@ -1,0 +1,222 @@
+//! Nodes that stand by columns. Each function begins at the first token of what it reads, adds its events, and gives
+//! the place of the next token, which stands at the beginning of a later line or ends the text.
+#![tactic(auto, using(crate::proofs::Growing::grows_on, crate::proofs::Growing::grows_same))]
+
+ghost use Rattle.std.specs.Prelude.{◌≡◌, ◌≢◌, ◌+◌, ◌-◌, ◌<◌, ◌≤◌, IsTrue, length};
+ghost use Rattle.yaml_direct.specs.Places.{IsHere, Keeps, Reaches, no_place};
+ghost use Rattle.yaml_direct.specs.Leaves.{IsPart};
+
+use crate::byte::{at, is_gap, is_mark};
+use crate::gap::begins_token;
+use crate::key::{LONGEST_KEY, colon_behind};
+use crate::leaf::{Leaf, LeafKind, find_leaf};
+use crate::place::{NO_PLACE, reach};
+use crate::plain::{begins_plain, plain_end};
+use crate::reader::Reader;
+
+// Where a node stands, and so what it may be.
+#[derive(Clone, Copy, PartialEq, Eq)]
+pub(crate) enum Room {
+    // At the beginning of a line, or behind `-`: anything.
+    Item,
+    // Behind `?` or the `:` of a key behind `?`: anything, also a sequence in the mapping's own column.
+    Part,
+    // Behind the `:` of a key in its line: the same, but no collection by columns in this line.
+    Value,
+}
+
+impl Room {
+    // The same in a later line.
+    fn later(self) -> Room {
+        match self {
+            Room::Value => Room::Part,
+            room => room,
+        }
+    }
+
+    // Whether a sequence may stand in the column of the collection around it.
+    fn is_of_mapping(self) -> bool {
+        self != Room::Item
+    }
+}
+
+impl Reader<'_> {
+    // What stands behind an indicator, and further in than the collection in the column before `least`: in this line,
+    // in a later one, or nothing.
+    #[inline(always)]
+    #[cycle(block)]
+    pub(crate) fn part(&mut self, behind: usize, least: usize, room: Room, depth: usize) -> usize
+        requires here { IsHere self.old behind }
+        ensures reached { Reaches self.old self.new behind result }
+    {
+        let text = self.text;
+        if at(text, behind) == b' ' && begins_token(at(text, behind + 1)) {
+            return self.node(behind + 1, least, room, depth);
+        }
+        self.far_part(behind, least, room, depth)
+    }
+
+    // The same where more than one blank stands before it.
+    #[inline(never)]
+    #[cycle(block)]
+    fn far_part(&mut self, behind: usize, least: usize, room: Room, depth: usize) -> usize
+        requires here { IsHere self.old behind }
+        ensures reached { Reaches self.old self.new behind result }
+    {
+        self.begin(behind);
+        let line = self.line;
+        let next = reach!(self.gap(behind));
+        if self.line == line && next != self.text.len() {
+            return self.node(next, least, room, depth);
+        }
+        if self.is_within(next, least) {
+            return self.node(next, least, room.later(), depth);
+        }
+        if self.is_own_sequence(next, least, room) {
+            self.begin(next);
+            return self.sequence(next, depth);
+        }
+        self.push_nothing(behind, next)
+    }
+
+    // Whether a sequence stands here that is a part of a mapping, in the column of that, before `least`.
+    pub(crate) fn is_own_sequence(&self, next: usize, least: usize, room: Room) -> bool
+        requires { IsHere self.now next }
+        ensures { IsTrue result → next < length self.now.text.now }
+    {
+        room.is_of_mapping() && least > 0 && self.is_item(next, least - 1)
+    }
+
+    // A node.
+    #[cycle(block)]
+    pub(crate) fn node(&mut self, place: usize, least: usize, room: Room, depth: usize) -> usize
+        requires here { IsHere self.old place }
+        ensures reached { Reaches self.old self.new place result }
+    {
+        self.begin(place);
+        let byte = at(self.text, place);
+        match byte {
+            b'-' | b'?' if is_gap(self.text, place + 1) => {
+                self.compact(byte, place, room, depth)
+            }
+            b'&' | b'!' => self.named(place, least, room, depth),
+            _ => self.content(place, least, room, depth),
+        }
+    }
+
+    // A collection by columns whose indicator stands here.
+    #[inline(always)]
+    #[cycle(block)]
+    fn compact(&mut self, indicator: u8, place: usize, room: Room, depth: usize) -> usize
+        requires here { IsHere self.old place }
+        requires begun { self.old.start.index ≤ place }
+        requires within { place < length self.old.text.now }
+        ensures reached { Reaches self.old self.new place result }
+    {
+        if room == Room::Value {
+            NO_PLACE
+        } else if indicator == b'-' {
+            self.sequence(place, depth)
+        } else {
+            self.mapping(place, depth)
+        }
+    }
+
+    // A node that begins in this line, behind its anchor and its tag if it has them: no collection by columns but a
+    // mapping that begins with a key in its line.
+    #[inline(always)]
+    #[cycle(block)]
+    pub(crate) fn content(&mut self, place: usize, least: usize, room: Room, depth: usize) -> usize
+        requires here { IsHere self.old place }
+        requires begun { self.old.start.index ≤ place }
+        ensures reached { Reaches self.old self.new place result }
+    {
+        match at(self.text, place) {
+            b'|' | b'>' => self.block_scalar(place, least),
+            b'[' | b'{' => self.brackets(place, depth),
+            b'"' | b'\'' | b'*' => self.leaf(place, least, room, depth),
+            _ => self.plain_leaf(place, least, room, depth),
+        }
+    }
+
+    // Plain text, or a mapping that begins with it as a key.
+    #[inline(always)]
+    #[cycle(block)]
+    fn plain_leaf(&mut self, place: usize, least: usize, room: Room, depth: usize) -> usize
+        requires here { IsHere self.old place }
+        requires begun { self.old.start.index ≤ place }
+        ensures reached { Reaches self.old self.new place result }
+    {
+        let text = self.text;
+        if !begins_plain(text, false, place) {
+            return NO_PLACE;
+        }
+        let end = plain_end(text, false, place);
+        if colon_behind(text, end) != NO_PLACE {
+            return self.keyed(Leaf::plain(place, end), room, depth);
+        }
+        self.plain(place, end, least)
+    }
+
+    // Quotes or an alias, or a mapping that begins with them as a key.
+    #[inline(never)]
+    #[cycle(block)]
+    fn leaf(&mut self, place: usize, least: usize, room: Room, depth: usize) -> usize
+        requires here { IsHere self.old place }
+        requires begun { self.old.start.index ≤ place }
+        requires within { place < length self.old.text.now }
+        ensures reached { Reaches self.old self.new place result }
+    {
+        let Some(leaf) = find_leaf(self.text, false, place) else {
+            return NO_PLACE;
+        };
+        if let LeafKind::Open(quote) = leaf.kind {
+            let end = reach!(self.quoted_lines(quote, place));
+            return self.margin(end);
+        }
+        if colon_behind(self.text, leaf.end) != NO_PLACE {
+            return self.keyed(leaf, room, depth);
+        }
+        reach!(self.push_leaf(leaf));
+        self.margin(leaf.end)
+    }
+
+    // A mapping whose first key is this leaf. It begins where that does, or what stands before it.
+    #[inline(never)]
+    #[cycle(block)]
+    pub(crate) fn keyed(&mut self, leaf: Leaf, room: Room, depth: usize) -> usize
+        requires part { IsPart self.old.text.now self.old.start.index leaf }
+        requires here { IsHere self.old leaf.end }
+        ensures reached { Reaches self.old self.new leaf.end result }
+    {
+        let colon = colon_behind(self.text, leaf.end);
+        let start = self.start.index;
+        if room == Room::Value || depth == 0 || start < self.line_start {
+            return NO_PLACE;
+        }
+        if colon > start + LONGEST_KEY {
+            return NO_PLACE;
+        }
+        let column = start - self.line_start;
+        let first = self.tape.entries.len();
+        reach!(self.push_mapping_before(leaf.end));
+        reach!(self.push_leaf(leaf));
+        let next = reach!(self.part(colon + 1, column + 1, Room::Value, depth - 1));
+        self.entries(next, column, first, depth - 1)
+    }
+
+    // A collection between brackets, which is no key.
+    #[inline(never)]
+    fn brackets(&mut self, place: usize, depth: usize) -> usize
+        requires here { IsHere self.old place }
+        requires begun { self.old.start.index ≤ place }
+        requires within { place < length self.old.text.now }
+        ensures reached { Reaches self.old self.new place result }
+    {
+        let end = reach!(self.flow(place, depth));
+        if colon_behind(self.text, end) != NO_PLACE {
+            return NO_PLACE;
+        }
+        self.margin(end)
+    }
+}

@@ -1,0 +1,143 @@
+//! What single bytes of a text mean. A place is an index; behind the text each byte is 0.
+
+ghost use Rattle.std.specs.Prelude.{true, ◌≡◌, ◌≢◌, ◌+◌, ◌<◌, ◌≤◌, IsTrue, length};
+ghost use Rattle.yaml_direct.specs.Gaps.{InLine, IsLineEnd};
+ghost use Rattle.yaml_direct.specs.Bytes.{AreBlanks, at, is_bracket, is_gap};
+
+use memchr::memchr;
+
+// The byte at a place, or 0 behind the end.
+#[inline(always)]
+pub(crate) fn at(text: &[u8], place: usize) -> u8
+    ensures value { result ≡ at text.now place }
+    ensures within { result ≢ 0 → place < length text.now }
+{
+    if place < text.len() { text[place] } else { 0 }
+}
+
+// Whether a blank stands here, or the line or the text ends.
+#[inline(always)]
+pub(crate) fn is_gap(text: &[u8], place: usize) -> bool
+    ensures { result ≡ is_gap text.now place }
+{
+    at(text, place) <= b' '
+}
+
+// Whether `-`, `?` or `:` stands here as an indicator.
+#[inline(always)]
+pub(crate) fn is_mark(text: &[u8], byte: u8, place: usize) -> bool
+    ensures within { IsTrue result → place < length text.now }
+    ensures mark { IsTrue result → at text.now place ≡ byte }
+    ensures apart { IsTrue result → is_gap text.now (place + 1) ≡ true }
+{
+    place < text.len() && text[place] == byte && is_gap(text, place + 1)
+}
+
+// Whether this byte has a meaning of its own within brackets.
+#[inline(always)]
+pub(crate) fn is_bracket(byte: u8) -> bool
+    ensures { result ≡ is_bracket byte }
+{
+    matches!(byte, b',' | b'[' | b']' | b'{' | b'}')
+}
+
+// Whether this byte is three times here, at the beginning of a line, and alone.
+#[inline(always)]
+fn is_triple(text: &[u8], byte: u8, place: usize) -> bool
+    requires { 0 < byte }
+    ensures { IsTrue result → place + 3 ≤ length text.now }
+{
+    place < text.len()
+        && text[place] == byte
+        && at(text, place + 1) == byte
+        && at(text, place + 2) == byte
+        && is_gap(text, place + 3)
+}
+
+// Whether `---` stands here, where a line begins.
+pub(crate) fn begins_document(text: &[u8], place: usize) -> bool
+    ensures { IsTrue result → place + 3 ≤ length text.now }
+{
+    is_triple(text, b'-', place)
+}
+
+// Whether `...` stands here, where a line begins.
+pub(crate) fn ends_document(text: &[u8], place: usize) -> bool
+    ensures { IsTrue result → place + 3 ≤ length text.now }
+{
+    is_triple(text, b'.', place)
+}
+
+// Whether `---` or `...` stands here, where a line begins.
+pub(crate) fn parts_documents(text: &[u8], place: usize) -> bool {
+    matches!(at(text, place), b'-' | b'.')
+        && (begins_document(text, place) || ends_document(text, place))
+}
+
+// The first place from here on where no space stands.
+#[inline(always)]
+pub(crate) fn spaces_end(text: &[u8], from: usize) -> usize
+    requires { from ≤ length text.now }
+    ensures forward { from ≤ result }
+    ensures within { result ≤ length text.now }
+    ensures blanks { AreBlanks text.now from result }
+    ensures over { at text.now result ≢ 32 }
+{
+    for (count, byte) in text[from..].iter().enumerate() {
+        if *byte != b' ' {
+            return from + count;
+        }
+    }
+    text.len()
+}
+
+// The first place from here on where neither a space nor a tab stands.
+pub(crate) fn blanks_end(text: &[u8], from: usize) -> usize
+    requires { from ≤ length text.now }
+    ensures forward { from ≤ result }
+    ensures within { result ≤ length text.now }
+{
+    for (count, byte) in text[from..].iter().enumerate() {
+        if !matches!(*byte, b' ' | b'\t') {
+            return from + count;
+        }
+    }
+    text.len()
+}
+
+// Whether a line feed stands here.
+#[inline(always)]
+pub(crate) fn is_feed(text: &[u8], place: usize) -> bool
+    ensures { IsTrue result → at text.now place ≡ 10 }
+{
+    at(text, place) == b'\n'
+}
+
+// The place of the line feed, where a line ends here: this one, or the next where a carriage return stands before it.
+// If none does, this one.
+#[inline(always)]
+pub(crate) fn feed_at(text: &[u8], place: usize) -> usize
+    requires { place ≤ length text.now }
+    ensures forward { place ≤ result }
+    ensures within { result ≤ length text.now }
+{
+    if at(text, place) == b'\r' && at(text, place + 1) == b'\n' {
+        place + 1
+    } else {
+        place
+    }
+}
+
+// Where the line ends.
+pub(crate) fn line_end(text: &[u8], from: usize) -> usize
+    requires { from ≤ length text.now }
+    ensures forward { from ≤ result }
+    ensures within { result ≤ length text.now }
+    ensures inside { InLine text.now from result }
+    ensures ends { IsLineEnd text.now result }
+{
+    match memchr(b'\n', &text[from..]) {
+        Some(len) => from + len,
+        None => text.len(),
+    }
+}

@@ -1,0 +1,160 @@
+//! Documents, one after another.
+#![tactic(auto, using(crate::proofs::Growing::given_up))]
+
+ghost use Rattle.std.specs.Prelude.{◌≡◌, ◌≢◌, ◌≤◌, [], IfOk, IfSome, length};
+
+use crate::byte::ends_document;
+use crate::place::NO_PLACE;
+use crate::reader::Reader;
+use crate::text::{Characters, characters_of, has_order_mark};
+use std::alloc::{AllocError, Global};
+use yaml_tape::Tape;
+
+/// What was read.
+#[derive(Clone, Copy, PartialEq, Eq)]
+pub enum Step {
+    /// A document, whose events were added.
+    Document,
+    /// The end of the text, which was added.
+    End,
+    /// Nothing: the tape ends where the last document that was read ends, and what is left is for the tokens.
+    Elsewhere,
+}
+
+/// The documents of a text, of which the first were read.
+#[derive(Drop)]
+pub struct Documents<'a> {
+    reader: Reader<'a>,
+    // Where the next token stands.
+    next: usize,
+    // Whether a document was read, and whether the last one ended with `...`.
+    begun: bool,
+    ended: bool,
+    ghost here: { next ≢ 18446744073709551615 → (reader.line_start ≤ next) × (next ≤ length reader.text.now) },
+}
+
+impl<'a> Documents<'a> {
+    ghost use Rattle.yaml_direct.specs.Documents.{AddsDocument, AddsEnd, IsBegun, told_by};
+    ghost use Rattle.yaml_direct.specs.Places.{IsHere, no_place};
+    ghost use Rattle.yaml_direct.specs.declared.document.Step.TheVariants as step;
+    ghost use Rattle.yaml_tape.specs.Pushes.{marked_on};
+
+    /// The documents of a text, or none where the text can't be read so.
+    pub fn new(alloc: Global, text: &'a [u8]) -> Result<Option<Documents<'a>>, AllocError>
+        ensures text { IfOk result (λ o. IfSome o (λ d. d.reader.text.now ≡ text.now)) }
+        ensures begun { IfOk result (λ o. IfSome o (λ d. IsBegun (told_by d))) }
+    {
+        let from: usize = if has_order_mark(text) { 3 } else { 0 };
+        let ascii = match characters_of(&text[from..]) {
+            Characters::Ascii => true,
+            Characters::Allowed => false,
+            Characters::Other => return Ok(None),
+        };
+        match Reader::new(alloc, text, from, ascii) {
+            Some(reader) => Documents::begun(reader, from),
+            None => Ok(None),
+        }
+    }
+
+    // The documents of a text whose first line begins in this place.
+    #[tactic(auto, using(crate::proofs::Growing::stream_begun))]
+    fn begun(reader: Reader<'a>, from: usize) -> Result<Option<Documents<'a>>, AllocError>
+        requires here { IsHere reader from }
+        requires empty { marked_on reader.tape ≡ [] }
+        ensures text { IfOk result (λ o. IfSome o (λ d. d.reader.text.now ≡ reader.entry.text.now)) }
+        ensures begun { IfOk result (λ o. IfSome o (λ d. IsBegun (told_by d))) }
+    {
+        let mut reader = reader;
+        let next = reader.begin_stream(from);
+        if reader.starved {
+            return Err(AllocError);
+        }
+        if next == NO_PLACE {
+            return Ok(None);
+        }
+        Ok(Some(Documents {
+            reader,
+            next,
+            begun: false,
+            ended: true,
+        }))
+    }
+
+    /// Reads a document, or the end of the text, and adds its events.
+    pub fn advance(&mut self) -> Result<Step, AllocError>
+        ensures text { self.new.reader.text.now ≡ self.old.reader.text.now }
+        ensures document { IfOk result (λ s. s ≡ step.Document → AddsDocument (told_by self.old) (told_by self.new)) }
+        ensures end { IfOk result (λ s. s ≡ step.End → AddsEnd (told_by self.old) (told_by self.new)) }
+        ensures elsewhere { IfOk result (λ s. s ≡ step.Elsewhere → told_by self.new ≡ told_by self.old) }
+    {
+        self.skip_ends();
+        if self.next == NO_PLACE {
+            return Ok(Step::Elsewhere);
+        }
+        if self.next == self.reader.text.len() {
+            return self.end();
+        }
+        self.document()
+    }
+
+    // Adds the end of the stream, behind which nothing is read.
+    fn end(&mut self) -> Result<Step, AllocError>
+        ensures text { self.new.reader.text.now ≡ self.old.reader.text.now }
+        ensures step { IfOk result (λ s. s ≡ step.End) }
+        ensures end { IfOk result (λ s. AddsEnd (told_by self.old) (told_by self.new)) }
+    {
+        let end = self.reader.end_stream();
+        self.next = NO_PLACE;
+        if end == NO_PLACE {
+            return Err(AllocError);
+        }
+        Ok(Step::End)
+    }
+
+    // Reads the document that begins at the next token. If it can't be read so, its events are taken off again.
+    fn document(&mut self) -> Result<Step, AllocError>
+        requires { self.old.next ≢ no_place }
+        ensures text { self.new.reader.text.now ≡ self.old.reader.text.now }
+        ensures step { IfOk result (λ s. s ≢ step.End) }
+        ensures document { IfOk result (λ s. s ≡ step.Document → AddsDocument (told_by self.old) (told_by self.new)) }
+        ensures elsewhere { IfOk result (λ s. s ≡ step.Elsewhere → told_by self.new ≡ told_by self.old) }
+    {
+        let count = self.reader.tape.entries.len();
+        self.next = self.reader.document(self.next, !self.begun, self.ended);
+        self.begun = true;
+        self.ended = false;
+        if self.next != NO_PLACE {
+            return Ok(Step::Document);
+        }
+        self.reader.take_back(count);
+        if self.reader.starved {
+            return Err(AllocError);
+        }
+        Ok(Step::Elsewhere)
+    }
+
+    // Steps over `...` behind a document.
+    fn skip_ends(&mut self)
+        ensures text { self.new.reader.text.now ≡ self.old.reader.text.now }
+        ensures still { told_by self.new ≡ told_by self.old }
+    {
+        'ends: while self.next == self.reader.line_start
+            && ends_document(self.reader.text, self.next)
+        {
+            self.next = if self.begun {
+                self.reader.margin(self.next + 3)
+            } else {
+                NO_PLACE
+            };
+            self.ended = true;
+        }
+    }
+
+    /// The events that were read.
+    pub fn into_tape(self) -> Tape<'a>
+        ensures text { result.text.now ≡ self.entry.reader.text.now }
+        ensures events { marked_on result ≡ told_by self.entry }
+    {
+        self.reader.tape
+    }
+}

@@ -1,0 +1,191 @@
+//! Leaves: aliases, plain text and quotes, each as far as it stands in one line. A leaf is found before it is added,
+//! since one that is a key begins a mapping first.
+#![tactic(auto, using(crate::proofs::Growing::grows_on, crate::proofs::Growing::grows_same))]
+
+ghost use Rattle.std.specs.Prelude.{◌≡◌, ◌≢◌, ◌<◌, ◌≤◌, IfSome, length};
+ghost use Rattle.yaml_direct.specs.Leaves.{IsPart};
+ghost use Rattle.yaml_direct.specs.Places.{IsHere, Keeps, Reaches, no_place};
+
+use crate::byte::at;
+use crate::place::NO_PLACE;
+use crate::plain::{begins_plain, plain_end};
+use crate::properties::name_end;
+use crate::quote::{Quote, closing, run_end};
+use crate::reader::Reader;
+use yaml_base::{Anchor, ScalarStyle};
+use yaml_tape::Names;
+
+// What a leaf is.
+#[derive(Clone, Copy, PartialEq, Eq)]
+pub(crate) enum LeafKind {
+    Plain,
+    // Between quotes, all of it standing for itself.
+    Quoted(Quote),
+    // Between quotes, some of it standing for something else.
+    Escaped(Quote),
+    Alias,
+    // Quotes that are not closed in this line.
+    Open(Quote),
+}
+
+// A leaf that was found: where its text begins and stops, and the place behind it.
+#[derive(Clone, Copy)]
+pub(crate) struct Leaf {
+    pub(crate) kind: LeafKind,
+    pub(crate) begin: usize,
+    pub(crate) stop: usize,
+    pub(crate) end: usize,
+}
+
+impl Leaf {
+    // Plain text that stands here.
+    #[inline(always)]
+    pub(crate) fn plain(begin: usize, end: usize) -> Leaf
+        ensures { (result.begin ≡ begin) × (result.stop ≡ end) × (result.end ≡ end) }
+    {
+        Leaf {
+            kind: LeafKind::Plain,
+            begin,
+            stop: end,
+            end,
+        }
+    }
+}
+
+// The scalar between quotes that begins here.
+#[inline(always)]
+fn find_quoted(text: &[u8], quote: Quote, from: usize) -> Leaf
+    requires { from < length text.now }
+    ensures { IsPart text.now from result }
+{
+    let begin = from + 1;
+    let first = run_end(text, quote, begin);
+    let stop = closing(text, quote, first);
+    if stop == text.len() || text[stop] != quote.byte() {
+        return Leaf {
+            kind: LeafKind::Open(quote),
+            begin,
+            stop,
+            end: stop,
+        };
+    }
+    let kind = if stop == first {
+        LeafKind::Quoted(quote)
+    } else {
+        LeafKind::Escaped(quote)
+    };
+    let end = stop + 1;
+    Leaf {
+        kind,
+        begin,
+        stop,
+        end,
+    }
+}
+
+// The alias that begins here.
+fn find_alias(text: &[u8], flow: bool, from: usize) -> Option<Leaf>
+    requires { from < length text.now }
+    ensures { IfSome result (IsPart text.now from) }
+{
+    let begin = from + 1;
+    let end = name_end(text, flow, begin)?;
+    Some(Leaf {
+        kind: LeafKind::Alias,
+        begin,
+        stop: end,
+        end,
+    })
+}
+
+// The plain text that begins here.
+#[inline(always)]
+fn find_plain(text: &[u8], flow: bool, from: usize) -> Option<Leaf>
+    requires { from ≤ length text.now }
+    ensures { IfSome result (IsPart text.now from) }
+{
+    if !begins_plain(text, flow, from) {
+        return None;
+    }
+    let end = plain_end(text, flow, from);
+    Some(Leaf::plain(from, end))
+}
+
+// The leaf that begins here, within brackets or not, if one does.
+#[inline(always)]
+pub(crate) fn find_leaf(text: &[u8], flow: bool, from: usize) -> Option<Leaf>
+    requires { from ≤ length text.now }
+    ensures { IfSome result (IsPart text.now from) }
+{
+    match at(text, from) {
+        b'"' => Some(find_quoted(text, Quote::Double, from)),
+        b'\'' => Some(find_quoted(text, Quote::Single, from)),
+        b'*' => find_alias(text, flow, from),
+        _ => find_plain(text, flow, from),
+    }
+}
+
+impl<'a> Reader<'a> {
+    // Adds the node as an alias of this name.
+    fn push_alias_named(&mut self, name: Anchor, next: usize) -> usize
+        requires begun { self.old.start.index ≤ length self.old.text.now }
+        ensures kept { Keeps self.old self.new }
+        ensures there { result ≢ no_place → result ≡ next }
+    {
+        let names = Names {
+            anchor: Some(name),
+            tag: None,
+        };
+        let Some(id) = self.tape.keep_names(names) else {
+            return self.starve();
+        };
+        let start = self.start;
+        if !self.tape.push_alias(start, id) {
+            return self.starve();
+        }
+        next
+    }
+
+    // Adds the node as an alias, before which nothing may stand.
+    #[inline(never)]
+    fn push_alias(&mut self, leaf: Leaf) -> usize
+        requires part { (leaf.begin ≤ leaf.stop) × (leaf.stop ≤ leaf.end) }
+        requires begun { self.old.start.index ≤ leaf.end }
+        requires within { leaf.end ≤ length self.old.text.now }
+        ensures kept { Keeps self.old self.new }
+        ensures there { result ≢ no_place → result ≡ leaf.end }
+    {
+        if self.named {
+            return NO_PLACE;
+        }
+        match Vec::from_slice(self.alloc, &self.text[leaf.begin..leaf.stop]) {
+            Ok(name) => self.push_alias_named(Anchor::new(name), leaf.end),
+            Err(_) => self.starve(),
+        }
+    }
+
+    // Adds the node as the leaf that was found, in one line, and gives the place behind it.
+    #[inline(always)]
+    pub(crate) fn push_leaf(&mut self, leaf: Leaf) -> usize
+        requires part { (leaf.begin ≤ leaf.stop) × (leaf.stop ≤ leaf.end) }
+        requires begun { self.old.start.index ≤ leaf.end }
+        requires within { leaf.end ≤ length self.old.text.now }
+        ensures kept { Keeps self.old self.new }
+        ensures there { result ≢ no_place → result ≡ leaf.end }
+    {
+        let end = leaf.end;
+        match leaf.kind {
+            LeafKind::Plain => self.push_text(leaf.begin, leaf.stop, ScalarStyle::Plain, end, end),
+            LeafKind::Quoted(quote) => self.push_text(
+                leaf.begin,
+                leaf.stop,
+                quote.style(),
+                end,
+                end,
+            ),
+            LeafKind::Escaped(quote) => self.push_escaped(quote, leaf.begin, leaf.stop, end),
+            LeafKind::Alias => self.push_alias(leaf),
+            LeafKind::Open(_) => NO_PLACE,
+        }
+    }
+}

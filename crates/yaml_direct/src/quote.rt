@@ -1,0 +1,143 @@
+//! Quotes, and what stands between them in one line.
+
+ghost use Rattle.std.specs.Prelude.{◌≡◌, ◌≢◌, ◌+◌, ◌-◌, ◌<◌, ◌≤◌, IfOk, IsTrue, length};
+ghost use Rattle.yaml_direct.specs.Places.{no_place};
+
+use crate::byte::at;
+use crate::escape::read_escape;
+use crate::place::NO_PLACE;
+use memchr::{memchr2, memchr3};
+use std::alloc::{AllocError, Global};
+use yaml_base::ScalarStyle;
+
+// The quotes around a scalar.
+#[derive(Clone, Copy, PartialEq, Eq)]
+pub(crate) enum Quote {
+    Single,
+    Double,
+}
+
+impl Quote {
+    // The quote itself.
+    #[inline(always)]
+    pub(crate) fn byte(self) -> u8
+        ensures { 0 < result }
+    {
+        match self {
+            Quote::Single => b'\'',
+            Quote::Double => b'"',
+        }
+    }
+
+    // The style of such a scalar.
+    pub(crate) fn style(self) -> ScalarStyle {
+        match self {
+            Quote::Single => ScalarStyle::SingleQuoted,
+            Quote::Double => ScalarStyle::DoubleQuoted,
+        }
+    }
+}
+
+// Where the bytes end that stand for themselves: at a quote, a line feed, the end, or a backslash between double
+// quotes.
+#[inline(always)]
+pub(crate) fn run_end(text: &[u8], quote: Quote, from: usize) -> usize
+    requires { from ≤ length text.now }
+    ensures forward { from ≤ result }
+    ensures within { result ≤ length text.now }
+{
+    let rest = &text[from..];
+    let len = match quote {
+        Quote::Single => memchr2(b'\'', b'\n', rest),
+        Quote::Double => memchr3(b'"', b'\\', b'\n', rest),
+    };
+    match len {
+        Some(len) => from + len,
+        None => text.len(),
+    }
+}
+
+// Where the closing quote stands, or where the line ends before it, from the end of a run on.
+pub(crate) fn closing(text: &[u8], quote: Quote, from: usize) -> usize
+    requires { from ≤ length text.now }
+    ensures forward { from ≤ result }
+    ensures within { result ≤ length text.now }
+{
+    let mut place = from;
+    'runs: while stands_for_another(text, quote, place) {
+        place = run_end(text, quote, place + 2);
+    }
+    place
+}
+
+// Whether a quote that is doubled stands here, or an escape that ends no line.
+#[inline(always)]
+pub(crate) fn stands_for_another(text: &[u8], quote: Quote, place: usize) -> bool
+    requires { place ≤ length text.now }
+    ensures { IsTrue result → place + 2 ≤ length text.now }
+{
+    match quote {
+        Quote::Single => at(text, place) == b'\'' && at(text, place + 1) == b'\'',
+        Quote::Double => at(text, place) == b'\\'
+            && !matches!(at(text, place + 1), b'\n' | b'\r' | 0),
+    }
+}
+
+// Puts a doubled quote or what an escape stands for behind a text, and gives the place behind, or none.
+pub(crate) fn read_other(
+    text: &[u8],
+    quote: Quote,
+    place: usize,
+    out: &mut Vec<u8>,
+) -> Result<usize, AllocError>
+    requires { place < length text.now }
+    ensures forward { IfOk result (λ end. place + 1 ≤ end) }
+    ensures within { IfOk result (λ end. end ≢ no_place → end ≤ length text.now) }
+{
+    match quote {
+        Quote::Single => {
+            out.reserve(1)?;
+            out.push_reserved(b'\'');
+            Ok((place + 2).min(text.len()))
+        }
+        Quote::Double => read_escape(text, place, out),
+    }
+}
+
+// How many blanks end a run before a line feed, with the carriage return that may stand before that.
+pub(crate) fn blanks_at_end(run: &[u8]) -> usize
+    ensures { result ≤ length run.now }
+{
+    for count in 0..run.len() {
+        if !matches!(run[run.len() - 1 - count], b' ' | b'\t' | b'\r') {
+            return count;
+        }
+    }
+    run.len()
+}
+
+// The text between quotes in one line, if its escapes are in due form.
+pub(crate) fn unquoted(
+    alloc: Global,
+    text: &[u8],
+    quote: Quote,
+    from: usize,
+    end: usize,
+) -> Result<Option<Vec<u8>>, AllocError>
+    requires { (from ≤ end) × (end ≤ length text.now) }
+{
+    let mut value = Vec::with_capacity(alloc, end - from)?;
+    let mut place = from;
+    'runs: while place < end {
+        let stop = run_end(text, quote, place);
+        value.extend_from_slice(&text[place..stop])?;
+        place = stop;
+        if place < end {
+            place = read_other(text, quote, place, &mut value)?;
+        }
+    }
+    if place == NO_PLACE {
+        return Ok(None);
+    }
+    Ok(Some(value))
+}

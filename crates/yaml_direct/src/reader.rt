@@ -1,0 +1,183 @@
+//! A text, the line that is read, the node that begins, and the events that were made.
+#![tactic(auto, using(crate::proofs::Growing::grows_on, crate::proofs::Growing::grows_same))]
+
+ghost use Rattle.std.specs.Prelude.{◌≡◌, ◌≢◌, ◌+◌, ◌<◌, ◌≤◌, IsTrue, false, length};
+
+use crate::byte::{is_mark, parts_documents};
+use crate::place::NO_PLACE;
+use std::alloc::Global;
+use yaml_tape::{Names, Spot, Tape};
+
+// Reads a text. A place that is handed to its methods stands in the line that was begun last.
+#[derive(Drop)]
+pub(crate) struct Reader<'a> {
+    pub(crate) alloc: Global,
+    pub(crate) text: &'a [u8],
+    // How many lines ended, and where the one behind them begins.
+    pub(crate) line: usize,
+    pub(crate) line_start: usize,
+    // Whether each character is one byte.
+    ascii: bool,
+    // Where the node that is read begins, or what stands before it.
+    pub(crate) start: Spot,
+    // What stands before that node, and whether anything does.
+    pub(crate) names: Names,
+    pub(crate) named: bool,
+    pub(crate) tape: Tape<'a>,
+    // Whether memory ran out, or room on the tape.
+    pub(crate) starved: bool,
+    ghost inside: { line_start ≤ length text.now },
+    ghost fewer: { line ≤ line_start },
+    ghost same: { tape.text.now ≡ text.now },
+}
+
+// The mark of a place.
+#[inline(always)]
+pub(crate) fn spot(index: usize) -> Spot
+    ensures { (result.index ≡ index) × (result.late ≡ false) }
+{
+    Spot { index, late: false }
+}
+
+impl<'a> Reader<'a> {
+    ghost use Rattle.yaml_direct.specs.Places.{Grows, IsHere, Keeps, no_place};
+    ghost use Rattle.std.specs.Prelude.{[], IfSome, take};
+    ghost use Rattle.yaml_tape.specs.Pushes.{marked_on};
+
+    // At the beginning of a text, whose first line begins in this place.
+    pub(crate) fn new(alloc: Global, text: &'a [u8], from: usize, ascii: bool) -> Option<Reader<'a>>
+        requires { from ≤ length text.now }
+        ensures text { IfSome result (λ r. r.text.now ≡ text.now) }
+        ensures begun { IfSome result (λ r. r.line_start ≡ from) }
+        ensures empty { IfSome result (λ r. marked_on r.tape ≡ []) }
+    {
+        let tape = Tape::new(alloc, text)?;
+        Some(Reader {
+            alloc,
+            text,
+            line: 0,
+            line_start: from,
+            ascii,
+            start: spot(0),
+            names: Names {
+                anchor: None,
+                tag: None,
+            },
+            named: false,
+            tape,
+            starved: false,
+        })
+    }
+
+    // Memory ran out.
+    #[cold]
+    pub(crate) fn starve(&mut self) -> usize
+        ensures none { result ≡ no_place }
+        ensures kept { Keeps self.old self.new }
+    {
+        self.starved = true;
+        NO_PLACE
+    }
+
+    // A line ends right before this place.
+    #[inline(always)]
+    pub(crate) fn begin_line(&mut self, place: usize)
+        requires forward { self.old.line_start < place }
+        requires within { place ≤ length self.old.text.now }
+        ensures text { self.new.text.now ≡ self.old.text.now }
+        ensures begun { self.new.line_start ≡ place }
+        ensures start { self.new.start ≡ self.old.start }
+        ensures counted { self.new.line ≡ self.old.line + 1 }
+        ensures tape { self.new.tape ≡ self.old.tape }
+        ensures grows { Grows self.old self.new }
+    {
+        self.line += 1;
+        self.line_start = place;
+    }
+
+    // Whether a line that ends the text has so many characters.
+    #[inline(never)]
+    fn reaches_column(&self, next: usize, column: usize) -> bool
+        requires { IsHere self.now next }
+    {
+        if self.ascii {
+            return column <= next - self.line_start;
+        }
+        let mut characters: usize = 0;
+        for byte in &self.text[self.line_start..next] {
+            if *byte & 0xC0 != 0x80 {
+                characters = characters.saturating_add(1);
+            }
+        }
+        column <= characters
+    }
+
+    // The mark at which a collection in this column ends, before the next token. Where the text has ended in a line
+    // without a line feed, that line counts as ended, unless the collection stands further in.
+    #[inline(always)]
+    pub(crate) fn end_spot(&self, next: usize, column: usize) -> Spot
+        requires { IsHere self.now next }
+        ensures { result.index ≡ next }
+    {
+        let late = next == self.text.len()
+            && next != self.line_start
+            && self.reaches_column(next, column);
+        Spot { index: next, late }
+    }
+
+    // Whether the document ends before the next token.
+    #[inline(always)]
+    pub(crate) fn is_over(&self, next: usize) -> bool
+        ensures { result ≡ false → next ≡ length self.now.text.now → ⊥ }
+    {
+        next == self.text.len() || (next == self.line_start && parts_documents(self.text, next))
+    }
+
+    // Whether the next token stands in the column `least` at least, in this document.
+    #[inline(always)]
+    pub(crate) fn is_within(&self, next: usize, least: usize) -> bool
+        requires { IsHere self.now next }
+        ensures { IsTrue result → next < length self.now.text.now }
+    {
+        next - self.line_start >= least && !self.is_over(next)
+    }
+
+    // Whether the next token stands in this column, in this document.
+    #[inline(always)]
+    pub(crate) fn is_at(&self, next: usize, column: usize) -> bool
+        requires { IsHere self.now next }
+        ensures { IsTrue result → next < length self.now.text.now }
+    {
+        next - self.line_start == column && !self.is_over(next)
+    }
+
+    // Whether `-` stands here as an indicator, in this column.
+    #[inline(always)]
+    pub(crate) fn is_item(&self, next: usize, column: usize) -> bool
+        requires { IsHere self.now next }
+        ensures { IsTrue result → next < length self.now.text.now }
+    {
+        is_mark(self.text, b'-', next) && next - self.line_start == column
+    }
+
+    // A node begins here.
+    #[inline(always)]
+    pub(crate) fn begin(&mut self, place: usize)
+        requires { IsHere self.old place }
+        ensures text { self.new.text.now ≡ self.old.text.now }
+        ensures line { self.new.line_start ≡ self.old.line_start }
+        ensures start { self.new.start.index ≡ place }
+        ensures grows { Grows self.old self.new }
+    {
+        self.start = spot(place);
+    }
+
+    // Takes off all events behind so many.
+    pub(crate) fn take_back(&mut self, count: usize)
+        ensures text { self.new.text.now ≡ self.old.text.now }
+        ensures line { self.new.line_start ≡ self.old.line_start }
+        ensures events { marked_on self.new.tape ≡ take count (marked_on self.old.tape) }
+    {
+        self.tape.cut(count);
+    }
+}

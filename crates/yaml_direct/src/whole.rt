@@ -1,0 +1,28 @@
+//! All documents of a text.
+
+ghost use Rattle.std.specs.Prelude.{◌≡◌, IfOk, IfSome};
+ghost use Rattle.yaml_direct.specs.Documents.{IsWholeStream};
+ghost use Rattle.yaml_tape.specs.Pushes.{marked_on};
+
+use crate::document::{Documents, Step};
+use std::alloc::{AllocError, Global};
+use yaml_tape::Tape;
+
+/// The events of a text, or none where it can't be read so.
+#[tactic(auto, using(crate::proofs::Growing::begun_document, crate::proofs::Growing::whole_stream))]
+pub fn parse<'a>(alloc: Global, text: &'a [u8]) -> Result<Option<Tape<'a>>, AllocError>
+    ensures text { IfOk result (λ o. IfSome o (λ t. t.text.now ≡ text.now)) }
+    ensures whole { IfOk result (λ o. IfSome o (λ t. IsWholeStream (marked_on t))) }
+{
+    let Some(mut documents) = Documents::new(alloc, text)? else {
+        return Ok(None);
+    };
+    'documents: for _ in 0..text.len() + 2 {
+        match documents.advance()? {
+            Step::Document => {}
+            Step::End => return Ok(Some(documents.into_tape())),
+            Step::Elsewhere => return Ok(None),
+        }
+    }
+    Ok(None)
+}
