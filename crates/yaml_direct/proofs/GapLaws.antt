@@ -1,5 +1,26 @@
 -- Line feeds, and what stands between tokens.
-use Rattle.std.proofs.Common.{ℕ, ◌+◌, ◌-◌, ◌≡◌, ◌≤◌, Bool, true, false, ◌||◌, ◌==◌, not, refl, sym, subst, ◌∙◌, arith, List, length, drop, take}
+use Rattle.std.proofs.Common.{
+  ℕ,
+  ◌+◌,
+  ◌-◌,
+  ◌≡◌,
+  ◌≤◌,
+  Bool,
+  true,
+  false,
+  ◌||◌,
+  ◌==◌,
+  not,
+  refl,
+  sym,
+  subst,
+  ◌∙◌,
+  arith,
+  List,
+  length,
+  drop,
+  take,
+}
 use Rattle.std.proofs.lemmas.List.{get_or_past, get_or-drop, get_or-take, length-take-le, length-drop}
 use Rattle.memchr.specs.Find.{Nowhere, Passes, is_byte}
 use Rattle.yaml_direct.specs.Bytes.{at}

@@ -1,5 +1,21 @@
 -- The events of a text are never refused as no stream, and what is told of them is what the text was parsed to.
-use Rattle.std.proofs.Common.{◌≡◌, ◌∙◌, ◌∷◌, ◌++◌, [], Bool, IsSomeAnd, List, None, Option, ap, false, is_some, refl, subst}
+use Rattle.std.proofs.Common.{
+  ◌≡◌,
+  ◌∙◌,
+  ◌∷◌,
+  ◌++◌,
+  [],
+  Bool,
+  IsSomeAnd,
+  List,
+  None,
+  Option,
+  ap,
+  false,
+  is_some,
+  refl,
+  subst,
+}
 use Rattle.std.proofs.Common.{sym}
 use Rattle.std.proofs.Common.{true, ℕ}
 use Rattle.std.proofs.lemmas.List.{map-append}

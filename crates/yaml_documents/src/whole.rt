@@ -37,8 +37,8 @@ fn load_by_tokens<'de>(alloc: Global, text: &'de [u8]) -> Result<Loader<'de>>
 /// stands in. A text whose bytes are not all allowed, by the rules of UTF-8 or of YAML's characters, has one document,
 /// cut off before its first event. The only error is want of memory.
 ///
-/// They are those that `Loader::new` makes of the text's events, and no list of these is made. A text of which some part
-/// is left by the direct parser is read anew by its tokens, so each fault is the one that these tell.
+/// They are those that `Loader::new` makes of the text's events, and no list of these is made. A text of which some
+/// part is left by the direct parser is read anew by its tokens, so each fault is the one that these tell.
 pub fn load<'de>(alloc: Global, text: &'de [u8]) -> Result<Loader<'de>>
     ensures documents { IfOk result (AreDocumentsOf text.now) }
     ensures memory { IfErr result (λ cause. is_memory cause ≡ true) }

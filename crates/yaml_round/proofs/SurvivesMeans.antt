@@ -60,7 +60,8 @@ none_within n = (le-Decides 0 n).1 (omega arith)
 
 -- one nesting more is within a limit that is there, where the others are within one less
 deep : (m n : ℕ) → (nat_lt 0 n && nat_le m (n - 1)) ≡ nat_le (suc m) n
-deep m zero = same_test false (nat_le (suc m) 0) (λ h. absurd cc) (λ h. absurd (omega (arith, (le-Decides (suc m) 0).0 h)))
+deep m zero = same_test false (nat_le (suc m) 0) (λ h. absurd cc)
+    (λ h. absurd (omega (arith, (le-Decides (suc m) 0).0 h)))
 deep m (suc n) =
     same_test (nat_lt 0 (suc n) && nat_le m (suc n - 1)) (nat_le (suc m) (suc n))
     (λ h. (le-Decides (suc m) (suc n)).1
@@ -326,7 +327,8 @@ module _ (t : List PlainShape) where
         let o = newtype_is (λ c. has_shape t c d) s.0 s.2 in
         let here : shape_at t id ≡ Some (newtype_shape o.0 o.1) = s.1 ∙ ap (λ s. Some s) o.2 in
         rw here
-        (nested (is_ok (written t o.1 tag d)) (data_fits t o.1 d) (survives t o.1 (is_some tag) (n - 1) d) (nestings d) n
+        (nested (is_ok (written t o.1 tag d)) (data_fits t o.1 d) (survives t o.1 (is_some tag) (n - 1) d)
+        (nestings d) n
         (data_is d o.1 tag (n - 1) o.3 held))
     data_is (seq_data ds) id tag n has held =
         let s = passes_there (shape_at t id) _ has in
@@ -434,7 +436,8 @@ module _ (t : List PlainShape) where
         (is_ok (written_entries t key value es)) (entries_fit t key value es) (survives t key false n k)
         (survives t value false n v) (entries_survive t key value n es) (nestings k) (nestings v)
         (entries_nestings es) n
-        (data_is k key None n (first (has_shape t key k) (has_shape t value v && entries_have t key value es) has) held.0)
+        (data_is k key None n (first (has_shape t key k) (has_shape t value v && entries_have t key value es) has)
+        held.0)
         (data_is v value None n (first (has_shape t value v) (entries_have t key value es) has') held.1)
         (entries_are es key value n (second (has_shape t value v) (entries_have t key value es) has') held.2)
         ∙ ap (λ b. b && (entries_fit t key value (entry k v es) && nat_le (entries_nestings (entry k v es)) n))

@@ -17,8 +17,8 @@ pub struct Shared<K> {
     kind: K,
 }
 
-/// What is left of a map that others share: a field of this type under `#[serde(flatten)]` takes each pair that no other
-/// field takes.
+/// What is left of a map that others share: a field of this type under `#[serde(flatten)]` takes each pair that no
+/// other field takes.
 pub type Rest = Shared<Anything>;
 
 impl Shared<Anything> {

@@ -7,11 +7,14 @@ use Rattle.yaml_float.proofs.print.print_f32.Goals as goal
 pub returns-then-is_finite : goal.returns-then-is_finite
 returns-then-is_finite c =
     let finite : IsTrue (float_is_finite c.args.x) = sym c.if-is_finite.ensures.value in (
-      plain_read binary32 c.format_finite.result.now c.args.x c.format_finite.ensures.plain finite c.format_finite.ensures.parses,
+      plain_read binary32 c.format_finite.result.now c.args.x c.format_finite.ensures.plain finite
+          c.format_finite.ensures.parses,
       ((λ _. c.format_finite.ensures.plain), (λ h. absurd (true≢false (sym finite ∙ h)))),
     )
 
 pub returns-else-is_finite : goal.returns-else-is_finite
 returns-else-is_finite c =
-    let other : IsFalse (float_is_finite c.args.x) = sym c.if-is_finite.ensures.value in
-    (rw c.word_f32.ensures (word_read binary32 c.args.x other), ((λ h. absurd (true≢false (sym h ∙ other))), (λ _. c.word_f32.ensures)))
+    let other : IsFalse (float_is_finite c.args.x) = sym c.if-is_finite.ensures.value in (
+      rw c.word_f32.ensures (word_read binary32 c.args.x other),
+      ((λ h. absurd (true≢false (sym h ∙ other))), (λ _. c.word_f32.ensures)),
+    )

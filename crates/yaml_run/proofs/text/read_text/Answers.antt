@@ -12,6 +12,7 @@ returns c = λ s at.
     (λ told. Tells c.args.audience c.data_from_slice-found.result told.ended (string_bytes told.text))
     (λ told. IsTextReading c.args.audience c.args.limits c.args.schema.now s c.args.text.now told.ended
     (string_bytes told.text))
-    (λ told tells. tells_text c.args.limits c.args.schema.now s c.args.audience c.args.text.now c.data_from_slice-found.result
+    (λ told tells. tells_text c.args.limits c.args.schema.now s c.args.audience c.args.text.now
+    c.data_from_slice-found.result
     told.ended (string_bytes told.text) (c.data_from_slice-found.ensures.given s at) tells)
     c.told_of.ensures

@@ -62,7 +62,8 @@ module _ (T : RattleType) where
         → ent 𝓤 ((walk_of 𝓛 ended stayed held).pre z)
         (WpFn 𝓤 H C Λ function ((walk_of 𝓛 ended stayed held).args z) ((walk_of 𝓛 ended stayed held).post z))
     walk C Λ z =
-        qed 𝓛 ((raw (alive 𝓛 ended.signature z.0.0 z.0.1) ⊛ ‵ (owns (types_at ended.signature.params z.0.0) z.0.3 z.0.4))
+        qed 𝓛 ((raw (alive 𝓛 ended.signature z.0.0 z.0.1) ⊛ ‵
+        (owns (types_at ended.signature.params z.0.0) z.0.3 z.0.4))
         ∷ raw ((held z.0.0 z.0.3).requires z.1) ∷ []) ∵
         keep ! (0 ∷ []) $ split ! $ keep ! (0 ∷ []) $ enter ! C Λ function [] ((walk_of 𝓛 ended stayed held).post z) $
         alloc_all ! (λ l. pass_all ! refl tt $ sets ! (agg ! (no_more !)) refl (tt, tt) $

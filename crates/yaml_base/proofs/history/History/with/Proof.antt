@@ -63,7 +63,8 @@ module _ (T : RattleType) where
     abbrev held : Clauses 𝓤 ended
     held = f.clauses T 𝓛 mem run
 
-    module _ (κs : Lfts ended.signature.lifetimes) (qs : Shares ended.signature.lifetimes) (a : Given ended.signature κs) where
+    module _ (κs : Lfts ended.signature.lifetimes) (qs : Shares ended.signature.lifetimes)
+        (a : Given ended.signature κs) where
       abbrev before : Val
       before = vptr a.0.ref_ptr.0 a.0.ref_ptr.1
 

@@ -22,7 +22,8 @@ invariant_of-self c =
     let index : mark.index ≡ here.index = c.begun-mark.ensures.index in
     let at : mark.index ≡ c.args.index = omega (arith, index, c.in_ok-here.ensures.index) in
     let forward : old.here.index ≤ mark.index = omega (arith, index, c.in_ok-here.ensures.forward) in
-    let shown = subst (λ i. IfSome (scalar_in (event_of c.args.event)) (λ s. IsSomeAnd s.source (StandsAt text i))) (sym at)
+    let shown = subst (λ i. IfSome (scalar_in (event_of c.args.event)) (λ s. IsSomeAnd s.source (StandsAt text i)))
+    (sym at)
     c.requires.shown in
     record {
       shown = shown_to text before after x grown old.shown shown;

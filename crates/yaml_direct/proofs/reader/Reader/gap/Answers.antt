@@ -46,7 +46,8 @@ gap-preserved-in-10 c =
       tape = c.begin_line.ensures.tape ∙ i.tape;
       lines = omega (arith, i.lines, c.begin_line.ensures.counted);
       front = λ b k g. subst (λ x. Gap c.args.self.now.text.now (x || b) c.args.from k) (sym more)
-          (subst (λ x. Gap c.args.self.now.text.now x c.args.from k) (or_true (not (c.gap.self.line == c.args.self.now.line)))
+          (subst (λ x. Gap c.args.self.now.text.now x c.args.from k)
+          (or_true (not (c.gap.self.line == c.args.self.now.line)))
           (i.front true k (a_line_feed c.in-10.is g)));
     }
 
@@ -73,14 +74,16 @@ gap-preserved c =
 
 pub returns-after-gap-clause-between : goal.returns-after-gap-clause-between
 returns-after-gap-clause-between c = λ _. record {
-  gap = subst (λ b. Gap c.args.self.now.text.now b c.args.from c.gap.place) (or_false (not (c.gap.self.line == c.args.self.now.line)))
+  gap = subst (λ b. Gap c.args.self.now.text.now b c.args.from c.gap.place)
+      (or_false (not (c.gap.self.line == c.args.self.now.line)))
       (c.gap.invariant.front false c.gap.place no_gap);
   next = behind_end c.args.self.now.text.now c.gap.place (grind (arith, c.gap-test.false));
 }
 
 pub returns-in_default-clause-between : goal.returns-in_default-clause-between
 returns-in_default-clause-between c = λ _. record {
-  gap = subst (λ b. Gap c.args.self.now.text.now b c.args.from c.gap.place) (or_false (not (c.gap.self.line == c.args.self.now.line)))
+  gap = subst (λ b. Gap c.args.self.now.text.now b c.args.from c.gap.place)
+      (or_false (not (c.gap.self.line == c.args.self.now.line)))
       (c.gap.invariant.front false c.gap.place no_gap);
   next = grind (arith, c.in_default);
 }
