@@ -58,8 +58,8 @@ pub use Rattle.yaml_load.specs.Words.{is_opening, last_mark, mapping_end, mappin
 pub use Rattle.yaml_load.specs.Words.{phase_state, plain_marked, scalar, scalar_of, sequence_end, sequence_start}
 pub use Rattle.yaml_load.specs.Words.{settled}
 pub use Rattle.yaml_load.specs.Words.{stream_end, stream_events, stream_start, void_document, within}
-pub use Rattle.yaml_load.specs.declared.loader.check.Phase.{Phase}
-pub use Rattle.yaml_load.specs.declared.loader.check.Phase.TheVariants.{After, Before}
+pub use Rattle.yaml_load.specs.declared.check.Phase.{Phase}
+pub use Rattle.yaml_load.specs.declared.check.Phase.TheVariants.{After, Before}
 pub use Rattle.yaml_load.specs.declared.loader.draft.Cut.{Cut}
 pub use Rattle.yaml_load.specs.declared.loader.draft.Draft.{Draft}
 pub use Rattle.yaml_load.specs.inner.Drafts.{AreTaken, Settled, aimed, drafted, drafts_of, is_of_node, settle}

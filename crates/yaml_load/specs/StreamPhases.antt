@@ -4,8 +4,8 @@ use Rattle.yaml_base.specs.PlainEvent.{PlainEvent}
 use Rattle.yaml_base.specs.StreamMachine.{State, before_stream, between_documents, before_root, within, after_stream}
 use Rattle.yaml_base.specs.StreamMachine.{next_state}
 use Rattle.yaml_base.specs.declared.open.Open.{Open}
-use Rattle.yaml_load.specs.declared.loader.check.Phase.{Phase}
-use Rattle.yaml_load.specs.declared.loader.check.Phase.TheVariants.{Before, Between, Root, Within, Ended, After}
+use Rattle.yaml_load.specs.declared.check.Phase.{Phase}
+use Rattle.yaml_load.specs.declared.check.Phase.TheVariants.{Before, Between, Root, Within, Ended, After}
 
 -- The state for a phase, and for what the collections around the innermost wait for, the outermost first.
 abbrev pub phase_state : Phase → List Open → State

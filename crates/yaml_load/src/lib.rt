@@ -1,6 +1,7 @@
 //! From events to documents: the loader.
 #![tactic(auto)]
 
+pub mod check;
 mod document;
 mod loader;
 pub mod stream_law;

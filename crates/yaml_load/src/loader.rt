@@ -2,7 +2,6 @@
 
 mod anchors;
 mod builder;
-mod check;
 mod draft;
 mod ends;
 mod resolve;

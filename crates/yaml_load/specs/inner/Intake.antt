@@ -7,7 +7,7 @@ use Rattle.yaml_base.specs.declared.open.Open.{Open}
 use Rattle.yaml_load.specs.Documents.{Input, last_mark}
 use Rattle.yaml_load.specs.MarkedEvents.{events_in}
 use Rattle.yaml_load.specs.StreamPhases.{IsClean, phase_state}
-use Rattle.yaml_load.specs.declared.loader.check.Phase.{Phase}
+use Rattle.yaml_load.specs.declared.check.Phase.{Phase}
 use Rattle.yaml_load.specs.declared.loader.draft.Draft.{Draft}
 use Rattle.yaml_load.specs.inner.Loading.{IsOnWay, is_inside}
 

@@ -10,7 +10,7 @@ use Rattle.yaml_base.specs.PlainDocument.{PlainDocument}
 use Rattle.yaml_base.specs.StreamMachine.{State, before_root, within}
 use Rattle.yaml_load.specs.StreamPhases.{Moves}
 use Rattle.yaml_base.specs.declared.open.Open.{Open}
-use Rattle.yaml_load.specs.declared.loader.check.Phase.{Phase}
+use Rattle.yaml_load.specs.declared.check.Phase.{Phase}
 use Rattle.yaml_base.specs.declared.doc_event.DocEvent.{DocEvent}
 use Rattle.yaml_load.specs.declared.loader.draft.Draft.{Draft}
 use Rattle.yaml_load.specs.inner.Drafts.{IsDraft, IsDraftBetween}

@@ -4,8 +4,8 @@ ghost use Rattle.std.specs.Prelude.{◌≡◌, ◌<◌, ◌∷◌, ◌++◌};
 ghost use Rattle.yaml_load.specs.Words.{[], IfOk, IfErr, false, is_some, length, is_memory, event_of, IsWellFormed};
 ghost use Rattle.yaml_load.specs.Words.{NotAStream, documents_of, events_in, IsWrongAt, IsWrongNext};
 
+use crate::check::{Phase, is_after, is_inside};
 use crate::loader::Loader;
-use crate::loader::check::{Phase, is_after, is_inside};
 use crate::loader::draft::Draft;
 use crate::loader::share::share;
 use std::alloc::{AllocError, Global};

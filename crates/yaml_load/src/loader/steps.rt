@@ -8,7 +8,7 @@ ghost use Rattle.yaml_load.specs.Words.{IsDraftBetween};
 ghost use Rattle.yaml_load.specs.Words.{IsOnWay, IsReady, StepsOver};
 ghost use Rattle.yaml_base.specs.PlainEvent.{scalar as scalar_event};
 
-use crate::loader::check::{
+use crate::check::{
     Phase, after_document_end, after_document_start, after_leaf, after_mapping, after_sequence,
     after_start, after_stream_end, after_stream_start,
 };

@@ -1,4 +1,4 @@
-//! Which events may follow one another in a stream.
+//! Which events may follow one another in a stream: the phase behind each, by the one before it.
 
 ghost use Rattle.std.specs.Prelude.{◌≡◌};
 ghost use Rattle.yaml_load.specs.Words.{ℕ, List, [], IfOk, IfSome, None, Option, true, PlainScalar, alias};
@@ -9,20 +9,20 @@ ghost use Rattle.yaml_load.specs.Words.{opened_in, phase_state, within, Sequence
 use std::alloc::AllocError;
 use yaml_base::Open;
 
-// The part of a stream that comes next.
+/// The part of a stream that comes next.
 #[derive(Clone, Copy)]
-pub(crate) enum Phase {
-    // The start of the stream.
+pub enum Phase {
+    /// The start of the stream.
     Before,
-    // A document, or the end of the stream.
+    /// A document, or the end of the stream.
     Between,
-    // The node of a document.
+    /// The node of a document.
     Root,
-    // More of the innermost open collection.
+    /// More of the innermost open collection.
     Within(Open),
-    // The end of the document.
+    /// The end of the document.
     Ended,
-    // Nothing more.
+    /// Nothing more.
     After,
 }
 
@@ -39,9 +39,9 @@ fn behind(around: Open) -> Open
     }
 }
 
-// The phase behind a scalar or an alias, if one may stand there.
+/// The phase behind a scalar or an alias, if one may stand there.
 #[inline(always)]
-pub(crate) fn after_leaf(phase: Phase) -> Option<Phase>
+pub fn after_leaf(phase: Phase) -> Option<Phase>
     ensures scalar { (outer : List Open) (s : PlainScalar) → IsClean phase outer
         → Moves phase outer (scalar s) outer result }
     ensures alias { (outer : List Open) (anchor : List ℕ) → IsClean phase outer
@@ -55,10 +55,10 @@ pub(crate) fn after_leaf(phase: Phase) -> Option<Phase>
     }
 }
 
-// The phase behind the start of a collection that waits for this first, if one may begin there. What the collection
-// around it waits for then goes behind the list.
+/// The phase behind the start of a collection that waits for this first, if one may begin there. What the collection
+/// around it waits for then goes behind the list. The only error is want of memory.
 #[inline(always)]
-pub(crate) fn after_start(
+pub fn after_start(
     phase: Phase,
     outer: &mut Vec<Open>,
     first: Open,
@@ -91,8 +91,8 @@ fn resumed(around: Option<Open>) -> Phase
     }
 }
 
-// The phase behind the end of a sequence, if it may stand there.
-pub(crate) fn after_sequence(phase: Phase, outer: &mut Vec<Open>) -> Option<Phase>
+/// The phase behind the end of a sequence, if it may stand there.
+pub fn after_sequence(phase: Phase, outer: &mut Vec<Open>) -> Option<Phase>
     requires { IsClean phase outer.old.items }
     ensures moves { Moves phase outer.old.items sequence_end outer.new.items result }
     ensures inside { IfSome result (λ _. is_open phase ≡ true) }
@@ -103,8 +103,8 @@ pub(crate) fn after_sequence(phase: Phase, outer: &mut Vec<Open>) -> Option<Phas
     }
 }
 
-// The phase behind the end of a mapping, if it may stand there.
-pub(crate) fn after_mapping(phase: Phase, outer: &mut Vec<Open>) -> Option<Phase>
+/// The phase behind the end of a mapping, if it may stand there.
+pub fn after_mapping(phase: Phase, outer: &mut Vec<Open>) -> Option<Phase>
     requires { IsClean phase outer.old.items }
     ensures moves { Moves phase outer.old.items mapping_end outer.new.items result }
     ensures inside { IfSome result (λ _. is_open phase ≡ true) }
@@ -115,8 +115,8 @@ pub(crate) fn after_mapping(phase: Phase, outer: &mut Vec<Open>) -> Option<Phase
     }
 }
 
-// The phase behind the start of the stream, if it may stand there.
-pub(crate) fn after_stream_start(phase: Phase) -> Option<Phase>
+/// The phase behind the start of the stream, if it may stand there.
+pub fn after_stream_start(phase: Phase) -> Option<Phase>
     ensures { (outer : List Open) → IsClean phase outer → Moves phase outer stream_start outer result }
 {
     match phase {
@@ -125,8 +125,8 @@ pub(crate) fn after_stream_start(phase: Phase) -> Option<Phase>
     }
 }
 
-// The phase behind the end of the stream, if it may stand there.
-pub(crate) fn after_stream_end(phase: Phase) -> Option<Phase>
+/// The phase behind the end of the stream, if it may stand there.
+pub fn after_stream_end(phase: Phase) -> Option<Phase>
     ensures { (outer : List Open) → IsClean phase outer → Moves phase outer stream_end outer result }
 {
     match phase {
@@ -135,8 +135,8 @@ pub(crate) fn after_stream_end(phase: Phase) -> Option<Phase>
     }
 }
 
-// The phase behind the start of a document, if it may stand there.
-pub(crate) fn after_document_start(phase: Phase) -> Option<Phase>
+/// The phase behind the start of a document, if it may stand there.
+pub fn after_document_start(phase: Phase) -> Option<Phase>
     ensures { (outer : List Open) → IsClean phase outer → Moves phase outer document_start outer result }
 {
     match phase {
@@ -145,8 +145,8 @@ pub(crate) fn after_document_start(phase: Phase) -> Option<Phase>
     }
 }
 
-// The phase behind the end of a document, if it may stand there.
-pub(crate) fn after_document_end(phase: Phase) -> Option<Phase>
+/// The phase behind the end of a document, if it may stand there.
+pub fn after_document_end(phase: Phase) -> Option<Phase>
     ensures moves { (outer : List Open) → IsClean phase outer → Moves phase outer document_end outer result }
     ensures inside { IfSome result (λ _. is_open phase ≡ true) }
 {
@@ -156,15 +156,15 @@ pub(crate) fn after_document_end(phase: Phase) -> Option<Phase>
     }
 }
 
-// Whether the stream has ended.
-pub(crate) fn is_after(phase: Phase) -> bool
+/// Whether the stream has ended.
+pub fn is_after(phase: Phase) -> bool
     ensures { result ≡ is_done phase }
 {
     matches!(phase, Phase::After)
 }
 
-// Whether a document is open.
-pub(crate) fn is_inside(phase: Phase) -> bool
+/// Whether a document is open.
+pub fn is_inside(phase: Phase) -> bool
     ensures { result ≡ is_open phase }
 {
     matches!(phase, Phase::Root | Phase::Within(_) | Phase::Ended)
