@@ -25,6 +25,13 @@ impl<T> History<T> {
         History { of: PhantomData }
     }
 
+    /// The items of this history.
+    pub fn copy(_of: &History<T>) -> History<T>
+        ensures { result.items ≡ _of.now.items }
+    {
+        History { of: PhantomData }
+    }
+
     /// The items of this history, and one more behind them.
     pub fn with(_before: &History<T>, _item: &T) -> History<T>
         ensures { result.items ≡ _before.now.items ++ _item.now ∷ [] }
