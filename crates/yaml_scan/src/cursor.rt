@@ -35,7 +35,9 @@ fn order_mark_len(text: &[u8]) -> usize
 
 impl<'a> Cursor<'a> {
     // The start of a text, behind its mark of the order of bytes.
-    pub(crate) fn new(text: &'a [u8]) -> Cursor<'a> {
+    pub(crate) fn new(text: &'a [u8]) -> Cursor<'a>
+        ensures { result.text.now ≡ text.now }
+    {
         Cursor {
             text,
             at: order_mark_len(text),
@@ -43,6 +45,16 @@ impl<'a> Cursor<'a> {
             column: 0,
             found: None,
         }
+    }
+
+    // Goes to the place with this mark.
+    pub(crate) fn go_to(&mut self, mark: Mark)
+        requires within { mark.index ≤ length self.old.text.now }
+        requires counted { mark.line + mark.column ≤ mark.index }
+    {
+        self.at = mark.index() as usize;
+        self.line = mark.line() as usize;
+        self.column = mark.column() as usize;
     }
 
     // How many bytes come before this place.

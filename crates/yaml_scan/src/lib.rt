@@ -25,6 +25,6 @@ mod uri;
 pub use context::Context;
 pub use fault::{Fault, Finding, Stop};
 pub use problem::Problem;
-pub use start::{Scanned, scan};
+pub use start::{Scanned, scan, scan_behind};
 pub use token::{Lead, MarkedStyle, Placed, Span, Token};
 pub use tokens::Tokens;

@@ -1,5 +1,7 @@
 //! The scanner's state: its place, the tokens that wait, and which collections are open.
 
+ghost use Rattle.std.specs.Prelude.{◌≡◌, ◌+◌, ◌≤◌, IfOk, length};
+
 mod flow;
 mod indicator;
 mod next;
@@ -13,15 +15,27 @@ use std::alloc::{AllocError, Global};
 use std::collections::VecDeque;
 use yaml_base::Mark;
 
+// Ends of block collections at one place, which wait as a single token.
+#[derive(Clone, Copy)]
+struct Run {
+    // Which of the tokens is the first of them.
+    first: usize,
+    // How many were not handed over.
+    left: usize,
+}
+
 // A scanner amid a text.
 #[derive(Drop)]
 pub(crate) struct Scanner<'a> {
     alloc: Global,
     cursor: Cursor<'a>,
-    // The tokens that were not handed over.
+    // The tokens that were not handed over, but for a run of ends, of which one stands here.
     tokens: VecDeque<Placed>,
-    // How many tokens were handed over.
+    // The runs among them that have more than one end.
+    runs: VecDeque<Run>,
+    // How many tokens were handed over, and how many were not.
     taken: usize,
+    waiting: usize,
     // The columns of the open block collections, each plus 1.
     indents: Vec<usize>,
     candidates: Candidates,
@@ -31,18 +45,36 @@ pub(crate) struct Scanner<'a> {
 
 impl<'a> Scanner<'a> {
     // A scanner at the start of a text.
-    pub(crate) fn new(alloc: Global, text: &'a [u8]) -> Result<Scanner<'a>, AllocError> {
+    pub(crate) fn new(alloc: Global, text: &'a [u8]) -> Result<Scanner<'a>, AllocError>
+        ensures { IfOk result (λ scanner. scanner.cursor.text.now ≡ text.now) }
+    {
         let cursor = Cursor::new(text);
         let candidates = Candidates::new(alloc)?;
         Ok(Scanner {
             alloc,
             cursor,
             tokens: VecDeque::new(alloc),
+            runs: VecDeque::new(alloc),
             taken: 0,
+            waiting: 0,
             indents: Vec::new(alloc),
             candidates,
             key_allowed: true,
         })
+    }
+
+    // A scanner at a mark of a text where a document may begin.
+    pub(crate) fn behind(
+        alloc: Global,
+        text: &'a [u8],
+        mark: Mark,
+    ) -> Result<Scanner<'a>, AllocError>
+        requires within { mark.index ≤ length text.now }
+        requires counted { mark.line + mark.column ≤ mark.index }
+    {
+        let mut scanner = Scanner::new(alloc, text)?;
+        scanner.cursor.go_to(mark);
+        Ok(scanner)
     }
 
     // What is wrong with the text, if that was found.
@@ -55,16 +87,54 @@ impl<'a> Scanner<'a> {
     fn released(&mut self) -> usize {
         match self.candidates.first_place() {
             Some(place) => place.saturating_sub(self.taken),
-            None => self.tokens.len(),
+            None => self.waiting,
         }
+    }
+
+    // How many tokens wait.
+    #[inline(always)]
+    pub(crate) fn waiting(&self) -> usize {
+        self.waiting
+    }
+
+    // The first of the tokens that wait, if it is one of a run of which more are left, which then wait on.
+    #[inline(never)]
+    fn pop_of_run(&mut self) -> Option<Placed> {
+        let run = self.runs.get_mut(0)?;
+        if run.first > self.taken {
+            return None;
+        }
+        if run.left <= 1 {
+            let _ = self.runs.pop_front();
+            return None;
+        }
+        run.left -= 1;
+        let span = self.tokens.get(0)?.span;
+        Some(Placed {
+            lead: Lead::Nothing,
+            token: Token::BlockEnd,
+            span,
+        })
+    }
+
+    // Takes the first of the tokens that wait.
+    #[inline(always)]
+    fn pop_token(&mut self) -> Option<Placed> {
+        if !self.runs.is_empty() {
+            if let Some(end) = self.pop_of_run() {
+                return Some(end);
+            }
+        }
+        self.tokens.pop_front()
     }
 
     // Hands over the first of the tokens that wait.
     #[inline(always)]
     pub(crate) fn pop(&mut self) -> Option<Placed> {
-        let first = self.tokens.pop_front();
+        let first = self.pop_token();
         if first.is_some() {
             self.taken = self.taken.saturating_add(1);
+            self.waiting = self.waiting.saturating_sub(1);
         }
         first
     }
@@ -95,6 +165,7 @@ impl<'a> Scanner<'a> {
             token,
             span: Span { start, end },
         });
+        self.waiting = self.waiting.saturating_add(1);
         Ok(())
     }
 
@@ -155,7 +226,7 @@ impl<'a> Scanner<'a> {
             self.remove_candidate()?;
             let required = !self.is_flow()
                 && self.indent() == self.cursor.column().saturating_add(1);
-            let place = self.taken.saturating_add(self.tokens.len());
+            let place = self.taken.saturating_add(self.waiting);
             let mark = self.cursor.mark();
             self.candidates.save(Candidate {
                 required,
@@ -166,20 +237,33 @@ impl<'a> Scanner<'a> {
         Ok(())
     }
 
+    // Adds the ends of so many block collections. However many they are, they wait as one token.
+    fn put_ends(&mut self, count: usize) -> Result<(), Stop> {
+        if count > 1 {
+            self.runs.push_back(Run {
+                first: self.taken.saturating_add(self.waiting),
+                left: count,
+            })?;
+            self.waiting = self.waiting.saturating_add(count - 1);
+        }
+        self.put_empty(Token::BlockEnd)
+    }
+
     // Ends the block collections whose column plus 1 is more than `indent`.
     #[inline(always)]
     fn unroll(&mut self, indent: usize) -> Result<(), Stop> {
-        if self.is_flow() {
+        if self.is_flow() || self.indent() <= indent {
             return Ok(());
         }
+        let mut count: usize = 0;
         for _ in 0..self.indents.len() {
             if self.indent() <= indent {
                 break;
             }
-            self.put_empty(Token::BlockEnd)?;
             let _ = self.indents.pop();
+            count = count.saturating_add(1);
         }
-        Ok(())
+        self.put_ends(count)
     }
 
     // Begins a block collection at this column, if none is open there or further to the right, and tells whether one

@@ -22,13 +22,13 @@ pub struct Tokens<'a> {
 }
 
 impl<'a> Tokens<'a> {
-    // The tokens of a text, of which none is scanned yet.
-    pub(crate) fn new(alloc: Global, text: &'a [u8]) -> Result<Tokens<'a>, AllocError> {
-        Ok(Tokens {
-            scanner: Scanner::new(alloc, text)?,
+    // The tokens of a text from where the scanner stands on, of which none is scanned yet.
+    pub(crate) fn new(scanner: Scanner<'a>) -> Tokens<'a> {
+        Tokens {
+            scanner,
             ready: 0,
             fault: None,
-        })
+        }
     }
 
     /// Scans the next token, with those that begin or end a collection there, finds how many tokens are ready, those

@@ -68,10 +68,14 @@ impl Scanner<'_> {
         self.put_byte(Token::Key)
     }
 
-    // Tells the token at this place that it is a key.
+    // Tells the token at this place that it is a key. It stands in this line, in which no collection has ended, so
+    // that no run of ends stands behind it.
     #[inline(always)]
     fn set_lead(&mut self, place: usize, lead: Lead) {
-        if let Some(placed) = self.tokens.get_mut(place.saturating_sub(self.taken)) {
+        let end = self.taken.saturating_add(self.waiting);
+        let behind = end.saturating_sub(place);
+        let at = self.tokens.len().saturating_sub(behind);
+        if let Some(placed) = self.tokens.get_mut(at) {
             placed.lead = lead;
         }
     }

@@ -125,7 +125,7 @@ impl Scanner<'_> {
         *ready = self.released();
         let more = self.next()?;
         if more == More::No {
-            *ready = self.tokens.len();
+            *ready = self.waiting();
         }
         Ok(more)
     }
