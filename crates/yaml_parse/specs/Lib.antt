@@ -1,4 +1,5 @@
 -- What contracts of this crate, and of those above it, cite.
+pub mod BehindDocuments
 pub mod Faults
 pub mod Frames
 pub mod Handed

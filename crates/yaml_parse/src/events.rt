@@ -4,6 +4,7 @@ ghost use Rattle.std.specs.Prelude.{◌≡◌, ◌<◌, ◌∷◌, ◌++◌, [],
 ghost use Rattle.std.specs.Prelude.{option_to_list, true};
 ghost use Rattle.yaml_base.specs.MarkedEvents.{plain_events};
 ghost use Rattle.yaml_base.specs.Stream.{IsBeginning, IsWellFormed};
+ghost use Rattle.yaml_parse.specs.BehindDocuments.{AreBefore};
 ghost use Rattle.yaml_parse.specs.Faults.{IsNotReaders};
 ghost use Rattle.yaml_parse.specs.Marks.{MarksAscend};
 ghost use Rattle.yaml_parse.specs.Places.{AreInPlace};
@@ -15,8 +16,8 @@ use crate::reading::Reading;
 use crate::{Ending, Parser, unread};
 use std::alloc::{AllocError, Global};
 use std::marker::Model;
-use yaml_base::{Event, Mark};
-use yaml_scan::{Fault, Scanned, scan};
+use yaml_base::{Event, History, Mark};
+use yaml_scan::{Fault, Scanned, scan, scan_behind};
 
 // Where the events of a text come from: its tokens, or nowhere, where the text could not be read.
 #[derive(Drop)]
@@ -68,6 +69,27 @@ impl<'a> Events<'a> {
         Ok(Events {
             text,
             source,
+            over: false,
+        })
+    }
+
+    /// The events of a text behind those of its first documents, which were found otherwise and count as handed out.
+    /// What comes behind this mark is read by its tokens, with no look at the rest. The only error is want of memory.
+    pub fn behind(
+        alloc: Global,
+        text: &'a [u8],
+        gone: &History<(Event<'a>, Mark)>,
+        here: Mark,
+    ) -> Result<Events<'a>, AllocError>
+        requires { AreBefore text.now gone.now.items here }
+        ensures text { IfOk result (λ events. events.text ≡ text.now) }
+        ensures given { IfOk result (λ events. events.given ≡ gone.now.items) }
+    {
+        let tokens = scan_behind(alloc, text, here)?;
+        let parser = Parser::behind(alloc, text, gone, here);
+        Ok(Events {
+            text,
+            source: Source::Text(Reading::new(tokens, parser, text.len())),
             over: false,
         })
     }

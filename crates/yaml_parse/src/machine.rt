@@ -1,7 +1,6 @@
 //! The machine that takes tokens one by one and gives events.
 
-ghost use Rattle.std.specs.Prelude.{◌≡◌, []};
-ghost use Rattle.yaml_base.specs.Places.{place_of};
+ghost use Rattle.std.specs.Prelude.{◌≡◌};
 ghost use Rattle.yaml_parse.specs.Kept.{Keeps};
 
 use crate::fault::{endless, fault_in};
@@ -31,15 +30,13 @@ pub(crate) struct Machine<'a> {
 const STEPS: usize = 8;
 
 impl<'a> Machine<'a> {
-    // A parser that has taken no token of a text that begins at this mark. Takes no memory.
-    pub(crate) fn new(alloc: Global, text: &'a [u8], start: Mark) -> Machine<'a>
-        requires { (start.line, start.column) ≡ place_of text.now start.index }
-        ensures text { result.stream.text.now ≡ text.now }
-        ensures none { result.stream.events.handed.items ≡ [] }
+    // A parser that has taken no token, which go on at this mark behind the stream's events. Takes no memory.
+    pub(crate) fn new(alloc: Global, stream: Stream<'a>, start: Mark) -> Machine<'a>
+        ensures { result.stream ≡ stream.entry }
     {
         Machine {
             alloc,
-            stream: Stream::new(alloc, text, start),
+            stream,
             properties: None,
             indicator: Span {
                 start,

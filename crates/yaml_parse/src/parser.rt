@@ -7,6 +7,7 @@ ghost use Rattle.std.proofs.Props.{props};
 ghost use Rattle.yaml_base.specs.MarkedEvents.{plain_events};
 ghost use Rattle.yaml_base.specs.Stream.{IsBeginning, IsWellFormed};
 ghost use Rattle.yaml_base.specs.declared.fault.FaultKind.TheVariants as kind;
+ghost use Rattle.yaml_parse.specs.BehindDocuments.{AreBefore};
 ghost use Rattle.yaml_parse.specs.Faults.{IsNotReaders, IsToldBy};
 ghost use Rattle.yaml_parse.specs.Marks.{MarksAscend};
 ghost use Rattle.yaml_parse.specs.Places.{AreInPlace};
@@ -15,8 +16,9 @@ ghost use Rattle.yaml_parse.specs.Shown.{AreShown};
 
 use crate::fault::{kind_of, no_end, owned};
 use crate::machine::Machine;
+use crate::stream::Stream;
 use std::alloc::{AllocError, Global};
-use yaml_base::{Event, Mark, ParserFault};
+use yaml_base::{Event, History, Mark, ParserFault};
 use yaml_scan::{Fault, Finding, Placed, Stop};
 
 /// Why a text has no more events.
@@ -68,12 +70,33 @@ impl<'a> Parser<'a> {
         ensures text { IfOk result (λ parser. parser.text.now ≡ text.now) }
         ensures none { IfOk result (λ parser. handed_out parser ≡ []) }
     {
-        let mut machine = Machine::new(alloc, text, start_mark());
+        let stream = Stream::new(alloc, text, start_mark());
+        let mut machine = Machine::new(alloc, stream, start_mark());
         let own = match machine.stream.begin_stream(start_mark()) {
             Ok(()) => None,
             Err(Stop) => Some(own_fault(machine.stream.found())?),
         };
         Ok(Parser { text, machine, own })
+    }
+
+    // A parser of a text behind its first documents, whose events count as handed out, that has taken no token. Takes
+    // no memory.
+    pub(crate) fn behind(
+        alloc: Global,
+        text: &'a [u8],
+        gone: &History<(Event<'a>, Mark)>,
+        here: Mark,
+    ) -> Parser<'a>
+        requires { AreBefore text.now gone.now.items here }
+        ensures text { result.text.now ≡ text.now }
+        ensures handed { handed_out result ≡ gone.now.items }
+    {
+        let stream = Stream::behind(alloc, text, gone, here);
+        Parser {
+            text,
+            machine: Machine::new(alloc, stream, here),
+            own: None,
+        }
     }
 
     /// Takes the next token of the text, and tells whether more may come: none behind the parser's own fault. The only

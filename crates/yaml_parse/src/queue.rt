@@ -31,6 +31,18 @@ impl<'a> Queue<'a> {
         }
     }
 
+    // No event waits, and these were handed out. Takes no memory.
+    pub(crate) fn behind(alloc: Global, gone: &History<(Event<'a>, Mark)>) -> Queue<'a>
+        ensures made { result.made.items ≡ gone.now.items }
+        ensures handed { result.handed.items ≡ gone.now.items }
+    {
+        Queue {
+            waiting: VecDeque::new(alloc),
+            made: History::copy(gone),
+            handed: History::copy(gone),
+        }
+    }
+
     // How many events wait.
     #[inline(always)]
     pub(crate) fn len(&self) -> usize

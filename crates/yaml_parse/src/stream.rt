@@ -12,6 +12,7 @@ ghost use Rattle.yaml_base.specs.PlainEvent.{event_of, scalar_of};
 ghost use Rattle.yaml_base.specs.Stream.{IsStream, IsWellFormed};
 ghost use Rattle.yaml_base.specs.StreamMachine.{before_stream, next_state, run, within};
 ghost use Rattle.yaml_base.specs.declared.open.Open.TheVariants.{Key, Sequence};
+ghost use Rattle.yaml_parse.specs.BehindDocuments.{AreBefore};
 ghost use Rattle.yaml_parse.specs.Frames.{open_of, opens, state_of};
 ghost use Rattle.yaml_parse.specs.Marks.{MarksAscend};
 ghost use Rattle.yaml_parse.specs.Places.{AreInPlace, IsInPlace};
@@ -23,7 +24,7 @@ use crate::frame::{Frame, Phase, behind, is_key, is_same, is_sequence};
 use crate::place::{mark_at, mark_of_event};
 use crate::queue::Queue;
 use std::alloc::Global;
-use yaml_base::{Anchor, Event, MappingStart, Mark, Scalar, SequenceStart};
+use yaml_base::{Anchor, Event, History, MappingStart, Mark, Scalar, SequenceStart};
 use yaml_scan::{Finding, Stop};
 
 // Events that are a beginning of a stream, always.
@@ -64,6 +65,29 @@ impl<'a> Stream<'a> {
             opened: start,
             outer: Vec::new(alloc),
             reached: start,
+            found: None,
+        }
+    }
+
+    // These events were handed out, and this is the mark behind them. Takes no memory.
+    pub(crate) fn behind(
+        alloc: Global,
+        text: &'a [u8],
+        gone: &History<(Event<'a>, Mark)>,
+        here: Mark,
+    ) -> Stream<'a>
+        requires { AreBefore text.now gone.now.items here }
+        ensures text { result.text.now ≡ text.now }
+        ensures made { result.events.made.items ≡ gone.now.items }
+        ensures handed { result.events.handed.items ≡ gone.now.items }
+    {
+        Stream {
+            text,
+            events: Queue::behind(alloc, gone),
+            phase: Phase::Next,
+            opened: here,
+            outer: Vec::new(alloc),
+            reached: here,
             found: None,
         }
     }
