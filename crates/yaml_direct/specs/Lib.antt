@@ -1,4 +1,5 @@
 pub mod Added
+pub mod Blocks
 pub mod Bytes
 pub mod Documents
 pub mod Gaps

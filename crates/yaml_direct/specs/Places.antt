@@ -28,3 +28,7 @@ Reaches old new from to =
 abbrev pub Keeps : (old new : Reader) → Type 0
 Keeps old new =
     (new.text.now ≡ old.text.now) × ((new.line_start ≡ old.line_start) × ((new.start ≡ old.start) × Grows old new))
+
+-- texts that the source does not show are only added
+abbrev pub IsLonger : (old new : Reader) → Type 0
+IsLonger old new = length old.tape.arena.items ≤ length new.tape.arena.items

@@ -1,16 +1,16 @@
 //! Blocks of text behind `|` or `>`.
 #![tactic(auto, using(crate::proofs::Growing::grows_on, crate::proofs::Growing::grows_same))]
 
-ghost use Rattle.std.specs.Prelude.{◌≡◌, ◌≢◌, ◌+◌, ◌<◌, ◌≤◌, length};
-ghost use Rattle.yaml_direct.specs.Places.{Grows, IsHere, Keeps, Reaches, no_place};
+ghost use Rattle.std.specs.Prelude.{◌≡◌, ◌≢◌, ◌+◌, ◌++◌, ◌<◌, ◌≤◌, length, replicate, true};
+ghost use Rattle.yaml_direct.specs.Blocks.{begins_blank, joins, joint};
+ghost use Rattle.yaml_direct.specs.Places.{Grows, IsHere, IsLonger, Keeps, Reaches, no_place};
 
 use crate::byte::{at, feed_at, line_end};
 use crate::header::{Chomping, Header, detected, read_header};
 use crate::place::{NO_PLACE, reach};
-use crate::plain::push_feeds;
 use crate::reader::Reader;
-use std::alloc::AllocError;
 use yaml_base::ScalarStyle;
+use yaml_tape::Piece;
 
 // Empty lines: how many, and the place behind them and behind the spaces of the next line, as many as the block is
 // far in.
@@ -71,52 +71,73 @@ fn text_end(text: &[u8], from: usize, feed: usize) -> usize
 }
 
 // The lines of a block that were read.
-#[derive(Drop)]
+#[derive(Clone, Copy)]
 struct Block {
-    value: Vec<u8>,
-    // Whether a line feed ended the last line.
-    ended: bool,
-    // How many empty lines are behind it.
-    empty: usize,
+    // Whether a line feed between two lines may stand for a space.
+    folds: bool,
+    // Whether there are any.
+    begun: bool,
     // Whether the last line begins with a blank.
     blank: bool,
+    // How many line feeds are behind the last line, or before the first.
+    feeds: usize,
+}
+
+// A byte, so many times.
+#[derive(Clone, Copy)]
+struct Repeated {
+    byte: u8,
+    count: usize,
+}
+
+// What so many line feeds between two lines stand for, if they are folded or not.
+#[inline(always)]
+fn joint(folded: bool, feeds: usize) -> Repeated
+    ensures { replicate result.count result.byte ≡ joint folded feeds }
+{
+    if !folded {
+        Repeated {
+            byte: b'\n',
+            count: feeds,
+        }
+    } else if feeds == 1 {
+        Repeated {
+            byte: b' ',
+            count: 1,
+        }
+    } else {
+        Repeated {
+            byte: b'\n',
+            count: feeds.saturating_sub(1),
+        }
+    }
 }
 
 impl Block {
-    // Puts what the line feeds behind the last line stand for behind the text, before a line that begins with a blank
-    // or not.
-    fn join(&mut self, folds: bool, blank: bool) -> Result<(), AllocError> {
-        let joins = folds && self.ended && !self.blank && !blank;
-        if joins && self.empty == 0 {
-            self.value.push(b' ')?;
-        } else if self.ended && !joins {
-            push_feeds(&mut self.value, 1)?;
-        }
-        push_feeds(&mut self.value, self.empty)?;
-        self.empty = 0;
-        self.blank = blank;
-        Ok(())
-    }
-
-    // Puts a line behind the text, and tells whether a line feed ends it.
+    // Whether the line feeds behind the last line are folded, before this line.
     #[inline(always)]
-    fn push_line(&mut self, line: &[u8], folds: bool, ended: bool) -> Result<(), AllocError> {
-        self.join(folds, matches!(line, [b' ' | b'\t', ..]))?;
-        self.value.extend_from_slice(line)?;
-        self.ended = ended;
-        Ok(())
+    fn joins(&self, line: &[u8]) -> bool
+        ensures { result ≡ joins self.now line.now }
+    {
+        self.folds && self.begun && !self.blank && !begins_blank(line)
     }
 
-    // The text, with as many of the last line feeds as are wanted.
-    fn finish(mut self, chomping: Chomping) -> Result<Vec<u8>, AllocError> {
-        if chomping != Chomping::Strip && self.ended {
-            push_feeds(&mut self.value, 1)?;
+    // How many of the last line feeds are wanted.
+    fn feeds_kept(&self, chomping: Chomping) -> usize {
+        match chomping {
+            Chomping::Strip => 0,
+            Chomping::Clip => self.feeds.min(self.begun as usize),
+            Chomping::Keep => self.feeds,
         }
-        if chomping == Chomping::Keep {
-            push_feeds(&mut self.value, self.empty)?;
-        }
-        Ok(self.value)
     }
+}
+
+// Whether a blank begins this line.
+#[inline(always)]
+fn begins_blank(line: &[u8]) -> bool
+    ensures { result ≡ begins_blank line.now }
+{
+    matches!(at(line, 0), b' ' | b'\t')
 }
 
 impl<'a> Reader<'a> {
@@ -127,36 +148,52 @@ impl<'a> Reader<'a> {
         ensures text { self.new.text.now ≡ self.old.text.now }
         ensures begun { self.new.line_start ≡ empties.line }
         ensures start { self.new.start ≡ self.old.start }
+        ensures tape { self.new.tape ≡ self.old.tape }
         ensures grows { Grows self.old self.new }
     {
         self.line += empties.count + 1;
         self.line_start = empties.line;
     }
 
+    // Puts a line behind the text, and before it what the line feeds between stand for.
+    #[inline(always)]
+    fn push_line(&mut self, block: &mut Block, line: &[u8]) -> bool
+        ensures kept { Keeps self.old self.new }
+        ensures longer { IsLonger self.old self.new }
+        ensures line { result ≡ true → self.new.tape.arena.items
+            ≡ (self.old.tape.arena.items ++ joint (joins block.old line.now) block.old.feeds) ++ line.now }
+    {
+        let before = joint(block.joins(line), block.feeds);
+        block.begun = true;
+        block.blank = begins_blank(line);
+        block.feeds = 0;
+        self.tape.append_repeated(before.byte, before.count) && self.tape.append(line)
+    }
+
     // Reads the lines of a block that stand so far in, and gives the place behind them.
-    fn block_lines(&mut self, block: &mut Block, from: usize, indent: usize, folds: bool) -> usize
+    fn block_lines(&mut self, block: &mut Block, from: usize, indent: usize) -> usize
         requires line { self.old.line_start < from }
         requires within { from ≤ length self.old.text.now }
         ensures reached { Reaches self.old self.new from result }
         ensures start { self.new.start ≡ self.old.start }
+        ensures longer { IsLonger self.old self.new }
     {
         let text = self.text;
         let mut next = empties(text, from, indent);
         self.pass_lines(next);
-        block.empty = next.count;
+        block.feeds = next.count;
         'lines: while next.place < text.len() && next.place - next.line == indent {
             let end = line_end(text, next.place);
-            let ended = end < text.len();
             let stop = text_end(text, next.place, end);
-            let Ok(()) = block.push_line(&text[next.place..stop], folds, ended) else {
+            if !self.push_line(block, &text[next.place..stop]) {
                 return self.starve();
-            };
-            if !ended {
+            }
+            if end == text.len() {
                 return end;
             }
             next = empties(text, end + 1, indent);
             self.pass_lines(next);
-            block.empty = next.count;
+            block.feeds = next.count + 1;
         }
         if at(text, next.place) == b'\t' {
             return NO_PLACE;
@@ -165,10 +202,11 @@ impl<'a> Reader<'a> {
     }
 
     // Reads the lines behind a block's first one, which ends here, and gives the place behind them.
-    fn block_text(&mut self, block: &mut Block, header: Header, least: usize, folds: bool) -> usize
+    fn block_text(&mut self, block: &mut Block, header: Header, least: usize) -> usize
         requires here { IsHere self.old header.end }
         ensures reached { Reaches self.old self.new header.end result }
         ensures start { self.new.start ≡ self.old.start }
+        ensures longer { IsLonger self.old self.new }
     {
         let text = self.text;
         if header.end == text.len() {
@@ -179,7 +217,7 @@ impl<'a> Reader<'a> {
             0 => reach!(detected(text, first, least)),
             step => least.saturating_sub(1).saturating_add(step),
         };
-        self.block_lines(block, first, indent, folds)
+        self.block_lines(block, first, indent)
     }
 
     // A block of text whose `|` or `>` stands here, and whose lines stand in the column `least` at least.
@@ -199,16 +237,25 @@ impl<'a> Reader<'a> {
         let header = read_header(self.text, from + 1);
         reach!(header.end);
         let mut block = Block {
-            value: Vec::new(self.alloc),
-            ended: false,
-            empty: 0,
+            folds,
+            begun: false,
             blank: false,
+            feeds: 0,
         };
-        let end = reach!(self.block_text(&mut block, header, least, folds));
-        let Ok(value) = block.finish(header.chomping) else {
+        let start = self.tape.arena.len();
+        let end = reach!(self.block_text(&mut block, header, least));
+        if !self
+            .tape
+            .append_repeated(b'\n', block.feeds_kept(header.chomping))
+        {
             return self.starve();
+        }
+        let text = Piece {
+            from: start,
+            to: self.tape.arena.len(),
+            stored: true,
         };
-        reach!(self.push_scalar(value, style, end, end));
+        reach!(self.push_piece(text, style, end, end));
         self.gap(end)
     }
 }

@@ -74,6 +74,7 @@ impl<'a> Reader<'a> {
     pub(crate) fn starve(&mut self) -> usize
         ensures none { result ≡ no_place }
         ensures kept { Keeps self.old self.new }
+        ensures tape { self.new.tape ≡ self.old.tape }
     {
         self.starved = true;
         NO_PLACE

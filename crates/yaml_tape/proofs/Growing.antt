@@ -2,7 +2,7 @@
 use Rattle.std.proofs.Common.{ℕ, zero, suc, List, [], ◌∷◌, ◌++◌, ◌≡◌, ◌≤◌, ◌<◌, ◌-◌, ◌+◌}
 use Rattle.std.proofs.Common.{length, add-one, length-append}
 use Rattle.std.proofs.Common.{true≢false, refl, ap, sym, ◌∙◌, subst, arith, Bool, true, false, take, drop}
-use Rattle.std.proofs.Common.{length-drop, map, set, get_or}
+use Rattle.std.proofs.Common.{length-drop, map, set, get_or, replicate}
 use Rattle.std.specs.Prelude.{slice_range, slice_get, All, Option, Some, None, IsTrue}
 use Rattle.std.proofs.lemmas.List.{drop-append-le, take-append-le, map-append, append-nil, take_all, take-map}
 use Rattle.std.proofs.lemmas.List.Elements.{All-append, All-take}
@@ -140,6 +140,12 @@ inside_named text arena names others es h =
 pub range_behind : (xs ys : List ℕ) (j : ℕ) → j ≡ length xs + length ys → slice_range (xs ++ ys) (length xs) j ≡ ys
 range_behind xs ys j h =
     rw h (rw (drop-append_seam xs ys) (take_all (length xs + length ys - length xs) ys (omega arith)))
+
+pub filled : (xs : List ℕ) (n y : ℕ)
+    → take (length xs + n) xs ++ replicate (length xs + n - length xs) y ≡ xs ++ replicate n y
+filled xs n y =
+    let rest : length xs + n - length xs ≡ n = omega arith in
+    rw rest (rw (take_all (length xs + n) xs (omega arith)) refl)
 
 get_behind : (xs : List Names) (x : Names) → slice_get (xs ++ x ∷ []) (length xs) ≡ Some x
 get_behind [] x = refl

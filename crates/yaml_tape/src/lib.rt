@@ -6,6 +6,7 @@
 //! events, each with its mark; what adds to a tape adds one event to that list.
 #![tactic(auto)]
 
+mod arena;
 mod entry;
 mod nodes;
 mod tape;

@@ -4,12 +4,12 @@ ghost use Rattle.std.specs.Prelude.{◌≡◌, ◌≤◌, ◌<◌, ◌^◌, ◌+
 ghost use Rattle.std.specs.Prelude.{true, false, vec_capacity, vec_len};
 ghost use Rattle.yaml_tape.specs.OnTape.{IsInside};
 
-use crate::entry::{Entry, EntryKind, Names, Piece, Spot};
+use crate::entry::{Entry, EntryKind, Names, Spot};
 use std::alloc::Global;
 use yaml_base::ScalarStyle;
 
 // The longest text, and the most entries, that places of 32 bits can tell of.
-const LONGEST: usize = 0xFFFF_FFFF;
+pub(crate) const LONGEST: usize = 0xFFFF_FFFF;
 
 /// The events of a text.
 #[derive(Drop)]
@@ -32,7 +32,7 @@ const _: () = prove!(std::mem::size_of::<Entry>() == 24);
 
 impl<'t> Tape<'t> {
     ghost use Rattle.yaml_tape.specs.OnTape.{IsInside, bare_entry, bound_event, event_by, is_bound, names_at};
-    ghost use Rattle.yaml_tape.specs.Pushes.{Adds, EndsAt, IsPiece, Stays, marked_on, piece_of};
+    ghost use Rattle.yaml_tape.specs.Pushes.{Adds, EndsAt, Stays, marked_on};
 
     /// An empty tape, if the text is short enough for one.
     pub fn new(alloc: Global, text: &'t [u8]) -> Option<Tape<'t>>
@@ -158,27 +158,6 @@ impl<'t> Tape<'t> {
         ensures events { marked_on self.new ≡ take count (marked_on self.old) }
     {
         self.entries.truncate(count);
-    }
-
-    /// Keeps a text that the source does not show.
-    #[tactic(auto, using(crate::proofs::Growing::marked_stay, crate::proofs::Growing::inside_stay, crate::proofs::Growing::range_behind))]
-    pub fn store(&mut self, bytes: &[u8]) -> Option<Piece>
-        ensures kept { Stays self.old self.new }
-        ensures names { self.new.names.items ≡ self.old.names.items }
-        ensures piece { IfSome result (λ p. IsPiece self.new p × (piece_of self.new p ≡ bytes.now)) }
-    {
-        let from = self.arena.len();
-        if from > LONGEST || bytes.len() > LONGEST - from {
-            return None;
-        }
-        match self.arena.extend_from_slice(bytes) {
-            Ok(()) => Some(Piece {
-                from,
-                to: from + bytes.len(),
-                stored: true,
-            }),
-            Err(_) => None,
-        }
     }
 
     /// Keeps an anchor and a tag, and gives their number.
