@@ -150,6 +150,16 @@ impl<'a> Documents<'a> {
         }
     }
 
+    /// The events that were read since the last such call, which are the documents' no more.
+    pub fn take_tape(&mut self) -> Tape<'a>
+        ensures text { self.new.reader.text.now ≡ self.old.reader.text.now }
+        ensures of_text { result.text.now ≡ self.old.reader.text.now }
+        ensures taken { marked_on result ≡ told_by self.old }
+        ensures none { told_by self.new ≡ [] }
+    {
+        self.reader.take_tape()
+    }
+
     /// The events that were read.
     pub fn into_tape(self) -> Tape<'a>
         ensures text { result.text.now ≡ self.entry.reader.text.now }

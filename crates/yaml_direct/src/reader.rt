@@ -69,6 +69,17 @@ impl<'a> Reader<'a> {
         })
     }
 
+    // What was put on the tape, which is empty then.
+    pub(crate) fn take_tape(&mut self) -> Tape<'a>
+        ensures text { self.new.text.now ≡ self.old.text.now }
+        ensures line { self.new.line_start ≡ self.old.line_start }
+        ensures of_text { result.text.now ≡ self.old.text.now }
+        ensures taken { marked_on result ≡ marked_on self.old.tape }
+        ensures none { marked_on self.new.tape ≡ [] }
+    {
+        self.tape.take(self.alloc)
+    }
+
     // Memory ran out.
     #[cold]
     pub(crate) fn starve(&mut self) -> usize

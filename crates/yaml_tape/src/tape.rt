@@ -6,6 +6,7 @@ ghost use Rattle.yaml_tape.specs.OnTape.{IsInside};
 
 use crate::entry::{Entry, EntryKind, Names, Spot};
 use std::alloc::Global;
+use std::mem;
 use yaml_base::ScalarStyle;
 
 // The longest text, and the most entries, that places of 32 bits can tell of.
@@ -48,6 +49,24 @@ impl<'t> Tape<'t> {
             arena: Vec::new(alloc),
             names: Vec::new(alloc),
         })
+    }
+
+    /// What stands on the tape, which is empty then.
+    pub fn take(&mut self, alloc: Global) -> Tape<'t>
+        ensures text { self.new.text.now ≡ self.old.text.now }
+        ensures of_text { result.text.now ≡ self.old.text.now }
+        ensures taken { marked_on result ≡ marked_on self.old }
+        ensures empty { marked_on self.new ≡ [] }
+    {
+        let entries = mem::replace(&mut self.entries, Vec::new(alloc));
+        let arena = mem::replace(&mut self.arena, Vec::new(alloc));
+        let names = mem::replace(&mut self.names, Vec::new(alloc));
+        Tape {
+            text: self.text,
+            entries,
+            arena,
+            names,
+        }
     }
 
     // Whether there is room for an entry, which is taken if need be.
