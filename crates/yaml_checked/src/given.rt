@@ -1,16 +1,23 @@
 //! The events that were handed out, and what is known of them.
 
-ghost use Rattle.std.specs.Prelude.{◌≡◌, ◌++◌, ◌∷◌, ◌≤◌, [], All, IfOk, IfSome, IsSomeAnd};
+ghost use Rattle.std.specs.Prelude.{◌≡◌, ◌++◌, ◌∷◌, ◌≢◌, ◌≤◌, [], All, IfErr, IfOk, IfSome, IsSomeAnd, None, Some, length, true};
 ghost use Rattle.std.proofs.Props.{props};
+ghost use Rattle.yaml_base.specs.MarkedEvents.{plain_events};
 ghost use Rattle.yaml_base.specs.Places.{place_of};
 ghost use Rattle.yaml_base.specs.PlainEvent.{event_of};
+ghost use Rattle.yaml_base.specs.Stream.{IsStream};
+ghost use Rattle.yaml_base.specs.StreamMachine.{before_stream, between_documents, run};
 ghost use Rattle.yaml_parse.specs.Marks.{MarksAscend};
 ghost use Rattle.yaml_parse.specs.Places.{AreInPlace};
 ghost use Rattle.yaml_parse.specs.PlainText.{SaySources, SaysSource, scalar_in};
 ghost use Rattle.yaml_parse.specs.Shown.{AreShown, StandsAt};
+ghost use Rattle.yaml_scan.specs.AllowedText.{IsAllowed};
 
+use crate::part::Part;
 use crate::place::{Refusal, begun, first_mark, reach};
+use std::alloc::{AllocError, Global};
 use yaml_base::{Event, History, Mark};
+use yaml_parse::Events;
 
 // The events of a text that were handed out.
 #[derive(Drop)]
@@ -19,17 +26,26 @@ pub(crate) struct Given<'a> {
     // The mark of the place where the last begins.
     here: Mark,
     pub(crate) events: History<(Event<'a>, Mark)>,
+    // Which part of the stream comes next.
+    part: Part,
+    // Whether no event was refused.
+    whole: bool,
+    ghost allowed: { IsAllowed text.now } by { Prim.hlevel props },
+    ghost begins: { run (Some before_stream) (plain_events events.items) ≢ None },
+    ghost ran: { whole ≡ true → run (Some before_stream) (plain_events events.items) ≡ Some part } by { Prim.hlevel props },
     ghost shown: { AreShown text.now events.items } by { Prim.hlevel props },
     ghost plain: { SaySources events.items } by { Prim.hlevel props },
     ghost marks: { MarksAscend text.now events.items },
     ghost last: { All (λ e. e.1.index ≤ here.index) events.items },
     ghost places: { AreInPlace text.now events.items } by { Prim.hlevel props },
     ghost place: { (here.line, here.column) ≡ place_of text.now here.index },
+    ghost within: { here.index ≤ length text.now },
 }
 
 impl<'a> Given<'a> {
     // None of the events of a text.
-    pub(crate) fn none(text: &'a [u8]) -> Given<'a>
+    pub(crate) fn none(alloc: Global, text: &'a [u8]) -> Given<'a>
+        requires { IsAllowed text.now }
         ensures text { result.text.now ≡ text.now }
         ensures events { result.events.items ≡ [] }
     {
@@ -37,12 +53,50 @@ impl<'a> Given<'a> {
             text,
             here: first_mark(),
             events: History::new(),
+            part: Part::first(alloc),
+            whole: true,
         }
+    }
+
+    // Whether these are all events of a stream.
+    pub(crate) fn is_stream(&self) -> bool
+        ensures { result ≡ true → IsStream (plain_events self.now.events.items) }
+    {
+        self.whole && self.part.is_done()
+    }
+
+    // The same events, if they are those of whole documents.
+    pub(crate) fn behind_documents(&self, alloc: Global) -> Option<Given<'a>>
+        ensures text { IfSome result (λ given. given.text.now ≡ self.now.text.now) }
+        ensures events { IfSome result (λ given. given.events.items ≡ self.now.events.items) }
+        ensures between { IfSome result (λ given.
+            run (Some before_stream) (plain_events given.events.items) ≡ Some between_documents) }
+    {
+        if !self.whole || !self.part.is_between() {
+            return None;
+        }
+        Some(Given {
+            text: self.text,
+            here: self.here,
+            events: History::copy(&self.events),
+            part: Part::between(alloc),
+            whole: true,
+        })
+    }
+
+    // The events of the text by its tokens, of which these were handed out.
+    pub(crate) fn by_tokens(&self, alloc: Global) -> Result<Events<'a>, AllocError>
+        requires { run (Some before_stream) (plain_events self.now.events.items) ≡ Some between_documents }
+        ensures text { IfOk result (λ events. events.text ≡ self.now.text.now) }
+        ensures given { IfOk result (λ events. events.given ≡ self.now.events.items) }
+    {
+        Events::behind(alloc, self.text, &self.events, self.here)
     }
 
     // Hands out an event that begins at an index, with its mark.
     pub(crate) fn hand_out(
         &mut self,
+        alloc: Global,
         event: Event<'a>,
         index: u32,
         late: bool,
@@ -52,13 +106,22 @@ impl<'a> Given<'a> {
         requires plain { SaysSource (event_of event) }
         ensures text { self.new.text.now ≡ self.old.text.now }
         ensures events { IfOk result (λ item. self.new.events.items ≡ self.old.events.items ++ item ∷ []) }
+        ensures kept { IfErr result (λ _. self.new.events.items ≡ self.old.events.items) }
     {
+        if !self.whole {
+            return Err(Refusal::Untrue);
+        }
         let here = reach(self.text, self.here, index as u64)?;
         let mark = begun(self.text, here, late);
+        self.whole = false;
+        if !self.part.go(alloc, &event)? {
+            return Err(Refusal::Untrue);
+        }
         let item = (event, mark);
         let events = History::with(&self.events, &item);
         self.here = here;
         self.events = events;
+        self.whole = true;
         Ok(item)
     }
 }

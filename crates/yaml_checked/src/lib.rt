@@ -1,16 +1,20 @@
 //! The events of a YAML text that the direct parser takes, each checked against the text before it is handed out.
 //!
 //! Nothing is proved of which events a text has, neither here nor of the parser by tokens. What is proved of that
-//! parser's events holds of these too, since each is looked at: its source stands in the text, plain text in a line is
-//! what stands there, marks ascend, and their lines and columns are counted anew.
+//! parser's events holds of these too, since each is looked at: it follows the one before as a
+//! stream's may, its source stands in the text, plain text in a line is what stands there, marks ascend, and their
+//! lines and columns are counted anew.
 #![tactic(auto)]
 
+mod bookmark;
 mod events;
 mod given;
+mod part;
 mod place;
 mod rest;
 mod scalar;
 mod source;
 
+pub use bookmark::Bookmark;
 pub use events::TapeEvents;
 pub use place::Refusal;

@@ -15,10 +15,17 @@ pub enum Refusal {
     OutOfMemory,
     /// What stands on the tape can't be an event of the text. No text is known for which it is so.
     Untrue,
+    /// The direct parser leaves the document that comes next.
+    Left,
 }
 
 impl From<AllocError> for Refusal {
-    fn from(_: AllocError) -> Refusal {
+    ghost use Rattle.std.specs.Prelude.{◌≡◌};
+    ghost use Rattle.yaml_checked.specs.declared.place.Refusal.TheVariants as refusal;
+
+    fn from(_: AllocError) -> Refusal
+        ensures { result ≡ refusal.OutOfMemory }
+    {
         Refusal::OutOfMemory
     }
 }

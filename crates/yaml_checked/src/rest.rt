@@ -9,11 +9,12 @@ use crate::place::Refusal;
 use crate::scalar::scalar;
 use std::alloc::Global;
 use yaml_base::{Event, MappingStart, SequenceStart};
+use yaml_direct::{Documents, Step};
 use yaml_tape::{Entry, EntryKind, Names, Tape};
 
 // The entries of a tape, of which the first were read.
 #[derive(Drop)]
-pub(crate) struct Rest {
+pub(crate) struct Rest<'a> {
     entries: Vec<Entry>,
     // The texts that the source does not show.
     arena: Vec<u8>,
@@ -21,11 +22,13 @@ pub(crate) struct Rest {
     names: Vec<Names>,
     // How many were read.
     next: usize,
+    // The documents behind them, if any may come.
+    documents: Option<Documents<'a>>,
 }
 
-impl Rest {
-    // All of a tape.
-    pub(crate) fn new(tape: Tape<'_>) -> Rest {
+impl<'a> Rest<'a> {
+    // All of a tape, behind which nothing comes.
+    pub(crate) fn new(tape: Tape<'_>) -> Rest<'a> {
         let Tape {
             entries,
             arena,
@@ -37,6 +40,18 @@ impl Rest {
             arena,
             names,
             next: 0,
+            documents: None,
+        }
+    }
+
+    // Documents, of which none was read.
+    pub(crate) fn by_document(alloc: Global, documents: Documents<'a>) -> Rest<'a> {
+        Rest {
+            entries: Vec::new(alloc),
+            arena: Vec::new(alloc),
+            names: Vec::new(alloc),
+            next: 0,
+            documents: Some(documents),
         }
     }
 
@@ -45,14 +60,48 @@ impl Rest {
         self.entries.len()
     }
 
+    // Goes over to this tape.
+    fn turn_to(&mut self, tape: Tape<'_>) {
+        let Tape {
+            entries,
+            arena,
+            names,
+            ..
+        } = tape;
+        self.entries = entries;
+        self.arena = arena;
+        self.names = names;
+        self.next = 0;
+    }
+
+    // Reads the next document, or the end of the text, if more may come.
+    #[inline(never)]
+    fn refill(&mut self) -> Result<(), Refusal> {
+        let Some(mut documents) = self.documents.take() else {
+            return Ok(());
+        };
+        let step = documents.advance()?;
+        if step == Step::Elsewhere {
+            return Err(Refusal::Left);
+        }
+        self.turn_to(documents.take_tape());
+        if step == Step::Document {
+            self.documents = Some(documents);
+        }
+        Ok(())
+    }
+
     // The next entry.
     #[inline(always)]
-    pub(crate) fn next(&mut self) -> Option<Entry> {
+    pub(crate) fn next(&mut self) -> Result<Option<Entry>, Refusal> {
+        if self.next >= self.entries.len() {
+            self.refill()?;
+        }
         let at = self.next;
         self.next = at.saturating_add(1);
         match self.entries.get(at) {
-            Some(entry) => Some(*entry),
-            None => None,
+            Some(entry) => Ok(Some(*entry)),
+            None => Ok(None),
         }
     }
 
@@ -72,7 +121,7 @@ impl Rest {
     }
 
     // The event of an entry that has names and no text.
-    fn named<'a>(&mut self, entry: Entry) -> Result<Event<'a>, Refusal>
+    fn named<'e>(&mut self, entry: Entry) -> Result<Event<'e>, Refusal>
         ensures { IfOk result (λ event. scalar_in (event_of event) ≡ None) }
     {
         let Names { anchor, tag } = self.names(entry.names);
@@ -87,12 +136,12 @@ impl Rest {
     }
 
     // The event of an entry that is a scalar of the text.
-    fn scalar<'a>(
+    fn scalar<'e>(
         &mut self,
         alloc: Global,
-        text: &'a [u8],
+        text: &'e [u8],
         entry: Entry,
-    ) -> Result<Event<'a>, Refusal>
+    ) -> Result<Event<'e>, Refusal>
         ensures shown { IfOk result (λ event. IfSome (scalar_in (event_of event)) (λ s.
             IsSomeAnd s.source (StandsAt text.now entry.index))) }
         ensures plain { IfOk result (λ event. SaysSource (event_of event)) }
@@ -104,12 +153,12 @@ impl Rest {
 
     // The event of an entry of a text's tape.
     #[inline(always)]
-    pub(crate) fn event<'a>(
+    pub(crate) fn event<'e>(
         &mut self,
         alloc: Global,
-        text: &'a [u8],
+        text: &'e [u8],
         entry: Entry,
-    ) -> Result<Event<'a>, Refusal>
+    ) -> Result<Event<'e>, Refusal>
         ensures shown { IfOk result (λ event. IfSome (scalar_in (event_of event)) (λ s.
             IsSomeAnd s.source (StandsAt text.now entry.index))) }
         ensures plain { IfOk result (λ event. SaysSource (event_of event)) }

@@ -1,0 +1,109 @@
+//! Which part of a stream comes next.
+
+ghost use Rattle.std.specs.Prelude.{◌≡◌, IfOk, Some, true};
+ghost use Rattle.yaml_base.specs.PlainEvent.{event_of};
+ghost use Rattle.yaml_base.specs.StreamMachine.{after_stream, before_stream, between_documents, next_state};
+ghost use Rattle.yaml_load.specs.StreamPhases.{IsClean, Moves};
+
+use std::alloc::{AllocError, Global};
+use std::marker::Model;
+use std::mem;
+use yaml_base::{Event, Open};
+use yaml_load::check::{
+    Phase, after_document_end, after_document_start, after_leaf, after_mapping, after_sequence,
+    after_start, after_stream_end, after_stream_start, is_after,
+};
+
+// The part of a stream that comes next, and what the collections around the innermost wait for.
+#[derive(Drop)]
+pub(crate) struct Part {
+    phase: Phase,
+    outer: Vec<Open>,
+}
+
+impl Model for Part {
+    ghost use Rattle.yaml_base.specs.StreamMachine.{State};
+    ghost use Rattle.yaml_load.specs.StreamPhases.{IsClean, phase_state};
+
+    ghost Value = { State };
+
+    ghost view = { λ p. phase_state p.phase p.outer.items };
+
+    ghost invariant = { λ p. IsClean p.phase p.outer.items };
+}
+
+// The phase behind an event, if it may stand there.
+#[inline(always)]
+pub(crate) fn after(
+    phase: Phase,
+    outer: &mut Vec<Open>,
+    event: &Event<'_>,
+) -> Result<Option<Phase>, AllocError>
+    requires { IsClean phase outer.old.items }
+    ensures { IfOk result (λ found. Moves phase outer.old.items (event_of event.now) outer.new.items found) }
+{
+    match event {
+        Event::StreamStart => Ok(after_stream_start(phase)),
+        Event::StreamEnd => Ok(after_stream_end(phase)),
+        Event::DocumentStart => Ok(after_document_start(phase)),
+        Event::DocumentEnd => Ok(after_document_end(phase)),
+        Event::Alias(_) => Ok(after_leaf(phase)),
+        Event::Scalar(_) => Ok(after_leaf(phase)),
+        Event::SequenceStart(_) => after_start(phase, outer, Open::Sequence),
+        Event::SequenceEnd => Ok(after_sequence(phase, outer)),
+        Event::MappingStart(_) => after_start(phase, outer, Open::Key),
+        Event::MappingEnd => Ok(after_mapping(phase, outer)),
+    }
+}
+
+impl Part {
+    // The start of a stream.
+    pub(crate) fn first(alloc: Global) -> Part
+        ensures { result ≡ before_stream }
+    {
+        Part {
+            phase: Phase::Before,
+            outer: Vec::new(alloc),
+        }
+    }
+
+    // A document, or the end of the stream.
+    pub(crate) fn between(alloc: Global) -> Part
+        ensures { result ≡ between_documents }
+    {
+        Part {
+            phase: Phase::Between,
+            outer: Vec::new(alloc),
+        }
+    }
+
+    // Goes over an event, and tells whether it may stand there.
+    #[inline(always)]
+    pub(crate) fn go(&mut self, alloc: Global, event: &Event<'_>) -> Result<bool, AllocError>
+        ensures { IfOk result (λ on. on ≡ true → next_state self.old (event_of event.now) ≡ Some self.new) }
+    {
+        let mut outer = mem::replace(&mut self.outer, Vec::new(alloc));
+        match after(self.phase, &mut outer, event)? {
+            Some(phase) => {
+                self.phase = phase;
+                self.outer = outer;
+                Ok(true)
+            }
+            None => Ok(false),
+        }
+    }
+
+    // Whether nothing comes any more.
+    pub(crate) fn is_done(&self) -> bool
+        ensures { result ≡ true → self.now ≡ after_stream }
+    {
+        is_after(self.phase)
+    }
+
+    // Whether a document may come, or the end of the stream.
+    pub(crate) fn is_between(&self) -> bool
+        ensures { result ≡ true → self.now ≡ between_documents }
+    {
+        matches!(self.phase, Phase::Between)
+    }
+}
