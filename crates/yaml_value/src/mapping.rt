@@ -1,13 +1,15 @@
 //! Mappings of values to values.
 
 ghost use Rattle.std.specs.Prelude.{◌≡◌, ◌==◌, ◌<◌, Some, is_some, length, option_and_then, option_map};
-ghost use Rattle.std.specs.Prelude.{OnErr, OnOk, slice_index_or};
+ghost use Rattle.std.specs.Prelude.{true, IfSome, OnErr, OnOk, slice_index_or};
 ghost use Rattle.std.specs.List.{remove};
 ghost use Rattle.std.specs.Slice.Iter.{iter_rest};
-ghost use Rattle.yaml_value.specs.Find.{few, place_where, value_at, value_in_place};
+ghost use Rattle.yaml_value.specs.Find.{few, is_key_at, place_where, value_at, value_in_place};
+ghost use Rattle.yaml_value.specs.Find.{IsTakenOut, IsValueAt};
 ghost use Rattle.yaml_value.specs.Find.{without_found, without_key, without_place};
 ghost use Rattle.yaml_value.specs.PlainEqual.{plain_eq};
 ghost use Rattle.yaml_value.specs.PlainValue.{no_pairs, pair_count, text, with_last};
+ghost use Rattle.yaml_value.specs.Small.{IsSmallMapping};
 ghost use Rattle.yaml_value.specs.View.{entry_pairs, plain, plain_entry, plain_pairs};
 
 use crate::index::{index_all, index_last};
@@ -87,10 +89,22 @@ fn value_in(entries: &[Entry], place: Option<usize>) -> Option<&Value>
 
 // The value at the key that is this text.
 fn value_of_text<'e>(entries: &'e [Entry], key: &str) -> Option<&'e Value>
-    ensures { pair_count (entry_pairs entries.now) < few → option_map (λ value. plain value.now) result
+    ensures found { let pairs = entry_pairs entries.now in
+        IfSome result (λ value. IsValueAt (text key.now) pairs (plain value.now)) }
+    ensures few { pair_count (entry_pairs entries.now) < few → option_map (λ value. plain value.now) result
         ≡ value_at (text key.now) (entry_pairs entries.now) }
 {
     value_in(entries, place_of_text(key, entries))
+}
+
+// The value at a key of any kind.
+fn value_of_key<'e>(entries: &'e [Entry], key: &Value) -> Option<&'e Value>
+    ensures found { let pairs = entry_pairs entries.now in
+        IfSome result (λ value. IsValueAt (plain key.now) pairs (plain value.now)) }
+    ensures small { IsSmallMapping (entry_pairs entries.now) → option_map (λ value. plain value.now) result
+        ≡ value_at (plain key.now) (entry_pairs entries.now) }
+{
+    value_in(entries, place_of(key, entries))
 }
 
 // Takes the entry out of its place. The others stay in their order.
@@ -143,7 +157,8 @@ fn value_taken(entry: Option<Entry>) -> Option<Value>
 
 // The place of the key that is this text.
 fn place_in(entries: &Vec<Entry>, key: &str) -> Option<usize>
-    ensures { pair_count (entry_pairs entries.now.items) < few
+    ensures found { IfSome result (λ i. is_key_at (text key.now) i (entry_pairs entries.now.items) ≡ true) }
+    ensures few { pair_count (entry_pairs entries.now.items) < few
         → result ≡ place_where (plain_eq (text key.now)) (entry_pairs entries.now.items) }
 {
     place_of_text(key, entries.as_slice())
@@ -151,6 +166,8 @@ fn place_in(entries: &Vec<Entry>, key: &str) -> Option<usize>
 
 // Takes the entry out whose key is this text, and answers its value.
 fn remove_text(entries: &mut Vec<Entry>, key: &str) -> Option<Value>
+    ensures taken { let old = entry_pairs entries.old.items in
+        IsTakenOut (text key.now) old (entry_pairs entries.new.items) (option_map plain result) }
     ensures after { let old = entry_pairs entries.old.items in
         pair_count old < few → entry_pairs entries.new.items ≡ without_key (text key.now) old }
     ensures answer { let old = entry_pairs entries.old.items in
@@ -193,6 +210,22 @@ fn add(entries: &mut Vec<Entry>, key: Value, value: Value) -> Result<(), AllocEr
     Ok(())
 }
 
+// The place of a key.
+fn place_among(entries: &Vec<Entry>, key: &Value) -> Option<usize>
+    ensures { IfSome result (λ i. is_key_at (plain key.now) i (entry_pairs entries.now.items) ≡ true) }
+{
+    place_of(key, entries.as_slice())
+}
+
+// Takes the entry out that has this key, and answers its value.
+fn remove_key(entries: &mut Vec<Entry>, key: &Value) -> Option<Value>
+    ensures { let old = entry_pairs entries.old.items in
+        IsTakenOut (plain key.now) old (entry_pairs entries.new.items) (option_map plain result) }
+{
+    let place = place_among(entries, key);
+    value_taken(taken_from(entries, place))
+}
+
 impl Mapping {
     /// The empty mapping. It takes no memory until a pair goes in.
     pub fn new(alloc: Global) -> Mapping
@@ -219,16 +252,22 @@ impl Mapping {
 
     /// The value at the key that is this text. Takes no memory.
     pub fn get(&self, key: &str) -> Option<&Value>
-        ensures { pair_count (plain_pairs self.now) < few → option_map (λ value. plain value.now) result
+        ensures found { let pairs = plain_pairs self.now in
+            IfSome result (λ value. IsValueAt (text key.now) pairs (plain value.now)) }
+        ensures few { pair_count (plain_pairs self.now) < few → option_map (λ value. plain value.now) result
             ≡ value_at (text key.now) (plain_pairs self.now) }
     {
         value_of_text(self.entries.as_slice(), key)
     }
 
     /// The value at a key of any kind. Takes no memory.
-    pub fn get_at(&self, key: &Value) -> Option<&Value> {
-        let entries = self.entries.as_slice();
-        value_in(entries, place_of(key, entries))
+    pub fn get_at(&self, key: &Value) -> Option<&Value>
+        ensures found { let pairs = plain_pairs self.now in
+            IfSome result (λ value. IsValueAt (plain key.now) pairs (plain value.now)) }
+        ensures small { IsSmallMapping (plain_pairs self.now) → option_map (λ value. plain value.now) result
+            ≡ value_at (plain key.now) (plain_pairs self.now) }
+    {
+        value_of_key(self.entries.as_slice(), key)
     }
 
     /// The value at the key that is this number.
@@ -295,6 +334,8 @@ impl Mapping {
 
     /// Takes the pair out whose key is this text, and answers its value. The others stay in their order.
     pub fn remove(&mut self, key: &str) -> Option<Value>
+        ensures taken { let old = plain_pairs self.old in
+            IsTakenOut (text key.now) old (plain_pairs self.new) (option_map plain result) }
         ensures after { let old = plain_pairs self.old in
             pair_count old < few → plain_pairs self.new ≡ without_key (text key.now) old }
         ensures answer { let old = plain_pairs self.old in
@@ -304,9 +345,11 @@ impl Mapping {
     }
 
     /// The same of a key of any kind.
-    pub fn remove_at(&mut self, key: &Value) -> Option<Value> {
-        let place = place_of(key, self.entries.as_slice());
-        value_taken(taken_from(&mut self.entries, place))
+    pub fn remove_at(&mut self, key: &Value) -> Option<Value>
+        ensures { let old = plain_pairs self.old in
+            IsTakenOut (plain key.now) old (plain_pairs self.new) (option_map plain result) }
+    {
+        remove_key(&mut self.entries, key)
     }
 
     /// The pairs in order.
