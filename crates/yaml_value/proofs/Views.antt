@@ -5,7 +5,7 @@ use Rattle.std.specs.Prelude.{List, [], ◌∷◌, ◌++◌, length, set, Option
 use Rattle.std.specs.Prelude.{option_map, option_and_then}
 use Rattle.std.proofs.Common.{ap, arith, sym, ◌∙◌, get_or, take}
 use Rattle.std.proofs.lemmas.List.{take_more}
-use Rattle.yaml_value.specs.Find.{is_key_at, IsTakenOut, IsValueAt}
+use Rattle.yaml_value.specs.Find.{is_key_at, IsTakenOut, IsValueAt, with_value}
 use Rattle.yaml_value.specs.Find.{place_where, value_in_place, without_found, without_key, without_place}
 use Rattle.yaml_value.specs.PlainEqual.{plain_eq, value_where}
 use Rattle.yaml_value.specs.PlainValue.{PlainValue, item, PlainPairs, no_pairs, pair, pair_count}
@@ -104,6 +104,19 @@ entry_pairs-set [] i e d same = refl
 entry_pairs-set (x ∷ es) zero e d same = λ j. pair (same j).0 (same j).1 (entry_pairs es)
 entry_pairs-set (x ∷ es) (suc i) e d same =
     ap (pair (plain_entry x).0 (plain_entry x).1) (entry_pairs-set es i e d same)
+
+-- an entry with another value
+pub entry_pairs-put : (es : List Entry) (i : ℕ) (e d : Entry) (v : PlainValue)
+    → plain_entry e ≡ ((plain_entry (get_or es i d)).0, v) → entry_pairs (set es i e) ≡ with_value i v (entry_pairs es)
+entry_pairs-put [] i e d v same = refl
+entry_pairs-put (x ∷ es) zero e d v same = λ j. pair (same j).0 (same j).1 (entry_pairs es)
+entry_pairs-put (x ∷ es) (suc i) e d v same =
+    ap (pair (plain_entry x).0 (plain_entry x).1) (entry_pairs-put es i e d v same)
+
+pub key_within : (k : PlainValue) (es : List Entry) (i : ℕ) → is_key_at k i (entry_pairs es) ≡ true → i < length es
+key_within k [] i h = absurd (cc)
+key_within k (e ∷ es) zero h = omega arith
+key_within k (e ∷ es) (suc i) h = let lt : i < length es = key_within k es i h in omega (arith, lt)
 
 -- ---- an entry that is taken out
 pub entry_pairs-remove : (es : List Entry) (i : ℕ) → entry_pairs (remove es i) ≡ without_place i (entry_pairs es)

@@ -1,11 +1,11 @@
 //! Mappings of values to values.
 
 ghost use Rattle.std.specs.Prelude.{◌≡◌, ◌==◌, ◌<◌, Some, is_some, length, option_and_then, option_map};
-ghost use Rattle.std.specs.Prelude.{true, IfSome, OnErr, OnOk, slice_index_or};
+ghost use Rattle.std.specs.Prelude.{true, IfOk, IfSome, OnErr, OnOk, slice_index_or};
 ghost use Rattle.std.specs.List.{remove};
 ghost use Rattle.std.specs.Slice.Iter.{iter_rest};
 ghost use Rattle.yaml_value.specs.Find.{few, is_key_at, place_where, value_at, value_in_place};
-ghost use Rattle.yaml_value.specs.Find.{IsTakenOut, IsValueAt};
+ghost use Rattle.yaml_value.specs.Find.{IsPut, IsTakenOut, IsValueAt, with_value};
 ghost use Rattle.yaml_value.specs.Find.{without_found, without_key, without_place};
 ghost use Rattle.yaml_value.specs.PlainEqual.{plain_eq};
 ghost use Rattle.yaml_value.specs.PlainValue.{no_pairs, pair_count, text, with_last};
@@ -210,6 +210,23 @@ fn add(entries: &mut Vec<Entry>, key: Value, value: Value) -> Result<(), AllocEr
     Ok(())
 }
 
+// Puts another value into an entry, and answers the one that was there.
+fn put_value(entry: &mut Entry, value: Value) -> Value
+    ensures after { plain_entry entry.new ≡ ((plain_entry entry.old).0, plain value) }
+    ensures answer { plain result ≡ (plain_entry entry.old).1 }
+{
+    mem::replace(&mut entry.value, value)
+}
+
+// The same of the entry in a place.
+fn put_in(entries: &mut Vec<Entry>, i: usize, value: Value) -> Value
+    requires { i < length entries.old.items }
+    ensures after { entry_pairs entries.new.items ≡ with_value i (plain value) (entry_pairs entries.old.items) }
+    ensures answer { value_in_place i (entry_pairs entries.old.items) ≡ Some (plain result) }
+{
+    put_value(&mut entries[i], value)
+}
+
 // The place of a key.
 fn place_among(entries: &Vec<Entry>, key: &Value) -> Option<usize>
     ensures { IfSome result (λ i. is_key_at (plain key.now) i (entry_pairs entries.now.items) ≡ true) }
@@ -224,6 +241,28 @@ fn remove_key(entries: &mut Vec<Entry>, key: &Value) -> Option<Value>
 {
     let place = place_among(entries, key);
     value_taken(taken_from(entries, place))
+}
+
+// Puts a value at a key, and answers the one that was there.
+fn insert_pair(
+    entries: &mut Vec<Entry>,
+    key: Value,
+    value: Value,
+) -> Result<Option<Value>, AllocError>
+    ensures put { IfOk result (λ told. IsPut (plain key) (plain value) (entry_pairs entries.old.items)
+        (entry_pairs entries.new.items) (option_map plain told)) }
+    ensures err { OnErr result (entry_pairs entries.new.items ≡ entry_pairs entries.old.items) }
+{
+    match place_among(entries, &key) {
+        Some(place) => {
+            discard(key);
+            Ok(Some(put_in(entries, place, value)))
+        }
+        None => {
+            add(entries, key, value)?;
+            Ok(None)
+        }
+    }
 }
 
 impl Mapping {
@@ -300,27 +339,11 @@ impl Mapping {
     /// Puts a value at a key, and answers the one that was there. A new key goes last, and a key that is there keeps
     /// its place. Where memory is wanting, the mapping stays as it was.
     pub fn insert(&mut self, key: Value, value: Value) -> Result<Option<Value>, AllocError>
+        ensures put { IfOk result (λ told. IsPut (plain key) (plain value) (plain_pairs self.old)
+            (plain_pairs self.new) (option_map plain told)) }
         ensures err { OnErr result (plain_pairs self.new ≡ plain_pairs self.old) }
     {
-        match place_of(&key, self.entries.as_slice()) {
-            Some(place) => {
-                discard(key);
-                Ok(self.replace(place, value))
-            }
-            None => {
-                self.append(key, value)?;
-                Ok(None)
-            }
-        }
-    }
-
-    // Puts another value into the pair in a place, and answers the one that was there.
-    fn replace(&mut self, place: usize, value: Value) -> Option<Value> {
-        if place >= self.entries.len() {
-            return Some(value);
-        }
-        let entry = &mut self.entries[place];
-        Some(mem::replace(&mut entry.value, value))
+        insert_pair(&mut self.entries, key, value)
     }
 
     // Adds a pair whose key is not there yet.
