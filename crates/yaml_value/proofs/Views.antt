@@ -5,7 +5,7 @@ use Rattle.std.specs.Prelude.{List, [], ◌∷◌, ◌++◌, length, set, Option
 use Rattle.std.specs.Prelude.{option_map, option_and_then}
 use Rattle.std.proofs.Common.{ap, arith, sym, ◌∙◌, get_or, take}
 use Rattle.std.proofs.lemmas.List.{take_more}
-use Rattle.yaml_value.specs.Find.{is_key_at, IsTakenOut, IsValueAt, with_value}
+use Rattle.yaml_value.specs.Find.{is_key_at, item_in_place, IsTakenOut, IsValueAt, with_value}
 use Rattle.yaml_value.specs.Find.{place_where, value_in_place, without_found, without_key, without_place}
 use Rattle.yaml_value.specs.PlainEqual.{plain_eq, value_where}
 use Rattle.yaml_value.specs.PlainValue.{PlainValue, item, PlainPairs, no_pairs, pair, pair_count}
@@ -45,6 +45,17 @@ pairs-more copies es i v w e lt is f =
     ∙ ap entry_pairs (ap (λ x. take i es ++ x ∷ []) is ∙ sym (take_more es i w lt))))
 
 -- ---- counts and places
+pub item_in_place-at : (vs : List Value) (i : ℕ) (v : Value) → i < length vs → v ≡ get_or vs i v
+    → item_in_place i (plain_items vs) ≡ Some (plain v)
+item_in_place-at [] i v lt is = absurd (omega (arith, lt))
+item_in_place-at (x ∷ vs) zero v lt is = ap (λ y. Some (plain y)) (sym is)
+item_in_place-at (x ∷ vs) (suc i) v lt is = item_in_place-at vs i v (omega (arith, lt)) is
+
+pub item_in_place-beyond : (vs : List Value) (i : ℕ) → length vs ≤ i → item_in_place i (plain_items vs) ≡ None
+item_in_place-beyond [] i le = refl
+item_in_place-beyond (x ∷ vs) zero le = absurd (omega (arith, le))
+item_in_place-beyond (x ∷ vs) (suc i) le = item_in_place-beyond vs i (omega (arith, le))
+
 pub pair_count-entries : (es : List Entry) → pair_count (entry_pairs es) ≡ length es
 pair_count-entries [] = refl
 pair_count-entries (e ∷ es) = omega (arith, pair_count-entries es)

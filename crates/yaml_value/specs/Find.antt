@@ -1,8 +1,8 @@
 -- What is found in a plain value: at a key, or under tags.
-use Rattle.std.specs.Prelude.{◌≡◌, ℕ, suc, zero, Bool, true, false, if◌then◌else◌}
+use Rattle.std.specs.Prelude.{◌≡◌, ℕ, suc, zero, pos, Bool, true, false, if◌then◌else◌}
 use Rattle.std.specs.Prelude.{◌<◌, List, Option, Some, None, option_and_then, option_map, IfSome}
-use Rattle.yaml_value.specs.PlainValue.{PlainValue, text, sequence, mapping, tagged}
-use Rattle.yaml_value.specs.PlainValue.{PlainItems, PlainPairs, no_pairs, pair, pair_count, with_last}
+use Rattle.yaml_value.specs.PlainValue.{PlainValue, integer, text, sequence, mapping, tagged}
+use Rattle.yaml_value.specs.PlainValue.{PlainItems, no_items, item, PlainPairs, no_pairs, pair, pair_count, with_last}
 use Rattle.yaml_value.specs.PlainEqual.{plain_eq, value_where}
 
 -- the value under all its tags
@@ -34,6 +34,19 @@ value_at k ps = value_where (plain_eq k) ps
 -- the value at the key that is this text, where it is a mapping
 abbrev pub get : List ℕ → PlainValue → Option PlainValue
 get key v = option_and_then (value_at (text key)) (pairs_in v)
+
+-- the value in a place of a list
+abbrev pub item_in_place : ℕ → PlainItems → Option PlainValue
+item_in_place place no_items = None
+item_in_place zero (item v vs) = Some v
+item_in_place (suc place) (item v vs) = item_in_place place vs
+
+-- the element in a place of a sequence, or the value at the key that is this number
+abbrev pub at : ℕ → PlainValue → Option PlainValue
+at place (sequence vs) = item_in_place place vs
+at place (mapping ps) = value_at (integer (pos place)) ps
+at place (tagged t v) = at place v
+at place _ = None
 
 -- the place of the first pair whose key passes
 abbrev pub place_where : (PlainValue → Bool) → PlainPairs → Option ℕ

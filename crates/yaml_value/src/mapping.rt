@@ -1,19 +1,18 @@
 //! Mappings of values to values.
 
 ghost use Rattle.std.specs.Prelude.{◌≡◌, ◌==◌, ◌<◌, Some, is_some, length, option_and_then, option_map};
-ghost use Rattle.std.specs.Prelude.{true, IfOk, IfSome, OnErr, OnOk, slice_index_or};
+ghost use Rattle.std.specs.Prelude.{pos, true, IfOk, IfSome, OnErr, OnOk, slice_index_or};
 ghost use Rattle.std.specs.List.{remove};
 ghost use Rattle.std.specs.Slice.Iter.{iter_rest};
 ghost use Rattle.yaml_value.specs.Find.{few, is_key_at, place_where, value_at, value_in_place};
 ghost use Rattle.yaml_value.specs.Find.{IsPut, IsTakenOut, IsValueAt, with_value};
 ghost use Rattle.yaml_value.specs.Find.{without_found, without_key, without_place};
 ghost use Rattle.yaml_value.specs.PlainEqual.{plain_eq};
-ghost use Rattle.yaml_value.specs.PlainValue.{no_pairs, pair_count, text, with_last};
+ghost use Rattle.yaml_value.specs.PlainValue.{integer, no_pairs, pair_count, text, with_last};
 ghost use Rattle.yaml_value.specs.Small.{IsSmallMapping};
 ghost use Rattle.yaml_value.specs.View.{entry_pairs, plain, plain_entry, plain_pairs};
 
 use crate::index::{index_all, index_last};
-use crate::number::Number;
 use crate::value::Value;
 use crate::value::equal::{place_of, place_of_text};
 use std::alloc::{AllocError, Global};
@@ -310,12 +309,14 @@ impl Mapping {
     }
 
     /// The value at the key that is this number.
-    pub(crate) fn at_number(&self, number: usize) -> Option<&Value> {
-        let key = Value::Number(Number::from_u128(number as u128));
-        let entries = self.entries.as_slice();
-        let place = place_of(&key, entries);
+    pub(crate) fn at_number(&self, number: usize) -> Option<&Value>
+        ensures { IsSmallMapping (plain_pairs self.now) → option_map (λ value. plain value.now) result
+            ≡ value_at (integer (pos number)) (plain_pairs self.now) }
+    {
+        let key = Value::from(number);
+        let found = value_of_key(self.entries.as_slice(), &key);
         discard(key);
-        value_in(entries, place)
+        found
     }
 
     /// Whether there is a pair with this key.

@@ -2,14 +2,26 @@
 
 ghost use Rattle.std.specs.Prelude.{◌≡◌, is_some, option_and_then, option_map, IfSome, IsSomeAnd};
 ghost use Rattle.yaml_value.specs.Kinds.{boolean_in, is_null, number_in, text_in};
-ghost use Rattle.yaml_value.specs.Find.{get, HasFewPairs, IsValueAt, items_in, pairs_in, tagged_in, untagged};
+ghost use Rattle.yaml_value.specs.Find.{at, get, HasFewPairs, IsValueAt, item_in_place, items_in, pairs_in, tagged_in, untagged};
 ghost use Rattle.yaml_value.specs.Numbers.{as_f64, as_i128, as_i64, as_u128, as_u64, float_in};
 ghost use Rattle.yaml_value.specs.PlainValue.{text};
+ghost use Rattle.yaml_value.specs.Small.{IsSmall};
 ghost use Rattle.yaml_value.specs.View.{plain, plain_items, plain_pairs, plain_tagged};
 
 use crate::mapping::Mapping;
 use crate::number::Number;
 use crate::value::{TaggedValue, Value};
+
+// The value in a place.
+fn item_in(items: &[Value], place: usize) -> Option<&Value>
+    ensures { option_map (λ value. plain value.now) result ≡ item_in_place place (plain_items items.now) }
+{
+    if place < items.len() {
+        Some(&items[place])
+    } else {
+        None
+    }
+}
 
 impl Value {
     /// The value under all its tags.
@@ -211,10 +223,14 @@ impl Value {
 
     /// The element in a place of a sequence, counted from 0, or the value at a key that is this number. Takes no
     /// memory.
-    pub fn at(&self, place: usize) -> Option<&Value> {
-        match self.untagged() {
-            Value::Sequence(items) => items.get(place),
+    pub fn at(&self, place: usize) -> Option<&Value>
+        ensures { IsSmall (plain self.now) → option_map (λ value. plain value.now) result
+            ≡ at place (plain self.now) }
+    {
+        match self {
+            Value::Sequence(items) => item_in(items.as_slice(), place),
             Value::Mapping(mapping) => mapping.at_number(place),
+            Value::Tagged(tagged) => tagged.value.at(place),
             _ => None,
         }
     }
