@@ -2,7 +2,8 @@
 
 ghost use Rattle.std.specs.Prelude.{◌≡◌, is_some, option_and_then, option_map, IfSome, IsSomeAnd};
 ghost use Rattle.yaml_value.specs.Kinds.{boolean_in, is_null, number_in, text_in};
-ghost use Rattle.yaml_value.specs.Find.{at, get, HasFewPairs, IsValueAt, item_in_place, items_in, pairs_in, tagged_in, untagged};
+ghost use Rattle.yaml_value.specs.Find.{at, get, HasFewPairs, IsValueAt, item_in_place, items_in};
+ghost use Rattle.yaml_value.specs.Find.{pairs_in, tagged_in, untagged};
 ghost use Rattle.yaml_value.specs.Numbers.{as_f64, as_i128, as_i64, as_u128, as_u64, float_in};
 ghost use Rattle.yaml_value.specs.PlainValue.{text};
 ghost use Rattle.yaml_value.specs.Small.{IsSmall};
