@@ -2,9 +2,9 @@
 //! tags, which is looked through, changed, read and written.
 //!
 //! Clauses go by plain values, as which `plain` sees each value. What is found at a key, changed or taken out there, is
-//! told of all mappings. That a key which stands there is found, and that values which are equal are called so, is told
-//! of mappings with fewer than 16 pairs, whose keys are gone over one by one: that the index of larger ones misses none,
-//! no clause tells. Nor does one of merging, and of what is read and written.
+//! told of all mappings. That a key which stands there is found, and that equal values are called so, is told of
+//! mappings with fewer than 16 pairs, whose keys are gone over one by one: no clause tells that the index of larger
+//! ones misses none. Nor does one tell of merging, and of what is read and written.
 #![tactic(auto)]
 
 mod index;
