@@ -1,3 +1,5 @@
 -- What proofs of this crate share.
+pub mod Equals
+pub mod Parts
 pub mod Texts
 pub mod Views

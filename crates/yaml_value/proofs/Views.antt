@@ -1,9 +1,11 @@
 -- What lists of values and of entries are seen as: with one more at the end, at a place, and with an entry changed.
 use Rattle.std.specs.Prelude.{◌≡◌, ℕ, suc, zero, ◌+◌, ◌<◌, ◌≤◌, Bool, true, false, if◌then◌else◌, refl}
 use Rattle.std.specs.List.{remove}
-use Rattle.std.specs.Prelude.{List, [], ◌∷◌, ◌++◌, length, set, Option, Some, None, option_map, option_and_then}
+use Rattle.std.specs.Prelude.{List, [], ◌∷◌, ◌++◌, length, set, Option, Some, None, IfSome}
+use Rattle.std.specs.Prelude.{option_map, option_and_then}
 use Rattle.std.proofs.Common.{ap, arith, sym, ◌∙◌, get_or, take}
 use Rattle.std.proofs.lemmas.List.{take_more}
+use Rattle.yaml_value.specs.Find.{is_key_at, item_in_place, IsTakenOut, IsValueAt, with_value}
 use Rattle.yaml_value.specs.Find.{place_where, value_in_place, without_found, without_key, without_place}
 use Rattle.yaml_value.specs.PlainEqual.{plain_eq, value_where}
 use Rattle.yaml_value.specs.PlainValue.{PlainValue, item, PlainPairs, no_pairs, pair, pair_count}
@@ -43,6 +45,17 @@ pairs-more copies es i v w e lt is f =
     ∙ ap entry_pairs (ap (λ x. take i es ++ x ∷ []) is ∙ sym (take_more es i w lt))))
 
 -- ---- counts and places
+pub item_in_place-at : (vs : List Value) (i : ℕ) (v : Value) → i < length vs → v ≡ get_or vs i v
+    → item_in_place i (plain_items vs) ≡ Some (plain v)
+item_in_place-at [] i v lt is = absurd (omega (arith, lt))
+item_in_place-at (x ∷ vs) zero v lt is = ap (λ y. Some (plain y)) (sym is)
+item_in_place-at (x ∷ vs) (suc i) v lt is = item_in_place-at vs i v (omega (arith, lt)) is
+
+pub item_in_place-beyond : (vs : List Value) (i : ℕ) → length vs ≤ i → item_in_place i (plain_items vs) ≡ None
+item_in_place-beyond [] i le = refl
+item_in_place-beyond (x ∷ vs) zero le = absurd (omega (arith, le))
+item_in_place-beyond (x ∷ vs) (suc i) le = item_in_place-beyond vs i (omega (arith, le))
+
 pub pair_count-entries : (es : List Entry) → pair_count (entry_pairs es) ≡ length es
 pair_count-entries [] = refl
 pair_count-entries (e ∷ es) = omega (arith, pair_count-entries es)
@@ -74,6 +87,27 @@ value_where-place passes no_pairs = refl
 value_where-place passes (pair k v ps) =
     found_by (passes k) passes k v ps (place_where passes ps) (value_where-place passes ps)
 
+-- ---- what is told of the pair in a place that has a key
+pub told : {V : Type 0} (k : PlainValue) (ps : PlainPairs) (place : Option ℕ) (see : V → PlainValue) (r : Option V)
+    → IfSome place (λ i. is_key_at k i ps ≡ true)
+    → option_map see r ≡ option_and_then (λ i. value_in_place i ps) place → IfSome r (λ v. IsValueAt k ps (see v))
+told k ps place see None found e = tt
+told k ps None see (Some v) found e = absurd (cc)
+told k ps (Some i) see (Some v) found e = (i, (found, sym e))
+
+not_beyond : (k : PlainValue) (i : ℕ) (ps : PlainPairs) → is_key_at k i ps ≡ true → None ≡ value_in_place i ps → ⊥
+not_beyond k i no_pairs h e = absurd (cc)
+not_beyond k zero (pair l w ps) h e = absurd (cc)
+not_beyond k (suc i) (pair l w ps) h e = not_beyond k i ps h e
+
+pub taken_out : (k : PlainValue) (ps new : PlainPairs) (place : Option ℕ) (o : Option PlainValue)
+    → IfSome place (λ i. is_key_at k i ps ≡ true) → new ≡ without_found place ps
+    → o ≡ option_and_then (λ i. value_in_place i ps) place → IsTakenOut k ps new o
+taken_out k ps new None None found after e = after
+taken_out k ps new None (Some v) found after e = absurd (cc)
+taken_out k ps new (Some i) None found after e = absurd (not_beyond k i ps found e)
+taken_out k ps new (Some i) (Some v) found after e = (i, (found, sym e), after)
+
 -- ---- an entry that is changed
 pub entry_pairs-set : (es : List Entry) (i : ℕ) (e d : Entry) → plain_entry e ≡ plain_entry (get_or es i d)
     → entry_pairs (set es i e) ≡ entry_pairs es
@@ -82,13 +116,18 @@ entry_pairs-set (x ∷ es) zero e d same = λ j. pair (same j).0 (same j).1 (ent
 entry_pairs-set (x ∷ es) (suc i) e d same =
     ap (pair (plain_entry x).0 (plain_entry x).1) (entry_pairs-set es i e d same)
 
--- ---- looking for a key
-pub found_first : (i : ℕ) (passes : PlainValue → Bool) (e : Entry) (es : List Entry)
-    → passes (plain_entry e).0 ≡ true
-    → option_map (λ n. i + n) (place_where passes (entry_pairs (e ∷ es))) ≡ Some i
-found_first i passes e es same =
-    ap (λ b. option_map (λ n. i + n) (if b then Some 0 else option_map suc (place_where passes (entry_pairs es)))) same
-    ∙ ap Some (omega arith)
+-- an entry with another value
+pub entry_pairs-put : (es : List Entry) (i : ℕ) (e d : Entry) (v : PlainValue)
+    → plain_entry e ≡ ((plain_entry (get_or es i d)).0, v) → entry_pairs (set es i e) ≡ with_value i v (entry_pairs es)
+entry_pairs-put [] i e d v same = refl
+entry_pairs-put (x ∷ es) zero e d v same = λ j. pair (same j).0 (same j).1 (entry_pairs es)
+entry_pairs-put (x ∷ es) (suc i) e d v same =
+    ap (pair (plain_entry x).0 (plain_entry x).1) (entry_pairs-put es i e d v same)
+
+pub key_within : (k : PlainValue) (es : List Entry) (i : ℕ) → is_key_at k i (entry_pairs es) ≡ true → i < length es
+key_within k [] i h = absurd (cc)
+key_within k (e ∷ es) zero h = omega arith
+key_within k (e ∷ es) (suc i) h = let lt : i < length es = key_within k es i h in omega (arith, lt)
 
 -- ---- an entry that is taken out
 pub entry_pairs-remove : (es : List Entry) (i : ℕ) → entry_pairs (remove es i) ≡ without_place i (entry_pairs es)

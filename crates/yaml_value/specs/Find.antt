@@ -1,8 +1,8 @@
 -- What is found in a plain value: at a key, or under tags.
-use Rattle.std.specs.Prelude.{ℕ, suc, zero, Bool, if◌then◌else◌}
+use Rattle.std.specs.Prelude.{◌≡◌, ℕ, suc, zero, pos, Bool, true, false, if◌then◌else◌}
 use Rattle.std.specs.Prelude.{◌<◌, List, Option, Some, None, option_and_then, option_map, IfSome}
-use Rattle.yaml_value.specs.PlainValue.{PlainValue, text, sequence, mapping, tagged}
-use Rattle.yaml_value.specs.PlainValue.{PlainItems, PlainPairs, no_pairs, pair, pair_count}
+use Rattle.yaml_value.specs.PlainValue.{PlainValue, integer, text, sequence, mapping, tagged}
+use Rattle.yaml_value.specs.PlainValue.{PlainItems, no_items, item, PlainPairs, no_pairs, pair, pair_count, with_last}
 use Rattle.yaml_value.specs.PlainEqual.{plain_eq, value_where}
 
 -- the value under all its tags
@@ -35,10 +35,29 @@ value_at k ps = value_where (plain_eq k) ps
 abbrev pub get : List ℕ → PlainValue → Option PlainValue
 get key v = option_and_then (value_at (text key)) (pairs_in v)
 
+-- the value in a place of a list
+abbrev pub item_in_place : ℕ → PlainItems → Option PlainValue
+item_in_place place no_items = None
+item_in_place zero (item v vs) = Some v
+item_in_place (suc place) (item v vs) = item_in_place place vs
+
+-- the element in a place of a sequence, or the value at the key that is this number
+abbrev pub at : ℕ → PlainValue → Option PlainValue
+at place (sequence vs) = item_in_place place vs
+at place (mapping ps) = value_at (integer (pos place)) ps
+at place (tagged t v) = at place v
+at place _ = None
+
 -- the place of the first pair whose key passes
 abbrev pub place_where : (PlainValue → Bool) → PlainPairs → Option ℕ
 place_where passes no_pairs = None
 place_where passes (pair k v ps) = if passes k then Some 0 else option_map suc (place_where passes ps)
+
+-- the pair in a place has this key
+abbrev pub is_key_at : PlainValue → ℕ → PlainPairs → Bool
+is_key_at k place no_pairs = false
+is_key_at k zero (pair l w ps) = plain_eq k l
+is_key_at k (suc place) (pair l w ps) = is_key_at k place ps
 
 -- the value of the pair in a place
 abbrev pub value_in_place : ℕ → PlainPairs → Option PlainValue
@@ -61,10 +80,34 @@ without_place place no_pairs = no_pairs
 without_place zero (pair k v ps) = ps
 without_place (suc place) (pair k v ps) = pair k v (without_place place ps)
 
+-- the pairs, with another value in the pair in a place
+abbrev pub with_value : ℕ → PlainValue → PlainPairs → PlainPairs
+with_value place v no_pairs = no_pairs
+with_value zero v (pair l w ps) = pair l v ps
+with_value (suc place) v (pair l w ps) = pair l w (with_value place v ps)
+
 -- the pairs without the one in a place, if there is such a place
 abbrev pub without_found : Option ℕ → PlainPairs → PlainPairs
 without_found None ps = ps
 without_found (Some place) ps = without_place place ps
+
+-- a pair with this key, in this place, has this value
+abbrev pub HasPairIn : ℕ → (key : PlainValue) → PlainPairs → PlainValue → Type 0
+HasPairIn place k ps v = (is_key_at k place ps ≡ true) × (value_in_place place ps ≡ Some v)
+
+-- it is the value of a pair with this key
+abbrev pub IsValueAt : (key : PlainValue) → PlainPairs → PlainValue → Type 0
+IsValueAt k ps v = (place : ℕ) × HasPairIn place k ps v
+
+-- a pair with this key is taken out, and the others stay in their order; or none is, and there is no answer
+abbrev pub IsTakenOut : (key : PlainValue) → (old new : PlainPairs) → (answer : Option PlainValue) → Type 0
+IsTakenOut k old new None = new ≡ old
+IsTakenOut k old new (Some w) = (place : ℕ) × HasPairIn place k old w × (new ≡ without_place place old)
+
+-- a pair with this key has another value, and the one before is the answer; or a new pair stands last
+abbrev pub IsPut : (key value : PlainValue) → (old new : PlainPairs) → (answer : Option PlainValue) → Type 0
+IsPut k v old new None = new ≡ with_last old k v
+IsPut k v old new (Some w) = (place : ℕ) × HasPairIn place k old w × (new ≡ with_value place v old)
 
 -- where there are pairs, they are few
 abbrev pub HasFewPairs : Option PlainPairs → Type 0

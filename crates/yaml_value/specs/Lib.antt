@@ -5,6 +5,7 @@ pub mod Kinds
 pub mod Numbers
 pub mod PlainEqual
 pub mod PlainValue
+pub mod Small
 pub mod TagMark
 pub mod TagText
 pub mod View

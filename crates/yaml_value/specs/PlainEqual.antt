@@ -1,5 +1,6 @@
 -- Equality of plain values: part by part, and of mappings in whatever order their pairs stand.
-use Rattle.std.specs.Prelude.{Bool, true, false, ◌&&◌, ◌==◌, Option, Some, None, if◌then◌else◌, bytes_eq, is_nan}
+use Rattle.std.specs.Prelude.{Bool, true, false, ◌&&◌, ◌||◌, ◌==◌, Option, Some, None, if◌then◌else◌}
+use Rattle.std.specs.Prelude.{ℕ, List, bytes_eq, is_nan}
 use Rattle.std.specs.Bool.{beq}
 use Rattle.std.specs.Float.Ieee.{Float, eq}
 use Rattle.std.specs.Ordering.{int_eq}
@@ -15,10 +16,10 @@ abbrev pub value_where : (PlainValue → Bool) → PlainPairs → Option PlainVa
 value_where passes no_pairs = None
 value_where passes (pair k v ps) = if passes k then Some v else value_where passes ps
 
--- there is a value, and it passes
-abbrev pub there_passes : (PlainValue → Bool) → Option PlainValue → Bool
-there_passes passes None = false
-there_passes passes (Some v) = passes v
+-- the key of some pair passes, and its value does
+abbrev pub pair_passes : (key : PlainValue → Bool) → (value : PlainValue → Bool) → PlainPairs → Bool
+pair_passes key value no_pairs = false
+pair_passes key value (pair l w ps) = (key l && value w) || pair_passes key value ps
 
 abbrev mutual
   -- two values are equal: of one kind, with equal parts
@@ -39,7 +40,23 @@ abbrev mutual
   items_eq (item a xs) (item b ys) = plain_eq a b && items_eq xs ys
   items_eq _ _ = false
 
-  -- at each key of the first list the second has an equal value
+  -- each pair of the first list is equal to one of the second
   pub has_all_pairs : PlainPairs → PlainPairs → Bool
   has_all_pairs no_pairs qs = true
-  has_all_pairs (pair k v ps) qs = there_passes (plain_eq v) (value_where (plain_eq k) qs) && has_all_pairs ps qs
+  has_all_pairs (pair k v ps) qs = pair_passes (plain_eq k) (plain_eq v) qs && has_all_pairs ps qs
+
+-- two mappings are equal: as many pairs, and each of the first in the second
+abbrev pub pairs_eq : PlainPairs → PlainPairs → Bool
+pairs_eq a b = (pair_count a == pair_count b) && has_all_pairs a b
+
+-- two keys with their values are equal
+abbrev pub entry_eq : PlainValue × PlainValue → PlainValue × PlainValue → Bool
+entry_eq p q = plain_eq p.0 q.0 && plain_eq p.1 q.1
+
+-- two texts of tags with what is under them are equal
+abbrev pub tagged_eq : List ℕ × PlainValue → List ℕ × PlainValue → Bool
+tagged_eq s t = bytes_eq s.0 t.0 && plain_eq s.1 t.1
+
+-- some pair is equal to this one
+abbrev pub has_pair : PlainValue × PlainValue → PlainPairs → Bool
+has_pair p ps = pair_passes (plain_eq p.0) (plain_eq p.1) ps

@@ -1,9 +1,10 @@
 //! Values of any kind, for people: what a YAML document or a part of one holds, with floats, integers of 128 bits and
 //! tags, which is looked through, changed, read and written.
 //!
-//! Clauses go by plain values, as which `plain` sees each value. What is found at a key that is a text, and taken out
-//! there, they tell of mappings with fewer than 16 pairs, whose keys are gone over one by one. Of the index of larger
-//! ones, of keys of other kinds, of merging and of what is read and written no clause tells.
+//! Clauses go by plain values, as which `plain` sees each value. What is found at a key, changed or taken out there, is
+//! told of all mappings. That a key which stands there is found, and that equal values are called so, is told of
+//! mappings with fewer than 16 pairs, whose keys are gone over one by one: no clause tells that the index of larger
+//! ones misses none. Nor does one tell of merging, and of what is read and written.
 #![tactic(auto)]
 
 mod index;

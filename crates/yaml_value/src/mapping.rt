@@ -1,17 +1,18 @@
 //! Mappings of values to values.
 
 ghost use Rattle.std.specs.Prelude.{◌≡◌, ◌==◌, ◌<◌, Some, is_some, length, option_and_then, option_map};
-ghost use Rattle.std.specs.Prelude.{OnErr, OnOk, slice_index_or};
+ghost use Rattle.std.specs.Prelude.{pos, true, IfOk, IfSome, OnErr, OnOk, slice_index_or};
 ghost use Rattle.std.specs.List.{remove};
 ghost use Rattle.std.specs.Slice.Iter.{iter_rest};
-ghost use Rattle.yaml_value.specs.Find.{few, place_where, value_at, value_in_place};
+ghost use Rattle.yaml_value.specs.Find.{few, is_key_at, place_where, value_at, value_in_place};
+ghost use Rattle.yaml_value.specs.Find.{IsPut, IsTakenOut, IsValueAt, with_value};
 ghost use Rattle.yaml_value.specs.Find.{without_found, without_key, without_place};
 ghost use Rattle.yaml_value.specs.PlainEqual.{plain_eq};
-ghost use Rattle.yaml_value.specs.PlainValue.{no_pairs, pair_count, text, with_last};
+ghost use Rattle.yaml_value.specs.PlainValue.{integer, no_pairs, pair_count, text, with_last};
+ghost use Rattle.yaml_value.specs.Small.{IsSmallMapping};
 ghost use Rattle.yaml_value.specs.View.{entry_pairs, plain, plain_entry, plain_pairs};
 
 use crate::index::{index_all, index_last};
-use crate::number::Number;
 use crate::value::Value;
 use crate::value::equal::{place_of, place_of_text};
 use std::alloc::{AllocError, Global};
@@ -87,10 +88,22 @@ fn value_in(entries: &[Entry], place: Option<usize>) -> Option<&Value>
 
 // The value at the key that is this text.
 fn value_of_text<'e>(entries: &'e [Entry], key: &str) -> Option<&'e Value>
-    ensures { pair_count (entry_pairs entries.now) < few → option_map (λ value. plain value.now) result
+    ensures found { let pairs = entry_pairs entries.now in
+        IfSome result (λ value. IsValueAt (text key.now) pairs (plain value.now)) }
+    ensures few { pair_count (entry_pairs entries.now) < few → option_map (λ value. plain value.now) result
         ≡ value_at (text key.now) (entry_pairs entries.now) }
 {
     value_in(entries, place_of_text(key, entries))
+}
+
+// The value at a key of any kind.
+fn value_of_key<'e>(entries: &'e [Entry], key: &Value) -> Option<&'e Value>
+    ensures found { let pairs = entry_pairs entries.now in
+        IfSome result (λ value. IsValueAt (plain key.now) pairs (plain value.now)) }
+    ensures small { IsSmallMapping (entry_pairs entries.now) → option_map (λ value. plain value.now) result
+        ≡ value_at (plain key.now) (entry_pairs entries.now) }
+{
+    value_in(entries, place_of(key, entries))
 }
 
 // Takes the entry out of its place. The others stay in their order.
@@ -143,7 +156,8 @@ fn value_taken(entry: Option<Entry>) -> Option<Value>
 
 // The place of the key that is this text.
 fn place_in(entries: &Vec<Entry>, key: &str) -> Option<usize>
-    ensures { pair_count (entry_pairs entries.now.items) < few
+    ensures found { IfSome result (λ i. is_key_at (text key.now) i (entry_pairs entries.now.items) ≡ true) }
+    ensures few { pair_count (entry_pairs entries.now.items) < few
         → result ≡ place_where (plain_eq (text key.now)) (entry_pairs entries.now.items) }
 {
     place_of_text(key, entries.as_slice())
@@ -151,6 +165,8 @@ fn place_in(entries: &Vec<Entry>, key: &str) -> Option<usize>
 
 // Takes the entry out whose key is this text, and answers its value.
 fn remove_text(entries: &mut Vec<Entry>, key: &str) -> Option<Value>
+    ensures taken { let old = entry_pairs entries.old.items in
+        IsTakenOut (text key.now) old (entry_pairs entries.new.items) (option_map plain result) }
     ensures after { let old = entry_pairs entries.old.items in
         pair_count old < few → entry_pairs entries.new.items ≡ without_key (text key.now) old }
     ensures answer { let old = entry_pairs entries.old.items in
@@ -193,6 +209,61 @@ fn add(entries: &mut Vec<Entry>, key: Value, value: Value) -> Result<(), AllocEr
     Ok(())
 }
 
+// Puts another value into an entry, and answers the one that was there.
+fn put_value(entry: &mut Entry, value: Value) -> Value
+    ensures after { plain_entry entry.new ≡ ((plain_entry entry.old).0, plain value) }
+    ensures answer { plain result ≡ (plain_entry entry.old).1 }
+{
+    mem::replace(&mut entry.value, value)
+}
+
+// The same of the entry in a place.
+fn put_in(entries: &mut Vec<Entry>, i: usize, value: Value) -> Value
+    requires { i < length entries.old.items }
+    ensures after { entry_pairs entries.new.items ≡ with_value i (plain value) (entry_pairs entries.old.items) }
+    ensures answer { value_in_place i (entry_pairs entries.old.items) ≡ Some (plain result) }
+{
+    put_value(&mut entries[i], value)
+}
+
+// The place of a key.
+fn place_among(entries: &Vec<Entry>, key: &Value) -> Option<usize>
+    ensures { IfSome result (λ i. is_key_at (plain key.now) i (entry_pairs entries.now.items) ≡ true) }
+{
+    place_of(key, entries.as_slice())
+}
+
+// Takes the entry out that has this key, and answers its value.
+fn remove_key(entries: &mut Vec<Entry>, key: &Value) -> Option<Value>
+    ensures { let old = entry_pairs entries.old.items in
+        IsTakenOut (plain key.now) old (entry_pairs entries.new.items) (option_map plain result) }
+{
+    let place = place_among(entries, key);
+    value_taken(taken_from(entries, place))
+}
+
+// Puts a value at a key, and answers the one that was there.
+fn insert_pair(
+    entries: &mut Vec<Entry>,
+    key: Value,
+    value: Value,
+) -> Result<Option<Value>, AllocError>
+    ensures put { IfOk result (λ told. IsPut (plain key) (plain value) (entry_pairs entries.old.items)
+        (entry_pairs entries.new.items) (option_map plain told)) }
+    ensures err { OnErr result (entry_pairs entries.new.items ≡ entry_pairs entries.old.items) }
+{
+    match place_among(entries, &key) {
+        Some(place) => {
+            discard(key);
+            Ok(Some(put_in(entries, place, value)))
+        }
+        None => {
+            add(entries, key, value)?;
+            Ok(None)
+        }
+    }
+}
+
 impl Mapping {
     /// The empty mapping. It takes no memory until a pair goes in.
     pub fn new(alloc: Global) -> Mapping
@@ -219,25 +290,33 @@ impl Mapping {
 
     /// The value at the key that is this text. Takes no memory.
     pub fn get(&self, key: &str) -> Option<&Value>
-        ensures { pair_count (plain_pairs self.now) < few → option_map (λ value. plain value.now) result
+        ensures found { let pairs = plain_pairs self.now in
+            IfSome result (λ value. IsValueAt (text key.now) pairs (plain value.now)) }
+        ensures few { pair_count (plain_pairs self.now) < few → option_map (λ value. plain value.now) result
             ≡ value_at (text key.now) (plain_pairs self.now) }
     {
         value_of_text(self.entries.as_slice(), key)
     }
 
     /// The value at a key of any kind. Takes no memory.
-    pub fn get_at(&self, key: &Value) -> Option<&Value> {
-        let entries = self.entries.as_slice();
-        value_in(entries, place_of(key, entries))
+    pub fn get_at(&self, key: &Value) -> Option<&Value>
+        ensures found { let pairs = plain_pairs self.now in
+            IfSome result (λ value. IsValueAt (plain key.now) pairs (plain value.now)) }
+        ensures small { IsSmallMapping (plain_pairs self.now) → option_map (λ value. plain value.now) result
+            ≡ value_at (plain key.now) (plain_pairs self.now) }
+    {
+        value_of_key(self.entries.as_slice(), key)
     }
 
     /// The value at the key that is this number.
-    pub(crate) fn at_number(&self, number: usize) -> Option<&Value> {
-        let key = Value::Number(Number::from_u128(number as u128));
-        let entries = self.entries.as_slice();
-        let place = place_of(&key, entries);
+    pub(crate) fn at_number(&self, number: usize) -> Option<&Value>
+        ensures { IsSmallMapping (plain_pairs self.now) → option_map (λ value. plain value.now) result
+            ≡ value_at (integer (pos number)) (plain_pairs self.now) }
+    {
+        let key = Value::from(number);
+        let found = value_of_key(self.entries.as_slice(), &key);
         discard(key);
-        value_in(entries, place)
+        found
     }
 
     /// Whether there is a pair with this key.
@@ -261,27 +340,11 @@ impl Mapping {
     /// Puts a value at a key, and answers the one that was there. A new key goes last, and a key that is there keeps
     /// its place. Where memory is wanting, the mapping stays as it was.
     pub fn insert(&mut self, key: Value, value: Value) -> Result<Option<Value>, AllocError>
+        ensures put { IfOk result (λ told. IsPut (plain key) (plain value) (plain_pairs self.old)
+            (plain_pairs self.new) (option_map plain told)) }
         ensures err { OnErr result (plain_pairs self.new ≡ plain_pairs self.old) }
     {
-        match place_of(&key, self.entries.as_slice()) {
-            Some(place) => {
-                discard(key);
-                Ok(self.replace(place, value))
-            }
-            None => {
-                self.append(key, value)?;
-                Ok(None)
-            }
-        }
-    }
-
-    // Puts another value into the pair in a place, and answers the one that was there.
-    fn replace(&mut self, place: usize, value: Value) -> Option<Value> {
-        if place >= self.entries.len() {
-            return Some(value);
-        }
-        let entry = &mut self.entries[place];
-        Some(mem::replace(&mut entry.value, value))
+        insert_pair(&mut self.entries, key, value)
     }
 
     // Adds a pair whose key is not there yet.
@@ -295,6 +358,8 @@ impl Mapping {
 
     /// Takes the pair out whose key is this text, and answers its value. The others stay in their order.
     pub fn remove(&mut self, key: &str) -> Option<Value>
+        ensures taken { let old = plain_pairs self.old in
+            IsTakenOut (text key.now) old (plain_pairs self.new) (option_map plain result) }
         ensures after { let old = plain_pairs self.old in
             pair_count old < few → plain_pairs self.new ≡ without_key (text key.now) old }
         ensures answer { let old = plain_pairs self.old in
@@ -304,9 +369,11 @@ impl Mapping {
     }
 
     /// The same of a key of any kind.
-    pub fn remove_at(&mut self, key: &Value) -> Option<Value> {
-        let place = place_of(key, self.entries.as_slice());
-        value_taken(taken_from(&mut self.entries, place))
+    pub fn remove_at(&mut self, key: &Value) -> Option<Value>
+        ensures { let old = plain_pairs self.old in
+            IsTakenOut (plain key.now) old (plain_pairs self.new) (option_map plain result) }
+    {
+        remove_key(&mut self.entries, key)
     }
 
     /// The pairs in order.

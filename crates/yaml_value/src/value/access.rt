@@ -1,14 +1,28 @@
 //! What a value is, asked for by its kind. Tags around it are looked through.
 
-ghost use Rattle.std.specs.Prelude.{◌≡◌, is_some, option_and_then, option_map};
+ghost use Rattle.std.specs.Prelude.{◌≡◌, is_some, option_and_then, option_map, IfSome, IsSomeAnd};
 ghost use Rattle.yaml_value.specs.Kinds.{boolean_in, is_null, number_in, text_in};
-ghost use Rattle.yaml_value.specs.Find.{get, HasFewPairs, items_in, pairs_in, tagged_in, untagged};
+ghost use Rattle.yaml_value.specs.Find.{at, get, HasFewPairs, IsValueAt, item_in_place, items_in};
+ghost use Rattle.yaml_value.specs.Find.{pairs_in, tagged_in, untagged};
 ghost use Rattle.yaml_value.specs.Numbers.{as_f64, as_i128, as_i64, as_u128, as_u64, float_in};
+ghost use Rattle.yaml_value.specs.PlainValue.{text};
+ghost use Rattle.yaml_value.specs.Small.{IsSmall};
 ghost use Rattle.yaml_value.specs.View.{plain, plain_items, plain_pairs, plain_tagged};
 
 use crate::mapping::Mapping;
 use crate::number::Number;
 use crate::value::{TaggedValue, Value};
+
+// The value in a place.
+fn item_in(items: &[Value], place: usize) -> Option<&Value>
+    ensures { option_map (λ value. plain value.now) result ≡ item_in_place place (plain_items items.now) }
+{
+    if place < items.len() {
+        Some(&items[place])
+    } else {
+        None
+    }
+}
 
 impl Value {
     /// The value under all its tags.
@@ -200,7 +214,9 @@ impl Value {
 
     /// The value at a key that is a text, where it is a mapping that has one. Takes no memory.
     pub fn get(&self, key: &str) -> Option<&Value>
-        ensures { HasFewPairs (pairs_in (plain self.now)) → option_map (λ value. plain value.now) result
+        ensures found { IfSome result (λ value. IsSomeAnd (pairs_in (plain self.now))
+            (λ pairs. IsValueAt (text key.now) pairs (plain value.now))) }
+        ensures few { HasFewPairs (pairs_in (plain self.now)) → option_map (λ value. plain value.now) result
             ≡ get key.now (plain self.now) }
     {
         self.as_mapping()?.get(key)
@@ -208,10 +224,14 @@ impl Value {
 
     /// The element in a place of a sequence, counted from 0, or the value at a key that is this number. Takes no
     /// memory.
-    pub fn at(&self, place: usize) -> Option<&Value> {
-        match self.untagged() {
-            Value::Sequence(items) => items.get(place),
+    pub fn at(&self, place: usize) -> Option<&Value>
+        ensures { IsSmall (plain self.now) → option_map (λ value. plain value.now) result
+            ≡ at place (plain self.now) }
+    {
+        match self {
+            Value::Sequence(items) => item_in(items.as_slice(), place),
             Value::Mapping(mapping) => mapping.at_number(place),
+            Value::Tagged(tagged) => tagged.value.at(place),
             _ => None,
         }
     }

@@ -1,10 +1,12 @@
 //! Equality of values.
 
-ghost use Rattle.std.specs.Prelude.{◌≡◌, ◌<◌};
-ghost use Rattle.yaml_value.specs.Find.{few, place_where};
-ghost use Rattle.yaml_value.specs.PlainEqual.{plain_eq};
+ghost use Rattle.std.specs.Prelude.{◌≡◌, ◌<◌, true, IfSome};
+ghost use Rattle.yaml_value.specs.Find.{few, is_key_at, place_where};
+ghost use Rattle.yaml_value.specs.PlainEqual.{entry_eq, has_all_pairs, has_pair, items_eq, pairs_eq};
+ghost use Rattle.yaml_value.specs.PlainEqual.{plain_eq, tagged_eq};
 ghost use Rattle.yaml_value.specs.PlainValue.{pair_count, text as plain_text};
-ghost use Rattle.yaml_value.specs.View.{entry_pairs, plain, plain_entry};
+ghost use Rattle.yaml_value.specs.Small.{AreItemsSmall, ArePairsSmall, IsSmall, IsSmallMapping};
+ghost use Rattle.yaml_value.specs.View.{entry_pairs, plain, plain_entry, plain_items, plain_pairs, plain_tagged};
 
 use crate::index::{chain_count, first_of};
 use crate::mapping::{Entry, Mapping, count};
@@ -14,20 +16,30 @@ use crate::value::{TaggedValue, Value};
 impl Value {
     /// Whether both are the same value: mappings in whatever order their pairs stand, tags by their names, integers by
     /// value, and a float that is no number as itself. An integer is no float.
-    pub fn equals(&self, other: &Value) -> bool {
+    pub fn equals(&self, other: &Value) -> bool
+        ensures equal { result ≡ true → plain_eq (plain self.now) (plain other.now) ≡ true }
+        ensures small { IsSmall (plain other.now) → result ≡ plain_eq (plain self.now) (plain other.now) }
+    {
         same_value(self, other)
     }
 }
 
 impl Mapping {
     /// Whether both have the same pairs, in whatever order.
-    pub fn equals(&self, other: &Mapping) -> bool {
+    pub fn equals(&self, other: &Mapping) -> bool
+        ensures equal { result ≡ true → pairs_eq (plain_pairs self.now) (plain_pairs other.now) ≡ true }
+        ensures small { IsSmallMapping (plain_pairs other.now)
+            → result ≡ pairs_eq (plain_pairs self.now) (plain_pairs other.now) }
+    {
         same_pairs(self, other)
     }
 }
 
 #[cycle(same)]
-fn same_value(a: &Value, b: &Value) -> bool {
+fn same_value(a: &Value, b: &Value) -> bool
+    ensures equal { result ≡ true → plain_eq (plain a.now) (plain b.now) ≡ true }
+    ensures small { IsSmall (plain b.now) → result ≡ plain_eq (plain a.now) (plain b.now) }
+{
     match (a, b) {
         (Value::Null, Value::Null) => true,
         (Value::Bool(x), Value::Bool(y)) => *x == *y,
@@ -41,17 +53,27 @@ fn same_value(a: &Value, b: &Value) -> bool {
 }
 
 #[cycle(same)]
-fn same_tagged(a: &TaggedValue, b: &TaggedValue) -> bool {
+fn same_tagged(a: &TaggedValue, b: &TaggedValue) -> bool
+    ensures equal { result ≡ true → tagged_eq (plain_tagged a.now) (plain_tagged b.now) ≡ true }
+    ensures small { IsSmall (plain_tagged b.now).1
+        → result ≡ tagged_eq (plain_tagged a.now) (plain_tagged b.now) }
+{
     a.tag.equals(&b.tag) && same_value(&a.value, &b.value)
 }
 
 #[cycle(same)]
-fn same_items(a: &Vec<Value>, b: &Vec<Value>) -> bool {
-    if a.len() != b.len() {
+fn same_items(a: &Vec<Value>, b: &Vec<Value>) -> bool
+    ensures equal { result ≡ true → items_eq (plain_items a.now.items) (plain_items b.now.items) ≡ true }
+    ensures small { AreItemsSmall (plain_items b.now.items)
+        → result ≡ items_eq (plain_items a.now.items) (plain_items b.now.items) }
+{
+    let left = a.as_slice();
+    let right = b.as_slice();
+    if left.len() != right.len() {
         return false;
     }
-    for i in 0..a.len() {
-        if i < b.len() && !same_value(&a[i], &b[i]) {
+    for i in 0..left.len() {
+        if !same_value(&left[i], &right[i]) {
             return false;
         }
     }
@@ -59,12 +81,28 @@ fn same_items(a: &Vec<Value>, b: &Vec<Value>) -> bool {
 }
 
 #[cycle(same)]
-fn same_pairs(a: &Mapping, b: &Mapping) -> bool {
-    if a.entries.len() != b.entries.len() {
+fn same_pairs(a: &Mapping, b: &Mapping) -> bool
+    ensures equal { result ≡ true → pairs_eq (plain_pairs a.now) (plain_pairs b.now) ≡ true }
+    ensures small { IsSmallMapping (plain_pairs b.now)
+        → result ≡ pairs_eq (plain_pairs a.now) (plain_pairs b.now) }
+{
+    let wanted = a.entries.as_slice();
+    let entries = b.entries.as_slice();
+    if wanted.len() != entries.len() {
         return false;
     }
-    for entry in &a.entries {
-        if !is_among(entry, b.entries.as_slice()) {
+    has_all_entries(wanted, entries)
+}
+
+// Whether each of these entries is among the others.
+#[cycle(same)]
+fn has_all_entries(wanted: &[Entry], entries: &[Entry]) -> bool
+    ensures equal { result ≡ true → has_all_pairs (entry_pairs wanted.now) (entry_pairs entries.now) ≡ true }
+    ensures small { IsSmallMapping (entry_pairs entries.now)
+        → result ≡ has_all_pairs (entry_pairs wanted.now) (entry_pairs entries.now) }
+{
+    for i in 0..wanted.len() {
+        if !is_among(&wanted[i], entries) {
             return false;
         }
     }
@@ -73,8 +111,52 @@ fn same_pairs(a: &Mapping, b: &Mapping) -> bool {
 
 // Whether an entry is among these, whose keys are distinct.
 #[cycle(same)]
-fn is_among(wanted: &Entry, entries: &[Entry]) -> bool {
-    match place_of(&wanted.key, entries) {
+fn is_among(wanted: &Entry, entries: &[Entry]) -> bool
+    ensures equal { result ≡ true → has_pair (plain_entry wanted.now) (entry_pairs entries.now) ≡ true }
+    ensures small { IsSmallMapping (entry_pairs entries.now)
+        → result ≡ has_pair (plain_entry wanted.now) (entry_pairs entries.now) }
+{
+    if chain_count(count(entries)) == 0 {
+        is_among_few(wanted, entries)
+    } else {
+        is_among_many(wanted, entries)
+    }
+}
+
+// The same, one by one.
+#[cycle(same)]
+fn is_among_few(wanted: &Entry, entries: &[Entry]) -> bool
+    ensures equal { result ≡ true → has_pair (plain_entry wanted.now) (entry_pairs entries.now) ≡ true }
+    ensures small { ArePairsSmall (entry_pairs entries.now)
+        → result ≡ has_pair (plain_entry wanted.now) (entry_pairs entries.now) }
+{
+    for i in 0..entries.len() {
+        if same_entry(wanted, &entries[i]) {
+            return true;
+        }
+    }
+    false
+}
+
+#[cycle(same)]
+fn same_entry(a: &Entry, b: &Entry) -> bool
+    ensures equal { result ≡ true → entry_eq (plain_entry a.now) (plain_entry b.now) ≡ true }
+    ensures small { IsSmall (plain_entry b.now).0 → IsSmall (plain_entry b.now).1
+        → result ≡ entry_eq (plain_entry a.now) (plain_entry b.now) }
+{
+    same_value(&a.key, &b.key) && same_value(&a.value, &b.value)
+}
+
+// The same, by the index.
+#[cycle(same)]
+fn is_among_many(wanted: &Entry, entries: &[Entry]) -> bool
+    ensures { result ≡ true → has_pair (plain_entry wanted.now) (entry_pairs entries.now) ≡ true }
+{
+    match place_in_chain(
+        &wanted.key,
+        entries,
+        first_of(hash_value(&wanted.key), entries),
+    ) {
         Some(place) if place < entries.len() => same_value(&wanted.value, &entries[place].value),
         _ => false,
     }
@@ -82,16 +164,22 @@ fn is_among(wanted: &Entry, entries: &[Entry]) -> bool {
 
 /// The place of a key among entries with distinct keys: among few it is looked for one by one, among many in its chain
 /// alone.
-#[cycle(same)]
-pub(crate) fn place_of(key: &Value, entries: &[Entry]) -> Option<usize> {
-    if chain_count(entries.len()) == 0 {
+pub(crate) fn place_of(key: &Value, entries: &[Entry]) -> Option<usize>
+    ensures found { IfSome result (λ i. is_key_at (plain key.now) i (entry_pairs entries.now) ≡ true) }
+    ensures small { IsSmallMapping (entry_pairs entries.now)
+        → result ≡ place_where (plain_eq (plain key.now)) (entry_pairs entries.now) }
+{
+    if chain_count(count(entries)) == 0 {
         return place_in_order(key, entries);
     }
     place_in_chain(key, entries, first_of(hash_value(key), entries))
 }
 
-#[cycle(same)]
-fn place_in_order(key: &Value, entries: &[Entry]) -> Option<usize> {
+fn place_in_order(key: &Value, entries: &[Entry]) -> Option<usize>
+    ensures found { IfSome result (λ i. is_key_at (plain key.now) i (entry_pairs entries.now) ≡ true) }
+    ensures small { ArePairsSmall (entry_pairs entries.now)
+        → result ≡ place_where (plain_eq (plain key.now)) (entry_pairs entries.now) }
+{
     for i in 0..entries.len() {
         if same_value(key, &entries[i].key) {
             return Some(i);
@@ -101,7 +189,9 @@ fn place_in_order(key: &Value, entries: &[Entry]) -> Option<usize> {
 }
 
 #[cycle(same)]
-fn place_in_chain(key: &Value, entries: &[Entry], first: usize) -> Option<usize> {
+fn place_in_chain(key: &Value, entries: &[Entry], first: usize) -> Option<usize>
+    ensures { IfSome result (λ i. is_key_at (plain key.now) i (entry_pairs entries.now) ≡ true) }
+{
     let mut left = first;
     for _ in 0..entries.len() {
         let place = left.checked_sub(1)?;
@@ -135,7 +225,8 @@ fn has_text(entry: &Entry, text: &str) -> bool
 
 /// The place of the key of a text among entries with distinct keys. No key is made of the text.
 pub(crate) fn place_of_text(text: &str, entries: &[Entry]) -> Option<usize>
-    ensures { pair_count (entry_pairs entries.now) < few
+    ensures found { IfSome result (λ i. is_key_at (plain_text text.now) i (entry_pairs entries.now) ≡ true) }
+    ensures few { pair_count (entry_pairs entries.now) < few
         → result ≡ place_where (plain_eq (plain_text text.now)) (entry_pairs entries.now) }
 {
     if chain_count(count(entries)) == 0 {
@@ -145,7 +236,8 @@ pub(crate) fn place_of_text(text: &str, entries: &[Entry]) -> Option<usize>
 }
 
 fn text_in_order(text: &str, entries: &[Entry]) -> Option<usize>
-    ensures { result ≡ place_where (plain_eq (plain_text text.now)) (entry_pairs entries.now) }
+    ensures found { IfSome result (λ i. is_key_at (plain_text text.now) i (entry_pairs entries.now) ≡ true) }
+    ensures first { result ≡ place_where (plain_eq (plain_text text.now)) (entry_pairs entries.now) }
 {
     for i in 0..entries.len() {
         if has_text(&entries[i], text) {
@@ -155,7 +247,9 @@ fn text_in_order(text: &str, entries: &[Entry]) -> Option<usize>
     None
 }
 
-fn text_in_chain(text: &str, entries: &[Entry], first: usize) -> Option<usize> {
+fn text_in_chain(text: &str, entries: &[Entry], first: usize) -> Option<usize>
+    ensures { IfSome result (λ i. is_key_at (plain_text text.now) i (entry_pairs entries.now) ≡ true) }
+{
     let mut left = first;
     for _ in 0..entries.len() {
         let place = left.checked_sub(1)?;
