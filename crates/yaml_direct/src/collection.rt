@@ -89,7 +89,7 @@ impl Reader<'_> {
         if is_mark(self.text, b'?', place) {
             return self.marked_entry(place, column, depth);
         }
-        let colon = reach!(self.key(place));
+        let colon = reach!(self.key(place, depth));
         self.part(colon + 1, column + 1, Room::Value, depth)
     }
 
