@@ -181,30 +181,24 @@ impl Reader<'_> {
         self.push_text(end, end, ScalarStyle::Plain, end, next)
     }
 
-    // Adds the node as a sequence.
-    #[inline(never)]
-    pub(crate) fn push_sequence(&mut self, next: usize) -> usize
+    // Adds the start of a collection with the names of this number.
+    #[inline(always)]
+    fn push_start(&mut self, kind: EntryKind, names: u32) -> bool
         requires begun { self.old.start.index ≤ length self.old.text.now }
+        requires named { names ≤ length self.old.tape.names.items }
         ensures kept { Keeps self.old self.new }
-        ensures there { result ≢ no_place → result ≡ next }
     {
-        let mut names = 0;
-        if self.named {
-            match self.keep_names() {
-                Some(id) => names = id,
-                None => return self.starve(),
-            }
-        }
         let start = self.start;
-        if !self.tape.push_sequence(start, names) {
-            return self.starve();
+        if kind == EntryKind::SequenceStart {
+            self.tape.push_sequence(start, names)
+        } else {
+            self.tape.push_mapping(start, names)
         }
-        next
     }
 
-    // Adds the node as a mapping.
+    // Adds the node as a collection, which begins so.
     #[inline(never)]
-    pub(crate) fn push_mapping(&mut self, next: usize) -> usize
+    pub(crate) fn push_collection(&mut self, kind: EntryKind, next: usize) -> usize
         requires begun { self.old.start.index ≤ length self.old.text.now }
         ensures kept { Keeps self.old self.new }
         ensures there { result ≢ no_place → result ≡ next }
@@ -216,8 +210,7 @@ impl Reader<'_> {
                 None => return self.starve(),
             }
         }
-        let start = self.start;
-        if !self.tape.push_mapping(start, names) {
+        if !self.push_start(kind, names) {
             return self.starve();
         }
         next
@@ -245,7 +238,8 @@ impl Reader<'_> {
         ensures text { self.new.text.now ≡ self.old.text.now }
         ensures line { self.new.line_start ≡ self.old.line_start }
         ensures there { result ≢ no_place → result ≡ next }
-        ensures inserted { result ≢ no_place → Inserts self.old.tape self.new.tape count (mapping_start None None) start }
+        ensures inserted { result ≢ no_place
+            → Inserts self.old.tape self.new.tape count (mapping_start None None) start }
         ensures kept { result ≡ no_place → Grows self.old self.new }
     {
         if !self.tape.insert_mapping(count, start) {
