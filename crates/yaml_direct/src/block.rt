@@ -206,7 +206,9 @@ impl Reader<'_> {
         ensures line { IsTrue result → self.now.line_start ≤ start }
         ensures near { IsTrue result → colon ≤ start + 1024 }
     {
-        room != Room::Value && start >= self.line_start && colon <= start + LONGEST_KEY
+        room != Room::Value
+            && start >= self.line_start
+            && colon.saturating_sub(start) <= LONGEST_KEY
     }
 
     // The value behind the first key of a mapping, whose `:` stands here, and the other entries.
@@ -242,7 +244,9 @@ impl Reader<'_> {
         if !self.begins_mapping(start.index, colon, room) || !self.has_depth(first, depth) {
             return NO_PLACE;
         }
-        reach!(self.insert_mapping(start, first, colon));
+        if !self.insert_mapping(start, first) {
+            return NO_PLACE;
+        }
         let column = start.index - self.line_start;
         self.keyed_entries(colon, column, first, depth - 1)
     }

@@ -1,7 +1,7 @@
 //! Events that a reader adds.
 #![tactic(auto, using(crate::proofs::Growing::grows_on, crate::proofs::Growing::grows_same, crate::proofs::Growing::grows_pushed))]
 
-ghost use Rattle.std.specs.Prelude.{◌≡◌, ◌≢◌, ◌≤◌, IfSome, IsTrue, None, false, length, slice_range};
+ghost use Rattle.std.specs.Prelude.{◌≡◌, ◌≢◌, ◌≤◌, IfSome, IsTrue, None, false, length, slice_range, true};
 ghost use Rattle.yaml_direct.specs.Added.{Adds, AddsScalar};
 ghost use Rattle.yaml_direct.specs.Places.{Grows, Keeps, no_place};
 ghost use Rattle.yaml_tape.specs.OnTape.{bound_event, is_bound};
@@ -233,18 +233,16 @@ impl Reader<'_> {
     // Adds a mapping that begins here with the node that was added behind so many events, which keeps its anchor and
     // its tag.
     #[tactic(auto, using(crate::proofs::Growing::grows_same))]
-    pub(crate) fn insert_mapping(&mut self, start: Spot, count: usize, next: usize) -> usize
+    pub(crate) fn insert_mapping(&mut self, start: Spot, count: usize) -> bool
         requires begun { start.index ≤ length self.old.text.now }
         ensures text { self.new.text.now ≡ self.old.text.now }
         ensures line { self.new.line_start ≡ self.old.line_start }
-        ensures there { result ≢ no_place → result ≡ next }
-        ensures inserted { result ≢ no_place
+        ensures inserted { result ≡ true
             → Inserts self.old.tape self.new.tape count (mapping_start None None) start }
-        ensures kept { result ≡ no_place → Grows self.old self.new }
+        ensures kept { result ≡ false → Grows self.old self.new }
     {
-        if !self.tape.insert_mapping(count, start) {
-            return self.starve();
-        }
-        next
+        let there = self.tape.insert_mapping(count, start);
+        self.starved = self.starved || !there;
+        there
     }
 }
