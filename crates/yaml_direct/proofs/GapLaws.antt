@@ -24,7 +24,7 @@ use Rattle.std.proofs.Common.{
 use Rattle.std.proofs.lemmas.List.{get_or_past, get_or-drop, get_or-take, length-take-le, length-drop}
 use Rattle.memchr.specs.Find.{Nowhere, Passes, is_byte}
 use Rattle.yaml_direct.specs.Bytes.{at}
-use Rattle.yaml_direct.specs.Gaps.{InLine, begins_token}
+use Rattle.yaml_direct.specs.Gaps.{Gap, InLine, begins_token, no_gap}
 
 sum_back : (i k : ℕ) → i ≤ k → i + (k - i) ≡ k
 sum_back i k low = omega (arith, low)
@@ -51,6 +51,11 @@ or_true false = refl
 pub or_false : (b : Bool) → (b || false) ≡ b
 or_false true = refl
 or_false false = refl
+
+-- where nothing follows, what stands up to here is all of the gap
+pub whole_gap : (text : List ℕ) (b : Bool) (i j : ℕ)
+    → ((c : Bool) (k : ℕ) → Gap text c j k → Gap text (b || c) i k) → Gap text b i j
+whole_gap text b i j front = subst (λ x. Gap text x i j) (or_false b) (front false j no_gap)
 
 pub behind_end : (text : List ℕ) (i : ℕ) → length text ≤ i → begins_token text i ≡ true
 behind_end text i le = rw (get_or_past text i 0 le) refl

@@ -1,7 +1,9 @@
 -- Events are added and added.
-use Rattle.std.proofs.Common.{List, ◌≡◌, ◌++◌, ◌∷◌, [], ap, length, refl, sym, ◌∙◌, subst, take}
+use Rattle.std.proofs.Common.{ℕ, ◌-◌, List, ◌≡◌, ◌++◌, ◌∷◌, [], ap, length, refl, sym, ◌∙◌, subst, take}
 use Rattle.std.proofs.lemmas.List.{append-nil, append_assoc, length-map, take-append-le, take_all}
 use Rattle.std.proofs.Common.{arith}
+use Rattle.std.proofs.lemmas.List.Edits.{insert-append_right}
+use Rattle.std.specs.List.{insert}
 use Rattle.yaml_base.specs.PlainEvent.{PlainEvent, document_end, document_start, stream_end, stream_start}
 use Rattle.yaml_base.specs.Position.{Position}
 use Rattle.yaml_direct.specs.Documents.{AddsDocument, AddsEnd, IsBegun, IsWholeStream, told_by}
@@ -24,6 +26,25 @@ grows_same a b h = record { more = []; added = h ∙ sym (append-nil (marked_on 
 pub grows_pushed : (a b : Reader) (e : PlainEvent × Position)
     → marked_on b.tape ≡ marked_on a.tape ++ e ∷ [] → Grows a b
 grows_pushed a b e h = record { more = e ∷ []; added = h }
+
+zero_less : (n : ℕ) → 0 ≡ n - n
+zero_less n = omega arith
+
+behind_first : (xs ys : List (PlainEvent × Position)) (n : ℕ) (e : PlainEvent × Position) → n ≡ length xs
+    → insert (xs ++ ys) n e ≡ xs ++ e ∷ ys
+behind_first xs ys n e h =
+    insert-append_right xs ys n n e (sym h) (omega arith)
+    ∙ subst (λ k. xs ++ insert ys k e ≡ xs ++ e ∷ ys) (zero_less n) refl
+
+-- an event behind those that were there at first
+pub grows_inserted : (a b c : Reader) (e : PlainEvent × Position) → Grows a b
+    → marked_on c.tape ≡ insert (marked_on b.tape) (length a.tape.entries.items) e → Grows a c
+grows_inserted a b c e g h = record {
+  more = e ∷ g.more;
+  added = h ∙ ap (λ xs. insert xs (length a.tape.entries.items) e) g.added
+      ∙ behind_first (marked_on a.tape) g.more (length a.tape.entries.items) e
+      (sym (length-map a.tape.entries.items (marked_by a.tape.text.now a.tape.arena.items a.tape.names.items)));
+}
 
 around : {A : Type 0} (xs more : List A) (x y : A)
     → ((xs ++ x ∷ []) ++ more) ++ y ∷ [] ≡ (xs ++ x ∷ more) ++ y ∷ []

@@ -133,7 +133,7 @@ impl Reader<'_> {
     {
         match at(self.text, place) {
             b'|' | b'>' => self.block_scalar(place, least),
-            b'[' | b'{' => self.brackets(place, depth),
+            b'[' | b'{' => self.brackets(place, room, depth),
             b'"' | b'\'' | b'*' => self.leaf(place, least, room, depth),
             _ => self.plain_leaf(place, least, room, depth),
         }
@@ -191,32 +191,71 @@ impl Reader<'_> {
     {
         let colon = colon_behind(self.text, leaf.end);
         let start = self.start.index;
-        if room == Room::Value || depth == 0 || start < self.line_start {
+        if depth == 0 || !self.begins_mapping(start, colon, room) {
             return NO_PLACE;
         }
-        if colon > start + LONGEST_KEY {
-            return NO_PLACE;
-        }
-        let column = start - self.line_start;
         let first = self.tape.entries.len();
         reach!(self.push_mapping_before(leaf.end));
         reach!(self.push_leaf(leaf));
-        let next = reach!(self.part(colon + 1, column + 1, Room::Value, depth - 1));
-        self.entries(next, column, first, depth - 1)
+        self.keyed_entries(colon, start - self.line_start, first, depth - 1)
     }
 
-    // A collection between brackets, which is no key.
+    // Whether a mapping may begin here with a key whose `:` stands there.
+    #[inline(always)]
+    fn begins_mapping(&self, start: usize, colon: usize, room: Room) -> bool
+        ensures line { IsTrue result → self.now.line_start ≤ start }
+        ensures near { IsTrue result → colon ≤ start + 1024 }
+    {
+        room != Room::Value
+            && start >= self.line_start
+            && colon.saturating_sub(start) <= LONGEST_KEY
+    }
+
+    // The value behind the first key of a mapping, whose `:` stands here, and the other entries.
+    #[inline(always)]
+    #[cycle(block)]
+    fn keyed_entries(&mut self, colon: usize, column: usize, first: usize, depth: usize) -> usize
+        requires here { IsHere self.old colon }
+        requires within { colon < length self.old.text.now }
+        requires column { column ≤ length self.old.text.now }
+        ensures reached { Reaches self.old self.new colon result }
+    {
+        let next = reach!(self.part(colon + 1, column + 1, Room::Value, depth));
+        self.entries(next, column, first, depth)
+    }
+
+    // A collection between brackets, or a mapping that begins with it as a key.
     #[inline(never)]
-    fn brackets(&mut self, place: usize, depth: usize) -> usize
+    #[cycle(block)]
+    #[tactic(auto, using(crate::proofs::Growing::grows_on, crate::proofs::Growing::grows_inserted))]
+    fn brackets(&mut self, place: usize, room: Room, depth: usize) -> usize
         requires here { IsHere self.old place }
         requires begun { self.old.start.index ≤ place }
         requires within { place < length self.old.text.now }
         ensures reached { Reaches self.old self.new place result }
     {
+        let start = self.start;
+        let first = self.tape.entries.len();
         let end = reach!(self.flow(place, depth));
-        if colon_behind(self.text, end) != NO_PLACE {
+        let colon = colon_behind(self.text, end);
+        if colon == NO_PLACE {
+            return self.margin(end);
+        }
+        if !self.begins_mapping(start.index, colon, room) || !self.has_depth(first, depth) {
             return NO_PLACE;
         }
-        self.margin(end)
+        if !self.insert_mapping(start, first) {
+            return NO_PLACE;
+        }
+        let column = start.index - self.line_start;
+        self.keyed_entries(colon, column, first, depth - 1)
+    }
+
+    // Whether so many collections can be open that one more is around all that were added behind so many events.
+    #[inline(always)]
+    fn has_depth(&self, first: usize, depth: usize) -> bool
+        ensures { IsTrue result → 0 < depth }
+    {
+        self.tape.entries.len().saturating_sub(first) / 2 < depth
     }
 }

@@ -24,7 +24,7 @@ impl Reader<'_> {
         }
         let column = place - self.line_start;
         let first = self.tape.entries.len();
-        let mut next = reach!(self.push_sequence(place));
+        let mut next = reach!(self.push_collection(EntryKind::SequenceStart, place));
         next = reach!(self.part(next + 1, column + 1, Room::Item, depth - 1));
         'items: while self.is_item(next, column) {
             next = reach!(self.part(next + 1, column + 1, Room::Item, depth - 1));
@@ -48,7 +48,7 @@ impl Reader<'_> {
         }
         let column = place - self.line_start;
         let first = self.tape.entries.len();
-        reach!(self.push_mapping(place));
+        reach!(self.push_collection(EntryKind::MappingStart, place));
         let next = reach!(self.entry(place, column, depth - 1));
         self.entries(next, column, first, depth - 1)
     }
@@ -89,7 +89,7 @@ impl Reader<'_> {
         if is_mark(self.text, b'?', place) {
             return self.marked_entry(place, column, depth);
         }
-        let colon = reach!(self.key(place));
+        let colon = reach!(self.key(place, depth));
         self.part(colon + 1, column + 1, Room::Value, depth)
     }
 

@@ -36,11 +36,11 @@ impl Reader<'_> {
         }
         let first = self.tape.entries.len();
         if at(self.text, place) == b'[' {
-            reach!(self.push_sequence(place));
+            reach!(self.push_collection(EntryKind::SequenceStart, place));
             let end = reach!(self.flow_parts(place + 1, Slot::Item, b']', depth - 1));
             self.push_end(EntryKind::SequenceEnd, spot(end), first, end + 1)
         } else {
-            reach!(self.push_mapping(place));
+            reach!(self.push_collection(EntryKind::MappingStart, place));
             let end = reach!(self.flow_parts(place + 1, Slot::Entry, b'}', depth - 1));
             self.push_end(EntryKind::MappingEnd, spot(end), first, end + 1)
         }

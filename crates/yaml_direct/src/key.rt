@@ -35,7 +35,7 @@ pub(crate) fn colon_behind(text: &[u8], end: usize) -> usize
 impl Reader<'_> {
     // A key in a line, and where its `:` stands.
     #[inline(always)]
-    pub(crate) fn key(&mut self, place: usize) -> usize
+    pub(crate) fn key(&mut self, place: usize, depth: usize) -> usize
         requires start { self.old.start.index ≡ place }
         requires here { IsHere self.old place }
         requires begun { self.old.start.index ≤ place }
@@ -45,7 +45,7 @@ impl Reader<'_> {
         if begins_plain(self.text, false, place) {
             self.plain_key(place)
         } else {
-            self.other_key(place)
+            self.other_key(place, depth)
         }
     }
 
@@ -87,7 +87,7 @@ impl Reader<'_> {
 
     // The same where it is no plain text or has an anchor or a tag.
     #[inline(never)]
-    fn other_key(&mut self, from: usize) -> usize
+    fn other_key(&mut self, from: usize, depth: usize) -> usize
         requires here { IsHere self.old from }
         requires begun { self.old.start.index ≤ from }
         ensures reached { Reaches self.old self.new from result }
@@ -102,6 +102,9 @@ impl Reader<'_> {
             }
             place = spaces_end(self.text, place);
         }
+        if matches!(at(self.text, place), b'[' | b'{') {
+            return self.brackets_key(from, place, depth);
+        }
         let Some(leaf) = find_leaf(self.text, false, place) else {
             return NO_PLACE;
         };
@@ -110,6 +113,24 @@ impl Reader<'_> {
             return NO_PLACE;
         }
         reach!(self.push_leaf(leaf));
+        colon
+    }
+
+    // A key that is a collection between brackets, which begins here or behind its anchor and its tag.
+    #[inline(never)]
+    fn brackets_key(&mut self, from: usize, place: usize, depth: usize) -> usize
+        requires here { IsHere self.old from }
+        requires begun { self.old.start.index ≤ place }
+        requires part { from ≤ place }
+        requires within { place < length self.old.text.now }
+        ensures reached { Reaches self.old self.new from result }
+        ensures inside { result ≢ no_place → result < length self.old.text.now }
+    {
+        let end = reach!(self.flow(place, depth));
+        let colon = reach!(colon_behind(self.text, end));
+        if from < self.line_start || colon > from + LONGEST_KEY {
+            return NO_PLACE;
+        }
         colon
     }
 }

@@ -12,7 +12,8 @@
 //! - U+FEFF but at the head of the text;
 //! - tabs that part tokens, or that stand amid plain text;
 //! - `%TAG` and directives that it does not know;
-//! - keys that are collections between brackets, but within `{ }`;
+//! - collections between brackets as keys of pairs within `[ ]`, and as a mapping's first key where its anchor or its
+//!   tag stands in a line before, or where it has twice as many events as collections may still be open;
 //! - `? ` within brackets, and entries without a key;
 //! - more than 128 open collections;
 //! - a document without `---` behind `...`.

@@ -1,11 +1,12 @@
 //! Events that a reader adds.
 #![tactic(auto, using(crate::proofs::Growing::grows_on, crate::proofs::Growing::grows_same, crate::proofs::Growing::grows_pushed))]
 
-ghost use Rattle.std.specs.Prelude.{◌≡◌, ◌≢◌, ◌≤◌, IfSome, IsTrue, false, length, slice_range};
+ghost use Rattle.std.specs.Prelude.{◌≡◌, ◌≢◌, ◌≤◌, IfSome, IsTrue, None, false, length, slice_range, true};
 ghost use Rattle.yaml_direct.specs.Added.{Adds, AddsScalar};
-ghost use Rattle.yaml_direct.specs.Places.{Keeps, no_place};
+ghost use Rattle.yaml_direct.specs.Places.{Grows, Keeps, no_place};
 ghost use Rattle.yaml_tape.specs.OnTape.{bound_event, is_bound};
-ghost use Rattle.yaml_tape.specs.Pushes.{IsPiece, piece_of};
+ghost use Rattle.yaml_base.specs.PlainEvent.{mapping_start};
+ghost use Rattle.yaml_tape.specs.Pushes.{Inserts, IsPiece, piece_of};
 
 use crate::place::NO_PLACE;
 use crate::reader::Reader;
@@ -180,30 +181,24 @@ impl Reader<'_> {
         self.push_text(end, end, ScalarStyle::Plain, end, next)
     }
 
-    // Adds the node as a sequence.
-    #[inline(never)]
-    pub(crate) fn push_sequence(&mut self, next: usize) -> usize
+    // Adds the start of a collection with the names of this number.
+    #[inline(always)]
+    fn push_start(&mut self, kind: EntryKind, names: u32) -> bool
         requires begun { self.old.start.index ≤ length self.old.text.now }
+        requires named { names ≤ length self.old.tape.names.items }
         ensures kept { Keeps self.old self.new }
-        ensures there { result ≢ no_place → result ≡ next }
     {
-        let mut names = 0;
-        if self.named {
-            match self.keep_names() {
-                Some(id) => names = id,
-                None => return self.starve(),
-            }
-        }
         let start = self.start;
-        if !self.tape.push_sequence(start, names) {
-            return self.starve();
+        if kind == EntryKind::SequenceStart {
+            self.tape.push_sequence(start, names)
+        } else {
+            self.tape.push_mapping(start, names)
         }
-        next
     }
 
-    // Adds the node as a mapping.
+    // Adds the node as a collection, which begins so.
     #[inline(never)]
-    pub(crate) fn push_mapping(&mut self, next: usize) -> usize
+    pub(crate) fn push_collection(&mut self, kind: EntryKind, next: usize) -> usize
         requires begun { self.old.start.index ≤ length self.old.text.now }
         ensures kept { Keeps self.old self.new }
         ensures there { result ≢ no_place → result ≡ next }
@@ -215,8 +210,7 @@ impl Reader<'_> {
                 None => return self.starve(),
             }
         }
-        let start = self.start;
-        if !self.tape.push_mapping(start, names) {
+        if !self.push_start(kind, names) {
             return self.starve();
         }
         next
@@ -234,5 +228,21 @@ impl Reader<'_> {
             return self.starve();
         }
         next
+    }
+
+    // Adds a mapping that begins here with the node that was added behind so many events, which keeps its anchor and
+    // its tag.
+    #[tactic(auto, using(crate::proofs::Growing::grows_same))]
+    pub(crate) fn insert_mapping(&mut self, start: Spot, count: usize) -> bool
+        requires begun { start.index ≤ length self.old.text.now }
+        ensures text { self.new.text.now ≡ self.old.text.now }
+        ensures line { self.new.line_start ≡ self.old.line_start }
+        ensures inserted { result ≡ true
+            → Inserts self.old.tape self.new.tape count (mapping_start None None) start }
+        ensures kept { result ≡ false → Grows self.old self.new }
+    {
+        let there = self.tape.insert_mapping(count, start);
+        self.starved = self.starved || !there;
+        there
     }
 }

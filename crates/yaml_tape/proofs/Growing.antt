@@ -1,11 +1,12 @@
 -- What stands on a tape stays as texts and names are added behind those that are there.
 use Rattle.std.proofs.Common.{ℕ, zero, suc, List, [], ◌∷◌, ◌++◌, ◌≡◌, ◌≤◌, ◌<◌, ◌-◌, ◌+◌}
 use Rattle.std.proofs.Common.{length, add-one, length-append}
-use Rattle.std.proofs.Common.{true≢false, refl, ap, sym, ◌∙◌, subst, arith, Bool, true, false, take, drop}
+use Rattle.std.proofs.Common.{ap₂, true≢false, refl, ap, sym, ◌∙◌, subst, arith, Bool, true, false, take, drop}
 use Rattle.std.proofs.Common.{length-drop, map, set, get_or, replicate}
 use Rattle.std.specs.Prelude.{slice_range, slice_get, All, Option, Some, None, IsTrue}
-use Rattle.std.proofs.lemmas.List.{drop-append-le, take-append-le, map-append, append-nil, take_all, take-map}
-use Rattle.std.proofs.lemmas.List.Elements.{All-append, All-take}
+use Rattle.std.proofs.lemmas.List.{drop-append-le, drop-map, take-append-le, map-append, append-nil, take_all, take-map}
+use Rattle.std.proofs.lemmas.List.Elements.{All-append, All-cons, All-drop, All-take}
+use Rattle.std.specs.List.{insert}
 use Rattle.std.proofs.Math.Seq.{map-set_same, drop-append_seam}
 use Rattle.yaml_base.specs.PlainEvent.{PlainEvent}
 use Rattle.yaml_base.specs.Position.{Position}
@@ -187,3 +188,18 @@ cut text arena names es count = sym (take-map (marked_by text arena names) count
 pub inside_cut : (text arena : List ℕ) (names : List Names) (es : List Entry) (count : ℕ)
     → All (IsInside text arena names) es → All (IsInside text arena names) (take count es)
 inside_cut text arena names es count h = All-take (IsInside text arena names) count es h
+
+-- an entry between others
+pub inserted : (text arena : List ℕ) (names : List Names) (es : List Entry) (i : ℕ) (e : Entry)
+    → marked_of text arena names (insert es i e)
+    ≡ insert (marked_of text arena names es) i (marked_by text arena names e)
+inserted text arena names es i e =
+    let f : Entry → PlainEvent × Position = marked_by text arena names in
+    map-append f (take i es) (e ∷ drop i es)
+    ∙ ap₂ (λ p q. p ++ f e ∷ q) (sym (take-map f i es)) (sym (drop-map f i es))
+
+pub inside_inserted : (text arena : List ℕ) (names : List Names) (es : List Entry) (i : ℕ) (e : Entry)
+    → All (IsInside text arena names) es → IsInside text arena names e → All (IsInside text arena names) (insert es i e)
+inside_inserted text arena names es i e h n =
+    let P : Entry → Type 0 = IsInside text arena names in
+    All-append P (take i es) (e ∷ drop i es) (All-take P i es h) (All-cons P e (drop i es) n (All-drop P i es h))

@@ -1,5 +1,6 @@
 -- What is added to a tape.
 use Rattle.std.specs.Prelude.{ℕ, List, [], ◌∷◌, ◌++◌, ◌≡◌, ◌≤◌, Option, Some, true, length, slice_get, slice_range}
+use Rattle.std.specs.List.{insert}
 use Rattle.yaml_base.specs.PlainEvent.{PlainEvent, scalar}
 use Rattle.yaml_base.specs.Position.{Position}
 use Rattle.yaml_base.specs.declared.event.ScalarStyle.{ScalarStyle}
@@ -22,6 +23,12 @@ pub record Stays (old new : Tape) : Type 0 where
 pub record Adds (old new : Tape) (event : PlainEvent) (spot : Spot) : Type 0 where
   pub text : new.text.now ≡ old.text.now
   pub events : marked_on new ≡ marked_on old ++ (event, position_at old.text.now spot.index spot.late) ∷ []
+
+-- the text stays, and one event was added behind so many and before the others, with its mark
+pub record Inserts (old new : Tape) (count : ℕ) (event : PlainEvent) (spot : Spot) : Type 0 where
+  pub text : new.text.now ≡ old.text.now
+  pub events : marked_on new
+      ≡ insert (marked_on old) count (event, position_at old.text.now spot.index spot.late)
 
 -- the text of a piece
 abbrev pub piece_of : Tape → Piece → List ℕ

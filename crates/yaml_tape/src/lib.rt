@@ -8,6 +8,7 @@
 
 mod arena;
 mod entry;
+mod insert;
 mod nodes;
 mod tape;
 

@@ -157,7 +157,7 @@ impl<'t> Tape<'t> {
     // Keeps where the collection ends whose start stands in this place, if one does.
     #[inline(always)]
     #[tactic(auto, using(crate::proofs::Growing::closed, crate::proofs::Ends::ends_here, crate::proofs::Ends::ends_not, crate::proofs::Ends::ends_past))]
-    fn close(&mut self, start: usize, end: u32)
+    pub(crate) fn close(&mut self, start: usize, end: u32)
         ensures kept { Stays self.old self.new }
         ensures linked { EndsAt self.new.entries.items start end }
         ensures count { length self.new.entries.items ≡ length self.old.entries.items }

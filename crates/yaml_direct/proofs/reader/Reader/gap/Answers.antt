@@ -1,6 +1,6 @@
 use Rattle.std.proofs.Common.{◌≡◌, ◌==◌, ◌||◌, not, true, false, sym, subst, ◌∙◌, arith}
-use Rattle.yaml_direct.specs.Gaps.{Gap, a_blank, a_comment, a_line_feed, a_return, no_gap}
-use Rattle.yaml_direct.proofs.GapLaws.{or_true, or_false, behind_end, counted}
+use Rattle.yaml_direct.specs.Gaps.{Gap, a_blank, a_comment, a_line_feed, a_return}
+use Rattle.yaml_direct.proofs.GapLaws.{behind_end, counted, or_true, whole_gap}
 use Rattle.yaml_direct.proofs.reader.Reader.gap.Goals as goal
 
 pub gap-preserved-in-32 : goal.gap-preserved-in-32
@@ -74,16 +74,14 @@ gap-preserved c =
 
 pub returns-after-gap-clause-between : goal.returns-after-gap-clause-between
 returns-after-gap-clause-between c = λ _. record {
-  gap = subst (λ b. Gap c.args.self.now.text.now b c.args.from c.gap.place)
-      (or_false (not (c.gap.self.line == c.args.self.now.line)))
-      (c.gap.invariant.front false c.gap.place no_gap);
+  gap = whole_gap c.args.self.now.text.now (not (c.gap.self.line == c.args.self.now.line)) c.args.from c.gap.place
+      c.gap.invariant.front;
   next = behind_end c.args.self.now.text.now c.gap.place (grind (arith, c.gap-test.false));
 }
 
 pub returns-in_default-clause-between : goal.returns-in_default-clause-between
 returns-in_default-clause-between c = λ _. record {
-  gap = subst (λ b. Gap c.args.self.now.text.now b c.args.from c.gap.place)
-      (or_false (not (c.gap.self.line == c.args.self.now.line)))
-      (c.gap.invariant.front false c.gap.place no_gap);
+  gap = whole_gap c.args.self.now.text.now (not (c.gap.self.line == c.args.self.now.line)) c.args.from c.gap.place
+      c.gap.invariant.front;
   next = grind (arith, c.in_default);
 }
