@@ -244,7 +244,7 @@ function row(    cut, head, lines, want, word, words, i, task, flags, whole, ste
     else if (task == "emit") print_emitted(lines)
     else if (task == "schema") print_shapes(lines)
     else if (task == "expected") { }
-    else if (task ~ /^text|^events|_text|^handed/) print substr(lines, 2, length(lines) - 2)
+    else if (task ~ /^text|^events|_text|^(handed|parsers|direct)$/) print substr(lines, 2, length(lines) - 2)
     else if (whole) print_events(lines == "-" ? "" : lines)
     else print_events(lines == "-" ? "+STR; -STR" : "+STR; +DOC; " lines "; -DOC; -STR")
     answer(task, want)
@@ -266,8 +266,8 @@ function number_shapes(line,    name) {
 
 BEGIN {
     # what is asked under no shape, and what is asked of the layers below a reading
-    ALONE = "^(loaded|loaded_text|marked|events|cursor|emit|handed)$"
-    LAYERS = "^(loaded|loaded_text|marked|events|cursor|call|fits|expected)$"
+    ALONE = "^(loaded|loaded_text|marked|events|parsers|direct|cursor|emit|handed)$"
+    LAYERS = "^(loaded|loaded_text|marked|events|parsers|direct|cursor|call|fits|expected)$"
 }
 FNR == NR { all[lines_read = FNR] = $0; next }   # the first reading keeps the lines
 FNR == 1 { topic = FILENAME; sub(/.*\//, "", topic); sub(/\.rows$/, "", topic); number_shapes(0) }

@@ -16,6 +16,10 @@ pub enum LayerTask {
     LoadText,
     /// Its one line spells a YAML text, whose events are to be shown.
     Events,
+    /// Its one line spells a YAML text, whose events by both parsers are to be compared.
+    Parsers,
+    /// Its one line spells a YAML text, which the direct parser is to read document by document.
+    Direct,
     /// Its first line has steps of a cursor, to be done in the first document of the events behind it.
     Steps,
 }
@@ -28,6 +32,8 @@ impl LayerTask {
             "marked" => Some(LayerTask::LoadMarked),
             "loaded_text" => Some(LayerTask::LoadText),
             "events" => Some(LayerTask::Events),
+            "parsers" => Some(LayerTask::Parsers),
+            "direct" => Some(LayerTask::Direct),
             "cursor" => Some(LayerTask::Steps),
             _ => Some(LayerTask::Call(number(word.strip_prefix("call:")?)?)),
         }

@@ -1,17 +1,21 @@
 //! What the layers below a whole reading tell, in lines.
 
 mod calls;
+mod direct;
 mod doc_event;
 mod events;
 mod loaded;
+mod parsers;
 mod steps;
 
 use super::refused;
 use crate::layer_task::LayerTask;
 use calls::read_by_calls;
 pub use calls::read_leaf;
+use direct::step_through;
 use events::show_events_of;
 use loaded::{load_events, load_text};
+use parsers::compare_parsers;
 use std::alloc::{AllocError, Global};
 use steps::do_steps;
 use yaml_lines::{Input, InputFault, LineFault};
@@ -56,6 +60,8 @@ fn told(alloc: Global, schema: &Schema, task: LayerTask, lines: &[u8]) -> Result
         LayerTask::LoadMarked => load_events(alloc, lines, true),
         LayerTask::LoadText => load_text(alloc, lines),
         LayerTask::Events => show_events_of(alloc, lines),
+        LayerTask::Parsers => compare_parsers(alloc, lines),
+        LayerTask::Direct => step_through(alloc, lines),
         LayerTask::Steps => do_steps(alloc, schema, lines),
     }
 }
