@@ -10,8 +10,8 @@ use std::alloc::{AllocError, Global};
 use std::marker::Model;
 use yaml_parse::Events;
 
-/// A place in a text behind whole documents, with the events that were handed out of them: from there on the text may be
-/// read by its tokens.
+/// A place in a text behind whole documents, with the events that were handed out of them: from there on the text may
+/// be read by its tokens.
 #[derive(Drop)]
 pub struct Bookmark<'a> {
     given: Given<'a>,

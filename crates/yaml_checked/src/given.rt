@@ -1,6 +1,7 @@
 //! The events that were handed out, and what is known of them.
 
-ghost use Rattle.std.specs.Prelude.{◌≡◌, ◌++◌, ◌∷◌, ◌≢◌, ◌≤◌, [], All, IfErr, IfOk, IfSome, IsSomeAnd, None, Some, length, true};
+ghost use Rattle.std.specs.Prelude.{◌≡◌, ◌++◌, ◌∷◌, ◌≢◌, ◌≤◌, [], All, IfErr, IfOk, IfSome, IsSomeAnd, None, Some};
+ghost use Rattle.std.specs.Prelude.{length, true};
 ghost use Rattle.std.proofs.Props.{props};
 ghost use Rattle.yaml_base.specs.MarkedEvents.{plain_events};
 ghost use Rattle.yaml_base.specs.Places.{place_of};

@@ -2,6 +2,7 @@
 pub mod BatchLaws
 pub mod EndLaws
 pub mod ReadLaws
+pub mod SourceLaws
 pub mod StageLaws
 pub mod StartLaws
 pub mod StateLaws

@@ -9,19 +9,19 @@ use Rattle.yaml_documents.specs.TextEvents.{AreParsed}
 use Rattle.yaml_documents.specs.declared.batch.Stage.TheVariants.{Ended, Reading}
 use Rattle.yaml_documents.specs.inner.Filling.{IsBetween, IsFull, IsLast, begun_in, front, left_documents}
 use Rattle.yaml_documents.specs.inner.Pending.{ComeNext}
+use Rattle.yaml_documents.specs.inner.Sources.{PlainSource}
 use Rattle.yaml_documents.specs.inner.Stages.{IsAt}
 use Rattle.yaml_load.proofs.Words.{Event, Input, IsWellFormed, PlainDocument, PlainFault, Position}
 use Rattle.yaml_load.proofs.Words.{document_from, documents_of, plain_events}
 use Rattle.yaml_load.proofs.Words.{plain_marked}
-use Rattle.yaml_parse.specs.PlainReading.{PlainReading}
 
 -- a full batch
-pub full_at : (last : Option Position) (events : PlainReading) (mark : Position) {text : List ℕ}
+pub full_at : (last : Option Position) (events : PlainSource) (mark : Position) {text : List ℕ}
     {given : List (Event × Position)} {taken taken_now : Input} {documents : List PlainDocument} → IsBetween last given
     → taken ≡ front last → IsFull text given taken events.given taken_now → events.text ≡ text
-    → documents ≡ begun_in None taken_now
+    → documents ≡ begun_in None taken_now → events.back ≡ events.given
     → IsAt text (Reading events (Some mark)) documents (begun_in None (plain_marked given))
-full_at last events mark {text} {given} {taken} {taken_now} {documents} between in_front full of_text begun =
+full_at last events mark {text} {given} {taken} {taken_now} {documents} between in_front full of_text begun back =
     let before = begun_in None (plain_marked given) in
     let more = full.reads.more in
     let whole = begun_in None more in
@@ -35,11 +35,21 @@ full_at last events mark {text} {given} {taken} {taken_now} {documents} between 
       behind = record {
         of_text = of_text;
         between = (full.between, λ none. some_behind before whole full.some (sym all ∙ none));
+        back = back;
         begun = ap (λ (ds : List PlainDocument). before ++ ds) is_whole ∙ sym all;
       };
       next = subst (ComeNext text false before) (sym is_whole) full.reads.next;
       none = λ failed. absurd (cc);
     }
+
+-- it has a document
+pub full_some : (last : Option Position) {text : List ℕ} {given given_now : List (Event × Position)}
+    {taken taken_now : Input} → taken ≡ front last → IsFull text given taken given_now taken_now
+    → begun_in None taken_now ≡ [] → ⊥
+full_some last in_front full none =
+    full.some (sym (ap (begun_in None) (full.reads.taken_more
+    ∙ ap (λ (es : Input). es ++ full.reads.more) in_front)
+    ∙ ap (map (document_from None)) (front_starts last full.reads.more)) ∙ none)
 
 -- the documents of a text whose events were read to their end
 all_read : (text : List ℕ) (given : List (Event × Position)) (fault : Option PlainFault) → AreParsed text given fault

@@ -6,24 +6,34 @@ ghost use Rattle.yaml_base.specs.MarkedEvents.{events_in, plain_marked};
 ghost use Rattle.yaml_base.specs.Stream.{IsWellFormed};
 ghost use Rattle.yaml_base.specs.StreamMachine.{before_stream, between_documents, run};
 ghost use Rattle.yaml_documents.specs.inner.Filling.{IsBetween, begun_in, is_at_end, left_documents};
+ghost use Rattle.yaml_documents.specs.inner.Batches.{IsBatchOf};
 ghost use Rattle.yaml_documents.specs.inner.Stages.{IsAt, has_ended, has_failed};
 
 use crate::filling::{Filled, begin, fill};
 use crate::pending::Pending;
+use crate::source::TextEvents;
 use std::alloc::Global;
 use yaml_base::{Event, Mark, ParserFault, Result};
 use yaml_load::LoaderBuilder;
-use yaml_parse::{Ending, Events};
 
 // What comes behind the documents that are loaded.
 #[derive(Drop)]
 pub(crate) enum Stage<'de> {
     // The events that are left, with the mark of the last document's end, if one was loaded.
-    Reading(Events<'de>, Option<Mark>),
+    Reading(TextEvents<'de>, Option<Mark>),
     // Nothing.
     Ended,
     // Nothing, since memory was wanting.
     Failed,
+}
+
+// What became of a batch.
+#[derive(Drop)]
+enum Loaded<'de> {
+    // It has these documents, and this comes behind them.
+    Batch(Pending<'de>, Stage<'de>),
+    // The direct parser left it, so it is read anew, by these events.
+    Left(TextEvents<'de>),
 }
 
 // The documents of the events that were taken, the last of which ends with them, at this mark.
@@ -74,32 +84,88 @@ fn left<'de>(
     }
 }
 
-// The documents of the next batch, and what comes behind them.
-pub(crate) fn load_batch<'de>(
+// The documents of the next batch and what comes behind them, unless the direct parser leaves it.
+fn try_batch<'de>(
     alloc: Global,
-    mut events: Events<'de>,
+    mut events: TextEvents<'de>,
+    last: Option<Mark>,
+) -> Result<Loaded<'de>>
+    requires between { IsBetween last events.given }
+    requires back { events.back ≡ events.given }
+    ensures loaded { IfOk result (IsBatchOf events.entry) }
+    ensures memory { IfErr result (λ cause. is_memory cause ≡ true) }
+{
+    let before = last.is_some();
+    let mut builder = begin(alloc, last)?;
+    let filled = fill(alloc, &mut events, &mut builder)?;
+    match filled {
+        Filled::Full(mark) => {
+            if !events.keep_place(alloc) {
+                return Ok(Loaded::Left(events.by_tokens(alloc)?));
+            }
+            let documents = ended(builder, mark)?;
+            Ok(Loaded::Batch(documents, Stage::Reading(events, Some(mark))))
+        }
+        Filled::Last(some) => {
+            if events.is_left() {
+                return Ok(Loaded::Left(events.by_tokens(alloc)?));
+            }
+            events.has_events();
+            let fault = events.finish(alloc)?;
+            let documents = left(builder, fault, before, some)?;
+            Ok(Loaded::Batch(documents, Stage::Ended))
+        }
+    }
+}
+
+// The documents of the next batch by tokens, which leave nothing, and what comes behind them.
+fn load_by_tokens<'de>(
+    alloc: Global,
+    events: TextEvents<'de>,
     last: Option<Mark>,
 ) -> Result<(Pending<'de>, Stage<'de>)>
     requires between { IsBetween last events.given }
+    requires back { events.back ≡ events.given }
+    requires by_tokens { events.by_tape ≡ false }
     ensures at { IfOk result (λ r.
         IsAt events.entry.text r.1 r.0 (begun_in None (plain_marked events.entry.given))) }
     ensures none { IfOk result (λ r. r.0 ≡ [] → has_ended r.1 ≡ true) }
     ensures goes_on { IfOk result (λ r. has_failed r.1 ≡ false) }
     ensures memory { IfErr result (λ cause. is_memory cause ≡ true) }
 {
-    let before = last.is_some();
-    let mut builder = begin(alloc, last)?;
-    let filled = fill(&mut events, &mut builder)?;
-    match filled {
-        Filled::Full(mark) => {
-            let documents = ended(builder, mark)?;
-            Ok((documents, Stage::Reading(events, Some(mark))))
-        }
-        Filled::Last(some) => {
-            events.has_events();
-            let Ending { fault, .. } = events.finish(alloc)?;
-            let documents = left(builder, fault, before, some)?;
-            Ok((documents, Stage::Ended))
-        }
+    match try_batch(alloc, events, last)? {
+        Loaded::Batch(pending, stage) => Ok((pending, stage)),
+        Loaded::Left(_) => unreachable!(),
+    }
+}
+
+// The same mark, if there is one.
+fn same(last: &Option<Mark>) -> Option<Mark>
+    ensures { result ≡ last.now }
+{
+    match last {
+        Some(mark) => Some(*mark),
+        None => None,
+    }
+}
+
+// The documents of the next batch, and what comes behind them: by the direct parser or else by tokens.
+pub(crate) fn load_batch<'de>(
+    alloc: Global,
+    events: TextEvents<'de>,
+    last: Option<Mark>,
+) -> Result<(Pending<'de>, Stage<'de>)>
+    requires between { IsBetween last events.given }
+    requires back { events.back ≡ events.given }
+    ensures at { IfOk result (λ r.
+        IsAt events.entry.text r.1 r.0 (begun_in None (plain_marked events.entry.given))) }
+    ensures none { IfOk result (λ r. r.0 ≡ [] → has_ended r.1 ≡ true) }
+    ensures goes_on { IfOk result (λ r. has_failed r.1 ≡ false) }
+    ensures memory { IfErr result (λ cause. is_memory cause ≡ true) }
+{
+    let kept = same(&last);
+    match try_batch(alloc, events, last)? {
+        Loaded::Batch(pending, stage) => Ok((pending, stage)),
+        Loaded::Left(again) => load_by_tokens(alloc, again, kept),
     }
 }

@@ -41,7 +41,7 @@ fn hand_over<'de>(
                 }
             }
             Ok(None) => return Ok(true),
-            Err(Refusal::Untrue) => return Ok(false),
+            Err(Refusal::Untrue | Refusal::Left) => return Ok(false),
             Err(Refusal::OutOfMemory) => return Err(Error::new(Cause::Memory)),
         }
     }
@@ -56,7 +56,7 @@ pub(crate) fn load_directly<'de>(alloc: Global, text: &'de [u8]) -> Result<Optio
     let Some(mut events) = TapeEvents::new(alloc, text)? else {
         return Ok(None);
     };
-    let mut builder = LoaderBuilder::with_capacity(alloc, events.len())?;
+    let mut builder = LoaderBuilder::with_capacity(alloc, events.size_hint())?;
     if !hand_over(alloc, &mut events, &mut builder)? {
         return Ok(None);
     }

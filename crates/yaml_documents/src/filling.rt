@@ -6,12 +6,13 @@ ghost use Rattle.yaml_base.specs.MarkedEvents.{plain_marked};
 ghost use Rattle.yaml_base.specs.PlainEvent.{event_of};
 ghost use Rattle.yaml_documents.specs.TextEvents.{AreEventsOf};
 ghost use Rattle.yaml_documents.specs.inner.Filling.{Agree, IsFilled, ReadsOn, front, is_last};
+ghost use Rattle.yaml_documents.specs.inner.Sources.{Stays};
 ghost use Rattle.yaml_read.specs.Documents.{is_document_end, is_open_after};
 
+use crate::source::TextEvents;
 use std::alloc::Global;
 use yaml_base::{Event, Mark, Result};
 use yaml_load::LoaderBuilder;
-use yaml_parse::Events;
 
 // How many events a batch has at least, unless the text has no more: it ends behind the document that reaches so many.
 const ENOUGH: usize = 256;
@@ -56,12 +57,13 @@ pub(crate) fn begin<'de>(alloc: Global, last: Option<Mark>) -> Result<LoaderBuil
 // that are left, where no document ends among them. Behind a document so many fewer are missing for a batch to have
 // enough.
 fn read_on<'de>(
-    events: &mut Events<'de>,
+    alloc: Global,
+    events: &mut TextEvents<'de>,
     builder: &mut LoaderBuilder<'de>,
     missing: &mut usize,
 ) -> Result<Option<Mark>>
     requires agree { Agree events.old.given builder.old }
-    ensures text { events.new.text ≡ events.old.text }
+    ensures stays { Stays events.old events.new }
     ensures on { IfOk result (λ end.
         ReadsOn events.old.given builder.old events.new.given builder.new end) }
     ensures of_text { IfOk result (λ end. IfSome end (λ _. AreEventsOf events.old.text events.new.given)) }
@@ -70,8 +72,7 @@ fn read_on<'de>(
     ensures memory { IfErr result (λ cause. is_memory cause ≡ true) }
 {
     let mut left = *missing;
-    'events: while events.has_next()? {
-        let (event, mark) = events.take_next();
+    'events: while let Some((event, mark)) = events.next_event(alloc)? {
         events.has_events();
         let ends = is_end(&event);
         if let Err(fault) = builder.push(event, mark) {
@@ -88,24 +89,25 @@ fn read_on<'de>(
 
 // Hands the events of documents over to a loader, until it has enough of them or all that are left.
 pub(crate) fn fill<'de>(
-    events: &mut Events<'de>,
+    alloc: Global,
+    events: &mut TextEvents<'de>,
     builder: &mut LoaderBuilder<'de>,
 ) -> Result<Filled>
     requires agree { Agree events.old.given builder.old }
     requires closed { is_open_after false (plain_marked events.old.given) ≡ false }
-    ensures text { events.new.text ≡ events.old.text }
+    ensures stays { Stays events.old events.new }
     ensures filled { IfOk result (λ filled.
         IsFilled events.old.text events.old.given builder.old events.new.given builder.new filled) }
     ensures over { IfOk result (λ filled. is_last filled ≡ true → events.new.over ≡ true) }
     ensures memory { IfErr result (λ cause. is_memory cause ≡ true) }
 {
     let mut missing = ENOUGH;
-    let mut end = match read_on(events, builder, &mut missing)? {
+    let mut end = match read_on(alloc, events, builder, &mut missing)? {
         Some(mark) => mark,
         None => return Ok(Filled::Last(false)),
     };
     'documents: while missing > 0 {
-        match read_on(events, builder, &mut missing)? {
+        match read_on(alloc, events, builder, &mut missing)? {
             Some(mark) => end = mark,
             None => return Ok(Filled::Last(true)),
         }

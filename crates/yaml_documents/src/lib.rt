@@ -9,6 +9,8 @@ mod filling;
 mod input;
 mod pending;
 mod reader;
+mod source;
+mod taped;
 mod whole;
 
 pub use input::{ReaderFault, read_bytes};

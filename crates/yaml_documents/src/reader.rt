@@ -8,10 +8,10 @@ ghost use Rattle.yaml_documents.specs.PlainReader.{fresh};
 use crate::ahead::Ahead;
 use crate::batch::Stage;
 use crate::pending::Pending;
+use crate::source::TextEvents;
 use std::alloc::Global;
 use std::marker::Model;
 use yaml_base::{History, Result};
-use yaml_parse::Events;
 use yaml_read::Document;
 
 /// The documents of a YAML text, of which the first were handed out. They are parsed and loaded ahead, some at a time:
@@ -61,7 +61,7 @@ impl<'de> DocumentReader<'de> {
         ensures ok { IfOk result (λ reader. reader ≡ fresh text.now) }
         ensures memory { IfErr result (λ cause. is_memory cause ≡ true) }
     {
-        let events = Events::new(alloc, text)?;
+        let events = TextEvents::new(alloc, text)?;
         Ok(DocumentReader {
             alloc,
             text,

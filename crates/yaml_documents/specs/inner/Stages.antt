@@ -8,7 +8,7 @@ use Rattle.yaml_documents.specs.declared.batch.Stage.{Stage}
 use Rattle.yaml_documents.specs.declared.batch.Stage.TheVariants.{Ended, Failed, Reading}
 use Rattle.yaml_documents.specs.inner.Filling.{IsBetween, begun_in}
 use Rattle.yaml_documents.specs.inner.Pending.{ComeNext}
-use Rattle.yaml_parse.specs.PlainReading.{PlainReading}
+use Rattle.yaml_documents.specs.inner.Sources.{PlainSource}
 
 -- the text was read to its end
 abbrev pub has_ended : Stage → Bool
@@ -20,11 +20,13 @@ abbrev pub has_failed : Stage → Bool
 has_failed Failed = true
 has_failed _ = false
 
--- the events of the text that were given end behind the documents, and these begin in them
-pub record AreLoaded (text : List ℕ) (events : PlainReading) (last : Option Position) (documents : List PlainDocument)
+-- the events of the text that were given end behind the documents, and these begin in them; their end is the place to
+-- go back to
+pub record AreLoaded (text : List ℕ) (events : PlainSource) (last : Option Position) (documents : List PlainDocument)
     : Type 0 where
   pub of_text : events.text ≡ text
   pub between : IsBetween last events.given
+  pub back : events.back ≡ events.given
   pub begun : documents ≡ begun_in None (plain_marked events.given)
 
 -- the documents of the text that were loaded where the reader stands
