@@ -47,11 +47,11 @@ impl Reader<'_> {
         ensures inside { result ≢ no_place → result < length self.old.text.now }
     {
         let text = self.text;
-        if at(text, end) == b':' && !is_gap(text, end + 1) {
-            return NO_PLACE;
-        }
         let line = self.line;
         let next = reach!(self.flow_gap(end));
+        if at(text, next) == b':' && !is_gap(text, next + 1) {
+            return NO_PLACE;
+        }
         if self.line != line && at(text, next) != b':' {
             return self.flow_plain_lines(place, end, next, slot);
         }
