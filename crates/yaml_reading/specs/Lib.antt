@@ -1,0 +1,4 @@
+pub mod BlockReader
+pub mod BracketReader
+pub mod DocumentReader
+pub mod Readers
