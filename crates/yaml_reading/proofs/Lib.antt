@@ -17,4 +17,5 @@ pub mod KeyLines
 pub mod KeyReading
 pub mod LeafReading
 pub mod Options
+pub mod RefusedTexts
 pub mod SameNodes

@@ -1,0 +1,61 @@
+-- Of texts in which nothing stands the reader reads nothing.
+use Rattle.std.proofs.Common.{◌≡◌, ℕ, Bool, true, false, List, length, Option, None, refl, sym, ap, ◌∙◌}
+use Rattle.std.specs.Prelude.{option_map}
+use Rattle.yaml_base.specs.PlainEvent.{stream_end}
+use Rattle.yaml_grammar.specs.Bytes.{is_text}
+use Rattle.yaml_grammar.specs.Nodes.{Marked, end_mark}
+use Rattle.yaml_reading.specs.BlockReader.{begins_entry, behind_at, column_at, columns_at, content_at, entry_at, key_at}
+use Rattle.yaml_reading.specs.BlockReader.{key_behind, node_at, node_behind}
+use Rattle.yaml_reading.specs.BracketReader as flow
+use Rattle.yaml_reading.specs.BracketReader.{brackets_at, flow_at, flow_behind, item_at, pair_at, parts_at, value_at}
+use Rattle.yaml_reading.specs.DocumentReader.{documents_at, root_at, root_node, stream_step}
+use Rattle.yaml_reading.specs.Readers.{and_event}
+use Rattle.yaml_reading.specs.Refused.{NothingStands, NothingStandsInThese}
+use Rattle.yaml_reading.proofs.DocumentLaws.{text_read}
+use Rattle.yaml_reading.proofs.DocumentSteps.{text_is}
+use Rattle.yaml_reading.proofs.Options.{no_some}
+
+-- of which nothing is read, whatever characters are allowed
+abbrev Unread : List ℕ → Type 0
+Unread text = ◌≡◌ {A = Option (List Marked)} (stream_step text true) None
+
+none_either : (text : List ℕ) (x : Bool) → Unread text → stream_step text x ≡ None
+none_either text true h = h
+none_either text false h = refl
+
+nothing_stands : (text : List ℕ) → Unread text → NothingStands text
+nothing_stands text h documents s =
+    no_some _
+    (sym (text_is text (is_text text) refl
+    ∙ ap (option_map (λ es. and_event es (stream_end, end_mark text 0 (length text)))) (none_either text (is_text text) h))
+    ∙ text_read text documents s)
+
+pub nothing_stands_in_these : NothingStandsInThese
+unfolding documents_at root_at root_node node_at node_behind columns_at content_at begins_entry key_at key_behind
+    behind_at column_at entry_at brackets_at flow_at flow_behind item_at pair_at parts_at value_at flow.entry_at
+nothing_stands_in_these = record {
+  two_values_in_a_line = nothing_stands _ refl;
+  a_key_over_lines = nothing_stands _ refl;
+  a_sequence_in_its_keys_line = nothing_stands _ refl;
+  a_mapping_in_the_markers_line = nothing_stands _ refl;
+  a_mapping_behind_a_sequence = nothing_stands _ refl;
+  an_entry_less_far_in = nothing_stands _ refl;
+  an_item_less_far_in = nothing_stands _ refl;
+  an_open_bracket = nothing_stands _ refl;
+  another_bracket = nothing_stands _ refl;
+  text_behind_a_bracket = nothing_stands _ refl;
+  an_open_quote = nothing_stands _ refl;
+  an_unknown_escape = nothing_stands _ refl;
+  text_behind_a_quote = nothing_stands _ refl;
+  a_tab_before_a_key = nothing_stands _ refl;
+  two_anchors = nothing_stands _ refl;
+  an_anchored_alias = nothing_stands _ refl;
+  a_reserved_indicator = nothing_stands _ refl;
+  two_commas = nothing_stands _ refl;
+  a_directive_alone = nothing_stands _ refl;
+  another_version = nothing_stands _ refl;
+  a_tab_in_an_empty_block = nothing_stands _ refl;
+  a_header_of_two_digits = nothing_stands _ refl;
+  a_document_in_quotes = nothing_stands _ refl;
+  text_behind_the_end = nothing_stands _ refl;
+}
