@@ -1,5 +1,5 @@
 -- Texts in which no documents stand.
-use Rattle.std.specs.Prelude.{ℕ, List, codes}
+use Rattle.std.specs.Prelude.{ℕ, List, [], ◌∷◌, ◌++◌, codes, replicate}
 use Rattle.yaml_grammar.specs.Documents.{Stands}
 use Rattle.yaml_grammar.specs.Nodes.{Document}
 
@@ -57,3 +57,48 @@ pub record NothingStandsInThese : Type 0 where
   pub a_document_in_quotes : NothingStands (codes "\"a\n---\n\"\n")
   -- text behind `...` in its line
   pub text_behind_the_end : NothingStands (codes "... a\n")
+  -- a directive that is unknown
+  pub another_directive : NothingStands (codes "%FOO bar\n--- a\n")
+  -- an entry without a key
+  pub an_entry_without_a_key : NothingStands (codes ": b\n")
+  -- a tag whose handle nothing names
+  pub an_unknown_handle : NothingStands (codes "!a!b c\n")
+  -- a document without `---` behind `...`
+  pub a_bare_document_behind_the_end : NothingStands (codes "a\n...\nb\n")
+
+-- so many collections in brackets, one in another
+abbrev pub so_many_open : ℕ → List ℕ
+so_many_open n = replicate n 91 ++ (replicate n 93 ++ 10 ∷ [])
+
+-- nor does in these, which libyaml takes
+pub record NothingStandsInTheseEither : Type 0 where
+  -- a tab between tokens
+  pub a_tab_between_tokens : NothingStands (codes "a:\tb\n")
+  -- a tab in plain text
+  pub a_tab_in_plain_text : NothingStands (codes "a\tb\n")
+  -- a directive of tags
+  pub a_tag_directive : NothingStands (codes "%TAG !e! tag:e,2000:\n--- a\n")
+  -- `? ` in brackets
+  pub a_marked_key_in_brackets : NothingStands (codes "{? a : b}\n")
+  -- an anchor right before `:`
+  pub an_anchor_before_a_colon : NothingStands (codes "&a : b\n")
+  -- a comment right behind a quote
+  pub a_comment_behind_a_quote : NothingStands (codes "'a'#b\n")
+  -- a comment right behind a bracket
+  pub a_comment_behind_a_bracket : NothingStands (codes "[a]#b\n")
+  -- a comment right behind `|`
+  pub a_comment_behind_a_header : NothingStands (codes "|#b\n a\n")
+  -- `-` alone in brackets
+  pub a_dash_in_brackets : NothingStands (codes "[-]\n")
+  -- in brackets, names in a line before their node
+  pub names_in_an_earlier_line : NothingStands (codes "[&a\n b]\n")
+  -- a tag with `!` in its text
+  pub a_tag_with_a_mark : NothingStands (codes "!!a!b c\n")
+  -- 129 open collections
+  pub too_many_open : NothingStands (so_many_open 129)
+  -- a carriage return
+  pub a_carriage_return : NothingStands (97 ∷ 13 ∷ 10 ∷ [])
+  -- a next line
+  pub a_next_line : NothingStands (97 ∷ 0xC2 ∷ 0x85 ∷ [])
+  -- the mark of the order of bytes
+  pub an_order_mark : NothingStands (0xEF ∷ 0xBB ∷ 0xBF ∷ 97 ∷ 10 ∷ [])

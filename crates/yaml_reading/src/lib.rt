@@ -15,7 +15,7 @@ ghost use Rattle.yaml_grammar.specs.Plain.{Context, as_key, by_columns};
 ghost use Rattle.yaml_reading.specs.BlockReader.{columns_at, key_at, node_at};
 ghost use Rattle.yaml_reading.specs.BracketReader.{brackets_at, flow_at};
 ghost use Rattle.yaml_reading.specs.DocumentReader.{text_events};
-ghost use Rattle.yaml_reading.specs.Refused.{NothingStandsInThese};
+ghost use Rattle.yaml_reading.specs.Refused.{NothingStandsInThese, NothingStandsInTheseEither, so_many_open};
 
 /// A law: a text has one reading. The documents that stand in it are these alone, with all their marks.
 pub fn a_text_has_one_reading()
@@ -30,10 +30,17 @@ pub fn texts_are_read()
         → (documents : List Document) × Stands text documents × (events ≡ events_of text documents) }
 {}
 
-/// A law: nothing stands in two dozen texts that are no YAML, each by one mistake, as the reader shows. So the
+/// A law: nothing stands in twenty-eight texts that libyaml refuses, each for one mistake, as the reader shows. So the
 /// definition is not so wide that it takes one of them.
 pub fn in_these_texts_nothing_stands()
     ensures { NothingStandsInThese }
+{}
+
+/// A law: nor does anything stand in these texts, though libyaml takes each: the limits of the definition. Of 128 open
+/// collections a document stands, and of 129 none.
+pub fn these_texts_are_left_out()
+    ensures nothing { NothingStandsInTheseEither }
+    ensures most { (documents : List Document) × Stands (so_many_open 128) documents }
 {}
 
 /// A law: documents with the same events are the same, so that events lose nothing of them.
