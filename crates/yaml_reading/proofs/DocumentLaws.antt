@@ -21,6 +21,7 @@ use Rattle.yaml_reading.specs.DocumentReader.{Further, bare_step, document_begun
 use Rattle.yaml_reading.specs.DocumentReader.{documents_step, end_step, marked_step, no_further, over_step, root_at}
 use Rattle.yaml_reading.specs.DocumentReader.{root_node, root_step, stream_step, text_events}
 use Rattle.yaml_reading.specs.Readers.{Read, Reader, and_event, and_node}
+use Rattle.yaml_reading.specs.Refused.{NothingStands}
 use Rattle.yaml_reading.proofs.Begins.{byte_behind}
 use Rattle.yaml_reading.proofs.BlockComplete.{node_of}
 use Rattle.yaml_reading.proofs.BlockForward.{node_forward}
@@ -301,6 +302,10 @@ stream_by text es true allowed h =
 pub text_stands : (text : List ℕ) (es : List Marked) → text_events text ≡ Some es
     → (documents : List Document) × Stands text documents × (es ≡ events_of text documents)
 text_stands text es h = stream_by text es (is_text text) refl (sym (text_is text (is_text text) refl) ∙ h)
+
+-- where nothing is read nothing stands
+pub nothing_read : (text : List ℕ) → ◌≡◌ {A = Option (List Marked)} (text_events text) None → NothingStands text
+nothing_read text h documents s = no_some (events_of text documents) (sym h ∙ text_read text documents s)
 
 -- one reading
 pub one_text : (text : List ℕ) (a b : List Document) → Stands text a → Stands text b → a ≡ b

@@ -16,9 +16,8 @@ use Rattle.yaml_reading.specs.DocumentReader.{documents_at, root_at, root_node, 
 use Rattle.yaml_reading.specs.Readers.{and_event}
 use Rattle.yaml_reading.specs.Refused.{NothingStands, NothingStandsInThese, NothingStandsInTheseEither}
 use Rattle.yaml_reading.specs.Refused.{so_many_open}
-use Rattle.yaml_reading.proofs.DocumentLaws.{text_read, text_stands}
+use Rattle.yaml_reading.proofs.DocumentLaws.{nothing_read, text_stands}
 use Rattle.yaml_reading.proofs.DocumentSteps.{text_is}
-use Rattle.yaml_reading.proofs.Options.{no_some}
 
 -- of which nothing is read, whatever characters are allowed
 abbrev Unread : List ℕ → Type 0
@@ -29,11 +28,10 @@ none_either text true h = h
 none_either text false h = refl
 
 nothing_stands : (text : List ℕ) → Unread text → NothingStands text
-nothing_stands text h documents s =
-    no_some _
-    (sym (text_is text (is_text text) refl
+nothing_stands text h =
+    nothing_read text
+    (text_is text (is_text text) refl
     ∙ ap (option_map (λ es. and_event es (stream_end, end_mark text 0 (length text)))) (none_either text (is_text text) h))
-    ∙ text_read text documents s)
 
 pub nothing_stands_in_these : NothingStandsInThese
 unfolding documents_at root_at root_node node_at node_behind columns_at content_at begins_entry key_at key_behind

@@ -2,7 +2,7 @@
 //! stands. So a text has one reading.
 #![tactic(auto)]
 
-ghost use Rattle.std.specs.Prelude.{◌≡◌, ◌≤◌, ℕ, Bool, false, true, ◌++◌, List, Some};
+ghost use Rattle.std.specs.Prelude.{◌≡◌, ◌≤◌, ℕ, Bool, false, true, ◌++◌, List, None, Some};
 ghost use Rattle.yaml_grammar.specs.BlockTexts.{block_at};
 ghost use Rattle.yaml_grammar.specs.Blocks.{BlockNode, Key, Room, ends_key};
 ghost use Rattle.yaml_grammar.specs.Brackets.{FlowNode};
@@ -15,19 +15,21 @@ ghost use Rattle.yaml_grammar.specs.Plain.{Context, as_key, by_columns};
 ghost use Rattle.yaml_reading.specs.BlockReader.{columns_at, key_at, node_at};
 ghost use Rattle.yaml_reading.specs.BracketReader.{brackets_at, flow_at};
 ghost use Rattle.yaml_reading.specs.DocumentReader.{text_events};
-ghost use Rattle.yaml_reading.specs.Refused.{NothingStandsInThese, NothingStandsInTheseEither, so_many_open};
+ghost use Rattle.yaml_reading.specs.Refused.{NothingStands, NothingStandsInThese, NothingStandsInTheseEither, so_many_open};
 
 /// A law: a text has one reading. The documents that stand in it are these alone, with all their marks.
 pub fn a_text_has_one_reading()
     ensures { (text : List ℕ) (a b : List Document) → Stands text a → Stands text b → a ≡ b }
 {}
 
-/// A law: the reader reads the documents that stand in a text, and what it reads are the events of such.
+/// A law: the reader reads the documents that stand in a text, what it reads are the events of such, and where it reads
+/// nothing none stand. So whether documents stand in a text can be told.
 pub fn texts_are_read()
     ensures read { (text : List ℕ) (documents : List Document) → Stands text documents
         → text_events text ≡ Some (events_of text documents) }
     ensures stand { (text : List ℕ) (events : List Marked) → text_events text ≡ Some events
         → (documents : List Document) × Stands text documents × (events ≡ events_of text documents) }
+    ensures nothing { (text : List ℕ) → text_events text ≡ None → NothingStands text }
 {}
 
 /// A law: nothing stands in twenty-eight texts that libyaml refuses, each for one mistake, as the reader shows. So the
