@@ -31,7 +31,8 @@ nothing_stands : (text : List ℕ) → Unread text → NothingStands text
 nothing_stands text h =
     nothing_read text
     (text_is text (is_text text) refl
-    ∙ ap (option_map (λ es. and_event es (stream_end, end_mark text 0 (length text)))) (none_either text (is_text text) h))
+    ∙ ap (option_map (λ es. and_event es (stream_end, end_mark text 0 (length text))))
+    (none_either text (is_text text) h))
 
 pub nothing_stands_in_these : NothingStandsInThese
 unfolding documents_at root_at root_node node_at node_behind columns_at content_at begins_entry key_at key_behind
