@@ -15,12 +15,8 @@ ghost use Rattle.yaml_grammar.specs.Plain.{Context, as_key, by_columns};
 ghost use Rattle.yaml_reading.specs.BlockReader.{columns_at, key_at, node_at};
 ghost use Rattle.yaml_reading.specs.BracketReader.{brackets_at, flow_at};
 ghost use Rattle.yaml_reading.specs.DocumentReader.{text_events};
-ghost use Rattle.yaml_reading.specs.Refused.{
-  NothingStands,
-  NothingStandsInThese,
-  NothingStandsInTheseEither,
-  so_many_open,
-};
+ghost use Rattle.yaml_reading.specs.Refused.{NothingStands, NothingStandsInThese, NothingStandsInTheseEither};
+ghost use Rattle.yaml_reading.specs.Refused.{so_many_open};
 
 /// A law: a text has one reading. The documents that stand in it are these alone, with all their marks.
 pub fn a_text_has_one_reading()
