@@ -1,7 +1,7 @@
 -- What begins with a byte, and what does not.
 use Rattle.std.proofs.Common.{◌≡◌, ◌≢◌, ℕ, suc, ◌+◌, ◌-◌, ◌≤◌, ◌==◌, ◌&&◌, ◌||◌, not, Bool, true, false, List, [], ◌∷◌}
 use Rattle.std.proofs.Common.{length}
-use Rattle.std.proofs.Common.{Some, None, refl, sym, ap, ◌∙◌, arith, drop, inl, inr, codes, ne_eqb}
+use Rattle.std.proofs.Common.{Option, Some, None, refl, sym, ap, ◌∙◌, arith, drop, inl, inr, codes, ne_eqb}
 use Rattle.std.specs.Prelude.{if◌then◌else◌, nat_eq, option_and_then}
 use Rattle.std.proofs.lemmas.Bool.{false≢true, and_parts, or_cases, or_parts, eqb-true, false_from_ne_true, not-true}
 use Rattle.std.proofs.lemmas.List.{get_or-drop, get_or_past}
@@ -11,7 +11,7 @@ use Rattle.yaml_grammar.specs.Bytes.{at, column, is_bracket, is_gap, is_indicato
 use Rattle.yaml_grammar.specs.Gaps.{apart, breaks, gap, next, token}
 use Rattle.yaml_grammar.specs.Folding.{Rest, nothing_passed}
 use Rattle.yaml_grammar.specs.Leaves.{Leaf, alias_at, leaf_at, styled}
-use Rattle.yaml_grammar.specs.Names.{count_while, names_at, one_name, unnamed}
+use Rattle.yaml_grammar.specs.Names.{Names, count_while, names_at, one_name, unnamed}
 use Rattle.yaml_grammar.specs.Plain.{Context, begins_plain, in_brackets, is_flow, is_safe, plain_at, plain_rest}
 use Rattle.yaml_grammar.specs.Quotes.{double_rest, single_rest}
 use Rattle.yaml_reading.proofs.Options.{no_some}
@@ -54,7 +54,8 @@ one_is : (text : List ℕ) (flow : Bool) (i : ℕ) → count_while (nat_eq 32) (
     → (at text i == 38) ≡ false → (at text i == 33) ≡ false → one_name text flow (unnamed, i) ≡ Some (unnamed, i)
 one_is text flow i n a t =
     let here : i + count_while (nat_eq 32) (drop i text) ≡ i = omega (arith, n) in
-    rw (here, a, t) refl
+    let answer : Option (Names × ℕ) = Some (unnamed, i) in
+    rw (here, a, t) (refl {a = answer})
 
 pub stays : (text : List ℕ) (i : ℕ) → wanders (at text i) ≡ false → Stays text i
 stays text i w =

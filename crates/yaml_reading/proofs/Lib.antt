@@ -16,6 +16,7 @@ pub mod Forward
 pub mod KeyLines
 pub mod KeyReading
 pub mod LeafReading
+pub mod NodeAnswers
 pub mod Options
 pub mod RefusedTexts
 pub mod SameNodes
