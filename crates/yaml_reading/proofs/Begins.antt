@@ -122,9 +122,9 @@ pub no_leaf_at : (text : List ℕ) (context : Context) (i c : ℕ) → at text i
     → leaf_at text context i ≡ None
 no_leaf_at text context i c e h = no_leaf text context i (ap no_leaf_byte e ∙ h)
 
--- `-` and `?` before a gap begin no leaf
+-- `-`, `?` and `:` before a gap begin no leaf
 abbrev pub is_dash : ℕ → Bool
-is_dash c = c == 45 || c == 63
+is_dash c = c == 45 || (c == 63 || c == 58)
 
 all_false : (x y z m s : Bool) → m ≡ true → s ≡ false → (x && (y && (z && (not m || s)))) ≡ false
 all_false true true true m s p q = rw (p, q) refl
@@ -139,7 +139,10 @@ no_leaf_mark text context i c d m =
     let byte = eqb-true (at text i) c parts.0 in
     elim (or_cases (c == 45) _ d) [
       | inl e ↦ of_byte 45 (byte ∙ eqb-true c 45 e) refl refl refl refl parts.1
-      | inr e ↦ of_byte 63 (byte ∙ eqb-true c 63 e) refl refl refl refl parts.1
+      | inr h ↦ elim (or_cases (c == 63) (c == 58) h) [
+        | inl e ↦ of_byte 63 (byte ∙ eqb-true c 63 e) refl refl refl refl parts.1
+        | inr e ↦ of_byte 58 (byte ∙ eqb-true c 58 e) refl refl refl refl parts.1
+      ]
     ]
   where
     of_byte : (b : ℕ) → at text i ≡ b → (b == 42) ≡ false → (b == 39) ≡ false → (b == 34) ≡ false

@@ -1,4 +1,6 @@
 -- What stands by columns in one place is one of its kinds alone.
+use Rattle.std.proofs.lemmas.Bool.{ltb-true}
+use Rattle.yaml_grammar.specs.Blocks.{names_key}
 use Rattle.std.proofs.Common.{◌≡◌, ◌≢◌, ℕ, suc, ◌+◌, ◌-◌, ◌≤◌, ◌==◌, ◌||◌, not, Bool, true, false, List}
 use Rattle.std.proofs.Common.{length, Some, None, refl, sym, ap, ◌∙◌, arith, subst, drop, inl, inr, ne_eqb}
 use Rattle.std.specs.Prelude.{if◌then◌else◌, nat_le, nat_lt}
@@ -48,27 +50,30 @@ module _ (text : List ℕ) where
   mark_byte : (c i : ℕ) → is_mark text c i ≡ true → at text i ≡ c
   mark_byte c i m = eqb-true (at text i) c (and_parts (at text i == c) _ m).0
 
-  dash_by : (P : ℕ → Type 0) → P 45 → P 63 → (c : ℕ) → is_dash c ≡ true → P c
-  dash_by P a b c d = elim (or_cases (c == 45) (c == 63) d) [
+  dash_by : (P : ℕ → Type 0) → P 45 → P 63 → P 58 → (c : ℕ) → is_dash c ≡ true → P c
+  dash_by P a b x c d = elim (or_cases (c == 45) _ d) [
     | inl e ↦ subst P (sym (eqb-true c 45 e)) a
-    | inr e ↦ subst P (sym (eqb-true c 63 e)) b
+    | inr h ↦ elim (or_cases (c == 63) (c == 58) h) [
+      | inl e ↦ subst P (sym (eqb-true c 63 e)) b
+      | inr e ↦ subst P (sym (eqb-true c 58 e)) x
+    ]
   ]
 
   pub dash_stays : (c i : ℕ) → is_dash c ≡ true → is_mark text c i ≡ true → Stays text i
-  dash_stays c i d m = stays_at text i c (mark_byte c i m) (dash_by (λ c. wanders c ≡ false) refl refl c d)
+  dash_stays c i d m = stays_at text i c (mark_byte c i m) (dash_by (λ c. wanders c ≡ false) refl refl refl c d)
 
   pub dash_inside : (c i : ℕ) → is_dash c ≡ true → is_mark text c i ≡ true → at text i ≢ 0
   dash_inside c i d m e =
       both (eq-eqb 0 0 refl)
-      (ap (λ b. b == 0) (sym e ∙ mark_byte c i m) ∙ dash_by (λ c. (c == 0) ≡ false) refl refl c d)
+      (ap (λ b. b == 0) (sym e ∙ mark_byte c i m) ∙ dash_by (λ c. (c == 0) ≡ false) refl refl refl c d)
 
   dash_no_open : (c i : ℕ) → is_dash c ≡ true → is_mark text c i ≡ true → opens (at text i) ≡ true → ⊥
   dash_no_open c i d m o =
-      both o (ap opens (mark_byte c i m) ∙ dash_by (λ c. opens c ≡ false) refl refl c d)
+      both o (ap opens (mark_byte c i m) ∙ dash_by (λ c. opens c ≡ false) refl refl refl c d)
 
   dash_no_lines : (c i : ℕ) → is_dash c ≡ true → is_mark text c i ≡ true → lines_byte (at text i) ≡ true → ⊥
   dash_no_lines c i d m o =
-      both o (ap lines_byte (mark_byte c i m) ∙ dash_by (λ c. lines_byte c ≡ false) refl refl c d)
+      both o (ap lines_byte (mark_byte c i m) ∙ dash_by (λ c. lines_byte c ≡ false) refl refl refl c d)
 
   -- a block of lines begins with `|` or `>`
   pub block_byte : (least q : ℕ) (r : ℕ × List ℕ) → block_at text least q ≡ Some r → lines_byte (at text q) ≡ true
@@ -155,6 +160,10 @@ module _ (text : List ℕ) where
       → Brackets text d i names k' j n
   moved {d} {i} {k} {k'} {j} {names} {n} e b = subst (λ k. Brackets text d i names k j n) e b
 
+  -- a key's `:` is an indicator
+  pub key_colon : (i e : ℕ) → ends_key text i e ≡ true → is_mark text 58 (next text e) ≡ true
+  key_colon i e h = (and_parts (has_colon text i e) _ h).1
+
   -- a key is none of it
   leaf_key_apart : {d least i q j : ℕ} {names : Names} {n : Node} (s e : ℕ) (x : Leaf) → s ≤ q
       → leaf_at text as_key q ≡ Some (x, e) → ends_key text s e ≡ true → Content d least i names q j n → ⊥
@@ -193,6 +202,11 @@ module _ (text : List ℕ) where
       let there' : next text p' ≡ q = ap (next text) (sym same) ∙ there in
       collection_key_apart s (omega (arith, names_forward text false h, next_ahead text p, there)) (moved there' b) ends
       content
+  key_apart {d} {d'} {least} {i} {s} {p} {q} {own = own} h there (names_key {p = p'} {names = names'} h' some line ends)
+      content =
+      let same = (pair_is own names' p p' (sym h ∙ h')).1 in
+      let there' : next text p' ≡ q = ap (next text) (sym same) ∙ there in
+      content_no_dash 58 refl content (subst (λ q. is_mark text 58 q ≡ true) there' (key_colon s p' ends))
 
   -- nor does it begin with a dash
   pub key_no_dash : {d i k : ℕ} {m : Node} (c : ℕ) → is_dash c ≡ true → Key text d i k m → is_mark text c i ≡ true → ⊥
@@ -203,6 +217,9 @@ module _ (text : List ℕ) where
   key_no_dash c dash (collection_key {i = i} h line b ends) m =
       let own = own_names false (dash_stays c i dash m) h in
       dash_no_open c i dash m (bracket_opens text (moved own.next_place b))
+  key_no_dash c dash (names_key {i = i} {p = p} h some line ends) m =
+      let own = own_names false (dash_stays c i dash m) h in
+      omega (arith, own.place, ltb-true i p some)
 
   -- the line goes on where a byte stands that may begin a token
   pub goes_on : (p : ℕ) → breaks text p ≡ false → at text (next text p) ≢ 0 → ends_its_line text p ≡ false

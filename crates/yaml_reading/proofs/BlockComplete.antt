@@ -1,4 +1,6 @@
 -- What stands by columns is read.
+use Rattle.yaml_reading.proofs.BlockApart.{key_colon}
+use Rattle.yaml_grammar.specs.Blocks.{names_key}
 use Rattle.std.proofs.Common.{◌≡◌, ℕ, zero, suc, ◌+◌, ◌≤◌, ◌==◌, ◌&&◌, ◌||◌, not, Bool, true, false, List}
 use Rattle.std.proofs.Common.{◌++◌, length, Some, refl, sym, ap, ◌∙◌, arith, subst, append_assoc}
 use Rattle.std.proofs.Common.{append-nil}
@@ -115,6 +117,14 @@ module _ (text : List ℕ) where
     line = goes_on text p line (open_some text (at text (next text p)) (bracket_opens text b));
     dash = false_from_ne_true (is_mark text 45 i) (key_no_dash text {d = d} 45 refl (collection_key h line b ends));
     entry = begins_key text inside (collection_key h line b ends) m le;
+  }
+  key_begun {d} {i} m le inside (names_key {p = p} {names = names} h some line ends) = record {
+    names = names;
+    p = p;
+    found = h;
+    line = goes_on text p line (dash_inside text 58 (next text p) refl (key_colon text i p ends));
+    dash = false_from_ne_true (is_mark text 45 i) (key_no_dash text {d = d} 45 refl (names_key h some line ends));
+    entry = begins_key text inside (names_key {d = d} h some line ends) m le;
   }
 
   not_both_marks : (i : ℕ) → is_mark text 63 i ≡ true → is_mark text 45 i ≡ false

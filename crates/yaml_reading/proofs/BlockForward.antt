@@ -1,4 +1,5 @@
 -- What stands by columns ends further on.
+use Rattle.yaml_grammar.specs.Blocks.{names_key}
 use Rattle.std.proofs.Common.{ℕ, ◌<◌, ◌≤◌, false, List, arith}
 use Rattle.yaml_grammar.specs.Blocks.{Behind, BlockNode, Entries, Entry, Items, Key, Room, a_block, a_collection}
 use Rattle.yaml_grammar.specs.Blocks.{a_leaf}
@@ -23,6 +24,7 @@ module _ (text : List ℕ) where
       )
   key_forward (collection_key {p = p} {e = e} h line b ends) =
       omega (arith, names_forward text false h, next_ahead text p, brackets_forward text b, next_ahead text e)
+  key_forward (names_key {p = p} h some line ends) = omega (arith, names_forward text false h, next_ahead text p)
 
   mutual
     pub node_forward : {d least i j : ℕ} {room : Room} {n : Node} → BlockNode text d least room i j n → i ≤ j

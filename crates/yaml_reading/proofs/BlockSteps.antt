@@ -1,7 +1,8 @@
 -- What the readers of nodes by columns do where tests are known.
+use Rattle.yaml_grammar.specs.Blocks.{ends_key}
 use Rattle.std.proofs.Common.{◌≡◌, ℕ, zero, suc, ◌==◌, ◌&&◌, ◌||◌, not, Bool, true, false, List, [], length, Option}
 use Rattle.std.proofs.Common.{Some, None, refl, ap, ap₂, ◌∙◌}
-use Rattle.std.specs.Prelude.{is_some, option_and_then}
+use Rattle.std.specs.Prelude.{is_some, nat_lt, option_and_then}
 use Rattle.yaml_base.specs.PlainEvent.{mapping_end, mapping_start, sequence_end, sequence_start}
 use Rattle.yaml_grammar.specs.Blocks.{Room, anything, is_own}
 use Rattle.yaml_grammar.specs.Bytes.{at, is_mark, is_over}
@@ -17,10 +18,12 @@ use Rattle.yaml_reading.specs.BracketReader.{brackets_at}
 use Rattle.yaml_reading.specs.Readers.{Collections, Read, Reader, and_event, no_more, opens}
 
 pub key_behind_is : (text : List ℕ) (brackets : Collections) (es : List Marked) (i : ℕ) (names : Names) (p : ℕ)
-    (x y : Bool) → breaks text p ≡ x → opens (at text (next text p)) ≡ y
-    → key_behind text brackets es i names p ≡ key_step text brackets es i names p x y
+    (x y z : Bool) → breaks text p ≡ x → opens (at text (next text p)) ≡ y → (nat_lt i p && ends_key text i p) ≡ z
+    → key_behind text brackets es i names p ≡ key_step text brackets es i names p x y z
 unfolding key_behind
-key_behind_is text brackets es i names p x y e f = ap₂ (key_step text brackets es i names p) e f
+key_behind_is text brackets es i names p x y z e f g =
+    ap (λ b. key_step text brackets es i names p b (opens (at text (next text p))) (nat_lt i p && ends_key text i p)) e
+    ∙ ap₂ (key_step text brackets es i names p x) f g
 
 pub key_is : (text : List ℕ) (brackets : Collections) (es : List Marked) (i : ℕ) (r : Option (Names × ℕ))
     → names_at text false i ≡ r

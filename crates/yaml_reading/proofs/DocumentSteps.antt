@@ -1,4 +1,6 @@
 -- What the readers of documents do where tests are known, and what begins a document.
+use Rattle.std.proofs.lemmas.Bool.{ltb-true}
+use Rattle.yaml_grammar.specs.Blocks.{names_key}
 use Rattle.std.proofs.Common.{◌≡◌, ◌≢◌, ℕ, zero, suc, ◌+◌, ◌≤◌, ◌==◌, ◌&&◌, ◌||◌, ◌⊎◌, not, Bool, true, false, List, []}
 use Rattle.std.proofs.Common.{◌∷◌, ◌++◌, length, Option, Some, None, refl, sym, ap, ap₂, ◌∙◌, arith, subst, drop, inl}
 use Rattle.std.proofs.Common.{inr}
@@ -128,6 +130,9 @@ module _ (text : List ℕ) where
   key_no_percent (collection_key {i = i} {p = p} h line b ends) byte =
       let own = own_names text false (stays_at text i 37 byte refl) h in
       both (bracket_opens text b) (ap opens (ap (at text) own.next_place ∙ byte))
+  key_no_percent (names_key {i = i} {p = p} h some line ends) byte =
+      let own = own_names text false (stays_at text i 37 byte refl) h in
+      omega (arith, own.place, ltb-true i p some)
 
   mark_no_percent : (c i : ℕ) → (c == 37) ≡ false → is_mark text c i ≡ true → at text i ≢ 37
   mark_no_percent c i other m byte =

@@ -1,4 +1,5 @@
 -- Each leaf ends where it begins or further on.
+use Rattle.yaml_grammar.specs.Bytes.{is_mark}
 use Rattle.std.proofs.Common.{◌≡◌, ℕ, suc, ◌+◌, ◌≤◌, ◌==◌, ◌&&◌, ◌||◌, not, Bool, false, List, [], ◌∷◌, length}
 use Rattle.std.proofs.Common.{Option, Some, None, arith, subst, drop}
 use Rattle.std.specs.Prelude.{if◌then◌else◌, nat_eq, nat_lt, option_map, slice_range}
@@ -34,7 +35,8 @@ some_ahead {A} i j a le r h = subst (λ (x : A × ℕ). i ≤ x.1) (same_some {A
 name_ahead : (text : List ℕ) (flow : Bool) (i : ℕ) → PlaceAhead i (name_end text flow i)
 name_ahead text flow i =
     let size = count_while is_name_byte (drop i text) in
-    either (PlaceAhead i) (nat_lt 0 size && ends_name flow (at text (i + size))) (Some (i + size)) None
+    either (PlaceAhead i) (nat_lt 0 size && (ends_name flow (at text (i + size)) || is_mark text 58 (i + size)))
+    (Some (i + size)) None
     (λ e h. subst (λ x. i ≤ x) (same_some _ _ h) (omega arith))
     (λ e h. absurd (no_some e h))
 

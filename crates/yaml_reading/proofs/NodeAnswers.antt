@@ -1,4 +1,8 @@
 -- What the reader of nodes by columns answers, in the order in which a parser asks.
+use Rattle.std.specs.Prelude.{nat_lt}
+use Rattle.yaml_grammar.specs.Blocks.{names_key}
+use Rattle.yaml_reading.specs.Readers.{alone}
+use Rattle.yaml_reading.proofs.KeyReading.{leaf_no_colon}
 use Rattle.std.proofs.Common.{◌≡◌, ℕ, ◌&&◌, ◌||◌, not, Bool, true, false, List, [], Some, None}
 use Rattle.std.proofs.Common.{refl}
 use Rattle.std.proofs.Common.{sym, ap, ◌∙◌, arith}
@@ -27,17 +31,24 @@ module _ (text : List ℕ) (d : ℕ) where
       → ends_key text i e ≡ colon → key_within text d es i ≡ colon_step text (and_node es n) e colon
   leaf_key_read es i p e names x n colon h line none leaf is ends =
       key_is text (brackets_at text d) es i (Some (names, p)) h
-      ∙ key_behind_is text (brackets_at text d) es i names p false false line none
+      ∙ key_behind_is text (brackets_at text d) es i names p false false false line none
+      (leaf_no_colon text i p (x, e) leaf)
       ∙ ap (with_colon text i) (leaf_is text es i names (leaf_at text as_key (next text p)) x e n leaf is)
       ∙ ap (colon_step text (and_node es n) e) ends
 
-  -- where no leaf and no bracket stands there is no key
+  -- names alone are a key where its `:` stands
+  pub names_key_read : (es : List Marked) (i p : ℕ) (names : Names) → names_at text false i ≡ Some (names, p)
+      → nat_lt i p ≡ true → breaks text p ≡ false → ends_key text i p ≡ true
+      → key_within text d es i ≡ Some (and_node es (alone text i p names), next text p)
+  names_key_read es i p names h some line ends = key_of text (names_key {d = d} h some line ends) d (omega arith) es
+
+  -- where no leaf, no bracket and no `:` stands there is no key
   pub no_leaf_key : (es : List Marked) (i p : ℕ) (names : Names) → names_at text false i ≡ Some (names, p)
-      → breaks text p ≡ false → opens (at text (next text p)) ≡ false → leaf_at text as_key (next text p) ≡ None
-      → key_within text d es i ≡ None
-  no_leaf_key es i p names h line none leaf =
+      → breaks text p ≡ false → opens (at text (next text p)) ≡ false → (nat_lt i p && ends_key text i p) ≡ false
+      → leaf_at text as_key (next text p) ≡ None → key_within text d es i ≡ None
+  no_leaf_key es i p names h line none other leaf =
       key_is text (brackets_at text d) es i (Some (names, p)) h
-      ∙ key_behind_is text (brackets_at text d) es i names p false false line none
+      ∙ key_behind_is text (brackets_at text d) es i names p false false false line none other
       ∙ ap (λ o. with_colon text i (with_leaf text es i names o)) leaf
 
   -- whether a key stands here does not hang on the events before it

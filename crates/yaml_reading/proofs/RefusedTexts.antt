@@ -81,7 +81,6 @@ nothing_stands_in_these_either = record {
   a_tab_in_plain_text = nothing_stands _ refl;
   a_tag_directive = nothing_stands _ refl;
   a_marked_key_in_brackets = nothing_stands _ refl;
-  an_anchor_before_a_colon = nothing_stands _ refl;
   a_comment_behind_a_quote = nothing_stands _ refl;
   a_comment_behind_a_bracket = nothing_stands _ refl;
   a_comment_behind_a_header = nothing_stands _ refl;

@@ -13,7 +13,7 @@ use Rattle.yaml_grammar.specs.Names.{Names, names_at, unnamed}
 use Rattle.yaml_grammar.specs.Nodes.{Marked, end_mark, mark, no_content, scalar_at}
 use Rattle.yaml_grammar.specs.Plain.{as_key, by_columns}
 use Rattle.yaml_reading.specs.BracketReader.{brackets_at, names_step}
-use Rattle.yaml_reading.specs.Readers.{Collections, Read, Reader, and_event, and_node, and_then, no_more, opens}
+use Rattle.yaml_reading.specs.Readers.{Collections, Read, Reader, alone, and_event, and_node, and_then, no_more, opens}
 use Rattle.yaml_reading.specs.Readers.{with_leaf}
 
 -- which collection
@@ -32,16 +32,19 @@ colon_step text es k false = None
 abbrev pub with_colon : List ℕ → (i : ℕ) → Read → Read
 with_colon text i r = and_then r (λ es k. colon_step text es k (ends_key text i k))
 
--- what stands behind the names of a key: nothing in their line, a collection, or a leaf
-abbrev pub key_step : List ℕ → Collections → List Marked → (i : ℕ) → Names → (p : ℕ) → (broken opened : Bool) → Read
-key_step text brackets es i names p true opened = None
-key_step text brackets es i names p false true = with_colon text i (brackets names i es (next text p))
-key_step text brackets es i names p false false =
+-- what stands behind the names of a key: nothing in their line, a collection, the key's `:`, or a leaf
+abbrev pub key_step : List ℕ → Collections → List Marked → (i : ℕ) → Names → (p : ℕ) → (broken opened ends : Bool)
+    → Read
+key_step text brackets es i names p true opened ends = None
+key_step text brackets es i names p false true ends = with_colon text i (brackets names i es (next text p))
+key_step text brackets es i names p false false true = Some (and_node es (alone text i p names), next text p)
+key_step text brackets es i names p false false false =
     with_colon text i (with_leaf text es i names (leaf_at text as_key (next text p)))
 
 unfoldable pub key_behind : List ℕ → Collections → List Marked → (i : ℕ) → Names → (p : ℕ) → Read
 key_behind text brackets es i names p =
     key_step text brackets es i names p (breaks text p) (opens (at text (next text p)))
+    (nat_lt i p && ends_key text i p)
 
 -- a key in a line, and the place of its `:`
 unfoldable pub key_at : List ℕ → Collections → Reader

@@ -80,8 +80,6 @@ pub record NothingStandsInTheseEither : Type 0 where
   pub a_tag_directive : NothingStands (codes "%TAG !e! tag:e,2000:\n--- a\n")
   -- `? ` in brackets
   pub a_marked_key_in_brackets : NothingStands (codes "{? a : b}\n")
-  -- an anchor right before `:`
-  pub an_anchor_before_a_colon : NothingStands (codes "&a : b\n")
   -- a comment right behind a quote
   pub a_comment_behind_a_quote : NothingStands (codes "'a'#b\n")
   -- a comment right behind a bracket
