@@ -11,7 +11,9 @@ A rule of grammar_leaves.py and grammar_nodes.py has the name that it has there,
 libyaml comes with `apt-get install -y libyaml-dev`; libyaml_events.c beside this script is compiled by `cc`. What is
 compared of each text in which documents stand: events, marks, ends of slices, anchors, tags, texts and styles. Each
 relation is asked for all its rules, so that a text with two readings would be found too. Prints the first texts that
-differ, how many texts libyaml takes, and in how many of them documents stand. Status 0 only if none differs.
+differ, how many texts libyaml takes, and in how many of them documents stand. Where DIRECT names a program that
+compare_direct.py kept, the events of yaml_direct are compared too, and the first texts are printed that it takes though
+nothing stands in them. Status 0 only if none differs.
 """
 
 import hashlib
@@ -154,6 +156,8 @@ class Comparison:
         self.folder = folder
         self.count = self.size = self.taken = self.taken_size = self.standing = self.standing_size = 0
         self.different = self.left = self.events = 0
+        self.direct = [os.environ["DIRECT"], "direct"] if os.environ.get("DIRECT") else None
+        self.direct_takes = self.direct_alone = self.direct_leaves = 0
 
     def compare(self, texts):
         names = []
@@ -162,10 +166,11 @@ class Comparison:
             with open(names[-1], "wb") as file:
                 file.write(text)
         theirs = compare.answers(self.program, names)
+        direct = compare.answers(self.direct, names) if self.direct else {}
         for name, text in zip(names, texts):
-            self.one(text, theirs[name])
+            self.one(text, theirs[name], direct.get(name))
 
-    def one(self, text, theirs):
+    def one(self, text, theirs, direct):
         takes = not any(b" !ERR " in line for line in theirs[-2:])
         self.count += 1
         self.size += len(text)
@@ -175,6 +180,8 @@ class Comparison:
             ours = events_of(text)
         except TwoReadings as found:
             ours = [b"two readings: " + str(found).encode()]
+        if self.direct:
+            self.beside(text, ours, direct)
         if ours is None:
             if takes and os.environ.get("LEFT") and self.left < 200:
                 self.left += 1
@@ -185,14 +192,30 @@ class Comparison:
         self.events += len(ours)
         if ours == theirs:
             return
+        self.differs(text, ours, theirs, "libyaml   ")
+
+    def differs(self, text, ours, theirs, whose):
         self.different += 1
         if self.different <= SHOWN:
             print("text", text[:600])
             for our, their in zip(ours + [b"the end"], theirs + [b"the end"]):
                 if our != their:
                     print("  definition", our.decode()[:200])
-                    print("  libyaml   ", their.decode()[:200])
+                    print(f"  {whose}", their.decode()[:200])
                     break
+
+    def beside(self, text, ours, direct):
+        """Compares the events with those of yaml_direct, and counts the texts that only one of both takes."""
+        takes = direct != [b"!ELSEWHERE"]
+        self.direct_takes += takes
+        if takes and ours is None:
+            self.direct_alone += 1
+            if self.direct_alone <= SHOWN:
+                print("yaml_direct alone", text[:300])
+        elif ours is not None and not takes:
+            self.direct_leaves += 1
+        elif ours != direct and takes:
+            self.differs(text, ours, direct, "direct    ")
 
     def all(self, texts):
         batch = []
@@ -209,6 +232,11 @@ class Comparison:
             f"{self.standing}, {share:.2f}% ({share_size:.2f}% of the bytes), {self.events} events: "
             f"{self.different} differ"
         )
+        if self.direct:
+            print(
+                f"yaml_direct takes {self.direct_takes}, of which nothing stands in {self.direct_alone}; it leaves "
+                f"{self.direct_leaves} in which documents stand"
+            )
         return self.different == 0
 
 

@@ -340,7 +340,8 @@ def run_end(among, text, i):
 def name_end(text, flow, i):
     end = run_end(NAME, text, i)
     c = at(text, end)
-    return end if end > i and (is_gap(c) or (flow and c in b",]}")) else None
+    ends = is_gap(c) or (flow and c in b",]}") or (c == 58 and is_gap(at(text, end + 1)))
+    return end if end > i and ends else None
 
 
 def decoded(text):

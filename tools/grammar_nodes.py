@@ -265,7 +265,7 @@ class Text:
         return self.is_mark(58, i) and self.is_at(c, i)
 
     def key(self, d, i):
-        return self.only([self.leaf_key(d, i), self.collection_key(d, i)])
+        return self.only([self.leaf_key(d, i), self.collection_key(d, i), self.names_key(d, i)])
 
     def leaf_key(self, d, i):
         named = self.names_in_line(False, i)
@@ -282,6 +282,13 @@ class Text:
             return None
         rule = by("collection_key", 2, found[2], 1)
         return self.next(found[0]), found[1], rule
+
+    def names_key(self, d, i):
+        named = self.names_in_line(False, i)
+        if not named or i >= named[1] or not self.ends_key(i, named[1]):
+            return None
+        node = Scalar(self.mark(i), named[0], ":", b"", named[1])
+        return self.next(named[1]), node, by("names_key", 4)
 
     def block_node(self, d, least, room, i):
         rules = (self.a_leaf, self.a_block, self.a_collection, self.a_sequence, self.a_mapping, self.named_sequence,

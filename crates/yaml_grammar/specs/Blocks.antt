@@ -65,6 +65,9 @@ module _ (text : List ℕ) where
     collection_key : {d i p e : ℕ} {names : Names} {n : Node} → names_at text false i ≡ Some (names, p)
         → breaks text p ≡ false → Brackets text d i names (next text p) e n → ends_key text i e ≡ true
         → Key d i (next text e) n
+    names_key : {d i p : ℕ} {names : Names} → names_at text false i ≡ Some (names, p) → nat_lt i p ≡ true
+        → breaks text p ≡ false → ends_key text i p ≡ true
+        → Key d i (next text p) (no_content (mark text i) names (slice_range text i p))
 
   mutual
     -- a node, whose further lines stand in a column or further in

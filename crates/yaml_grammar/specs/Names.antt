@@ -6,7 +6,7 @@ use Rattle.std.specs.List.{list_any}
 use Rattle.std.specs.Option.{is_none, option_and_then, option_map}
 use Rattle.std.specs.Str.{is_utf8}
 use Rattle.yaml_base.specs.QuotedLines.{Escape, none, backslash, digits, before}
-use Rattle.yaml_grammar.specs.Bytes.{at, is_gap, is_one_of}
+use Rattle.yaml_grammar.specs.Bytes.{at, is_gap, is_mark, is_one_of}
 
 -- how many of the first bytes pass a test
 abbrev pub count_while : (ℕ → Bool) → List ℕ → ℕ
@@ -23,11 +23,12 @@ is_name_byte c = is_ascii_alphanumeric c || (c == 45 || c == 95)
 abbrev pub ends_name : (flow : Bool) → ℕ → Bool
 ends_name flow c = is_gap c || (flow && is_one_of (codes ",]}") c)
 
--- the place behind the name that begins here
+-- the place behind the name that begins here; `:` as an indicator may stand behind it too
 abbrev pub name_end : List ℕ → (flow : Bool) → ℕ → Option ℕ
 name_end text flow i =
     let size = count_while is_name_byte (drop i text) in
-    if nat_lt 0 size && ends_name flow (at text (i + size)) then Some (i + size) else None
+    let ends = ends_name flow (at text (i + size)) || is_mark text 58 (i + size) in
+    if nat_lt 0 size && ends then Some (i + size) else None
 
 -- a byte of a tag; between angle brackets there are more
 abbrev pub is_tag_byte : (whole : Bool) → ℕ → Bool
