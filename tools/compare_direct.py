@@ -4,6 +4,7 @@
 usage: compare_direct.py random SEED COUNT [PROGRAM]            random texts, made as compare.py makes them
        compare_direct.py mutants SEED COUNT LIST [PROGRAM]      changed parts of files, whose names are a list's lines
        compare_direct.py files LIST [PROGRAM]                   the files that the lines of a list name
+       compare_direct.py every LENGTH FRONT [PROGRAM]           FRONT, and behind it each text of so many bytes at most
 
 PROGRAM is one that an earlier run made, by `KEEP=FILE compare_direct.py ..`; else `rt` proves and builds it of
 direct_events.rt.in beside this script, over a copy of the crates, or, with `FAST=1`, fast_build.py builds it without
@@ -17,6 +18,7 @@ differ, and in the last line the counts. Status 0 only if none differs. OUT name
 """
 
 import collections
+import itertools
 import os
 import subprocess
 import sys
@@ -28,6 +30,8 @@ HERE = os.path.dirname(os.path.abspath(__file__))
 BATCH = 400
 SHOWN = 10
 LARGEST = 200000
+# The bytes of which `every` makes texts.
+SMALL = b"a:,[]{}-?# \n'&"
 # What the program stands on beside yaml_direct and what that stands on.
 MORE = "yaml_lines yaml_parse yaml_scan yaml_shape"
 
@@ -142,11 +146,18 @@ def mutants(seed, count, path):
     return compare.mutants(seed, count, small)
 
 
+def every(length, front):
+    for size in range(length + 1):
+        for text in itertools.product(SMALL, repeat=size):
+            yield front + bytes(text)
+
+
 def main():
     words = sys.argv[1:]
     makers = {"random": (2, lambda s, n: compare.random_texts(int(s), int(n)))}
     makers["mutants"] = (3, lambda s, n, path: mutants(int(s), int(n), path))
     makers["files"] = (1, listed)
+    makers["every"] = (2, lambda n, front: every(int(n), front.encode()))
     count, maker = makers.get(words[0] if words else "", (0, None))
     if maker is None or len(words) not in (count + 1, count + 2):
         sys.exit(__doc__)
