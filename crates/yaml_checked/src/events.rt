@@ -90,6 +90,7 @@ impl<'a> TapeEvents<'a> {
 
     /// The next event, with the mark where it begins, or `None` behind the end of the stream. The event borrows from
     /// the text: a scalar's slice is the part of the text that it was read from.
+    #[inline(always)]
     pub fn next_event(&mut self, alloc: Global) -> Result<Option<(Event<'a>, Mark)>, Refusal>
         ensures text { self.new.text ≡ self.old.text }
         ensures given { IfOk result (λ found. self.new.given ≡ self.old.given ++ option_to_list found) }

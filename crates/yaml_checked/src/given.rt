@@ -95,6 +95,7 @@ impl<'a> Given<'a> {
     }
 
     // Hands out an event that begins at an index, with its mark.
+    #[inline(always)]
     pub(crate) fn hand_out(
         &mut self,
         alloc: Global,
