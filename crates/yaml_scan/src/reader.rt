@@ -2,6 +2,7 @@
 
 ghost use Rattle.std.specs.Prelude.{◌≡◌, ◌<◌, ◌≤◌, IfSome, IsTrue, MatchOption, length};
 ghost use Rattle.std.specs.List.{list_all};
+ghost use Rattle.std.specs.Str.{IsAscii};
 ghost use Rattle.yaml_scan.specs.AllowedText.{IsAllowed, IsAllowedUpTo, IsOfReader, is_allowed};
 
 use crate::{Fault, Problem};
@@ -47,11 +48,22 @@ fn has_allowed_codes(text: &[u8]) -> bool
     allowed
 }
 
+// Whether each byte is one of ASCII, by the same form: some toolchains call a function for each word otherwise.
+fn is_ascii(text: &[u8]) -> bool
+    ensures { IsTrue result → IsAscii text.now }
+{
+    let mut ascii = true;
+    for byte in text {
+        ascii &= *byte < 0x80;
+    }
+    ascii
+}
+
 // Whether a text is ASCII and allowed, which takes less to see than that any other is allowed.
 fn is_allowed_ascii(text: &[u8]) -> bool
     ensures { IsTrue result → IsAllowed text.now }
 {
-    text.is_ascii() && has_allowed_codes(text)
+    is_ascii(text) && has_allowed_codes(text)
 }
 
 // The index of the first character that may not stand in a text, if there is one.
