@@ -1,7 +1,9 @@
 //! What the source of a plain scalar says.
 
-ghost use Rattle.std.specs.Prelude.{◌≡◌, ◌-◌, ◌↔◌, IsTrue, drop, false, length, true};
+ghost use Rattle.std.specs.Prelude.{◌≡◌, ◌-◌, ◌↔◌, IfSome, IsTrue, drop, false, length, true};
 ghost use Rattle.yaml_base.specs.LineBreaks.{IsOneLine};
+
+use yaml_tape::Entry;
 
 // Whether the bytes are a text.
 #[inline(always)]
@@ -47,4 +49,21 @@ pub(crate) fn says(source: &[u8], text: &[u8], has_names: bool) -> bool
         return true;
     }
     has_line_feed(source)
+}
+
+// The text of a plain scalar whose places on the tape say that it ends its source, and that it is all of it where no
+// name stands before it. Then no byte has to be compared.
+#[inline(always)]
+pub(crate) fn end_of(source: &[u8], entry: Entry, has_names: bool) -> Option<&[u8]>
+    ensures rest { IfSome result (λ text. text.now ≡ drop (length source.now - length text.now) source.now) }
+    ensures whole { IfSome result (λ text. has_names ≡ false → text.now ≡ source.now) }
+{
+    if entry.stored || entry.to != entry.end || entry.from < entry.index {
+        return None;
+    }
+    let ahead = (entry.from - entry.index) as usize;
+    if ahead > source.len() || (ahead > 0 && !has_names) {
+        return None;
+    }
+    Some(&source[ahead..])
 }

@@ -2,6 +2,7 @@
 
 ghost use Rattle.std.specs.Prelude.{◌≡◌, ◌<◌, ◌≤◌, IfSome, IsTrue, MatchOption, length};
 ghost use Rattle.std.specs.List.{list_all};
+ghost use Rattle.std.specs.Str.{IsAscii};
 ghost use Rattle.yaml_scan.specs.AllowedText.{IsAllowed, IsAllowedUpTo, IsOfReader, is_allowed};
 
 use crate::{Fault, Problem};
@@ -22,18 +23,47 @@ fn is_allowed(code: u32) -> bool
         || (code >= 0x10000 && code <= 0x10FFFF)
 }
 
-// Whether the character of each byte's code may stand in a text.
+// The same of a code of one byte. Nothing is left out once one of these holds, so that many bytes are looked at at once.
+#[inline(always)]
+fn is_allowed_byte(byte: u8) -> bool
+    ensures { result ≡ is_allowed byte }
+{
+    (byte == 0x09)
+        | (byte == 0x0A)
+        | (byte == 0x0D)
+        | ((byte >= 0x20) & (byte <= 0x7E))
+        | (byte == 0x85)
+        | (byte >= 0xA0)
+}
+
+// Whether the character of each byte's code may stand in a text. All are looked at, so that no turn of the loop waits
+// for the one before.
 fn has_allowed_codes(text: &[u8]) -> bool
     ensures { result ≡ list_all is_allowed text.now }
 {
-    text.iter().all(|byte| is_allowed(*byte as u32))
+    let mut allowed = true;
+    for byte in text {
+        allowed &= is_allowed_byte(*byte);
+    }
+    allowed
+}
+
+// Whether each byte is one of ASCII, by the same form: some toolchains call a function for each word otherwise.
+fn is_ascii(text: &[u8]) -> bool
+    ensures { IsTrue result → IsAscii text.now }
+{
+    let mut ascii = true;
+    for byte in text {
+        ascii &= *byte < 0x80;
+    }
+    ascii
 }
 
 // Whether a text is ASCII and allowed, which takes less to see than that any other is allowed.
 fn is_allowed_ascii(text: &[u8]) -> bool
     ensures { IsTrue result → IsAllowed text.now }
 {
-    text.is_ascii() && has_allowed_codes(text)
+    is_ascii(text) && has_allowed_codes(text)
 }
 
 // The index of the first character that may not stand in a text, if there is one.
