@@ -39,9 +39,9 @@ is_like_number (c ∷ cs) = begins_number c && list_all is_of_number cs
 abbrev pub is_base : ℕ → Bool
 is_base c = list_any (nat_eq c) (codes "bBoOxX")
 
--- a digit of such a base, or `_`
+-- a digit of such a base, or what parts digits
 abbrev pub is_base_digit : ℕ → Bool
-is_base_digit c = is_ascii_hexdigit c || c == 95
+is_base_digit c = is_ascii_hexdigit c || (c == 95 || c == 44)
 
 -- digits behind `0` and the letter of their base
 abbrev pub is_based_body : List ℕ → Bool

@@ -78,13 +78,11 @@ fn is_base(byte: u8) -> bool
     matches!(byte, b'b' | b'B' | b'o' | b'O' | b'x' | b'X')
 }
 
-// Whether all bytes are digits of some base, or `_`.
+// Whether all bytes are digits of some base, or what parts digits.
 fn are_base_digits(bytes: &[u8]) -> bool
     ensures { result ≡ list_all is_base_digit bytes.now }
 {
-    bytes
-        .iter()
-        .all(|byte| byte.is_ascii_hexdigit() || *byte == b'_')
+    bytes.iter().all(|byte| byte.is_ascii_hexdigit() || matches!(*byte, b'_' | b','))
 }
 
 // Whether the text is digits behind `0` and the letter of their base.
