@@ -4,7 +4,7 @@ use crate::callers::Service;
 use serde::Deserialize;
 use serde_json::{Error as JsonError, to_string as to_json, to_string_pretty};
 use std::alloc::Global;
-use yaml::{Error, Tag, Value, from_str, from_value, to_string, to_value};
+use yaml::{Error, Tag, Value, from_str, from_value, to_string, to_string_unambiguous, to_value};
 
 // The fault of JSON, by its text.
 fn told_of_json<T: Drop>(alloc: Global, answer: Result<T, JsonError>) -> Result<T, Error> {
@@ -110,6 +110,12 @@ fn converted(alloc: Global, text: &str) -> Result<String, Error> {
     Ok(format!(in alloc; "{again}")?)
 }
 
+// The value as YAML that no other reader takes for something else.
+fn unambiguous(alloc: Global, text: &str) -> Result<String, Error> {
+    let value: Value = from_str(alloc, text)?;
+    to_string_unambiguous(alloc, &value)
+}
+
 /// What is done with the value of this text, by a name.
 pub fn answer_of_value(alloc: Global, name: &str, text: &str) -> Result<String, Error> {
     match name {
@@ -123,6 +129,7 @@ pub fn answer_of_value(alloc: Global, name: &str, text: &str) -> Result<String, 
         "equal" => equal(alloc, text),
         "moved" => moved(alloc, text),
         "converted" => converted(alloc, text),
+        "unambiguous" => unambiguous(alloc, text),
         _ => Err(Error::custom(String::from_str(alloc, "no such deed")?)),
     }
 }

@@ -3,6 +3,7 @@ pub mod Headline
 pub mod OwnEvents
 pub mod PlainStream
 pub mod Printed
+pub mod Quotes
 pub mod StreamReads
 pub mod StreamView
 pub mod TextReads

@@ -9,6 +9,7 @@ mod printed;
 mod ser;
 mod text;
 mod type_faults;
+mod unambiguous;
 pub mod value;
 
 pub use de::{Deserializer, data_from_events, from_events, from_events_limited};
@@ -16,6 +17,7 @@ pub use input::from_reader;
 pub use printed::{data_to_string, to_string, to_writer};
 pub use ser::to_events;
 pub use text::{data_from_slice, data_from_str, from_slice, from_slice_limited, from_str};
+pub use unambiguous::to_string_unambiguous;
 pub use yaml_base::{
     Anchor, Cause, EntryKey, Error, Event, FaultKind, Found, Location, MappingStart, Mark,
     ParserFault, Path, Place, Result, Scalar, ScalarStyle, SequenceStart, Tag, WordList, Words,

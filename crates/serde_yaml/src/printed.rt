@@ -22,7 +22,7 @@ use yaml_shape::Typed;
 use yaml_types::Serialize;
 
 // The text of events.
-fn printed(alloc: Global, events: &[EmitEvent]) -> Result<String>
+pub(crate) fn printed(alloc: Global, events: &[EmitEvent]) -> Result<String>
     ensures text { IfOk result (λ text. IsStreamText (map emit_of events.now) (string_bytes text)) }
     ensures refused { IfErr result (λ cause. is_memory cause ≡ false → IsOutOfPlace cause) }
     ensures no_stream { IfErr result (λ cause. is_memory cause ≡ false

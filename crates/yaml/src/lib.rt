@@ -32,7 +32,7 @@ pub use spanned::Spanned;
 pub use stream::DocumentStream;
 pub use typed::{from_events, from_slice, from_str};
 pub use values::Values;
-pub use write::{to_events, to_string, to_writer};
+pub use write::{to_events, to_string, to_string_unambiguous, to_writer};
 pub use yaml_base::{Error, Result};
 pub use yaml_documents::ReaderFault;
 pub use yaml_emit::WriteFault;

@@ -3,6 +3,7 @@
 ghost use Rattle.std.specs.Prelude.{◌≡◌, List, map, string_bytes, IfErr, IfOk, OnOk};
 ghost use Rattle.yaml.specs.Printed.{AddsText};
 ghost use Rattle.yaml.specs.WrittenDocument.{IsWrittenDocument};
+ghost use Rattle.yaml_ambiguous.specs.Quoting.{unambiguous};
 ghost use Rattle.yaml_base.specs.EmitEvents.{PlainEmit, emit_of};
 ghost use Rattle.yaml_base.specs.EmitTree.{IsEmitStream};
 ghost use Rattle.yaml_emit.specs.StreamTexts.{IsStreamText};
@@ -12,6 +13,7 @@ use crate::sink::Sink;
 use serde::Serialize;
 use std::alloc::Global;
 use std::io::Write;
+use yaml_ambiguous::quote_ambiguous;
 use yaml_base::Result;
 use yaml_base::emitter::EmitEvent;
 use yaml_emit::{WriteFault, emit};
@@ -38,7 +40,19 @@ pub fn to_string<T: Serialize>(alloc: Global, value: &T) -> Result<String>
     emit(alloc, events.as_slice())
 }
 
-/// The same text to a writer, whole and at once, which is then flushed. What has no text leaves the writer as it was.
+/// The value as YAML text, a document that ends with a line feed, which other readers of YAML take as it is meant: as
+/// `to_string` prints it, but with quotes around each text that some of them takes for something else where it stands
+/// plain, such as `yes`, `12:30` and `2024-01-31`.
+pub fn to_string_unambiguous<T: Serialize>(alloc: Global, value: &T) -> Result<String>
+    ensures one { IfOk result (λ text. (events : List PlainEmit) × IsWrittenDocument events
+        × IsStreamText (map unambiguous events) (string_bytes text)) }
+{
+    let mut events = to_events(alloc, value)?;
+    quote_ambiguous(&mut events);
+    emit(alloc, events.as_slice())
+}
+
+/// The text of `to_string` to a writer, whole and at once, which is then flushed. What has no text leaves the writer as it was.
 pub fn to_writer<W: Write, T: Serialize>(
     alloc: Global,
     writer: &mut W,

@@ -3,7 +3,9 @@
 use super::refused;
 use super::text::spelled;
 use serde_yaml::value::Value;
-use serde_yaml::{Cause, Deserialize, Error, Result, Serialize, from_str, to_string};
+use serde_yaml::{
+    Cause, Deserialize, Error, Result, Serialize, from_str, to_string, to_string_unambiguous,
+};
 use std::alloc::{AllocError, Global};
 use std::boxed::BoxedStr;
 use std::collections::{BTreeMap, BTreeSet};
@@ -24,6 +26,12 @@ fn printed<'de, T: Deserialize<'de> + Serialize + Drop>(
 ) -> Result<String> {
     let value: T = from_str(alloc, text)?;
     to_string(alloc, &value)
+}
+
+// What the value of any kind prints that a text is read as, so that no other reader takes it for something else.
+fn printed_unambiguous(alloc: Global, text: &str) -> Result<String> {
+    let value: Value = from_str(alloc, text)?;
+    to_string_unambiguous(alloc, &value)
 }
 
 // What a text prints that the text is read as, which is borrowed of it.
@@ -64,6 +72,7 @@ fn printed_as_standard(alloc: Global, name: &str, text: &str) -> Option<Result<S
 fn printed_as(alloc: Global, name: &str, text: &str) -> Option<Result<String>> {
     match name {
         "Value" => Some(printed::<Value>(alloc, text)),
+        "Value/unambiguous" => Some(printed_unambiguous(alloc, text)),
         "Address" => Some(printed::<Address>(alloc, text)),
         "Backup" => Some(printed::<Backup>(alloc, text)),
         "Folder" => Some(printed::<Folder>(alloc, text)),

@@ -1,0 +1,2 @@
+pub mod Ambiguous
+pub mod Quoting
