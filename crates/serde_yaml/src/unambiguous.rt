@@ -21,9 +21,9 @@ use yaml_types::Serialize;
 // The text of events, with quotes around their ambiguous texts.
 fn quoted(alloc: Global, events: Vec<EmitEvent>) -> Result<String>
     ensures text { IfOk result (λ text.
-        IsStreamText (map unambiguous (map emit_of events.entry.items)) (string_bytes text)) }
+        IsStreamText (map unambiguous (map emit_of events.items)) (string_bytes text)) }
     ensures no_stream { IfErr result (λ cause. is_memory cause ≡ false
-        → IsEmitStream (map emit_of events.entry.items) → ⊥) }
+        → IsEmitStream (map emit_of events.items) → ⊥) }
 {
     let mut events = events;
     quote_ambiguous(&mut events);

@@ -15,6 +15,6 @@ returns-in-Ok-quoted-clause-text g c =
 pub returns-in-Err-clause-unwritten : goal.returns-in-Err-clause-unwritten
 returns-in-Err-clause-unwritten g c = λ known. c.in-Err.ensures.written known
 
-pub returns-clause-unwritten : goal.returns-clause-unwritten
-returns-clause-unwritten g c = λ known.
+pub returns-in-Err-quoted-clause-unwritten : goal.returns-in-Err-quoted-clause-unwritten
+returns-in-Err-quoted-clause-unwritten g c = λ known.
     absurd (c.in-Err-quoted.ensures.no_stream known (type_stream _ _ _ _ c.in-Ok.ensures.written))
