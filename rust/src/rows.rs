@@ -1,0 +1,304 @@
+//! What a row says, in words of Rust.
+
+use crate::door::{self, Row};
+use crate::error::{self, Error, Fault, Location};
+
+/// What a row is.
+#[derive(Clone, Copy, Debug, PartialEq, Eq)]
+pub(crate) enum Kind {
+    Null,
+    Bool,
+    Unsigned,
+    Signed,
+    Float,
+    String,
+    Bytes,
+    Misfit,
+    Void,
+    Alias,
+    Sequence,
+    SequenceEnd,
+    Mapping,
+    MappingEnd,
+    Document,
+    DocumentEnd,
+    Fault,
+    Float32,
+}
+
+/// How a scalar stands in the source.
+#[derive(Clone, Copy, Debug, PartialEq, Eq)]
+pub(crate) enum Style {
+    Plain,
+    Quoted,
+    Literal,
+    Folded,
+}
+
+/// What a tag is.
+#[derive(Clone, Copy, Debug, PartialEq, Eq)]
+pub(crate) enum TagKind {
+    None,
+    Local,
+    Null,
+    Bool,
+    Int,
+    Float,
+    Other,
+}
+
+/// A scalar as a value of any kind.
+#[derive(Clone, Copy, Debug, PartialEq)]
+pub(crate) enum Scalar {
+    Null,
+    Bool(bool),
+    Unsigned(u128),
+    /// With a minus sign, which `-0` has too.
+    Negative(i128),
+    Float(f64),
+    String,
+    Bytes,
+    /// Its core tag says what it is not; this is what was expected.
+    Misfit(&'static str),
+}
+
+fn kind_of(code: u8) -> Kind {
+    match code {
+        0 => Kind::Null,
+        1 => Kind::Bool,
+        2 => Kind::Unsigned,
+        3 => Kind::Signed,
+        4 => Kind::Float,
+        5 => Kind::String,
+        6 => Kind::Bytes,
+        7 => Kind::Misfit,
+        8 => Kind::Void,
+        9 => Kind::Alias,
+        10 => Kind::Sequence,
+        11 => Kind::SequenceEnd,
+        12 => Kind::Mapping,
+        13 => Kind::MappingEnd,
+        14 => Kind::Document,
+        15 => Kind::DocumentEnd,
+        17 => Kind::Float32,
+        _ => Kind::Fault,
+    }
+}
+
+impl Row {
+    pub fn of(kind: Kind) -> Row {
+        Row { kind: kind as u8, ..Row::default() }
+    }
+
+    pub fn boolean(truth: bool) -> Row {
+        Row { low: u64::from(truth), ..Row::of(Kind::Bool) }
+    }
+
+    pub fn unsigned(number: u128) -> Row {
+        Row { low: number as u64, high: (number >> 64) as u64, ..Row::of(Kind::Unsigned) }
+    }
+
+    pub fn signed(number: i128) -> Row {
+        match u128::try_from(number) {
+            Ok(number) => Row::unsigned(number),
+            Err(_) => Row { kind: Kind::Signed as u8, ..Row::unsigned(number as u128) },
+        }
+    }
+
+    pub fn float(number: f64) -> Row {
+        Row { float_bits: number.to_bits(), ..Row::of(Kind::Float) }
+    }
+
+    pub fn float32(number: f32) -> Row {
+        Row { low: u64::from(number.to_bits()), ..Row::of(Kind::Float32) }
+    }
+
+    pub fn in_quotes(self) -> Row {
+        Row { ask_quotes: 1, ..self }
+    }
+
+    pub fn kind(&self) -> Kind {
+        kind_of(self.kind)
+    }
+
+    pub fn is_scalar(&self) -> bool {
+        self.kind <= Kind::Misfit as u8
+    }
+
+    pub fn style(&self) -> Style {
+        match self.style {
+            0 => Style::Plain,
+            3 => Style::Literal,
+            4 => Style::Folded,
+            _ => Style::Quoted,
+        }
+    }
+
+    pub fn is_plain(&self) -> bool {
+        self.style == 0
+    }
+
+    pub fn tag_kind(&self) -> TagKind {
+        match self.tag_kind {
+            0 => TagKind::None,
+            1 => TagKind::Local,
+            2 => TagKind::Null,
+            3 => TagKind::Bool,
+            4 => TagKind::Int,
+            5 => TagKind::Float,
+            _ => TagKind::Other,
+        }
+    }
+
+    pub fn is_in_source(&self) -> bool {
+        self.text_in_source != 0
+    }
+
+    pub fn place(&self) -> Location {
+        Location::new(self.index, self.line, self.column)
+    }
+
+    /// The float that the text is by itself.
+    pub fn as_float(&self) -> Option<f64> {
+        (self.has_float != 0).then(|| f64::from_bits(self.float_bits))
+    }
+
+    fn number(&self) -> u128 {
+        u128::from(self.low) | u128::from(self.high) << 64
+    }
+
+    fn scalar_of(&self, kind: Kind) -> Scalar {
+        match kind {
+            Kind::Null | Kind::Void => Scalar::Null,
+            Kind::Bool => Scalar::Bool(self.low != 0),
+            Kind::Unsigned => Scalar::Unsigned(self.number()),
+            Kind::Signed => Scalar::Negative(self.number() as i128),
+            Kind::Float => Scalar::Float(f64::from_bits(self.float_bits)),
+            Kind::Bytes => Scalar::Bytes,
+            Kind::Misfit => Scalar::Misfit(match self.tag_kind() {
+                TagKind::Bool => "a boolean",
+                TagKind::Int => "an integer",
+                TagKind::Float => "a float",
+                _ => "null",
+            }),
+            _ => Scalar::String,
+        }
+    }
+
+    /// What a scalar is as a value of any kind.
+    pub fn scalar(&self) -> Scalar {
+        self.scalar_of(self.kind())
+    }
+
+    /// What a scalar's text is by itself.
+    pub fn word(&self) -> Scalar {
+        self.scalar_of(kind_of(self.word))
+    }
+
+    /// Whether a type of this core tag looks at the text of the scalar.
+    pub fn is_open_to(&self, tag: TagKind) -> bool {
+        self.is_scalar() && (self.is_plain() || self.style() == Style::Literal && self.tag_kind() == tag)
+    }
+}
+
+/// The rows of a text, with what their ranges are of.
+pub(crate) struct Loaded<'de> {
+    source: Source<'de>,
+    texts: String,
+    pub rows: Vec<Row>,
+}
+
+enum Source<'de> {
+    Lent(&'de str),
+    Owned(String),
+}
+
+/// A text of a row.
+#[derive(Clone, Copy)]
+pub(crate) enum Text<'de, 'r> {
+    /// It stands in the source, which is lent.
+    Lent(&'de str),
+    /// It stands elsewhere.
+    Kept(&'r str),
+}
+
+impl<'de> Loaded<'de> {
+    /// Of a text that is lent. Bytes that are no UTF-8 have one row of a document and one of its fault.
+    pub fn of_slice(source: &'de [u8]) -> Result<Loaded<'de>, Error> {
+        Loaded::new(source, Source::Lent(std::str::from_utf8(source).unwrap_or("")))
+    }
+
+    /// Of a text that is lent.
+    pub fn of_str(source: &'de str) -> Result<Loaded<'de>, Error> {
+        Loaded::new(source.as_bytes(), Source::Lent(source))
+    }
+
+    /// Of a text that is given.
+    pub fn of_vec(source: Vec<u8>) -> Result<Loaded<'static>, Error> {
+        let (rows, texts) = door::load(&source)?;
+        let source = Source::Owned(String::from_utf8(source).unwrap_or_default());
+        Ok(Loaded { source, texts: utf8(texts)?, rows })
+    }
+
+    fn new(bytes: &[u8], source: Source<'de>) -> Result<Loaded<'de>, Error> {
+        let (rows, texts) = door::load(bytes)?;
+        Ok(Loaded { source, texts: utf8(texts)?, rows })
+    }
+
+    /// The text of a scalar or of a fault.
+    pub fn text<'r>(&'r self, row: &Row) -> Text<'de, 'r> {
+        let (at, len) = (row.text_at, row.text_len);
+        match self.source {
+            Source::Lent(source) if row.is_in_source() => Text::Lent(part(source, at, len)),
+            Source::Owned(ref source) if row.is_in_source() => Text::Kept(part(source, at, len)),
+            _ => Text::Kept(part(&self.texts, at, len)),
+        }
+    }
+
+    /// The tag of a row.
+    pub fn tag(&self, row: &Row) -> &str {
+        part(&self.texts, row.tag_at, row.tag_len)
+    }
+
+    /// A fault's row as a fault.
+    pub fn told(&self, row: &Row) -> Error {
+        error::new(Fault::Text(self.text(row).as_str().to_owned(), Some(row.place())))
+    }
+}
+
+impl<'r> Text<'_, 'r> {
+    pub fn as_str(&self) -> &'r str
+    where
+        Self: 'r,
+    {
+        match *self {
+            Text::Lent(text) => text,
+            Text::Kept(text) => text,
+        }
+    }
+}
+
+// A part of a text; nothing where there is none, which no row asks for.
+fn part(text: &str, at: u64, len: u64) -> &str {
+    let (at, len) = (at as usize, len as usize);
+    text.get(at..at.saturating_add(len)).unwrap_or("")
+}
+
+fn utf8(texts: Vec<u8>) -> Result<String, Error> {
+    String::from_utf8(texts).map_err(|_| error::new(Fault::NoDocument))
+}
+
+/// What a text is as a plain scalar, if it is one as it stands.
+pub(crate) fn plain_scalar(text: &str) -> Result<Option<Scalar>, Error> {
+    let loaded = Loaded::of_str(text)?;
+    Ok(match loaded.rows.as_slice() {
+        [_, row, _] if row.is_scalar() && row.is_plain() && row.text_len == text.len() as u64 => Some(row.scalar()),
+        _ => None,
+    })
+}
+
+/// The text of a float, and a line feed.
+pub(crate) fn float_text(number: f64) -> Result<String, Error> {
+    let rows = [Row::of(Kind::Document), Row::float(number), Row::of(Kind::DocumentEnd)];
+    utf8(door::print(&rows, &[])?)
+}
