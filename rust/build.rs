@@ -32,7 +32,8 @@ fn main() {
         ));
     }
     let beside = [Some(folder.clone()), toolchain()];
-    let Some(libc) = beside.iter().flatten().map(|folder| folder.join("liblibc_c.a")).find(|file| file.is_file()) else {
+    let Some(libc) = beside.iter().flatten().map(|folder| folder.join("liblibc_c.a")).find(|file| file.is_file())
+    else {
         missing(&format!(
             "liblibc_c.a is missing: put the toolchain's, which lies in the folder c beside the page that `rt doc` \
              names, into {}.",

@@ -18,6 +18,7 @@ mod de;
 #[allow(unsafe_code)]
 mod door;
 mod error;
+mod loaded;
 pub mod mapping;
 mod number;
 mod path;

@@ -1,7 +1,8 @@
 //! Numbers of a [`Value`](crate::Value).
 
 use crate::error::{self, Error, Fault};
-use crate::rows::{self, Scalar};
+use crate::loaded;
+use crate::rows::Scalar;
 use serde::de::{self, Unexpected, Visitor};
 use serde::{forward_to_deserialize_any, Deserialize, Deserializer, Serialize, Serializer};
 use std::cmp::Ordering;
@@ -183,7 +184,7 @@ impl Display for Number {
         match self.held {
             Held::Unsigned(number) => Display::fmt(&number, f),
             Held::Negative(number) => Display::fmt(&number, f),
-            Held::Float(number) => match rows::float_text(number) {
+            Held::Float(number) => match loaded::float_text(number) {
                 Ok(text) => f.write_str(text.trim_end()),
                 Err(_) => Debug::fmt(&number, f),
             },
@@ -202,7 +203,7 @@ impl FromStr for Number {
 
     /// The number that the text is as a plain scalar.
     fn from_str(text: &str) -> Result<Number, Error> {
-        match rows::plain_scalar(text)? {
+        match loaded::plain_scalar(text)? {
             Some(Scalar::Unsigned(number)) => match u64::try_from(number) {
                 Ok(number) => Ok(number.into()),
                 Err(_) => NumberVisitor.visit_u128(number),
@@ -272,4 +273,4 @@ macro_rules! number_deserializer {
     )*};
 }
 
-number_deserializer!(Number &Number);
+number_deserializer!(Number & Number);

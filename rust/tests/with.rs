@@ -41,7 +41,10 @@ fn a_field() {
 #[test]
 fn what_is_no_mapping_of_one_pair() {
     let fault = |text| from_str::<Job>(text).unwrap_err().to_string();
-    assert_eq!(fault("size: {Exact: 1, Any: 2}"), "size: invalid value: map, expected map with a single key at line 1 column 7");
+    assert_eq!(
+        fault("size: {Exact: 1, Any: 2}"),
+        "size: invalid value: map, expected map with a single key at line 1 column 7"
+    );
     assert_eq!(fault("size: {}"), "size: invalid value: map, expected map with a single key at line 1 column 7");
     assert_eq!(fault("size: [1]"), "size: invalid type: sequence, expected enum Size at line 1 column 7");
 }

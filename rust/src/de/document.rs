@@ -3,8 +3,9 @@
 use super::reader::Reader;
 use crate::door::Row;
 use crate::error::{self, Error, Fault, Result};
+use crate::loaded::Loaded;
 use crate::path::Path;
-use crate::rows::{Kind, Loaded};
+use crate::rows::Kind;
 use std::sync::Arc;
 
 /// The documents that are still to come.

@@ -7,7 +7,7 @@ mod scalar;
 mod typed;
 
 use crate::error::{self, Error, Fault, Result};
-use crate::rows::Loaded;
+use crate::loaded::Loaded;
 use document::{Document, Documents};
 use reader::Reader;
 use serde::de::{self, Deserialize, DeserializeOwned, Visitor};

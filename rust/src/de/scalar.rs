@@ -3,7 +3,8 @@
 use super::reader::Reader;
 use crate::door::Row;
 use crate::error::{self, Error, Fault, Result};
-use crate::rows::{Kind, Scalar, Text};
+use crate::loaded::Text;
+use crate::rows::{Kind, Scalar};
 use serde::de::{self, Expected, Unexpected, Visitor};
 use std::fmt;
 

@@ -28,7 +28,7 @@ impl Index for usize {
     fn index_into<'v>(&self, value: &'v Value) -> Option<&'v Value> {
         match value.untag_ref() {
             Value::Sequence(sequence) => sequence.get(*self),
-            Value::Mapping(mapping) => mapping.get(&Value::Number((*self).into())),
+            Value::Mapping(mapping) => mapping.get(Value::Number((*self).into())),
             _ => None,
         }
     }
@@ -36,7 +36,7 @@ impl Index for usize {
     fn index_into_mut<'v>(&self, value: &'v mut Value) -> Option<&'v mut Value> {
         match value.untag_mut() {
             Value::Sequence(sequence) => sequence.get_mut(*self),
-            Value::Mapping(mapping) => mapping.get_mut(&Value::Number((*self).into())),
+            Value::Mapping(mapping) => mapping.get_mut(Value::Number((*self).into())),
             _ => None,
         }
     }
@@ -56,7 +56,7 @@ impl Index for usize {
     }
 }
 
-fn key_into<'v>(mapping: &'v mut Mapping, key: Value) -> &'v mut Value {
+fn key_into(mapping: &mut Mapping, key: Value) -> &mut Value {
     match mapping.entry(key) {
         Entry::Occupied(entry) => entry.into_mut(),
         Entry::Vacant(entry) => entry.insert(Value::Null),

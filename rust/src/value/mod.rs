@@ -7,6 +7,7 @@ mod debug;
 mod from;
 mod index;
 mod probe;
+mod read;
 mod ser;
 mod tagged;
 
@@ -15,8 +16,8 @@ pub use crate::number::Number;
 pub use convert::{from_value, to_value};
 pub use index::Index;
 pub use ser::Serializer;
-pub use tagged::{Tag, TaggedValue};
 pub(crate) use tagged::{check_for_tag, MaybeTag};
+pub use tagged::{Tag, TaggedValue};
 
 use crate::error::{self, Fault, Result};
 use std::hash::{Hash, Hasher};

@@ -66,7 +66,8 @@ impl Tally {
                 format!("only the original reads: {}", plain(&a.0))
             }
         };
-        let kind = known(text, &ours, &theirs).map_or(kind, |known| format!("KNOWN {known}"));
+        let known = known(text, &ours, &theirs).or_else(|| repeats_an_anchor(text));
+        let kind = known.map_or(kind, |known| format!("KNOWN {known}"));
         self.kind(kind, || shown(name, text, &ours, &theirs));
     }
 }
@@ -86,6 +87,9 @@ fn known(text: &[u8], ours: &Read, theirs: &Read) -> Option<&'static str> {
         (Ok(a), Ok(b)) if !is_ascii && a.replace("Borrowed(", "Str(") == b.replace("Borrowed(", "Str(") => {
             Some("texts behind a character past ASCII are lent too")
         }
+        (_, Err(b)) if !is_ascii && b.0.contains("expected a borrowed string") => {
+            Some("texts behind a character past ASCII are lent too")
+        }
         (Err(a), Err(b)) => {
             let place = |place: Option<(usize, usize, usize)>| place.map(|(line, column, _)| (line, column));
             let is_same_place = if is_ascii { a.1 == b.1 } else { place(a.1) == place(b.1) };
@@ -101,21 +105,28 @@ fn known(text: &[u8], ours: &Read, theirs: &Read) -> Option<&'static str> {
     }
 }
 
+// The original takes another node for an alias where an anchor's name stands twice.
+fn repeats_an_anchor(text: &[u8]) -> Option<&'static str> {
+    let text = std::str::from_utf8(text).ok()?;
+    let mut names: Vec<&str> =
+        text.split('&').skip(1).map(|rest| rest.split([' ', '\n', ',', ']', '}']).next().unwrap_or("")).collect();
+    names.sort_unstable();
+    let repeats = names.windows(2).any(|pair| pair[0] == pair[1]);
+    (repeats && text.contains('*')).then_some("an alias reads the last node of its anchor, where names repeat")
+}
+
 // The same of a text that was written.
 fn known_text(ours: &str, theirs: &str) -> Option<&'static str> {
-    let is_float = |word: &str| word.parse::<f64>().map_or(false, |float| !float.is_finite());
-    let unquoted = |line: &str| {
-        let word = line.trim_start_matches(['-', ' ', '?']).rsplit(": ").next().unwrap_or("").trim_matches('\'');
-        is_float(word) || line.split(':').any(|word| is_float(word.trim_matches(['\'', '-', ' '])))
-    };
     if theirs.contains("\\U000") {
         return Some("a character past U+FFFF stands as it is");
     }
     if theirs.contains(['\u{2028}', '\u{2029}']) {
         return Some("U+2028 and U+2029 are escaped");
     }
-    let differing = ours.lines().zip(theirs.lines()).filter(|(a, b)| a != b);
-    if ours.lines().count() == theirs.lines().count() && differing.clone().all(|(a, _)| unquoted(a)) {
+    let is_past_range = |word: &str| word.parse::<f64>().map_or(false, |float| !float.is_finite());
+    let is_quoted =
+        |(a, b): (&str, &str)| a == b || a.replace('\'', "") == b.replace('\'', "") && a.split('\'').any(is_past_range);
+    if ours.lines().count() == theirs.lines().count() && ours.lines().zip(theirs.lines()).all(is_quoted) {
         return Some("float text beyond the range is quoted");
     }
     None
@@ -200,14 +211,10 @@ where
             ours_of(panelhemp_yaml::from_reader::<_, T>(text)),
             quietly(|| theirs_of(serde_yaml::from_reader::<_, T>(text))),
         ),
-        (2.., Ok(text)) => (
-            ours_of(panelhemp_yaml::from_str::<T>(text)),
-            quietly(|| theirs_of(serde_yaml::from_str::<T>(text))),
-        ),
-        _ => (
-            ours_of(panelhemp_yaml::from_slice::<T>(text)),
-            quietly(|| theirs_of(serde_yaml::from_slice::<T>(text))),
-        ),
+        (2.., Ok(text)) => {
+            (ours_of(panelhemp_yaml::from_str::<T>(text)), quietly(|| theirs_of(serde_yaml::from_str::<T>(text))))
+        }
+        _ => (ours_of(panelhemp_yaml::from_slice::<T>(text)), quietly(|| theirs_of(serde_yaml::from_slice::<T>(text)))),
     };
     if let (Some(value), Some((_, Some(_)))) = (&ours.1, &theirs) {
         write(tally, name, value, pool, random);
@@ -281,7 +288,8 @@ fn made(tally: &mut Tally, random: &mut Random) {
 
 fn main() {
     std::panic::set_hook(Box::new(|_| {}));
-    let number = |n: usize, default: u64| std::env::args().nth(n).map_or(default, |word| word.parse().expect("a number"));
+    let number =
+        |n: usize, default: u64| std::env::args().nth(n).map_or(default, |word| word.parse().expect("a number"));
     let (seed, count) = (number(1, 1), number(2, 1000));
     let mut random = Random::of(seed);
     let mut tally = Tally { examples: number(3, 1) as usize, ..Tally::default() };

@@ -38,7 +38,11 @@ fn told(name: &str, bytes: usize, (ours, theirs): (f64, f64)) {
     let rate = |time: f64| bytes as f64 / time / 1e6;
     println!(
         "{name}: {bytes} bytes, ours {:.2} ms ({:.0} MB/s), original {:.2} ms ({:.0} MB/s), ratio {:.2}",
-        ours * 1e3, rate(ours), theirs * 1e3, rate(theirs), ours / theirs
+        ours * 1e3,
+        rate(ours),
+        theirs * 1e3,
+        rate(theirs),
+        ours / theirs
     );
 }
 
@@ -60,10 +64,15 @@ fn both<T: DeserializeOwned + Serialize>(name: &str, runs: usize, value: &T) {
 }
 
 fn main() {
-    let number = |n: usize, default: usize| std::env::args().nth(n).map_or(default, |word| word.parse().expect("a number"));
+    let number =
+        |n: usize, default: usize| std::env::args().nth(n).map_or(default, |word| word.parse().expect("a number"));
     let (runs, size) = (number(1, 15), number(2, 1));
     let mut random = Random::of(7);
-    both("Vec<i64>", runs, &(0..100_000 * size).map(|_| (random.bits() >> random.below(63)) as i64).collect::<Vec<_>>());
+    both(
+        "Vec<i64>",
+        runs,
+        &(0..100_000 * size).map(|_| (random.bits() >> random.below(63)) as i64).collect::<Vec<_>>(),
+    );
     let word = |random: &mut Random| format!("word {} of some", random.below(1_000_000));
     both("Vec<String>", runs, &(0..50_000 * size).map(|_| word(&mut random)).collect::<Vec<_>>());
     let jobs: Vec<Job> = (0..4_000 * size)
