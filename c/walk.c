@@ -1,4 +1,4 @@
-/* walk FILE: prints each scalar of a file with its place, as FILE:LINE:COLUMN: TEXT, and faults so on standard error. */
+/* walk FILE: prints each scalar of a file with its place, as FILE:LINE:COLUMN: TEXT; faults so on standard error. */
 #include "yaml_c.h"
 #include <stdio.h>
 #include <stdlib.h>

@@ -1,32 +1,8 @@
 //! The calls of the proved library, whose header is `c/yaml_c.h`. All `unsafe` of the crate stands in this file.
 
 use crate::error::{self, Error, Fault};
+use crate::rows::Row;
 use std::alloc::{alloc_zeroed, Layout};
-
-/// A row, as `YamlRow` of the header.
-#[repr(C)]
-#[derive(Clone, Copy, Debug, Default)]
-pub(crate) struct Row {
-    pub kind: u8,
-    pub word: u8,
-    pub style: u8,
-    pub tag_kind: u8,
-    pub text_in_source: u8,
-    pub has_float: u8,
-    pub ask_quotes: u8,
-    pub unused: u8,
-    pub text_at: u64,
-    pub text_len: u64,
-    pub tag_at: u64,
-    pub tag_len: u64,
-    pub line: u64,
-    pub column: u64,
-    pub index: u64,
-    pub low: u64,
-    pub high: u64,
-    pub float_bits: u64,
-    pub link: u64,
-}
 
 #[repr(C)]
 #[derive(Default)]
@@ -92,10 +68,10 @@ fn check_version() -> Result<(), Error> {
     Err(error::new(Fault::Version))
 }
 
-/// The rows of a text's documents, and the texts that don't stand in it.
-pub(crate) fn load(text: &[u8]) -> Result<(Vec<Row>, Vec<u8>), Error> {
+/// The rows of a text's documents, and the texts that don't stand in it. So many rows are likely.
+pub(crate) fn load(text: &[u8], likely_rows: usize) -> Result<(Vec<Row>, Vec<u8>), Error> {
     check_version()?;
-    let (mut row_room, mut text_room) = (text.len() / 3 + 16, text.len() / 4 + 64);
+    let (mut row_room, mut text_room) = (likely_rows, text.len() / 4 + 64);
     loop {
         let (mut rows, mut texts) = (zeros::<Row>(row_room)?, zeros::<u8>(text_room)?);
         let mut sizes = Sizes::default();

@@ -1,8 +1,8 @@
 //! The rows of a text, and the texts that they name.
 
-use crate::door::{self, Row};
+use crate::door;
 use crate::error::{self, Error, Fault};
-use crate::rows::{Kind, Scalar};
+use crate::rows::{Kind, Row, Scalar};
 
 /// The rows of a text, with what their ranges are of.
 pub(crate) struct Loaded<'de> {
@@ -38,13 +38,13 @@ impl<'de> Loaded<'de> {
 
     /// Of a text that is given.
     pub fn of_vec(source: Vec<u8>) -> Result<Loaded<'static>, Error> {
-        let (rows, texts) = door::load(&source)?;
+        let (rows, texts) = door::load(&source, likely_rows(&source))?;
         let source = Source::Owned(String::from_utf8(source).unwrap_or_default());
         Ok(Loaded { source, texts: utf8(texts)?, rows })
     }
 
     fn new(bytes: &[u8], source: Source<'de>) -> Result<Loaded<'de>, Error> {
-        let (rows, texts) = door::load(bytes)?;
+        let (rows, texts) = door::load(bytes, likely_rows(bytes))?;
         Ok(Loaded { source, texts: utf8(texts)?, rows })
     }
 
@@ -79,6 +79,12 @@ impl<'r> Text<'_, 'r> {
             Text::Kept(text) => text,
         }
     }
+}
+
+// How many rows a text will mostly take, by the characters that part its nodes.
+fn likely_rows(text: &[u8]) -> usize {
+    let parting = text.iter().filter(|byte| matches!(byte, b'\n' | b',' | b':' | b'[' | b'{')).count();
+    parting + parting / 2 + 16
 }
 
 // A part of a text; nothing where there is none, which no row asks for.

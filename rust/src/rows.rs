@@ -1,7 +1,31 @@
 //! What a row says, in words of Rust.
 
-use crate::door::Row;
 use crate::error::Location;
+
+/// A row, as `YamlRow` of the header.
+#[repr(C)]
+#[derive(Clone, Copy, Debug, Default)]
+pub(crate) struct Row {
+    pub kind: u8,
+    pub word: u8,
+    pub style: u8,
+    pub tag_kind: u8,
+    pub text_in_source: u8,
+    pub has_float: u8,
+    pub ask_quotes: u8,
+    pub unused: u8,
+    pub text_at: u64,
+    pub text_len: u64,
+    pub tag_at: u64,
+    pub tag_len: u64,
+    pub line: u64,
+    pub column: u64,
+    pub index: u64,
+    pub low: u64,
+    pub high: u64,
+    pub float_bits: u64,
+    pub link: u64,
+}
 
 /// What a row is.
 #[derive(Clone, Copy, Debug, PartialEq, Eq)]

@@ -1,8 +1,8 @@
 //! Writing of types: their calls become rows, which the library below prints.
 
-use crate::door::{self, Row};
+use crate::door;
 use crate::error::{self, Fault, Result};
-use crate::rows::Kind;
+use crate::rows::{Kind, Row};
 use serde::ser::Serialize;
 use std::io;
 use std::mem;

@@ -1,11 +1,10 @@
 //! Documents of a text.
 
 use super::reader::Reader;
-use crate::door::Row;
 use crate::error::{self, Error, Fault, Result};
 use crate::loaded::Loaded;
 use crate::path::Path;
-use crate::rows::Kind;
+use crate::rows::{Kind, Row};
 use std::sync::Arc;
 
 /// The documents that are still to come.

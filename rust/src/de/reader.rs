@@ -2,10 +2,9 @@
 
 use super::access::{MapAccess, SeqAccess};
 use super::document::Document;
-use crate::door::Row;
 use crate::error::{self, Error, Fault, Result};
 use crate::path::Path;
-use crate::rows::{Kind, TagKind};
+use crate::rows::{Kind, Row, TagKind};
 use serde::de::{self, Expected, IgnoredAny, Visitor};
 use std::fmt;
 

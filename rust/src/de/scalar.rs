@@ -1,10 +1,9 @@
 //! Visits of scalars, and the faults of what was found.
 
 use super::reader::Reader;
-use crate::door::Row;
 use crate::error::{self, Error, Fault, Result};
 use crate::loaded::Text;
-use crate::rows::{Kind, Scalar};
+use crate::rows::{Kind, Row, Scalar};
 use serde::de::{self, Expected, Unexpected, Visitor};
 use std::fmt;
 

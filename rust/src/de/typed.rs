@@ -2,9 +2,8 @@
 
 use super::access::{MapAccess, SeqAccess, TagAccess, UnitAccess};
 use super::reader::{Reader, Variant};
-use crate::door::Row;
 use crate::error::{self, Error, Fault, Result};
-use crate::rows::{Kind, Scalar, TagKind};
+use crate::rows::{Kind, Row, Scalar, TagKind};
 use serde::de::{self, Deserializer, Unexpected, Visitor};
 
 // An integer of a scalar, if its text is one in the range of a kind.

@@ -1,9 +1,8 @@
 //! The calls of a type that is written.
 
 use super::{Serializer, State};
-use crate::door::Row;
 use crate::error::{self, Error, Fault, Result};
-use crate::rows::Kind;
+use crate::rows::{Kind, Row};
 use crate::value::{check_for_tag, MaybeTag};
 use serde::ser::{self, Serialize};
 use std::fmt::Display;

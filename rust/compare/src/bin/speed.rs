@@ -1,4 +1,5 @@
 //! Times of reading and writing by both crates in one process: the least of some runs, sides by turns.
+//! `speed [RUNS [SIZE]]`: on a machine that others use, take a small SIZE, as 2, and many runs.
 
 use panelhemp_yaml_compare::random::Random;
 use serde::de::{DeserializeOwned, IgnoredAny};
@@ -26,10 +27,9 @@ fn time(runs: usize, mut ours: impl FnMut(), mut theirs: impl FnMut()) -> (f64, 
     for _ in 0..runs {
         let start = Instant::now();
         ours();
-        least.0 = least.0.min(start.elapsed().as_secs_f64());
-        let start = Instant::now();
+        let middle = Instant::now();
         theirs();
-        least.1 = least.1.min(start.elapsed().as_secs_f64());
+        least = (least.0.min((middle - start).as_secs_f64()), least.1.min(middle.elapsed().as_secs_f64()));
     }
     least
 }
@@ -66,16 +66,12 @@ fn both<T: DeserializeOwned + Serialize>(name: &str, runs: usize, value: &T) {
 fn main() {
     let number =
         |n: usize, default: usize| std::env::args().nth(n).map_or(default, |word| word.parse().expect("a number"));
-    let (runs, size) = (number(1, 15), number(2, 1));
+    let (runs, size) = (number(1, 15), number(2, 100));
     let mut random = Random::of(7);
-    both(
-        "Vec<i64>",
-        runs,
-        &(0..100_000 * size).map(|_| (random.bits() >> random.below(63)) as i64).collect::<Vec<_>>(),
-    );
+    both("Vec<i64>", runs, &(0..1000 * size).map(|_| (random.bits() >> random.below(63)) as i64).collect::<Vec<_>>());
     let word = |random: &mut Random| format!("word {} of some", random.below(1_000_000));
-    both("Vec<String>", runs, &(0..50_000 * size).map(|_| word(&mut random)).collect::<Vec<_>>());
-    let jobs: Vec<Job> = (0..4_000 * size)
+    both("Vec<String>", runs, &(0..500 * size).map(|_| word(&mut random)).collect::<Vec<_>>());
+    let jobs: Vec<Job> = (0..40 * size)
         .map(|n| Job {
             name: format!("server number {n}"),
             host: format!("10.0.{}.{}", n % 200, n % 7),
@@ -112,10 +108,11 @@ fn main() {
     );
     told("write Value of it", text.len(), written);
     let small = "name: web\nport: 80\ntags: [a, b]\nlabel: ~\n";
+    let count = 100 * size;
     let small_times = time(
         runs,
-        || (0..10_000).for_each(|_| drop(black_box(panelhemp_yaml::from_str::<IgnoredAny>(small).unwrap()))),
-        || (0..10_000).for_each(|_| drop(black_box(serde_yaml::from_str::<IgnoredAny>(small).unwrap()))),
+        || (0..count).for_each(|_| drop(black_box(panelhemp_yaml::from_str::<IgnoredAny>(small).unwrap()))),
+        || (0..count).for_each(|_| drop(black_box(serde_yaml::from_str::<IgnoredAny>(small).unwrap()))),
     );
-    told("read 10,000 small texts", small.len() * 10_000, small_times);
+    told("read small texts", small.len() * count, small_times);
 }
