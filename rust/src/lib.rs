@@ -1,8 +1,8 @@
 //! YAML for types of `serde`, with the names of `serde_yaml` 0.9, over a library whose safety and results are proved.
 //!
-//! What a text holds, which node an alias stands for, what each scalar is, and how a value is printed is decided in the
-//! library below, which [`door`] calls. This crate turns its rows into the calls of serde's visitors, and the calls of
-//! serde's serializers into rows: that part is tested, not proved.
+//! What a text holds, which node an alias stands for, what each scalar is, and how a value is printed is decided in
+//! the library below, which `src/door.rs` calls. This crate turns its rows into the calls of serde's visitors, and
+//! the calls of serde's serializers into rows: that part is tested, not proved.
 //!
 //! ```
 //! let port: std::collections::BTreeMap<String, u16> = panelhemp_yaml::from_str("web: 80\n")?;
@@ -11,7 +11,7 @@
 //! # Ok::<(), panelhemp_yaml::Error>(())
 //! ```
 
-#![deny(unsafe_op_in_unsafe_fn)]
+#![deny(unsafe_code, unsafe_op_in_unsafe_fn)]
 #![warn(missing_docs)]
 
 mod de;
