@@ -123,6 +123,8 @@ fn tags() {
     let tagged = TaggedValue { tag: Tag::new("t"), value: "x".into() };
     assert_eq!(to_string(&Value::Tagged(Box::new(tagged.clone()))).unwrap(), "!t x\n");
     assert_eq!(from_str::<TaggedValue>("!t x").unwrap(), tagged);
+    assert_eq!(TaggedValue::deserialize(&tagged).unwrap(), tagged);
+    assert_eq!(TaggedValue::deserialize(tagged.clone()).unwrap(), tagged);
     assert_eq!(tagged.tag.to_string(), "!t");
     let twice = Value::Tagged(Box::new(TaggedValue { tag: Tag::new("a"), value: Value::Tagged(Box::new(tagged)) }));
     assert_eq!(to_string(&twice).unwrap_err().to_string(), "serializing nested enums in YAML is not supported yet");

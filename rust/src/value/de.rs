@@ -61,9 +61,9 @@ where
 }
 
 // A variant: its name, and its content if it is tagged.
-struct Variant<N, T> {
-    name: N,
-    content: Option<T>,
+pub(super) struct Variant<N, T> {
+    pub(super) name: N,
+    pub(super) content: Option<T>,
 }
 
 impl<'de, N, T> EnumAccess<'de> for Variant<N, T>
@@ -79,7 +79,7 @@ where
     }
 }
 
-struct Content<T>(Option<T>);
+pub(super) struct Content<T>(Option<T>);
 
 fn no_content<T>(expected: &'static str) -> Result<T> {
     Err(de::Error::invalid_type(Unexpected::UnitVariant, &expected))

@@ -1,8 +1,10 @@
 //! Values under local tags.
 
+use super::de::Variant;
 use super::Value;
 use crate::error::{self, Error, Fault};
 use serde::de::{self, Deserialize, DeserializeSeed, Deserializer, EnumAccess, VariantAccess, Visitor};
+use serde::forward_to_deserialize_any;
 use serde::ser::{Serialize, SerializeMap, Serializer};
 use std::cmp::Ordering;
 use std::fmt::{self, Debug, Display, Write};
@@ -135,6 +137,29 @@ impl<'de> Deserialize<'de> for TaggedValue {
         }
         deserializer.deserialize_any(TaggedVisitor)
     }
+}
+
+macro_rules! tagged_deserializer {
+    ($($holder:ty: $tagged:ident => $variant:expr;)*) => {$(
+        impl<'de> Deserializer<'de> for $holder {
+            type Error = Error;
+
+            fn deserialize_any<V: Visitor<'de>>(self, visitor: V) -> Result<V::Value, Error> {
+                let $tagged = self;
+                visitor.visit_enum($variant)
+            }
+
+            forward_to_deserialize_any! {
+                bool i8 i16 i32 i64 i128 u8 u16 u32 u64 u128 f32 f64 char str string bytes byte_buf option unit
+                unit_struct newtype_struct seq tuple tuple_struct map struct enum identifier ignored_any
+            }
+        }
+    )*};
+}
+
+tagged_deserializer! {
+    TaggedValue: tagged => Variant { name: tagged.tag.name().to_owned(), content: Some(tagged.value) };
+    &'de TaggedValue: tagged => Variant { name: tagged.tag.name(), content: Some(&tagged.value) };
 }
 
 /// Reads the name of a tag.
