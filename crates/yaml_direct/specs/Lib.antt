@@ -6,3 +6,4 @@ pub mod Gaps
 pub mod Leaves
 pub mod Lines
 pub mod Places
+pub mod Quoted

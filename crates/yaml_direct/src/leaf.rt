@@ -2,9 +2,13 @@
 //! since one that is a key begins a mapping first.
 #![tactic(auto, using(crate::proofs::Growing::grows_on, crate::proofs::Growing::grows_same))]
 
-ghost use Rattle.std.specs.Prelude.{◌≡◌, ◌≢◌, ◌<◌, ◌≤◌, IfSome, length};
+ghost use Rattle.std.specs.Prelude.{◌≡◌, ◌≢◌, ◌<◌, ◌≤◌, ℕ, IfSome, None, false, length};
+ghost use Rattle.yaml_direct.specs.Bytes.{at};
 ghost use Rattle.yaml_direct.specs.Leaves.{IsPart};
 ghost use Rattle.yaml_direct.specs.Places.{IsHere, Keeps, Reaches, no_place};
+ghost use Rattle.yaml_direct.specs.Quoted.{AddsQuoted, IsQuotedLeaf};
+ghost use Rattle.yaml_direct.specs.declared.quote.Quote.{Quote};
+ghost use Rattle.yaml_direct.specs.declared.quote.Quote.TheVariants.{Double, Single};
 
 use crate::byte::at;
 use crate::place::NO_PLACE;
@@ -56,7 +60,8 @@ impl Leaf {
 #[inline(always)]
 fn find_quoted(text: &[u8], quote: Quote, from: usize) -> Leaf
     requires { from < length text.now }
-    ensures { IsPart text.now from result }
+    ensures part { IsPart text.now from result }
+    ensures quoted { IsQuotedLeaf text.now quote from result }
 {
     let begin = from + 1;
     let first = run_end(text, quote, begin);
@@ -115,7 +120,10 @@ fn find_plain(text: &[u8], flow: bool, from: usize) -> Option<Leaf>
 #[inline(always)]
 pub(crate) fn find_leaf(text: &[u8], flow: bool, from: usize) -> Option<Leaf>
     requires { from ≤ length text.now }
-    ensures { IfSome result (IsPart text.now from) }
+    ensures part { IfSome result (IsPart text.now from) }
+    ensures double { at text.now from ≡ 34 → IfSome result (IsQuotedLeaf text.now Double from) }
+    ensures single { at text.now from ≡ 39 → IfSome result (IsQuotedLeaf text.now Single from) }
+    ensures some { result ≡ None → (at text.now from ≢ 34) × (at text.now from ≢ 39) }
 {
     match at(text, from) {
         b'"' => Some(find_quoted(text, Quote::Double, from)),
@@ -172,6 +180,8 @@ impl<'a> Reader<'a> {
         requires within { leaf.end ≤ length self.old.text.now }
         ensures kept { Keeps self.old self.new }
         ensures there { result ≢ no_place → result ≡ leaf.end }
+        ensures quoted { (quote : Quote) (i : ℕ) → IsQuotedLeaf self.old.text.now quote i leaf → self.old.named ≡ false
+            → result ≢ no_place → AddsQuoted self.old self.new quote leaf.begin leaf.end }
     {
         let end = leaf.end;
         match leaf.kind {

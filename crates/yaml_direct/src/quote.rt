@@ -1,7 +1,12 @@
 //! Quotes, and what stands between them in one line.
 
-ghost use Rattle.std.specs.Prelude.{◌≡◌, ◌≢◌, ◌+◌, ◌-◌, ◌<◌, ◌≤◌, IfOk, IsTrue, length};
+ghost use Rattle.std.specs.Prelude.{◌≡◌, ◌≢◌, ◌+◌, ◌-◌, ◌<◌, ◌≤◌, IfOk, IsTrue, length, true};
+ghost use Rattle.memchr.specs.Find.{IsFirstByte};
+ghost use Rattle.std.specs.Option.{option_map};
+ghost use Rattle.yaml_direct.specs.Bytes.{at};
 ghost use Rattle.yaml_direct.specs.Places.{no_place};
+ghost use Rattle.yaml_direct.specs.Quoted.{Closes, ClosesInLine, EndsRun, IsRun, UnquotesIf, is_other, is_stop};
+ghost use Rattle.yaml_direct.specs.Quoted.{quote_of, quoted_from, style_of};
 
 use crate::byte::at;
 use crate::escape::read_escape;
@@ -21,7 +26,8 @@ impl Quote {
     // The quote itself.
     #[inline(always)]
     pub(crate) fn byte(self) -> u8
-        ensures { 0 < result }
+        ensures some { 0 < result }
+        ensures quote { result ≡ quote_of self }
     {
         match self {
             Quote::Single => b'\'',
@@ -30,11 +36,24 @@ impl Quote {
     }
 
     // The style of such a scalar.
-    pub(crate) fn style(self) -> ScalarStyle {
+    pub(crate) fn style(self) -> ScalarStyle
+        ensures { result ≡ style_of self }
+    {
         match self {
             Quote::Single => ScalarStyle::SingleQuoted,
             Quote::Double => ScalarStyle::DoubleQuoted,
         }
+    }
+}
+
+// The first byte that does not stand for itself between such quotes.
+#[inline(always)]
+fn first_stop(text: &[u8], quote: Quote) -> Option<usize>
+    ensures { IsFirstByte (is_stop quote) text.now result }
+{
+    match quote {
+        Quote::Single => memchr2(b'\'', b'\n', text),
+        Quote::Double => memchr3(b'"', b'\\', b'\n', text),
     }
 }
 
@@ -45,13 +64,10 @@ pub(crate) fn run_end(text: &[u8], quote: Quote, from: usize) -> usize
     requires { from ≤ length text.now }
     ensures forward { from ≤ result }
     ensures within { result ≤ length text.now }
+    ensures run { IsRun text.now quote from result }
+    ensures ends { EndsRun text.now quote result }
 {
-    let rest = &text[from..];
-    let len = match quote {
-        Quote::Single => memchr2(b'\'', b'\n', rest),
-        Quote::Double => memchr3(b'"', b'\\', b'\n', rest),
-    };
-    match len {
+    match first_stop(&text[from..], quote) {
         Some(len) => from + len,
         None => text.len(),
     }
@@ -62,6 +78,7 @@ pub(crate) fn closing(text: &[u8], quote: Quote, from: usize) -> usize
     requires { from ≤ length text.now }
     ensures forward { from ≤ result }
     ensures within { result ≤ length text.now }
+    ensures closes { at text.now result ≡ quote_of quote → Closes text.now quote from result }
 {
     let mut place = from;
     'runs: while stands_for_another(text, quote, place) {
@@ -74,7 +91,8 @@ pub(crate) fn closing(text: &[u8], quote: Quote, from: usize) -> usize
 #[inline(always)]
 pub(crate) fn stands_for_another(text: &[u8], quote: Quote, place: usize) -> bool
     requires { place ≤ length text.now }
-    ensures { IsTrue result → place + 2 ≤ length text.now }
+    ensures value { result ≡ is_other text.now quote place }
+    ensures within { IsTrue result → place + 2 ≤ length text.now }
 {
     match quote {
         Quote::Single => at(text, place) == b'\'' && at(text, place + 1) == b'\'',
@@ -93,6 +111,10 @@ pub(crate) fn read_other(
     requires { place < length text.now }
     ensures forward { IfOk result (λ end. place + 1 ≤ end) }
     ensures within { IfOk result (λ end. end ≢ no_place → end ≤ length text.now) }
+    ensures read { is_other text.now quote place ≡ true
+        → IfOk result (λ end. UnquotesIf text.now quote place end out.old.items out.new.items) }
+    ensures run { is_other text.now quote place ≡ true
+        → IfOk result (λ end. end ≢ no_place → (place + 2 ≤ end) × IsRun text.now quote (place + 2) end) }
 {
     match quote {
         Quote::Single => {
@@ -125,6 +147,8 @@ pub(crate) fn unquoted(
     end: usize,
 ) -> Result<Option<Vec<u8>>, AllocError>
     requires { (from ≤ end) × (end ≤ length text.now) }
+    ensures { ClosesInLine text.now quote from end → IfOk result (λ value.
+        quoted_from text.now quote from ≡ option_map (λ v. (end + 1 - from, v.items)) value) }
 {
     let mut value = Vec::with_capacity(alloc, end - from)?;
     let mut place = from;

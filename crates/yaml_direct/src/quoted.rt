@@ -2,7 +2,8 @@
 #![tactic(auto, using(crate::proofs::Growing::grows_on, crate::proofs::Growing::grows_same))]
 
 ghost use Rattle.yaml_direct.specs.Places.{IsHere, Keeps, Reaches, no_place};
-ghost use Rattle.std.specs.Prelude.{◌≡◌, ◌≢◌, ◌+◌, ◌<◌, ◌≤◌, length};
+ghost use Rattle.yaml_direct.specs.Quoted.{AddsQuoted, ClosesInLine, quoted_from};
+ghost use Rattle.std.specs.Prelude.{◌≡◌, ◌≢◌, ◌+◌, ◌<◌, ◌≤◌, None, false, length};
 
 use crate::byte::{at, blanks_end, feed_at, parts_documents};
 use crate::place::{NO_PLACE, reach};
@@ -25,6 +26,10 @@ impl<'a> Reader<'a> {
         requires within { end ≤ length self.old.text.now }
         ensures kept { Keeps self.old self.new }
         ensures there { result ≢ no_place → result ≡ end }
+        ensures found { ClosesInLine self.old.text.now quote from stop → end ≡ stop + 1 → self.old.named ≡ false
+            → result ≢ no_place → AddsQuoted self.old self.new quote from end }
+        ensures missed { ClosesInLine self.old.text.now quote from stop → end ≢ no_place → result ≡ no_place
+            → self.new.starved ≡ false → quoted_from self.old.text.now quote from ≡ None }
     {
         match unquoted(self.alloc, self.text, quote, from, stop) {
             Ok(Some(value)) => self.push_scalar(value, quote.style(), end, end),

@@ -41,7 +41,7 @@ pub(crate) fn spot(index: usize) -> Spot
 
 impl<'a> Reader<'a> {
     ghost use Rattle.yaml_direct.specs.Places.{Grows, IsHere, Keeps, no_place};
-    ghost use Rattle.std.specs.Prelude.{[], IfSome, take};
+    ghost use Rattle.std.specs.Prelude.{[], IfSome, take, true};
     ghost use Rattle.yaml_tape.specs.Pushes.{marked_on};
 
     // At the beginning of a text, whose first line begins in this place.
@@ -84,6 +84,7 @@ impl<'a> Reader<'a> {
     #[cold]
     pub(crate) fn starve(&mut self) -> usize
         ensures none { result ≡ no_place }
+        ensures starved { self.new.starved ≡ true }
         ensures kept { Keeps self.old self.new }
         ensures tape { self.new.tape ≡ self.old.tape }
     {

@@ -1,8 +1,14 @@
-use Rattle.std.proofs.Common.{◌≤◌, ◌-◌, length}
+-- What closes the scalar from here on closes it from the start on.
+use Rattle.std.proofs.Common.{ℕ, ◌≤◌, ◌-◌, length}
+use Rattle.yaml_direct.specs.Quoted.{Closes}
 use Rattle.yaml_direct.proofs.quote.closing.Given as goal
 
 abbrev pub invariant-runs : goal.invariant-runs
-invariant-runs l = (l.from ≤ l.place) × (l.place ≤ length l.text)
+invariant-runs l = record {
+  forward : l.from ≤ l.place;
+  within : l.place ≤ length l.text;
+  closes : (j : ℕ) → Closes l.text l.quote l.place j → Closes l.text l.quote l.from j;
+}
 
 abbrev pub decreases-runs : goal.decreases-runs
 decreases-runs l = length l.initial.text - l.place
