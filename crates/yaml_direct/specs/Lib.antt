@@ -5,4 +5,6 @@ pub mod Documents
 pub mod Gaps
 pub mod Leaves
 pub mod Lines
+pub mod PlainTexts
 pub mod Places
+pub mod Tokens

@@ -79,6 +79,7 @@ impl Reader<'_> {
         requires piece { IsPiece self.old.tape text }
         ensures kept { Keeps self.old self.new }
         ensures there { result ≢ no_place → result ≡ next }
+        ensures starved { result ≡ no_place → next ≢ no_place → self.new.starved ≡ true }
         ensures added { self.old.named ≡ false → result ≢ no_place
             → AddsScalar self.old self.new (piece_of self.old.tape text) style end }
     {
@@ -106,6 +107,7 @@ impl Reader<'_> {
         requires piece { IsPiece self.old.tape text }
         ensures kept { Keeps self.old self.new }
         ensures there { result ≢ no_place → result ≡ next }
+        ensures starved { result ≡ no_place → next ≢ no_place → self.new.starved ≡ true }
     {
         let Some(names) = self.keep_names() else {
             return self.starve();
@@ -130,6 +132,7 @@ impl Reader<'_> {
         requires within { end ≤ length self.old.text.now }
         ensures kept { Keeps self.old self.new }
         ensures there { result ≢ no_place → result ≡ next }
+        ensures starved { result ≡ no_place → next ≢ no_place → self.new.starved ≡ true }
         ensures added { self.old.named ≡ false → result ≢ no_place
             → AddsScalar self.old self.new value.items style end }
     {
@@ -155,6 +158,7 @@ impl Reader<'_> {
         requires within { end ≤ length self.old.text.now }
         ensures kept { Keeps self.old self.new }
         ensures there { result ≢ no_place → result ≡ next }
+        ensures starved { result ≡ no_place → next ≢ no_place → self.new.starved ≡ true }
         ensures added { self.old.named ≡ false → result ≢ no_place
             → AddsScalar self.old self.new (slice_range self.old.text.now from to) style end }
     {
