@@ -5,5 +5,7 @@ pub mod Documents
 pub mod Gaps
 pub mod Leaves
 pub mod Lines
+pub mod PlainTexts
 pub mod Places
 pub mod Quoted
+pub mod Tokens

@@ -1,8 +1,9 @@
 //! What single bytes of a text mean. A place is an index; behind the text each byte is 0.
 
-ghost use Rattle.std.specs.Prelude.{true, ◌≡◌, ◌≢◌, ◌+◌, ◌<◌, ◌≤◌, IsTrue, length};
+ghost use Rattle.std.specs.Prelude.{true, ◌≡◌, ◌≢◌, ◌+◌, ◌<◌, ◌≤◌, IsTrue, drop, length};
 ghost use Rattle.yaml_direct.specs.Gaps.{InLine, IsLineEnd};
 ghost use Rattle.yaml_direct.specs.Bytes.{AreBlanks, at, is_bracket, is_gap};
+ghost use Rattle.yaml_grammar.specs.Bytes.{is_mark, is_text, is_triple, parts};
 
 use memchr::memchr;
 
@@ -29,6 +30,7 @@ pub(crate) fn is_mark(text: &[u8], byte: u8, place: usize) -> bool
     ensures within { IsTrue result → place < length text.now }
     ensures mark { IsTrue result → at text.now place ≡ byte }
     ensures apart { IsTrue result → is_gap text.now (place + 1) ≡ true }
+    ensures same { is_text text.now ≡ true → 0 < byte → result ≡ is_mark text.now byte place }
 {
     place < text.len() && text[place] == byte && is_gap(text, place + 1)
 }
@@ -45,7 +47,8 @@ pub(crate) fn is_bracket(byte: u8) -> bool
 #[inline(always)]
 fn is_triple(text: &[u8], byte: u8, place: usize) -> bool
     requires { 0 < byte }
-    ensures { IsTrue result → place + 3 ≤ length text.now }
+    ensures within { IsTrue result → place + 3 ≤ length text.now }
+    ensures same { is_text text.now ≡ true → result ≡ is_triple byte (drop place text.now) }
 {
     place < text.len()
         && text[place] == byte
@@ -56,20 +59,24 @@ fn is_triple(text: &[u8], byte: u8, place: usize) -> bool
 
 // Whether `---` stands here, where a line begins.
 pub(crate) fn begins_document(text: &[u8], place: usize) -> bool
-    ensures { IsTrue result → place + 3 ≤ length text.now }
+    ensures within { IsTrue result → place + 3 ≤ length text.now }
+    ensures same { is_text text.now ≡ true → result ≡ is_triple 45 (drop place text.now) }
 {
     is_triple(text, b'-', place)
 }
 
 // Whether `...` stands here, where a line begins.
 pub(crate) fn ends_document(text: &[u8], place: usize) -> bool
-    ensures { IsTrue result → place + 3 ≤ length text.now }
+    ensures within { IsTrue result → place + 3 ≤ length text.now }
+    ensures same { is_text text.now ≡ true → result ≡ is_triple 46 (drop place text.now) }
 {
     is_triple(text, b'.', place)
 }
 
 // Whether `---` or `...` stands here, where a line begins.
-pub(crate) fn parts_documents(text: &[u8], place: usize) -> bool {
+pub(crate) fn parts_documents(text: &[u8], place: usize) -> bool
+    ensures { is_text text.now ≡ true → result ≡ parts (drop place text.now) }
+{
     matches!(at(text, place), b'-' | b'.')
         && (begins_document(text, place) || ends_document(text, place))
 }
@@ -120,6 +127,7 @@ pub(crate) fn feed_at(text: &[u8], place: usize) -> usize
     requires { place ≤ length text.now }
     ensures forward { place ≤ result }
     ensures within { result ≤ length text.now }
+    ensures here { at text.now place ≢ 13 → result ≡ place }
 {
     if at(text, place) == b'\r' && at(text, place + 1) == b'\n' {
         place + 1

@@ -1,9 +1,12 @@
 //! What stands between two tokens: blanks, comments and line feeds.
 #![tactic(auto, using(crate::proofs::Growing::grows_on, crate::proofs::Growing::grows_same))]
 
-ghost use Rattle.std.specs.Prelude.{◌≡◌, ◌==◌, not, ◌≢◌, ◌<◌, ◌≤◌, IsTrue, length};
+ghost use Rattle.std.specs.Prelude.{◌≡◌, ◌==◌, not, ◌≢◌, ◌<◌, ◌≤◌, ◌⊎◌, IsTrue, false, length, true};
 ghost use Rattle.yaml_direct.specs.Gaps.{Between, is_apart};
 ghost use Rattle.yaml_direct.specs.Places.{IsHere, Keeps, Reaches, no_place};
+ghost use Rattle.yaml_direct.specs.Tokens.{HasNoToken, IsAmidLine, IsAtNext};
+ghost use Rattle.yaml_grammar.specs.Bytes.{is_over, is_text};
+ghost use Rattle.yaml_grammar.specs.Gaps.{ends_its_line, next};
 
 use crate::byte::{at, is_feed, line_end, spaces_end};
 use crate::place::{NO_PLACE, reach};
@@ -21,7 +24,9 @@ fn is_apart(text: &[u8], place: usize) -> bool
 // Whether a token begins with this byte.
 #[inline(always)]
 pub(crate) fn begins_token(byte: u8) -> bool
-    ensures { IsTrue result → 0 < byte }
+    ensures some { IsTrue result → 0 < byte }
+    ensures token { IsTrue result → (32 < byte) × (byte ≢ 35) }
+    ensures other { result ≡ false → 32 < byte → byte ≡ 35 }
 {
     byte > b' ' && byte != b'#'
 }
@@ -34,8 +39,13 @@ impl Reader<'_> {
         ensures reached { Reaches self.old self.new from result }
         ensures start { self.new.start ≡ self.old.start }
         ensures still { self.new.tape ≡ self.old.tape }
+        ensures named { self.new.named ≡ self.old.named }
         ensures between { result ≢ no_place
             → Between self.old.text.now (not (self.new.line == self.old.line)) from result }
+        ensures found { is_text self.old.text.now ≡ true → result ≢ no_place
+            → IsAtNext self.old self.new from result }
+        ensures missed { is_text self.old.text.now ≡ true → result ≡ no_place
+            → HasNoToken self.old.text.now from }
     {
         let text = self.text;
         let mut place = from;
@@ -68,6 +78,13 @@ impl Reader<'_> {
         ensures reached { Reaches self.old self.new from result }
         ensures start { self.new.start ≡ self.old.start }
         ensures still { self.new.tape ≡ self.old.tape }
+        ensures named { self.new.named ≡ self.old.named }
+        ensures found { is_text self.old.text.now ≡ true → result ≢ no_place
+            → IsAtNext self.old self.new from result }
+        ensures ended { is_text self.old.text.now ≡ true → result ≢ no_place
+            → ends_its_line self.old.text.now from ≡ true }
+        ensures missed { is_text self.old.text.now ≡ true → result ≡ no_place
+            → ends_its_line self.old.text.now from ≡ false }
     {
         let text = self.text;
         if at(text, from) != b'\n' {
@@ -89,6 +106,13 @@ impl Reader<'_> {
         ensures reached { Reaches self.old self.new from result }
         ensures start { self.new.start ≡ self.old.start }
         ensures still { self.new.tape ≡ self.old.tape }
+        ensures named { self.new.named ≡ self.old.named }
+        ensures found { is_text self.old.text.now ≡ true → result ≢ no_place
+            → IsAtNext self.old self.new from result }
+        ensures ended { is_text self.old.text.now ≡ true → result ≢ no_place
+            → ends_its_line self.old.text.now from ≡ true }
+        ensures missed { is_text self.old.text.now ≡ true → result ≡ no_place
+            → ends_its_line self.old.text.now from ≡ false }
     {
         let line = self.line;
         let next = self.gap(from);
@@ -105,6 +129,12 @@ impl Reader<'_> {
         ensures reached { Reaches self.old self.new from result }
         ensures start { self.new.start ≡ self.old.start }
         ensures inside { result ≢ no_place → result < length self.old.text.now }
+        ensures found { is_text self.old.text.now ≡ true → result ≢ no_place
+            → IsAtNext self.old self.new from result }
+        ensures there { is_text self.old.text.now ≡ true → IsAmidLine self.old from → result ≢ no_place
+            → is_over self.old.text.now result ≡ false }
+        ensures missed { is_text self.old.text.now ≡ true → IsAmidLine self.old from → result ≡ no_place
+            → HasNoToken self.old.text.now from ⊎ (is_over self.old.text.now (next self.old.text.now from) ≡ true) }
     {
         let text = self.text;
         if begins_token(at(text, from)) {
@@ -123,6 +153,12 @@ impl Reader<'_> {
         ensures reached { Reaches self.old self.new from result }
         ensures start { self.new.start ≡ self.old.start }
         ensures inside { result ≢ no_place → result < length self.old.text.now }
+        ensures found { is_text self.old.text.now ≡ true → result ≢ no_place
+            → IsAtNext self.old self.new from result }
+        ensures there { is_text self.old.text.now ≡ true → IsAmidLine self.old from → result ≢ no_place
+            → is_over self.old.text.now result ≡ false }
+        ensures missed { is_text self.old.text.now ≡ true → IsAmidLine self.old from → result ≡ no_place
+            → HasNoToken self.old.text.now from ⊎ (is_over self.old.text.now (next self.old.text.now from) ≡ true) }
     {
         let next = reach!(self.gap(from));
         if self.is_over(next) {

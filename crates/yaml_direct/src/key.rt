@@ -1,10 +1,13 @@
 //! Keys that stand in one line.
 #![tactic(auto, using(crate::proofs::Growing::grows_on, crate::proofs::Growing::grows_same))]
 
-ghost use Rattle.std.specs.Prelude.{false, true, ◌≡◌, ◌≢◌, ◌+◌, ◌-◌, ◌<◌, ◌≤◌, length};
+ghost use Rattle.std.specs.Prelude.{false, true, ◌≡◌, ◌≢◌, ◌+◌, ◌-◌, ◌^◌, ◌<◌, ◌≤◌, ◌&&◌, not, length};
 ghost use Rattle.yaml_direct.specs.Added.{AddsPlainKey};
 ghost use Rattle.yaml_direct.specs.Bytes.{AreBlanks, at, is_gap, stops_plain};
 ghost use Rattle.yaml_direct.specs.Places.{IsHere, Keeps, Reaches, no_place};
+ghost use Rattle.yaml_direct.specs.Tokens.{EndsKey};
+ghost use Rattle.yaml_grammar.specs.Bytes.{is_mark, is_text};
+ghost use Rattle.yaml_grammar.specs.Gaps.{breaks, next};
 
 use crate::byte::{at, is_mark, spaces_end};
 use crate::leaf::find_leaf;
@@ -23,6 +26,9 @@ pub(crate) fn colon_behind(text: &[u8], end: usize) -> usize
     ensures within { result ≢ no_place → (end ≤ result) × (result < length text.now) }
     ensures blanks { result ≢ no_place → AreBlanks text.now end result }
     ensures mark { result ≢ no_place → (at text.now result ≡ 58) × (is_gap text.now (result + 1) ≡ true) }
+    ensures found { is_text text.now ≡ true → result ≢ no_place → EndsKey text.now end result }
+    ensures missed { is_text text.now ≡ true → length text.now < 2 ^ 32 → result ≡ no_place
+        → (not (breaks text.now end) && is_mark text.now 58 (next text.now end)) ≡ false }
 {
     let colon = spaces_end(text, end);
     if is_mark(text, b':', colon) {

@@ -1,10 +1,12 @@
 //! Plain text, in one line or in more.
 #![tactic(auto, using(crate::proofs::Growing::grows_on, crate::proofs::Growing::grows_same))]
 
-ghost use Rattle.std.specs.Prelude.{◌≡◌, ◌≢◌, ◌+◌, ◌<◌, ◌≤◌, length, ℕ, true, false};
+ghost use Rattle.std.specs.Prelude.{◌≡◌, ◌≢◌, ◌+◌, ◌-◌, ◌<◌, ◌≤◌, length, ℕ, Some, slice_range, true, false};
 ghost use Rattle.yaml_direct.specs.Bytes.{at, may_stop, stops_at_colon, stops_plain};
 ghost use Rattle.yaml_direct.specs.Lines.{PlainLine};
 ghost use Rattle.yaml_direct.specs.Places.{IsHere, Keeps, Reaches, no_place};
+ghost use Rattle.yaml_grammar.specs.Bytes.{is_text, parts_documents};
+ghost use Rattle.yaml_grammar.specs.Plain.{as_key, begins_plain, plain_at};
 
 use crate::byte::{at, feed_at, is_bracket, is_gap, spaces_end};
 use crate::place::{NO_PLACE, reach};
@@ -18,6 +20,8 @@ pub(crate) fn begins_plain(text: &[u8], flow: bool, place: usize) -> bool
     requires { place ≤ length text.now }
     ensures goes { result ≡ true → stops_plain text.now flow place ≡ false }
     ensures some { result ≡ true → at text.now place ≢ 32 }
+    ensures same { is_text text.now ≡ true → parts_documents text.now place ≡ false
+        → result ≡ begins_plain text.now flow place }
 {
     match at(text, place) {
         b'-' => !is_gap(text, place + 1) && !(flow && is_bracket(at(text, place + 1))),
@@ -86,6 +90,8 @@ pub(crate) fn plain_end(text: &[u8], flow: bool, from: usize) -> usize
     ensures forward { from ≤ result }
     ensures within { result ≤ length text.now }
     ensures line { PlainLine text.now flow from result }
+    ensures key { is_text text.now ≡ true → flow ≡ false → begins_plain text.now false from ≡ true
+        → plain_at text.now as_key from ≡ Some (result - from, slice_range text.now from result) }
 {
     let mut place = run_end(text, flow, from);
     'runs: while place < text.len() {

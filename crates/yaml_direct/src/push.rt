@@ -158,6 +158,7 @@ impl Reader<'_> {
         requires within { end ≤ length self.old.text.now }
         ensures kept { Keeps self.old self.new }
         ensures there { result ≢ no_place → result ≡ next }
+        ensures starved { result ≡ no_place → next ≢ no_place → self.new.starved ≡ true }
         ensures added { self.old.named ≡ false → result ≢ no_place
             → AddsScalar self.old self.new (slice_range self.old.text.now from to) style end }
     {

@@ -1,7 +1,7 @@
 //! A text, the line that is read, the node that begins, and the events that were made.
 #![tactic(auto, using(crate::proofs::Growing::grows_on, crate::proofs::Growing::grows_same))]
 
-ghost use Rattle.std.specs.Prelude.{◌≡◌, ◌≢◌, ◌+◌, ◌<◌, ◌≤◌, IsTrue, false, length};
+ghost use Rattle.std.specs.Prelude.{◌≡◌, ◌≢◌, ◌+◌, ◌-◌, ◌<◌, ◌≤◌, IsTrue, false, length, true};
 
 use crate::byte::{is_mark, parts_documents};
 use crate::place::NO_PLACE;
@@ -41,6 +41,9 @@ pub(crate) fn spot(index: usize) -> Spot
 
 impl<'a> Reader<'a> {
     ghost use Rattle.yaml_direct.specs.Places.{Grows, IsHere, Keeps, no_place};
+    ghost use Rattle.yaml_direct.specs.Tokens.{IsCounted, IsLined};
+    ghost use Rattle.yaml_grammar.specs.Bytes.{at, is_over, is_text};
+    ghost use Rattle.yaml_grammar.specs.Gaps.{is_at, is_item, is_within};
     ghost use Rattle.std.specs.Prelude.{[], IfSome, take, true};
     ghost use Rattle.yaml_tape.specs.Pushes.{marked_on};
 
@@ -87,6 +90,7 @@ impl<'a> Reader<'a> {
         ensures starved { self.new.starved ≡ true }
         ensures kept { Keeps self.old self.new }
         ensures tape { self.new.tape ≡ self.old.tape }
+        ensures named { self.new.named ≡ self.old.named }
     {
         self.starved = true;
         NO_PLACE
@@ -101,8 +105,10 @@ impl<'a> Reader<'a> {
         ensures begun { self.new.line_start ≡ place }
         ensures start { self.new.start ≡ self.old.start }
         ensures counted { self.new.line ≡ self.old.line + 1 }
+        ensures named { self.new.named ≡ self.old.named }
         ensures tape { self.new.tape ≡ self.old.tape }
         ensures grows { Grows self.old self.new }
+        ensures column { at self.old.text.now (place - 1) ≡ 10 → IsCounted self.new place }
     {
         self.line += 1;
         self.line_start = place;
@@ -141,7 +147,9 @@ impl<'a> Reader<'a> {
     // Whether the document ends before the next token.
     #[inline(always)]
     pub(crate) fn is_over(&self, next: usize) -> bool
-        ensures { result ≡ false → next ≡ length self.now.text.now → ⊥ }
+        ensures inside { result ≡ false → next ≡ length self.now.text.now → ⊥ }
+        ensures same { is_text self.now.text.now ≡ true → IsLined self.now next
+            → result ≡ is_over self.now.text.now next }
     {
         next == self.text.len() || (next == self.line_start && parts_documents(self.text, next))
     }
@@ -150,7 +158,9 @@ impl<'a> Reader<'a> {
     #[inline(always)]
     pub(crate) fn is_within(&self, next: usize, least: usize) -> bool
         requires { IsHere self.now next }
-        ensures { IsTrue result → next < length self.now.text.now }
+        ensures inside { IsTrue result → next < length self.now.text.now }
+        ensures same { is_text self.now.text.now ≡ true → IsCounted self.now next
+            → result ≡ is_within self.now.text.now least next }
     {
         next - self.line_start >= least && !self.is_over(next)
     }
@@ -159,7 +169,9 @@ impl<'a> Reader<'a> {
     #[inline(always)]
     pub(crate) fn is_at(&self, next: usize, column: usize) -> bool
         requires { IsHere self.now next }
-        ensures { IsTrue result → next < length self.now.text.now }
+        ensures inside { IsTrue result → next < length self.now.text.now }
+        ensures same { is_text self.now.text.now ≡ true → IsCounted self.now next
+            → result ≡ is_at self.now.text.now column next }
     {
         next - self.line_start == column && !self.is_over(next)
     }
@@ -168,7 +180,9 @@ impl<'a> Reader<'a> {
     #[inline(always)]
     pub(crate) fn is_item(&self, next: usize, column: usize) -> bool
         requires { IsHere self.now next }
-        ensures { IsTrue result → next < length self.now.text.now }
+        ensures inside { IsTrue result → next < length self.now.text.now }
+        ensures same { is_text self.now.text.now ≡ true → IsCounted self.now next
+            → result ≡ is_item self.now.text.now column next }
     {
         is_mark(self.text, b'-', next) && next - self.line_start == column
     }
