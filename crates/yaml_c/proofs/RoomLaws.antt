@@ -1,5 +1,5 @@
 -- What is added to the room that is taken stays, whatever comes behind it.
-use Rattle.std.proofs.Common.{arith, ◌≡◌, ℕ, ◌+◌, ◌-◌, ◌≤◌, ◌∙◌, ap, sym, subst, List, [], ◌∷◌, ◌++◌, length}
+use Rattle.std.proofs.Common.{arith, ◌≡◌, ℕ, ◌+◌, ◌-◌, ◌≤◌, ◌∙◌, ap, sym, subst, List, [], ◌++◌, length}
 use Rattle.std.proofs.Common.{drop, take}
 use Rattle.std.proofs.lemmas.List.{append_assoc, append-nil, drop_at, length-take-le, take_at}
 use Rattle.std.proofs.lemmas.Slice.{take-put_mid}

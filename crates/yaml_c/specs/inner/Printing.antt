@@ -1,5 +1,5 @@
 -- What came of printing.
-use Rattle.std.specs.Prelude.{ℕ, List, string_bytes}
+use Rattle.std.specs.Prelude.{List, string_bytes}
 use Rattle.yaml_base.specs.EmitEvents.{PlainEmit}
 use Rattle.yaml_c.specs.declared.print.Outcome.{Outcome}
 use Rattle.yaml_c.specs.declared.print.Outcome.TheVariants.{Text, Refused, Memory}

@@ -1,10 +1,8 @@
 -- One event more was added, and at last all.
 use Rattle.std.proofs.Common.{◌≡◌, take}
 use Rattle.std.proofs.lemmas.List.{take_all}
-use Rattle.yaml_base.specs.DocEventView.{marked_events_of}
 use Rattle.yaml_c.proofs.ShowingLaws.{adds_event, adds_none}
 use Rattle.yaml_c.proofs.document.put_events.Goals as goal
-use Rattle.yaml_c.specs.inner.Showing.{shown_events}
 
 pub loop-place-init : goal.loop-place-init
 loop-place-init c = adds_none c.args.source.now _

@@ -1,5 +1,5 @@
 -- The tag stands in front of the text.
-use Rattle.std.proofs.Common.{◌≡◌, ℕ, List, Option, None, Some}
+use Rattle.std.proofs.Common.{◌≡◌, ℕ, List, None, Some}
 use Rattle.std.specs.Prelude.{if◌then◌else◌, ◌==◌}
 use Rattle.yaml_c.proofs.RoomLaws.{grows_on, holds_on}
 use Rattle.yaml_c.proofs.event.scalar_row.Goals as goal
