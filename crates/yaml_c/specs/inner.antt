@@ -1,0 +1,4 @@
+-- What private contracts cite: room that is taken, what rows in it show, and what came of printing.
+pub mod Printing
+pub mod Room
+pub mod Showing
