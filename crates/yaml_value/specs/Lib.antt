@@ -2,6 +2,7 @@
 pub mod Find
 pub mod Forms
 pub mod Kinds
+pub mod Merge
 pub mod Numbers
 pub mod PlainEqual
 pub mod PlainValue

@@ -4,7 +4,8 @@
 //! Clauses go by plain values, as which `plain` sees each value. What is found at a key, changed or taken out there, is
 //! told of all mappings. That a key which stands there is found, and that equal values are called so, is told of
 //! mappings with fewer than 16 pairs, whose keys are gone over one by one: no clause tells that the index of larger
-//! ones misses none. Nor does one tell of merging, and of what is read and written.
+//! ones misses none. Of merging it is told likewise, where no mapping in a value has as many pairs. No clause tells of
+//! what is read and written.
 #![tactic(auto)]
 
 mod index;

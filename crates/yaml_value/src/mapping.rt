@@ -163,6 +163,41 @@ fn place_in(entries: &Vec<Entry>, key: &str) -> Option<usize>
     place_of_text(key, entries.as_slice())
 }
 
+// The value of an entry, to be changed.
+fn lend_value(entry: &mut Entry) -> &mut Value
+    ensures { plain result.now ≡ (plain_entry entry.old).1 }
+{
+    &mut entry.value
+}
+
+// The same of the entry in a place.
+fn lend_in(entries: &mut Vec<Entry>, place: Option<usize>) -> Option<&mut Value>
+    ensures { option_map (λ value. plain value.now) result
+        ≡ option_and_then (λ i. value_in_place i (entry_pairs entries.old.items)) place }
+{
+    match place {
+        Some(i) => {
+            if i < entries.len() {
+                Some(lend_value(&mut entries[i]))
+            } else {
+                None
+            }
+        }
+        None => None,
+    }
+}
+
+// The value at the key that is this text, to be changed.
+fn lend_at_text<'e>(entries: &'e mut Vec<Entry>, key: &str) -> Option<&'e mut Value>
+    ensures found { let pairs = entry_pairs entries.old.items in
+        IfSome result (λ value. IsValueAt (text key.now) pairs (plain value.now)) }
+    ensures few { let pairs = entry_pairs entries.old.items in
+        pair_count pairs < few → option_map (λ value. plain value.now) result ≡ value_at (text key.now) pairs }
+{
+    let place = place_in(entries, key);
+    lend_in(entries, place)
+}
+
 // Takes the entry out whose key is this text, and answers its value.
 fn remove_text(entries: &mut Vec<Entry>, key: &str) -> Option<Value>
     ensures taken { let old = entry_pairs entries.old.items in
@@ -328,13 +363,13 @@ impl Mapping {
     }
 
     /// The value at the key that is this text, to be changed.
-    pub fn get_mut(&mut self, key: &str) -> Option<&mut Value> {
-        let place = place_of_text(key, self.entries.as_slice())?;
-        if place < self.entries.len() {
-            Some(&mut self.entries[place].value)
-        } else {
-            None
-        }
+    pub fn get_mut(&mut self, key: &str) -> Option<&mut Value>
+        ensures found { let pairs = plain_pairs self.old in
+            IfSome result (λ value. IsValueAt (text key.now) pairs (plain value.now)) }
+        ensures few { pair_count (plain_pairs self.old) < few → option_map (λ value. plain value.now) result
+            ≡ value_at (text key.now) (plain_pairs self.old) }
+    {
+        lend_at_text(&mut self.entries, key)
     }
 
     /// Puts a value at a key, and answers the one that was there. A new key goes last, and a key that is there keeps

@@ -1,7 +1,7 @@
 //! Changing a value in place.
 
-ghost use Rattle.std.specs.Prelude.{◌≡◌, IfOk, option_map};
-ghost use Rattle.yaml_value.specs.Find.{items_in, pairs_in};
+ghost use Rattle.std.specs.Prelude.{◌≡◌, IfOk, IfSome, IsSomeAnd, option_and_then, option_map};
+ghost use Rattle.yaml_value.specs.Find.{HasFewPairs, IsValueAt, get, item_in_place, items_in, pairs_in};
 ghost use Rattle.yaml_value.specs.PlainValue.{null, tagged, text as plain_text};
 ghost use Rattle.yaml_value.specs.View.{plain, plain_items, plain_pairs, tag_text};
 
@@ -49,12 +49,20 @@ impl Value {
     }
 
     /// The value at a key that is a text, to be changed, as `get` finds it.
-    pub fn get_mut(&mut self, key: &str) -> Option<&mut Value> {
+    pub fn get_mut(&mut self, key: &str) -> Option<&mut Value>
+        ensures found { IfSome result (λ value. IsSomeAnd (pairs_in (plain self.old))
+            (λ pairs. IsValueAt (plain_text key.now) pairs (plain value.now))) }
+        ensures few { HasFewPairs (pairs_in (plain self.old)) → option_map (λ value. plain value.now) result
+            ≡ get key.now (plain self.old) }
+    {
         self.as_mapping_mut()?.get_mut(key)
     }
 
     /// The element in a place of a sequence, to be changed.
-    pub fn at_mut(&mut self, place: usize) -> Option<&mut Value> {
+    pub fn at_mut(&mut self, place: usize) -> Option<&mut Value>
+        ensures { option_map (λ value. plain value.now) result
+            ≡ option_and_then (item_in_place place) (items_in (plain self.old)) }
+    {
         let items = self.as_sequence_mut()?;
         if place < items.len() {
             Some(&mut items[place])

@@ -1,7 +1,18 @@
 //! Merge keys.
 
-use crate::mapping::Mapping;
-use crate::value::Value;
+ghost use Rattle.std.specs.Prelude.{◌≡◌, ◌<◌, length, None, Some};
+ghost use Rattle.yaml_value.specs.Find.{few};
+ghost use Rattle.yaml_value.specs.Merge.{Leaves, LeavesItem, LeavesPair, each_item, each_value};
+ghost use Rattle.yaml_value.specs.Merge.{merge_nestings, merged, own_merged};
+ghost use Rattle.yaml_value.specs.Merge.{then_left, with_element, with_elements, with_merged, with_missing};
+ghost use Rattle.yaml_value.specs.Merge.{with_new};
+ghost use Rattle.yaml_value.specs.PlainValue.{pair_count};
+ghost use Rattle.yaml_value.specs.Small.{AreItemsSmall, ArePairsSmall, IsSmall, IsSmallMapping};
+ghost use Rattle.yaml_value.specs.View.{entry_pairs, plain, plain_entry, plain_items, plain_pairs};
+ghost use Rattle.yaml_value.specs.View.{plain_tagged};
+
+use crate::mapping::{Entry, Mapping};
+use crate::value::{TaggedValue, Value};
 use yaml_base::{Cause, Error, Result};
 
 // So many values one within the other are gone into.
@@ -10,83 +21,206 @@ const NESTINGS: usize = 1_000;
 impl Value {
     /// Puts the pairs of what stands at each key `<<`, a mapping or a sequence of mappings, into the mapping around
     /// it, behind its own, and takes the key out. A key that is there already keeps its value, and of two mappings the
-    /// first wins. It goes into all parts of the value.
+    /// first wins. It goes into all parts of the value, in order.
     ///
-    /// What is merged may be no scalar, sequence in a sequence, or tagged value. Then, or where memory is wanting, the
-    /// value is merged in part.
-    pub fn apply_merge(&mut self) -> Result<()> {
+    /// What is merged may be no scalar, sequence in a sequence, or tagged value. At the first that is, it stops: what
+    /// came before is merged, the key is out, and what comes behind is as it was. Where memory is wanting, the value is
+    /// merged in part.
+    pub fn apply_merge(&mut self) -> Result<()>
+        ensures { let left = merged merge_nestings (plain self.old) in
+            IsSmall (plain self.old) → IsSmall left.0 → Leaves result (plain self.new) left }
+    {
         merge_value(self, NESTINGS)
     }
 }
 
+// Adds the pair of an entry, unless its key is there.
+fn add_entry(mapping: &mut Mapping, entry: Entry) -> Result<()>
+    ensures { let old = plain_pairs mapping.old in let added = plain_entry entry in
+        IsSmallMapping old → Leaves result (plain_pairs mapping.new) (with_new old added.0 added.1, None) }
+{
+    let (key, value) = entry.into_pair();
+    if mapping.get_at(&key).is_none() {
+        mapping.append(key, value)?;
+    }
+    Ok(())
+}
+
 // Adds pairs whose keys are not there yet.
-fn add_missing(mapping: &mut Mapping, more: Mapping) -> Result<()> {
+fn add_missing(mapping: &mut Mapping, more: Vec<Entry>) -> Result<()>
+    ensures { let left = with_missing (plain_pairs mapping.old) (entry_pairs more.items) in
+        IsSmallMapping left → Leaves result (plain_pairs mapping.new) (left, None) }
+{
     for entry in more {
-        let (key, value) = entry.into_pair();
-        if mapping.get_at(&key).is_none() {
-            mapping.append(key, value)?;
-        }
+        add_entry(mapping, entry)?;
     }
     Ok(())
 }
 
 // The same of an element of what is to be merged.
-fn add_element(mapping: &mut Mapping, element: Value) -> Result<()> {
+fn add_element(mapping: &mut Mapping, element: Value) -> Result<()>
+    ensures { let left = with_element (plain_pairs mapping.old) (plain element) in
+        IsSmallMapping left.0 → Leaves result (plain_pairs mapping.new) left }
+{
     match element {
-        Value::Mapping(more) => add_missing(mapping, more),
+        Value::Mapping(more) => add_missing(mapping, more.entries),
         Value::Sequence(_) => Err(Error::new(Cause::SequenceInMergeElement)),
         Value::Tagged(_) => Err(Error::new(Cause::TaggedInMerge)),
         _ => Err(Error::new(Cause::ScalarInMergeElement)),
     }
 }
 
+// The same of each element.
+fn add_elements(mapping: &mut Mapping, elements: Vec<Value>) -> Result<()>
+    ensures { let left = with_elements (plain_pairs mapping.old) (plain_items elements.items) in
+        IsSmallMapping left.0 → Leaves result (plain_pairs mapping.new) left }
+{
+    for element in elements {
+        add_element(mapping, element)?;
+    }
+    Ok(())
+}
+
 // The same of what stands at a merge key.
-fn add_merged(mapping: &mut Mapping, merged: Value) -> Result<()> {
+fn add_merged(mapping: &mut Mapping, merged: Value) -> Result<()>
+    ensures { let left = with_merged (plain_pairs mapping.old) (Some (plain merged)) in
+        IsSmallMapping left.0 → Leaves result (plain_pairs mapping.new) left }
+{
     match merged {
-        Value::Mapping(more) => add_missing(mapping, more),
-        Value::Sequence(elements) => {
-            for element in elements {
-                add_element(mapping, element)?;
-            }
-            Ok(())
-        }
+        Value::Mapping(more) => add_missing(mapping, more.entries),
+        Value::Sequence(elements) => add_elements(mapping, elements),
         Value::Tagged(_) => Err(Error::new(Cause::TaggedInMerge)),
         _ => Err(Error::new(Cause::ScalarInMerge)),
     }
 }
 
+// Takes the merge key out of a mapping, and adds what stood there.
+fn merge_own(mapping: &mut Mapping) -> Result<()>
+    ensures { let left = own_merged (plain_pairs mapping.old) in
+        pair_count (plain_pairs mapping.old) < few → IsSmallMapping left.0
+        → Leaves result (plain_pairs mapping.new) left }
+{
+    match mapping.remove("<<") {
+        Some(merged) => add_merged(mapping, merged),
+        None => Ok(()),
+    }
+}
+
 #[cycle(merge)]
-fn merge_value(value: &mut Value, nestings: usize) -> Result<()> {
-    let Some(left) = nestings.checked_sub(1) else {
+fn merge_value(value: &mut Value, nestings: usize) -> Result<()>
+    ensures { let left = merged nestings (plain value.old) in
+        IsSmall (plain value.old) → IsSmall left.0 → Leaves result (plain value.new) left }
+{
+    if nestings == 0 {
         return Err(Error::new(Cause::RepetitionLimitExceeded));
-    };
-    match value {
-        Value::Mapping(mapping) => merge_mapping(mapping, left),
-        Value::Sequence(items) => merge_items(items, left),
-        Value::Tagged(tagged) => merge_value(&mut tagged.value, left),
-        _ => Ok(()),
+    }
+    let left = nestings - 1;
+    match value.take() {
+        Value::Mapping(mut mapping) => {
+            let done = merge_mapping(&mut mapping, left);
+            *value = Value::Mapping(mapping);
+            done
+        }
+        Value::Sequence(mut items) => {
+            let done = merge_items(&mut items, left);
+            *value = Value::Sequence(items);
+            done
+        }
+        Value::Tagged(mut tagged) => {
+            let done = merge_tagged(&mut *tagged, left);
+            *value = Value::Tagged(tagged);
+            done
+        }
+        whole => {
+            *value = whole;
+            Ok(())
+        }
     }
 }
 
+// The same of what a tag is around.
 #[cycle(merge)]
-fn merge_items(items: &mut Vec<Value>, nestings: usize) -> Result<()> {
-    for i in 0..items.len() {
-        if i < items.len() {
-            merge_value(&mut items[i], nestings)?;
-        }
+fn merge_tagged(tagged: &mut TaggedValue, nestings: usize) -> Result<()>
+    ensures tag { (plain_tagged tagged.new).0 ≡ (plain_tagged tagged.old).0 }
+    ensures value { let left = merged nestings (plain_tagged tagged.old).1 in
+        IsSmall (plain_tagged tagged.old).1 → IsSmall left.0 → Leaves result (plain_tagged tagged.new).1 left }
+{
+    merge_value(&mut tagged.value, nestings)
+}
+
+#[cycle(merge)]
+fn merge_items(items: &mut Vec<Value>, nestings: usize) -> Result<()>
+    ensures { let left = each_item (merged nestings) (plain_items items.old.items) in
+        AreItemsSmall (plain_items items.old.items) → AreItemsSmall left.0
+        → Leaves result (plain_items items.new.items) left }
+{
+    let count = items.len();
+    for i in 0..count {
+        merge_item(items, i, nestings)?;
     }
     Ok(())
 }
 
+// The same of the item in a place.
 #[cycle(merge)]
-fn merge_mapping(mapping: &mut Mapping, nestings: usize) -> Result<()> {
-    if let Some(merged) = mapping.remove("<<") {
-        add_merged(mapping, merged)?;
-    }
-    for i in 0..mapping.entries.len() {
-        if i < mapping.entries.len() {
-            merge_value(&mut mapping.entries[i].value, nestings)?;
-        }
+fn merge_item(items: &mut Vec<Value>, i: usize, nestings: usize) -> Result<()>
+    requires { i < length items.old.items }
+    ensures count { length items.new.items ≡ length items.old.items }
+    ensures value { LeavesItem i (merged nestings) result (plain_items items.old.items)
+        (plain_items items.new.items) }
+{
+    merge_value(&mut items[i], nestings)
+}
+
+#[cycle(merge)]
+fn merge_mapping(mapping: &mut Mapping, nestings: usize) -> Result<()>
+    ensures { let old = plain_pairs mapping.old in
+        let left = then_left (own_merged old) (each_value (merged nestings)) in
+        IsSmallMapping old → IsSmallMapping left.0 → Leaves result (plain_pairs mapping.new) left }
+{
+    merge_own(mapping)?;
+    merge_values(mapping, nestings)
+}
+
+// The same of the values of its pairs.
+#[cycle(merge)]
+fn merge_values(mapping: &mut Mapping, nestings: usize) -> Result<()>
+    ensures { let left = each_value (merged nestings) (plain_pairs mapping.old) in
+        ArePairsSmall (plain_pairs mapping.old) → ArePairsSmall left.0
+        → Leaves result (plain_pairs mapping.new) left }
+{
+    merge_entries(&mut mapping.entries, nestings)
+}
+
+#[cycle(merge)]
+fn merge_entries(entries: &mut Vec<Entry>, nestings: usize) -> Result<()>
+    ensures { let left = each_value (merged nestings) (entry_pairs entries.old.items) in
+        ArePairsSmall (entry_pairs entries.old.items) → ArePairsSmall left.0
+        → Leaves result (entry_pairs entries.new.items) left }
+{
+    let count = entries.len();
+    for i in 0..count {
+        merge_pair(entries, i, nestings)?;
     }
     Ok(())
+}
+
+// The same of the pair in a place.
+#[cycle(merge)]
+fn merge_pair(entries: &mut Vec<Entry>, i: usize, nestings: usize) -> Result<()>
+    requires { i < length entries.old.items }
+    ensures count { length entries.new.items ≡ length entries.old.items }
+    ensures value { LeavesPair i (merged nestings) result (entry_pairs entries.old.items)
+        (entry_pairs entries.new.items) }
+{
+    merge_entry(&mut entries[i], nestings)
+}
+
+#[cycle(merge)]
+fn merge_entry(entry: &mut Entry, nestings: usize) -> Result<()>
+    ensures key { (plain_entry entry.new).0 ≡ (plain_entry entry.old).0 }
+    ensures value { let left = merged nestings (plain_entry entry.old).1 in
+        IsSmall (plain_entry entry.old).1 → IsSmall left.0 → Leaves result (plain_entry entry.new).1 left }
+{
+    merge_value(&mut entry.value, nestings)
 }
