@@ -77,7 +77,7 @@ returns-clause-reached c =
     ] in
     let k = c.push_leaf-place.ensures.kept in
     let size = ap length b.0 in
-    let p = c.in-Some.ensures in (
+    let p = c.in-Some.ensures.part in (
       k.0 ∙ b.0,
       (
         grows_on _ _ _ b.1.0 k.1.1.1,
