@@ -7,6 +7,7 @@ mod budget;
 mod callers;
 mod ends;
 mod json;
+mod merging;
 mod named;
 mod places;
 mod readme;

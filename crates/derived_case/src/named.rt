@@ -8,6 +8,7 @@ use crate::callers::{
 };
 use crate::ends::{answer_of_broken, answer_of_reader};
 use crate::json::{Job, to_json};
+use crate::merging::{agree, answer_of_merging};
 use crate::places::{Asked, Way, is_read_of_json, places, told_complaint};
 use crate::readme::renamed;
 use crate::values::answer_of_value;
@@ -21,7 +22,7 @@ use derived_types::structs::{Mark, Note, Setting, Window};
 use std::alloc::Global;
 use std::borrow::CowStr;
 use std::collections::{BTreeMap, BTreeSet, HashMap, HashSet, VecDeque};
-use yaml::{Error, Mapping, Number, Value, to_string};
+use yaml::{Error, Mapping, Merge, Number, Value, to_string};
 
 // What a text is answered that is read with places.
 fn answer_with_places(alloc: Global, name: &str, text: &str) -> Result<String, Error> {
@@ -126,10 +127,19 @@ fn answer_by_function(alloc: Global, name: &str, text: &str) -> Result<String, E
         "placed" => answer_in_front(alloc, text),
         "to_json" => to_json(alloc, text),
         "renamed" => renamed(alloc, text),
-        _ => match name.strip_prefix("Value:") {
-            Some(deed) => answer_of_value(alloc, deed, text),
-            None => answer_with_places(alloc, name, text),
-        },
+        "agree" => agree(alloc, text),
+        _ => answer_by_deed(alloc, name, text),
+    }
+}
+
+// What is answered of the name of a deed and of what it is done with.
+fn answer_by_deed(alloc: Global, name: &str, text: &str) -> Result<String, Error> {
+    match name.split_once(':') {
+        Some(("Value", deed)) => answer_of_value(alloc, deed, text),
+        Some(("keep", name)) => answer_of_merging(alloc, name, text, Merge::Keep),
+        Some(("apply", name)) => answer_of_merging(alloc, name, text, Merge::Apply),
+        Some(("refuse", name)) => answer_of_merging(alloc, name, text, Merge::Refuse),
+        _ => answer_with_places(alloc, name, text),
     }
 }
 

@@ -15,4 +15,6 @@ mod joins;
 #[cfg(test)]
 mod lent;
 #[cfg(test)]
+mod merging;
+#[cfg(test)]
 mod reader;

@@ -1,5 +1,6 @@
 -- What contracts of this crate cite.
 pub mod Headline
+pub mod MergedReads
 pub mod OwnEvents
 pub mod PlainStream
 pub mod Printed

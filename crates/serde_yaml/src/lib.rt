@@ -5,6 +5,7 @@ mod de;
 mod input;
 pub mod laws;
 pub mod mapping;
+mod merging;
 mod printed;
 mod ser;
 mod text;
@@ -14,6 +15,7 @@ pub mod value;
 
 pub use de::{Deserializer, data_from_events, from_events, from_events_limited};
 pub use input::from_reader;
+pub use merging::{data_from_slice_merging, from_slice_merging, from_str_merging};
 pub use printed::{data_to_string, to_string, to_writer};
 pub use ser::to_events;
 pub use text::{data_from_slice, data_from_str, from_slice, from_slice_limited, from_str};
@@ -25,6 +27,7 @@ pub use yaml_base::{
 };
 pub use yaml_documents::ReaderFault;
 pub use yaml_emit::WriteFault;
+pub use yaml_merge::Merge;
 pub use yaml_read::Limits;
 pub use yaml_shape::{Data, Entry, Schema, SchemaFault, Shape, ShapeId, Text, Typed, VariantShape};
 pub use yaml_tree::{Mapping, Number, Sequence, TaggedValue, TreeFault, Value};

@@ -40,8 +40,8 @@ pub(crate) fn read<'de, T: Deserialize<'de>>(
     whole(alloc, read, document)
 }
 
-// The same of one document, for which the shapes are made.
-fn read_alone<'de, T: Deserialize<'de>>(
+/// The same of one document, for which the shapes are made.
+pub(crate) fn read_alone<'de, T: Deserialize<'de>>(
     alloc: Global,
     input: &'de [u8],
     document: &Document<'de>,
