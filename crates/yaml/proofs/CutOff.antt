@@ -57,3 +57,13 @@ value_of_one (Ok value) (Ok found) text documents left d parsed first none is_re
 value_of_one (Ok value) (Err cause) text documents left d parsed first none is_read whole =
     let bad = is_read in absurd cc
 value_of_one (Err cause) read text documents left d parsed first none is_read whole = tt
+
+-- so such a text is allowed
+pub allowed_of_one : {X : Type 0} (result read : Result X Cause) (text : List ℕ) (documents left : List PlainDocument)
+    (d : PlainDocument) → AreDocumentsOf text documents → documents ≡ d ∷ left → OnOk result (OnOk read (left ≡ []))
+    → OnOk result (IsOk read) → OnOk read (d.ending ≡ None) → OnOk result ((IsAllowed text → ⊥) → ⊥)
+allowed_of_one (Ok value) (Ok found) text documents left d parsed first none is_read whole =
+    never_cut_off text documents d parsed (first ∙ ap (λ ds. d ∷ ds) none) whole
+allowed_of_one (Ok value) (Err cause) text documents left d parsed first none is_read whole =
+    let bad = is_read in absurd cc
+allowed_of_one (Err cause) read text documents left d parsed first none is_read whole = tt
