@@ -4,6 +4,7 @@ pub mod KindLaws
 pub mod MergedLaws
 pub mod PrintedLaws
 pub mod HeadlineLaws
+pub mod TapeLaws
 pub mod TextFaults
 pub mod ReaderTexts
 pub mod TextLaws

@@ -7,6 +7,7 @@ pub mod Printed
 pub mod Quotes
 pub mod StreamReads
 pub mod StreamView
+pub mod TapeReads
 pub mod TextReads
 pub mod TypedHeadline
 pub mod TypedReads

@@ -4,6 +4,7 @@ mod alone;
 mod calls;
 mod input;
 mod kinds;
+mod taped;
 mod typed;
 
 ghost use Rattle.std.specs.Prelude.{◌≡◌, ℕ, ◌<◌, length, Option, Result, Some, IfOk, IfErr, false, is_some};
@@ -28,7 +29,8 @@ pub use input::data_from_events;
 pub(crate) use input::data_from_stream;
 use std::alloc::Global;
 use std::marker::Model;
-pub(crate) use typed::from_stream;
+pub(crate) use taped::value_of_tape;
+pub(crate) use typed::{from_stream, from_stream_under};
 pub use typed::{from_events, from_events_limited};
 use yaml_base::{Cause, Error, Event, Mark, ParserFault, Result};
 use yaml_read::{Document, Limits, Loader};

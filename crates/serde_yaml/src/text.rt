@@ -11,10 +11,11 @@ ghost use Rattle.serde_yaml.specs.TextReads.{IsOfAStream, IsParsed, TextGives};
 ghost use Rattle.serde_yaml.specs.TypedHeadline.{GivesValue};
 ghost use Rattle.serde_yaml.specs.TypedReads.{TypeGives};
 
-use crate::de::{Deserializer, data_from_stream, from_stream};
+use crate::de::{Deserializer, data_from_stream, from_stream, from_stream_under, value_of_tape};
 use std::alloc::Global;
 use yaml_base::Result;
-use yaml_documents::load;
+use yaml_checked::parse_allowed;
+use yaml_documents::{load, load_by_tokens, load_tape};
 use yaml_read::Limits;
 use yaml_shape::{Data, Schema, ShapeId};
 use yaml_types::Deserialize;
@@ -22,8 +23,9 @@ use yaml_types::Deserialize;
 /// The one document of a YAML text as a value of the type, within 128 nestings and 100 follows for each event. The
 /// value may borrow from the text.
 ///
-/// It is the text's events, as libyaml's parser makes them, and then `from_events`, but that no list of them is made. A
-/// text that can't be parsed is refused by the parser's fault, unless what stands before it is refused earlier.
+/// It is the text's events, as libyaml's parser makes them, and then `from_events`, but that no list of them is made:
+/// where the type's values read themselves from a tape of the text, and the text has no fault, no more than that is
+/// made; else the documents are. A text that can't be parsed is refused by the parser's fault, unless what stands before it is refused earlier.
 pub fn from_str<'de, T: Deserialize<'de>>(alloc: Global, text: &'de str) -> Result<T>
     ensures given { Answers (λ value. value) result (λ given. IsParsed text.now (λ events fault.
         GivesValue default_limits T.start T.built T.refused events fault given
@@ -54,8 +56,22 @@ pub fn from_slice_limited<'de, T: Deserialize<'de>>(
         × TypeGives limits T.start T.built T.refused events fault given)) }
     ensures stream { IsOfAStream result }
 {
-    let stream = Deserializer::from_slice(alloc, text)?;
-    from_stream(alloc, stream, limits)
+    let Some(tape) = parse_allowed(alloc, text)? else {
+        let stream = Deserializer::of_documents(load_by_tokens(alloc, text)?);
+        return from_stream(alloc, stream, limits);
+    };
+    let (table, id) = match T::schema(alloc) {
+        Ok(start) => start,
+        Err(_) => {
+            let stream = Deserializer::of_documents(load_tape(alloc, tape)?);
+            return from_stream(alloc, stream, limits);
+        }
+    };
+    if let Some(value) = value_of_tape(alloc, &tape, &table, limits) {
+        return Ok(value);
+    }
+    let stream = Deserializer::of_documents(load_tape(alloc, tape)?);
+    from_stream_under(alloc, stream, &table, id, limits)
 }
 
 /// The data of the one document of a YAML text under the shape with this number, within limits. Texts are borrowed from

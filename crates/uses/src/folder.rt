@@ -14,6 +14,7 @@ ghost use Rattle.uses.specs.Folders.{BuiltFolder, BuiltFolders, folder_data, fol
 use std::alloc::Global;
 use yaml_base::Error;
 use yaml_shape::{Data, Schema, SchemaFault, Shape, ShapeId, Text};
+use yaml_tape::Tape;
 use yaml_types::{BuildFault, Deserialize, Serialize};
 
 /// A folder, with the folders in it.
@@ -144,6 +145,15 @@ impl<'de> Deserialize<'de> for Folder {
 
     fn build(alloc: Global, found: Data<'de>) -> Result<Folder, BuildFault> {
         build_folder(alloc, &found)
+    }
+
+    fn read_node(
+        _alloc: Global,
+        _tape: &Tape<'de>,
+        _place: &mut usize,
+        _depth: usize,
+    ) -> Option<Folder> {
+        None
     }
 }
 

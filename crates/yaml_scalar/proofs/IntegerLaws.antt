@@ -1,15 +1,17 @@
 -- Small integers are read as those of any type.
-use Rattle.std.specs.Prelude.{◌≤ℤ◌, ℤ, pos, neg_ℤ, Bool, true, false, Option, None, Some, IfSome, option_and_then}
+use Rattle.std.specs.Prelude.{◌≤ℤ◌, ℤ, pos, neg_ℤ, Bool, true, false, Option, None, Some, IfSome, Ok, List}
+use Rattle.std.specs.Prelude.{option_and_then}
 use Rattle.std.specs.Str.{IsUtf8}
-use Rattle.std.proofs.Common.{◌≡◌, ℕ, ◌-◌, ◌^◌, ◌<◌, ◌≤◌, arith, sym, refl}
+use Rattle.std.proofs.Common.{◌≡◌, ℕ, ◌-◌, ◌^◌, ◌<◌, ◌≤◌, arith, sym, refl, ap, ◌∙◌, subst}
 use Rattle.std.proofs.lemmas.Int.{ints}
-use Rattle.yaml_base.proofs.RangeLaws.{in_range-inside, int_le-Decides, up_to-inside}
+use Rattle.yaml_base.proofs.RangeLaws.{in_range-inside, int_le-Decides, le-Decides, up_to-inside}
 use Rattle.yaml_base.specs.Integers.{integer_of, unsigned_of}
 use Rattle.yaml_base.specs.PlainEvent.{PlainScalar}
 use Rattle.yaml_shape.specs.IntegerTypes.{bits_of, has_sign, is_of_type, least, greatest}
-use Rattle.yaml_shape.specs.PlainShape.{IntegerType, i8, u8}
+use Rattle.yaml_shape.specs.PlainData.{signed_data, unsigned_data}
+use Rattle.yaml_shape.specs.PlainShape.{IntegerType, i8, u8, integer_shape}
 use Rattle.yaml_meaning.specs.CoreTags.{int_tag}
-use Rattle.yaml_meaning.specs.ScalarShapes.{plain_text, signed_text, unsigned_text, widest}
+use Rattle.yaml_meaning.specs.ScalarShapes.{plain_text, scalar_answer, signed_text, unsigned_text, widest}
 use Rattle.yaml_meaning.specs.ScalarSorts.{is_plain}
 use Rattle.yaml_scalar.proofs.SmallNumbers.{read-text}
 
@@ -63,3 +65,32 @@ unsigned-there i s None sign plain utf8 value small = tt
 unsigned-there i s (Some n) sign plain utf8 value small =
     let read : unsigned_text i s.text ≡ Some n = rw value (up_to-inside _ n (unsigned-inside i n sign small)) in
     λ taken. rw plain (sym (read-text (unsigned_text i) s.text n utf8 read))
+
+-- what a plain scalar gives whose text writes a small integer of the type, whatever its tag
+pub signed-answers : (i : IntegerType) (text : List ℕ) (r : Option ℤ) → has_sign i ≡ true
+    → IfSome r (λ z. IsUtf8 text) → IfSome r (λ z. integer_of text ≡ Some z) → IfSome r (λ z. neg_ℤ (pos (10 ^ 18)) ≤ℤ z)
+    → IfSome r (λ z. z ≤ℤ pos (10 ^ 18)) → IfSome r (λ z. is_of_type i z ≡ true)
+    → IfSome r (λ z. (s : PlainScalar) (taken : Bool) → s.text ≡ text → is_plain s.style ≡ true
+    → scalar_answer (integer_shape i) taken s ≡ Ok (signed_data z))
+signed-answers i text None sign utf8 value low high held = tt
+signed-answers i text (Some z) sign utf8 value low high held = λ s taken same plain.
+    let there = signed-there i s (Some z) sign plain (subst IsUtf8 (sym same) utf8) (ap integer_of same ∙ value) low high
+    taken in
+    let inside = rw sign at held in
+    rw sign (rw there (rw inside refl))
+
+below : (i : IntegerType) (n : ℕ) → has_sign i ≡ false → pos n ≤ℤ greatest i → n ≤ 2 ^ bits_of i - 1
+below u8 n sign high = omega (arith, ints, high)
+below _ n sign high = grind (arith, ints, high)
+
+pub unsigned-answers : (i : IntegerType) (g : ℕ) (text : List ℕ) (r : Option ℕ) → has_sign i ≡ false
+    → pos g ≤ℤ greatest i → IfSome r (λ n. IsUtf8 text) → IfSome r (λ n. unsigned_of text ≡ Some n)
+    → IfSome r (λ n. n < 10 ^ 18) → IfSome r (λ n. n ≤ g)
+    → IfSome r (λ n. (s : PlainScalar) (taken : Bool) → s.text ≡ text → is_plain s.style ≡ true
+    → scalar_answer (integer_shape i) taken s ≡ Ok (unsigned_data n))
+unsigned-answers i g text None sign most utf8 value small high = tt
+unsigned-answers i g text (Some n) sign most utf8 value small high = λ s taken same plain.
+    let there = unsigned-there i s (Some n) sign plain (subst IsUtf8 (sym same) utf8) (ap unsigned_of same ∙ value) small
+    taken in
+    let up : pos n ≤ℤ greatest i = omega (arith, ints, high, most) in
+    rw sign (rw there (rw ((le-Decides n (2 ^ bits_of i - 1)).1 (below i n sign up)) refl))

@@ -1,15 +1,20 @@
 //! The integer that a scalar writes.
 
-ghost use Rattle.std.specs.Prelude.{◌≡◌, ◌<◌, ◌≤◌, ◌≤ℤ◌, ◌^◌, neg_ℤ, pos, Bool, true, false, Some, IfSome};
+ghost use Rattle.std.specs.Prelude.{◌≡◌, ◌<◌, ◌≤◌, ◌≤ℤ◌, ◌^◌, neg_ℤ, pos, Bool, true, false, Some, IfSome, Ok};
 ghost use Rattle.std.specs.Prelude.{option_and_then};
 ghost use Rattle.std.specs.Str.{IsUtf8};
 ghost use Rattle.std.specs.Str.Parse.{AllDigits};
 ghost use Rattle.yaml_base.specs.DocEventView.{doc_scalar_of};
 ghost use Rattle.yaml_base.specs.Integers.{number_in_base, decimal, integer_of, unsigned_of};
 ghost use Rattle.yaml_meaning.specs.CoreTags.{int_tag};
-ghost use Rattle.yaml_meaning.specs.ScalarShapes.{plain_text, signed_text, unsigned_text, utf8_text, widest};
+ghost use Rattle.yaml_base.specs.PlainEvent.{PlainScalar};
+ghost use Rattle.yaml_meaning.specs.ScalarShapes.{plain_text, scalar_answer, signed_text, unsigned_text, utf8_text};
+ghost use Rattle.yaml_meaning.specs.ScalarShapes.{widest};
+ghost use Rattle.yaml_meaning.specs.ScalarSorts.{is_plain};
 ghost use Rattle.yaml_shape.specs.IntegerTypes.{greatest, has_sign, is_of_type};
 ghost use Rattle.yaml_shape.specs.IntegerView.{integer_type_of};
+ghost use Rattle.yaml_shape.specs.PlainData.{signed_data, unsigned_data};
+ghost use Rattle.yaml_shape.specs.PlainShape.{integer_shape};
 
 use crate::decimal::small_number;
 use crate::sort::{is_plain, is_plain_or_tagged_literal, utf8_text};
@@ -115,6 +120,30 @@ pub(crate) fn small_unsigned_in(integer: IntegerType, scalar: &DocScalar<'_>) ->
         return None;
     }
     small_unsigned(greatest, &scalar.value)
+}
+
+/// The integer of a type with a sign that a plain scalar with this text writes with a few decimal digits, whatever its
+/// tag.
+#[inline(always)]
+pub fn small_signed_of(integer: IntegerType, text: &[u8]) -> Option<i64>
+    requires { has_sign (integer_type_of integer) ≡ true }
+    ensures held { IfSome result (λ z. is_of_type (integer_type_of integer) z ≡ true) }
+    ensures value { IfSome result (λ z. (s : PlainScalar) (taken : Bool) → s.text ≡ text.now → is_plain s.style ≡ true
+        → scalar_answer (integer_shape (integer_type_of integer)) taken s ≡ Ok (signed_data z)) }
+{
+    small_signed(small_greatest(integer), text)
+}
+
+/// The integer of a type without a sign that a plain scalar with this text writes with a few decimal digits, whatever
+/// its tag.
+#[inline(always)]
+pub fn small_unsigned_of(integer: IntegerType, text: &[u8]) -> Option<u64>
+    requires { has_sign (integer_type_of integer) ≡ false }
+    ensures held { IfSome result (λ n. is_of_type (integer_type_of integer) (pos n) ≡ true) }
+    ensures value { IfSome result (λ n. (s : PlainScalar) (taken : Bool) → s.text ≡ text.now → is_plain s.style ≡ true
+        → scalar_answer (integer_shape (integer_type_of integer)) taken s ≡ Ok (unsigned_data n)) }
+{
+    small_unsigned(small_greatest(integer), text)
 }
 
 // The type as which an integer is read, before it is known to be one of its own type.

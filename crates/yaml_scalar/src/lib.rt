@@ -17,6 +17,7 @@ mod text;
 mod variant_names;
 
 pub use expected::{Expected, words};
+pub use integer_text::{small_signed_of, small_unsigned_of};
 pub use mismatch::{
     found_mapping, found_mapping_for, found_no_variant_elements, found_scalar_for, found_sequence,
     found_sequence_for, wrong_length,

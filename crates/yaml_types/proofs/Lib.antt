@@ -6,10 +6,14 @@ pub mod FoundLaws
 pub mod GatherLaws
 pub mod ItemsThen
 pub mod MapFilling
+pub mod PairFilling
 pub mod SetFilling
 pub mod SortedLaws
 pub mod LeafLaws
 pub mod NodeLaws
+pub mod NodeReads
+pub mod LeafReads
+pub mod TableLaws
 pub mod StructFound
 pub mod WriteLaws
 pub mod WriteRefusals

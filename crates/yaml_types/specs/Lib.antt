@@ -8,6 +8,7 @@ pub mod Choices
 pub mod Inserted
 pub mod Integers
 pub mod MapLaws
+pub mod NodeMeans
 pub mod NodeWrites
 pub mod PartShapes
 pub mod PlainLaws
@@ -23,6 +24,7 @@ pub mod ShapeLaws
 pub mod Start
 pub mod StartLaws
 pub mod StructLaws
+pub mod Tables
 pub mod Texts
 pub mod WriteRefusal
 pub mod WrittenLaws

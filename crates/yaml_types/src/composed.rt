@@ -10,6 +10,7 @@ use crate::traits::{Deserialize, RoundTrip, Serialize};
 use std::alloc::Global;
 use yaml_base::Error;
 use yaml_shape::{Data, Schema, SchemaFault, ShapeId};
+use yaml_tape::Tape;
 
 /// A type whose values are made of parts.
 pub trait Composed {
@@ -56,6 +57,15 @@ where
         match T::Parts::build(alloc, found) {
             Ok(parts) => T::from_parts(alloc, parts),
             Err(fault) => Err(fault),
+        }
+    }
+
+    #[tactic(auto, using(crate::proofs::LeafReads::parts_mean))]
+    fn read_node(alloc: Global, tape: &Tape<'de>, place: &mut usize, depth: usize) -> Option<T> {
+        let parts = T::Parts::read_node(alloc, tape, place, depth)?;
+        match T::from_parts(alloc, parts) {
+            Ok(value) => Some(value),
+            Err(_) => None,
         }
     }
 }

@@ -14,6 +14,7 @@ use crate::traits::{Deserialize, RoundTrip, Serialize};
 use std::alloc::{AllocError, Global};
 use yaml_base::Error;
 use yaml_shape::{Data, Schema, SchemaFault, ShapeId, VariantShape, enum_of};
+use yaml_tape::Tape;
 
 /// The name of an enum, and the names and the types of its variants.
 pub trait Variants
@@ -121,6 +122,15 @@ where
             },
             _ => unreachable!(),
         }
+    }
+
+    fn read_node(
+        _alloc: Global,
+        _tape: &Tape<'de>,
+        _place: &mut usize,
+        _depth: usize,
+    ) -> Option<Enum<F>> {
+        None
     }
 }
 

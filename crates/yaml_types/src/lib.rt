@@ -14,6 +14,8 @@ mod row;
 mod strict;
 mod strict_variant;
 mod structs;
+mod tape;
+mod tape_leaf;
 mod traits;
 mod tuples;
 mod variant;

@@ -15,6 +15,7 @@ use crate::traits::{Deserialize, RoundTrip, Serialize};
 use std::alloc::Global;
 use yaml_base::Error;
 use yaml_shape::{Data, Schema, SchemaFault, ShapeId, strict_struct_of};
+use yaml_tape::Tape;
 
 /// The fields of a struct, in a row. It is read from a mapping that has the names as keys, in any order; another
 /// key is a fault.
@@ -86,6 +87,15 @@ where
             },
             _ => unreachable!(),
         }
+    }
+
+    fn read_node(
+        _alloc: Global,
+        _tape: &Tape<'de>,
+        _place: &mut usize,
+        _depth: usize,
+    ) -> Option<StrictStruct<F>> {
+        None
     }
 }
 

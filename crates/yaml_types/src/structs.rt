@@ -11,6 +11,7 @@ use crate::traits::{Deserialize, RoundTrip, Serialize};
 use std::alloc::{AllocError, Global};
 use yaml_base::Error;
 use yaml_shape::{Data, Schema, SchemaFault, ShapeId, struct_of};
+use yaml_tape::Tape;
 
 /// The name of a struct, and the names and the types of its fields.
 pub trait Fields
@@ -125,6 +126,15 @@ where
             },
             _ => unreachable!(),
         }
+    }
+
+    fn read_node(
+        _alloc: Global,
+        _tape: &Tape<'de>,
+        _place: &mut usize,
+        _depth: usize,
+    ) -> Option<Struct<F>> {
+        None
     }
 }
 

@@ -1,12 +1,14 @@
 //! What a type is to have to be read from data and written as data.
 
-ghost use Rattle.std.specs.Prelude.{◌≡◌, ℕ, List, true, length, IfOk, IfErr, OnOk};
+ghost use Rattle.std.specs.Prelude.{◌≡◌, ℕ, List, true, length, IfOk, IfErr, IfSome, OnOk};
 ghost use Rattle.yaml_shape.specs.PlainData.{PlainData};
 ghost use Rattle.yaml_shape.specs.DataView.{data_of};
 ghost use Rattle.yaml_shape.specs.HasShape.{HasShape};
 ghost use Rattle.yaml_shape.specs.EqualData.{EqualData};
 ghost use Rattle.yaml_shape.specs.Join.{IsTooLarge};
+ghost use Rattle.yaml_types.specs.NodeMeans.{NodeMeans};
 ghost use Rattle.yaml_types.specs.Start.{Start, IsStart, IsClosed};
+ghost use Rattle.yaml_types.specs.Tables.{IsShapeIn};
 ghost use Rattle.yaml_types.specs.BuildRefusal.{IsBuildRefusal};
 ghost use Rattle.yaml_base.specs.EmitTree.{emit_node_events};
 ghost use Rattle.yaml_shape.specs.Held.{IsHeld};
@@ -17,6 +19,7 @@ use crate::fault::BuildFault;
 use std::alloc::Global;
 use yaml_base::Error;
 use yaml_shape::{Data, Schema, SchemaFault, ShapeId, data_is_held};
+use yaml_tape::Tape;
 use yaml_write::EventBuffer;
 
 /// A type whose values are built of data of one shape. `'de` is how long a value may keep borrowed texts.
@@ -42,6 +45,12 @@ pub trait Deserialize<'de>: Sized {
         requires { HasShape start.0 start.1 (data_of found) }
         ensures ok { IfOk result (built (data_of found.entry)) }
         ensures refused { IfErr result (IsBuildRefusal (refused (data_of found.entry))) };
+
+    /// The value of the node in a place of a tape, which then is the place behind the node; or nothing, which says
+    /// nothing of the node: it is read in another way then. Of a node with an alias in it, or with more nestings than
+    /// there are, nothing. A type may always answer nothing: then each of its values is built of data.
+    fn read_node(alloc: Global, tape: &Tape<'de>, place: &mut usize, depth: usize) -> Option<Self>
+        ensures read { IfSome result (NodeMeans (IsShapeIn start) built tape.now place.old place.new depth) };
 
     // The shape is in the table, which names no shape outside.
     ghost closed: { IsClosed start };

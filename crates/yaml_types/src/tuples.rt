@@ -10,6 +10,7 @@ use crate::traits::{Deserialize, RoundTrip, Serialize};
 use std::alloc::Global;
 use yaml_base::Error;
 use yaml_shape::{Data, Schema, SchemaFault, ShapeId, tuple_of};
+use yaml_tape::Tape;
 
 /// The elements of a tuple, in a row. It is read from a sequence of as many elements.
 #[derive_where(PartialEq; R)]
@@ -58,6 +59,15 @@ impl<'de, R: ReadRow<'de>> Deserialize<'de> for Tuple<R> {
             },
             _ => unreachable!(),
         }
+    }
+
+    fn read_node(
+        _alloc: Global,
+        _tape: &Tape<'de>,
+        _place: &mut usize,
+        _depth: usize,
+    ) -> Option<Tuple<R>> {
+        None
     }
 }
 

@@ -18,6 +18,7 @@ use crate::type_faults::{build_refusal, schema_refusal};
 use std::alloc::Global;
 use yaml_base::{Event, Mark, ParserFault, Result};
 use yaml_read::Limits;
+use yaml_shape::{Schema, ShapeId};
 use yaml_types::Deserialize;
 
 /// The stream's one document as a value of the type: what the type's own `build` makes of the data that
@@ -82,12 +83,33 @@ pub(crate) fn from_stream<'de, T: Deserialize<'de>>(
         (TypeGives limits T.start T.built T.refused input fault) }
 {
     reading_gives_the_meaning();
-    let (table, id) = match T::schema(alloc) {
-        Ok(start) => start,
-        Err(reason) => return Err(schema_refusal(alloc, reason)),
-    };
+    match T::schema(alloc) {
+        Ok((table, id)) => from_stream_under(alloc, stream, &table, id, limits),
+        Err(reason) => Err(schema_refusal(alloc, reason)),
+    }
+}
+
+// The same under the type's shape, which is in this table.
+pub(crate) fn from_stream_under<'de, T: Deserialize<'de>>(
+    alloc: Global,
+    stream: Deserializer<'de>,
+    table: &Schema,
+    id: ShapeId,
+    limits: Limits,
+) -> Result<T>
+    requires stream { IsOfInput stream }
+    requires table { table.now ≡ T.start.0 }
+    requires number { id.0 ≡ T.start.1 }
+    ensures meaning { (input : Input) (fault : Option PlainFault) → stream.entry ≡ stream_of input fault
+        → IsWellFormed (is_some fault) (events_in input) → Answers (λ value. value) result
+        (GivesValue limits T.start T.built T.refused input fault) }
+    ensures given { (input : Input) (fault : Option PlainFault) → stream.entry ≡ stream_of input fault
+        → IsWellFormed (is_some fault) (events_in input) → Answers (λ value. value) result
+        (TypeGives limits T.start T.built T.refused input fault) }
+{
+    reading_gives_the_meaning();
     table.is_valid();
-    match data_from_stream(alloc, stream, &table, id, limits) {
+    match data_from_stream(alloc, stream, table, id, limits) {
         Ok(found) => match T::build(alloc, found) {
             Ok(value) => Ok(value),
             Err(reason) => Err(build_refusal(reason)),

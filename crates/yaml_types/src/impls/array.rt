@@ -7,6 +7,7 @@ use crate::tuples::tuple_schema;
 use std::alloc::Global;
 use yaml_base::Error;
 use yaml_shape::{Data, Schema, SchemaFault, ShapeId};
+use yaml_tape::Tape;
 
 impl<'de, T: Deserialize<'de> + Drop, const N: usize> Deserialize<'de> for [T; N] {
     ghost use Rattle.yaml_types.specs.Start.{array_start};
@@ -46,6 +47,15 @@ impl<'de, T: Deserialize<'de> + Drop, const N: usize> Deserialize<'de> for [T; N
             Ok(array) => Ok(array),
             Err(_) => unreachable!(),
         }
+    }
+
+    fn read_node(
+        _alloc: Global,
+        _tape: &Tape<'de>,
+        _place: &mut usize,
+        _depth: usize,
+    ) -> Option<[T; N]> {
+        None
     }
 }
 

@@ -5,6 +5,7 @@ use crate::traits::{Deserialize, RoundTrip, Serialize};
 use std::alloc::Global;
 use yaml_base::Error;
 use yaml_shape::{Data, Schema, SchemaFault, ShapeId};
+use yaml_tape::Tape;
 use yaml_write::EventBuffer;
 
 impl<'de, T: Deserialize<'de> + Drop> Deserialize<'de> for Box<T> {
@@ -23,6 +24,16 @@ impl<'de, T: Deserialize<'de> + Drop> Deserialize<'de> for Box<T> {
     fn build(alloc: Global, found: Data<'de>) -> Result<Box<T>, BuildFault> {
         let value = T::build(alloc, found)?;
         Ok(Box::new(alloc, value)?)
+    }
+
+    fn read_node(
+        alloc: Global,
+        tape: &Tape<'de>,
+        place: &mut usize,
+        depth: usize,
+    ) -> Option<Box<T>> {
+        let value = T::read_node(alloc, tape, place, depth)?;
+        Box::new(alloc, value).ok()
     }
 }
 

@@ -16,6 +16,7 @@ use std::alloc::Global;
 use std::boxed::BoxedStr;
 use yaml_base::Error;
 use yaml_shape::{Data, Schema, SchemaFault, Shape, ShapeId, Text};
+use yaml_tape::Tape;
 use yaml_write::EventBuffer;
 
 impl<'de> Deserialize<'de> for BoxedStr {
@@ -37,6 +38,15 @@ impl<'de> Deserialize<'de> for BoxedStr {
             Data::Str(Text::Borrowed(text)) => Ok(BoxedStr::from_str(alloc, text)?),
             _ => unreachable!(),
         }
+    }
+
+    fn read_node(
+        _alloc: Global,
+        _tape: &Tape<'de>,
+        _place: &mut usize,
+        _depth: usize,
+    ) -> Option<BoxedStr> {
+        None
     }
 }
 

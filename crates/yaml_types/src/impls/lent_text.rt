@@ -23,6 +23,7 @@ use std::alloc::Global;
 use std::borrow::CowStr;
 use yaml_base::Error;
 use yaml_shape::{Data, Schema, SchemaFault, Shape, ShapeId, Text};
+use yaml_tape::Tape;
 use yaml_write::EventBuffer;
 
 /// A text that is borrowed where the data borrows it, and owned where it does not.
@@ -52,6 +53,15 @@ impl<'de> Deserialize<'de> for CowStr<'de> {
             Data::Str(Text::Owned(text)) => Ok(CowStr::Owned(text)),
             _ => unreachable!(),
         }
+    }
+
+    fn read_node(
+        _alloc: Global,
+        _tape: &Tape<'de>,
+        _place: &mut usize,
+        _depth: usize,
+    ) -> Option<CowStr<'de>> {
+        None
     }
 }
 

@@ -1,22 +1,28 @@
 //! Sequences of a type.
 
-ghost use Rattle.std.specs.Prelude.{◌≡◌, map, IsTrue, All, IfOk, IfErr, OnOk};
+ghost use Rattle.std.specs.Prelude.{◌≡◌, ◌<◌, ◌+◌, ◌∷◌, map, length, IsTrue, All, IfOk, IfErr, IfSome, OnOk, Some};
 ghost use Rattle.yaml_shape.specs.DataView.{items_of, items_view};
 ghost use Rattle.yaml_shape.specs.HasShape.{all_have};
 ghost use Rattle.yaml_shape.specs.Held.{AreHeld};
 ghost use Rattle.yaml_base.specs.EmitTree.{emit_nodes_events};
 ghost use Rattle.yaml_write.specs.Written.{written_elements};
+ghost use Rattle.yaml_base.specs.PlainDocEvent.{sequence_ends};
+ghost use Rattle.yaml_tape.specs.OnDocs.{docs_from};
+ghost use Rattle.yaml_types.specs.NodeMeans.{ItemsMean};
 ghost use Rattle.yaml_types.specs.NodeWrites.{IsPut, IsFaultOf};
 ghost use Rattle.yaml_types.specs.BuiltParts.{BuiltItems};
 ghost use Rattle.yaml_types.specs.BuildRefusal.{IsBuildRefusal};
 ghost use Rattle.yaml_types.specs.RefusalParts.{RefusedItems};
+ghost use Rattle.yaml_types.specs.Tables.{IsShapeIn};
 ghost use Rattle.yaml_types.specs.WriteRefusal.{IsWriteRefusal, SomeUnwritten};
 
 use crate::fault::BuildFault;
+use crate::tape::{begins_sequence, ends_sequence};
 use crate::traits::{Deserialize, RoundTrip, Serialize};
 use std::alloc::Global;
 use yaml_base::Error;
 use yaml_shape::{Data, Schema, SchemaFault, ShapeId, seq_of};
+use yaml_tape::Tape;
 use yaml_write::{EventBuffer, element_shape};
 
 // The values of the items, in order.
@@ -33,6 +39,31 @@ pub(super) fn build_items<'de, T: Deserialize<'de> + Drop>(
         values.push(T::build(alloc, item)?)?;
     }
     Ok(values)
+}
+
+// The values of the items from a place of a tape on, up to the end of their sequence.
+#[tactic(auto, using(crate::proofs::NodeReads::items_start, crate::proofs::NodeReads::items_next, crate::proofs::NodeReads::items_all))]
+pub(super) fn read_items<'de, T: Deserialize<'de> + Drop>(
+    alloc: Global,
+    tape: &Tape<'de>,
+    place: &mut usize,
+    depth: usize,
+) -> Option<Vec<T>>
+    ensures items { IfSome result (λ xs.
+        ItemsMean (IsShapeIn T.start) T.built tape.now place.old place.new depth xs.items) }
+    ensures ended { IfSome result (λ _.
+        docs_from tape.now place.new ≡ Some sequence_ends ∷ docs_from tape.now (place.new + 1)) }
+    ensures there { IfSome result (λ _. place.new < length tape.now.entries.items) }
+{
+    let mut items = Vec::new(alloc);
+    'items: for _ in 0..tape.entries.len() {
+        if ends_sequence(tape, *place) {
+            return Some(items);
+        }
+        let item = T::read_node(alloc, tape, place, depth)?;
+        items.push(item).ok()?;
+    }
+    None
 }
 
 // The data of the values, in order, which borrows its texts from them. Refused where memory runs out, or by a message
@@ -97,6 +128,21 @@ impl<'de, T: Deserialize<'de> + Drop> Deserialize<'de> for Vec<T> {
             Data::Seq(items) => build_items(alloc, items),
             _ => unreachable!(),
         }
+    }
+
+    fn read_node(
+        alloc: Global,
+        tape: &Tape<'de>,
+        place: &mut usize,
+        depth: usize,
+    ) -> Option<Vec<T>> {
+        if depth == 0 || !begins_sequence(tape, *place) {
+            return None;
+        }
+        *place += 1;
+        let items = read_items(alloc, tape, place, depth - 1)?;
+        *place += 1;
+        Some(items)
     }
 }
 

@@ -1,6 +1,6 @@
 //! Maps in the order of their keys.
 
-ghost use Rattle.std.specs.Prelude.{◌≡◌, [], ◌∷◌, IsTrue, IfOk, IfErr, OnOk};
+ghost use Rattle.std.specs.Prelude.{◌≡◌, ◌<◌, ◌+◌, [], ◌∷◌, length, IsTrue, IfOk, IfErr, IfSome, OnOk, Some};
 ghost use Rattle.std.specs.BTreeMap.{insert_entry};
 ghost use Rattle.yaml_base.specs.EmitTree.{emit_pairs_events};
 ghost use Rattle.yaml_shape.specs.DataView.{entry_of, entries_view};
@@ -10,6 +10,10 @@ ghost use Rattle.yaml_write.specs.Outcomes.{joined};
 ghost use Rattle.yaml_write.specs.Written.{written_entries};
 ghost use Rattle.yaml_write.specs.WrittenEvents.{pair_events};
 ghost use Rattle.yaml_write.specs.WrittenValue.{pair_node};
+ghost use Rattle.yaml_base.specs.PlainDocEvent.{mapping_ends};
+ghost use Rattle.yaml_tape.specs.OnDocs.{docs_from};
+ghost use Rattle.yaml_types.specs.NodeMeans.{PairsMean};
+ghost use Rattle.yaml_types.specs.Tables.{IsShapeIn};
 ghost use Rattle.yaml_types.specs.NodeWrites.{written_node, IsPut, IsFaultOf};
 ghost use Rattle.yaml_types.specs.WriteRefusal.{PairUnwritten, SomeUnwritten};
 ghost use Rattle.yaml_types.specs.WrittenParts.{pairs_written, PairsKeep};
@@ -20,12 +24,14 @@ ghost use Rattle.yaml_types.specs.BuildRefusal.{IsBuildRefusal};
 ghost use Rattle.yaml_types.specs.RefusalParts.{RefusedBoth, RefusedEntries};
 
 use crate::fault::BuildFault;
+use crate::tape::{begins_mapping, ends_mapping};
 use crate::traits::{Deserialize, RoundTrip, Serialize};
 use std::alloc::{AllocError, Global};
 use std::cmp::Ordering;
 use std::collections::BTreeMap;
 use yaml_base::Error;
 use yaml_shape::{Data, Entry, Schema, SchemaFault, ShapeId, map_of};
+use yaml_tape::Tape;
 use yaml_write::{EventBuffer, key_shape, value_shape};
 
 // The key and the value of an entry.
@@ -129,6 +135,67 @@ fn build_entries<'de, K: Deserialize<'de> + Ord + Drop, V: Deserialize<'de> + Dr
     Ok(behind)
 }
 
+// The keys and values from a place of a tape on, up to the end of their mapping.
+#[tactic(auto, using(crate::proofs::NodeReads::pairs_start, crate::proofs::NodeReads::pairs_next, crate::proofs::NodeReads::pairs_all))]
+fn read_pairs<'de, K: Deserialize<'de> + Drop, V: Deserialize<'de> + Drop>(
+    alloc: Global,
+    tape: &Tape<'de>,
+    place: &mut usize,
+    depth: usize,
+) -> Option<Vec<(K, V)>>
+    ensures pairs { IfSome result (λ xs. PairsMean (IsShapeIn K.start) (IsShapeIn V.start) K.built V.built tape.now
+        place.old place.new depth xs.items) }
+    ensures ended { IfSome result (λ _.
+        docs_from tape.now place.new ≡ Some mapping_ends ∷ docs_from tape.now (place.new + 1)) }
+    ensures there { IfSome result (λ _. place.new < length tape.now.entries.items) }
+{
+    let mut pairs = Vec::new(alloc);
+    'pairs: for _ in 0..tape.entries.len() {
+        if ends_mapping(tape, *place) {
+            return Some(pairs);
+        }
+        let key = K::read_node(alloc, tape, place, depth)?;
+        let value = V::read_node(alloc, tape, place, depth)?;
+        pairs.push((key, value)).ok()?;
+    }
+    None
+}
+
+// The map of the pairs, put in one after another.
+fn map_in_turn<K: Ord + Drop, V: Drop>(
+    alloc: Global,
+    pairs: Vec<(K, V)>,
+) -> Result<BTreeMap<K, V>, AllocError>
+    ensures { IfOk result (λ map. map.entries ≡ inserted_pairs K.cmp [] pairs.items) }
+{
+    let mut map = BTreeMap::new(alloc);
+    for (key, value) in pairs {
+        let _ = map.insert(key, value)?;
+    }
+    Ok(map)
+}
+
+// The map of the pairs, as if they were put in one after another: from the last on, as long as keys fall.
+fn map_of_pairs<K: Ord + Drop, V: Drop>(
+    alloc: Global,
+    pairs: Vec<(K, V)>,
+) -> Result<BTreeMap<K, V>, AllocError>
+    ensures { IfOk result (λ map. map.entries ≡ inserted_pairs K.cmp [] pairs.items) }
+{
+    let mut front = pairs;
+    let mut later = BTreeMap::new(alloc);
+    while let Some((key, value)) = front.pop() {
+        if !comes_first(&key, &later) {
+            let mut map = map_in_turn(alloc, front)?;
+            let _ = map.insert(key, value)?;
+            insert_all(&mut map, later)?;
+            return Ok(map);
+        }
+        let _ = later.insert(key, value)?;
+    }
+    Ok(later)
+}
+
 // A key and its value as nodes behind the events that are there, each by the shape with its number.
 fn put_pair<K: Serialize, V: Serialize>(
     out: &mut EventBuffer,
@@ -196,6 +263,24 @@ impl<'de, K: Deserialize<'de> + Ord + Drop, V: Deserialize<'de> + Drop> Deserial
         match found {
             Data::Map(entries) => build_entries(alloc, entries),
             _ => unreachable!(),
+        }
+    }
+
+    fn read_node(
+        alloc: Global,
+        tape: &Tape<'de>,
+        place: &mut usize,
+        depth: usize,
+    ) -> Option<BTreeMap<K, V>> {
+        if depth == 0 || !begins_mapping(tape, *place) {
+            return None;
+        }
+        *place += 1;
+        let pairs = read_pairs(alloc, tape, place, depth - 1)?;
+        *place += 1;
+        match map_of_pairs(alloc, pairs) {
+            Ok(map) => Some(map),
+            Err(_) => None,
         }
     }
 }

@@ -1,10 +1,12 @@
 //! Optionals of a type.
 
 use crate::fault::BuildFault;
+use crate::tape_leaf::{begins_collection, is_nothing};
 use crate::traits::{Deserialize, RoundTrip, Serialize};
 use std::alloc::Global;
 use yaml_base::Error;
 use yaml_shape::{Data, Schema, SchemaFault, ShapeId, option_of};
+use yaml_tape::Tape;
 use yaml_write::{EventBuffer, inner_shape};
 
 impl<'de, T: Deserialize<'de>> Deserialize<'de> for Option<T> {
@@ -32,6 +34,22 @@ impl<'de, T: Deserialize<'de>> Deserialize<'de> for Option<T> {
             Data::Some(content) => Ok(Some(T::build(alloc, Box::into_inner(content))?)),
             _ => unreachable!(),
         }
+    }
+
+    fn read_node(
+        alloc: Global,
+        tape: &Tape<'de>,
+        place: &mut usize,
+        depth: usize,
+    ) -> Option<Option<T>> {
+        if begins_collection(tape, *place) {
+            return Some(Some(T::read_node(alloc, tape, place, depth)?));
+        }
+        if is_nothing(tape, *place)? {
+            *place += 1;
+            return Some(None);
+        }
+        Some(Some(T::read_node(alloc, tape, place, depth)?))
     }
 }
 

@@ -22,6 +22,7 @@ use std::cmp::Ordering;
 use std::collections::BTreeSet;
 use yaml_base::Error;
 use yaml_shape::{Data, Schema, SchemaFault, ShapeId, seq_of};
+use yaml_tape::Tape;
 use yaml_write::{EventBuffer, element_shape};
 
 // The set of the items, put in one after another.
@@ -136,6 +137,15 @@ impl<'de, T: Deserialize<'de> + Ord + Drop> Deserialize<'de> for BTreeSet<T> {
             Data::Seq(items) => build_members(alloc, items),
             _ => unreachable!(),
         }
+    }
+
+    fn read_node(
+        _alloc: Global,
+        _tape: &Tape<'de>,
+        _place: &mut usize,
+        _depth: usize,
+    ) -> Option<BTreeSet<T>> {
+        None
     }
 }
 

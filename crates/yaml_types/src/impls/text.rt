@@ -11,10 +11,12 @@ ghost use Rattle.yaml_types.specs.Start.{IsStart, leaf_start};
 
 use crate::fault::BuildFault;
 use crate::leaf::{leaf_schema, put_text};
+use crate::tape_leaf::{lent_at, text_at};
 use crate::traits::{Deserialize, RoundTrip, Serialize};
 use std::alloc::Global;
 use yaml_base::Error;
 use yaml_shape::{Data, Schema, SchemaFault, Shape, ShapeId, Text};
+use yaml_tape::Tape;
 use yaml_write::EventBuffer;
 
 impl<'de> Deserialize<'de> for String {
@@ -42,6 +44,19 @@ impl<'de> Deserialize<'de> for String {
             Data::Str(Text::Borrowed(text)) => Ok(String::from_str(alloc, text)?),
             _ => unreachable!(),
         }
+    }
+
+    #[tactic(auto, using(crate::proofs::LeafReads::leaf_means))]
+    fn read_node(
+        alloc: Global,
+        tape: &Tape<'de>,
+        place: &mut usize,
+        _depth: usize,
+    ) -> Option<String> {
+        let text = text_at(tape, *place)?;
+        let found = String::from_str(alloc, text).ok()?;
+        *place += 1;
+        Some(found)
     }
 }
 
@@ -126,5 +141,17 @@ impl<'de> Deserialize<'de> for &'de str {
             }
             _ => unreachable!(),
         }
+    }
+
+    #[tactic(auto, using(crate::proofs::LeafReads::leaf_means))]
+    fn read_node(
+        _alloc: Global,
+        tape: &Tape<'de>,
+        place: &mut usize,
+        _depth: usize,
+    ) -> Option<&'de str> {
+        let found = lent_at(tape, *place)?;
+        *place += 1;
+        Some(found)
     }
 }

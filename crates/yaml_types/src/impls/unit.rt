@@ -6,6 +6,7 @@ use crate::traits::{Deserialize, RoundTrip, Serialize};
 use std::alloc::Global;
 use yaml_base::Error;
 use yaml_shape::{Data, Schema, SchemaFault, Shape, ShapeId};
+use yaml_tape::Tape;
 use yaml_write::EventBuffer;
 
 impl<'de> Deserialize<'de> for () {
@@ -32,6 +33,15 @@ impl<'de> Deserialize<'de> for () {
             Data::Unit => Ok(()),
             _ => unreachable!(),
         }
+    }
+
+    fn read_node(
+        _alloc: Global,
+        _tape: &Tape<'de>,
+        _place: &mut usize,
+        _depth: usize,
+    ) -> Option<()> {
+        None
     }
 }
 

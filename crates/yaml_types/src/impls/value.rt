@@ -6,6 +6,7 @@ use crate::traits::{Deserialize, RoundTrip, Serialize};
 use std::alloc::Global;
 use yaml_base::{Cause, Error};
 use yaml_shape::{Data, Schema, SchemaFault, Shape, ShapeId};
+use yaml_tape::Tape;
 use yaml_tree::Value;
 use yaml_write::EventBuffer;
 
@@ -33,6 +34,15 @@ impl<'de> Deserialize<'de> for Value {
             Data::Any(value) => Ok(value),
             _ => unreachable!(),
         }
+    }
+
+    fn read_node(
+        _alloc: Global,
+        _tape: &Tape<'de>,
+        _place: &mut usize,
+        _depth: usize,
+    ) -> Option<Value> {
+        None
     }
 }
 

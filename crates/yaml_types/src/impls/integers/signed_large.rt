@@ -10,10 +10,12 @@ ghost use Rattle.yaml_types.specs.PlainLaws.{signed_returned};
 
 use crate::fault::BuildFault;
 use crate::leaf::leaf_schema;
+use crate::tape_leaf::signed_at;
 use crate::traits::{Deserialize, RoundTrip, Serialize};
 use std::alloc::Global;
 use yaml_base::Error;
-use yaml_shape::{Data, Schema, SchemaFault, Shape, ShapeId};
+use yaml_shape::{Data, IntegerType, Schema, SchemaFault, Shape, ShapeId};
+use yaml_tape::Tape;
 use yaml_write::EventBuffer;
 
 impl<'de> Deserialize<'de> for i64 {
@@ -34,6 +36,18 @@ impl<'de> Deserialize<'de> for i64 {
             Data::Signed(n) => Ok(n as i64),
             _ => unreachable!(),
         }
+    }
+
+    #[tactic(auto, using(crate::proofs::LeafReads::leaf_means))]
+    fn read_node(
+        _alloc: Global,
+        tape: &Tape<'de>,
+        place: &mut usize,
+        _depth: usize,
+    ) -> Option<i64> {
+        let found = signed_at(IntegerType::I64, tape, *place)?;
+        *place += 1;
+        Some(found)
     }
 }
 
@@ -94,6 +108,15 @@ impl<'de> Deserialize<'de> for i128 {
             _ => unreachable!(),
         }
     }
+
+    fn read_node(
+        _alloc: Global,
+        _tape: &Tape<'de>,
+        _place: &mut usize,
+        _depth: usize,
+    ) -> Option<i128> {
+        None
+    }
 }
 
 impl Serialize for i128 {
@@ -152,6 +175,18 @@ impl<'de> Deserialize<'de> for isize {
             Data::Signed(n) => Ok(n as isize),
             _ => unreachable!(),
         }
+    }
+
+    #[tactic(auto, using(crate::proofs::LeafReads::leaf_means))]
+    fn read_node(
+        _alloc: Global,
+        tape: &Tape<'de>,
+        place: &mut usize,
+        _depth: usize,
+    ) -> Option<isize> {
+        let found = signed_at(IntegerType::Isize, tape, *place)?;
+        *place += 1;
+        Some(found as isize)
     }
 }
 

@@ -10,10 +10,12 @@ ghost use Rattle.yaml_types.specs.PlainLaws.{signed_returned};
 
 use crate::fault::BuildFault;
 use crate::leaf::leaf_schema;
+use crate::tape_leaf::signed_at;
 use crate::traits::{Deserialize, RoundTrip, Serialize};
 use std::alloc::Global;
 use yaml_base::Error;
-use yaml_shape::{Data, Schema, SchemaFault, Shape, ShapeId};
+use yaml_shape::{Data, IntegerType, Schema, SchemaFault, Shape, ShapeId};
+use yaml_tape::Tape;
 use yaml_write::EventBuffer;
 
 impl<'de> Deserialize<'de> for i8 {
@@ -34,6 +36,13 @@ impl<'de> Deserialize<'de> for i8 {
             Data::Signed(n) => Ok(n as i8),
             _ => unreachable!(),
         }
+    }
+
+    #[tactic(auto, using(crate::proofs::LeafReads::leaf_means))]
+    fn read_node(_alloc: Global, tape: &Tape<'de>, place: &mut usize, _depth: usize) -> Option<i8> {
+        let found = signed_at(IntegerType::I8, tape, *place)?;
+        *place += 1;
+        Some(found as i8)
     }
 }
 
@@ -94,6 +103,18 @@ impl<'de> Deserialize<'de> for i16 {
             _ => unreachable!(),
         }
     }
+
+    #[tactic(auto, using(crate::proofs::LeafReads::leaf_means))]
+    fn read_node(
+        _alloc: Global,
+        tape: &Tape<'de>,
+        place: &mut usize,
+        _depth: usize,
+    ) -> Option<i16> {
+        let found = signed_at(IntegerType::I16, tape, *place)?;
+        *place += 1;
+        Some(found as i16)
+    }
 }
 
 impl Serialize for i16 {
@@ -152,6 +173,18 @@ impl<'de> Deserialize<'de> for i32 {
             Data::Signed(n) => Ok(n as i32),
             _ => unreachable!(),
         }
+    }
+
+    #[tactic(auto, using(crate::proofs::LeafReads::leaf_means))]
+    fn read_node(
+        _alloc: Global,
+        tape: &Tape<'de>,
+        place: &mut usize,
+        _depth: usize,
+    ) -> Option<i32> {
+        let found = signed_at(IntegerType::I32, tape, *place)?;
+        *place += 1;
+        Some(found as i32)
     }
 }
 

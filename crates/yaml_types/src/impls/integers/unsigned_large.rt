@@ -10,10 +10,12 @@ ghost use Rattle.yaml_types.specs.PlainLaws.{unsigned_returned};
 
 use crate::fault::BuildFault;
 use crate::leaf::leaf_schema;
+use crate::tape_leaf::unsigned_at;
 use crate::traits::{Deserialize, RoundTrip, Serialize};
 use std::alloc::Global;
 use yaml_base::Error;
-use yaml_shape::{Data, Schema, SchemaFault, Shape, ShapeId};
+use yaml_shape::{Data, IntegerType, Schema, SchemaFault, Shape, ShapeId};
+use yaml_tape::Tape;
 use yaml_write::EventBuffer;
 
 impl<'de> Deserialize<'de> for u64 {
@@ -34,6 +36,18 @@ impl<'de> Deserialize<'de> for u64 {
             Data::Unsigned(n) => Ok(n as u64),
             _ => unreachable!(),
         }
+    }
+
+    #[tactic(auto, using(crate::proofs::LeafReads::leaf_means))]
+    fn read_node(
+        _alloc: Global,
+        tape: &Tape<'de>,
+        place: &mut usize,
+        _depth: usize,
+    ) -> Option<u64> {
+        let found = unsigned_at(IntegerType::U64, tape, *place)?;
+        *place += 1;
+        Some(found)
     }
 }
 
@@ -94,6 +108,18 @@ impl<'de> Deserialize<'de> for u128 {
             _ => unreachable!(),
         }
     }
+
+    #[tactic(auto, using(crate::proofs::LeafReads::leaf_means))]
+    fn read_node(
+        _alloc: Global,
+        tape: &Tape<'de>,
+        place: &mut usize,
+        _depth: usize,
+    ) -> Option<u128> {
+        let found = unsigned_at(IntegerType::U128, tape, *place)?;
+        *place += 1;
+        Some(found as u128)
+    }
 }
 
 impl Serialize for u128 {
@@ -152,6 +178,18 @@ impl<'de> Deserialize<'de> for usize {
             Data::Unsigned(n) => Ok(n as usize),
             _ => unreachable!(),
         }
+    }
+
+    #[tactic(auto, using(crate::proofs::LeafReads::leaf_means))]
+    fn read_node(
+        _alloc: Global,
+        tape: &Tape<'de>,
+        place: &mut usize,
+        _depth: usize,
+    ) -> Option<usize> {
+        let found = unsigned_at(IntegerType::Usize, tape, *place)?;
+        *place += 1;
+        Some(found as usize)
     }
 }
 

@@ -10,10 +10,12 @@ ghost use Rattle.yaml_types.specs.PlainLaws.{unsigned_returned};
 
 use crate::fault::BuildFault;
 use crate::leaf::leaf_schema;
+use crate::tape_leaf::unsigned_at;
 use crate::traits::{Deserialize, RoundTrip, Serialize};
 use std::alloc::Global;
 use yaml_base::Error;
-use yaml_shape::{Data, Schema, SchemaFault, Shape, ShapeId};
+use yaml_shape::{Data, IntegerType, Schema, SchemaFault, Shape, ShapeId};
+use yaml_tape::Tape;
 use yaml_write::EventBuffer;
 
 impl<'de> Deserialize<'de> for u8 {
@@ -34,6 +36,13 @@ impl<'de> Deserialize<'de> for u8 {
             Data::Unsigned(n) => Ok(n as u8),
             _ => unreachable!(),
         }
+    }
+
+    #[tactic(auto, using(crate::proofs::LeafReads::leaf_means))]
+    fn read_node(_alloc: Global, tape: &Tape<'de>, place: &mut usize, _depth: usize) -> Option<u8> {
+        let found = unsigned_at(IntegerType::U8, tape, *place)?;
+        *place += 1;
+        Some(found as u8)
     }
 }
 
@@ -94,6 +103,18 @@ impl<'de> Deserialize<'de> for u16 {
             _ => unreachable!(),
         }
     }
+
+    #[tactic(auto, using(crate::proofs::LeafReads::leaf_means))]
+    fn read_node(
+        _alloc: Global,
+        tape: &Tape<'de>,
+        place: &mut usize,
+        _depth: usize,
+    ) -> Option<u16> {
+        let found = unsigned_at(IntegerType::U16, tape, *place)?;
+        *place += 1;
+        Some(found as u16)
+    }
 }
 
 impl Serialize for u16 {
@@ -152,6 +173,18 @@ impl<'de> Deserialize<'de> for u32 {
             Data::Unsigned(n) => Ok(n as u32),
             _ => unreachable!(),
         }
+    }
+
+    #[tactic(auto, using(crate::proofs::LeafReads::leaf_means))]
+    fn read_node(
+        _alloc: Global,
+        tape: &Tape<'de>,
+        place: &mut usize,
+        _depth: usize,
+    ) -> Option<u32> {
+        let found = unsigned_at(IntegerType::U32, tape, *place)?;
+        *place += 1;
+        Some(found as u32)
     }
 }
 
