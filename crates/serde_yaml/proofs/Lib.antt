@@ -1,6 +1,7 @@
 -- Lemmas of this crate.
 pub mod FirstDocument
 pub mod KindLaws
+pub mod NodeEnds
 pub mod MergedLaws
 pub mod PrintedLaws
 pub mod HeadlineLaws

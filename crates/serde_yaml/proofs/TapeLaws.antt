@@ -13,8 +13,7 @@ use Rattle.yaml_shape.specs.Validity.{IsValidSchema}
 use Rattle.yaml_meaning.specs.Meaning.{Means}
 use Rattle.yaml_scan.specs.AllowedText.{IsAllowed}
 use Rattle.yaml_checked.specs.StandsInText.{StandsInText}
-use Rattle.yaml_documents.specs.OnlyDocument.{IsOnlyDocument}
-use Rattle.yaml_documents.proofs.OnlyDocuments.{one_document_parsed}
+use Rattle.yaml_documents.proofs.ParsedDocuments.{one_document_parsed}
 use Rattle.yaml_read.specs.Documents.{Input, documents_of}
 use Rattle.yaml_read.specs.MarkedEvents.{events_in, plain_marked, plain_events}
 use Rattle.yaml_read.specs.QuickReads.{OptionalsEnd}
@@ -62,28 +61,29 @@ pub tape_gives : {T : Type 0} (limits : PlainLimits) (start : Start) (built : Pl
     × TypeGives limits start built refused events fault (Ok x))
 tape_gives {T} limits start built refused t x law closed valid ends allowed stands h =
     let (end, only, n) = h in
-    let p = one_document_parsed t n.node end allowed stands (record {
-      stream_starts = only.stream_starts;
-      document_starts = only.document_starts;
+    let p = one_document_parsed t n.node stands allowed (record {
+      end = end;
+      stream = only.stream_starts;
+      document = only.document_starts;
       node = n.events;
-      document_ends = only.document_ends;
-      stream_ends = only.stream_ends;
-      all = only.all;
+      document_end = only.document_ends;
+      stream_end = only.stream_ends;
+      last = only.all;
     }) in
     let s : PlainShape = get_or start.0 start.1 any_shape in
     let at : shape_at start.0 start.1 ≡ Some s = slice_get-get_or start.0 start.1 any_shape closed.within in
-    let (none, document, is, tree) = p.holds in
+    let (none, (document, (is, tree))) = p.holds in
     let input : Input = plain_marked p.events in
     let formed : IsWellFormed false (events_in input) =
-        subst (λ f. IsWellFormed (is_some f) (events_in input)) none
-        (subst (IsWellFormed (is_some p.fault)) (same_events p.events) p.parsed.taken) in
+    subst (λ f. IsWellFormed (is_some f) (events_in input)) none
+    (subst (IsWellFormed (is_some p.fault)) (same_events p.events) p.parsed.taken) in
     let gives : DocumentGives limits start.0 s document (Ok n.found) =
-        quick_gives limits start.0 start.1 s document n.node n.found n.nestings ends at tree
-        (n.means start.0 s n.node (own_shape start s at)) n.within in
+    quick_gives limits start.0 start.1 s document n.node n.found n.nestings ends at tree
+    (n.means start.0 s n.node (own_shape start s at)) n.within in
     let given : TypeGives limits start built refused input None (Ok x) =
-        reads.of_shape valid at (only_gives limits start.0 s input document n.found formed is gives) n.value in
+    reads.of_shape valid at (only_gives limits start.0 s input document n.found formed is gives) n.value in
     let told : TypeGives limits start built refused input p.fault (Ok x) =
-        subst (λ f. TypeGives limits start built refused input f (Ok x)) (sym none) given in
+    subst (λ f. TypeGives limits start built refused input f (Ok x)) (sym none) given in
     record {
       events = p.events;
       fault = p.fault;

@@ -14,8 +14,9 @@ use yaml_parse::{Ending, Events};
 use yaml_read::Loader;
 use yaml_tape::Tape;
 
-// The documents of a text, by its tokens, whose events are loaded as they are parsed.
-fn load_by_tokens<'de>(alloc: Global, text: &'de [u8]) -> Result<Loader<'de>>
+/// The documents of a YAML text by its tokens, whose events are loaded as they are parsed: those of a text that the
+/// direct parser leaves. The only error is want of memory.
+pub fn load_by_tokens<'de>(alloc: Global, text: &'de [u8]) -> Result<Loader<'de>>
     ensures documents { IfOk result (AreDocumentsOf text.now) }
     ensures memory { IfErr result (λ cause. is_memory cause ≡ true) }
 {

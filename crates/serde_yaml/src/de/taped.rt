@@ -1,46 +1,60 @@
 //! A value that reads itself from the tape of a text.
 
-ghost use Rattle.std.specs.Prelude.{◌≡◌, ◌+◌, IfSome, Ok, Some, length, slice_get, true};
-ghost use Rattle.yaml_scan.specs.AllowedText.{IsAllowed};
+ghost use Rattle.std.specs.Prelude.{◌≡◌, IfSome, Ok, true};
 ghost use Rattle.yaml_checked.specs.StandsInText.{StandsInText};
-ghost use Rattle.yaml_tape.specs.declared.entry.Entry.{Entry};
-ghost use Rattle.yaml_tape.specs.declared.entry.EntryKind.TheVariants as kind;
-ghost use Rattle.serde_yaml.specs.TapeReads.{HoldsValue, IsOnlyNode};
+ghost use Rattle.yaml_documents.specs.OnlyDocument.{HasKind};
+ghost use Rattle.yaml_scan.specs.AllowedText.{IsAllowed};
+ghost use Rattle.yaml_tape.specs.OnDocs.{docs_from};
+ghost use Rattle.serde_yaml.specs.TapeReads.{HoldsValue, IsOnlyNode, IsOpenAfter, behind};
 ghost use Rattle.serde_yaml.specs.TextReads.{IsParsed};
 ghost use Rattle.serde_yaml.specs.TypedHeadline.{GivesValue};
 ghost use Rattle.serde_yaml.specs.TypedReads.{TypeGives};
 
 use crate::laws::reading_gives_the_meaning;
 use std::alloc::Global;
-use std::mem;
 use yaml_checked::stands;
 use yaml_read::Limits;
 use yaml_shape::Schema;
 use yaml_tape::{EntryKind, Tape};
 use yaml_types::Deserialize;
 
-// Whether this stands in a place of a tape.
-fn has(tape: &Tape<'_>, place: usize, kind: EntryKind) -> bool
-    ensures { result ≡ true → (e : Entry) × (slice_get tape.now.entries.items place ≡ Some e) × (e.kind ≡ kind) }
+// How many collections are open behind an entry of this kind, where so many are before it, if it is part of a node and
+// no alias.
+#[inline(always)]
+fn open_after(kind: EntryKind, open: usize) -> Option<usize>
+    ensures { IfSome result (IsOpenAfter kind open) }
 {
-    match tape.entries.get(place) {
-        Some(entry) => entry.kind == kind,
-        None => false,
+    match kind {
+        EntryKind::Scalar => Some(open),
+        EntryKind::SequenceStart | EntryKind::MappingStart => open.checked_add(1),
+        EntryKind::SequenceEnd | EntryKind::MappingEnd => open.checked_sub(1),
+        _ => None,
     }
 }
 
-// Whether the tape holds one document, by the place where its node ends. Nothing rests on the answer: it is asked so
-// that no value is read in vain.
-fn is_alone(tape: &Tape<'_>) -> bool {
-    match tape.entries.get(2) {
-        Some(root) => {
-            let end = if root.kind.starts() {
-                root.end as usize
-            } else {
-                2
-            };
-            tape.entries.len().checked_sub(3) == Some(end)
+// The place behind the node that begins behind the start of a document, if it has no alias in it.
+fn node_end(tape: &Tape<'_>) -> Option<usize>
+    ensures { IfSome result (λ end. docs_from tape.now end ≡ behind 0 (docs_from tape.now 2)) }
+{
+    let mut open = 0;
+    let mut place = 2;
+    'entries: for _ in 0..tape.entries.len() {
+        let entry = tape.entries.get(place)?;
+        open = open_after(entry.kind, open)?;
+        place += 1;
+        if open == 0 {
+            return Some(place);
         }
+    }
+    None
+}
+
+// Whether this stands in a place of a tape.
+fn has(tape: &Tape<'_>, place: usize, kind: EntryKind) -> bool
+    ensures { result ≡ true → HasKind tape.now place kind }
+{
+    match tape.entries.get(place) {
+        Some(entry) => entry.kind == kind,
         None => false,
     }
 }
@@ -59,6 +73,7 @@ fn is_document(tape: &Tape<'_>, end: usize) -> bool
 }
 
 // The value of the one document of a tape, within so many nestings; or nothing, which says nothing of the document.
+// The tape is looked at first: a value could not be let go any more.
 pub(crate) fn read_tape<'de, T: Deserialize<'de>>(
     alloc: Global,
     tape: &Tape<'de>,
@@ -67,18 +82,13 @@ pub(crate) fn read_tape<'de, T: Deserialize<'de>>(
     ensures value { IfSome result (HoldsValue T.start T.built tape.now depth) }
     ensures stands { IfSome result (λ _. StandsInText tape.now) }
 {
-    if !is_alone(tape) {
+    let end = node_end(tape)?;
+    if !is_document(tape, end) || !stands(tape) {
         return None;
     }
     let mut place = 2;
     let value = T::read_node(alloc, tape, &mut place, depth)?;
-    if is_document(tape, place) && stands(tape) {
-        Some(value)
-    } else {
-        // no text is known for which it comes to this
-        mem::forget(value);
-        None
-    }
+    Some(value)
 }
 
 // The value of the one document of a tape as `from_str` gives it, under the type's shape, which is in this table; or
@@ -98,5 +108,6 @@ pub(crate) fn value_of_tape<'de, T: Deserialize<'de>>(
     reading_gives_the_meaning();
     table.is_valid();
     table.optionals_end();
-    read_tape(alloc, tape, limits.nesting() as usize)
+    let value = read_tape(alloc, tape, limits.nesting() as usize)?;
+    Some(value)
 }
