@@ -1,2 +1,3 @@
+pub mod OnDocs
 pub mod OnTape
 pub mod Pushes
