@@ -1,2 +1,4 @@
--- What contracts of this crate cite.
+-- What contracts of this crate, and of those above it, cite.
 pub mod PlainTape
+pub mod StandsInText
+pub mod inner

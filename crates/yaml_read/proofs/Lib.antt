@@ -5,6 +5,7 @@ pub mod FieldCode
 pub mod FieldLaws
 pub mod FreeLaws
 pub mod KindLaws
+pub mod QuickLaws
 pub mod SlotCode
 pub mod Words
 pub mod reading

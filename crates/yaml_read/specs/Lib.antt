@@ -5,6 +5,7 @@ pub mod Following
 pub mod NodeReads
 pub mod Places
 pub mod PlainCursor
+pub mod QuickReads
 pub mod ReadingFaults
 pub mod Reads
 pub mod Rows
