@@ -2,8 +2,9 @@
 use Rattle.std.proofs.Common.{◌≡◌, ◌≢◌, ◌≤◌, ◌<◌, ◌+◌, ◌-◌, ◌∷◌, ◌∙◌, [], Bool, List, None, Option, Some, ap, arith, drop}
 use Rattle.std.proofs.Common.{false, get_or, length, length-drop, map, refl, subst, sym, take, true, true≢false, ℕ}
 use Rattle.std.proofs.lemmas.Bool.{eq-eqb, ne_eqb}
-use Rattle.std.proofs.lemmas.List.Elements.{All-cons, All-head, All-nil, All-tail}
-use Rattle.std.proofs.lemmas.List.{get_or-map, length-map, length-take}
+use Rattle.std.proofs.lemmas.List.Elements.{All-cons, All-get_or, All-head, All-nil, All-push, All-tail, All-weaker}
+use Rattle.std.proofs.lemmas.List.Sorted.{IsNonDecreasingBy-push}
+use Rattle.std.proofs.lemmas.List.{get_or-map, length-map, length-take, take_all, take_more}
 use Rattle.std.specs.Borrow.{Bor}
 use Rattle.std.specs.List.Sorted.{IsNonDecreasingBy}
 use Rattle.std.specs.Option.{option_map}
@@ -29,7 +30,7 @@ use Rattle.yaml_tape.specs.declared.entry.EntryKind.{EntryKind}
 use Rattle.yaml_tape.specs.declared.entry.EntryKind.TheVariants as kind
 use Rattle.yaml_tape.specs.declared.tape.Tape.{Tape}
 use Rattle.yaml_checked.specs.StandsInText.{StandsInText}
-use Rattle.yaml_checked.specs.inner.EntryStands.{EntryStands, ScalarStands}
+use Rattle.yaml_checked.specs.inner.EntryStands.{EntriesStand, EntryStands, ScalarStands}
 
 -- a `Vec` of a text, somewhere in memory
 bytes : Vec ℕ Global → (text : List ℕ) → length text < 2 ^ 32 → Vec ℕ Global
@@ -241,16 +242,49 @@ rise_same f g xs (y ∷ ys) is rise i j d le lt =
             ∙ get_or-map g (y ∷ ys) k y 0 (omega arith) in
     omega (arith, at i (omega arith), at j lt)
 
-pub stands_in_text : (t : Tape) → All (EntryStands t) t.entries.items
-    → IsNonDecreasingBy (λ (e : Entry). e.index) t.entries.items → StandsInText t
-stands_in_text t stand rise =
-    let m : Made t t.entries.items = made t t.entries.items t.inside stand in
+-- one entry more
+one_more : (t : Tape) (last : ℕ) (es : List Entry) (i : ℕ) (d : Entry) → EntriesStand t last (take i es)
+    → i < length es → EntryStands t (get_or es i d) → last ≤ (get_or es i d).index
+    → EntriesStand t (get_or es i d).index (take (i + 1) es)
+one_more t last es i d seen inside here on =
+    let x = get_or es i d in
+    let before = take i es in
+    let low : (e : Entry) → e.index ≤ last → e.index ≤ x.index = λ e le. omega arith in
+    subst (EntriesStand t x.index) (sym (take_more es i d inside)) (record {
+      stand = All-push (EntryStands t) before x seen.stand here;
+      rise = IsNonDecreasingBy-push (λ (e : Entry). e.index) before x seen.rise
+          (λ e some.
+          let long : length before - 1 < length before = omega arith in
+          low (get_or before (length before - 1) e)
+          (All-get_or (λ (y : Entry). y.index ≤ last) before (length before - 1) e long seen.last));
+      last = All-push (λ (e : Entry). e.index ≤ x.index) before x
+          (All-weaker (λ (e : Entry). e.index ≤ last) (λ (e : Entry). e.index ≤ x.index) low before seen.last)
+          (omega arith);
+    })
+
+pub stand_more : (t : Tape) {last : ℕ} {es xs : List Entry} (i : ℕ) (d : Entry) → xs ≡ es → i < length xs
+    → EntriesStand t last (take i es) → EntryStands t (get_or xs i d) → last ≤ (get_or xs i d).index
+    → EntriesStand t (get_or xs i d).index (take (i + 1) es)
+stand_more t {last} {es} {xs} i d same inside seen =
+    subst (λ l. EntryStands t (get_or l i d) → last ≤ (get_or l i d).index
+        → EntriesStand t (get_or l i d).index (take (i + 1) es))
+    (sym same)
+    (one_more t last es i d seen (subst (λ l. i < length l) same inside))
+
+-- where all entries stand so, they are events of the text
+pub stands_in_text : (t : Tape) {last : ℕ} {xs : List Entry} {i : ℕ} → xs ≡ t.entries.items → length xs ≤ i
+    → EntriesStand t last (take i t.entries.items) → StandsInText t
+stands_in_text t {last} {xs} {i} same over seen =
+    let es = t.entries.items in
+    let all : EntriesStand t last es =
+        subst (EntriesStand t last) (take_all i es (subst (λ l. length l ≤ i) same over)) seen in
+    let m : Made t es = made t es t.inside all.stand in
     record {
       events = m.events;
       same = m.same;
       sources = m.sources;
       plain = m.plain;
-      marks = (m.within, rise_same (λ (e : Event × Position). e.1.index) (λ (e : Entry). e.index) m.events
-          t.entries.items m.indexes rise);
+      marks = (m.within,
+      rise_same (λ (e : Event × Position). e.1.index) (λ (e : Entry). e.index) m.events es m.indexes all.rise);
       places = m.places;
     }

@@ -9,6 +9,7 @@ ghost use Rattle.yaml_parse.specs.PlainText.{SaySources};
 ghost use Rattle.yaml_parse.specs.Shown.{AreShown};
 ghost use Rattle.yaml_scan.specs.AllowedText.{IsAllowed};
 
+use crate::allowed::{is_allowed, parse_allowed};
 use crate::bookmark::Bookmark;
 use crate::given::Given;
 use crate::place::Refusal;
@@ -16,18 +17,8 @@ use crate::rest::Rest;
 use std::alloc::{AllocError, Global};
 use std::marker::Model;
 use yaml_base::{Event, Mark};
-use yaml_direct::{Documents, parse};
-use yaml_scan::{Scanned, scan};
-
-// Whether the bytes of a text are allowed.
-fn is_allowed(alloc: Global, text: &[u8]) -> Result<bool, AllocError>
-    ensures { IfOk result (λ all. all ≡ true → IsAllowed text.now) }
-{
-    match scan(alloc, text)? {
-        Scanned::Tokens(_) => Ok(true),
-        Scanned::Unread(_) => Ok(false),
-    }
-}
+use yaml_direct::Documents;
+use yaml_tape::Tape;
 
 /// The events of a text that the direct parser takes, of which the first were handed out.
 #[derive(Drop)]
@@ -52,15 +43,21 @@ impl<'a> TapeEvents<'a> {
         ensures none { IfOk result (λ found. IfSome found (λ events. events.given ≡ [])) }
         ensures allowed { IfOk result (λ found. IfSome found (λ _. IsAllowed text.now)) }
     {
-        if !is_allowed(alloc, text)? {
-            return Ok(None);
-        }
-        match parse(alloc, text)? {
-            Some(tape) => Ok(Some(TapeEvents {
-                given: Given::none(alloc, text),
-                rest: Rest::new(tape),
-            })),
+        match parse_allowed(alloc, text)? {
+            Some(tape) => Ok(Some(TapeEvents::of_tape(alloc, tape))),
             None => Ok(None),
+        }
+    }
+
+    /// The events of the tape of a text whose bytes are allowed, of which none was handed out.
+    pub fn of_tape(alloc: Global, tape: Tape<'a>) -> TapeEvents<'a>
+        requires { IsAllowed tape.text.now }
+        ensures text { result.text ≡ tape.entry.text.now }
+        ensures none { result.given ≡ [] }
+    {
+        TapeEvents {
+            given: Given::none(alloc, tape.text),
+            rest: Rest::new(tape),
         }
     }
 

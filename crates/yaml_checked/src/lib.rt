@@ -6,6 +6,7 @@
 //! lines and columns are counted anew.
 #![tactic(auto)]
 
+mod allowed;
 mod bookmark;
 mod events;
 mod given;
@@ -14,7 +15,10 @@ mod place;
 mod rest;
 mod scalar;
 mod source;
+mod standing;
 
+pub use allowed::parse_allowed;
 pub use bookmark::Bookmark;
 pub use events::TapeEvents;
 pub use place::Refusal;
+pub use standing::stands;

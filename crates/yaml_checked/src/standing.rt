@@ -107,7 +107,6 @@ fn entry_stands(tape: &Tape<'_>, entry: Entry, amid_line: bool) -> bool
 /// at the text's end. No event is made for it, and lines and columns need no counting: they are those of its places.
 ///
 /// Whether the events are a stream is not asked.
-#[tactic(auto, using(crate::proofs::StandingTapes::stands_in_text))]
 pub fn stands(tape: &Tape<'_>) -> bool
     ensures { result ≡ true → StandsInText tape.now }
 {

@@ -1,15 +1,17 @@
-//! All documents of a text that the direct parser takes.
+//! All documents of the text of a tape.
 
 ghost use Rattle.std.specs.Prelude.{◌≡◌, IfErr, IfOk, IfSome, true};
 ghost use Rattle.yaml_base.specs.Answer.{is_memory};
 ghost use Rattle.yaml_base.specs.MarkedEvents.{plain_marked};
 ghost use Rattle.yaml_documents.specs.TextDocuments.{AreDocumentsOf};
+ghost use Rattle.yaml_scan.specs.AllowedText.{IsAllowed};
 
 use std::alloc::Global;
 use yaml_base::{Cause, Error, Result};
 use yaml_checked::{Refusal, TapeEvents};
 use yaml_load::LoaderBuilder;
 use yaml_read::Loader;
+use yaml_tape::Tape;
 
 // Whether a fault is want of memory.
 fn is_memory(fault: &Error) -> bool
@@ -48,14 +50,13 @@ fn hand_over<'de>(
     Ok(false)
 }
 
-// The documents of a text, if the direct parser takes all of it.
-pub(crate) fn load_directly<'de>(alloc: Global, text: &'de [u8]) -> Result<Option<Loader<'de>>>
-    ensures documents { IfOk result (λ found. IfSome found (AreDocumentsOf text.now)) }
+// The documents of the text of a tape, if its events are a stream as a loader takes it.
+pub(crate) fn load_events<'de>(alloc: Global, tape: Tape<'de>) -> Result<Option<Loader<'de>>>
+    requires { IsAllowed tape.text.now }
+    ensures documents { IfOk result (λ found. IfSome found (AreDocumentsOf tape.entry.text.now)) }
     ensures memory { IfErr result (λ cause. is_memory cause ≡ true) }
 {
-    let Some(mut events) = TapeEvents::new(alloc, text)? else {
-        return Ok(None);
-    };
+    let mut events = TapeEvents::of_tape(alloc, tape);
     let mut builder = LoaderBuilder::with_capacity(alloc, events.size_hint())?;
     if !hand_over(alloc, &mut events, &mut builder)? {
         return Ok(None);

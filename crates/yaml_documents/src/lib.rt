@@ -15,4 +15,4 @@ mod whole;
 
 pub use input::{ReaderFault, read_bytes};
 pub use reader::DocumentReader;
-pub use whole::load;
+pub use whole::{load, load_tape};

@@ -3,13 +3,16 @@
 ghost use Rattle.std.specs.Prelude.{◌≡◌, IfErr, IfOk, true};
 ghost use Rattle.yaml_base.specs.Answer.{is_memory};
 ghost use Rattle.yaml_documents.specs.TextDocuments.{AreDocumentsOf};
+ghost use Rattle.yaml_scan.specs.AllowedText.{IsAllowed};
 
-use crate::direct::load_directly;
+use crate::direct::load_events;
 use std::alloc::Global;
 use yaml_base::Result;
+use yaml_checked::parse_allowed;
 use yaml_load::LoaderBuilder;
 use yaml_parse::{Ending, Events};
 use yaml_read::Loader;
+use yaml_tape::Tape;
 
 // The documents of a text, by its tokens, whose events are loaded as they are parsed.
 fn load_by_tokens<'de>(alloc: Global, text: &'de [u8]) -> Result<Loader<'de>>
@@ -33,6 +36,20 @@ fn load_by_tokens<'de>(alloc: Global, text: &'de [u8]) -> Result<Loader<'de>>
     }
 }
 
+/// The documents of the text of a tape, whose bytes are allowed: those of `load`, and the text is not parsed to a tape
+/// again. The only error is want of memory.
+pub fn load_tape<'de>(alloc: Global, tape: Tape<'de>) -> Result<Loader<'de>>
+    requires { IsAllowed tape.text.now }
+    ensures documents { IfOk result (AreDocumentsOf tape.entry.text.now) }
+    ensures memory { IfErr result (λ cause. is_memory cause ≡ true) }
+{
+    let text = tape.text;
+    match load_events(alloc, tape)? {
+        Some(documents) => Ok(documents),
+        None => load_by_tokens(alloc, text),
+    }
+}
+
 /// The documents of a YAML text, which may borrow from it. What can't be parsed is the fault of the document that it
 /// stands in. A text whose bytes are not all allowed, by the rules of UTF-8 or of YAML's characters, has one document,
 /// cut off before its first event. The only error is want of memory.
@@ -43,8 +60,8 @@ pub fn load<'de>(alloc: Global, text: &'de [u8]) -> Result<Loader<'de>>
     ensures documents { IfOk result (AreDocumentsOf text.now) }
     ensures memory { IfErr result (λ cause. is_memory cause ≡ true) }
 {
-    match load_directly(alloc, text)? {
-        Some(documents) => Ok(documents),
+    match parse_allowed(alloc, text)? {
+        Some(tape) => load_tape(alloc, tape),
         None => load_by_tokens(alloc, text),
     }
 }

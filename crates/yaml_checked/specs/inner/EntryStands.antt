@@ -1,5 +1,6 @@
 -- An entry of a tape that can be an event of the tape's text.
-use Rattle.std.specs.Prelude.{◌≡◌, ◌≢◌, ◌-◌, ◌≤◌, List, None, drop, length, slice_range, true, ℕ}
+use Rattle.std.specs.List.Sorted.{IsNonDecreasingBy}
+use Rattle.std.specs.Prelude.{◌≡◌, ◌≢◌, ◌-◌, ◌≤◌, All, List, None, drop, length, slice_range, true, ℕ}
 use Rattle.yaml_base.specs.LineBreaks.{IsOneLine}
 use Rattle.yaml_base.specs.Places.{place_of}
 use Rattle.yaml_base.specs.declared.event.ScalarStyle.TheVariants as style
@@ -33,3 +34,9 @@ pub record EntryStands (t : Tape) (e : Entry) : Type 0 where
   pub scalar : e.kind ≡ kind.Scalar → ScalarStands t e
   pub behind : e.late ≡ true → e.index ≡ length t.text.now
   pub amid : e.late ≡ true → (place_of t.text.now (length t.text.now)).1 ≢ 0
+
+-- so does each of the first entries, and none begins before the one before it, nor behind an index
+pub record EntriesStand (t : Tape) (index : ℕ) (entries : List Entry) : Type 0 where
+  pub stand : All (EntryStands t) entries
+  pub rise : IsNonDecreasingBy (λ e. e.index) entries
+  pub last : All (λ e. e.index ≤ index) entries
