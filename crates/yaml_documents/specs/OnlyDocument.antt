@@ -1,6 +1,9 @@
--- A tape with the stream of one document.
-use Rattle.std.specs.Prelude.{◌+◌, ◌++◌, ◌≡◌, Some, length, map, slice_get, ℕ}
-use Rattle.yaml_base.specs.DocTree.{DocNode, events_of}
+-- A tape with the stream of one document, and events with one.
+use Rattle.std.specs.Prelude.{◌+◌, ◌++◌, ◌∷◌, ◌≡◌, [], None, Option, Some, length, map, slice_get, ℕ}
+use Rattle.yaml_base.specs.DocTree.{DocNode, IsTreeOf, events_of}
+use Rattle.yaml_base.specs.PlainDocument.{PlainDocument}
+use Rattle.yaml_base.specs.PlainFault.{PlainFault}
+use Rattle.yaml_read.specs.Documents.{Input, documents_of}
 use Rattle.yaml_tape.specs.OnDocs.{docs_from}
 use Rattle.yaml_tape.specs.declared.entry.Entry.{Entry}
 use Rattle.yaml_tape.specs.declared.entry.EntryKind.{EntryKind}
@@ -21,3 +24,8 @@ pub record IsOnlyDocument (t : Tape) (root : DocNode) : Type 0 where
   pub document_end : HasKind t end kind.DocumentEnd
   pub stream_end : HasKind t (end + 1) kind.StreamEnd
   pub last : length t.entries.items ≡ end + 2
+
+-- the events of a text are those of one document, with this tree, and the parser met no fault
+abbrev pub HasOneDocument : DocNode → Input → Option PlainFault → Type 0
+HasOneDocument root input fault = (fault ≡ None)
+    × ((document : PlainDocument) × ((documents_of input None ≡ document ∷ []) × IsTreeOf document root))
