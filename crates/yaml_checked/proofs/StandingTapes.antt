@@ -1,6 +1,6 @@
 -- Events made of what stands on a tape.
-use Rattle.std.proofs.Common.{◌≡◌, ◌≢◌, ◌≤◌, ◌<◌, ◌+◌, ◌-◌, ◌∷◌, ◌∙◌, [], Bool, List, None, Option, Some, ap, arith, drop}
-use Rattle.std.proofs.Common.{false, get_or, length, length-drop, map, refl, subst, sym, take, true, true≢false, ℕ}
+use Rattle.std.proofs.Common.{◌≡◌, ◌≢◌, ◌≤◌, ◌<◌, ◌+◌, ◌-◌, ◌∷◌, ◌∙◌, [], Bool, List, None, Option, Some, ap, arith}
+use Rattle.std.proofs.Common.{drop, false, get_or, length, length-drop, map, refl, subst, sym, take, true, ℕ}
 use Rattle.std.proofs.lemmas.Bool.{eq-eqb, ne_eqb}
 use Rattle.std.proofs.lemmas.List.Elements.{All-cons, All-get_or, All-head, All-nil, All-push, All-tail, All-weaker}
 use Rattle.std.proofs.lemmas.List.Sorted.{IsNonDecreasingBy-push}
@@ -8,19 +8,17 @@ use Rattle.std.proofs.lemmas.List.{get_or-map, length-map, length-take, take_all
 use Rattle.std.specs.Borrow.{Bor}
 use Rattle.std.specs.List.Sorted.{IsNonDecreasingBy}
 use Rattle.std.specs.Option.{option_map}
-use Rattle.std.specs.Prelude.{◌^◌, ◌==◌, ◌&&◌, All, IfSome, IsSomeAnd, if◌then◌else◌, not, slice_range}
+use Rattle.std.specs.Prelude.{◌^◌, ◌==◌, ◌&&◌, All, IfSome, if◌then◌else◌, not, slice_range}
 use Rattle.std.specs.declared.alloc.Global.{Global}
 use Rattle.std.specs.declared.vec.Vec.{Vec}
 use Rattle.yaml_base.specs.MarkedEvents.{plain_marked}
 use Rattle.yaml_base.specs.Places.{place_of}
-use Rattle.yaml_base.specs.PlainEvent.{PlainEvent, PlainScalar, alias, document_end, document_start, event_of}
+use Rattle.yaml_base.specs.PlainEvent.{PlainEvent, alias, document_end, document_start, event_of}
 use Rattle.yaml_base.specs.PlainEvent.{mapping_end, mapping_start, scalar, sequence_end, sequence_start}
 use Rattle.yaml_base.specs.PlainEvent.{stream_end, stream_start}
 use Rattle.yaml_base.specs.Position.{Position}
 use Rattle.yaml_base.specs.declared.event.Event.{Event}
 use Rattle.yaml_base.specs.declared.event.Event.TheVariants as event
-use Rattle.yaml_base.specs.declared.event.ScalarStyle.{ScalarStyle}
-use Rattle.yaml_parse.specs.Marks.{MarksAscend}
 use Rattle.yaml_parse.specs.Places.{AreInPlace, IsInPlace}
 use Rattle.yaml_parse.specs.PlainText.{SaySources, SaysSource, scalar_in}
 use Rattle.yaml_parse.specs.Shown.{AreShown, IsShown, StandsAt}
@@ -48,7 +46,8 @@ bytes other text short = record {
 abbrev slice_of : List ℕ → Bor (List ℕ)
 slice_of source = record { ref_ptr = (0, 0); now = source }
 
-shown_again : (source : Option (List ℕ)) → option_map (λ (r : Bor (List ℕ)). r.now) (option_map slice_of source) ≡ source
+shown_again : (source : Option (List ℕ))
+    → option_map (λ (r : Bor (List ℕ)). r.now) (option_map slice_of source) ≡ source
 shown_again None = refl
 shown_again (Some s) = refl
 
@@ -173,9 +172,9 @@ placed_at text i true behind amid =
     let place = place_of text i in
     let at : (i == length text) ≡ true = eq-eqb i (length text) (behind refl) in
     let some : (place.1 == 0) ≡ false =
-        ne_eqb place.1 0 (subst (λ k. (place_of text k).1 ≢ 0) (sym (behind refl)) (amid refl)) in
+    ne_eqb place.1 0 (subst (λ k. (place_of text k).1 ≢ 0) (sym (behind refl)) (amid refl)) in
     let taken : (i == length text && (0 == 0 && not (place.1 == 0))) ≡ true =
-        ap (λ b. b && (0 == 0 && not (place.1 == 0))) at ∙ ap (λ b. not b) some in
+    ap (λ b. b && (0 == 0 && not (place.1 == 0))) at ∙ ap (λ b. not b) some in
     ap (λ b. if b then (place.0 + 1, 0) else place) (sym taken)
 placed_at text i false behind amid =
     let place = place_of text i in
@@ -206,7 +205,7 @@ made t (e ∷ entries) inside stand =
     let text = t.text.now in
     let is_inside : Entry → Type 0 = IsInside text t.arena.items t.names.items in
     let rest : Made t entries =
-        made t entries (All-tail is_inside e entries inside) (All-tail (EntryStands t) e entries stand) in
+    made t entries (All-tail is_inside e entries inside) (All-tail (EntryStands t) e entries stand) in
     let held : is_inside e = All-head is_inside e entries inside in
     let here : EntryStands t e = All-head (EntryStands t) e entries stand in
     let mark : Position = position_at text e.index e.late in
@@ -238,8 +237,8 @@ rise_same f g xs (y ∷ ys) is rise i j d le lt =
     let long : length xs ≡ length (y ∷ ys) = sym (length-map xs f) ∙ ap length is ∙ length-map (y ∷ ys) g in
     let up : g (get_or (y ∷ ys) i y) ≤ g (get_or (y ∷ ys) j y) = rise i j y le (omega arith) in
     let at : (k : ℕ) → k < length xs → f (get_or xs k d) ≡ g (get_or (y ∷ ys) k y) =
-        λ k inside. sym (get_or-map f xs k d 0 inside) ∙ ap (λ l. get_or l k 0) is
-            ∙ get_or-map g (y ∷ ys) k y 0 (omega arith) in
+    λ k inside. sym (get_or-map f xs k d 0 inside) ∙ ap (λ l. get_or l k 0) is
+    ∙ get_or-map g (y ∷ ys) k y 0 (omega arith) in
     omega (arith, at i (omega arith), at j lt)
 
 -- one entry more
@@ -267,7 +266,7 @@ pub stand_more : (t : Tape) {last : ℕ} {es xs : List Entry} (i : ℕ) (d : Ent
     → EntriesStand t (get_or xs i d).index (take (i + 1) es)
 stand_more t {last} {es} {xs} i d same inside seen =
     subst (λ l. EntryStands t (get_or l i d) → last ≤ (get_or l i d).index
-        → EntriesStand t (get_or l i d).index (take (i + 1) es))
+    → EntriesStand t (get_or l i d).index (take (i + 1) es))
     (sym same)
     (one_more t last es i d seen (subst (λ l. i < length l) same inside))
 
@@ -277,14 +276,16 @@ pub stands_in_text : (t : Tape) {last : ℕ} {xs : List Entry} {i : ℕ} → xs 
 stands_in_text t {last} {xs} {i} same over seen =
     let es = t.entries.items in
     let all : EntriesStand t last es =
-        subst (EntriesStand t last) (take_all i es (subst (λ l. length l ≤ i) same over)) seen in
+    subst (EntriesStand t last) (take_all i es (subst (λ l. length l ≤ i) same over)) seen in
     let m : Made t es = made t es t.inside all.stand in
     record {
       events = m.events;
       same = m.same;
       sources = m.sources;
       plain = m.plain;
-      marks = (m.within,
-      rise_same (λ (e : Event × Position). e.1.index) (λ (e : Entry). e.index) m.events es m.indexes all.rise);
+      marks = (
+        m.within,
+        rise_same (λ (e : Event × Position). e.1.index) (λ (e : Entry). e.index) m.events es m.indexes all.rise,
+      );
       places = m.places;
     }

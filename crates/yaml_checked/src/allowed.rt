@@ -18,7 +18,8 @@ pub(crate) fn is_allowed(alloc: Global, text: &[u8]) -> Result<bool, AllocError>
     }
 }
 
-/// The tape of a text, if its bytes are allowed and the direct parser takes all of it. The only error is want of memory.
+/// The tape of a text, if its bytes are allowed and the direct parser takes all of it. The only error is want of
+/// memory.
 pub fn parse_allowed<'a>(alloc: Global, text: &'a [u8]) -> Result<Option<Tape<'a>>, AllocError>
     ensures text { IfOk result (λ found. IfSome found (λ tape. tape.text.now ≡ text.now)) }
     ensures allowed { IfOk result (λ found. IfSome found (λ tape. IsAllowed tape.text.now)) }

@@ -47,11 +47,11 @@ fn has_names(tape: &Tape<'_>, number: u32) -> bool
 
 // Whether the text of a plain scalar, which is not just its source, is what the source says.
 #[inline(never)]
-fn says_rest(tape: &Tape<'_>, entry: Entry) -> bool
-    requires inside { IsInside tape.now.text.now tape.now.arena.items tape.now.names.items entry }
-    requires forward { entry.index ≤ entry.end }
-    requires within { entry.end ≤ length tape.now.text.now }
-    ensures { result ≡ true → SaysItsText tape.now entry }
+fn says_rest(tape: &Tape<'_>, entry: &Entry) -> bool
+    requires inside { IsInside tape.now.text.now tape.now.arena.items tape.now.names.items entry.now }
+    requires forward { entry.now.index ≤ entry.now.end }
+    requires within { entry.now.end ≤ length tape.now.text.now }
+    ensures { result ≡ true → SaysItsText tape.now entry.now }
 {
     let source = &tape.text[entry.index as usize..entry.end as usize];
     let kept = if entry.stored {
@@ -65,11 +65,11 @@ fn says_rest(tape: &Tape<'_>, entry: Entry) -> bool
 
 // Whether the source of a plain scalar says its text.
 #[inline(always)]
-fn says_text(tape: &Tape<'_>, entry: Entry) -> bool
-    requires inside { IsInside tape.now.text.now tape.now.arena.items tape.now.names.items entry }
-    requires forward { entry.index ≤ entry.end }
-    requires within { entry.end ≤ length tape.now.text.now }
-    ensures { result ≡ true → SaysItsText tape.now entry }
+fn says_text(tape: &Tape<'_>, entry: &Entry) -> bool
+    requires inside { IsInside tape.now.text.now tape.now.arena.items tape.now.names.items entry.now }
+    requires forward { entry.now.index ≤ entry.now.end }
+    requires within { entry.now.end ≤ length tape.now.text.now }
+    ensures { result ≡ true → SaysItsText tape.now entry.now }
 {
     if !entry.stored && entry.from == entry.index && entry.to == entry.end {
         return true;
@@ -79,9 +79,9 @@ fn says_text(tape: &Tape<'_>, entry: Entry) -> bool
 
 // Whether the source of a scalar lies in the text, and says what a plain one's text is.
 #[inline(always)]
-fn scalar_stands(tape: &Tape<'_>, entry: Entry) -> bool
-    requires { IsInside tape.now.text.now tape.now.arena.items tape.now.names.items entry }
-    ensures { result ≡ true → ScalarStands tape.now entry }
+fn scalar_stands(tape: &Tape<'_>, entry: &Entry) -> bool
+    requires { IsInside tape.now.text.now tape.now.arena.items tape.now.names.items entry.now }
+    ensures { result ≡ true → ScalarStands tape.now entry.now }
 {
     if entry.index > entry.end || entry.end as usize > tape.text.len() {
         return false;
@@ -91,10 +91,10 @@ fn scalar_stands(tape: &Tape<'_>, entry: Entry) -> bool
 
 // Whether an entry can be an event of the text, of which is known whether it ends amid a line.
 #[inline(always)]
-fn entry_stands(tape: &Tape<'_>, entry: Entry, amid_line: bool) -> bool
-    requires inside { IsInside tape.now.text.now tape.now.arena.items tape.now.names.items entry }
+fn entry_stands(tape: &Tape<'_>, entry: &Entry, amid_line: bool) -> bool
+    requires inside { IsInside tape.now.text.now tape.now.arena.items tape.now.names.items entry.now }
     requires amid_line { amid_line ≡ true → (place_of tape.now.text.now (length tape.now.text.now)).1 ≢ 0 }
-    ensures { result ≡ true → EntryStands tape.now entry }
+    ensures { result ≡ true → EntryStands tape.now entry.now }
 {
     if entry.late && !(amid_line && entry.index as usize == tape.text.len()) {
         return false;
@@ -103,8 +103,9 @@ fn entry_stands(tape: &Tape<'_>, entry: Entry, amid_line: bool) -> bool
 }
 
 /// Whether what stands on a tape can be events of its text: none begins before the one before it, the source of each
-/// scalar lies in the text, that of a plain one in a line says its text, and an event on the line behind the last is one
-/// at the text's end. No event is made for it, and lines and columns need no counting: they are those of its places.
+/// scalar lies in the text, that of a plain one in a line says its text, and what begins on the line behind the last
+/// begins at the end of the text. No event is made, and lines and columns need no counting: they are those of the
+/// places.
 ///
 /// Whether the events are a stream is not asked.
 pub fn stands(tape: &Tape<'_>) -> bool
@@ -113,7 +114,7 @@ pub fn stands(tape: &Tape<'_>) -> bool
     let amid_line = ends_amid_line(tape.text);
     let mut last = 0;
     for entry in &tape.entries {
-        if entry.index < last || !entry_stands(tape, *entry, amid_line) {
+        if entry.index < last || !entry_stands(tape, entry, amid_line) {
             return false;
         }
         last = entry.index;

@@ -1,8 +1,7 @@
 -- The events of the tree of a document are a stream's.
-use Rattle.std.proofs.Common.{◌≡◌, ◌∷◌, ◌++◌, ◌∙◌, [], List, None, Option, Some, ap, append_assoc, map, refl, sym, ℕ}
+use Rattle.std.proofs.Common.{◌≡◌, ◌∷◌, ◌++◌, ◌∙◌, [], List, None, Option, Some, ap, append_assoc, map, refl, ℕ}
 use Rattle.std.proofs.lemmas.List.{map-append}
-use Rattle.std.proofs.lemmas.Option.{none-some}
-use Rattle.yaml_base.proofs.StreamMachineLaws.{run_append, whole_run}
+use Rattle.yaml_base.proofs.StreamMachineLaws.{whole_run}
 use Rattle.yaml_base.specs.DocTree.{DocNode, DocNodes, DocPairs, events_of, events_of_nodes, events_of_pairs, list}
 use Rattle.yaml_base.specs.DocTree.{mapping, no_nodes, no_pairs, node, nothing, pair, reference, word}
 use Rattle.yaml_base.specs.PlainDocEvent.{PlainDocEvent, a_scalar, a_void, alias_to, mapping_begins, mapping_ends}
@@ -50,12 +49,14 @@ mutual
   has_events (reference target) rest = refl
   has_events (word s) rest = refl
   has_events (list tag nodes) rest =
-      ap (λ es. sequence_start None tag ∷ (es ++ rest)) (map-append plain (events_of_nodes nodes) (sequence_ends ∷ []))
-      ∙ ap (λ es. sequence_start None tag ∷ es) (append_assoc (map plain (events_of_nodes nodes)) (sequence_end ∷ []) rest
+      let held = events_of_nodes nodes in
+      ap (λ es. sequence_start None tag ∷ (es ++ rest)) (map-append plain held (sequence_ends ∷ []))
+      ∙ ap (λ es. sequence_start None tag ∷ es) (append_assoc (map plain held) (sequence_end ∷ []) rest
       ∙ have_events nodes (sequence_end ∷ rest))
   has_events (mapping tag pairs) rest =
-      ap (λ es. mapping_start None tag ∷ (es ++ rest)) (map-append plain (events_of_pairs pairs) (mapping_ends ∷ []))
-      ∙ ap (λ es. mapping_start None tag ∷ es) (append_assoc (map plain (events_of_pairs pairs)) (mapping_end ∷ []) rest
+      let held = events_of_pairs pairs in
+      ap (λ es. mapping_start None tag ∷ (es ++ rest)) (map-append plain held (mapping_ends ∷ []))
+      ∙ ap (λ es. mapping_start None tag ∷ es) (append_assoc (map plain held) (mapping_end ∷ []) rest
       ∙ pairs_have_events pairs (mapping_end ∷ rest))
 
   have_events : (nodes : DocNodes) (rest : List PlainEvent)
@@ -157,7 +158,7 @@ pub is_stream : (es : List PlainEvent) (root : DocNode) → AreOf es (events_of 
 is_stream es root are =
     let rest = document_end ∷ (stream_end ∷ []) in
     let whole : IsStream (stream_start ∷ (document_start ∷ (map plain (events_of root) ++ rest))) =
-        (tree_for root ∷ [], ap (λ l. stream_start ∷ (document_start ∷ l)) (has_events root rest)) in
+    (tree_for root ∷ [], ap (λ l. stream_start ∷ (document_start ∷ l)) (has_events root rest)) in
     (whole_run (stream_start ∷ (document_start ∷ (es ++ rest)))).1
     (run_same es (events_of root) rest (Some before_root) are
     ∙ (whole_run (stream_start ∷ (document_start ∷ (map plain (events_of root) ++ rest)))).0 whole)

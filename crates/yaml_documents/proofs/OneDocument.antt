@@ -5,9 +5,8 @@ use Rattle.std.proofs.lemmas.List.{drop_all, length-map, map-append, take-append
 use Rattle.std.proofs.lemmas.Option.{none-some}
 use Rattle.std.specs.Prelude.{Bool, slice_get, unwrap_or}
 use Rattle.yaml_base.specs.DocTree.{DocNode, IsTreeOf, events_of}
-use Rattle.yaml_base.specs.MarkedEvents.{events_in, plain_events, plain_marked}
-use Rattle.yaml_base.specs.PlainDocEvent.{PlainDocEvent, a_scalar, a_void, alias_to, mapping_begins, mapping_ends}
-use Rattle.yaml_base.specs.PlainDocEvent.{sequence_begins, sequence_ends}
+use Rattle.yaml_base.specs.MarkedEvents.{events_in}
+use Rattle.yaml_base.specs.PlainDocEvent.{PlainDocEvent, alias_to}
 use Rattle.yaml_base.specs.PlainDocument.{PlainDocument}
 use Rattle.yaml_base.specs.PlainEvent.{PlainEvent, alias, document_end, document_start, mapping_end, mapping_start}
 use Rattle.yaml_base.specs.PlainEvent.{scalar, sequence_end, sequence_start, stream_end, stream_start}
@@ -136,8 +135,11 @@ document_is : (es : Input) (ds : List PlainDocEvent) (c d : Position) → AreMar
     → document_from None (es ++ (document_end, c) ∷ ((stream_end, d) ∷ []))
     ≡ (record { events = known_events (find_in (anchors_in 0 es)) 0 es; ending = None })
 document_is es ds c d h =
-    rw (body_is es ds c ((stream_end, d) ∷ []) h, ended es ds c ((stream_end, d) ∷ []) h,
-    none_unknown (find_in (anchors_in 0 es)) 0 es ds h) refl
+    rw (
+      body_is es ds c ((stream_end, d) ∷ []) h,
+      ended es ds c ((stream_end, d) ∷ []) h,
+      none_unknown (find_in (anchors_in 0 es)) 0 es ds h,
+    ) refl
 
 whole_tree : (a b c d : Position) (es : Input) (root : DocNode) → AreMarked es (events_of root)
     → HasOnly root (one_document a b c d es)
@@ -216,15 +218,15 @@ one_of t root n =
     let there : slice_get es (suc q) ≡ Some ed = subst (λ i. slice_get es i ≡ Some ed) next hd in
     let last = n.last in
     let back : drop q es ≡ ec ∷ (ed ∷ []) =
-        drop_get es q ec hc ∙ ap (λ l. ec ∷ l) (drop_get es (suc q) ed there
-        ∙ ap (λ l. ed ∷ l) (drop_all (suc (suc q)) es (omega arith))) in
+    drop_get es q ec hc ∙ ap (λ l. ec ∷ l) (drop_get es (suc q) ed there
+    ∙ ap (λ l. ed ∷ l) (drop_all (suc (suc q)) es (omega arith))) in
     let counts : length (map f (drop 2 es)) ≡ length (map Some ds ++ map f (drop q es)) = ap length n.node in
     let q_is : q ≡ suc (suc k) = place_of_end f es ds q ec ed last back counts in
     let behind : drop k (drop 2 es) ≡ ec ∷ (ed ∷ []) =
-        sym (ap (drop (suc (suc k))) front) ∙ subst (λ i. drop i es ≡ ec ∷ (ed ∷ [])) q_is back in
+    sym (ap (drop (suc (suc k))) front) ∙ subst (λ i. drop i es ≡ ec ∷ (ed ∷ [])) q_is back in
     let whole : es ≡ e0 ∷ (e1 ∷ (take k (drop 2 es) ++ ec ∷ (ed ∷ []))) =
-        front ∙ ap (λ l. e0 ∷ (e1 ∷ l)) (sym (take-append-drop k (drop 2 es))
-        ∙ ap (λ l. take k (drop 2 es) ++ l) behind) in
+    front ∙ ap (λ l. e0 ∷ (e1 ∷ l)) (sym (take-append-drop k (drop 2 es))
+    ∙ ap (λ l. take k (drop 2 es) ++ l) behind) in
     record {
       a = position_at text e0.index e0.late;
       b = position_at text e1.index e1.late;
@@ -239,8 +241,14 @@ one_of t root n =
         (ec ed : Entry) → length es ≡ q + 2 → drop q es ≡ ec ∷ (ed ∷ [])
         → length (map f (drop 2 es)) ≡ length (map Some ds ++ map f (drop q es)) → q ≡ suc (suc (length ds))
     place_of_end f es ds q ec ed len back counts =
-        let a = rw (length-map (drop 2 es) f, length-drop 2 es, length-append (map Some ds) (map f (drop q es)),
-        length-map ds Some, length-map (drop q es) f, back) at counts in
+        let a = rw (
+          length-map (drop 2 es) f,
+          length-drop 2 es,
+          length-append (map Some ds) (map f (drop q es)),
+          length-map ds Some,
+          length-map (drop q es) f,
+          back,
+        ) at counts in
         omega (arith, len, a)
 
 -- so it has one document, with the tree of the node, and is a stream
@@ -255,6 +263,6 @@ only_stream t root n =
     let events = map (λ (e : PlainEvent × Position). e.0) o.nodes in
     let rest : Input = (document_end, o.c) ∷ ((stream_end, o.d) ∷ []) in
     let same : events_in (one_document o.a o.b o.c o.d o.nodes)
-        ≡ stream_start ∷ (document_start ∷ (events ++ (document_end ∷ (stream_end ∷ [])))) =
+    ≡ stream_start ∷ (document_start ∷ (events ++ (document_end ∷ (stream_end ∷ [])))) =
     ap (λ l. stream_start ∷ (document_start ∷ l)) (map-append (λ (e : PlainEvent × Position). e.0) o.nodes rest) in
     subst IsStream (sym (ap events_in o.all ∙ same)) (is_stream events root o.of_root)

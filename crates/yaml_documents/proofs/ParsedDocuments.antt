@@ -1,7 +1,7 @@
 -- A tape that stands in its text and holds one document is what the text was parsed to.
-use Rattle.std.proofs.Common.{◌≡◌, ◌∙◌, None, ap, refl, subst, sym}
+use Rattle.std.proofs.Common.{◌∙◌, None, ap, refl, subst, sym}
 use Rattle.yaml_base.specs.DocTree.{DocNode}
-use Rattle.yaml_base.specs.MarkedEvents.{events_in, plain_events, plain_marked}
+use Rattle.yaml_base.specs.MarkedEvents.{events_in, plain_events}
 use Rattle.yaml_base.specs.Stream.{IsStream}
 use Rattle.yaml_checked.specs.StandsInText.{StandsInText}
 use Rattle.yaml_documents.proofs.OneDocument.{only_stream, only_tree}
@@ -9,7 +9,6 @@ use Rattle.yaml_documents.proofs.TextLaws.{parsed_whole, same_events}
 use Rattle.yaml_documents.specs.OnlyDocument.{HasOneDocument, IsOnlyDocument}
 use Rattle.yaml_documents.specs.TextDocuments.{IsParsed}
 use Rattle.yaml_scan.specs.AllowedText.{IsAllowed}
-use Rattle.yaml_tape.specs.Pushes.{marked_on}
 use Rattle.yaml_tape.specs.declared.tape.Tape.{Tape}
 
 pub one_document_parsed : (t : Tape) (root : DocNode) → StandsInText t → IsAllowed t.text.now → IsOnlyDocument t root
@@ -18,7 +17,7 @@ one_document_parsed t root stands allowed only =
     let o = only_tree t root only in
     let events = stands.events in
     let whole : IsStream (plain_events events) =
-        subst IsStream (sym (same_events events ∙ ap events_in stands.same)) (only_stream t root only) in
+    subst IsStream (sym (same_events events ∙ ap events_in stands.same)) (only_stream t root only) in
     record {
       events = events;
       fault = None;

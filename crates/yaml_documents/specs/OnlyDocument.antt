@@ -14,8 +14,8 @@ use Rattle.yaml_tape.specs.declared.tape.Tape.{Tape}
 abbrev pub HasKind : Tape → ℕ → EntryKind → Type 0
 HasKind t place k = (e : Entry) × (slice_get t.entries.items place ≡ Some e) × (e.kind ≡ k)
 
--- the entries are the start of the stream and of a document, the events of a node with no alias among them, and the ends
--- of the document and of the stream
+-- the entries are the start of the stream and of a document, the events of a node with no alias among them, and the
+-- ends of the document and of the stream
 pub record IsOnlyDocument (t : Tape) (root : DocNode) : Type 0 where
   pub end : ℕ
   pub stream : HasKind t 0 kind.StreamStart

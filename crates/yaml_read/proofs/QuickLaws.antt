@@ -1,7 +1,7 @@
 -- Where a tree is known to mean data, its document gives the data.
 use Rattle.std.specs.Prelude.{◌≡◌, ◌≤◌}
 use Rattle.yaml_read.proofs.Words.{DocNode, Err, IsTreeOf, List, Ok, PlainData, PlainDocument, PlainLimits, PlainShape}
-use Rattle.yaml_read.proofs.Words.{Reading, Result, answer_of, arith, reach, refl, sym, ℕ, ◌∙◌}
+use Rattle.yaml_read.proofs.Words.{Reading, answer_of, arith, reach, refl, sym, ◌∙◌}
 use Rattle.yaml_read.proofs.reading.Reaches as reaches
 use Rattle.yaml_read.proofs.reading.Whole.{answered, fault_answered, gives_of_exact, read_answer, whole_reading}
 use Rattle.yaml_read.specs.QuickReads.{QuickGives}
@@ -23,12 +23,12 @@ pub quick_gives : QuickGives
 quick_gives limits table id s document root v d ends at is means within =
     let low : reach table s ≤ 4096 = reaches.low table ends.small ends.falls id s at in
     let there : answer_of limits table s document root ≡ Ok v =
-        read_answer limits table s document ends.small ends.falls low root v (record {
-          nestings = d;
-          followed = 0;
-          means = means;
-          nests_within = within;
-          follows_within = omega arith;
-        }) in
+    read_answer limits table s document ends.small ends.falls low root v (record {
+      nestings = d;
+      followed = 0;
+      means = means;
+      nests_within = within;
+      follows_within = omega arith;
+    }) in
     gives_of_exact limits table s document ends.small ends.falls low (Ok v) is.whole (λ fault e. absurd cc)
     (same_answer limits table s document root v is there)
