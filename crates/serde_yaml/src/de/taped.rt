@@ -21,13 +21,13 @@ use yaml_types::Deserialize;
 // How many collections are open behind an entry of this kind, where so many are before it, if it is part of a node and
 // no alias.
 #[inline(always)]
-fn open_after(kind: EntryKind, open: usize) -> Option<usize>
-    ensures { IfSome result (IsOpenAfter kind open) }
+fn open_after(kind: EntryKind, before: usize) -> Option<usize>
+    ensures { IfSome result (IsOpenAfter kind before) }
 {
     match kind {
-        EntryKind::Scalar => Some(open),
-        EntryKind::SequenceStart | EntryKind::MappingStart => open.checked_add(1),
-        EntryKind::SequenceEnd | EntryKind::MappingEnd => open.checked_sub(1),
+        EntryKind::Scalar => Some(before),
+        EntryKind::SequenceStart | EntryKind::MappingStart => before.checked_add(1),
+        EntryKind::SequenceEnd | EntryKind::MappingEnd => before.checked_sub(1),
         _ => None,
     }
 }
@@ -36,13 +36,13 @@ fn open_after(kind: EntryKind, open: usize) -> Option<usize>
 fn node_end(tape: &Tape<'_>) -> Option<usize>
     ensures { IfSome result (λ end. docs_from tape.now end ≡ behind 0 (docs_from tape.now 2)) }
 {
-    let mut open = 0;
+    let mut nested = 0;
     let mut place = 2;
     'entries: for _ in 0..tape.entries.len() {
         let entry = tape.entries.get(place)?;
-        open = open_after(entry.kind, open)?;
+        nested = open_after(entry.kind, nested)?;
         place += 1;
-        if open == 0 {
+        if nested == 0 {
             return Some(place);
         }
     }
