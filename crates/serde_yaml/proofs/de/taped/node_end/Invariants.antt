@@ -5,4 +5,4 @@ use Rattle.serde_yaml.specs.TapeReads.{behind}
 use Rattle.serde_yaml.proofs.de.taped.node_end.Given as goal
 
 abbrev pub invariant-entries : goal.invariant-entries
-invariant-entries g l = behind l.nested (docs_from l.tape l.place) ≡ behind 0 (docs_from l.tape 2)
+invariant-entries l = behind l.nested (docs_from l.tape l.place) ≡ behind 0 (docs_from l.tape 2)
