@@ -38,7 +38,7 @@ only_gives : (limits : PlainLimits) (table : List PlainShape) (s : PlainShape) (
 only_gives limits table s input document found formed only gives = a_stream formed (record {
   first = λ other others begins.
       let is : document ∷ [] ≡ other ∷ others = sym only ∙ begins.documents in
-      (Ok found, (alone other others is, told others (ap length is)));
+      (Ok found, alone other others is, told others (ap length is));
   iterated = λ e. absurd cc;
 })
   where

@@ -2,6 +2,7 @@
 
 ghost use Rattle.std.specs.Prelude.{◌≡◌, ◌<◌, length, Some, IfOk, IfErr, true};
 ghost use Rattle.yaml_base.specs.Answer.{Answers, is_memory};
+ghost use Rattle.yaml_scan.specs.AllowedText.{IsAllowed};
 ghost use Rattle.yaml_shape.specs.DataView.{data_of};
 ghost use Rattle.yaml_shape.specs.HasShape.{HasShape};
 ghost use Rattle.yaml_shape.specs.PlainShape.{PlainShape, shape_at};
@@ -18,6 +19,7 @@ use yaml_checked::parse_allowed;
 use yaml_documents::{load, load_by_tokens, load_tape};
 use yaml_read::Limits;
 use yaml_shape::{Data, Schema, ShapeId};
+use yaml_tape::Tape;
 use yaml_types::Deserialize;
 
 /// The one document of a YAML text as a value of the type, within 128 nestings and 100 follows for each event. The
@@ -56,21 +58,53 @@ pub fn from_slice_limited<'de, T: Deserialize<'de>>(
         × TypeGives limits T.start T.built T.refused events fault given)) }
     ensures stream { IsOfAStream result }
 {
-    let Some(tape) = parse_allowed(alloc, text)? else {
-        let stream = Deserializer::of_documents(load_by_tokens(alloc, text)?);
-        return from_stream(alloc, stream, limits);
-    };
+    match parse_allowed(alloc, text)? {
+        Some(tape) => from_tape(alloc, tape, limits),
+        None => {
+            let stream = stream_by_tokens(alloc, text)?;
+            from_stream(alloc, stream, limits)
+        }
+    }
+}
+
+// The documents of a text by its tokens.
+fn stream_by_tokens<'de>(alloc: Global, text: &'de [u8]) -> Result<Deserializer<'de>>
+    ensures documents { IfOk result
+        (λ stream. IsParsed text.now (λ events fault. stream ≡ stream_of events fault)) }
+    ensures memory { IfErr result (λ cause. is_memory cause ≡ true) }
+{
+    Ok(Deserializer::of_documents(load_by_tokens(alloc, text)?))
+}
+
+// The documents of the text of a tape.
+fn stream_of_tape<'de>(alloc: Global, tape: Tape<'de>) -> Result<Deserializer<'de>>
+    requires { IsAllowed tape.text.now }
+    ensures documents { IfOk result
+        (λ stream. IsParsed tape.entry.text.now (λ events fault. stream ≡ stream_of events fault)) }
+    ensures memory { IfErr result (λ cause. is_memory cause ≡ true) }
+{
+    Ok(Deserializer::of_documents(load_tape(alloc, tape)?))
+}
+
+// The value of the text of a tape: as the type reads it from the tape, or else of the text's documents.
+fn from_tape<'de, T: Deserialize<'de>>(alloc: Global, tape: Tape<'de>, limits: Limits) -> Result<T>
+    requires { IsAllowed tape.text.now }
+    ensures given { Answers (λ value. value) result (λ given. IsParsed tape.entry.text.now (λ events fault.
+        GivesValue limits T.start T.built T.refused events fault given
+        × TypeGives limits T.start T.built T.refused events fault given)) }
+    ensures stream { IsOfAStream result }
+{
     let (table, id) = match T::schema(alloc) {
         Ok(start) => start,
         Err(_) => {
-            let stream = Deserializer::of_documents(load_tape(alloc, tape)?);
+            let stream = stream_of_tape(alloc, tape)?;
             return from_stream(alloc, stream, limits);
         }
     };
     if let Some(value) = value_of_tape(alloc, &tape, &table, limits) {
         return Ok(value);
     }
-    let stream = Deserializer::of_documents(load_tape(alloc, tape)?);
+    let stream = stream_of_tape(alloc, tape)?;
     from_stream_under(alloc, stream, &table, id, limits)
 }
 

@@ -11,7 +11,7 @@ returns-clause-value g c =
     let only = c.if-not-is_document.ensures refl in
     let n = c.in_ok-value.ensures.read in
     let same : c.read_node.new.place ≡ end =
-        same_end t n.node c.read_node.new.place end n.events c.in_ok-end.ensures only.all in (
+    same_end t n.node c.read_node.new.place end n.events c.in_ok-end.ensures only.all in (
       end,
       only,
       subst (λ p. NodeMeans (IsShapeIn g.T.Deserialize.start) g.T.Deserialize.built t 2 p c.args.depth

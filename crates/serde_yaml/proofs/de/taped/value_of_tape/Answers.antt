@@ -12,9 +12,9 @@ returns g c =
     let closed : IsClosed g.T.Deserialize.start = (g.met.T.Deserialize c.lifetimes (assumption c)).closed in
     let valid = subst IsValidSchema c.requires.table c.is_valid.ensures in
     let ends : OptionalsEnd c.args.table.now = record {
-          small = c.optionals_end.ensures.small;
-          falls = c.optionals_end.ensures.falls;
-        } in
+      small = c.optionals_end.ensures.small;
+      falls = c.optionals_end.ensures.falls;
+    } in
     tape_gives c.args.limits g.T.Deserialize.start g.T.Deserialize.built g.T.Deserialize.refused c.args.tape.now
     c.in_ok-value.value c.reading_gives_the_meaning.ensures closed valid (subst OptionalsEnd c.requires.table ends)
     c.requires.allowed c.in_ok-value.ensures.stands

@@ -8,10 +8,10 @@ use Rattle.serde_yaml.proofs.de.typed.from_stream_under.Goals as goal
 pub returns-in-Ok-build-clause-given : goal.returns-in-Ok-build-clause-given
 returns-in-Ok-build-clause-given g c = λ input fault is formed.
     let closed : IsClosed g.T.Deserialize.start = (g.met.T.Deserialize c.lifetimes (assumption c)).closed in
-    let given = Ok (data_of c.in-Ok-data_from_stream.found) in
+    let given = Ok (data_of c.in-Ok.found) in
     type_gives c.args.limits g.T.Deserialize.start g.T.Deserialize.built g.T.Deserialize.refused input fault _ _
     given (Ok c.in-Ok-build.value) c.requires.table c.requires.number closed c.is_valid.ensures
-    (λ s at. whole_input input fault formed is given (c.in-Ok-data_from_stream.ensures.gives s at))
+    (λ s at. whole_input input fault formed is given (c.in-Ok.ensures.gives s at))
     c.in-Ok-build.ensures.ok
 
 pub returns-in-Ok-build-clause-meaning : goal.returns-in-Ok-build-clause-meaning
@@ -19,32 +19,32 @@ returns-in-Ok-build-clause-meaning g c = λ input fault is formed.
     value_given c.args.limits g.T.Deserialize.start g.T.Deserialize.built g.T.Deserialize.refused input fault
     c.reading_gives_the_meaning.ensures (returns-in-Ok-build-clause-given g c input fault is formed)
 
-pub returns-in-Ok-data_from_stream-clause-given : goal.returns-in-Ok-data_from_stream-clause-given
-returns-in-Ok-data_from_stream-clause-given g c = λ input fault is formed m.
+pub returns-in-Err-build-clause-given : goal.returns-in-Err-build-clause-given
+returns-in-Err-build-clause-given g c = λ input fault is formed m.
     let closed : IsClosed g.T.Deserialize.start = (g.met.T.Deserialize c.lifetimes (assumption c)).closed in
-    let found = data_of c.in-Ok-data_from_stream.found in
+    let found = data_of c.in-Ok.found in
     type_gives c.args.limits g.T.Deserialize.start g.T.Deserialize.built g.T.Deserialize.refused input fault _ _
     (Ok found) (Err c.build_refusal.result) c.requires.table c.requires.number closed
     c.is_valid.ensures
-    (λ s at. whole_input input fault formed is (Ok found) (c.in-Ok-data_from_stream.ensures.gives s at))
+    (λ s at. whole_input input fault formed is (Ok found) (c.in-Ok.ensures.gives s at))
     (no_value g.T.Deserialize.built g.T.Deserialize.refused found c.in-Err-build.reason c.build_refusal.result
     c.in-Err-build.ensures.refused c.build_refusal.ensures m)
 
-pub returns-in-Ok-data_from_stream-clause-meaning : goal.returns-in-Ok-data_from_stream-clause-meaning
-returns-in-Ok-data_from_stream-clause-meaning g c = λ input fault is formed m.
+pub returns-in-Err-build-clause-meaning : goal.returns-in-Err-build-clause-meaning
+returns-in-Err-build-clause-meaning g c = λ input fault is formed m.
     value_given c.args.limits g.T.Deserialize.start g.T.Deserialize.built g.T.Deserialize.refused input fault
-    c.reading_gives_the_meaning.ensures (returns-in-Ok-data_from_stream-clause-given g c input fault is formed m)
+    c.reading_gives_the_meaning.ensures (returns-in-Err-build-clause-given g c input fault is formed m)
 
-pub returns-clause-given : goal.returns-clause-given
-returns-clause-given g c = λ input fault is formed m.
+pub returns-in-Err-clause-given : goal.returns-in-Err-clause-given
+returns-in-Err-clause-given g c = λ input fault is formed m.
     let closed : IsClosed g.T.Deserialize.start = (g.met.T.Deserialize c.lifetimes (assumption c)).closed in
-    let given = Err c.in-Err-data_from_stream.refused in
+    let given = Err c.in-Err.refused in
     type_gives c.args.limits g.T.Deserialize.start g.T.Deserialize.built g.T.Deserialize.refused input fault _ _
-    given (Err c.in-Err-data_from_stream.refused) c.requires.table c.requires.number closed
+    given (Err c.in-Err.refused) c.requires.table c.requires.number closed
     c.is_valid.ensures
-    (λ s at. whole_input input fault formed is given (c.in-Err-data_from_stream.ensures.gives s at m)) refl
+    (λ s at. whole_input input fault formed is given (c.in-Err.ensures.gives s at m)) refl
 
-pub returns-clause-meaning : goal.returns-clause-meaning
-returns-clause-meaning g c = λ input fault is formed m.
+pub returns-in-Err-clause-meaning : goal.returns-in-Err-clause-meaning
+returns-in-Err-clause-meaning g c = λ input fault is formed m.
     value_given c.args.limits g.T.Deserialize.start g.T.Deserialize.built g.T.Deserialize.refused input fault
-    c.reading_gives_the_meaning.ensures (returns-clause-given g c input fault is formed m)
+    c.reading_gives_the_meaning.ensures (returns-in-Err-clause-given g c input fault is formed m)
