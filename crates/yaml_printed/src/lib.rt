@@ -1,0 +1,24 @@
+//! The law that a printed text stands in the grammar: what `yaml_emit` prints of events are documents with these events.
+#![tactic(auto)]
+
+ghost use Rattle.std.specs.Prelude.{ℕ, List};
+ghost use Rattle.yaml_base.specs.EmitEvents.{PlainEmit};
+ghost use Rattle.yaml_emit.specs.StreamTexts.{IsStreamText};
+ghost use Rattle.yaml_printed.specs.Examples.{ThreeArePrinted};
+ghost use Rattle.yaml_printed.specs.Printable.{MayBePrinted, StandsFor};
+
+/// A law, and nothing to be run: the text that is printed of events has documents by the grammar, and their events are
+/// what those that were written may come back as: the same structure, tags and texts, in styles that are permitted.
+/// The events may be any stream whose texts are UTF-8, with at most 128 open collections, where no tag is empty or has
+/// a character 0, where plain is asked for only of texts that may stand so, and where of the first root more is printed
+/// than the end of its line.
+pub fn a_printed_text_stands()
+    ensures { (events : List PlainEmit) (text : List ℕ) → IsStreamText events text → MayBePrinted events
+        → StandsFor events text }
+{}
+
+/// A law: three documents, with scalars in each style, collections in each other, tags, empty collections and
+/// collections as keys, are printed as the text that is written beside them, and the law above is of them.
+pub fn three_documents_are_printed()
+    ensures { ThreeArePrinted }
+{}
