@@ -10,7 +10,8 @@ use Rattle.yaml_grammar.specs.Plain.{by_columns, stops_plain}
 use Rattle.yaml_grammar.specs.PlainLines.{is_less_in}
 use Rattle.yaml_grammar.proofs.LineLaws.{is_end}
 use Rattle.yaml_grammar.proofs.PlainLaws.{Ends, ends_at_line}
-use Rattle.yaml_printed.proofs.Rests.{Rest, rest_at, rest_none, rest_second, rest_in, column_in, begins_token, space_no, feed_no}
+use Rattle.yaml_printed.proofs.Rests.{Rest, rest_at, rest_none, rest_second, rest_in, column_in, begins_token, space_no}
+use Rattle.yaml_printed.proofs.Rests.{feed_no}
 use Rattle.yaml_printed.proofs.Rests.{Next, next_line, next_apart}
 use Rattle.yaml_printed.proofs.TreeEnds.{Line, line_column}
 
@@ -80,7 +81,8 @@ pub next_here : {text : List ℕ} {least i j : ℕ} (after : List ℕ) → at te
 next_here {text = text} {i = i} {j = j} after f a =
     subst (λ k. Next text (suc i) k false) a.there (next_apart a.blanks a.token f (line a) a.begins)
 
-same_triple : (b : ℕ) (text : List ℕ) (i : ℕ) (xs : List ℕ) → Rest text i xs → is_triple b (drop i text) ≡ is_triple b xs
+same_triple : (b : ℕ) (text : List ℕ) (i : ℕ) (xs : List ℕ) → Rest text i xs
+    → is_triple b (drop i text) ≡ is_triple b xs
 same_triple b text i xs r = ap (is_triple b) r.same
 
 pub over_of : (text : List ℕ) (j : ℕ) (token : List ℕ) → Rest text j token → column text j ≡ 0
@@ -138,15 +140,18 @@ marker_stops least c cs h ends column' skipped =
 
 pub plain_ends : {text : List ℕ} {least e j : ℕ} {after : List ℕ} → Ahead text least e j after
     → Ends (by_columns least) (10 ∷ after)
-plain_ends {least = least} {after = after} a = subst (λ l. Ends (by_columns least) (10 ∷ l)) (sym a.is) (go a.blanks a.token a.begins a.stops)
+plain_ends {least = least} {after = after} a =
+    subst (λ l. Ends (by_columns least) (10 ∷ l)) (sym a.is) (go a.blanks a.token a.begins a.stops)
   where
     go : (n : ℕ) (token : List ℕ) → begins_token token ≡ true → Stops least n token
         → Ends (by_columns least) (10 ∷ (replicate n 32 ++ token))
-    go n token h (further_out lt) = ends_at_line least (replicate n 32 ++ token) (less_in least n 0 token h (omega arith))
+    go n token h (further_out lt) =
+        ends_at_line least (replicate n 32 ++ token) (less_in least n 0 token h (omega arith))
     go n [] h (at_end none ends) =
         subst (λ k. Ends (by_columns least) (10 ∷ (replicate k 32 ++ []))) (sym none) (ends_at_line least [] refl)
     go n (c ∷ cs) h (at_end none ends) =
-        subst (λ k. Ends (by_columns least) (10 ∷ (replicate k 32 ++ (c ∷ cs)))) (sym none) (marker_stops least c cs h ends)
+        subst (λ k. Ends (by_columns least) (10 ∷ (replicate k 32 ++ (c ∷ cs)))) (sym none)
+        (marker_stops least c cs h ends)
 
 -- ---- no collection goes on there
 
@@ -183,7 +188,8 @@ no_part {text = text} {least = least} {j = j} q le a = go a.stops
   where
     go : Stops least a.blanks a.token → is_at text q j ≡ false
     go (further_out lt) =
-        rw (ne_eqb (column text j) q (λ e. absurd (omega (arith, token_column a, e, lt, le)))) (and_no (not (is_over text j)))
+        rw (ne_eqb (column text j) q (λ e. absurd (omega (arith, token_column a, e, lt, le))))
+        (and_no (not (is_over text j)))
     go (at_end none ends) =
         rw (over_of text j a.token (token_rest a) (token_column a ∙ none) ends) refl
 
@@ -193,5 +199,6 @@ no_item {text = text} {least = least} {j = j} q le a = go a.stops
   where
     go : Stops least a.blanks a.token → is_item text q j ≡ false
     go (further_out lt) =
-        rw (ne_eqb (column text j) q (λ e. absurd (omega (arith, token_column a, e, lt, le)))) (and_no (is_mark text 45 j))
+        rw (ne_eqb (column text j) q (λ e. absurd (omega (arith, token_column a, e, lt, le))))
+        (and_no (is_mark text 45 j))
     go (at_end none ends) = rw (no_mark text j a.token (token_rest a) ends) refl

@@ -2,7 +2,7 @@
 use Rattle.std.proofs.Common.{◌≡◌, ℕ, zero, suc, ◌+◌, ◌-◌, ◌<◌, Bool, true, false, not, ◌==◌, ◌&&◌, ◌||◌, refl, sym}
 use Rattle.std.proofs.Common.{subst, ap, ap₂, ◌∙◌, arith, List, [], ◌∷◌, ◌++◌, length, replicate, Option, None, Some}
 use Rattle.std.proofs.Common.{max, drop, take}
-use Rattle.std.proofs.lemmas.Bool.{and_parts, or_parts, false≢true, eqb-true, ne_eqb}
+use Rattle.std.proofs.lemmas.Bool.{and_parts, or_parts, false≢true, ne_eqb}
 use Rattle.std.proofs.lemmas.List.{length-append, length-replicate}
 use Rattle.std.specs.List.{list_all}
 use Rattle.std.specs.Prelude.{if◌then◌else◌, option_map}
@@ -10,127 +10,21 @@ use Rattle.std.specs.Str.{IsUtf8, chars}
 use Rattle.yaml_emit.specs.Characters.{is_line_text}
 use Rattle.yaml_emit.specs.PrintedTexts.{block_rest, literal}
 use Rattle.yaml_emit.specs.Styles.{ends_with_byte, fits_block, stand_side_by_side}
-use Rattle.yaml_grammar.specs.BlockTexts.{Chomping, Header, Row, behind, block_at, block_lines, chomped, clip, deep, flat, found_indent}
-use Rattle.yaml_grammar.specs.BlockTexts.{header_of, indent_of, into_first, is_last, is_spaces, keep, lines_of, no_row, row_of, rows}
-use Rattle.yaml_grammar.specs.BlockTexts.{spaces, strip}
-use Rattle.yaml_grammar.specs.Bytes.{at, is_blank}
+use Rattle.yaml_grammar.specs.BlockTexts.{Header, behind, block_at, block_lines, found_indent}
+use Rattle.yaml_grammar.specs.BlockTexts.{header_of, indent_of, is_last, is_spaces, lines_of, no_row, rows}
+use Rattle.yaml_grammar.specs.BlockTexts.{spaces}
+use Rattle.yaml_grammar.specs.Bytes.{at}
 use Rattle.yaml_grammar.specs.Gaps.{next}
 use Rattle.yaml_grammar.proofs.PlainLaws.{not_true}
 use Rattle.yaml_printed.proofs.Aheads.{Ahead, Stops, at_end, further_out, next_here}
-use Rattle.yaml_printed.proofs.BlockLines.{Fine, Stop, and_no, blocks_some, before_row, block_of, block_text, blocks, indented, into_some}
-use Rattle.yaml_printed.proofs.BlockLines.{is_in_line, join, join_lines, lined, lines_are, lines_block, lines_front, rows_are, spaces_of}
+use Rattle.yaml_printed.proofs.BlockLines.{and_no, block_of, block_text, blocks, indented, into_some}
+use Rattle.yaml_printed.proofs.BlockRows.{Stop, blocks_some}
+use Rattle.yaml_printed.proofs.BlockLines.{is_in_line, join, join_lines, lined, lines_are, lines_block, lines_front}
+use Rattle.yaml_printed.proofs.BlockRows.{rows_are, spaces_of}
 use Rattle.yaml_printed.proofs.ByteLaws.{text_all}
-use Rattle.yaml_printed.proofs.PlainFits.{last_on}
-use Rattle.yaml_printed.proofs.Rests.{Rest, begins_token, feed_no, rest_at, rest_is, rest_on, rest_place, rest_skip, space_no}
-use Rattle.yaml_printed.proofs.TreeEnds.{ends_feed}
-
--- ---- how the text ends
-
-abbrev last_empty : Bool → List (List ℕ) → Bool
-last_empty b [] = b
-last_empty b ([] ∷ []) = b
-last_empty b ((c ∷ cs) ∷ []) = false
-last_empty b (l ∷ (m ∷ ms)) = last_empty true (m ∷ ms)
-
-into_last : (b : Bool) (c : ℕ) (l : List ℕ) (ms : List (List ℕ)) → last_empty b ((c ∷ l) ∷ ms) ≡ last_empty false (l ∷ ms)
-into_last b c [] [] = refl
-into_last b c (x ∷ xs) [] = refl
-into_last b c l (m ∷ ms) = refl
-
-last_before : (b : Bool) (c : ℕ) (cs : List ℕ) (x : Bool) → (c == 10) ≡ x
-    → ((b : Bool) → last_empty b (lines_of cs) ≡ ends_feed b cs) → last_empty b (lines_of (c ∷ cs)) ≡ ends_feed x cs
-last_before b c cs true e h =
-    let l = lined cs in
-    rw e (ap (λ ls. last_empty b ([] ∷ ls)) l.is ∙ (ap (last_empty true) (sym l.is) ∙ h true))
-last_before b c cs false e h =
-    let l = lined cs in
-    rw e (ap (last_empty b) (into_some c (lines_of cs) l.first l.more l.is)
-    ∙ (into_last b c l.first l.more ∙ (ap (last_empty false) (sym l.is) ∙ h false)))
-
-last_is : (t : List ℕ) (b : Bool) → last_empty b (lines_of t) ≡ ends_feed b t
-last_is [] b = refl
-last_is (c ∷ cs) b = last_before b c cs (c == 10) refl (last_is cs)
-
-ends_is : (x : ℕ) (xs : List ℕ) (b : Bool) → ends_with_byte 10 (x ∷ xs) ≡ ends_feed b (x ∷ xs)
-ends_is x [] b = refl
-ends_is x (y ∷ ys) b = last_on 10 x y ys ∙ ends_is y ys (x == 10)
-
--- ---- the end of the block
-
-fine_strip : (ls : List (List ℕ)) (last : Row) (e : ℕ) → last_empty true ls ≡ false → Fine strip last e ls
-fine_strip [] last e h = tt
-fine_strip ([] ∷ []) last e h = absurd (false≢true (sym h))
-fine_strip ((c ∷ cs) ∷ []) last e h = refl
-fine_strip ([] ∷ (m ∷ ms)) last e h = fine_strip (m ∷ ms) last (suc e) h
-fine_strip ((c ∷ cs) ∷ (m ∷ ms)) last e h = fine_strip (m ∷ ms) (row_of c) 0 h
-
-keep_is : (last : Row) (e : ℕ) → chomped keep last e ≡ before_row last e
-keep_is no_row e = refl
-keep_is flat e = refl
-keep_is deep e = refl
-
-fine_keep : (ls : List (List ℕ)) (last : Row) (e : ℕ) → last_empty true ls ≡ true → Fine keep last e ls
-fine_keep [] last e h = tt
-fine_keep ([] ∷ []) last e h = keep_is last e
-fine_keep ((c ∷ cs) ∷ []) last e h = absurd (false≢true h)
-fine_keep ([] ∷ (m ∷ ms)) last e h = fine_keep (m ∷ ms) last (suc e) h
-fine_keep ((c ∷ cs) ∷ (m ∷ ms)) last e h = fine_keep (m ∷ ms) (row_of c) 0 h
-
-clip_is : (c : ℕ) → chomped clip (row_of c) 0 ≡ before_row (row_of c) 0
-clip_is c = either (is_blank c)
-  where
-    either : (b : Bool) → chomped clip (if b then deep else flat) 0 ≡ before_row (if b then deep else flat) 0
-    either true = refl
-    either false = refl
-
-fine_clip : (ls : List (List ℕ)) (last : Row) (e : ℕ) → last_empty true ls ≡ false → Fine clip last e (ls ++ ([] ∷ []))
-fine_clip [] last e h = absurd (false≢true (sym h))
-fine_clip ([] ∷ []) last e h = absurd (false≢true (sym h))
-fine_clip ((c ∷ cs) ∷ []) last e h = clip_is c
-fine_clip ([] ∷ (m ∷ ms)) last e h = fine_clip (m ∷ ms) last (suc e) h
-fine_clip ((c ∷ cs) ∷ (m ∷ ms)) last e h = fine_clip (m ∷ ms) (row_of c) 0 h
-
-feed_before : (c : ℕ) (cs : List ℕ) (b : Bool) → (c == 10) ≡ b → lines_of (cs ++ (10 ∷ [])) ≡ lines_of cs ++ ([] ∷ [])
-    → lines_of ((c ∷ cs) ++ (10 ∷ [])) ≡ lines_of (c ∷ cs) ++ ([] ∷ [])
-feed_before c cs true e h = rw e (ap (λ ls. [] ∷ ls) h)
-feed_before c cs false e h =
-    let l = lined cs in
-    rw e (ap (into_first c) (h ∙ ap (λ ls. ls ++ ([] ∷ [])) l.is) ∙ ap (λ ls. into_first c ls ++ ([] ∷ [])) (sym l.is))
-
-lines_feed_last : (s : List ℕ) → lines_of (s ++ (10 ∷ [])) ≡ lines_of s ++ ([] ∷ [])
-lines_feed_last [] = refl
-lines_feed_last (c ∷ cs) = feed_before c cs (c == 10) refl (lines_feed_last cs)
-
-front_is : (x : ℕ) (xs : List ℕ) (b : Bool) → ends_feed b (x ∷ xs) ≡ true → x ∷ xs ≡ take (length xs) (x ∷ xs) ++ (10 ∷ [])
-front_is x [] b h = ap (λ c. c ∷ []) (eqb-true x 10 h)
-front_is x (y ∷ ys) b h = ap (λ l. x ∷ l) (front_is y ys (x == 10) h)
-
-abbrev chomping_by : (feed more : Bool) → Chomping
-chomping_by false more = strip
-chomping_by true true = keep
-chomping_by true false = clip
-
-one_less : (n : ℕ) → suc n - 1 ≡ n
-one_less n = omega arith
-
-fine_all : (x : ℕ) (xs : List ℕ) (feed more : Bool) → ends_with_byte 10 (x ∷ xs) ≡ feed
-    → (length (x ∷ xs) == 1 || ends_with_byte 10 (take (length (x ∷ xs) - 1) (x ∷ xs))) ≡ more
-    → Fine (chomping_by feed more) no_row 0 (lines_of (x ∷ xs))
-fine_all x xs false more e f =
-    fine_strip (lines_of (x ∷ xs)) no_row 0 (last_is (x ∷ xs) true ∙ (sym (ends_is x xs true) ∙ e))
-fine_all x xs true true e f =
-    fine_keep (lines_of (x ∷ xs)) no_row 0 (last_is (x ∷ xs) true ∙ (sym (ends_is x xs true) ∙ e))
-fine_all x [] true false e f = absurd (false≢true (sym f))
-fine_all x (y ∷ ys) true false e f =
-    let s = x ∷ take (length ys) (y ∷ ys) in
-    let front : x ∷ y ∷ ys ≡ s ++ (10 ∷ []) = front_is x (y ∷ ys) true (sym (ends_is x (y ∷ ys) true) ∙ e) in
-    let calm : ends_with_byte 10 s ≡ false
-    = ap (λ n. ends_with_byte 10 (take n (x ∷ y ∷ ys))) (sym (one_less (length (y ∷ ys))))
-    ∙ (or_parts (length (x ∷ y ∷ ys) == 1) (ends_with_byte 10 (take (length (x ∷ y ∷ ys) - 1) (x ∷ y ∷ ys))) f).1 in
-    subst (Fine clip no_row 0) (sym (lines_feed_last s) ∙ ap lines_of (sym front))
-    (fine_clip (lines_of s) no_row 0 (last_is s true ∙ (sym (ends_is x (take (length ys) (y ∷ ys)) true) ∙ calm)))
-
--- ---- the first line
+use Rattle.yaml_printed.proofs.Rests.{Rest, begins_token, feed_no, rest_at, rest_is, rest_on, rest_place, rest_skip}
+use Rattle.yaml_printed.proofs.Rests.{space_no}
+use Rattle.yaml_printed.proofs.BlockEnds.{chomping_by, fine_all}
 
 abbrev step_by : Bool → ℕ
 step_by true = 2
@@ -202,7 +96,8 @@ behind_is n m [] h lt = record {
 }
 behind_is n m (c ∷ cs) h lt =
     let l = lined cs in
-    let own : lines_of (c ∷ cs) ≡ (c ∷ l.first) ∷ l.more = rw (feed_no c cs h) (into_some c (lines_of cs) l.first l.more l.is) in
+    let own : lines_of (c ∷ cs) ≡ (c ∷ l.first) ∷ l.more
+    = rw (feed_no c cs h) (into_some c (lines_of cs) l.first l.more l.is) in
     let space = space_no c cs h in
     record {
       line = replicate m 32 ++ (c ∷ l.first);
@@ -227,13 +122,16 @@ at_line (suc n) x xs = at_line n x xs
 max_is : (least n : ℕ) → n ≡ least - 1 + 2 → max (max least 1) n ≡ n
 max_is least n e = omega (arith, e)
 
-found_is : (least n x : ℕ) (xs : List ℕ) (more : List (List ℕ)) → n ≡ least - 1 + 2 → (x == 32) ≡ false → (x == 9) ≡ false
+found_is : (least n x : ℕ) (xs : List ℕ) (more : List (List ℕ)) → n ≡ least - 1 + 2 → (x == 32) ≡ false
+    → (x == 9) ≡ false
     → found_indent (max least 1) (indented n (x ∷ xs) ∷ more) ≡ Some n
 found_is least n x xs more e space tab =
     let own = replicate n 32 ++ (x ∷ xs) in
     let count : spaces own ≡ n = not_spaces n x xs space in
-    let full : (is_spaces own && not (is_last more)) ≡ false = ap (λ b. b && not (is_last more)) (not_all_spaces n x xs space) in
-    let here : (at own (spaces own) == 9) ≡ false = ap (λ k. at own k == 9) count ∙ (ap (λ b. b == 9) (at_line n x xs) ∙ tab) in
+    let full : (is_spaces own && not (is_last more)) ≡ false
+    = ap (λ b. b && not (is_last more)) (not_all_spaces n x xs space) in
+    let here : (at own (spaces own) == 9) ≡ false
+    = ap (λ k. at own k == 9) count ∙ (ap (λ b. b == 9) (at_line n x xs) ∙ tab) in
     rw (full, here, count) (ap Some (max_is least n e))
 
 -- ---- the block
@@ -245,7 +143,8 @@ block_by text least i header =
     block_lines (at text i == 62) header least place (lines_of (drop place text))
     else None
 
-block_lines_is : (header : Header) (least place n : ℕ) (lines first : List ℕ) (more : List (List ℕ)) → lines_of lines ≡ [] ∷ (first ∷ more)
+block_lines_is : (header : Header) (least place n : ℕ) (lines first : List ℕ) (more : List (List ℕ))
+    → lines_of lines ≡ [] ∷ (first ∷ more)
     → indent_of header least (first ∷ more) ≡ Some n
     → block_lines false header least place (lines_of lines)
     ≡ Some (behind (place + 0 + 1) (rows false header.chomping n no_row 0 (first ∷ more)))
@@ -265,22 +164,25 @@ hints_append false true false rest after = refl
 no_tab : (x : ℕ) (xs : List ℕ) → IsUtf8 (x ∷ xs) → list_all is_line_text (chars (x ∷ xs)) ≡ true → (x == 9) ≡ false
 no_tab x xs u h =
     not_true (x == 9) (and_parts (not (x == 9)) (list_all (λ b. not (b == 9)) xs)
-    (text_all (λ b. not (b == 9)) (λ b high top. rw (ne_eqb b 9 (λ e. absurd (omega (arith, e, high)))) refl) is_line_text
+    (text_all (λ b. not (b == 9)) (λ b high top. rw (ne_eqb b 9 (λ e. absurd (omega (arith, e, high)))) refl)
+    is_line_text
     (λ c l low. rw (ne_eqb c 9 (λ e. absurd (false≢true (ap is_line_text (sym e) ∙ l)))) refl) (x ∷ xs) u h)).0
 
 -- the lines behind the first one, and how far in they stand
-record Placed (n least : ℕ) (header : Header) (ls : List (List ℕ)) (line : List ℕ) (lines : List (List ℕ)) : Type 0 where
-  first : List ℕ
-  more : List (List ℕ)
-  is : blocks n ls ++ (line ∷ lines) ≡ first ∷ more
-  found : indent_of header least (first ∷ more) ≡ Some n
+record Placed (n least : ℕ) (header : Header) (ls : List (List ℕ)) (line : List ℕ) (lines : List (List ℕ)) : Type 0
+  where
+    first : List ℕ
+    more : List (List ℕ)
+    is : blocks n ls ++ (line ∷ lines) ≡ first ∷ more
+    found : indent_of header least (first ∷ more) ≡ Some n
 
 first_text : (n x : ℕ) (f : List ℕ) (ms : List (List ℕ)) (line : List ℕ) (lines : List (List ℕ))
     → (more : List (List ℕ)) × (blocks n ((x ∷ f) ∷ ms) ++ (line ∷ lines) ≡ indented n (x ∷ f) ∷ more)
 first_text n x f [] line lines = (line ∷ lines, refl)
 first_text n x f (m ∷ ms) line lines = (blocks n (m ∷ ms) ++ (line ∷ lines), refl)
 
-placed : (n least x : ℕ) (xs : List ℕ) (line : List ℕ) (lines : List (List ℕ)) (hint feed more : Bool) → n ≡ least - 1 + 2
+placed : (n least x : ℕ) (xs : List ℕ) (line : List ℕ) (lines : List (List ℕ)) (hint feed more : Bool)
+    → n ≡ least - 1 + 2
     → (x == 9) ≡ false → (x == 32 || x == 10) ≡ hint
     → Placed n least (record { chomping = chomping_by feed more; step = step_by hint; size = size_by hint feed more })
     (lines_of (x ∷ xs)) line lines
@@ -306,26 +208,35 @@ block_of_text : {text : List ℕ} {least e j : ℕ} {after : List ℕ} (n x : �
     → list_all is_line_text (chars (x ∷ xs)) ≡ true → n ≡ least - 1 + 2 → (hint feed more : Bool)
     → (x == 32 || x == 10) ≡ hint → ends_with_byte 10 (x ∷ xs) ≡ feed
     → (length (x ∷ xs) == 1 || ends_with_byte 10 (take (length (x ∷ xs) - 1) (x ∷ xs))) ≡ more
-    → Rest text k (124 ∷ (hints hint feed more (block_rest n true (chars (x ∷ xs))) ++ after)) → Ahead text least e j after
+    → Rest text k (124 ∷ (hints hint feed more (block_rest n true (chars (x ∷ xs))) ++ after))
+    → Ahead text least e j after
     → block_at text least k ≡ Some (e, x ∷ xs)
 block_of_text {text = text} {least = least} {e = e} {after = after} n x xs k u h far hint feed more f g m r a =
     let t = x ∷ xs in
     let ls = lines_of t in
     let own = block_rest n true (chars t) in
-    let header : Header = record { chomping = chomping_by feed more; step = step_by hint; size = size_by hint feed more } in
+    let header : Header = record {
+      chomping = chomping_by feed more;
+      step = step_by hint;
+      size = size_by hint feed
+          more;
+    } in
     let r1 : Rest text k (124 ∷ hints hint feed more (own ++ after))
     = rest_is (ap (λ l. 124 ∷ l) (hints_append hint feed more own after)) r in
-    let r2 : Rest text (suc k + size_by hint feed more) (10 ∷ (own ++ after)) = hints_skip hint feed more (own ++ after) (rest_on r1) in
+    let r2 : Rest text (suc k + size_by hint feed more) (10 ∷ (own ++ after))
+    = hints_skip hint feed more (own ++ after) (rest_on r1) in
     let place = suc k + size_by hint feed more in
     let printed : own ≡ block_of n ls = block_text n t u in
     let end : suc place + length own ≡ e = rest_place (rest_skip own (rest_on r2)) a.rest in
     let b : Behind n after
-    = subst (Behind n) (sym a.is) (behind_is n a.blanks a.token a.begins (stop_below least n a.blanks a.token far a.stops)) in
+    = subst (Behind n) (sym a.is) (behind_is n a.blanks a.token a.begins
+    (stop_below least n a.blanks a.token far a.stops)) in
     let y = placed n least x xs b.line b.lines hint feed more far (no_tab x xs u h) f in
     let all : lines_of (10 ∷ (own ++ after)) ≡ [] ∷ (y.first ∷ y.more)
     = ap (λ l. [] ∷ l) (ap (λ l. lines_of (l ++ after)) printed
     ∙ (lines_block n ls after (lines_are t) ∙ (ap (λ l. blocks n ls ++ l) b.is ∙ y.is))) in
-    let read : ◌≡◌ {A = ℕ × List ℕ} (rows false header.chomping n no_row 0 (y.first ∷ y.more)) (length (block_of n ls), join ls)
+    let read : ◌≡◌ {A = ℕ × List ℕ} (rows false header.chomping n no_row 0 (y.first ∷ y.more))
+    (length (block_of n ls), join ls)
     = ap (rows false header.chomping n no_row 0) (sym y.is)
     ∙ rows_are header.chomping n b.line b.lines b.stop ls no_row 0 (some_lines t) (fine_all x xs feed more g m) in
     ap (block_by text least k) (ap header_of (rest_on r1).same ∙ header_is hint feed more (own ++ after))
@@ -333,7 +244,8 @@ block_of_text {text = text} {least = least} {e = e} {after = after} n x xs k u h
     ∙ ap (λ p. Some (behind (place + 0 + 1) p)) read
     ∙ ap₂ (λ q s. Some (q, s)) (omega (arith, ap length printed, end)) (join_lines t))
 
-pub block_reads : {text : List ℕ} {least e j : ℕ} {after : List ℕ} (n : ℕ) (t : List ℕ) (k : ℕ) → IsUtf8 t → fits_block t ≡ true
+pub block_reads : {text : List ℕ} {least e j : ℕ} {after : List ℕ} (n : ℕ) (t : List ℕ) (k : ℕ) → IsUtf8 t
+    → fits_block t ≡ true
     → n ≡ least - 1 + 2 → Rest text k (literal n t ++ after) → Ahead text least e j after
     → block_at text least k ≡ Some (e, t)
 block_reads n [] k u fits far r a = absurd (false≢true fits)

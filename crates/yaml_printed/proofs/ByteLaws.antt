@@ -23,14 +23,16 @@ module _ (p : ℕ → Bool) where
       | inl one ↦ rw (lt-ltb c 0x80 one) (and_from (p c) true (h one) refl)
       | inr more ↦ elim (cases_lt c 0x800) [
         | inl two ↦ rw (le-ltb c 0x80 more, lt-ltb c 0x800 two)
-            (and_from _ _ (beyond _ (omega arith) (omega arith)) (and_from _ true (beyond _ (omega arith) (omega arith)) refl))
+            (and_from _ _ (beyond _ (omega arith) (omega arith)) (and_from _ true
+            (beyond _ (omega arith) (omega arith)) refl))
         | inr most ↦ elim (cases_lt c 0x10000) [
           | inl three ↦ rw (le-ltb c 0x80 more, le-ltb c 0x800 most, lt-ltb c 0x10000 three)
               (and_from _ _ (beyond _ (omega arith) (omega arith)) (and_from _ _ (beyond _ (omega arith) (omega arith))
               (and_from _ true (beyond _ (omega arith) (omega arith)) refl)))
           | inr four ↦ rw (le-ltb c 0x80 more, le-ltb c 0x800 most, le-ltb c 0x10000 four)
               (and_from _ _ (beyond _ (omega arith) (omega arith)) (and_from _ _ (beyond _ (omega arith) (omega arith))
-              (and_from _ _ (beyond _ (omega arith) (omega arith)) (and_from _ true (beyond _ (omega arith) (omega arith)) refl))))
+              (and_from _ _ (beyond _ (omega arith) (omega arith)) (and_from _ true
+              (beyond _ (omega arith) (omega arith)) refl))))
         ]
       ]
     ]
@@ -49,4 +51,5 @@ module _ (p : ℕ → Bool) where
     pub text_all : (q : ℕ → Bool) → ((c : ℕ) → q c ≡ true → c < 128 → p c ≡ true) → (text : List ℕ) → IsUtf8 text
         → list_all q (chars text) ≡ true → list_all p text ≡ true
     text_all q h text u all =
-        subst (λ t. list_all p t ≡ true) (encodes-chars text u) (encodes_all q h (chars text) (scalars-chars text u) all)
+        subst (λ t. list_all p t ≡ true) (encodes-chars text u) (encodes_all q h (chars text) (scalars-chars text u)
+        all)

@@ -48,7 +48,8 @@ chosen asked.Any key text may =
     (quotes_chosen asked.Any key text refl refl (fits_single_quotes text) refl)
 chosen asked.Plain key text may = plain_asked key text (fits_plain text && not (key && length text == 0)) refl may
   where
-    plain_asked : (key : Bool) (text : List ℕ) (b : Bool) → (fits_plain text && not (key && length text == 0)) ≡ b → b ≡ true
+    plain_asked : (key : Bool) (text : List ℕ) (b : Bool) → (fits_plain text && not (key && length text == 0)) ≡ b
+        → b ≡ true
         → Chosen asked.Plain key text (if b then Plain else quotes_of text)
     plain_asked key text true e may =
         let p = and_parts (fits_plain text) (not (key && length text == 0)) e in

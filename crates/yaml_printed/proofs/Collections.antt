@@ -24,18 +24,22 @@ use Rattle.yaml_printed.proofs.Rests.{line_goes_on, next_space, Next}
 abbrev pub names_of : Option (List ℕ) → Names
 names_of tag = record { anchor = None; tag = tag }
 
-renders_sequence : (text : List ℕ) (tag : Option (List ℕ)) (i j d c k l : ℕ) (ns : EmitNodes) (x : ItemsFound text d c k j ns)
+renders_sequence : (text : List ℕ) (tag : Option (List ℕ)) (i j d c k l : ℕ) (ns : EmitNodes)
+    (x : ItemsFound text d c k j ns)
     → Renders (emit_sequence_start tag ∷ (emit_nodes_events ns ++ emit_sequence_end ∷ []))
-    (events_in ((sequence_start None tag, mark text i) ∷ (nodes_events x.nodes ++ (sequence_end, end_mark text l j) ∷ [])))
+    (events_in ((sequence_start None tag, mark text i) ∷ (nodes_events x.nodes ++ (sequence_end, end_mark text l j)
+    ∷ [])))
 renders_sequence text tag i j d c k l ns x = (
   refl,
   renders_append (emit_nodes_events ns) (emit_sequence_end ∷ []) (nodes_events x.nodes)
       ((sequence_end, end_mark text l j) ∷ []) x.same (refl, tt),
 )
 
-renders_mapping : (text : List ℕ) (tag : Option (List ℕ)) (i j d c k l : ℕ) (ps : EmitPairs) (x : PairsFound text d c k j ps)
+renders_mapping : (text : List ℕ) (tag : Option (List ℕ)) (i j d c k l : ℕ) (ps : EmitPairs)
+    (x : PairsFound text d c k j ps)
     → Renders (emit_mapping_start tag ∷ (emit_pairs_events ps ++ emit_mapping_end ∷ []))
-    (events_in ((mapping_start None tag, mark text i) ∷ (pairs_events x.pairs ++ (mapping_end, end_mark text l j) ∷ [])))
+    (events_in ((mapping_start None tag, mark text i) ∷ (pairs_events x.pairs ++ (mapping_end, end_mark text l j)
+    ∷ [])))
 renders_mapping text tag i j d c k l ps x = (
   refl,
   renders_append (emit_pairs_events ps) (emit_mapping_end ∷ []) (pairs_events x.pairs)
@@ -88,7 +92,8 @@ module _ (text : List ℕ) (d c i j : ℕ) where
 
 -- ---- behind an indicator
 
-pub behind_space : (text : List ℕ) (d c : ℕ) (room : Room) (i j : ℕ) (n : EmitNode) (xs : List ℕ) → Rest text i (32 ∷ xs)
+pub behind_space : (text : List ℕ) (d c : ℕ) (room : Room) (i j : ℕ) (n : EmitNode) (xs : List ℕ)
+    → Rest text i (32 ∷ xs)
     → begins_token xs ≡ true → nat_le (length text) (suc i) ≡ false → Here text d (suc c) room (suc i) j n
     → Found text d c room i j n
 behind_space text d c room i j n xs r token inside x =
@@ -110,7 +115,8 @@ in_later_line text d c room i j k n s within x = record {
 }
 
 pub in_own_column : (text : List ℕ) (d c : ℕ) (room : Room) (i j k : ℕ) (ns : EmitNodes) → Next text i k true
-    → is_own text room (suc c) k ≡ true → ItemsFound text d c k j ns → Found text (suc d) c room i j (emit_sequence_node None ns)
+    → is_own text room (suc c) k ≡ true → ItemsFound text d c k j ns
+    → Found text (suc d) c room i j (emit_sequence_node None ns)
 in_own_column text d c room i j k ns s own x = record {
   node = sequence (mark text (next text i)) unnamed x.nodes (end_mark text c j);
   behind = in_its_own_column (line_ends s) (ap (is_own text room (suc c)) s.there ∙ own)

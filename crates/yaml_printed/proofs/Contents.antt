@@ -47,11 +47,13 @@ module _ {text : List ℕ} {least e j : ℕ} {after : List ℕ} (a : Ahead text 
       let s = end_of_line (rest_on (rest_on r)) in
       let n = sequence (mark text i) (names_of tag) no_nodes (mark text (suc k)) in
       let square' : Brackets text (suc d) i (names_of tag) k (suc (suc k)) n
-      = square (rest_at r) (subst (λ q. FlowItems text d q (suc k) no_nodes) (sym inner.there) (no_flow_item (rest_at (rest_on r)))) in
+      = square (rest_at r) (subst (λ q. FlowItems text d q (suc k) no_nodes) (sym inner.there)
+      (no_flow_item (rest_at (rest_on r)))) in
       record {
         node = n;
         stands = subst (λ q. BlockNode text (suc d) least room i q n) s.there
-            (a_collection named goes (subst (λ q. Brackets text (suc d) i (names_of tag) q (suc (suc k)) n) (sym there) square')
+            (a_collection named goes (subst (λ q. Brackets text (suc d) i (names_of tag) q (suc (suc k)) n)
+            (sym there) square')
             (line_ends s));
         same = (refl, (refl, tt));
       }
@@ -64,11 +66,13 @@ module _ {text : List ℕ} {least e j : ℕ} {after : List ℕ} (a : Ahead text 
       let s = end_of_line (rest_on (rest_on r)) in
       let n = mapping (mark text i) (names_of tag) no_pairs (mark text (suc k)) in
       let curly' : Brackets text (suc d) i (names_of tag) k (suc (suc k)) n
-      = curly (rest_at r) (subst (λ q. FlowEntries text d q (suc k) no_pairs) (sym inner.there) (no_flow_entry (rest_at (rest_on r)))) in
+      = curly (rest_at r) (subst (λ q. FlowEntries text d q (suc k) no_pairs) (sym inner.there)
+      (no_flow_entry (rest_at (rest_on r)))) in
       record {
         node = n;
         stands = subst (λ q. BlockNode text (suc d) least room i q n) s.there
-            (a_collection named goes (subst (λ q. Brackets text (suc d) i (names_of tag) q (suc (suc k)) n) (sym there) curly')
+            (a_collection named goes (subst (λ q. Brackets text (suc d) i (names_of tag) q (suc (suc k)) n)
+            (sym there) curly')
             (line_ends s));
         same = (refl, (refl, tt));
       }
@@ -77,12 +81,28 @@ module _ {text : List ℕ} {least e j : ℕ} {after : List ℕ} (a : Ahead text 
 pub block_completes : {text : List ℕ} {d least k m j : ℕ} {tag : Option (List ℕ)} {said : List ℕ} {ask : AskedStyle}
     → at text k ≡ 124 → block_at text least k ≡ Some (m, said) → next text m ≡ j → IsTrue (permits ask style.Literal)
     → Completes text d least j tag k (emit_scalar_node tag said ask)
-block_completes {text = text} {d = d} {least = least} {m = m} {tag = tag} {said = said} {ask = ask} bar block behind allowed room i p named there goes =
+block_completes {text = text} {d = d} {least = least} {m = m} {tag = tag} {said = said} {ask = ask} bar block behind
+    allowed room i p named there goes =
     let n = scalar_at text i (names_of tag) (block_style (at text (next text p))) said m in
     let literal : block_style (at text (next text p)) ≡ style.Literal
     = ap block_style (ap (at text) there ∙ bar) in
     record {
       node = n;
-      stands = subst (λ q. BlockNode text d least room i q n) behind (a_block named goes (ap (block_at text least) there ∙ block));
-      same = ((_, refl, record { unanchored = refl; same_tag = refl; same_text = refl; permitted = subst (λ s. IsTrue (permits ask s)) (sym literal) allowed }), tt);
+      stands =
+          subst (λ q. BlockNode text d least room i q n) behind (a_block named goes
+          (ap (block_at text least) there ∙ block));
+      same = (
+        (
+          _,
+          refl,
+          record {
+            unanchored = refl;
+            same_tag = refl;
+            same_text = refl;
+            permitted = subst
+                (λ s. IsTrue (permits ask s)) (sym literal) allowed;
+          },
+        ),
+        tt,
+      );
     }

@@ -16,9 +16,11 @@ use Rattle.yaml_grammar.specs.Gaps.{is_at, is_item}
 use Rattle.yaml_grammar.specs.Nodes.{Node, pair, node_events, pairs_events}
 use Rattle.yaml_printed.proofs.Aheads.{Ahead, further_out}
 use Rattle.yaml_printed.proofs.Finds.{BehindIs, PairsAre, PairsFound, renders_append}
-use Rattle.yaml_printed.proofs.Rests.{Rest, rest_is, rest_on, rest_at, rest_skip, rest_in, rest_inside, begins_token, column_in}
+use Rattle.yaml_printed.proofs.Rests.{Rest, rest_is, rest_on, rest_at, rest_skip, rest_in, rest_inside, begins_token}
+use Rattle.yaml_printed.proofs.Rests.{column_in}
 use Rattle.yaml_printed.proofs.Rests.{a_colon, a_question, column_step}
-use Rattle.yaml_printed.proofs.TreeEnds.{Line, begins_gap, rest_gap, more_gap, node_gap, node_feed, line_behind, line_column}
+use Rattle.yaml_printed.proofs.TreeEnds.{Line, begins_gap, rest_gap, more_gap, node_gap, node_feed, line_behind}
+use Rattle.yaml_printed.proofs.TreeEnds.{line_column}
 use Rattle.yaml_printed.proofs.TreeEnds.{behind_indicator, behind_text, pair_feed, pair_text}
 
 -- these bytes begin a token that begins no document and is no item's `-`
@@ -155,7 +157,8 @@ module _ (text : List ℕ) (d c : ℕ) (k v : EmitNode) where
       let r2 : Rest text (suc i) (first ++ (replicate c 32 ++ colon)) = rest_on r1 in
       let m = suc i + length first in
       let r3 : Rest text m (replicate c 32 ++ colon) = rest_skip first r2 in
-      let l : Line text m = line_behind first (replicate c 32 ++ colon) (suc i) r2 (node_feed k (far_place c) refl false) in
+      let l : Line text m = line_behind first (replicate c 32 ++ colon) (suc i) r2
+      (node_feed k (far_place c) refl false) in
       let q = m + c in
       let r4 : Rest text q colon = rest_in c colon r3 in
       let col1 : column text (suc i) ≡ suc c = column_step a_question r1 ∙ omega (arith, col) in
@@ -163,7 +166,8 @@ module _ (text : List ℕ) (d c : ℕ) (k v : EmitNode) where
       let col3 : column text (suc q) ≡ suc c = column_step a_colon r4 ∙ omega (arith, col2) in
       let b = colon_begins (second ++ after) in
       let no_dash1 : is_item text c q ≡ false = ap (λ x. x && column text q == c) (no_item_mark b r4) in
-      let x = one (suc i) m q (replicate c 32 ++ colon) r2 (λ h. col1) (value_ahead m (second ++ after) r3 l) (λ h. no_dash1) in
+      let x = one (suc i) m q (replicate c 32 ++ colon) r2 (λ h. col1) (value_ahead m (second ++ after) r3 l)
+      (λ h. no_dash1) in
       let y = two (suc q) e j after (rest_on r4) (λ h. col3) a (λ h. no_dash) in
       let mark1 : is_mark text 63 i ≡ true = rw (rest_at r1) (mark_here 63 i k (replicate c 32 ++ colon) r1) in
       let mark2 : is_mark text 58 q ≡ true = rw (rest_at r4) (mark_here 58 q v after r4) in
@@ -204,7 +208,9 @@ pairs_stand text d c k v ps one more i e j after r col a un no_dash =
     let y = one.found i m x.k rest r1 col x.ahead x.no_dash in
     record {
       pairs = pair y.key y.value x.found.pairs;
-      entries = an_entry {m = y.key} {n = y.value} {ps = x.found.pairs} (at_column (line_begins ps after one) r c col) y.entry x.found.entries;
+      entries =
+          an_entry {m = y.key} {n = y.value} {ps = x.found.pairs} (at_column (line_begins ps after one) r c col)
+          y.entry x.found.entries;
       same = renders_append (emit_node_events k) (emit_node_events v ++ emit_pairs_events ps) (node_events y.key)
           (node_events y.value ++ pairs_events x.found.pairs) y.same_key
           (renders_append (emit_node_events v) (emit_pairs_events ps) (node_events y.value) (pairs_events x.found.pairs)

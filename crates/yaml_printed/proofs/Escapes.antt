@@ -38,7 +38,8 @@ abbrev is_letter : Option ℕ → Bool
 is_letter None = true
 is_letter (Some letter) = is_printable letter && nat_lt letter 128
 
-letter_if : (b : Bool) (x y : Option ℕ) → is_letter x ≡ true → is_letter y ≡ true → is_letter (if b then x else y) ≡ true
+letter_if : (b : Bool) (x y : Option ℕ) → is_letter x ≡ true → is_letter y ≡ true
+    → is_letter (if b then x else y) ≡ true
 letter_if true x y h g = h
 letter_if false x y h g = g
 
@@ -58,7 +59,8 @@ digit_shown d h = grind (arith, h)
 
 pub hex_short : (b : ℕ) → b < 256 → Short 2 (hex_digits b)
 hex_short b h =
-    short_append (short_byte (digit_glyph true (b / 16)) (digit_low (b / 16) (omega arith)) (digit_shown (b / 16) (omega arith)))
+    short_append (short_byte (digit_glyph true (b / 16)) (digit_low (b / 16) (omega arith))
+    (digit_shown (b / 16) (omega arith)))
     (short_byte (digit_glyph true (b % 16)) (digit_low (b % 16) (omega arith)) (digit_shown (b % 16) (omega arith)))
 
 len_two : (c : ℕ) → 128 ≤ c → 2 ≤ length (encode c)
@@ -86,15 +88,19 @@ len_one c = omega (arith, length-encode c, len_utf8_bounds c)
 code_short : (c : ℕ) → c < 0x110000 → Short (4 * length (encode c)) (92 ∷ code_digits c)
 code_short c top = elim (cases_lt c 0x100) [
   | inl small ↦ rw (lt-ltb c 0x100 small) (short_wider (omega (arith, len_one c))
-      (short_append (short_byte 92 (omega arith) refl) (short_append (short_byte 120 (omega arith) refl) (hex_short c small))))
+      (short_append (short_byte 92 (omega arith) refl) (short_append (short_byte 120 (omega arith) refl)
+      (hex_short c small))))
   | inr more ↦ elim (cases_lt c 0x10000) [
-    | inl middle ↦ rw (le-ltb c 0x100 more, lt-ltb c 0x10000 middle) (short_wider (omega (arith, len_two c (omega (arith, more))))
+    | inl middle ↦ rw (le-ltb c 0x100 more, lt-ltb c 0x10000 middle) (short_wider
+        (omega (arith, len_two c (omega (arith, more))))
         (short_append (short_byte 92 (omega arith) refl) (short_append (short_byte 117 (omega arith) refl)
         (short_append (hex_short (c / 0x100) (omega arith)) (hex_short (c % 0x100) (omega arith))))))
-    | inr large ↦ rw (le-ltb c 0x100 more, le-ltb c 0x10000 large) (short_wider (omega (arith, len_three c (omega (arith, large))))
+    | inr large ↦ rw (le-ltb c 0x100 more, le-ltb c 0x10000 large) (short_wider
+        (omega (arith, len_three c (omega (arith, large))))
         (short_append (short_byte 92 (omega arith) refl) (short_append (short_byte 85 (omega arith) refl)
         (short_append (short_byte 48 (omega arith) refl) (short_append (short_byte 48 (omega arith) refl)
-        (short_append (hex_short (c / 0x10000 % 0x100) (omega arith)) (short_append (hex_short (c / 0x100 % 0x100) (omega arith))
+        (short_append (hex_short (c / 0x10000 % 0x100) (omega arith)) (short_append
+        (hex_short (c / 0x100 % 0x100) (omega arith))
         (hex_short (c % 0x100) (omega arith)))))))))
   ]
 ]
@@ -102,14 +108,16 @@ code_short c top = elim (cases_lt c 0x100) [
 itself : (c : ℕ) → scalar c ≡ true → is_printable c ≡ true → Short (4 * length (encode c)) (encode c)
 itself c s h = record { spells = spells_one c s h; size = omega arith }
 
-shown_short : (c : ℕ) → scalar c ≡ true → (o : Option ℕ) → is_letter o ≡ true → Short (4 * length (encode c)) (shown_or_code c o)
+shown_short : (c : ℕ) → scalar c ≡ true → (o : Option ℕ) → is_letter o ≡ true
+    → Short (4 * length (encode c)) (shown_or_code c o)
 shown_short c s (Some letter) h =
     let p = and_parts (is_printable letter) (nat_lt letter 128) h in
     short_wider (omega (arith, len_one c))
     (short_append (short_byte 92 (omega arith) refl) (short_byte letter (ltb-true letter 128 p.1) p.0))
 shown_short c s None h = either (is_printable c) refl
   where
-    either : (b : Bool) → is_printable c ≡ b → Short (4 * length (encode c)) (if b then encode c else 92 ∷ code_digits c)
+    either : (b : Bool) → is_printable c ≡ b → Short (4 * length (encode c))
+        (if b then encode c else 92 ∷ code_digits c)
     either true e = itself c s e
     either false e = code_short c (omega (arith, top_of c s))
 
@@ -132,12 +140,15 @@ doubled_short : (c : ℕ) → scalar c ≡ true → is_printable c ≡ true → 
 doubled_short c s h = either (c == 39)
   where
     either : (b : Bool) → Short (4 * length (encode c)) (if b then 39 ∷ 39 ∷ [] else encode c)
-    either true = short_wider (omega (arith, len_one c)) (short_append (short_byte 39 (omega arith) refl) (short_byte 39 (omega arith) refl))
+    either true =
+        short_wider (omega (arith, len_one c)) (short_append (short_byte 39 (omega arith) refl)
+        (short_byte 39 (omega arith) refl))
     either false = itself c s h
 
 -- a character of a line that ends none is printable
 line_printable : (c : ℕ) → is_line_text c ≡ true → is_break c ≡ false → is_printable c ≡ true
-line_printable c h calm = either (c == 10) (is_printable c) h (or_parts (c == 10) (c == 13) (or_parts (c == 10 || c == 13) (c == 0x85)
+line_printable c h calm =
+    either (c == 10) (is_printable c) h (or_parts (c == 10) (c == 13) (or_parts (c == 10 || c == 13) (c == 0x85)
     (or_parts (c == 10 || c == 13 || c == 0x85) (c == 0x2028) (or_parts (c == 10 || c == 13 || c == 0x85 || c == 0x2028)
     (c == 0x2029) calm).0).0).0).0
   where
@@ -145,7 +156,8 @@ line_printable c h calm = either (c == 10) (is_printable c) h (or_parts (c == 10
     either true y h e = absurd (false≢true (sym e))
     either false y h e = h
 
-single_short_all : (indent : ℕ) (cs : List ℕ) → scalars cs ≡ true → list_all is_line_text cs ≡ true → list_any is_break cs ≡ false
+single_short_all : (indent : ℕ) (cs : List ℕ) → scalars cs ≡ true → list_all is_line_text cs ≡ true
+    → list_any is_break cs ≡ false
     → Short (4 * length (encodes cs)) (single_rest indent false cs)
 single_short_all indent [] s h calm = record { spells = spells_none; size = omega arith }
 single_short_all indent (c ∷ cs) s h calm =
@@ -158,7 +170,8 @@ single_short_all indent (c ∷ cs) s h calm =
     rw feed (short_wider (omega (arith, length-append (encode c) (encodes cs)))
     (short_append (doubled_short c p.0 (line_printable c q.0 r.0)) (single_short_all indent cs p.1 q.1 r.1)))
 
-pub single_short : (indent : ℕ) (t : List ℕ) → IsUtf8 t → list_all is_line_text (chars t) ≡ true → list_any is_break (chars t) ≡ false
+pub single_short : (indent : ℕ) (t : List ℕ) → IsUtf8 t → list_all is_line_text (chars t) ≡ true
+    → list_any is_break (chars t) ≡ false
     → Short (4 * length t + 2) (single_quoted indent t)
 single_short indent t u h calm =
     let same = ap length (encodes-chars t u) in

@@ -1,5 +1,6 @@
 -- Three documents: their text is computed, and they may be printed.
-use Rattle.std.proofs.Common.{◌≡◌, ◌≢◌, ℕ, zero, suc, ◌<◌, ◌==◌, Bool, false, true, refl, ap, arith, List, [], ◌∷◌, codes}
+use Rattle.std.proofs.Common.{◌≡◌, ◌≢◌, ℕ, zero, suc, ◌<◌, ◌==◌, Bool, false, true, refl, ap, arith, List, [], ◌∷◌}
+use Rattle.std.proofs.Common.{codes}
 use Rattle.std.proofs.Common.{get_or, nat_eq, nat_lt, None, Some}
 use Rattle.std.proofs.lemmas.Bool.{and_parts, false≢true, ltb-true}
 use Rattle.std.proofs.lemmas.Str.{IsUtf8-from_ascii}
@@ -47,7 +48,8 @@ plain_may = refl
 
 scalars_may : IsPrintable 128 false scalars
 scalars_may =
-    a_mapping {d = 127} no_tag (a_pair (leaf asked.Any (codes "name") refl refl) (leaf asked.Plain (codes "web 2") refl plain_may)
+    a_mapping {d = 127} no_tag (a_pair (leaf asked.Any (codes "name") refl refl)
+    (leaf asked.Plain (codes "web 2") refl plain_may)
     (a_pair (leaf asked.Any (codes "on") refl refl) (leaf asked.SingleQuoted (codes "yes") refl refl)
     (a_pair (leaf asked.Any (codes "it's") refl refl) (leaf asked.SingleQuoted (codes "it's\n\nso") refl refl)
     (a_pair (leaf asked.Any (codes "a: b") refl refl) (leaf asked.Any (codes "\tx\\") refl refl)
@@ -60,9 +62,11 @@ collections_may : IsPrintable 128 false collections
 collections_may =
     a_sequence {d = 127} no_tag (an_item (a_sequence {d = 126} no_tag (an_item (leaf asked.Any (codes "x") refl refl)
     (an_item (a_sequence {d = 125} no_tag no_items) no_items)))
-    (an_item (a_mapping {d = 126} no_tag (a_pair (a_sequence {d = 125} no_tag (an_item (leaf asked.Any (codes "k") refl refl) no_items))
+    (an_item (a_mapping {d = 126} no_tag (a_pair (a_sequence {d = 125} no_tag
+    (an_item (leaf asked.Any (codes "k") refl refl) no_items))
     (a_sequence {d = 125} no_tag (an_item (leaf asked.Any (codes "v") refl refl) no_items))
-    (a_pair (leaf asked.Any (codes "own") refl refl) (a_sequence {d = 125} no_tag (an_item (leaf asked.Any (codes "w") refl refl)
+    (a_pair (leaf asked.Any (codes "own") refl refl) (a_sequence {d = 125} no_tag
+    (an_item (leaf asked.Any (codes "w") refl refl)
     no_items)) no_pairs)))
     (an_item (a_mapping {d = 126} (tagged 33 (codes "m") refl refl) (a_pair (a_mapping {d = 125} no_tag no_pairs)
     (a_scalar (tagged 116 (codes "ag:yaml.org,2002:int") refl refl) (ascii (codes "7") refl) refl)

@@ -27,7 +27,8 @@ use Rattle.yaml_printed.proofs.TreeEnds.{behind_indicator}
 
 -- ---- events
 
-pub renders_append : (xs ys : List PlainEmit) (as' bs : List Marked) → Renders xs (events_in as') → Renders ys (events_in bs)
+pub renders_append : (xs ys : List PlainEmit) (as' bs : List Marked) → Renders xs (events_in as')
+    → Renders ys (events_in bs)
     → Renders (xs ++ ys) (events_in (as' ++ bs))
 renders_append [] ys [] bs h g = g
 renders_append [] ys (a ∷ as') bs h g = absurd h
@@ -84,7 +85,8 @@ BehindIs text d c room n = (i e j : ℕ) (after : List ℕ) → Rest text i (nod
 
 abbrev pub ItemsAre : List ℕ → (d c : ℕ) → EmitNodes → Type 0
 ItemsAre text d c ns = (i e j : ℕ) (after : List ℕ) → Rest text i (items_text Fresh c ns ++ after) → Line text i
-    → Ahead text (suc c) e j after → is_item text c j ≡ false → MoreItems text d c i j ns (items_text Fresh c ns ++ after)
+    → Ahead text (suc c) e j after → is_item text c j ≡ false
+    → MoreItems text d c i j ns (items_text Fresh c ns ++ after)
 
 abbrev pub PairsAre : List ℕ → (d c : ℕ) → EmitPairs → Type 0
 PairsAre text d c ps = (i e j : ℕ) (after : List ℕ) → Rest text i (pairs_text Fresh c ps ++ after) → Line text i
@@ -103,7 +105,8 @@ dash_mark text c n ns i after r =
     let next : i + 1 ≡ suc i = omega arith in
     let behind : is_gap (at text (suc i)) ≡ true
     = rest_gap (node_text (item_place c) n ++ items_text Fresh c ns) after
-    (more_gap (node_text (item_place c) n) (items_text Fresh c ns) (node_gap Indicator (c + 2) (c + 2) n behind_indicator))
+    (more_gap (node_text (item_place c) n) (items_text Fresh c ns) (node_gap Indicator (c + 2) (c + 2) n
+    behind_indicator))
     (rest_on r) in
     rw (rest_at r) (ap (λ k. is_gap (at text k)) next ∙ behind)
 
@@ -131,8 +134,11 @@ items_stand text d c n ns one more i e j after r col a end =
     let x = one s k m.k rest r1 (λ h. col1) m.ahead (λ h. absurd (false≢true h)) in
     record {
       nodes = node x.node m.found.nodes;
-      items = an_item {n = x.node} {ns = m.found.nodes} (at_item text c i (dash_mark text c n ns i after r) col) x.behind m.found.items;
-      same = renders_append (emit_node_events n) (emit_nodes_events ns) (node_events x.node) (nodes_events m.found.nodes)
+      items =
+          an_item {n = x.node} {ns = m.found.nodes} (at_item text c i (dash_mark text c n ns i after r) col) x.behind
+          m.found.items;
+      same =
+          renders_append (emit_node_events n) (emit_nodes_events ns) (node_events x.node) (nodes_events m.found.nodes)
           x.same m.found.same;
     }
 

@@ -26,7 +26,7 @@ use Rattle.yaml_printed.proofs.Finds.{Here}
 use Rattle.yaml_printed.proofs.Rests.{Rest, rest_is, rest_on, rest_skip, rest_place, rest_inside, begins_token}
 use Rattle.yaml_printed.proofs.Rests.{line_goes_on, line_ends, next_space, next_token, Next}
 use Rattle.yaml_printed.proofs.TagNames.{names_plain, names_tag}
-use Rattle.yaml_printed.proofs.TagLaws.{a_line, a_word, tag_begins}
+use Rattle.yaml_printed.proofs.TagBytes.{a_line, a_word, tag_begins}
 
 -- some bytes that begin a token, and no document
 pub record Token (xs : List ℕ) : Type 0 where
@@ -71,7 +71,8 @@ tag_token t xs ys =
     subst (λ l. Token ((l ++ xs) ++ ys)) (sym b.1) (record { some = λ e. absurd (cc); token = refl; whole = refl })
 
 -- a content behind its tag
-pub content_here : {text : List ℕ} {d least j : ℕ} {n : EmitNode} (tag : Option (List ℕ)) → IsTag tag → (c : ℕ) (cs : List ℕ) (is_block : Bool)
+pub content_here : {text : List ℕ} {d least j : ℕ} {n : EmitNode} (tag : Option (List ℕ)) → IsTag tag
+    → (c : ℕ) (cs : List ℕ) (is_block : Bool)
     (room : Room) (i : ℕ) (after : List ℕ)
     → Rest text i (fresh_text tag (c ∷ cs) is_block ++ after) → IsWord c
     → ((ys : List ℕ) → parts ((c ∷ cs) ++ (leaf_end false is_block ++ ys)) ≡ false)
@@ -99,7 +100,8 @@ content_here {least = least} _ (a_tag {c = t} {cs = ts} u z) c cs is_block room 
     let s = next_space r2 (word_token c rest w) in
     record {
       here = whole (suc (i + length tag)) (rest_on r2) room i (i + length tag)
-          (names_tag (32 ∷ c ∷ rest) (t ∷ ts) (a_tag u z) r1 (a_word w)) s.there (follows_in_line least s (rest_inside (rest_on r2)));
+          (names_tag (32 ∷ c ∷ rest) (t ∷ ts) (a_tag u z) r1 (a_word w)) s.there
+          (follows_in_line least s (rest_inside (rest_on r2)));
       token = tag_token (t ∷ ts) (32 ∷ ((c ∷ cs) ++ leaf_end false is_block)) after;
     }
 
@@ -108,7 +110,8 @@ pub tag_here : {text : List ℕ} {d least e j : ℕ} (t : ℕ) (ts : List ℕ) �
     → IsTrue (permits ask style.Plain) → (room : Room) (i : ℕ) (after : List ℕ)
     → Rest text i (fresh_text (Some (t ∷ ts)) [] false ++ after) → Ahead text least e j after
     → is_own text room least j ≡ false
-    → HereAt text d least room i j (emit_scalar_node (Some (t ∷ ts)) [] ask) (fresh_text (Some (t ∷ ts)) [] false ++ after)
+    → HereAt text d least room i j (emit_scalar_node (Some (t ∷ ts)) [] ask)
+    (fresh_text (Some (t ∷ ts)) [] false ++ after)
 tag_here {text = text} {d = d} {least = least} {j = j} t ts f ask allowed room i after r a own =
     let tag = printed_tag (t ∷ ts) in
     let r1 : Rest text i (tag ++ (10 ∷ after)) = rest_is (append_assoc tag (10 ∷ []) after) r in
@@ -119,7 +122,9 @@ tag_here {text = text} {d = d} {least = least} {j = j} t ts f ask allowed room i
     record {
       here = record {
         node = no_content (mark text i) (names_of (Some (t ∷ ts))) (slice_range text i p);
-        stands = subst (λ q. BlockNode text d least room i q (no_content (mark text i) (names_of (Some (t ∷ ts))) (slice_range text i p))) s.there
+        stands =
+            subst (λ q. BlockNode text d least room i q (no_content (mark text i) (names_of (Some (t ∷ ts)))
+            (slice_range text i p))) s.there
             (names_alone (names_tag (10 ∷ after) (t ∷ ts) f r1 a_line) (moves tag (tag_begins (t ∷ ts)) i) (line_ends s)
             (ap (is_within text least) s.there ∙ gone a) (ap (is_own text room least) s.there ∙ own));
         same = (((_, refl, record { unanchored = refl; same_tag = refl; same_text = refl; permitted = allowed })), tt);

@@ -29,11 +29,17 @@ is_shown b = not (b == 9 || (b == 10 || b == 0))
 
 pub beyond_shown : (b : ℕ) → 128 ≤ b → b < 256 → is_shown b ≡ true
 beyond_shown b h top =
-    rw (ne_eqb b 9 (λ e. absurd (omega arith)), ne_eqb b 10 (λ e. absurd (omega arith)), ne_eqb b 0 (λ e. absurd (omega arith))) refl
+    rw (
+      ne_eqb b 9 (λ e. absurd (omega arith)),
+      ne_eqb b 10 (λ e. absurd (omega arith)),
+      ne_eqb b 0
+          (λ e. absurd (omega arith)),
+    ) refl
 
 pub printable_shown : (c : ℕ) → is_printable c ≡ true → c < 128 → is_shown c ≡ true
 printable_shown c h lt =
-    let no : (k : ℕ) → is_printable k ≡ false → (c == k) ≡ false = λ k none. ne_eqb c k (λ e. absurd (false≢true (sym none ∙ (ap is_printable (sym e) ∙ h)))) in
+    let no : (k : ℕ) → is_printable k ≡ false → (c == k) ≡ false
+    = λ k none. ne_eqb c k (λ e. absurd (false≢true (sym none ∙ (ap is_printable (sym e) ∙ h)))) in
     rw (no 9 refl, no 10 refl, no 0 refl) refl
 
 pub shown_gap : (c : ℕ) → is_shown c ≡ true → is_gap c ≡ (c == 32)
@@ -95,7 +101,8 @@ line_fits b c (d ∷ ds) all l m p q =
     let y = and_parts (is_shown d) (list_all is_shown ds) x.1 in
     let p' = or_parts ((c == 58) && d == 32) (has_behind 58 32 (d == 58) ds) p in
     let q' = or_parts (b && c == 35) (has_behind 32 35 (c == 32) (d ∷ ds)) q in
-    and_from (c == 32 || (not (is_gap c) && (not (c == 58 && is_gap d) && not (c == 35 && b)))) (fits_line (c == 32) (d ∷ ds))
+    and_from (c == 32 || (not (is_gap c) && (not (c == 58 && is_gap d) && not (c == 35 && b))))
+    (fits_line (c == 32) (d ∷ ds))
     (byte_fits b c d x.0 y.0 p'.0 q'.0)
     (line_fits (c == 32) d ds x.1 (sym (last_on 32 c d ds) ∙ l) (sym (last_on 58 c d ds) ∙ m) p'.1 q'.1)
 
@@ -146,16 +153,19 @@ plain_text c cs u h =
     && not (ends_with_byte 58 text) && not (stand_side_by_side 58 32 text) && not (stand_side_by_side 32 35 text))
     (list_all is_printable (chars text)) h in
     let a5 = and_parts (not (begins_otherwise text) && not (is_first 32 text) && not (ends_with_byte 32 text)
-    && not (ends_with_byte 58 text) && not (stand_side_by_side 58 32 text)) (not (stand_side_by_side 32 35 text)) a6.0 in
+    && not (ends_with_byte 58 text) && not (stand_side_by_side 58 32 text)) (not (stand_side_by_side 32 35 text))
+    a6.0 in
     let a4 = and_parts (not (begins_otherwise text) && not (is_first 32 text) && not (ends_with_byte 32 text)
     && not (ends_with_byte 58 text)) (not (stand_side_by_side 58 32 text)) a5.0 in
     let a3 = and_parts (not (begins_otherwise text) && not (is_first 32 text) && not (ends_with_byte 32 text))
     (not (ends_with_byte 58 text)) a4.0 in
     let a2 = and_parts (not (begins_otherwise text) && not (is_first 32 text)) (not (ends_with_byte 32 text)) a3.0 in
     let a1 = and_parts (not (begins_otherwise text)) (not (is_first 32 text)) a2.0 in
-    let o3 = or_parts (emit.is_indicator c || starts_with nat_eq text (codes "---") || starts_with nat_eq text (codes "..."))
+    let o3 = or_parts (emit.is_indicator c || starts_with nat_eq text (codes "---") || starts_with nat_eq text
+    (codes "..."))
     (is_dash c && (length cs == 0 || is_first 32 cs)) (not_true (begins_otherwise text) a1.0) in
-    let o2 = or_parts (emit.is_indicator c || starts_with nat_eq text (codes "---")) (starts_with nat_eq text (codes "...")) o3.0 in
+    let o2 = or_parts (emit.is_indicator c || starts_with nat_eq text (codes "---"))
+    (starts_with nat_eq text (codes "...")) o3.0 in
     let o1 = or_parts (emit.is_indicator c) (starts_with nat_eq text (codes "---")) o2.0 in
     let all = text_all is_shown beyond_shown is_printable printable_shown text u a6.1 in
     record {
@@ -193,7 +203,8 @@ no_dash_gap c [] b ys all h = alone (c == 45) (c == 63) (c == 58) h
     alone false false false h = refl
 no_dash_gap c (d ∷ ds) b ys all h =
     let g = shown_gap d (and_parts (is_shown d) (list_all is_shown ds) all).0 in
-    rw g (beside (c == 45) (c == 63) (c == 58) (d == 32) (ap (λ w. is_dash c && (w || d == 32)) (sym (ne_eqb (suc (length ds)) 0 (λ e. absurd (omega (arith, e))))) ∙ h))
+    rw g (beside (c == 45) (c == 63) (c == 58) (d == 32) (ap (λ w. is_dash c && (w || d == 32))
+    (sym (ne_eqb (suc (length ds)) 0 (λ e. absurd (omega (arith, e))))) ∙ h))
   where
     beside : (x y z w : Bool) → ((x || y || z) && (false || w)) ≡ false
         → (not (x || (y || (z || false))) || (not w && true)) ≡ true
@@ -209,7 +220,8 @@ and_no' : (x : Bool) → (x && false) ≡ false
 and_no' true = refl
 and_no' false = refl
 
-plain_begins : {text : List ℕ} {i c : ℕ} {cs : List ℕ} (b : ℕ) (ys : List ℕ) → PlainText c cs → (b == 45) ≡ false → (b == 46) ≡ false
+plain_begins : {text : List ℕ} {i c : ℕ} {cs : List ℕ} (b : ℕ) (ys : List ℕ) → PlainText c cs → (b == 45) ≡ false
+    → (b == 46) ≡ false
     → Rest text i ((c ∷ cs) ++ (b ∷ ys)) → begins_plain text false i ≡ true
 plain_begins {text = text} {i = i} {c = c} {cs = cs} b ys x dash dot r =
     let second : at text (i + 1) ≡ at (cs ++ (b ∷ ys)) 0
@@ -217,11 +229,13 @@ plain_begins {text = text} {i = i} {c = c} {cs = cs} b ys x dash dot r =
     rw (rest_at r, second, r.same, x.whole b ys dash dot, and_no' (column text i == 0), x.no_gap, x.no_mark)
     (no_dash_gap c cs b ys (and_parts (is_shown c) (list_all is_shown cs) x.shown).1 x.no_dash)
 
-pub plain_leaf : {text : List ℕ} {i c : ℕ} {cs : List ℕ} (b : ℕ) (ys : List ℕ) (context : Context) → PlainText c cs → is_flow context ≡ false
+pub plain_leaf : {text : List ℕ} {i c : ℕ} {cs : List ℕ} (b : ℕ) (ys : List ℕ) (context : Context) → PlainText c cs
+    → is_flow context ≡ false
     → (b == 45) ≡ false → (b == 46) ≡ false → Rest text i ((c ∷ cs) ++ (b ∷ ys)) → Ends context (b ∷ ys)
     → leaf_at text context i ≡ Some (in_style style.Plain (c ∷ cs), i + length (c ∷ cs))
 plain_leaf {text = text} {i = i} {c = c} {cs = cs} b ys context x flow dash dot r ends =
-    let said : ◌≡◌ {A = folding.Rest} (plain_rest context (column text i) 0 nothing_passed (drop i text)) (Some (length (c ∷ cs), c ∷ cs))
+    let said : ◌≡◌ {A = folding.Rest} (plain_rest context (column text i) 0 nothing_passed (drop i text))
+    (Some (length (c ∷ cs), c ∷ cs))
     = ap (plain_rest context (column text i) 0 nothing_passed) r.same
     ∙ (plain_some context (b ∷ ys) flow ends c cs [] 0 (column text i) x.fits ∙ some_rest (omega arith) refl) in
     rw (

@@ -35,14 +35,17 @@ use Rattle.yaml_printed.proofs.Rests.{Rest, rest_at, rest_skip}
 plain_here : {text : List ℕ} {least e j : ℕ} {after : List ℕ} (c : ℕ) (cs : List ℕ) (k : ℕ) → PlainText c cs
     → Rest text k ((c ∷ cs) ++ (10 ∷ after)) → Ahead text least e j after
     → leaf_at text (by_columns least) k ≡ Some (leaf.in_style style.Plain (c ∷ cs), k + length (c ∷ cs))
-plain_here {least = least} {after = after} c cs k x r a = plain_leaf 10 after (by_columns least) x refl refl refl r (plain_ends a)
+plain_here {least = least} {after = after} c cs k x r a =
+    plain_leaf 10 after (by_columns least) x refl refl refl r (plain_ends a)
 
-single_here : {text : List ℕ} (after : List ℕ) (least indent : ℕ) (t : List ℕ) (k : ℕ) → IsUtf8 t → fits_single_quotes t ≡ true
+single_here : {text : List ℕ} (after : List ℕ) (least indent : ℕ) (t : List ℕ) (k : ℕ) → IsUtf8 t
+    → fits_single_quotes t ≡ true
     → 0 < indent
     → Rest text k (single_quoted indent t ++ (10 ∷ after))
     → leaf_at text (by_columns least) k ≡ Some (leaf.in_style style.SingleQuoted t, k + length (single_quoted indent t))
 single_here after least zero t k u fits deep r = absurd (omega (arith, deep))
-single_here after least (suc indent) t k u fits deep r = single_leaf_lines (by_columns least) indent 10 after t k u fits refl r
+single_here after least (suc indent) t k u fits deep r =
+    single_leaf_lines (by_columns least) indent 10 after t k u fits refl r
 
 two_more : (k n : ℕ) (c : ℕ) (inside : List ℕ) → k + length inside + 2 ≡ k + length (c ∷ (inside ++ c ∷ []))
 two_more k n c inside = omega (arith, length-append inside (c ∷ []))
@@ -65,12 +68,16 @@ is_bare None SingleQuoted text = false
 is_bare None DoubleQuoted text = false
 is_bare None Literal text = false
 
-pub scalar_here : {text : List ℕ} {d least e j : ℕ} {ask : AskedStyle} (indent : ℕ) (tag : Option (List ℕ)) → IsTag tag → (t : List ℕ) → IsUtf8 t
-    → (s : Style) → Chosen ask false t s → is_bare tag s t ≡ false → indent ≡ least - 1 + 2 → (room : Room) (i : ℕ) (after : List ℕ)
+pub scalar_here : {text : List ℕ} {d least e j : ℕ} {ask : AskedStyle} (indent : ℕ) (tag : Option (List ℕ))
+    → IsTag tag → (t : List ℕ) → IsUtf8 t
+    → (s : Style) → Chosen ask false t s → is_bare tag s t ≡ false → indent ≡ least - 1 + 2
+    → (room : Room) (i : ℕ) (after : List ℕ)
     → Rest text i (fresh_text tag (in_style indent s t) (is_literal s) ++ after) → Ahead text least e j after
     → is_own text room least j ≡ false
-    → HereAt text d least room i j (emit_scalar_node tag t ask) (fresh_text tag (in_style indent s t) (is_literal s) ++ after)
-scalar_here indent _ no_tag [] u _ (is_plain fits key allowed) some deep room i after r a own = absurd (false≢true (sym some))
+    → HereAt text d least room i j (emit_scalar_node tag t ask) (fresh_text tag (in_style indent s t) (is_literal s)
+    ++ after)
+scalar_here indent _ no_tag [] u _ (is_plain fits key allowed) some deep room i after r a own =
+    absurd (false≢true (sym some))
 scalar_here indent _ (a_tag {c = t} {cs = ts} v z) [] u _ (is_plain fits key allowed) some deep room i after r a own =
     tag_here t ts (a_tag v z) _ allowed room i after r a own
 scalar_here indent tag f (c ∷ cs) u _ (is_plain fits key allowed) some deep room i after r a own =
@@ -78,11 +85,13 @@ scalar_here indent tag f (c ∷ cs) u _ (is_plain fits key allowed) some deep ro
     content_here tag f c cs false room i after r (plain_word x) (λ ys. x.whole 10 ys refl refl)
     (λ k q. leaf_completes a style.Plain (plain_here c cs k x q a) (rest_skip (c ∷ cs) q) allowed)
 scalar_here indent tag f t u _ (is_single fits allowed) some deep room i after r a own =
-    content_here tag f 39 (single_rest indent false (chars t) ++ 39 ∷ []) false room i after r (quote_word 39 refl) (λ ys. refl)
+    content_here tag f 39 (single_rest indent false (chars t) ++ 39 ∷ []) false room i after r (quote_word 39 refl)
+    (λ ys. refl)
     (λ k q. leaf_completes a style.SingleQuoted (single_here after _ indent t k u fits (omega (arith, deep)) q)
     (rest_skip (single_quoted indent t) q) allowed)
 scalar_here indent tag f t u _ (is_double allowed) some deep room i after r a own =
-    content_here tag f 34 (flat_map escaped_character (chars t) ++ 34 ∷ []) false room i after r (quote_word 34 refl) (λ ys. refl)
+    content_here tag f 34 (flat_map escaped_character (chars t) ++ 34 ∷ []) false room i after r (quote_word 34 refl)
+    (λ ys. refl)
     (λ k q. leaf_completes a style.DoubleQuoted (double_here after _ t k u q)
     (rest_skip (double_quoted t) q) allowed)
 scalar_here indent tag f t u _ (is_block key fits allowed) some deep room i after r a own =

@@ -1,175 +1,32 @@
 -- What is printed of a tag is read as the tag.
-use Rattle.std.proofs.Common.{◌≡◌, ℕ, zero, suc, ◌+◌, ◌-◌, ◌*◌, ◌/◌, ◌%◌, ◌<◌, ◌≤◌, Bool, true, false, not, ◌==◌, ◌&&◌, ◌||◌}
-use Rattle.std.proofs.Common.{refl, sym, subst, ap, ap₂, ◌∙◌, arith, List, [], ◌∷◌, ◌++◌, length, drop, take, get_or, append-nil, Option, None, Some}
-use Rattle.std.proofs.Common.{nat_eq, nat_lt, nat_le, codes, append_assoc}
-use Rattle.std.proofs.lemmas.Bool.{and_from, and_parts, eqb-true, false≢true, le-leb, leb-true, lt-ltb, ltb-true, ne_eqb, or_parts}
+use Rattle.std.proofs.Common.{◌≡◌, ℕ, suc, ◌+◌, ◌-◌, ◌*◌, ◌/◌, ◌%◌, ◌<◌, Bool, true, false, not, ◌==◌, ◌&&◌, ◌||◌}
+use Rattle.std.proofs.Common.{refl, sym, subst, ap, ap₂, ◌∙◌, arith, List, [], ◌∷◌, ◌++◌, length, drop, take, get_or}
+use Rattle.std.proofs.Common.{append-nil, Option, None, Some}
+use Rattle.std.proofs.Common.{nat_eq, nat_lt, codes, append_assoc}
+use Rattle.std.proofs.lemmas.Bool.{and_from, and_parts, eqb-true, false≢true, lt-ltb, ltb-true, ne_eqb}
 use Rattle.std.proofs.lemmas.List.{length-append, length-drop}
-use Rattle.std.specs.Int.{is_in_range}
 use Rattle.std.specs.Fmt.{digit_glyph}
 use Rattle.std.specs.List.{flat_map, list_all, list_any, starts_with}
 use Rattle.std.specs.Prelude.{if◌then◌else◌, option_map}
-use Rattle.std.specs.Str.{IsUtf8, chars}
-use Rattle.std.specs.Char.{digit_value}
+use Rattle.std.specs.Str.{IsUtf8}
 use Rattle.std.specs.Prelude.{slice_range}
 use Rattle.std.proofs.lemmas.Str.{IsCharBoundary-after_ascii, IsUtf8-drop, is_utf8-from_IsUtf8}
 use Rattle.std.proofs.Math.Seq.{take-append_seam}
 use Rattle.yaml_base.specs.QuotedLines.{none}
 use Rattle.yaml_grammar.specs.Bytes.{at, is_gap, is_one_of}
-use Rattle.yaml_emit.specs.Characters.{is_from, is_printable}
 use Rattle.yaml_emit.specs.PrintedTexts.{hex_digits}
-use Rattle.yaml_emit.specs.Tags.{closing, goes_on, handle_of, is_tag_byte, handle_len, opening, printed_tag, suffix_of, tag_byte, tag_len}
+use Rattle.yaml_emit.specs.Tags.{closing, goes_on, is_tag_byte, opening, printed_tag, suffix_of, tag_byte}
 use Rattle.yaml_emit.specs.declared.tag.Handle.{Handle}
 use Rattle.yaml_emit.specs.declared.tag.Handle.TheVariants.{Local, Core, Verbatim}
-use Rattle.yaml_grammar.specs.Names.{Handle as Way, checked, core, count_while, decoded, ends_tag, is_local, is_name_byte, is_whole, local}
+use Rattle.yaml_grammar.specs.Names.{Handle as Way, checked, core, count_while, decoded, ends_tag, is_local}
+use Rattle.yaml_grammar.specs.Names.{is_name_byte, is_whole, local}
 use Rattle.yaml_grammar.specs.Names.{opening_size, prefix_of, tag_at, tag_end, tag_of, verbatim}
 use Rattle.yaml_grammar.specs.Names as grammar
-use Rattle.yaml_grammar.proofs.LineLaws.{IsWord}
 use Rattle.yaml_printed.specs.Printable.{IsTag, a_tag}
-use Rattle.yaml_printed.proofs.Escapes.{Short, hex_short, short_append, short_byte, short_wider}
 use Rattle.yaml_printed.proofs.Rests.{Rest, rest_at, rest_is, rest_on, rest_skip}
-use Rattle.yaml_printed.proofs.ByteLaws.{all_append, text_all}
-use Rattle.yaml_printed.proofs.Spelling.{spells_none}
-
--- what may stand behind a tag: the end of its line, or a space and then a word
-pub data BehindTag : List ℕ → Type 0 where
-  a_line : {xs : List ℕ} → BehindTag (10 ∷ xs)
-  a_word : {c : ℕ} {cs : List ℕ} → IsWord c → BehindTag (32 ∷ c ∷ cs)
-
--- ---- its beginning
-
-pub tag_begins : (t : List ℕ) → (rest : List ℕ) × (printed_tag t ≡ 33 ∷ rest)
-tag_begins t = by (handle_of t)
-  where
-    by : (h : Handle) → (rest : List ℕ) × (opening h ++ (flat_map tag_byte (suffix_of h t) ++ closing h) ≡ 33 ∷ rest)
-    by Local = (flat_map tag_byte (suffix_of Local t) ++ closing Local, refl)
-    by Core = (33 ∷ (flat_map tag_byte (suffix_of Core t) ++ closing Core), refl)
-    by Verbatim = (60 ∷ (flat_map tag_byte (suffix_of Verbatim t) ++ closing Verbatim), refl)
-
--- ---- its bytes
-
-abbrev is_byte : ℕ → Bool
-is_byte b = nat_lt b 256
-
-text_bytes : (t : List ℕ) → IsUtf8 t → list_all is_byte t ≡ true
-text_bytes t u = text_all is_byte (λ b high low. lt-ltb b 256 low) (λ c. true) (λ c h low. lt-ltb c 256 (omega arith)) t u (all_true (chars t))
-  where
-    all_true : (cs : List ℕ) → list_all (λ c. true) cs ≡ true
-    all_true [] = refl
-    all_true (c ∷ cs) = all_true cs
-
-all_drop : (p : ℕ → Bool) (n : ℕ) (xs : List ℕ) → list_all p xs ≡ true → list_all p (drop n xs) ≡ true
-all_drop p zero xs h = h
-all_drop p (suc n) [] h = h
-all_drop p (suc n) (x ∷ xs) h = all_drop p n xs (and_parts (p x) (list_all p xs) h).1
-
-none_drop : (p : ℕ → Bool) (n : ℕ) (xs : List ℕ) → list_any p xs ≡ false → list_any p (drop n xs) ≡ false
-none_drop p zero xs h = h
-none_drop p (suc n) [] h = h
-none_drop p (suc n) (x ∷ xs) h = none_drop p n xs (or_parts (p x) (list_any p xs) h).1
-
-tag_low : (c : ℕ) → is_tag_byte c ≡ true → c < 127
-tag_low c h = grind (arith, h)
-
-abbrev is_read : ℕ → Bool
-is_read c = is_name_byte c || is_one_of (codes ";/?:@&=+$.~*'()%") c
-
-or_step : (x y g : Bool) → (x ≡ true → g ≡ true) → (y ≡ true → g ≡ true) → (x || y) ≡ true → g ≡ true
-or_step true y g h k e = h refl
-or_step false y g h k e = k e
-
-all_at : (p : ℕ → Bool) (xs : List ℕ) (d i : ℕ) → list_all p xs ≡ true → p d ≡ true → p (get_or xs i d) ≡ true
-all_at p [] d i h e = e
-all_at p (x ∷ xs) d zero h e = (and_parts (p x) (list_all p xs) h).0
-all_at p (x ∷ xs) d (suc i) h e = all_at p xs d i (and_parts (p x) (list_all p xs) h).1 e
-
--- what holds of letters, of digits and of each other byte of a tag holds of all its bytes
-module _ (p : ℕ → Bool) (small : (c : ℕ) → is_from 97 122 c ≡ true → p c ≡ true)
-    (large : (c : ℕ) → is_from 65 90 c ≡ true → p c ≡ true) (digit : (c : ℕ) → is_from 48 57 c ≡ true → p c ≡ true)
-    (each : list_all p (codes "-_.~*'();/?:@&=+$") ≡ true) where
-  other : (c i : ℕ) → (c == get_or (codes "-_.~*'();/?:@&=+$") i 45) ≡ true → p c ≡ true
-  other c i e =
-      ap p (eqb-true c (get_or (codes "-_.~*'();/?:@&=+$") i 45) e)
-      ∙ all_at p (codes "-_.~*'();/?:@&=+$") 45 i each (and_parts (p 45) _ each).0
-
-  tag_case : (c : ℕ) → is_tag_byte c ≡ true → p c ≡ true
-  tag_case c =
-      or_step _ _ (p c) (or_step _ _ (p c) (or_step _ _ (p c) (or_step _ _ (p c) (or_step _ _ (p c) (or_step _ _ (p c)
-      (or_step _ _ (p c) (or_step _ _ (p c) (or_step _ _ (p c) (or_step _ _ (p c) (or_step _ _ (p c) (or_step _ _ (p c)
-      (or_step _ _ (p c) (or_step _ _ (p c) (or_step _ _ (p c) (or_step _ _ (p c) (or_step _ _ (p c) (or_step _ _ (p c)
-      (or_step _ _ (p c) (small c) (large c)) (digit c)) (other c 0)) (other c 1)) (other c 2)) (other c 3)) (other c 4))
-      (other c 5)) (other c 6)) (other c 7)) (other c 8)) (other c 9)) (other c 10)) (other c 11)) (other c 12))
-      (other c 13)) (other c 14)) (other c 15)) (other c 16)
-
-shown_from : (low high c : ℕ) → 32 ≤ low → high < 127 → is_from low high c ≡ true → is_printable c ≡ true
-shown_from low high c l h e =
-    let p = and_parts (nat_le low c) (nat_le c high) e in
-    rw (le-leb 32 c (omega (arith, leb-true low c p.0)), le-leb c 126 (omega (arith, leb-true c high p.1))) refl
-
-tag_shown : (c : ℕ) → is_tag_byte c ≡ true → is_printable c ≡ true
-tag_shown =
-    tag_case is_printable (λ c. shown_from 97 122 c (omega arith) (omega arith)) (λ c. shown_from 65 90 c (omega arith) (omega arith))
-    (λ c. shown_from 48 57 c (omega arith) (omega arith)) refl
-
-first_read : (x y z a b : Bool) → z ≡ true → (((x || y) || z) || a || b) ≡ true
-first_read true y z a b h = refl
-first_read false true z a b h = refl
-first_read false false z a b h = rw h refl
-
-second_read : (x y z a b : Bool) → y ≡ true → (((x || y) || z) || a || b) ≡ true
-second_read true y z a b h = refl
-second_read false y z a b h = rw h refl
-
-third_read : (x y z a b : Bool) → x ≡ true → (((x || y) || z) || a || b) ≡ true
-third_read x y z a b h = rw h refl
-
-tag_read : (c : ℕ) → is_tag_byte c ≡ true → is_read c ≡ true
-tag_read =
-    tag_case is_read
-    (λ c. first_read (is_in_range 48 57 c) (is_in_range 65 90 c) (is_in_range 97 122 c) (c == 45 || c == 95) _)
-    (λ c. second_read (is_in_range 48 57 c) (is_in_range 65 90 c) (is_in_range 97 122 c) (c == 45 || c == 95) _)
-    (λ c. third_read (is_in_range 48 57 c) (is_in_range 65 90 c) (is_in_range 97 122 c) (c == 45 || c == 95) _) refl
-
-tag_no_percent : (c : ℕ) → is_tag_byte c ≡ true → (c == 37) ≡ false
-tag_no_percent c h = grind (arith, h)
-
-digit_read : (d : ℕ) → d < 16 → is_name_byte (digit_glyph true d) ≡ true
-digit_read d h = grind (arith, h)
-
-digit_is : (d : ℕ) → d < 16 → digit_value (digit_glyph true d) ≡ d
-digit_is d h = grind arith
-
-byte_short : (c : ℕ) → c < 256 → Short 3 (tag_byte c)
-byte_short c h = either (is_tag_byte c) refl
-  where
-    either : (b : Bool) → is_tag_byte c ≡ b → Short 3 (if b then c ∷ [] else 37 ∷ hex_digits c)
-    either true e = short_wider (omega arith) (short_byte c (omega (arith, tag_low c e)) (tag_shown c e))
-    either false e = short_append (short_byte 37 (omega arith) refl) (hex_short c h)
-
-short_none : Short 0 []
-short_none = record { spells = spells_none; size = omega arith }
-
-body_short : (xs : List ℕ) → list_all is_byte xs ≡ true → Short (3 * length xs) (flat_map tag_byte xs)
-body_short [] h = short_none
-body_short (x ∷ xs) h =
-    let p = and_parts (is_byte x) (list_all is_byte xs) h in
-    short_wider (omega arith) (short_append (byte_short x (ltb-true x 256 p.0)) (body_short xs p.1))
-
-short_by : (h : Handle) (t : List ℕ) → list_all is_byte t ≡ true
-    → Short (3 * (handle_len h + length (suffix_of h t)) + 3) (opening h ++ (flat_map tag_byte (suffix_of h t) ++ closing h))
-short_by Local t h =
-    short_wider (omega arith) (short_append (short_byte 33 (omega arith) refl)
-    (short_append (body_short (drop 1 t) (all_drop is_byte 1 t h)) (short_none)))
-short_by Core t h =
-    short_wider (omega arith) (short_append (short_byte 33 (omega arith) refl) (short_append (short_byte 33 (omega arith) refl)
-    (short_append (body_short (drop 18 t) (all_drop is_byte 18 t h)) (short_none))))
-short_by Verbatim t h =
-    short_wider (omega arith) (short_append (short_byte 33 (omega arith) refl) (short_append (short_byte 60 (omega arith) refl)
-    (short_append (body_short t h) (short_byte 62 (omega arith) refl))))
-
-pub tag_short : (t : List ℕ) → IsTag (Some t) → Short (3 * tag_len t + 3) (printed_tag t)
-tag_short _ (a_tag {c = c} {cs = cs} u z) = short_by (handle_of (c ∷ cs)) (c ∷ cs) (text_bytes (c ∷ cs) u)
-
--- ---- how they are read
+use Rattle.yaml_printed.proofs.ByteLaws.{all_append}
+use Rattle.yaml_printed.proofs.TagBytes.{BehindTag, a_line, a_word, is_byte, text_bytes, all_drop, none_drop, tag_read}
+use Rattle.yaml_printed.proofs.TagBytes.{tag_no_percent, digit_read, digit_is}
 
 or_assoc_true : (x y z : Bool) → (x || y) ≡ true → (x || (y || z)) ≡ true
 or_assoc_true true y z h = refl
@@ -182,13 +39,17 @@ or_left x y h = rw h refl
 byte_read : (w : Bool) (c : ℕ) → c < 256 → list_all (grammar.is_tag_byte w) (tag_byte c) ≡ true
 byte_read w c h = either (is_tag_byte c) refl
   where
-    either : (b : Bool) → is_tag_byte c ≡ b → list_all (grammar.is_tag_byte w) (if b then c ∷ [] else 37 ∷ hex_digits c) ≡ true
+    either : (b : Bool) → is_tag_byte c ≡ b → list_all (grammar.is_tag_byte w)
+        (if b then c ∷ [] else 37 ∷ hex_digits c) ≡ true
     either true e =
         and_from (grammar.is_tag_byte w c) true
-        (or_assoc_true (is_name_byte c) (is_one_of (codes ";/?:@&=+$.~*'()%") c) (w && is_one_of (codes ",[]!") c) (tag_read c e)) refl
+        (or_assoc_true (is_name_byte c) (is_one_of (codes ";/?:@&=+$.~*'()%") c) (w && is_one_of (codes ",[]!") c)
+        (tag_read c e)) refl
     either false e =
-        let one = or_left (is_name_byte (digit_glyph true (c / 16))) _ (digit_read (c / 16) (omega arith)) in
-        let two = or_left (is_name_byte (digit_glyph true (c % 16))) _ (digit_read (c % 16) (omega arith)) in
+        let one : grammar.is_tag_byte w (digit_glyph true (c / 16)) ≡ true
+        = or_left (is_name_byte (digit_glyph true (c / 16))) _ (digit_read (c / 16) (omega arith)) in
+        let two : grammar.is_tag_byte w (digit_glyph true (c % 16)) ≡ true
+        = or_left (is_name_byte (digit_glyph true (c % 16))) _ (digit_read (c % 16) (omega arith)) in
         and_from (grammar.is_tag_byte w (digit_glyph true (c / 16))) _ one
         (and_from (grammar.is_tag_byte w (digit_glyph true (c % 16))) true two refl)
 
@@ -207,13 +68,15 @@ count_front p (x ∷ xs) z zs h e =
     let q = and_parts (p x) (list_all p xs) h in
     rw q.0 (ap suc (count_front p xs z zs q.1 e))
 
-decoded_byte : (c : ℕ) (rest said : List ℕ) → c < 256 → decoded none rest ≡ Some said → decoded none (tag_byte c ++ rest) ≡ Some (c ∷ said)
+decoded_byte : (c : ℕ) (rest said : List ℕ) → c < 256 → decoded none rest ≡ Some said
+    → decoded none (tag_byte c ++ rest) ≡ Some (c ∷ said)
 decoded_byte c rest said h e = either (is_tag_byte c) refl
   where
     value : 16 * (16 * 0 + c / 16) + c % 16 ≡ c
     value = omega arith
 
-    either : (b : Bool) → is_tag_byte c ≡ b → decoded none ((if b then c ∷ [] else 37 ∷ hex_digits c) ++ rest) ≡ Some (c ∷ said)
+    either : (b : Bool) → is_tag_byte c ≡ b → decoded none ((if b then c ∷ [] else 37 ∷ hex_digits c) ++ rest)
+        ≡ Some (c ∷ said)
     either true f = rw (tag_no_percent c f, e) refl
     either false f =
         rw (
@@ -237,7 +100,8 @@ tag_said : (prefix xs : List ℕ) → list_all is_byte xs ≡ true → IsUtf8 xs
 tag_said prefix xs h u z = rw (body_decoded xs h, is_utf8-from_IsUtf8 xs u, z) refl
 
 -- what follows is no byte of a tag
-stops : (w : Bool) (ys : List ℕ) → BehindTag ys → (z : ℕ) × (zs : List ℕ) × (ys ≡ z ∷ zs) × (grammar.is_tag_byte w z ≡ false) × (is_gap z ≡ true)
+stops : (w : Bool) (ys : List ℕ) → BehindTag ys → (z : ℕ) × (zs : List ℕ) × (ys ≡ z ∷ zs) ×
+    (grammar.is_tag_byte w z ≡ false) × (is_gap z ≡ true)
 stops true _ (a_line {xs = xs}) = (10, xs, refl, refl, refl)
 stops false _ (a_line {xs = xs}) = (10, xs, refl, refl, refl)
 stops true _ (a_word {c = c} {cs = cs} w) = (32, c ∷ cs, refl, refl, refl)
@@ -253,7 +117,8 @@ no_byte w k b h g = ne_eqb b k (λ e. absurd (false≢true (sym h ∙ (ap (gramm
 local_first : {text : List ℕ} {i : ℕ} (xs ys : List ℕ) → list_all (grammar.is_tag_byte false) xs ≡ true → BehindTag ys
     → Rest text i (xs ++ ys) → grammar.handle_of (at text i) ≡ local
 local_first [] _ h (a_line {xs = xs}) r = plain_local _ (ap (λ b. b == 60) (rest_at r)) (ap (λ b. b == 33) (rest_at r))
-local_first [] _ h (a_word {c = c} {cs = cs} w) r = plain_local _ (ap (λ b. b == 60) (rest_at r)) (ap (λ b. b == 33) (rest_at r))
+local_first [] _ h (a_word {c = c} {cs = cs} w) r =
+    plain_local _ (ap (λ b. b == 60) (rest_at r)) (ap (λ b. b == 33) (rest_at r))
 local_first (x ∷ xs) ys h b r =
     let p = and_parts (grammar.is_tag_byte false x) (list_all (grammar.is_tag_byte false) xs) h in
     plain_local _ (ap (λ b. b == 60) (rest_at r) ∙ no_byte false 60 x refl p.0)
@@ -292,18 +157,27 @@ slice_front {start = start} xs ys r =
 counted : {text : List ℕ} {start : ℕ} (w : Bool) (xs : List ℕ) (z : ℕ) (zs : List ℕ)
     → list_all (grammar.is_tag_byte w) xs ≡ true → grammar.is_tag_byte w z ≡ false → Rest text start (xs ++ (z ∷ zs))
     → count_while (grammar.is_tag_byte w) (drop start text) ≡ length xs
-counted w xs z zs h e r = ap (count_while (grammar.is_tag_byte w)) r.same ∙ count_front (grammar.is_tag_byte w) xs z zs h e
+counted w xs z zs h e r =
+    ap (count_while (grammar.is_tag_byte w)) r.same ∙ count_front (grammar.is_tag_byte w) xs z zs h e
 
-tag_local : (text : List ℕ) (i : ℕ) (xs : List ℕ) (z : ℕ) (zs t : List ℕ) → Rest text (i + 1) (xs ++ (z ∷ zs)) → is_gap z ≡ true
+tag_local : (text : List ℕ) (i : ℕ) (xs : List ℕ) (z : ℕ) (zs t : List ℕ) → Rest text (i + 1) (xs ++ (z ∷ zs))
+    → is_gap z ≡ true
     → tag_of (codes "!") xs ≡ Some t → tag_by text i local (i + 1) (i + 1 + length xs) ≡ Some (t, i + 1 + length xs)
 tag_local text i xs z zs t r gap said =
     rw (rest_at (rest_skip xs r), gap, slice_front xs (z ∷ zs) r, said) refl
 
-tag_core : (text : List ℕ) (i : ℕ) (xs : List ℕ) (z : ℕ) (zs t : List ℕ) → Rest text (i + 2) (xs ++ (z ∷ zs)) → is_gap z ≡ true
+tag_core : (text : List ℕ) (i : ℕ) (xs : List ℕ) (z : ℕ) (zs t : List ℕ) → Rest text (i + 2) (xs ++ (z ∷ zs))
+    → is_gap z ≡ true
     → 0 < length xs → tag_of (codes "tag:yaml.org,2002:") xs ≡ Some t
     → tag_by text i core (i + 2) (i + 2 + length xs) ≡ Some (t, i + 2 + length xs)
 tag_core text i xs z zs t r gap some said =
-    rw (lt-ltb (i + 2) (i + 2 + length xs) (omega arith), rest_at (rest_skip xs r), gap, slice_front xs (z ∷ zs) r, said) refl
+    rw (
+      lt-ltb (i + 2) (i + 2 + length xs) (omega arith),
+      rest_at (rest_skip xs r),
+      gap,
+      slice_front xs (z ∷ zs) r,
+      said,
+    ) refl
 
 tag_whole : (text : List ℕ) (i : ℕ) (xs : List ℕ) (z : ℕ) (zs t : List ℕ) → Rest text (i + 2) (xs ++ (62 ∷ z ∷ zs))
     → is_gap z ≡ true → 0 < length xs → tag_of [] xs ≡ Some t
@@ -343,13 +217,15 @@ module _ {text : List ℕ} {i : ℕ} (t ys : List ℕ) (bytes : list_all is_byte
       let r1 : Rest text (i + 1) (xs ++ ys) = rest_from (omega arith) (rest_on r) in
       let r2 : Rest text (i + 1) (xs ++ (s.0 ∷ s.1)) = rest_is (ap (λ l. xs ++ l) s.2) r1 in
       let said : tag_of (codes "!") xs ≡ Some (33 ∷ drop 1 t)
-      = ap (tag_of (codes "!")) e ∙ tag_said (codes "!") (drop 1 t) (all_drop is_byte 1 t bytes) u1 (none_drop (nat_eq 0) 1 t z) in
+      = ap (tag_of (codes "!")) e ∙ tag_said (codes "!") (drop 1 t) (all_drop is_byte 1 t bytes) u1
+      (none_drop (nat_eq 0) 1 t z) in
       way_is text i local (local_first xs ys read b (rest_on r))
       ∙ (ap (λ n. tag_by text i local (i + 1) (i + 1 + n)) (counted false xs s.0 s.1 read s.3 r2)
       ∙ (tag_local text i xs s.0 s.1 (33 ∷ drop 1 t) r2 s.4 said ∙ same_tag (33 ∷ drop 1 t) t _ _ (sym begins) refl))
 
   core_is : t ≡ codes "tag:yaml.org,2002:" ++ drop 18 t → IsUtf8 (drop 18 t) → 0 < length (drop 18 t) → (xs : List ℕ)
-      → xs ≡ flat_map tag_byte (drop 18 t) → Rest text i (33 ∷ 33 ∷ (xs ++ ys)) → tag_at text false i ≡ Some (t, i + 2 + length xs)
+      → xs ≡ flat_map tag_byte (drop 18 t) → Rest text i (33 ∷ 33 ∷ (xs ++ ys))
+      → tag_at text false i ≡ Some (t, i + 2 + length xs)
   core_is begins u1 some xs e r =
       let read : list_all (grammar.is_tag_byte false) xs ≡ true
       = ap (list_all (grammar.is_tag_byte false)) e ∙ body_read false (drop 18 t) (all_drop is_byte 18 t bytes) in
@@ -358,7 +234,8 @@ module _ {text : List ℕ} {i : ℕ} (t ys : List ℕ) (bytes : list_all is_byte
       let r2 : Rest text (i + 2) (xs ++ (s.0 ∷ s.1)) = rest_is (ap (λ l. xs ++ l) s.2) r1 in
       let said : tag_of (codes "tag:yaml.org,2002:") xs ≡ Some (codes "tag:yaml.org,2002:" ++ drop 18 t)
       = ap (tag_of (codes "tag:yaml.org,2002:")) e
-      ∙ tag_said (codes "tag:yaml.org,2002:") (drop 18 t) (all_drop is_byte 18 t bytes) u1 (none_drop (nat_eq 0) 18 t z) in
+      ∙ tag_said (codes "tag:yaml.org,2002:") (drop 18 t) (all_drop is_byte 18 t bytes) u1
+      (none_drop (nat_eq 0) 18 t z) in
       let size : 0 < length xs = subst (λ l. 0 < length l) (sym e) (body_size (drop 18 t) some) in
       way_is text i core (ap grammar.handle_of (rest_at (rest_on r)))
       ∙ (ap (λ n. tag_by text i core (i + 2) (i + 2 + n)) (counted false xs s.0 s.1 read s.3 r2)
@@ -388,8 +265,10 @@ ascii_drop n t u l a = IsUtf8-drop t (n + 1) u (IsCharBoundary-after_ascii t n u
 length_drop_some : (n : ℕ) (t : List ℕ) → n < length t → 0 < length (drop n t)
 length_drop_some n t l = omega (arith, length-drop n t)
 
-handle_reads : {text : List ℕ} {i : ℕ} (t ys : List ℕ) → list_all is_byte t ≡ true → IsUtf8 t → list_any (nat_eq 0) t ≡ false
-    → BehindTag ys → 0 < length t → (x y : Bool) → goes_on (codes "!") t ≡ x → goes_on (codes "tag:yaml.org,2002:") t ≡ y
+handle_reads : {text : List ℕ} {i : ℕ} (t ys : List ℕ) → list_all is_byte t ≡ true → IsUtf8 t
+    → list_any (nat_eq 0) t ≡ false
+    → BehindTag ys → 0 < length t → (x y : Bool) → goes_on (codes "!") t ≡ x
+    → goes_on (codes "tag:yaml.org,2002:") t ≡ y
     → Rest text i (printed_by (if x then Local else if y then Core else Verbatim) t ++ ys)
     → tag_at text false i ≡ Some (t, i + length (printed_by (if x then Local else if y then Core else Verbatim) t))
 handle_reads {text = text} {i = i} t ys bytes u z b some true y e f r =
@@ -397,7 +276,8 @@ handle_reads {text = text} {i = i} t ys bytes u z b some true y e f r =
     let begins : t ≡ 33 ∷ drop 1 t = prefix_is (codes "!") t p.1 in
     let first : get_or t 0 0 ≡ 33 = ap (λ l. get_or l 0 0) begins in
     let xs = flat_map tag_byte (drop 1 t) ++ [] in
-    local_is t ys bytes u z b begins (ascii_drop 0 t u some (omega (arith, first))) xs (append-nil (flat_map tag_byte (drop 1 t))) r
+    local_is t ys bytes u z b begins (ascii_drop 0 t u some (omega (arith, first))) xs
+    (append-nil (flat_map tag_byte (drop 1 t))) r
     ∙ same_tag t t _ _ refl (omega arith)
 handle_reads {text = text} {i = i} t ys bytes u z b some false true e f r =
     let p = and_parts (nat_lt 18 (length t)) (starts_with nat_eq t (codes "tag:yaml.org,2002:")) f in

@@ -7,7 +7,8 @@ use Rattle.yaml_grammar.specs.Names.{count_while, names_at, one_name, unnamed}
 use Rattle.yaml_grammar.proofs.LineLaws.{IsWord}
 use Rattle.yaml_printed.specs.Printable.{IsTag}
 use Rattle.yaml_printed.proofs.Collections.{names_of}
-use Rattle.yaml_printed.proofs.TagLaws.{BehindTag, a_line, a_word, tag_begins, tag_is}
+use Rattle.yaml_printed.proofs.TagLaws.{tag_is}
+use Rattle.yaml_printed.proofs.TagBytes.{BehindTag, a_line, a_word, tag_begins}
 use Rattle.yaml_printed.proofs.Rests.{Rest, rest_at, rest_on, rest_skip}
 
 no_spaces : (c : ℕ) (cs : List ℕ) → (c == 32) ≡ false → count_while (nat_eq 32) (c ∷ cs) ≡ 0
@@ -19,13 +20,15 @@ no_spaces c cs h =
 one_is : {text : List ℕ} {i c : ℕ} {cs : List ℕ} → Rest text i (c ∷ cs) → IsWord c
     → one_name text false (unnamed, i) ≡ Some (unnamed, i)
 one_is {text = text} {i = i} {c = c} {cs = cs} r w =
-    let size : count_while (nat_eq 32) (drop i text) ≡ 0 = ap (count_while (nat_eq 32)) r.same ∙ no_spaces c cs w.no_space in
+    let size : count_while (nat_eq 32) (drop i text) ≡ 0
+    = ap (count_while (nat_eq 32)) r.same ∙ no_spaces c cs w.no_space in
     let here : i + count_while (nat_eq 32) (drop i text) ≡ i = omega (arith, size) in
     rw (here, rest_at r, w.no_anchor, w.no_tag) refl
 
 pub names_plain : {text : List ℕ} {i c : ℕ} {cs : List ℕ} → Rest text i (c ∷ cs) → IsWord c
     → names_at text false i ≡ Some (names_of None, i)
-names_plain {text = text} {i = i} {c = c} {cs = cs} r w = ap (option_and_then (one_name text false)) (one_is r w) ∙ one_is r w
+names_plain {text = text} {i = i} {c = c} {cs = cs} r w =
+    ap (option_and_then (one_name text false)) (one_is r w) ∙ one_is r w
 
 and_no : (x : Bool) → (x && false) ≡ false
 and_no true = refl

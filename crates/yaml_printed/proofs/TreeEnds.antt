@@ -171,7 +171,8 @@ leaf_feed : (place : Place) (tag content : List ℕ) (is_block : Bool) → place
     → ends_feed b (leaf_text place tag content is_block) ≡ true
 leaf_feed place tag content true key h b =
     rw key (ends_append b (tag_in_line place.lead tag) _
-    ∙ (ends_append (ends_feed b (tag_in_line place.lead tag)) (in_line (behind_tag place.lead tag) content) [] ∙ h refl _))
+    ∙ (ends_append (ends_feed b (tag_in_line place.lead tag)) (in_line (behind_tag place.lead tag) content) []
+    ∙ h refl _))
 leaf_feed place tag content false key h b =
     rw key (ends_append b (tag_in_line place.lead tag) _
     ∙ ends_append (ends_feed b (tag_in_line place.lead tag)) (in_line (behind_tag place.lead tag) content) (10 ∷ []))

@@ -11,12 +11,14 @@ use Rattle.yaml_base.specs.EmitTree.{EmitNode}
 use Rattle.yaml_base.specs.EmitTree.{EmitNodes, emit_node, EmitPairs, emit_pair}
 use Rattle.yaml_base.specs.declared.emitter.AskedStyle.{AskedStyle}
 use Rattle.yaml_emit.specs.Characters.{is_line_text, is_printable}
-use Rattle.yaml_emit.specs.Places.{behind_tag, blank, far_place, in_line, item_place, key_place, margin, root_place, tag_in_line}
+use Rattle.yaml_emit.specs.Places.{behind_tag, blank, far_place, in_line, item_place, key_place, margin, root_place}
+use Rattle.yaml_emit.specs.Places.{tag_in_line}
 use Rattle.yaml_emit.specs.Places.{value_place}
 use Rattle.yaml_emit.specs.PrintedTexts.{blanks_if, block_rest, literal}
 use Rattle.yaml_emit.specs.PrintedTexts.{quote_doubled, single_rest}
 use Rattle.yaml_emit.specs.Scalars.{in_style}
-use Rattle.yaml_emit.specs.StreamTexts.{is_literal, is_simple_key, items_column, items_text, later_document, leaf_end, leaf_text}
+use Rattle.yaml_emit.specs.StreamTexts.{is_literal, is_simple_key, items_column, items_text, later_document, leaf_end}
+use Rattle.yaml_emit.specs.StreamTexts.{leaf_text}
 use Rattle.yaml_emit.specs.StreamTexts.{node_text, pairs_text, stream_text, tag_or_empty}
 use Rattle.yaml_emit.specs.Styles.{begins_otherwise, chosen_style, ends_with_byte}
 use Rattle.yaml_emit.specs.Styles.{is_first, stand_side_by_side}
@@ -25,13 +27,16 @@ use Rattle.yaml_emit.specs.declared.open.Lead.TheVariants.{Fresh, Indicator, Tex
 use Rattle.yaml_emit.specs.declared.open.Place.{Place}
 use Rattle.yaml_emit.specs.declared.style.Style.{Style}
 use Rattle.yaml_grammar.specs.Bytes.{is_character, is_text}
-use Rattle.yaml_printed.specs.Printable.{IsPrintable, ArePrintable, PairsPrintable, RootsPrintable, IsTag, no_tag, a_tag, may_ask}
-use Rattle.yaml_printed.specs.Printable.{a_scalar, a_sequence, a_mapping, no_items, an_item, no_pairs, a_pair, no_roots, a_root}
+use Rattle.yaml_printed.specs.Printable.{IsPrintable, ArePrintable, PairsPrintable, RootsPrintable, IsTag, no_tag}
+use Rattle.yaml_printed.specs.Printable.{a_tag, may_ask}
+use Rattle.yaml_printed.specs.Printable.{a_scalar, a_sequence, a_mapping, no_items, an_item, no_pairs, a_pair, no_roots}
+use Rattle.yaml_printed.specs.Printable.{a_root}
 use Rattle.yaml_printed.proofs.ChosenStyles.{Chosen, chosen, is_block, is_double, is_plain, is_single}
 use Rattle.yaml_printed.proofs.Escapes.{double_short}
-use Rattle.yaml_printed.proofs.Spelling.{Spells, spells_append, spells_byte, spells_is_text, spells_more, spells_none, spells_one}
+use Rattle.yaml_printed.proofs.Spelling.{Spells, spells_append, spells_byte, spells_is_text, spells_more, spells_none}
+use Rattle.yaml_printed.proofs.Spelling.{spells_one}
 use Rattle.yaml_printed.proofs.Spelling.{spells_spaces, spells_text, spells_wider}
-use Rattle.yaml_printed.proofs.TagLaws.{tag_short}
+use Rattle.yaml_printed.proofs.TagBytes.{tag_short}
 use Rattle.yaml_printed.proofs.TreeEnds.{pair_text}
 
 -- bytes that are UTF-8 of printable characters and line feeds
@@ -84,23 +89,27 @@ literal_lines indent t u h =
     (lines_if (is_first 32 t || is_first 10 t) (50 ∷ []) [] (spells_byte 50 (omega arith) refl) spells_none)
     (spells_append
     (lines_if (not (ends_with_byte 10 t)) (45 ∷ []) _ (spells_byte 45 (omega arith) refl)
-    (lines_if (length t == 1 || ends_with_byte 10 (take (length t - 1) t)) (43 ∷ []) [] (spells_byte 43 (omega arith) refl)
+    (lines_if (length t == 1 || ends_with_byte 10 (take (length t - 1) t)) (43 ∷ []) []
+    (spells_byte 43 (omega arith) refl)
     spells_none))
     (spells_more 10 (omega arith) refl (block_lines indent true (chars t) (scalars-chars t u) h))))
 
 content_lines : {ask : AskedStyle} {key : Bool} {t : List ℕ} (indent : ℕ) (s : Style) → IsUtf8 t → Chosen ask key t s
     → Lines (in_style indent s t)
 content_lines {t = t} indent _ u (is_plain fits key allowed) =
-    spells_wider line_of (spells_text t u (and_parts (not (begins_otherwise t) && not (is_first 32 t) && not (ends_with_byte 32 t)
+    spells_wider line_of (spells_text t u (and_parts (not (begins_otherwise t) && not (is_first 32 t) && not
+    (ends_with_byte 32 t)
     && not (ends_with_byte 58 t) && not (stand_side_by_side 58 32 t) && not (stand_side_by_side 32 35 t))
     (list_all is_printable (chars t)) fits).1)
 content_lines {t = t} indent _ u (is_single fits allowed) =
     spells_more 39 (omega arith) refl (spells_append (single_lines indent false (chars t) (scalars-chars t u)
-    (and_parts (not (stand_side_by_side 32 10 t) && not (stand_side_by_side 10 32 t)) (list_all is_line_text (chars t)) fits).1)
+    (and_parts (not (stand_side_by_side 32 10 t) && not (stand_side_by_side 10 32 t))
+    (list_all is_line_text (chars t)) fits).1)
     (spells_byte 39 (omega arith) refl))
 content_lines {t = t} indent _ u (is_double allowed) = spells_wider line_of (double_short t u).spells
 content_lines {t = t} indent _ u (is_block key fits allowed) =
-    literal_lines indent t u (and_parts (not (length t == 0) && not (ends_with_byte 32 t) && not (stand_side_by_side 32 10 t))
+    literal_lines indent t u (and_parts (not (length t == 0) && not (ends_with_byte 32 t) && not
+    (stand_side_by_side 32 10 t))
     (list_all is_line_text (chars t)) fits).1
 
 -- ---- nodes
@@ -194,7 +203,8 @@ mutual
 later_lines : (roots : List EmitNode) → RootsPrintable roots → Lines (flat_map later_document roots)
 later_lines [] no_roots = spells_none
 later_lines (root ∷ roots) (a_root f fs) =
-    spells_append (spells_more 45 (omega arith) refl (spells_more 45 (omega arith) refl (spells_more 45 (omega arith) refl
+    spells_append (spells_more 45 (omega arith) refl (spells_more 45 (omega arith) refl
+    (spells_more 45 (omega arith) refl
     (node_lines f (root_place Text) refl)))) (later_lines roots fs)
 
 stream_lines : (roots : List EmitNode) → RootsPrintable roots → Lines (stream_text roots)

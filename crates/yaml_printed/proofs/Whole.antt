@@ -6,7 +6,7 @@ use Rattle.yaml_emit.specs.LayoutMachine.{printed_from, unbegun}
 use Rattle.yaml_emit.specs.StreamTexts.{IsStreamText, stream_text}
 use Rattle.yaml_emit.proofs.TreeTexts.{prints_stream}
 use Rattle.yaml_printed.specs.Printable.{MayBePrinted, StandsFor}
-use Rattle.yaml_printed.proofs.Roots.{stream_stands}
+use Rattle.yaml_printed.proofs.Streams.{stream_stands}
 use Rattle.yaml_printed.proofs.TreeSpelling.{stream_is_text}
 
 -- what stands for equal events in an equal text

@@ -32,7 +32,8 @@ abbrev pub collections : EmitNode
 collections =
     emit_sequence_node None (emit_node (emit_sequence_node None (emit_node (plain_text (codes "x")) (emit_node
     (emit_sequence_node None no_emit_nodes) no_emit_nodes)))
-    (emit_node (emit_mapping_node None (emit_pair (emit_sequence_node None (emit_node (plain_text (codes "k")) no_emit_nodes))
+    (emit_node (emit_mapping_node None (emit_pair (emit_sequence_node None
+    (emit_node (plain_text (codes "k")) no_emit_nodes))
     (emit_sequence_node None (emit_node (plain_text (codes "v")) no_emit_nodes))
     (emit_pair (plain_text (codes "own")) (emit_sequence_node None (emit_node (plain_text (codes "w")) no_emit_nodes))
     no_emit_pairs)))
