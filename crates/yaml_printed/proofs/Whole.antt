@@ -2,9 +2,14 @@
 use Rattle.std.proofs.Common.{◌≡◌, ℕ, sym, ap, ◌∙◌, subst, List, Some}
 use Rattle.std.proofs.lemmas.Option.{same_Some}
 use Rattle.yaml_base.specs.EmitEvents.{PlainEmit}
+use Rattle.yaml_base.specs.MarkedEvents.{events_in}
+use Rattle.yaml_base.specs.Renders.{Renders}
 use Rattle.yaml_emit.specs.LayoutMachine.{printed_from, unbegun}
 use Rattle.yaml_emit.specs.StreamTexts.{IsStreamText, stream_text}
 use Rattle.yaml_emit.proofs.TreeTexts.{prints_stream}
+use Rattle.yaml_grammar.specs.Documents.{Stands}
+use Rattle.yaml_grammar.specs.Nodes.{Document, events_of}
+use Rattle.yaml_reading.proofs.DocumentLaws.{one_text}
 use Rattle.yaml_printed.specs.Printable.{MayBePrinted, StandsFor}
 use Rattle.yaml_printed.proofs.Streams.{stream_stands}
 use Rattle.yaml_printed.proofs.TreeSpelling.{stream_is_text}
@@ -23,3 +28,10 @@ printed_stands events text p m =
     ∙ prints_stream m.roots)) in
     moved events _ text (stream_text m.roots) m.stream (same_Some _ _ run)
     (stream_stands m.roots m.each m.first (stream_is_text m.roots m.each))
+
+pub only_these : (events : List PlainEmit) (text : List ℕ) → IsStreamText events text → MayBePrinted events
+    → (documents : List Document) → Stands text documents → Renders events (events_in (events_of text documents))
+only_these events text p m documents stand =
+    let s = printed_stands events text p m in
+    subst (λ ds. Renders events (events_in (events_of text ds))) (one_text text s.documents documents s.stand stand)
+    s.same

@@ -3,7 +3,11 @@
 
 ghost use Rattle.std.specs.Prelude.{ℕ, List};
 ghost use Rattle.yaml_base.specs.EmitEvents.{PlainEmit};
+ghost use Rattle.yaml_base.specs.MarkedEvents.{events_in};
+ghost use Rattle.yaml_base.specs.Renders.{Renders};
 ghost use Rattle.yaml_emit.specs.StreamTexts.{IsStreamText};
+ghost use Rattle.yaml_grammar.specs.Documents.{Stands};
+ghost use Rattle.yaml_grammar.specs.Nodes.{Document, events_of};
 ghost use Rattle.yaml_printed.specs.Examples.{ThreeArePrinted};
 ghost use Rattle.yaml_printed.specs.Printable.{MayBePrinted, StandsFor};
 
@@ -11,10 +15,13 @@ ghost use Rattle.yaml_printed.specs.Printable.{MayBePrinted, StandsFor};
 /// what those that were written may come back as: the same structure, tags and texts, in styles that are permitted.
 /// The events may be any stream whose texts are UTF-8, with at most 128 open collections, where no tag is empty or has
 /// a character 0, where plain is asked for only of texts that may stand so, and where of the first root more is printed
-/// than the end of its line.
+/// than the end of its line. And whatever documents stand in the text, their events are such.
 pub fn a_printed_text_stands()
-    ensures { (events : List PlainEmit) (text : List ℕ) → IsStreamText events text → MayBePrinted events
+    ensures stands { (events : List PlainEmit) (text : List ℕ) → IsStreamText events text → MayBePrinted events
         → StandsFor events text }
+    ensures only { (events : List PlainEmit) (text : List ℕ) → IsStreamText events text → MayBePrinted events
+        → (documents : List Document) → Stands text documents
+        → Renders events (events_in (events_of text documents)) }
 {}
 
 /// A law: three documents, with scalars in each style, collections in each other, tags, empty collections and
