@@ -14,6 +14,7 @@ use Rattle.yaml_printed.proofs.Rests.{Rest, rest_at, rest_none, rest_second, res
 use Rattle.yaml_printed.proofs.Rests.{feed_no}
 use Rattle.yaml_printed.proofs.Rests.{Next, next_line, next_apart}
 use Rattle.yaml_printed.proofs.TreeEnds.{Line, line_column}
+use Rattle.yaml_printed.proofs.Words.{and_no, or_yes}
 
 -- nothing more, or the beginning of a document
 abbrev pub ends_document : List ℕ → Bool
@@ -88,11 +89,7 @@ same_triple b text i xs r = ap (is_triple b) r.same
 pub over_of : (text : List ℕ) (j : ℕ) (token : List ℕ) → Rest text j token → column text j ≡ 0
     → ends_document token ≡ true → is_over text j ≡ true
 over_of text j [] r col ends = rw (is_end text j r.same) refl
-over_of text j (c ∷ cs) r col ends = rw (r.same, col, ends) (or_true (nat_le (length text) j))
-  where
-    or_true : (x : Bool) → (x || true) ≡ true
-    or_true true = refl
-    or_true false = refl
+over_of text j (c ∷ cs) r col ends = rw (r.same, col, ends) (or_yes (nat_le (length text) j))
 
 low_no : (x : Bool) (c q : ℕ) → q < c → (not x && nat_le c q) ≡ false
 low_no true c q lt = refl
@@ -124,14 +121,10 @@ or_last false false true w = refl
 or_last false false false true = refl
 or_last false false false false = refl
 
-or_more : (x : Bool) → (x || true) ≡ true
-or_more true = refl
-or_more false = refl
-
 marker_stop : (least c : ℕ) (cs : List ℕ) → parts (c ∷ cs) ≡ true
     → stops_plain (by_columns least) 0 (feeds 1) c cs ≡ true
 marker_stop least c cs ends =
-    rw (ends, or_more (not (nat_le least 0))) (or_last (is_gap c) (c == 58 && is_gap (at cs 0)) (c == 35 && true) false)
+    rw (ends, or_yes (not (nat_le least 0))) (or_last (is_gap c) (c == 58 && is_gap (at cs 0)) (c == 35 && true) false)
 
 marker_stops : (least c : ℕ) (cs : List ℕ) → begins_token (c ∷ cs) ≡ true → parts (c ∷ cs) ≡ true
     → Ends (by_columns least) (10 ∷ c ∷ cs)
@@ -165,10 +158,6 @@ no_dash_first : (x : ℕ) (z : Bool) → (x == 46 && z) ≡ true → (x == 45) �
 no_dash_first x z h =
     let first : x ≡ 46 = eqb-true x 46 (and_parts (x == 46) z h).0 in
     ap (λ k. k == 45) first
-
-and_no : (x : Bool) → (x && false) ≡ false
-and_no true = refl
-and_no false = refl
 
 no_mark : (text : List ℕ) (j : ℕ) (token : List ℕ) → Rest text j token → ends_document token ≡ true
     → is_mark text 45 j ≡ false

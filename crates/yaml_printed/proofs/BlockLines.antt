@@ -1,8 +1,8 @@
 -- The lines of a text, and what a literal block prints of them.
-use Rattle.std.proofs.Common.{◌≡◌, ℕ, zero, suc, ◌<◌, ◌≤◌, Bool, true, false, not, ◌==◌, ◌&&◌, refl, sym}
+use Rattle.std.proofs.Common.{◌≡◌, ℕ, zero, suc, ◌<◌, ◌≤◌, Bool, true, false, not, ◌==◌, refl, sym}
 use Rattle.std.proofs.Common.{ap, ap₂, ◌∙◌, arith, List, [], ◌∷◌, ◌++◌, length, replicate, append_assoc}
 use Rattle.std.proofs.Common.{append-nil}
-use Rattle.std.proofs.lemmas.Bool.{and_parts, false≢true, ne_eqb, eqb-true}
+use Rattle.std.proofs.lemmas.Bool.{and_parts, ne_eqb, eqb-true}
 use Rattle.std.proofs.lemmas.Str.{encode_ascii, encodes-chars, scalars-chars}
 use Rattle.std.specs.List.{list_all}
 use Rattle.std.specs.Str.{IsUtf8, chars}
@@ -10,15 +10,13 @@ use lib.Utf8.{encode, encodes, scalar, scalars}
 use Rattle.yaml_emit.specs.PrintedTexts.{block_rest}
 use Rattle.yaml_emit.proofs.ByItself.{top_of}
 use Rattle.yaml_grammar.specs.BlockTexts.{into_first, lines_of}
+use Rattle.yaml_grammar.proofs.PlainLaws.{not_true}
 use Rattle.yaml_printed.proofs.ByteLaws.{encode_all}
 use Rattle.yaml_printed.proofs.Escapes.{len_one}
+use Rattle.yaml_printed.proofs.Words.{and_no}
 
 abbrev pub is_in_line : ℕ → Bool
 is_in_line b = not (b == 10)
-
-pub and_no : (x : Bool) → (x && false) ≡ false
-and_no true = refl
-and_no false = refl
 
 -- ---- the lines of a text
 
@@ -49,12 +47,8 @@ pub lines_front : (xs ys first : List ℕ) (more : List (List ℕ)) → list_all
 lines_front [] ys first more h e = e
 lines_front (x ∷ xs) ys first more h e =
     let p = and_parts (is_in_line x) (list_all is_in_line xs) h in
-    rw (not_true' (x == 10) p.0) (into_some x (lines_of (xs ++ ys)) (xs ++ first) more
+    rw (not_true (x == 10) p.0) (into_some x (lines_of (xs ++ ys)) (xs ++ first) more
     (lines_front xs ys first more p.1 e))
-  where
-    not_true' : (b : Bool) → not b ≡ true → b ≡ false
-    not_true' true e = absurd (false≢true e)
-    not_true' false e = refl
 
 lines_line : (xs ys : List ℕ) → list_all is_in_line xs ≡ true → lines_of (xs ++ (10 ∷ ys)) ≡ xs ∷ lines_of ys
 lines_line xs ys h = lines_front xs (10 ∷ ys) [] (lines_of ys) h refl ∙ ap (λ l. l ∷ lines_of ys) (append-nil xs)
@@ -149,6 +143,9 @@ after_feed : (n : ℕ) (b : Bool) (first : List ℕ) (more : List (List ℕ))
 after_feed n true first more = refl
 after_feed n false first more = refl
 
+beyond_line : (b : ℕ) → 128 ≤ b → b < 256 → is_in_line b ≡ true
+beyond_line b h top = rw (ne_eqb b 10 (λ e. absurd (omega arith))) refl
+
 block_step : (n c : ℕ) (cs : List ℕ) (b feed : Bool) → (c == 10) ≡ feed → scalar c ≡ true
     → ((b : Bool) → block_rest n b cs ≡ printed_lines n b (lines_of (encodes cs)))
     → block_rest n b (c ∷ cs) ≡ printed_lines n b (lines_of (encodes (c ∷ cs)))
@@ -160,23 +157,17 @@ block_step n c cs b true e s ih =
     (λ ls. printed_lines n b ([] ∷ ls)) (sym l.is)))
 block_step n c cs true false e s ih =
     let l = lined (encodes cs) in
-    let calm = encode_all is_in_line beyond c (omega (arith, top_of c s)) (λ low. rw e refl) in
+    let calm = encode_all is_in_line beyond_line c (omega (arith, top_of c s)) (λ low. rw e refl) in
     rw e (append_assoc (replicate n 32) (encode c) (block_rest n false cs)
     ∙ (ap (λ r. replicate n 32 ++ (encode c ++ r)) (ih false ∙ ap (tail_of n) l.is)
     ∙ (sym (some_of n (encode c) l.first l.more (len_one c))
     ∙ ap (block_of n) (sym (lines_front (encode c) (encodes cs) l.first l.more calm l.is)))))
-  where
-    beyond : (b : ℕ) → 128 ≤ b → b < 256 → is_in_line b ≡ true
-    beyond b h top = rw (ne_eqb b 10 (λ e. absurd (omega arith))) refl
 block_step n c cs false false e s ih =
     let l = lined (encodes cs) in
-    let calm = encode_all is_in_line beyond c (omega (arith, top_of c s)) (λ low. rw e refl) in
+    let calm = encode_all is_in_line beyond_line c (omega (arith, top_of c s)) (λ low. rw e refl) in
     rw e (ap (λ r. encode c ++ r) (ih false ∙ ap (tail_of n) l.is)
     ∙ (sym (tail_front n (encode c) l.first l.more)
     ∙ ap (tail_of n) (sym (lines_front (encode c) (encodes cs) l.first l.more calm l.is))))
-  where
-    beyond : (b : ℕ) → 128 ≤ b → b < 256 → is_in_line b ≡ true
-    beyond b h top = rw (ne_eqb b 10 (λ e. absurd (omega arith))) refl
 
 block_prints : (n : ℕ) (cs : List ℕ) → scalars cs ≡ true → (b : Bool)
     → block_rest n b cs ≡ printed_lines n b (lines_of (encodes cs))

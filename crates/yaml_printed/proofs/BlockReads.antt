@@ -17,7 +17,7 @@ use Rattle.yaml_grammar.specs.Bytes.{at}
 use Rattle.yaml_grammar.specs.Gaps.{next}
 use Rattle.yaml_grammar.proofs.PlainLaws.{not_true}
 use Rattle.yaml_printed.proofs.Aheads.{Ahead, Stops, at_end, further_out, next_here}
-use Rattle.yaml_printed.proofs.BlockLines.{and_no, block_of, block_text, blocks, indented, into_some}
+use Rattle.yaml_printed.proofs.BlockLines.{block_of, block_text, blocks, indented, into_some}
 use Rattle.yaml_printed.proofs.BlockRows.{Stop, blocks_some}
 use Rattle.yaml_printed.proofs.BlockLines.{is_in_line, join, join_lines, lined, lines_are, lines_block, lines_front}
 use Rattle.yaml_printed.proofs.BlockRows.{rows_are, spaces_of}
@@ -25,6 +25,7 @@ use Rattle.yaml_printed.proofs.ByteLaws.{text_all}
 use Rattle.yaml_printed.proofs.Rests.{Rest, begins_token, feed_no, rest_at, rest_is, rest_on, rest_place, rest_skip}
 use Rattle.yaml_printed.proofs.Rests.{space_no}
 use Rattle.yaml_printed.proofs.BlockEnds.{chomping_by, fine_all}
+use Rattle.yaml_printed.proofs.Words.{and_no}
 
 abbrev step_by : Bool → ℕ
 step_by true = 2

@@ -8,7 +8,8 @@ use Rattle.std.specs.Prelude.{if◌then◌else◌}
 use Rattle.yaml_grammar.specs.BlockTexts.{Chomping, Row, chomped, deep, flat, is_last, is_spaces, joined}
 use Rattle.yaml_grammar.specs.BlockTexts.{no_row, row_of, rows, spaces, with_line}
 use Rattle.yaml_grammar.specs.Bytes.{is_blank}
-use Rattle.yaml_printed.proofs.BlockLines.{and_no, block_of, blocks, indented, join}
+use Rattle.yaml_printed.proofs.BlockLines.{block_of, blocks, indented, join}
+use Rattle.yaml_printed.proofs.Words.{and_no, one_further}
 
 abbrev pub before_row : Row → ℕ → List ℕ
 before_row no_row e = replicate e 10
@@ -79,10 +80,6 @@ text_row ch n last e c cs line lines =
     rw (one, in', long, content)
     (ap (λ p. with_line own (p ++ (c ∷ cs)) (rows false ch n (row_of c) 0 (line ∷ lines)))
     (joined_is last (row_of c) e))
-
-one_further : (n : ℕ) (xs : List ℕ) → replicate (suc n) 10 ++ xs ≡ replicate n 10 ++ (10 ∷ xs)
-one_further zero xs = refl
-one_further (suc n) xs = ap (λ l. 10 ∷ l) (one_further n xs)
 
 row_further : (last : Row) (e : ℕ) (xs : List ℕ) → before_row last (suc e) ++ xs ≡ before_row last e ++ (10 ∷ xs)
 row_further no_row e xs = one_further e xs

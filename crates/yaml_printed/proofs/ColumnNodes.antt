@@ -28,6 +28,7 @@ use Rattle.yaml_printed.proofs.TagNames.{names_tag}
 use Rattle.yaml_printed.proofs.TagBytes.{a_line}
 use Rattle.yaml_printed.proofs.TreeEnds.{Line, begins_gap, behind_indicator, line_column, more_gap, node_gap}
 use Rattle.yaml_printed.proofs.ScalarNodes.{an_own, here_found}
+use Rattle.yaml_printed.proofs.Words.{and_no, or_yes}
 
 module _ (text : List ℕ) where
   pub line_column' : (i l : ℕ) (xs : List ℕ) → Rest text i (10 ∷ (replicate l 32 ++ xs)) → column text (suc i + l) ≡ l
@@ -43,10 +44,6 @@ module _ (text : List ℕ) where
   dash_no_over i (y ∷ ys) r h =
       let other : (y == 45) ≡ false = grind (arith, h) in
       rw (rest_inside r, r.same, other) (and_no (column text i == 0))
-    where
-      and_no : (x : Bool) → (x && false) ≡ false
-      and_no true = refl
-      and_no false = refl
 
   pub within_is : (least l k : ℕ) → least ≤ l → column text k ≡ l → is_over text k ≡ false
       → is_within text least k ≡ true
@@ -185,10 +182,6 @@ module _ (text : List ℕ) where
           token = tag_token (t ∷ ts) ((10 ∷ replicate l 32) ++ pairs_line l k v ps) after;
         }
 
-  or_right : (x : Bool) → (x || true) ≡ true
-  or_right true = refl
-  or_right false = refl
-
   -- a sequence behind an indicator
   pub items_found : (d c : ℕ) (room : Room) (tag : Option (List ℕ)) → IsTag tag → (n : EmitNode) (ns : EmitNodes)
       → ((q : ℕ) → BehindIs text d q anything n) → ((q : ℕ) → ItemsAre text d q ns)
@@ -211,13 +204,13 @@ module _ (text : List ℕ) where
       here_found text (suc d) c part i j (emit_sequence_node (Some (t ∷ ts)) (emit_node n ns))
       ((printed_tag (t ∷ ts) ++ ((10 ∷ replicate c 32) ++ items_line c n ns)) ++ after) r
       (tagged_items d c n ns one more (suc c) c part t ts (a_tag u z) (suc i) e j after (rest_on r)
-      (λ k col over item. rw (an_own text part c k refl item) (or_right (is_within text (suc c) k)))
+      (λ k col over item. rw (an_own text part c k refl item) (or_yes (is_within text (suc c) k)))
       a (own refl))
   items_found d c value _ (a_tag {c = t} {cs = ts} u z) n ns one more i e j after r col a own =
       here_found text (suc d) c value i j (emit_sequence_node (Some (t ∷ ts)) (emit_node n ns))
       ((printed_tag (t ∷ ts) ++ ((10 ∷ replicate c 32) ++ items_line c n ns)) ++ after) r
       (tagged_items d c n ns one more (suc c) c value t ts (a_tag u z) (suc i) e j after (rest_on r)
-      (λ k col over item. rw (an_own text value c k refl item) (or_right (is_within text (suc c) k)))
+      (λ k col over item. rw (an_own text value c k refl item) (or_yes (is_within text (suc c) k)))
       a (own refl))
 
   -- a mapping behind an indicator

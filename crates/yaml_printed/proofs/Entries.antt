@@ -22,6 +22,7 @@ use Rattle.yaml_printed.proofs.Rests.{a_colon, a_question, column_step}
 use Rattle.yaml_printed.proofs.TreeEnds.{Line, begins_gap, rest_gap, more_gap, node_gap, node_feed, line_behind}
 use Rattle.yaml_printed.proofs.TreeEnds.{line_column}
 use Rattle.yaml_printed.proofs.TreeEnds.{behind_indicator, behind_text, pair_feed, pair_text}
+use Rattle.yaml_printed.proofs.Words.{and_no, equal_self}
 
 -- these bytes begin a token that begins no document and is no item's `-`
 pub record Begins (xs : List ℕ) : Type 0 where
@@ -37,10 +38,6 @@ inside : {text : List ℕ} {i : ℕ} (xs : List ℕ) → (xs ≡ [] → ⊥) →
 inside [] some r = absurd (some refl)
 inside (c ∷ cs) some r = rest_inside r
 
-and_no : (x : Bool) → (x && false) ≡ false
-and_no true = refl
-and_no false = refl
-
 module _ {text : List ℕ} {i : ℕ} {xs : List ℕ} (b : Begins xs) (r : Rest text i xs) where
   pub begins_inside : nat_le (length text) i ≡ false
   begins_inside = inside xs b.some r
@@ -54,10 +51,7 @@ module _ {text : List ℕ} {i : ℕ} {xs : List ℕ} (b : Begins xs) (r : Rest t
       ap₂ (λ x y. x == 45 && is_gap y) (ap (at text) same ∙ rest_byte 0 r) (rest_byte 1 r) ∙ b.no_dash
 
   pub at_column : (c : ℕ) → column text i ≡ c → is_at text c i ≡ true
-  at_column c e = rw (no_over, e) (eq_self c)
-    where
-      eq_self : (c : ℕ) → (c == c) ≡ true
-      eq_self c = grind arith
+  at_column c e = rw (no_over, e) (equal_self c)
 
 -- a key in a line where it is printed
 pub record KeyFound (text : List ℕ) (d i : ℕ) (n : EmitNode) (after : List ℕ) : Type 0 where

@@ -1,5 +1,5 @@
 -- What is found behind an indicator: the node that was printed there.
-use Rattle.std.proofs.Common.{◌≡◌, ℕ, suc, ◌+◌, true, false, ◌==◌, refl}
+use Rattle.std.proofs.Common.{◌≡◌, ℕ, suc, ◌+◌, true, false, refl}
 use Rattle.std.proofs.Common.{subst, ap, ◌∙◌, arith, List, [], ◌∷◌, ◌++◌, length}
 use Rattle.std.proofs.Common.{append_assoc}
 use Rattle.std.proofs.lemmas.Bool.{false≢true}
@@ -24,6 +24,7 @@ use Rattle.yaml_printed.proofs.Rests.{Rest, rest_is, rest_on, rest_at, rest_skip
 use Rattle.yaml_printed.proofs.Rests.{a_dash, column_step}
 use Rattle.yaml_printed.proofs.TreeEnds.{Line, rest_gap, more_gap, node_gap, node_feed, line_behind}
 use Rattle.yaml_printed.proofs.TreeEnds.{behind_indicator}
+use Rattle.yaml_printed.proofs.Words.{equal_self}
 
 -- ---- events
 
@@ -111,10 +112,7 @@ dash_mark text c n ns i after r =
     rw (rest_at r) (ap (λ k. is_gap (at text k)) next ∙ behind)
 
 pub at_item : (text : List ℕ) (c i : ℕ) → is_mark text 45 i ≡ true → column text i ≡ c → is_item text c i ≡ true
-at_item text c i m e = rw (m, e) (eq_self c)
-  where
-    eq_self : (c : ℕ) → (c == c) ≡ true
-    eq_self c = grind arith
+at_item text c i m e = rw (m, e) (equal_self c)
 
 -- an item, and those behind it
 pub items_stand : (text : List ℕ) (d c : ℕ) (n : EmitNode) (ns : EmitNodes) → BehindIs text d c anything n

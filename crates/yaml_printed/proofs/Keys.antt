@@ -1,9 +1,8 @@
 -- A key in a line where it is printed.
-use Rattle.std.proofs.Common.{◌≡◌, ℕ, suc, ◌+◌, ◌*◌, ◌≤◌, Bool, true, false, not, ◌==◌, ◌&&◌, ◌||◌, refl, sym}
-use Rattle.std.proofs.Common.{subst, ap, ◌∙◌, arith, List, [], ◌∷◌, ◌++◌, length, Option, Some}
-use Rattle.std.proofs.Common.{append_assoc, max}
+use Rattle.std.proofs.Common.{◌≡◌, ℕ, suc, ◌+◌, ◌<◌, ◌*◌, ◌≤◌, Bool, true, false, not, ◌==◌, ◌&&◌, ◌||◌, refl, sym}
+use Rattle.std.proofs.Common.{subst, ap, ◌∙◌, arith, List, [], ◌∷◌, ◌++◌, length, Option}
+use Rattle.std.proofs.Common.{max}
 use Rattle.std.proofs.lemmas.Bool.{and_parts, false≢true, leb-true, ne_eqb}
-use Rattle.std.proofs.lemmas.List.{length-append}
 use Rattle.std.specs.List.{flat_map, list_all, list_any}
 use Rattle.std.specs.Str.{IsUtf8, chars}
 use Rattle.yaml_base.specs.EmitTree.{EmitNode, emit_scalar_node, emit_sequence_node, emit_mapping_node}
@@ -11,7 +10,7 @@ use Rattle.yaml_base.specs.EmitTree.{no_emit_nodes, no_emit_pairs}
 use Rattle.yaml_base.specs.declared.emitter.AskedStyle.{AskedStyle}
 use Rattle.yaml_base.specs.declared.event.ScalarStyle.TheVariants as style
 use Rattle.yaml_emit.specs.Characters.{is_break, is_line_text}
-use Rattle.yaml_emit.specs.PrintedTexts.{double_quoted, escaped_character, single_quoted, single_rest}
+use Rattle.yaml_emit.specs.PrintedTexts.{escaped_character, single_rest}
 use Rattle.yaml_emit.specs.Scalars.{in_style}
 use Rattle.yaml_emit.specs.StreamTexts.{is_short, is_simple_key, tag_or_empty}
 use Rattle.yaml_emit.specs.Styles.{chosen_style, fits_single_quotes, has_break, is_dash, is_first}
@@ -19,12 +18,8 @@ use Rattle.yaml_emit.specs.Styles.{stand_side_by_side}
 use Rattle.yaml_emit.specs.Tags.{tag_len}
 use Rattle.yaml_emit.specs.declared.style.Style.{Style}
 use Rattle.yaml_grammar.specs.Bytes.{at, is_gap}
-use Rattle.yaml_grammar.specs.Leaves.{in_style as in_leaf_style, leaf_at}
 use Rattle.yaml_grammar.specs.Nodes.{no_pairs}
 use Rattle.yaml_grammar.specs.Plain.{as_key}
-use Rattle.yaml_emit.proofs.DoubledLaws.{undoubled-printed}
-use Rattle.yaml_emit.proofs.EscapeLaws.{unescaped-printed}
-use Rattle.yaml_grammar.proofs.LeafLaws.{double_leaf, single_leaf}
 use Rattle.yaml_grammar.proofs.PlainLaws.{Ends, ends_at_colon, not_true}
 use Rattle.yaml_printed.specs.Printable.{IsPrintable, IsTag, a_mapping}
 use Rattle.yaml_printed.specs.Printable.{a_pair, a_scalar, a_sequence, an_item, may_ask, no_items, no_pairs}
@@ -38,6 +33,8 @@ use Rattle.yaml_printed.proofs.Spelling.{spells_text}
 use Rattle.yaml_printed.proofs.TreeEnds.{begins_gap}
 use Rattle.yaml_printed.proofs.KeyLines.{KeyCompletes, key_text, leaf_keyed, items_keyed, pairs_keyed, content_key}
 use Rattle.yaml_printed.proofs.KeyLines.{content_begins}
+use Rattle.yaml_printed.proofs.Words.{and_no}
+use Rattle.yaml_printed.proofs.QuotedLeaves.{double_at, single_at}
 
 colon_ends : (after : List ℕ) → begins_gap after ≡ true → Ends as_key (58 ∷ after)
 colon_ends [] h = absurd (false≢true h)
@@ -56,10 +53,6 @@ plain_no_dash {c = c} {cs = cs} after x = go cs (and_parts (is_shown c) (list_al
     go : (cs : List ℕ) → list_all is_shown cs ≡ true → (is_dash c && (length cs == 0 || is_first 32 cs)) ≡ false
         → (c == 45 && is_gap (at (cs ++ (58 ∷ after)) 0)) ≡ false
     go [] all h = and_no (c == 45)
-      where
-        and_no : (x : Bool) → (x && false) ≡ false
-        and_no true = refl
-        and_no false = refl
     go (d ∷ ds) all h =
         rw (shown_gap d (and_parts (is_shown d) (list_all is_shown ds) all).0)
         (first (c == 45) (c == 63) (c == 58) (d == 32)
@@ -75,35 +68,13 @@ single_lines t h =
     (and_parts (not (stand_side_by_side 32 10 t) && not (stand_side_by_side 10 32 t))
     (list_all is_line_text (chars t)) h).1
 
-two_more : (k c : ℕ) (inside : List ℕ) → k + length inside + 2 ≡ k + length (c ∷ (inside ++ c ∷ []))
-two_more k c inside = omega (arith, length-append inside (c ∷ []))
-
-double_key : {text : List ℕ} (after t : List ℕ) (k : ℕ) → IsUtf8 t → Rest text k (double_quoted t ++ (58 ∷ after))
-    → leaf_at text as_key k ≡ Some (in_leaf_style style.DoubleQuoted t, k + length (double_quoted t))
-double_key {text = text} after t k u r =
-    let inside = flat_map escaped_character (chars t) in
-    double_leaf text inside (58 ∷ after) t as_key k
-    (r.same ∙ ap (λ l. 34 ∷ l) (append_assoc inside (34 ∷ []) (58 ∷ after))) (unescaped-printed t u)
-    ∙ ap (λ m. Some (in_leaf_style style.DoubleQuoted t, m)) (two_more k 34 inside)
-
-single_key : {text : List ℕ} (after : List ℕ) (indent : ℕ) (t : List ℕ) (k : ℕ) → IsUtf8 t
-    → list_any is_break (chars t) ≡ false
-    → Rest text k (single_quoted indent t ++ (58 ∷ after))
-    → leaf_at text as_key k ≡ Some (in_leaf_style style.SingleQuoted t, k + length (single_quoted indent t))
-single_key {text = text} after indent t k u calm r =
-    let inside = single_rest indent false (chars t) in
-    single_leaf text inside (58 ∷ after) t as_key k
-    (r.same ∙ ap (λ l. 39 ∷ l) (append_assoc inside (39 ∷ []) (58 ∷ after))) (λ e. absurd (cc))
-    (undoubled-printed indent t u calm)
-    ∙ ap (λ m. Some (in_leaf_style style.SingleQuoted t, m)) (two_more k 39 inside)
-
 scalar_key : (text : List ℕ) (d : ℕ) (tag : Option (List ℕ)) → IsTag tag → (t : List ℕ) → IsUtf8 t
-    → (ask : AskedStyle) → (indent : ℕ)
+    → (ask : AskedStyle) → (indent : ℕ) → 0 < indent
     → (s : Style) → Chosen ask true t s → list_any is_break (chars t) ≡ false
     → tag_len (tag_or_empty tag) + length t ≤ 128
     → Keyed text d (emit_scalar_node tag t ask) (key_text tag (in_style indent s t))
-scalar_key text d tag g [] u ask indent _ (is_plain fits key allowed) calm near = absurd (false≢true (sym key))
-scalar_key text d tag g (y ∷ ys) u ask indent _ (is_plain fits key allowed) calm near =
+scalar_key text d tag g [] u ask indent inner _ (is_plain fits key allowed) calm near = absurd (false≢true (sym key))
+scalar_key text d tag g (y ∷ ys) u ask indent inner _ (is_plain fits key allowed) calm near =
     let x = plain_text y ys u fits in
     record {
       found = λ i after r gap. content_key tag g y ys (plain_word x) (length (y ∷ ys))
@@ -114,27 +85,27 @@ scalar_key text d tag g (y ∷ ys) u ask indent _ (is_plain fits key allowed) ca
           λ after gap. content_begins tag g y ys after (plain_word x) (x.whole 58 after refl refl)
           (plain_no_dash after x);
     }
-scalar_key text d tag g t u ask indent _ (is_single fits allowed) calm near = record {
+scalar_key text d tag g t u ask indent inner _ (is_single fits allowed) calm near = record {
   found =
       λ i after r gap. content_key tag g 39 (single_rest indent false (chars t) ++ 39 ∷ []) (quote_word 39 refl)
       (4 * length t + 2)
       (single_short indent t u (single_lines t fits) calm) (omega (arith, near)) i after r gap
-      (λ k q. leaf_keyed style.SingleQuoted (single_key after indent t k u calm q) allowed);
+      (λ k q. leaf_keyed style.SingleQuoted (single_at as_key 58 after indent t k u fits inner refl q) allowed);
   begins =
       λ after gap. content_begins tag g 39 (single_rest indent false (chars t) ++ 39 ∷ []) after (quote_word 39 refl)
       refl refl;
 }
-scalar_key text d tag g t u ask indent _ (is_double allowed) calm near = record {
+scalar_key text d tag g t u ask indent inner _ (is_double allowed) calm near = record {
   found =
       λ i after r gap. content_key tag g 34 (flat_map escaped_character (chars t) ++ 34 ∷ []) (quote_word 34 refl)
       (4 * length t + 2)
       (double_short t u) (omega (arith, near)) i after r gap
-      (λ k q. leaf_keyed style.DoubleQuoted (double_key after t k u q) allowed);
+      (λ k q. leaf_keyed style.DoubleQuoted (double_at as_key (58 ∷ after) t k u q) allowed);
   begins =
       λ after gap. content_begins tag g 34 (flat_map escaped_character (chars t) ++ 34 ∷ []) after
       (quote_word 34 refl) refl refl;
 }
-scalar_key text d tag g t u ask indent _ (is_block key fits allowed) calm near = absurd (false≢true (sym key))
+scalar_key text d tag g t u ask indent inner _ (is_block key fits allowed) calm near = absurd (false≢true (sym key))
 
 two_on : (k : ℕ) → suc (suc k) ≡ k + 2
 two_on k = omega arith
@@ -143,7 +114,7 @@ key_by : (text : List ℕ) {d : ℕ} {key : Bool} {n : EmitNode} → IsPrintable
     → (c : ℕ) → KeyIs text d c n
 key_by text (a_scalar {d = d} {key = key} {tag = tag} {text = t} {style = ask} g u may) is_key simple c =
     let p = and_parts (not (has_break t)) (is_short (tag_or_empty tag) (length t)) simple in
-    let x = scalar_key text d tag g t u ask (max (c + 2) 2) (chosen_style t ask true)
+    let x = scalar_key text d tag g t u ask (max (c + 2) 2) (omega arith) (chosen_style t ask true)
     (chosen ask true t (ap (λ b. may_ask ask b t) (sym is_key) ∙ may)) (not_true (has_break t) p.0)
     (leb-true (tag_len (tag_or_empty tag) + length t) 128 p.1) in
     record { found = x.found; begins = x.begins }

@@ -17,6 +17,7 @@ pub mod KeyLines
 pub mod Keys
 pub mod Nodes
 pub mod PlainFits
+pub mod QuotedLeaves
 pub mod Rests
 pub mod Roots
 pub mod ScalarLines
@@ -31,3 +32,4 @@ pub mod TagNames
 pub mod TreeEnds
 pub mod TreeSpelling
 pub mod Whole
+pub mod Words

@@ -22,6 +22,7 @@ use Rattle.yaml_grammar.proofs.PlainLaws.{Ends, not_true, plain_some}
 use Rattle.yaml_grammar.proofs.RestLaws.{some_rest}
 use Rattle.yaml_printed.proofs.ByteLaws.{text_all}
 use Rattle.yaml_printed.proofs.Rests.{Rest, rest_at}
+use Rattle.yaml_printed.proofs.Words.{and_no}
 
 -- no tab, no line feed and no byte 0
 abbrev pub is_shown : ℕ → Bool
@@ -113,10 +114,6 @@ eq_swap a b = grind arith
 triple_no : (k c : ℕ) (cs : List ℕ) (b : ℕ) (ys : List ℕ) → (b == k) ≡ false
     → starts_with nat_eq (c ∷ cs) (k ∷ k ∷ k ∷ []) ≡ false → is_triple k ((c ∷ cs) ++ (b ∷ ys)) ≡ false
 triple_no k c [] b ys other h = rw other (and_no (c == k))
-  where
-    and_no : (x : Bool) → (x && false) ≡ false
-    and_no true = refl
-    and_no false = refl
 triple_no k c (d ∷ []) b ys other h = rw other (and_no (c == k) (d == k))
   where
     and_no : (x y : Bool) → (x && (y && false)) ≡ false
@@ -216,17 +213,13 @@ no_dash_gap c (d ∷ ds) b ys all h =
     beside false false true false h = refl
     beside false false false w h = refl
 
-and_no' : (x : Bool) → (x && false) ≡ false
-and_no' true = refl
-and_no' false = refl
-
 plain_begins : {text : List ℕ} {i c : ℕ} {cs : List ℕ} (b : ℕ) (ys : List ℕ) → PlainText c cs → (b == 45) ≡ false
     → (b == 46) ≡ false
     → Rest text i ((c ∷ cs) ++ (b ∷ ys)) → begins_plain text false i ≡ true
 plain_begins {text = text} {i = i} {c = c} {cs = cs} b ys x dash dot r =
     let second : at text (i + 1) ≡ at (cs ++ (b ∷ ys)) 0
     = sym (get_or-drop i text 1 0) ∙ ap (λ l. at l 1) r.same in
-    rw (rest_at r, second, r.same, x.whole b ys dash dot, and_no' (column text i == 0), x.no_gap, x.no_mark)
+    rw (rest_at r, second, r.same, x.whole b ys dash dot, and_no (column text i == 0), x.no_gap, x.no_mark)
     (no_dash_gap c cs b ys (and_parts (is_shown c) (list_all is_shown cs) x.shown).1 x.no_dash)
 
 pub plain_leaf : {text : List ℕ} {i c : ℕ} {cs : List ℕ} (b : ℕ) (ys : List ℕ) (context : Context) → PlainText c cs

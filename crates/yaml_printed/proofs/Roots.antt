@@ -1,5 +1,5 @@
 -- The root of a document stands where it is printed.
-use Rattle.std.proofs.Common.{◌≡◌, ◌≢◌, ℕ, suc, ◌+◌, Bool, true, false, ◌==◌, ◌&&◌, refl, sym}
+use Rattle.std.proofs.Common.{◌≡◌, ◌≢◌, ℕ, suc, ◌+◌, Bool, true, false, ◌==◌, refl, sym}
 use Rattle.std.proofs.Common.{subst, ap, ◌∙◌, arith, List, [], ◌∷◌, ◌++◌, Option, None, Some}
 use Rattle.std.proofs.Common.{replicate}
 use Rattle.std.proofs.lemmas.Bool.{false≢true}
@@ -52,6 +52,7 @@ use Rattle.yaml_printed.proofs.ScalarLines.{is_bare, scalar_here}
 use Rattle.yaml_printed.proofs.PlainFits.{quote_word}
 use Rattle.yaml_printed.proofs.TreeEnds.{begins_gap, behind_indicator, more_gap}
 use Rattle.yaml_printed.proofs.TreeEnds.{node_gap}
+use Rattle.yaml_printed.proofs.Words.{and_no}
 
 -- what is bare has a line feed alone
 bare_text : (indent : ℕ) (tag : Option (List ℕ)) (s : Style) (t : List ℕ) → is_bare tag s t ≡ true
@@ -91,10 +92,6 @@ module _ (text : List ℕ) where
 
   pub token_over : (i : ℕ) (xs : List ℕ) → Token xs → Rest text i xs → is_over text i ≡ false
   token_over i xs t r = rw (token_inside t r, r.same, t.whole) (and_no (column text i == 0))
-    where
-      and_no : (x : Bool) → (x && false) ≡ false
-      and_no true = refl
-      and_no false = refl
 
   -- ---- the first root
 

@@ -1,8 +1,7 @@
 -- A scalar that is no key where it is printed.
-use Rattle.std.proofs.Common.{◌≡◌, ℕ, zero, suc, ◌+◌, ◌-◌, ◌<◌, Bool, true, false, refl, sym}
-use Rattle.std.proofs.Common.{ap, ◌∙◌, arith, List, [], ◌∷◌, ◌++◌, length, Option, None, Some, append_assoc}
+use Rattle.std.proofs.Common.{◌≡◌, ℕ, ◌+◌, ◌-◌, Bool, true, false, refl, sym}
+use Rattle.std.proofs.Common.{arith, List, [], ◌∷◌, ◌++◌, length, Option, None, Some}
 use Rattle.std.proofs.lemmas.Bool.{false≢true}
-use Rattle.std.proofs.lemmas.List.{length-append}
 use Rattle.std.specs.List.{flat_map}
 use Rattle.std.specs.Str.{IsUtf8, chars}
 use Rattle.yaml_base.specs.EmitTree.{emit_scalar_node}
@@ -12,24 +11,21 @@ use Rattle.yaml_emit.specs.PrintedTexts.{block_rest, chomping_hint, double_quote
 use Rattle.yaml_emit.specs.PrintedTexts.{indentation_hint, single_quoted, single_rest}
 use Rattle.yaml_emit.specs.Scalars.{in_style}
 use Rattle.yaml_emit.specs.StreamTexts.{is_literal}
-use Rattle.yaml_emit.specs.Styles.{fits_single_quotes}
 use Rattle.yaml_emit.specs.declared.style.Style.{Style}
 use Rattle.yaml_emit.specs.declared.style.Style.TheVariants.{Plain, SingleQuoted, DoubleQuoted, Literal}
-use Rattle.yaml_emit.proofs.EscapeLaws.{unescaped-printed}
 use Rattle.yaml_grammar.specs.Blocks.{Room, is_own}
 use Rattle.yaml_grammar.specs.Leaves.{leaf_at}
 use Rattle.yaml_grammar.specs.Leaves as leaf
 use Rattle.yaml_grammar.specs.Plain.{by_columns}
-use Rattle.yaml_grammar.proofs.LeafLaws.{double_leaf}
 use Rattle.yaml_printed.specs.Printable.{IsTag, no_tag, a_tag}
 use Rattle.yaml_printed.proofs.Aheads.{Ahead, plain_ends}
 use Rattle.yaml_printed.proofs.BlockReads.{block_next, block_reads}
-use Rattle.yaml_printed.proofs.SingleLines.{single_leaf_lines}
 use Rattle.yaml_printed.proofs.PlainFits.{PlainText, plain_leaf, plain_text, plain_word, quote_word}
 use Rattle.yaml_printed.proofs.ChosenStyles.{Chosen, is_plain, is_single, is_double, is_block}
 use Rattle.yaml_printed.proofs.Contents.{block_completes, leaf_completes}
 use Rattle.yaml_printed.proofs.Inline.{HereAt, content_here, fresh_text, tag_here}
 use Rattle.yaml_printed.proofs.Rests.{Rest, rest_at, rest_skip}
+use Rattle.yaml_printed.proofs.QuotedLeaves.{double_at, single_at}
 
 -- a plain text in its line
 plain_here : {text : List ℕ} {least e j : ℕ} {after : List ℕ} (c : ℕ) (cs : List ℕ) (k : ℕ) → PlainText c cs
@@ -37,27 +33,6 @@ plain_here : {text : List ℕ} {least e j : ℕ} {after : List ℕ} (c : ℕ) (c
     → leaf_at text (by_columns least) k ≡ Some (leaf.in_style style.Plain (c ∷ cs), k + length (c ∷ cs))
 plain_here {least = least} {after = after} c cs k x r a =
     plain_leaf 10 after (by_columns least) x refl refl refl r (plain_ends a)
-
-single_here : {text : List ℕ} (after : List ℕ) (least indent : ℕ) (t : List ℕ) (k : ℕ) → IsUtf8 t
-    → fits_single_quotes t ≡ true
-    → 0 < indent
-    → Rest text k (single_quoted indent t ++ (10 ∷ after))
-    → leaf_at text (by_columns least) k ≡ Some (leaf.in_style style.SingleQuoted t, k + length (single_quoted indent t))
-single_here after least zero t k u fits deep r = absurd (omega (arith, deep))
-single_here after least (suc indent) t k u fits deep r =
-    single_leaf_lines (by_columns least) indent 10 after t k u fits refl r
-
-two_more : (k n : ℕ) (c : ℕ) (inside : List ℕ) → k + length inside + 2 ≡ k + length (c ∷ (inside ++ c ∷ []))
-two_more k n c inside = omega (arith, length-append inside (c ∷ []))
-
-double_here : {text : List ℕ} (after : List ℕ) (least : ℕ) (t : List ℕ) (k : ℕ) → IsUtf8 t
-    → Rest text k (double_quoted t ++ (10 ∷ after))
-    → leaf_at text (by_columns least) k ≡ Some (leaf.in_style style.DoubleQuoted t, k + length (double_quoted t))
-double_here {text = text} after least t k u r =
-    let inside = flat_map escaped_character (chars t) in
-    double_leaf text inside (10 ∷ after) t (by_columns least) k
-    (r.same ∙ ap (λ l. 34 ∷ l) (append_assoc inside (34 ∷ []) (10 ∷ after))) (unescaped-printed t u)
-    ∙ ap (λ m. Some (leaf.in_style style.DoubleQuoted t, m)) (two_more k 0 34 inside)
 
 -- nothing is printed of the scalar but the end of its line
 abbrev pub is_bare : Option (List ℕ) → Style → List ℕ → Bool
@@ -87,12 +62,13 @@ scalar_here indent tag f (c ∷ cs) u _ (is_plain fits key allowed) some deep ro
 scalar_here indent tag f t u _ (is_single fits allowed) some deep room i after r a own =
     content_here tag f 39 (single_rest indent false (chars t) ++ 39 ∷ []) false room i after r (quote_word 39 refl)
     (λ ys. refl)
-    (λ k q. leaf_completes a style.SingleQuoted (single_here after _ indent t k u fits (omega (arith, deep)) q)
+    (λ k q. leaf_completes a style.SingleQuoted (single_at (by_columns _) 10 after indent t k u fits
+    (omega (arith, deep)) refl q)
     (rest_skip (single_quoted indent t) q) allowed)
 scalar_here indent tag f t u _ (is_double allowed) some deep room i after r a own =
     content_here tag f 34 (flat_map escaped_character (chars t) ++ 34 ∷ []) false room i after r (quote_word 34 refl)
     (λ ys. refl)
-    (λ k q. leaf_completes a style.DoubleQuoted (double_here after _ t k u q)
+    (λ k q. leaf_completes a style.DoubleQuoted (double_at (by_columns _) (10 ∷ after) t k u q)
     (rest_skip (double_quoted t) q) allowed)
 scalar_here indent tag f t u _ (is_block key fits allowed) some deep room i after r a own =
     content_here tag f 124 (block_lines indent t) true room i after r (quote_word 124 refl) (λ ys. refl)

@@ -21,6 +21,7 @@ use Rattle.yaml_printed.proofs.ByteLaws.{encode_all}
 use Rattle.yaml_printed.proofs.Escapes.{len_one}
 use Rattle.yaml_printed.proofs.Rests.{Rest, rest_at, rest_is, rest_on}
 use Rattle.yaml_printed.proofs.SingleRuns.{in_line}
+use Rattle.yaml_printed.proofs.Words.{and_no}
 
 abbrev is_high : ℕ → Bool
 is_high b = nat_le 128 b
@@ -35,10 +36,6 @@ module _ (a b : ℕ) (la : a < 128) (lb : b < 128) where
       let no_b : (x == b) ≡ false = ne_eqb x b (λ e. absurd (omega (arith, high, e, lb))) in
       rw (no_a, no_b, and_no before) (more xs p.1)
     where
-      and_no : (x : Bool) → (x && false) ≡ false
-      and_no true = refl
-      and_no false = refl
-
       more : (xs : List ℕ) → list_all is_high xs ≡ true → has_behind a b false (xs ++ rest) ≡ has_behind a b false rest
       more [] h = refl
       more (y ∷ ys) h =

@@ -21,6 +21,7 @@ use Rattle.yaml_grammar.proofs.PlainLaws.{not_true}
 use Rattle.yaml_grammar.proofs.RestLaws.{some_rest}
 use Rattle.yaml_printed.proofs.ByteLaws.{encode_all}
 use Rattle.yaml_printed.proofs.Escapes.{len_one}
+use Rattle.yaml_printed.proofs.Words.{one_further}
 
 -- two parts that are read
 with_with : (m n : ℕ) (xs ys : List ℕ) (r : Said) → ◌≡◌ {A = Said} (with_bytes m xs (with_bytes n ys r))
@@ -69,10 +70,6 @@ line_shown c l e = either (c == 10) (is_printable c) l e
     either : (x y : Bool) → (x || y) ≡ true → x ≡ false → y ≡ true
     either true y h e = absurd (false≢true (sym e))
     either false y h e = h
-
-one_further : (n : ℕ) (xs : List ℕ) → replicate (suc n) 10 ++ xs ≡ replicate n 10 ++ (10 ∷ xs)
-one_further zero xs = refl
-one_further (suc n) xs = ap (λ l. 10 ∷ l) (one_further n xs)
 
 -- what closes the quotes is behind them
 module _ (rest : List ℕ) (closes : (at rest 0 == 39) ≡ false) where

@@ -1,5 +1,5 @@
 -- What stands before a node in its line: nothing, or its tag.
-use Rattle.std.proofs.Common.{◌≡◌, ℕ, suc, ◌+◌, Bool, true, false, ◌==◌, ◌&&◌, refl}
+use Rattle.std.proofs.Common.{◌≡◌, ℕ, suc, ◌+◌, false, ◌==◌, refl}
 use Rattle.std.proofs.Common.{subst, ap, ◌∙◌, arith, List, ◌∷◌, ◌++◌, length, drop, None, Some, nat_eq}
 use Rattle.std.proofs.Common.{option_and_then, ne_eqb, true≢false}
 use Rattle.yaml_emit.specs.Tags.{printed_tag}
@@ -10,6 +10,7 @@ use Rattle.yaml_printed.proofs.Collections.{names_of}
 use Rattle.yaml_printed.proofs.TagLaws.{tag_is}
 use Rattle.yaml_printed.proofs.TagBytes.{BehindTag, a_line, a_word, tag_begins}
 use Rattle.yaml_printed.proofs.Rests.{Rest, rest_at, rest_on, rest_skip}
+use Rattle.yaml_printed.proofs.Words.{and_no}
 
 no_spaces : (c : ℕ) (cs : List ℕ) → (c == 32) ≡ false → count_while (nat_eq 32) (c ∷ cs) ≡ 0
 no_spaces c cs h =
@@ -29,10 +30,6 @@ pub names_plain : {text : List ℕ} {i c : ℕ} {cs : List ℕ} → Rest text i 
     → names_at text false i ≡ Some (names_of None, i)
 names_plain {text = text} {i = i} {c = c} {cs = cs} r w =
     ap (option_and_then (one_name text false)) (one_is r w) ∙ one_is r w
-
-and_no : (x : Bool) → (x && false) ≡ false
-and_no true = refl
-and_no false = refl
 
 names_end : {text : List ℕ} {i : ℕ} {t ys : List ℕ} → Rest text i ys → BehindTag ys
     → one_name text false (names_of (Some t), i) ≡ Some (names_of (Some t), i)

@@ -38,17 +38,14 @@ use Rattle.yaml_printed.proofs.Spelling.{spells_one}
 use Rattle.yaml_printed.proofs.Spelling.{spells_spaces, spells_text, spells_wider}
 use Rattle.yaml_printed.proofs.TagBytes.{tag_short}
 use Rattle.yaml_printed.proofs.TreeEnds.{pair_text}
+use Rattle.yaml_printed.proofs.Words.{or_yes}
 
 -- bytes that are UTF-8 of printable characters and line feeds
 abbrev Lines : List ℕ → Type 0
 Lines xs = Spells is_line_text xs
 
 line_of : (c : ℕ) → scalar c ≡ true → is_printable c ≡ true → is_line_text c ≡ true
-line_of c s h = rw h (or_true (c == 10))
-  where
-    or_true : (x : Bool) → (x || true) ≡ true
-    or_true true = refl
-    or_true false = refl
+line_of c s h = rw h (or_yes (c == 10))
 
 lines_blanks : (b : Bool) (n : ℕ) → Lines (blanks_if b n)
 lines_blanks true n = spells_spaces n refl
