@@ -1,4 +1,4 @@
-//! The law that a printed text stands in the grammar: what `yaml_emit` prints of events are documents with these events.
+//! The law that a printed text stands in the grammar: what `yaml_emit` prints has the events that were written.
 #![tactic(auto)]
 
 ghost use Rattle.std.specs.Prelude.{ℕ, List};
