@@ -22,6 +22,7 @@ pub mod Rests
 pub mod Roots
 pub mod ScalarLines
 pub mod ScalarNodes
+pub mod SimpleFits
 pub mod SingleLines
 pub mod SingleRuns
 pub mod Spelling

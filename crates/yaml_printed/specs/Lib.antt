@@ -1,2 +1,3 @@
 pub mod Examples
 pub mod Printable
+pub mod Simple
