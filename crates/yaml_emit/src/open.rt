@@ -8,14 +8,14 @@ ghost use Rattle.yaml_emit.specs.Places.{blank, margin, root_place};
 use crate::quoted::push_blanks;
 use std::alloc::AllocError;
 
-// What stands before a node in its line.
+/// What stands before a node in its line.
 #[derive(Clone, Copy, PartialEq, Eq)]
-pub(crate) enum Lead {
-    // Nothing but its indentation.
+pub enum Lead {
+    /// Nothing but its indentation.
     Fresh,
-    // `-`, `?` or `:`, behind which a collection may begin in the line.
+    /// `-`, `?` or `:`, behind which a collection may begin in the line.
     Indicator,
-    // Anything else: a key with its `:`, a tag, or `---`.
+    /// Anything else: a key with its `:`, a tag, or `---`.
     Text,
 }
 
@@ -42,9 +42,9 @@ pub(crate) struct Open {
     pub(crate) lead: Lead,
 }
 
-// Where a node stands.
+/// Where a node stands.
 #[derive(Clone, Copy)]
-pub(crate) struct Place {
+pub struct Place {
     pub(crate) lead: Lead,
     // Whether it is a key in a line with its value.
     pub(crate) key: bool,

@@ -6,9 +6,9 @@ ghost use Rattle.yaml_emit.specs.Styles.{chosen_style, plain_or_quotes, quotes_o
 use crate::fit::{fits_block, fits_plain, fits_single_quotes};
 use yaml_base::emitter::AskedStyle;
 
-// How a scalar is printed.
+/// How a scalar is printed.
 #[derive(Clone, Copy, PartialEq, Eq)]
-pub(crate) enum Style {
+pub enum Style {
     Plain,
     SingleQuoted,
     DoubleQuoted,

@@ -8,14 +8,14 @@ ghost use Rattle.yaml_emit.specs.Tags.{printed_tag, tag_len};
 use crate::quoted::push_hex;
 use std::alloc::AllocError;
 
-// How a tag begins.
+/// How a tag begins.
 #[derive(Clone, Copy, PartialEq, Eq)]
-pub(crate) enum Handle {
-    // With `!`: a local tag.
+pub enum Handle {
+    /// With `!`: a local tag.
     Local,
-    // With `!!`, which stands for the prefix of YAML's own tags.
+    /// With `!!`, which stands for the prefix of YAML's own tags.
     Core,
-    // With `!<`, as the whole tag follows.
+    /// With `!<`, as the whole tag follows.
     Verbatim,
 }
 
