@@ -1,14 +1,16 @@
 -- The lines of a text from a place on, and how far in a block stands by them.
-use Rattle.std.proofs.Common.{ℕ, zero, suc, ◌+◌, ◌-◌, ◌<◌, ◌≤◌, ◌≡◌, ◌≢◌, ◌==◌, ◌&&◌, not, max, inl, inr, Bool, true, false, List}
-use Rattle.std.proofs.Common.{[], ◌∷◌, Option, Some, None, refl, sym, subst, ap, ap₂, ◌∙◌, arith, drop, length, slice_range}
+use Rattle.std.proofs.Common.{ℕ, zero, suc, ◌+◌, ◌-◌, ◌<◌, ◌≤◌, ◌≡◌, ◌≢◌, ◌==◌, inl, inr, Bool, true}
+use Rattle.std.proofs.Common.{false, List}
+use Rattle.std.proofs.Common.{[], ◌∷◌, refl, sym, ap, ◌∙◌, arith, drop, length}
+use Rattle.std.proofs.Common.{slice_range}
 use Rattle.std.specs.Prelude.{if◌then◌else◌}
-use Rattle.std.proofs.lemmas.Bool.{cases_eq, cases_lt, eq-eqb, ne_eqb}
-use Rattle.std.proofs.lemmas.List.{drop_all, get_or_past, length-drop, length-take-le}
+use Rattle.std.proofs.lemmas.Bool.{cases_eq, cases_lt, ne_eqb}
+use Rattle.std.proofs.lemmas.List.{drop_all, length-drop, length-take-le}
 use Rattle.yaml_direct.specs.Bytes.{AreBlanks, at}
 use Rattle.yaml_direct.specs.Gaps.{InLine, IsLineEnd}
 use Rattle.yaml_direct.proofs.NextLaws.{bytes_are, bytes_at}
 use Rattle.yaml_direct.proofs.PlainRest.{slice_more, slice_none}
-use Rattle.yaml_grammar.specs.BlockTexts.{found_indent, into_first, is_last, is_spaces, lines_of, spaces}
+use Rattle.yaml_grammar.specs.BlockTexts.{into_first, is_last, lines_of, spaces}
 
 feed_by : (cs : List ℕ) → lines_of (10 ∷ cs) ≡ [] ∷ lines_of cs
 feed_by cs = refl
@@ -26,7 +28,8 @@ first_by text j feed within zero i e line =
 first_by text j feed within (suc n) i e line =
     let rest = lines_of (drop (suc j) text) in
     let inside : i < length text = omega (arith, e, within) in
-    ap lines_of (bytes_at text i inside) ∙ byte_by (at text i) (drop (suc i) text) (line i (omega arith) (omega (arith, e)))
+    ap lines_of (bytes_at text i inside)
+    ∙ byte_by (at text i) (drop (suc i) text) (line i (omega arith) (omega (arith, e)))
     ∙ ap (into_first (at text i))
     (first_by text j feed within n (suc i) (omega (arith, e)) (λ k low high. line k (omega (arith, low)) high))
     ∙ ap (λ s. s ∷ rest) (sym (slice_more text i j (omega (arith, e)) inside))
@@ -44,7 +47,8 @@ last_by text j over zero i e line =
     ∙ ap (λ s. s ∷ []) (sym (ap (λ k. slice_range text k j) same ∙ slice_none text j))
 last_by text j over (suc n) i e line =
     let inside : i < length text = omega (arith, e, over) in
-    ap lines_of (bytes_at text i inside) ∙ byte_by (at text i) (drop (suc i) text) (line i (omega arith) (omega (arith, e)))
+    ap lines_of (bytes_at text i inside)
+    ∙ byte_by (at text i) (drop (suc i) text) (line i (omega arith) (omega (arith, e)))
     ∙ ap (into_first (at text i))
     (last_by text j over n (suc i) (omega (arith, e)) (λ k low high. line k (omega (arith, low)) high))
     ∙ ap (λ s. s ∷ []) (sym (slice_more text i j (omega (arith, e)) inside))
@@ -124,7 +128,8 @@ spaces_by text p j high within space zero i e blank =
 spaces_by text p j high within space (suc n) i e blank =
     ap spaces (slice_more text i j (omega (arith, e, high)) (omega (arith, e, high, within))
     ∙ ap (λ c. c ∷ slice_range text (suc i) j) (blank i (omega arith) (omega (arith, e))))
-    ∙ ap suc (spaces_by text p j high within space n (suc i) (omega (arith, e)) (λ k low to. blank k (omega (arith, low)) to))
+    ∙ ap suc (spaces_by text p j high within space n (suc i) (omega (arith, e)) (λ k low to. blank k (omega
+    (arith, low)) to))
 
 pub line_spaces : (text : List ℕ) (i p j : ℕ) → i ≤ p → p ≤ j → j ≤ length text → AreBlanks text i p → at text p ≢ 32
     → spaces (slice_range text i j) ≡ p - i

@@ -1,6 +1,7 @@
 -- Plain text by columns.
-use Rattle.std.proofs.Common.{ℕ, suc, ◌+◌, ◌-◌, ◌≡◌, ◌≢◌, ◌<◌, ◌≤◌, ◌⊎◌, Bool, true, false, List, [], length, refl, sym, ap}
-use Rattle.std.proofs.Common.{subst, ◌∙◌, arith, drop, inl, inr, nat_le, not, Some}
+use Rattle.std.proofs.Common.{ℕ, suc, ◌-◌, ◌≡◌, ◌≢◌, ◌<◌, ◌≤◌, ◌⊎◌, true, false, List, [], length, refl}
+use Rattle.std.proofs.Common.{sym, ap}
+use Rattle.std.proofs.Common.{◌∙◌, arith, drop, inl, inr, nat_le, not, Some}
 use Rattle.std.proofs.lemmas.Bool.{and_parts, cases_lt, false≢true, not-true, or_left}
 use Rattle.std.proofs.lemmas.List.{drop_all}
 use Rattle.yaml_direct.specs.Bytes as code
@@ -9,7 +10,8 @@ use Rattle.yaml_direct.proofs.FurtherLines.{further_goes, less_stops}
 use Rattle.yaml_direct.proofs.NextLaws.{bytes_at, feed_goes, goes_on, spaces_go}
 use Rattle.yaml_direct.proofs.PlainEnds.{both_stop, line_ends, no_loose, sharp_stop}
 use Rattle.yaml_direct.proofs.PlainRest.{stop_turn}
-use Rattle.yaml_direct.proofs.PlainSays.{SaysSoFar, line_some, none_more, says_cut, says_further, says_whole, whole_said}
+use Rattle.yaml_direct.proofs.PlainSays.{SaysSoFar, line_some, none_more, says_cut, says_further, says_whole}
+use Rattle.yaml_direct.proofs.PlainSays.{whole_said}
 use Rattle.yaml_grammar.specs.Bytes.{at, column, is_over, is_text}
 use Rattle.yaml_grammar.specs.Folding.{Passed, Rest, is_some_passed}
 use Rattle.yaml_grammar.specs.Gaps.{breaks, ends_its_line, is_within, next}
@@ -19,7 +21,8 @@ use Rattle.yaml_grammar.specs.Plain.{by_columns, plain_at, plain_rest}
 feed_ends : (text : List ℕ) (i j : ℕ) → i ≤ j → ((k : ℕ) → i ≤ k → k < j → at text k ≡ 32) → at text j ≡ 10
     → ends_its_line text i ≡ true
 feed_ends text i j low blank feed =
-    or_left (breaks text i) _ (goes_on text i j (suc j) false true (spaces_go text i j low blank) (feed_goes text j feed)).lines
+    or_left (breaks text i) _ (goes_on text i j (suc j) false true (spaces_go text i j low blank)
+    (feed_goes text j feed)).lines
 
 -- where a token stands behind it in its line, or less far in than its lines
 pub says_all : (text : List ℕ) (least from end : ℕ) (said : List ℕ) → is_text text ≡ true

@@ -1,14 +1,13 @@
 -- How far in a block stands by its first line with text.
-use Rattle.std.proofs.Common.{ℕ, suc, ◌+◌, ◌-◌, ◌<◌, ◌≤◌, ◌≡◌, ◌≢◌, ◌==◌, ◌&&◌, not, max, inl, inr, Bool, true, false, List, []}
-use Rattle.std.proofs.Common.{◌∷◌, Option, Some, None, refl, sym, subst, ap, ap₂, ◌∙◌, arith, drop, length, slice_range}
+use Rattle.std.proofs.Common.{ℕ, suc, ◌+◌, ◌-◌, ◌<◌, ◌≤◌, ◌≡◌, ◌≢◌, ◌&&◌, not, max, inl, inr, true}
+use Rattle.std.proofs.Common.{false, List, []}
+use Rattle.std.proofs.Common.{◌∷◌, Option, Some, None, refl, sym, ap, ap₂, ◌∙◌, arith, drop, length, slice_range}
 use Rattle.std.proofs.lemmas.Bool.{and_left, and_right, cases_eq, cases_lt, eq-eqb, ne_eqb}
 use Rattle.std.proofs.lemmas.List.{get_or-drop, get_or-take, get_or_past}
 use Rattle.yaml_direct.specs.Bytes.{AreBlanks, at}
-use Rattle.yaml_direct.specs.Gaps.{InLine, IsLineEnd}
+use Rattle.yaml_direct.specs.Gaps.{IsLineEnd}
 use Rattle.yaml_direct.proofs.BlockLines.{LineOf, first_line, last_line, line_length, line_of, line_spaces, lines_some}
-use Rattle.yaml_direct.proofs.TextLaws.{no_return}
 use Rattle.yaml_grammar.specs.BlockTexts.{found_indent, is_last, is_spaces, lines_of, spaces}
-use Rattle.yaml_grammar.specs.Bytes.{is_text}
 
 empty_by : (w : ℕ) (l : List ℕ) (ls : List (List ℕ)) → is_spaces l ≡ true → is_last ls ≡ false
     → found_indent w (l ∷ ls) ≡ found_indent (max w (length l)) ls
@@ -30,7 +29,8 @@ empty_line text i p w low within blank feed =
     let size = line_length text i p low (omega (arith, within)) in
     let all = line_spaces text i p p low (omega arith) (omega (arith, within)) blank (λ e. omega (arith, e, feed)) in
     let one : suc p ≡ p + 1 = omega arith in
-    ap (found_indent w) (first_line text i p low (omega (arith, within)) (λ k from to e. omega (arith, e, blank k from to)) feed)
+    ap (found_indent w) (first_line text i p low (omega (arith, within)) (λ k from to e. omega
+    (arith, e, blank k from to)) feed)
     ∙ empty_by w line (lines_of (drop (suc p) text)) (eq-eqb (spaces line) (length line) (all ∙ sym size))
     (lines_some (drop (suc p) text))
     ∙ ap₂ (λ n k. found_indent (max w n) (lines_of (drop k text))) size one

@@ -1,17 +1,18 @@
 -- Runs between quotes up to a line feed.
-use Rattle.std.proofs.Common.{ℕ, zero, suc, ◌+◌, ◌-◌, ◌<◌, ◌≤◌, ◌≡◌, ◌≢◌, ◌==◌, ◌||◌, inl, inr, Bool, true, false, List, []}
-use Rattle.std.proofs.Common.{◌∷◌, ◌++◌, refl, sym, subst, ap, ap₂, ◌∙◌, arith, drop, length, take, append_assoc, append-nil}
+use Rattle.std.proofs.Common.{ℕ, zero, suc, ◌+◌, ◌-◌, ◌<◌, ◌≤◌, ◌≡◌, ◌≢◌, inl, inr, true, false}
+use Rattle.std.proofs.Common.{List, []}
+use Rattle.std.proofs.Common.{◌∷◌, ◌++◌, sym, subst, ap, ap₂, ◌∙◌, arith, drop, length, take, append_assoc}
+use Rattle.std.proofs.Common.{append-nil}
 use Rattle.std.proofs.Common.{length-drop, slice_range}
-use Rattle.std.proofs.lemmas.Bool.{cases_Bool, cases_lt, false≢true, ne_eqb, or_cases}
+use Rattle.std.proofs.lemmas.Bool.{cases_Bool, cases_lt}
 use Rattle.std.proofs.lemmas.List.{get_or-drop, get_or-take, length-take-le}
 use Rattle.yaml_direct.specs.Bytes.{at}
-use Rattle.yaml_direct.specs.Quoted.{EndsRun, IsRun, is_end_blank, is_stop, quoted_from, quoted_rest}
+use Rattle.yaml_direct.specs.Quoted.{IsRun, is_end_blank, is_stop, quoted_from, quoted_rest}
 use Rattle.yaml_direct.specs.declared.quote.Quote.{Quote}
 use Rattle.yaml_direct.proofs.NextLaws.{bytes_at, bytes_are}
 use Rattle.yaml_direct.proofs.PlainRest.{slice_more, slice_none}
 use Rattle.yaml_direct.proofs.QuoteLaws.{dark_by, feed_is}
 use Rattle.yaml_direct.proofs.QuoteLines.{one_blank}
-use Rattle.yaml_direct.proofs.QuotePlaces.{run_at}
 use Rattle.yaml_direct.proofs.TextLaws.{no_return}
 use Rattle.yaml_direct.proofs.WithBytes.{no_bytes, twice}
 use Rattle.yaml_grammar.specs.Bytes.{is_blank, is_text}
@@ -87,11 +88,14 @@ own_run : (text : List ℕ) (quote : Quote) (j stop : ℕ) → j ≤ stop → st
     → Runs text quote i j stop
 own_run text quote j stop high within zero i e own dark tail =
     let there : j - 1 ≡ i = omega (arith, e) in
-    dark_last text quote i j stop (omega (arith, e)) high (omega (arith, e, high, within)) (own i (omega arith) (omega (arith, e)))
+    dark_last text quote i j stop (omega (arith, e)) high (omega (arith, e, high, within)) (own i (omega arith)
+    (omega (arith, e)))
     (ap (λ k. is_blank (at text k)) (sym there) ∙ dark) tail
 own_run text quote j stop high within (suc n) i e own dark tail =
-    own_step text quote i j stop (omega (arith, e)) high (omega (arith, e, high, within)) (own i (omega arith) (omega (arith, e)))
-    (own_run text quote j stop high within n (suc i) (omega (arith, e)) (λ k low high. own k (omega (arith, low)) high) dark
+    own_step text quote i j stop (omega (arith, e)) high (omega (arith, e, high, within)) (own i (omega arith)
+    (omega (arith, e)))
+    (own_run text quote j stop high within n (suc i) (omega (arith, e)) (λ k low high. own k (omega
+    (arith, low)) high) dark
     tail)
 
 -- a run up to a line feed, without the blanks at its end
@@ -111,7 +115,8 @@ run_to_feed text quote i j stop low high within run feed blank dark =
           (λ k from to. run k from (omega (arith, to, high))) (dark some) tail []
       | inr over ↦
           let same : j ≡ i = omega (arith, low, over) in
-          subst (λ k. quoted_from text quote k ≡ with_bytes (stop - k) (slice_range text k j) (quoted_from text quote stop))
+          subst (λ k. quoted_from text quote k ≡ with_bytes (stop - k) (slice_range text k j)
+          (quoted_from text quote stop))
           same (tail [] ∙ ap (λ x. with_bytes (stop - j) x (quoted_from text quote stop)) (sym (slice_none text j)))
     ]
 

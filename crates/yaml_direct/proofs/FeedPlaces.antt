@@ -1,10 +1,10 @@
 -- Where a line ends before the next token.
-use Rattle.std.proofs.Common.{ℕ, suc, ◌+◌, ◌-◌, ◌≡◌, ◌<◌, ◌≤◌, ◌==◌, not, Bool, true, false, List, [], ◌∷◌, length, refl, sym}
-use Rattle.std.proofs.Common.{ap, ◌∙◌, arith, inl, inr, drop, nat_eq, slice_range, take, zero}
-use Rattle.std.proofs.lemmas.Bool.{cases_lt, eqb-true, eq-eqb, false≢true}
-use Rattle.std.proofs.lemmas.List.{get_or-drop, get_or-take, get_or_past, length-drop, length-take-le}
+use Rattle.std.proofs.Common.{ℕ, suc, ◌+◌, ◌-◌, ◌≡◌, ◌<◌, ◌≤◌, ◌==◌, not, Bool, true, false, List, [], ◌∷◌, length}
+use Rattle.std.proofs.Common.{refl, sym}
+use Rattle.std.proofs.Common.{ap, ◌∙◌, arith, inl, inr, drop, nat_eq, slice_range}
+use Rattle.std.proofs.lemmas.Bool.{cases_lt, eqb-true, false≢true}
+use Rattle.std.proofs.lemmas.List.{get_or-drop, get_or-take, get_or_past}
 use Rattle.std.proofs.lemmas.List.Folds.{list_any_at}
-use Rattle.yaml_direct.proofs.NextLaws.{bytes_at}
 use Rattle.yaml_grammar.specs.Bytes.{at, is_one_line}
 use Rattle.yaml_grammar.specs.Gaps.{Before, apart, before, breaks, comment, gap, next, token}
 

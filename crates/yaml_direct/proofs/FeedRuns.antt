@@ -1,5 +1,5 @@
 -- Spaces and line feeds, as a reader steps over them.
-use Rattle.std.proofs.Common.{ℕ, zero, suc, ◌+◌, ◌-◌, ◌≡◌, ◌≢◌, ◌<◌, ◌≤◌, true, List, sym, subst, ap, ◌∙◌, arith}
+use Rattle.std.proofs.Common.{ℕ, zero, suc, ◌+◌, ◌-◌, ◌≡◌, ◌≢◌, ◌<◌, ◌≤◌, true, List, sym, subst, arith}
 use Rattle.yaml_direct.specs.Bytes.{AreBlanks, at}
 use Rattle.yaml_direct.specs.Lines.{AreFeeds, a_feed, a_space, no_feed}
 use Rattle.yaml_direct.proofs.TextLaws.{no_return}

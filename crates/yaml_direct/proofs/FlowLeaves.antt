@@ -1,5 +1,6 @@
 -- Plain text over lines in brackets as it was read, or left.
-use Rattle.std.proofs.Common.{ℕ, ◌+◌, ◌-◌, ◌≡◌, ◌≢◌, ◌<◌, ◌≤◌, ◌⊎◌, ◌==◌, ◌&&◌, ◌||◌, not, Bool, true, false, List, length, refl}
+use Rattle.std.proofs.Common.{ℕ, ◌+◌, ◌-◌, ◌≡◌, ◌≢◌, ◌≤◌, ◌⊎◌, ◌==◌, ◌&&◌, not, Bool, true, false, List}
+use Rattle.std.proofs.Common.{length, refl}
 use Rattle.std.proofs.Common.{sym, ap, subst, ◌∙◌, arith, inl, inr, None, Some, codes, drop, nat_le, slice_range}
 use Rattle.std.specs.Prelude.{if◌then◌else◌}
 use Rattle.std.proofs.lemmas.Bool.{and_cases, and_left, and_parts, eqb-true, false≢true, leb-true, ne_eqb}
@@ -72,9 +73,11 @@ over_other text k over =
       | inl past ↦ other_by text k 0 (get_or_past text k 0 (leb-true (length text) k past)) refl refl
       | inr both ↦ elim (or_cases (is_triple 45 (drop k text)) _ (and_parts (column text k == 0) _ both).1) [
         | inl dashes ↦
-            other_by text k 45 (sym (first_of text k) ∙ eqb-true (at (drop k text) 0) 45 (and_parts _ _ dashes).0) refl refl
+            other_by text k 45 (sym (first_of text k)
+            ∙ eqb-true (at (drop k text) 0) 45 (and_parts _ _ dashes).0) refl refl
         | inr dots ↦
-            other_by text k 46 (sym (first_of text k) ∙ eqb-true (at (drop k text) 0) 46 (and_parts _ _ dots).0) refl refl
+            other_by text k 46 (sym (first_of text k)
+            ∙ eqb-true (at (drop k text) 0) 46 (and_parts _ _ dots).0) refl refl
       ]
     ]
 
@@ -141,7 +144,8 @@ pub flow_read : (text : List ℕ) (from end k : ℕ) (said : List ℕ) (broken :
 flow_read text from end k said broken h s over other =
     let loose : is_tight text (next text end) ≡ false =
     subst (λ j. is_tight text j ≡ false) s.there (and_left (at text k == 58) _ (ne_eqb (at text k) 58 other)) in
-    flow_whole text from end said h s.says (later_stops text from end k said broken s over) false (λ _. loose) (λ _. refl)
+    flow_whole text from end said h s.says (later_stops text from end k said broken s over) false (λ _. loose)
+    (λ _. refl)
 
 pub colon_left : (text : List ℕ) (from first second end k : ℕ) (said : List ℕ) (broken : Bool) → is_text text ≡ true
     → IsBrokenLine text from first second → from ≤ first → second ≤ k → FlowSoFar text from end k broken said
@@ -150,7 +154,8 @@ colon_left text from first second end k said broken h b low high s over colon =
     let tight = is_tight text (next text end) in
     let whole : breaks text end ≡ false = elim (and_cases broken _ over) [
       | inl line ↦ sym s.lines ∙ line
-      | inr bracket ↦ absurd (false≢true (sym (colon_is (at text k) colon) ∙ not-false (code.is_bracket (at text k)) bracket))
+      | inr bracket ↦ absurd (false≢true (sym (colon_is (at text k) colon)
+          ∙ not-false (code.is_bracket (at text k)) bracket))
     ] in
     left_by text from first second end said tight b low s.says.low (omega (arith, high, s.there))
     (flow_whole text from end said h s.says (λ broken. absurd (false≢true (sym whole ∙ broken))) tight (λ _. refl)

@@ -1,6 +1,7 @@
 -- Plain text in brackets.
 use Rattle.std.proofs.Common.{ℕ, suc, ◌+◌, ◌-◌, ◌≡◌, ◌≢◌, ◌<◌, ◌≤◌, ◌⊎◌, ◌==◌, ◌&&◌, ◌||◌, not, Bool, true, false, List}
-use Rattle.std.proofs.Common.{[], ◌∷◌, length, refl, sym, ap, subst, ◌∙◌, arith, drop, inl, inr, None, Some, slice_range}
+use Rattle.std.proofs.Common.{[], length, refl, sym, ap, subst, ◌∙◌, arith, drop, inl, inr, None, Some}
+use Rattle.std.proofs.Common.{slice_range}
 use Rattle.std.specs.Prelude.{if◌then◌else◌}
 use Rattle.std.proofs.lemmas.Bool.{and_left, and_parts, cases_Bool, cases_eq, cases_lt, eq-eqb, eqb-true}
 use Rattle.std.proofs.lemmas.Bool.{false≢true, ne_eqb, not-true, or_left, or_right}
@@ -8,17 +9,18 @@ use Rattle.std.proofs.lemmas.List.{drop_all, get_or_past}
 use Rattle.yaml_direct.specs.Bytes as code
 use Rattle.yaml_direct.specs.Lines.{PlainLine}
 use Rattle.yaml_direct.specs.PlainTexts.{HasNoLine, IsFirstLine, IsFurtherLine, flow_line, is_tight}
-use Rattle.yaml_direct.proofs.FurtherLines.{further_goes, over_stops}
+use Rattle.yaml_direct.proofs.FurtherLines.{further_goes}
 use Rattle.yaml_direct.proofs.KeyLaws.{comment_over}
 use Rattle.yaml_direct.proofs.NextLaws.{before_apart, bytes_at, feed_goes, spaces_go, token_here}
 use Rattle.yaml_direct.proofs.PlainEnds.{both_stop, line_stops, sharp_behind, sharp_stop, stop_space, stops_later}
 use Rattle.yaml_direct.proofs.PlainEnds.{feed_stop}
 use Rattle.yaml_direct.proofs.PlainRest.{at_first, refused_turn, stop_turn}
-use Rattle.yaml_direct.proofs.PlainSays.{SaysSoFar, line_some, none_more, says_cut, says_first, says_further, says_with, whole_said}
+use Rattle.yaml_direct.proofs.PlainSays.{SaysSoFar, line_some, none_more, says_cut, says_first, says_further}
+use Rattle.yaml_direct.proofs.PlainSays.{says_with, whole_said}
 use Rattle.yaml_direct.proofs.TextLaws.{bracket_same, gap_same}
-use Rattle.yaml_grammar.specs.Bytes.{at, column, is_bracket, is_gap, is_over, is_text, parts}
+use Rattle.yaml_grammar.specs.Bytes.{at, is_bracket, is_gap, is_over, is_text}
 use Rattle.yaml_grammar.specs.Folding.{Passed, Rest, blanks, has_feed, is_some_passed, nothing_passed, with_bytes}
-use Rattle.yaml_grammar.specs.Gaps.{breaks, ends_its_line, next}
+use Rattle.yaml_grammar.specs.Gaps.{breaks, next}
 use Rattle.yaml_grammar.specs.Plain.{begins_plain, in_brackets, is_refused, plain_at, plain_rest, stops_plain}
 
 -- what is said where plain text stops, before a `:` that stands before no gap or before another byte
@@ -44,7 +46,8 @@ tight_mark : (text : List ℕ) (i : ℕ) → is_text text ≡ true → code.stop
     → is_gap (at text (i + 1)) ≡ false → (is_bracket (at text (i + 1)) || at text (i + 1) == 63) ≡ true
 tight_mark text i h stops e gap =
     let d = at text (i + 1) in
-    let all : ((code.is_gap text (i + 1) || (d == 63 || code.is_bracket d)) || (false || false)) ≡ true = rw e at stops in
+    let all : ((code.is_gap text (i + 1) || (d == 63 || code.is_bracket d)) ||
+    (false || false)) ≡ true = rw e at stops in
     marked (code.is_gap text (i + 1)) (d == 63) (code.is_bracket d) (is_bracket d) (gap_same text (i + 1) h ∙ gap)
     (bracket_same d) all
   where
@@ -113,7 +116,8 @@ same_tight text i space whole behind =
       | inl sharp ↦
           let near = before_apart text i (apart_by (i == 0) (at text (i - 1)) (behind sharp)) in
           let over = comment_over text i sharp near whole in
-          let here : is_tight text i ≡ false = and_left (at text i == 58) _ (ne_eqb (at text i) 58 (λ e. omega (arith, e, sharp))) in
+          let here : is_tight text i ≡ false = and_left (at text i == 58) _ (ne_eqb (at text i) 58 (λ e. omega
+          (arith, e, sharp))) in
           let none : is_tight text (next text i) ≡ false =
           and_left (at text (next text i) == 58) _ (rw (get_or_past text (next text i) 0 over) refl) in
           here ∙ sym none
@@ -126,7 +130,8 @@ same_tight text i space whole behind =
 -- behind a line of it, where a token stands in the line
 pub flow_ends : (text : List ℕ) (i j : ℕ) → is_text text ≡ true → (l : PlainLine text true i j) → i < j
     → breaks text j ≡ false → (col : ℕ)
-    → ◌≡◌ {A = Rest} (plain_rest in_brackets col 0 nothing_passed (drop j text)) (stop_rest (is_tight text (next text j)))
+    → ◌≡◌ {A = Rest} (plain_rest in_brackets col 0 nothing_passed (drop j text)) (stop_rest (is_tight text
+    (next text j)))
 flow_ends text i j h l some whole col =
     let goes = spaces_go text j l.stop l.forward l.blanks in
     let space = stop_space text true l.stop l.stops in
@@ -153,7 +158,8 @@ flow_broken text i j h l some broken later col =
         | inr token ↦
             absurd (false≢true (sym (token_here text l.stop other space token).lines ∙ (sym goes.lines ∙ broken)))
         | inl comment ↦ flow_stop text l.stop c s (blanks bs) h space other (inr l.stops) sharp
-            ∙ ap stop_rest (and_left (at text l.stop == 58) _ (ne_eqb (at text l.stop) 58 (λ e. omega (arith, e, comment))))
+            ∙ ap stop_rest (and_left (at text l.stop == 58) _ (ne_eqb (at text l.stop) 58 (λ e. omega
+            (arith, e, comment))))
       ]
     ])
     col
@@ -199,7 +205,8 @@ pub flow_further : (text : List ℕ) (from end k stop : ℕ) (said more : List �
 flow_further text from end k stop said more h s there broken over f low inside =
     let some = line_some text true k stop f.line low f.goes f.some in
     says_further in_brackets text from end k stop said more h s there (or_left (breaks text end) _ broken) f low inside
-    (λ n sharp. further_goes in_brackets text true k n h refl f.goes f.some sharp refl over (omega (arith, some, inside)))
+    (λ n sharp. further_goes in_brackets text true k n h refl f.goes f.some sharp refl over (omega
+    (arith, some, inside)))
 
 -- a bracket stops it
 pub bracket_stops : (text : List ℕ) (k : ℕ) → is_bracket (at text k) ≡ true → stops_later in_brackets text k ≡ true

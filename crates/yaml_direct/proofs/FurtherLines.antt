@@ -1,10 +1,10 @@
 -- Plain text that goes on in later lines.
 use Rattle.std.proofs.Common.{ℕ, suc, ◌+◌, ◌-◌, ◌≡◌, ◌≢◌, ◌<◌, ◌≤◌, ◌==◌, ◌&&◌, ◌||◌, not, Bool, true, false}
-use Rattle.std.proofs.Common.{List, [], ◌∷◌, ◌++◌, length, refl, sym, subst, ap, ap₂, ◌∙◌, arith, inl, inr, drop, nat_le}
+use Rattle.std.proofs.Common.{List, [], ◌∷◌, ◌++◌, length, sym, subst, ap, ap₂, ◌∙◌, arith, inl, inr, drop, nat_le}
 use Rattle.std.proofs.Common.{nat_lt}
 use Rattle.std.specs.Prelude.{slice_range}
-use Rattle.std.proofs.lemmas.Bool.{and_cases, and_left, and_parts, cases_eq, cases_lt, eq-eqb}
-use Rattle.std.proofs.lemmas.Bool.{false≢true, leb-true, lt-ltb, ne_eqb, not-false, not-true, or_cases, or_from}
+use Rattle.std.proofs.lemmas.Bool.{and_cases, and_left, cases_eq, cases_lt, eq-eqb}
+use Rattle.std.proofs.lemmas.Bool.{false≢true, leb-true, lt-ltb, ne_eqb, not-false, or_cases, or_from}
 use Rattle.std.proofs.lemmas.Bool.{or_left, or_parts, or_right}
 use Rattle.std.proofs.lemmas.List.{append_assoc}
 use Rattle.yaml_direct.specs.Bytes as code

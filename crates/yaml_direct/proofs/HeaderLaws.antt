@@ -1,6 +1,7 @@
 -- The rest of a block's first line, behind its sign and its digit.
-use Rattle.std.proofs.Common.{ℕ, zero, suc, ◌+◌, ◌-◌, ◌<◌, ◌≤◌, ◌≡◌, ◌≢◌, ◌⊎◌, ◌==◌, ◌&&◌, ◌||◌, inl, inr, Bool, true, false, List}
-use Rattle.std.proofs.Common.{[], ◌∷◌, refl, sym, subst, ap, ◌∙◌, arith, drop, length, slice_range}
+use Rattle.std.proofs.Common.{ℕ, zero, suc, ◌+◌, ◌-◌, ◌<◌, ◌≤◌, ◌≡◌, ◌≢◌, ◌⊎◌, ◌==◌, ◌||◌, inl, inr, Bool}
+use Rattle.std.proofs.Common.{true, false, List}
+use Rattle.std.proofs.Common.{◌∷◌, refl, sym, subst, ap, ◌∙◌, arith, length, slice_range}
 use Rattle.std.proofs.lemmas.Bool.{and_left, cases_lt, eq-eqb, ne_eqb, or_right}
 use Rattle.std.proofs.lemmas.List.{get_or_past}
 use Rattle.yaml_direct.specs.Bytes.{AreBlanks, at}
@@ -25,7 +26,8 @@ spaces_by text p j high within zero i e blank =
     ∙ ap (λ k. is_remark (slice_range text k j) || at (slice_range text k j) 0 == 35) there
 spaces_by text p j high within (suc n) i e blank =
     let later = suc i in
-    let more = spaces_by text p j high within n later (omega (arith, e)) (λ k low to. blank k (omega (arith, low)) to) in
+    let more = spaces_by text p j high within n later (omega (arith, e)) (λ k low to. blank k (omega
+    (arith, low)) to) in
     let space : at (slice_range text later j) 0 ≡ 32 =
     ap (λ s. at s 0) (slice_more text later j (omega (arith, e, high)) (omega (arith, e, high, within)))
     ∙ blank later (omega arith) (omega (arith, e)) in

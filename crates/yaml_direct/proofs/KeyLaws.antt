@@ -1,5 +1,5 @@
 -- Whether the `:` of a key stands behind a place.
-use Rattle.std.proofs.Common.{ℕ, suc, ◌+◌, ◌-◌, ◌≡◌, ◌≢◌, ◌<◌, ◌≤◌, ◌⊎◌, ◌==◌, ◌&&◌, ◌||◌, not, Bool, true, false, List, []}
+use Rattle.std.proofs.Common.{ℕ, suc, ◌+◌, ◌-◌, ◌≡◌, ◌≢◌, ◌≤◌, ◌⊎◌, ◌==◌, ◌&&◌, ◌||◌, not, Bool, true, false, List, []}
 use Rattle.std.proofs.Common.{◌∷◌, length, refl, sym, ap, ◌∙◌, arith, inl, inr, drop}
 use Rattle.std.proofs.lemmas.Bool.{and_left, and_right, cases_Bool, cases_eq, false≢true, ne_eqb}
 use Rattle.std.proofs.lemmas.List.{get_or_past, length-drop}
@@ -38,7 +38,8 @@ comment_line (c ∷ cs) = comment_step c cs (c == 10) refl (comment_line cs)
 pub comment_over : (text : List ℕ) (j : ℕ) → at text j ≡ 35 → before text j ≡ apart → breaks text j ≡ false
     → length text ≤ next text j
 comment_over text j sharp near whole =
-    let turn = ap (gap (before text j)) (bytes_are text j 34 sharp) ∙ sharp_turn (before text j) (drop (suc j) text) near in
+    let turn = ap (gap (before text j)) (bytes_are text j 34 sharp)
+    ∙ sharp_turn (before text j) (drop (suc j) text) near in
     elim (comment_line (drop (suc j) text)) [
       | inl broken ↦ absurd (false≢true (sym whole ∙ ap (λ r. r.1) turn ∙ broken))
       | inr all ↦

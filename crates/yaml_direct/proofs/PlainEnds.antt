@@ -1,5 +1,5 @@
 -- Where a plain text ends, and where it goes on in a later line.
-use Rattle.std.proofs.Common.{ℕ, zero, suc, ◌+◌, ◌-◌, ◌≡◌, ◌≢◌, ◌<◌, ◌≤◌, ◌⊎◌, ◌==◌, ◌&&◌, ◌||◌, not, Bool, true, false}
+use Rattle.std.proofs.Common.{ℕ, zero, suc, ◌+◌, ◌-◌, ◌≡◌, ◌≢◌, ◌<◌, ◌≤◌, ◌⊎◌, ◌==◌, ◌&&◌, ◌||◌, Bool, true, false}
 use Rattle.std.proofs.Common.{List, [], ◌∷◌, ◌++◌, length, refl, sym, subst, ap, ap₂, ◌∙◌, arith, inl, inr, drop}
 use Rattle.std.proofs.Common.{None, Some}
 use Rattle.std.proofs.lemmas.Bool.{and_from, and_parts, cases_eq, cases_lt}
@@ -9,7 +9,7 @@ use Rattle.std.specs.Prelude.{slice_range}
 use Rattle.std.specs.Prelude.{if◌then◌else◌}
 use Rattle.yaml_direct.specs.Bytes as code
 use Rattle.yaml_direct.proofs.ColumnLaws.{feed_column, space_column}
-use Rattle.yaml_direct.proofs.NextLaws.{bytes_at, feed_goes, goes_on, space_goes, spaces_go, token_here}
+use Rattle.yaml_direct.proofs.NextLaws.{bytes_at, feed_goes, space_goes, spaces_go, token_here}
 use Rattle.yaml_direct.specs.Lines.{PlainLine}
 use Rattle.yaml_direct.proofs.PlainLaws.{blank_goes_on}
 use Rattle.yaml_direct.proofs.PlainRest.{at_first, behind_blank, line_said, stop_turn}
@@ -66,7 +66,8 @@ fed_stop context text i s m space feed stops =
 pub sharp_stop : (context : Context) (p : Passed) (col c : ℕ) (cs : List ℕ) → c ≡ 35 → is_some_passed p ≡ true
     → stops_plain context col p c cs ≡ true
 sharp_stop context p col c cs e some =
-    or_right (is_gap c) _ (or_right (c == 58 && is_gap (at cs 0)) _ (or_left (c == 35 && is_some_passed p) _ (rw (e, some) refl)))
+    or_right (is_gap c) _ (or_right (c == 58 && is_gap (at cs 0)) _ (or_left (c == 35 && is_some_passed p) _ (rw
+    (e, some) refl)))
 
 pub sharp_stops : (context : Context) (text : List ℕ) (i : ℕ) → at text i ≡ 35 → stops_later context text i ≡ true
 sharp_stops context text i e = sharp_stop context (feeds 1) (column text i) (at text i) (drop (suc i) text) e refl
@@ -233,7 +234,8 @@ line_stops context text flow i j r l some says col =
           let within : j + (l.stop - j) ≤ length text = omega (arith, there, blank, inside_by text (l.stop - 1) 31 last) in
           over_blanks context text (λ _. r) (l.stop - j) j [] within
           (λ k low high. l.blanks k low (omega (arith, high, there)))
-          (λ bs c s passed. ap (λ k. plain_rest context c s (blanks bs) (drop k text)) there ∙ says bs c s (λ _. passed))
+          (λ bs c s passed. ap (λ k. plain_rest context c s (blanks bs) (drop k text)) there
+          ∙ says bs c s (λ _. passed))
           col 0 (inr (omega (arith, blank)))
     ]
 
@@ -264,7 +266,8 @@ key_said text i j h l some within begins =
     let goes : (k : ℕ) → i ≤ k → k < j → code.stops_plain text false k ≡ false =
     λ k low high. l.goes_on k low (omega (arith, high, l.forward)) in
     let all = line_said as_key text false h refl j (Some (0, []))
-    (line_ends as_key text i j h l refl some (λ _. later_key text (next text j))) (l.last some) within (j - suc i) i size goes
+    (line_ends as_key text i j h l refl some (λ _. later_key text (next text j))) (l.last some) within
+    (j - suc i) i size goes
     0 [] (column text i) (λ e. absurd (false≢true e)) in
     ap (λ x. if x then plain_rest as_key (column text i) 0 nothing_passed (drop i text) else None) begins
     ∙ all ∙ said_once (j - i) (suc (j - suc i)) (slice_range text i j) count

@@ -115,7 +115,8 @@ plain_added old mid new least from end k to said h s less tape same start kept t
       low = s.says.low;
       read = says_all text least from end said h s.says (inr none);
       added = adds_scalar_from old mid new said style.Plain end tape same start added;
-      behind = subst (λ j. IsBehindLine text new end j) (sym there) (behind_kept text mid new end k kept.0 kept.1.0 s.behind);
+      behind = subst (λ j. IsBehindLine text new end j) (sym there)
+          (behind_kept text mid new end k kept.0 kept.1.0 s.behind);
       ends = ends_both (ends_its_line text end) (is_within text least (next text end)) s.behind.ends none;
     }
 

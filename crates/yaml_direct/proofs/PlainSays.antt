@@ -1,9 +1,9 @@
 -- What a plain text by columns says, line by line.
-use Rattle.std.proofs.Common.{ℕ, suc, ◌+◌, ◌-◌, ◌≡◌, ◌≢◌, ◌<◌, ◌≤◌, ◌⊎◌, ◌==◌, ◌||◌, not, Bool, true, false}
+use Rattle.std.proofs.Common.{ℕ, suc, ◌+◌, ◌-◌, ◌≡◌, ◌≢◌, ◌<◌, ◌≤◌, ◌⊎◌, ◌==◌, ◌||◌, Bool, true, false}
 use Rattle.std.proofs.Common.{List, [], ◌++◌, length, refl, sym, subst, ap, ap₂, ◌∙◌, arith, inl, inr, drop}
 use Rattle.std.proofs.Common.{None, Some, nat_lt}
 use Rattle.std.specs.Prelude.{slice_range}
-use Rattle.std.proofs.lemmas.Bool.{cases_Bool, cases_eq, cases_lt, false≢true, ltb-true, or_cases, or_left}
+use Rattle.std.proofs.lemmas.Bool.{cases_Bool, cases_eq, cases_lt, false≢true, ltb-true, or_cases}
 use Rattle.std.proofs.lemmas.Bool.{leb-true}
 use Rattle.std.proofs.lemmas.List.{append-nil}
 use Rattle.std.specs.Prelude.{if◌then◌else◌}
@@ -11,15 +11,15 @@ use Rattle.yaml_direct.specs.Bytes as code
 use Rattle.yaml_direct.specs.Lines.{PlainLine}
 use Rattle.yaml_direct.specs.PlainTexts.{HasNoLine, IsFirstLine, IsFurtherLine}
 use Rattle.yaml_direct.proofs.FurtherLines.{Behind, feeds_blank, feeds_first, feeds_forward, feeds_go, further_line}
-use Rattle.yaml_direct.proofs.FurtherLines.{less_stops, line_whole, next_no_sharp}
-use Rattle.yaml_direct.proofs.NextLaws.{before_apart, before_token, feed_goes, goes_on, sharp_here, sharp_moves}
-use Rattle.yaml_direct.proofs.NextLaws.{spaces_go, token_here}
-use Rattle.yaml_direct.proofs.PlainEnds.{fed_stop, key_said, line_ends, line_stops, sharp_stops, stop_space}
+use Rattle.yaml_direct.proofs.FurtherLines.{line_whole, next_no_sharp}
+use Rattle.yaml_direct.proofs.NextLaws.{before_apart, before_token, sharp_here, sharp_moves}
+use Rattle.yaml_direct.proofs.NextLaws.{token_here}
+use Rattle.yaml_direct.proofs.PlainEnds.{key_said, line_stops, stop_space}
 use Rattle.yaml_direct.proofs.PlainRest.{twice}
 use Rattle.yaml_grammar.specs.Bytes.{at, column, is_text}
 use Rattle.yaml_grammar.specs.Folding.{Passed, Rest, blanks, feeds, folded, is_some_passed, nothing_passed, with_bytes}
-use Rattle.yaml_grammar.specs.Gaps.{breaks, ends_its_line, is_within, next}
-use Rattle.yaml_grammar.specs.Plain.{Context, as_key, begins_plain, by_columns, is_flow, plain_at, plain_rest}
+use Rattle.yaml_grammar.specs.Gaps.{breaks, ends_its_line, next}
+use Rattle.yaml_grammar.specs.Plain.{Context, as_key, begins_plain, is_flow, plain_at, plain_rest}
 use Rattle.yaml_grammar.specs.Plain.{stops_plain}
 
 -- plain text that goes on as far as this line of it says this
@@ -97,7 +97,8 @@ says_cut context text from end said r h s n over =
     let f = n.feeds in
     let goes = feeds_go text n.count end n.stop f.feeds in
     let low = feeds_forward text n.count end n.stop f.feeds in
-    let stops : (at text n.stop ≡ 35) ⊎ (code.stops_plain text flow n.stop ≡ true) = elim (cases_eq (at text n.stop) 35) [
+    let stops : (at text n.stop ≡ 35)
+    ⊎ (code.stops_plain text flow n.stop ≡ true) = elim (cases_eq (at text n.stop) 35) [
       | inl sharp ↦ inl sharp
       | inr token ↦
           let here = token_here text n.stop f.no_feed f.no_space token in
@@ -169,7 +170,8 @@ says_further context text from end k stop said more h s there ends f low inside 
       line = f.line;
       some = some;
       front = λ r tail. s.front (with_bytes (stop - end) (folded f.count ++ slice_range text k stop) r)
-          (further_line context text flow end k stop f.count r h refl f.feeds counted f.some (stays f.count sharp) f.goes
+          (further_line context text flow end k stop f.count r h refl f.feeds counted f.some
+          (stays f.count sharp) f.goes
           f.line some inside tail)
           ∙ twice (end - from) (stop - end) said (folded f.count ++ slice_range text k stop) r
           ∙ ap₂ (λ n x. with_bytes n x r) size (sym f.said);
@@ -182,5 +184,6 @@ pub key_by : (text : List ℕ) (flow : Bool) (i j : ℕ) → is_text text ≡ tr
     → ◌≡◌ {A = Rest} (plain_at text as_key i) (Some (j - i, slice_range text i j))
 key_by text flow i j h l low within goes space f begins =
     let line = subst (λ x. PlainLine text x i j) f l in
-    key_said text i j h line (line_some text false i j line low (subst (λ x. code.stops_plain text x i ≡ false) f goes) space)
+    key_said text i j h line (line_some text false i j line low (subst
+    (λ x. code.stops_plain text x i ≡ false) f goes) space)
     within begins

@@ -1,7 +1,8 @@
 -- Line feeds that a backslash takes away, and the ends of what stands between quotes.
-use Rattle.std.proofs.Common.{ℕ, suc, ◌+◌, ◌-◌, ◌<◌, ◌≤◌, ◌≡◌, ◌≢◌, ◌==◌, ◌&&◌, ◌||◌, not, inl, inr, Bool, true, false}
-use Rattle.std.proofs.Common.{List, [], ◌∷◌, ◌++◌, Some, None, refl, sym, subst, ap, ap₂, ◌∙◌, append-nil, arith, drop, length}
-use Rattle.std.proofs.lemmas.Bool.{and_cases, cases_eq, eq-eqb, eqb-true, false≢true, not-false, or_cases, or_left, or_right}
+use Rattle.std.proofs.Common.{ℕ, suc, ◌+◌, ◌-◌, ◌≤◌, ◌≡◌, ◌≢◌, ◌==◌, ◌&&◌, ◌||◌, not, inl, inr, Bool, true, false}
+use Rattle.std.proofs.Common.{List, [], ◌++◌, Some, None, refl, sym, subst, ap, ap₂, ◌∙◌, append-nil, arith}
+use Rattle.std.proofs.Common.{drop, length}
+use Rattle.std.proofs.lemmas.Bool.{eqb-true, false≢true, or_cases}
 use Rattle.std.proofs.lemmas.List.{drop_all, get_or_past}
 use Rattle.yaml_base.specs.QuotedLines.{backslash, none}
 use Rattle.yaml_direct.specs.Bytes.{at}
@@ -88,7 +89,8 @@ escaped_parted text quote i feed h ends slash there is e =
     let next : feed + 1 ≡ i + 2 = omega (arith, same) in
     subst (λ q. ◌≡◌ {A = Rest} (quoted_from text q i) None) (slash_double text quote i ends slash)
     (taken_away text i slash (ap (at text) (sym same) ∙ is)
-    ∙ ap (with_bytes 2 []) (line_parted text Double (escaped 0) (i + 2) (subst (λ n. parts (drop n text) ≡ true) next e)))
+    ∙ ap (with_bytes 2 []) (line_parted text Double (escaped 0) (i + 2) (subst (λ n. parts
+    (drop n text) ≡ true) next e)))
 
 -- behind the text nothing is closed
 pub over_unread : (text : List ℕ) (quote : Quote) (i : ℕ) → length text ≤ i

@@ -1,25 +1,22 @@
 -- What stands between quotes over lines.
-use Rattle.std.proofs.Common.{ℕ, zero, suc, ◌+◌, ◌-◌, ◌<◌, ◌≤◌, ◌≡◌, ◌≢◌, ◌==◌, ◌&&◌, ◌||◌, not, inl, inr, Bool, true, false}
-use Rattle.std.proofs.Common.{List, [], ◌∷◌, ◌++◌, Some, None, refl, sym, subst, ap, ap₂, ◌∙◌, arith, drop, length, take}
-use Rattle.std.proofs.Common.{append_assoc, append-nil, replicate, slice_range}
-use Rattle.std.proofs.lemmas.Bool.{and_cases, and_parts, cases_Bool, cases_eq, cases_lt, eqb-true, false≢true, ne_eqb, or_cases}
-use Rattle.std.proofs.lemmas.Bool.{not-false, or_parts}
-use Rattle.std.proofs.lemmas.List.{drop_all, get_or-drop, get_or_past}
-use Rattle.yaml_base.specs.QuotedLines.{backslash, none}
+use Rattle.std.proofs.Common.{ℕ, zero, suc, ◌+◌, ◌-◌, ◌<◌, ◌≤◌, ◌≡◌, ◌≢◌, inl, inr}
+use Rattle.std.proofs.Common.{true, false}
+use Rattle.std.proofs.Common.{List, [], ◌∷◌, ◌++◌, None, refl, sym, subst, ap, ap₂, ◌∙◌, arith, drop, length}
+use Rattle.std.proofs.Common.{replicate}
+use Rattle.std.proofs.lemmas.Bool.{cases_lt, false≢true}
+use Rattle.std.proofs.lemmas.Bool.{ne_eqb}
+use Rattle.std.proofs.lemmas.List.{get_or-drop, get_or_past}
 use Rattle.yaml_direct.specs.Bytes.{at}
 use Rattle.yaml_direct.specs.Quoted.{IsLineBegin, Unquotes, UnquotesBehind, is_stop, said_break}
-use Rattle.yaml_direct.specs.Quoted.{passed_by, quote_of, quoted_from, quoted_rest}
+use Rattle.yaml_direct.specs.Quoted.{passed_by, quoted_from, quoted_rest}
 use Rattle.yaml_direct.specs.declared.quote.Quote.{Quote}
 use Rattle.yaml_direct.specs.declared.quote.Quote.TheVariants.{Single, Double}
 use Rattle.yaml_direct.proofs.NextLaws.{bytes_at, bytes_are}
-use Rattle.yaml_direct.proofs.PlainRest.{slice_more, slice_none}
-use Rattle.yaml_direct.proofs.QuoteLaws.{blank_by, dark_by, feed_is, flush}
-use Rattle.yaml_direct.proofs.TextLaws.{no_return}
+use Rattle.yaml_direct.proofs.QuoteLaws.{blank_by, feed_is, flush}
 use Rattle.yaml_direct.proofs.WithBytes.{no_bytes, twice}
-use Rattle.yaml_grammar.specs.Bytes.{is_blank, is_text, parts}
+use Rattle.yaml_grammar.specs.Bytes.{is_blank, parts}
 use Rattle.yaml_grammar.specs.Folding.{Passed, Rest, and_blank, and_feed, blanks, escaped, feeds, folded, has_feed}
 use Rattle.yaml_grammar.specs.Folding.{nothing_passed, said_by, with_bytes}
-use Rattle.yaml_grammar.specs.Quotes.{double_rest, single_rest}
 
 -- where a line begins, documents may be parted
 begins_by : (quote : Quote) (passed : Passed) (cs : List ℕ) → parts cs ≡ false
@@ -66,7 +63,8 @@ one_blank text quote passed i e =
 
 fed_blanks : (text : List ℕ) (quote : Quote) (passed : Passed) → has_feed passed ≡ true → (n i : ℕ)
     → ((k : ℕ) → i ≤ k → k < i + n → is_blank (at text k) ≡ true)
-    → quoted_rest quote false passed (drop i text) ≡ with_bytes n [] (quoted_rest quote false passed (drop (i + n) text))
+    → quoted_rest quote false passed (drop i text) ≡ with_bytes n [] (quoted_rest quote false passed (drop
+    (i + n) text))
 fed_blanks text quote passed f zero i blank =
     let same : i ≡ i + 0 = omega arith in
     ap (λ k. quoted_rest quote false passed (drop k text)) same

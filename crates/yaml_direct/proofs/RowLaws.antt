@@ -1,16 +1,15 @@
 -- The lines of a block of text, one by one.
-use Rattle.std.proofs.Common.{ℕ, zero, suc, ◌+◌, ◌-◌, ◌<◌, ◌≤◌, ◌≡◌, ◌≢◌, ◌⊎◌, ◌==◌, ◌&&◌, ◌||◌, not, inl, inr, Bool, true, false}
-use Rattle.std.proofs.Common.{List, [], ◌∷◌, ◌++◌, refl, sym, subst, ap, ap₂, ◌∙◌, arith, drop, length, append_assoc, slice_range}
-use Rattle.std.proofs.Common.{nat_le, nat_lt, take}
-use Rattle.std.proofs.lemmas.Bool.{and_left, and_right, cases_eq, cases_lt, eq-eqb, le-leb, le-ltb, lt-leb, lt-ltb, ne_eqb, or_left, or_right}
-use Rattle.std.proofs.lemmas.List.{drop-drop, drop-take, get_or-drop}
+use Rattle.std.proofs.Common.{ℕ, suc, ◌+◌, ◌-◌, ◌<◌, ◌≤◌, ◌≡◌, Bool}
+use Rattle.std.proofs.Common.{true, false}
+use Rattle.std.proofs.Common.{List, [], ◌∷◌, ◌++◌, refl, sym, ap, ap₂, ◌∙◌, arith, drop, length, append_assoc}
+use Rattle.std.proofs.Common.{slice_range}
+use Rattle.std.proofs.Common.{nat_le}
+use Rattle.std.proofs.lemmas.Bool.{eq-eqb, le-leb}
 use Rattle.yaml_direct.specs.BlockRows.{AreEmpty, IsIndented, rows_behind, rows_from}
 use Rattle.yaml_direct.specs.Bytes.{AreBlanks, at}
-use Rattle.yaml_direct.specs.Gaps.{InLine, IsLineEnd}
-use Rattle.yaml_direct.proofs.BlockLines.{LineOf, first_line, last_line, line_length, line_of, line_spaces, lines_some}
-use Rattle.yaml_direct.proofs.DetectLaws.{Lines, lines_at, not_spaces, spaces_within}
-use Rattle.yaml_direct.proofs.PlainRest.{slice_more}
-use Rattle.yaml_grammar.specs.BlockTexts.{Chomping, Row, chomped, is_last, is_spaces, joined, lines_of, row_of, rows, spaces}
+use Rattle.yaml_direct.proofs.BlockLines.{first_line, line_length, line_spaces, lines_some}
+use Rattle.yaml_grammar.specs.BlockTexts.{Chomping, Row, is_last, is_spaces, lines_of, rows}
+use Rattle.yaml_grammar.specs.BlockTexts.{spaces}
 
 pub rows_twice : (a b : ℕ) (x y : List ℕ) (r : ℕ × List ℕ)
     → rows_behind a x (rows_behind b y r) ≡ rows_behind (a + b) (x ++ y) r
@@ -69,7 +68,8 @@ empty_more text indent count i j p e d within feed = record {
       let sum : empty + count + 1 ≡ empty + (count + 1) = omega arith in
       let size : j - i + (p + 1 - j) ≡ p + 1 - i = omega (arith, e.forward, d.forward) in
       e.rows folds ch last empty
-      ∙ ap (rows_behind (j - i) []) (empty_row text indent j p folds ch last (empty + count) d.forward within d.blanks d.few feed
+      ∙ ap (rows_behind (j - i) []) (empty_row text indent j p folds ch last
+      (empty + count) d.forward within d.blanks d.few feed
       ∙ ap (λ n. rows_behind (p + 1 - j) [] (rows_from text folds ch indent last n (p + 1))) sum)
       ∙ rows_twice (j - i) (p + 1 - j) [] [] rest
       ∙ ap (λ n. rows_behind n [] rest) size;

@@ -1,10 +1,13 @@
 -- The lines of a block, as a reader puts them behind a text.
-use Rattle.std.proofs.Common.{ℕ, zero, suc, ◌+◌, ◌-◌, ◌<◌, ◌≤◌, ◌≡◌, ◌≢◌, ◌⊎◌, ◌==◌, ◌&&◌, ◌||◌, not, min, Bool, true, false, inl, inr}
-use Rattle.std.proofs.Common.{List, [], ◌∷◌, ◌++◌, refl, sym, subst, ap, ap₂, ◌∙◌, append-nil, append_assoc, arith, drop, length}
+use Rattle.std.proofs.Common.{ℕ, zero, suc, ◌+◌, ◌-◌, ◌<◌, ◌≤◌, ◌≡◌, ◌≢◌, ◌⊎◌, ◌&&◌, not, min, Bool}
+use Rattle.std.proofs.Common.{true, false, inl, inr}
+use Rattle.std.proofs.Common.{List, [], ◌++◌, refl, sym, ap, ap₂, ◌∙◌, append-nil, append_assoc, arith}
+use Rattle.std.proofs.Common.{length}
 use Rattle.std.proofs.Common.{replicate, slice_range}
 use Rattle.std.specs.Prelude.{if◌then◌else◌}
 use Rattle.std.proofs.lemmas.Bool.{cases_lt}
-use Rattle.yaml_direct.specs.BlockRows.{AreEmpty, EndsAtTab, IsIndented, ReadsRows, kept_feeds, row_as, rows_behind, rows_from}
+use Rattle.yaml_direct.specs.BlockRows.{AreEmpty, EndsAtTab, IsIndented, ReadsRows, kept_feeds, row_as, rows_behind}
+use Rattle.yaml_direct.specs.BlockRows.{rows_from}
 use Rattle.yaml_direct.specs.Blocks.{begins_blank, joins, joint}
 use Rattle.yaml_direct.specs.Bytes.{at}
 use Rattle.yaml_direct.specs.Gaps.{InLine, IsLineEnd}
@@ -14,7 +17,6 @@ use Rattle.yaml_direct.proofs.RowLaws.{rows_twice}
 use Rattle.yaml_direct.proofs.TextRows.{end_row, last_row, said_row, text_row}
 use Rattle.yaml_grammar.specs.BlockTexts.{Chomping, Row, chomped, clip, deep, flat, joined, keep, no_row, row_of, strip}
 use Rattle.yaml_grammar.specs.Folding.{folded}
-use Rattle.yaml_grammar.specs.Gaps.{next}
 
 joint_folded : (n : ℕ) → joint true n ≡ folded n
 joint_folded zero = refl
@@ -73,7 +75,8 @@ none_kept clip block e = omega (arith, e)
 none_kept keep block e = e
 
 -- The lines of a block from a place up to a line were put behind a text, and so many empty ones came last.
-pub record RowsSoFar (text : List ℕ) (folds : Bool) (indent from line count : ℕ) (old now : List ℕ) (block : Block) : Type 0 where
+pub record RowsSoFar (text : List ℕ) (folds : Bool) (indent from line count : ℕ) (old now : List ℕ)
+    (block : Block) : Type 0 where
   pub folded : block.folds ≡ folds
   pub feeds : block.feeds ≡ (if block.begun then count + 1 else count)
   pub forward : from ≤ line
@@ -97,7 +100,8 @@ rows_begin text folds indent from line count old now block same begun feeds stil
   read = λ ch.
       let none : 0 + count ≡ count = omega arith in
       e.rows folds ch no_row 0
-      ∙ ap₂ (λ r n. rows_behind (line - from) [] (rows_from text folds ch indent r n line)) (sym (row_is block begun)) none;
+      ∙ ap₂ (λ r n. rows_behind (line - from) [] (rows_from text folds ch indent r n line)) (sym
+      (row_is block begun)) none;
 }
 
 -- what a line with text adds
@@ -107,17 +111,20 @@ added_row : (old now more said content : List ℕ) (block : Block) (count : ℕ)
     → more ≡ old ++ (said ++ said_row block.folds (row_as block) count content)
 added_row old now more said content block count feeds first second =
     let join = joint (joins block content) block.feeds in
-    second ∙ append_assoc now join content ∙ ap (λ x. x ++ (join ++ content)) first ∙ append_assoc old said (join ++ content)
+    second ∙ append_assoc now join content ∙ ap (λ x. x ++ (join ++ content)) first
+    ∙ append_assoc old said (join ++ content)
     ∙ ap (λ x. old ++ (said ++ (x ++ content))) (joint_row block content count feeds)
 
 pub rows_next : (text : List ℕ) (folds : Bool) (indent from line count place e line' count' : ℕ)
     (old now more : List ℕ) (block after : Block) → RowsSoFar text folds indent from line count old now block
     → IsIndented text indent line place → place - line ≡ indent → place < e → e ≤ length text → InLine text place e
-    → at text e ≡ 10 → more ≡ (now ++ joint (joins block (slice_range text place e)) block.feeds) ++ slice_range text place e
+    → at text e ≡ 10 → more ≡ (now ++ joint (joins block
+    (slice_range text place e)) block.feeds) ++ slice_range text place e
     → after.folds ≡ block.folds → after.begun ≡ true → after.blank ≡ begins_blank (slice_range text place e)
     → after.feeds ≡ count' + 1 → AreEmpty text indent count' (e + 1) line'
     → RowsSoFar text folds indent from line' count' old more after
-rows_next text folds indent from line count place e line' count' old now more block after s d far some within inline feed
+rows_next text folds indent from line count place e line' count' old now more block after s d far some within inline
+    feed
     added same begun blank feeds empty =
     let content = slice_range text place e in
     let says = said_row block.folds (row_as block) count content in
@@ -191,7 +198,8 @@ pub rows_tab : (text : List ℕ) (folds : Bool) (indent from line count place : 
     → EndsAtTab text folds indent from
 rows_tab text folds indent from line count place old now block s d within tab why =
     let goes = spaces_go text line place d.forward d.blanks in
-    let here = token_here text place (λ e. omega (arith, e, tab)) (λ e. omega (arith, e, tab)) (λ e. omega (arith, e, tab)) in
+    let here = token_here text place (λ e. omega (arith, e, tab)) (λ e. omega (arith, e, tab)) (λ e. omega
+    (arith, e, tab)) in
     record {
       end = line;
       low = s.forward;

@@ -1,14 +1,15 @@
 -- The sign and the digit of a block's first line.
-use Rattle.std.proofs.Common.{ℕ, ◌+◌, ◌-◌, ◌≤◌, ◌≡◌, ◌≢◌, ◌==◌, ◌||◌, Bool, true, false, List, Option, Some, None, refl, sym}
-use Rattle.std.proofs.Common.{subst, ap, ap₂, ◌∙◌, arith, drop, length}
+use Rattle.std.proofs.Common.{ℕ, ◌+◌, ◌-◌, ◌≤◌, ◌≡◌, ◌≢◌, ◌==◌, ◌||◌, Bool, true, false, List, Option, Some, None}
+use Rattle.std.proofs.Common.{refl, sym}
+use Rattle.std.proofs.Common.{ap, ap₂, ◌∙◌, arith, drop, length}
 use Rattle.std.specs.Int.{is_in_range}
 use Rattle.std.specs.Prelude.{if◌then◌else◌}
-use Rattle.std.proofs.lemmas.Bool.{cases_Bool}
 use Rattle.std.proofs.lemmas.List.{get_or-drop}
 use Rattle.yaml_direct.specs.Bytes.{at}
 use Rattle.yaml_direct.specs.BlockHeads.{ReadsSigns, chomping_as}
 use Rattle.yaml_direct.specs.declared.header.Signs.{Signs}
-use Rattle.yaml_grammar.specs.BlockTexts.{Chomping, Header, chomping_of, clip, header_of, is_sign, is_step, keep, step_of, strip}
+use Rattle.yaml_grammar.specs.BlockTexts.{Chomping, Header, chomping_of, clip, header_of, is_sign, is_step, keep}
+use Rattle.yaml_grammar.specs.BlockTexts.{step_of, strip}
 
 -- by the first two bytes
 abbrev signs : (c d : ℕ) → Header
@@ -44,7 +45,8 @@ record IsSign (c : ℕ) (x : Chomping) : Type 0 where
   same : x ≡ chomping_of c
 
 sign_by : (c : ℕ) (x : Chomping) (b : Bool) → is_sign c ≡ b → Found c (Some x) → IsSign c x
-sign_by c x true e f = let g : ◌≡◌ {A = Option Chomping} (Some x) (Some (chomping_of c)) = rw e at f in record { sign = e; same = cc }
+sign_by c x true e f = let g : ◌≡◌ {A = Option Chomping} (Some x) (Some
+    (chomping_of c)) = rw e at f in record { sign = e; same = cc }
 sign_by c x false e f = let g : ◌≡◌ {A = Option Chomping} (Some x) None = rw e at f in absurd cc
 
 none_by : (c : ℕ) (b : Bool) → is_sign c ≡ b → Found c None → is_sign c ≡ false
@@ -76,7 +78,8 @@ pub sign_alone : (text : List ℕ) (from c d : ℕ) (s : Signs) → c ≡ at tex
 sign_alone text from c d s e f found step none there within =
     let sign = sign_by c (chomping_as s.chomping) (is_sign c) refl found in
     let none_here = step_none d (is_step d) refl (sym step ∙ none) in
-    reads text from c d s (record { chomping = chomping_of c; step = step_of d; size = 1 }) e f (rw (sign.sign, none_here) refl)
+    reads text from c d s (record { chomping = chomping_of c; step = step_of d; size = 1 }) e f (rw
+    (sign.sign, none_here) refl)
     sign.same step there within
 
 pub sign_and_digit : (text : List ℕ) (from c d : ℕ) (s : Signs) → c ≡ at text from → d ≡ at text (from + 1)
@@ -85,7 +88,8 @@ pub sign_and_digit : (text : List ℕ) (from c d : ℕ) (s : Signs) → c ≡ at
 sign_and_digit text from c d s e f found step some there within =
     let sign = sign_by c (chomping_as s.chomping) (is_sign c) refl found in
     let digit = step_is d (is_step d) refl (λ z. some (step ∙ z)) in
-    reads text from c d s (record { chomping = chomping_of c; step = step_of d; size = 2 }) e f (rw (sign.sign, digit) refl)
+    reads text from c d s (record { chomping = chomping_of c; step = step_of d; size = 2 }) e f (rw
+    (sign.sign, digit) refl)
     sign.same step there within
 
 pub no_signs : (text : List ℕ) (from c : ℕ) (s : Signs) → c ≡ at text from → Found c None → s.step ≡ step_of c
@@ -94,7 +98,8 @@ no_signs text from c s e found step none chomping there within =
     let sign = none_by c (is_sign c) refl found in
     let digit = step_none c (is_step c) refl (sym step ∙ none) in
     let same : from ≡ from + 0 = omega arith in
-    reads text from c (at text (from + 1)) s (record { chomping = clip; step = 0; size = 0 }) e refl (rw (sign, digit) refl)
+    reads text from c (at text (from + 1)) s (record { chomping = clip; step = 0; size = 0 }) e refl (rw
+    (sign, digit) refl)
     chomping none (there ∙ same) within
 
 pub digit_and_sign : (text : List ℕ) (from c d : ℕ) (s : Signs) → c ≡ at text from → d ≡ at text (from + 1)

@@ -1,7 +1,10 @@
 -- A line with text in a block, and the end of the block.
-use Rattle.std.proofs.Common.{ℕ, zero, suc, ◌+◌, ◌-◌, ◌<◌, ◌≤◌, ◌≡◌, ◌≢◌, ◌⊎◌, ◌==◌, ◌&&◌, ◌||◌, not, inl, inr, Bool, true, false}
-use Rattle.std.proofs.Common.{List, [], ◌∷◌, ◌++◌, refl, sym, subst, ap, ap₂, ◌∙◌, arith, drop, length, nat_le, nat_lt, slice_range, take}
-use Rattle.std.proofs.lemmas.Bool.{and_left, and_right, cases_eq, cases_lt, le-leb, le-ltb, lt-leb, lt-ltb, or_left, or_right}
+use Rattle.std.proofs.Common.{ℕ, zero, suc, ◌+◌, ◌-◌, ◌<◌, ◌≤◌, ◌≡◌, ◌≢◌, ◌⊎◌, ◌&&◌, ◌||◌, not, inl, inr, Bool}
+use Rattle.std.proofs.Common.{true, false}
+use Rattle.std.proofs.Common.{List, [], ◌∷◌, ◌++◌, refl, sym, ap, ap₂, ◌∙◌, arith, drop, length, nat_le}
+use Rattle.std.proofs.Common.{nat_lt, slice_range, take}
+use Rattle.std.proofs.lemmas.Bool.{and_left, and_right, cases_lt, le-leb, le-ltb, lt-leb, lt-ltb, or_left}
+use Rattle.std.proofs.lemmas.Bool.{or_right}
 use Rattle.std.proofs.lemmas.List.{drop-drop, drop-take}
 use Rattle.yaml_direct.specs.BlockRows.{IsIndented, rows_behind, rows_from}
 use Rattle.yaml_direct.specs.Bytes.{AreBlanks, at}
@@ -9,7 +12,8 @@ use Rattle.yaml_direct.specs.Gaps.{InLine}
 use Rattle.yaml_direct.proofs.BlockLines.{first_line, last_line, line_length, line_of, line_spaces, lines_some}
 use Rattle.yaml_direct.proofs.DetectLaws.{lines_at, not_spaces, spaces_within}
 use Rattle.yaml_direct.proofs.PlainRest.{slice_more}
-use Rattle.yaml_grammar.specs.BlockTexts.{Chomping, Row, chomped, is_last, is_spaces, joined, lines_of, row_of, rows, spaces}
+use Rattle.yaml_grammar.specs.BlockTexts.{Chomping, Row, chomped, is_last, is_spaces, joined, lines_of, row_of, rows}
+use Rattle.yaml_grammar.specs.BlockTexts.{spaces}
 
 -- what a line with text says
 abbrev pub said_row : (folds : Bool) → Row → (empty : ℕ) → List ℕ → List ℕ
@@ -40,7 +44,8 @@ spaces_by : (text : List ℕ) (p j : ℕ) → p ≤ j → j ≤ length text → 
     → n ≤ spaces (slice_range text i j)
 spaces_by text p j high within zero i e blank = omega arith
 spaces_by text p j high within (suc n) i e blank =
-    let more = spaces_by text p j high within n (suc i) (omega (arith, e)) (λ k low to. blank k (omega (arith, low)) to) in
+    let more = spaces_by text p j high within n (suc i) (omega (arith, e)) (λ k low to. blank k (omega
+    (arith, low)) to) in
     let all : spaces (slice_range text i j) ≡ suc (spaces (slice_range text (suc i) j)) =
     ap spaces (slice_more text i j (omega (arith, e, high)) (omega (arith, e, high, within))
     ∙ ap (λ c. c ∷ slice_range text (suc i) j) (blank i (omega arith) (omega (arith, e)))) in
@@ -58,7 +63,8 @@ is_row text indent i p e d deep more within =
     let line = slice_range text i e in
     let all = spaces_by text p e (omega (arith, more)) within (p - i) i (omega (arith, d.forward)) d.blanks in
     let size = line_length text i e (omega (arith, d.forward, more)) within in
-    let long : nat_le (length line) indent ≡ false = lt-leb (length line) indent (omega (arith, size, deep, more, d.forward)) in
+    let long : nat_le (length line) indent ≡ false = lt-leb (length line) indent (omega
+    (arith, size, deep, more, d.forward)) in
     let parts : e - i ≡ indent + (e - p) = omega (arith, deep, more, d.forward) in
     let there : i + indent ≡ p = omega (arith, deep, d.forward) in
     record {

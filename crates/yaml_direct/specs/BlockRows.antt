@@ -1,5 +1,6 @@
 -- The lines of a block of text, from a place on, in the words of the grammar.
-use Rattle.std.specs.Prelude.{ℕ, ◌+◌, ◌-◌, ◌≤◌, ◌≡◌, ◌≢◌, ◌⊎◌, Bool, List, [], ◌++◌, drop, if◌then◌else◌, min, replicate}
+use Rattle.std.specs.Prelude.{ℕ, ◌+◌, ◌-◌, ◌≤◌, ◌≡◌, ◌≢◌, ◌⊎◌, Bool, List, [], ◌++◌, drop, if◌then◌else◌, min}
+use Rattle.std.specs.Prelude.{replicate}
 use Rattle.yaml_direct.specs.Bytes.{AreBlanks, at}
 use Rattle.yaml_direct.specs.declared.block_scalar.Block.{Block}
 use Rattle.yaml_direct.specs.declared.block_scalar.EmptyLines.{EmptyLines}
@@ -46,7 +47,8 @@ kept_feeds keep block = block.feeds
 
 -- The lines of a block up to a place were put behind a text, and no more stand there. The line feeds that are wanted of
 -- the last are still to come.
-pub record ReadsRows (text : List ℕ) (folds : Bool) (indent from to : ℕ) (old new : List ℕ) (block : Block) : Type 0 where
+pub record ReadsRows (text : List ℕ) (folds : Bool) (indent from to : ℕ) (old new : List ℕ)
+    (block : Block) : Type 0 where
   pub said : List ℕ
   pub added : new ≡ old ++ said
   pub read : (chomping : Chomping) → rows_from text folds chomping indent no_row 0 from

@@ -49,5 +49,6 @@ returns-clause-read c =
     λ h. record {
       empty = i.empty h;
       indented = i.indented;
-      some = λ e. c.lines-test.false (c.at.ensures.value ∙ (ap (at text) (i.there (no_return text c.lines.place h)) ∙ e));
+      some = λ e. c.lines-test.false (c.at.ensures.value ∙ (ap (at text) (i.there (no_return text c.lines.place h))
+          ∙ e));
     }

@@ -36,7 +36,8 @@ lines-preserved c =
       blanks = spaces.blanks;
       space = spaces.over;
       there = feed.here;
-      short = λ short less. omega (arith, short, less, i.short short less, c.max-widest-in-lines.ensures, inside, i.high);
+      short = λ short less. omega
+          (arith, short, less, i.short short less, c.max-widest-in-lines.ensures, inside, i.high);
       read = λ h.
           let same = i.there (no_return text c.lines.place h) in
           i.read h

@@ -1,6 +1,6 @@
 -- A line with text more, the last one, and what stands behind the block.
-use Rattle.std.proofs.Common.{◌≡◌, ◌≢◌, ◌+◌, ◌++◌, ◌-◌, ◌<◌, ◌≤◌, ◌⊎◌, ◌∙◌, ap, arith, inl, inr, length, refl, slice_range, subst, sym}
-use Rattle.std.proofs.lemmas.Bool.{cases_lt}
+use Rattle.std.proofs.Common.{◌≡◌, ◌≢◌, ◌+◌, ◌++◌, ◌-◌, ◌≤◌, ◌⊎◌, ◌∙◌, ap, arith, inl, inr, length, refl}
+use Rattle.std.proofs.Common.{slice_range, subst, sym}
 use Rattle.yaml_direct.specs.Blocks.{begins_blank, joins, joint}
 use Rattle.yaml_direct.specs.Bytes.{at}
 use Rattle.yaml_direct.specs.declared.block_scalar.Block.{Block}
@@ -97,10 +97,12 @@ lines-preserved c =
           c.if-next-indent.true (row_some text place e (i.some h) c.lines-test.true end.forward end.ends) end.within
           end.inside feed
           (ap (λ t. t.arena.items) pass.tape
-          ∙ subst (λ k. pushed ≡ (now ++ joint (joins block (slice_range text place k)) block.feeds) ++ slice_range text place k)
+          ∙ subst (λ k. pushed ≡ (now ++ joint (joins block
+          (slice_range text place k)) block.feeds) ++ slice_range text place k)
           same (push.line c.if-not-push_line.false))
           push.row.0 push.row.1.0
-          (subst (λ k. after.blank ≡ begins_blank (slice_range text place k)) same push.row.1.1.0) refl (empty.read h).empty;
+          (subst (λ k. after.blank ≡ begins_blank (slice_range text place k)) same push.row.1.1.0) refl
+          (empty.read h).empty;
     }
 
 pub returns-then-at-eq9-clause-missed : goal.returns-then-at-eq9-clause-missed
@@ -114,7 +116,8 @@ returns-then-at-eq9-clause-missed c =
     ] in
     λ h begun none fed.
     rows_tab text c.args.block.now.folds c.args.indent c.args.from c.lines.next.line c.lines.next.count place
-    c.args.self.now.tape.arena.items c.lines.self.tape.arena.items c.lines.block (i.rows h begun) (i.indented h) i.within
+    c.args.self.now.tape.arena.items c.lines.self.tape.arena.items c.lines.block (i.rows h begun)
+    (i.indented h) i.within
     (sym c.at.ensures.value ∙ c.if-at-eq9.true) why
 
 pub returns-clause-found : goal.returns-clause-found
@@ -128,5 +131,6 @@ returns-clause-found c =
     ] in
     λ h begun some.
     rows_over text c.args.block.now.folds c.args.indent c.args.from c.lines.next.line c.lines.next.count place
-    c.args.self.now.tape.arena.items c.lines.self.tape.arena.items c.lines.block (i.rows h begun) (i.indented h) i.within
+    c.args.self.now.tape.arena.items c.lines.self.tape.arena.items c.lines.block (i.rows h begun)
+    (i.indented h) i.within
     (i.some h) why

@@ -1,10 +1,11 @@
 -- One line, or more.
-use Rattle.std.proofs.Common.{arith, false, refl, slice_range, subst, sym, true, ◌≡◌, ◌∙◌}
+use Rattle.std.proofs.Common.{false, refl, slice_range, subst, sym, true, ◌≡◌, ◌∙◌}
 use Rattle.yaml_base.specs.declared.event.ScalarStyle.TheVariants as style
 use Rattle.yaml_direct.specs.Added.{AddsScalar}
 use Rattle.yaml_direct.specs.PlainTexts.{IsFirstLine, LeavesPlain}
 use Rattle.yaml_direct.specs.Tokens.{IsBehindLine}
-use Rattle.yaml_direct.proofs.PlainLeaves.{adds_plain_from, line_behind, line_left, plain_added, plain_first, within_here}
+use Rattle.yaml_direct.proofs.PlainLeaves.{adds_plain_from, line_behind, line_left, plain_added, plain_first}
+use Rattle.yaml_direct.proofs.PlainLeaves.{within_here}
 use Rattle.yaml_direct.proofs.PlainSays.{says_first}
 use Rattle.yaml_direct.proofs.reader.Reader.plain.Goals as goal
 use Rattle.yaml_grammar.specs.Bytes.{is_text}
@@ -65,5 +66,6 @@ returns-clause-found c =
     (within_here text c.margin-place.new.self c.args.least c.margin-place.result c.is_within.result same
     (c.is_within.ensures.same h' behind.counted) c.if-is_within.false)
     margin.still same margin.start push.kept (push.there some)
-    (subst (λ t. AddsScalar c.margin-place.new.self c.push_text.new.self (slice_range t c.args.from c.args.end) style.Plain
+    (subst (λ t. AddsScalar c.margin-place.new.self c.push_text.new.self
+    (slice_range t c.args.from c.args.end) style.Plain
     c.args.end) same (push.added (margin.named ∙ unnamed) some))

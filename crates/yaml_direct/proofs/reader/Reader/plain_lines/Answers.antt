@@ -3,7 +3,8 @@ use Rattle.std.proofs.Common.{arith, false, length, refl, subst, sym, true, ◌�
 use Rattle.yaml_direct.specs.PlainTexts.{HasNoLine}
 use Rattle.yaml_direct.specs.Tokens.{IsBehindLine}
 use Rattle.yaml_direct.proofs.Growing.{grows_on, grows_same}
-use Rattle.yaml_direct.proofs.PlainLeaves.{PlainSoFar, cut_left, line_behind, line_left, line_on, plain_added, plain_first}
+use Rattle.yaml_direct.proofs.PlainLeaves.{PlainSoFar, cut_left, line_behind, line_left, line_on, plain_added}
+use Rattle.yaml_direct.proofs.PlainLeaves.{plain_first}
 use Rattle.yaml_direct.proofs.PlainLeaves.{within_here}
 use Rattle.yaml_direct.proofs.reader.Reader.plain_lines.Goals as goal
 use Rattle.yaml_grammar.specs.Bytes.{is_text}
@@ -45,7 +46,8 @@ returns-then-place-clause-missed c =
     cut_left text c.args.least c.args.from c.lines.end c.lines.next c.lines.value.items h s.says s.behind.there
     (within_here text c.lines.self c.args.least c.lines.next c.is_within.result i.text
     (c.is_within.ensures.same h' s.behind.counted) c.lines-test.true)
-    (subst (λ t. HasNoLine t false c.lines.end c.lines.next) i.text (c.plain_line-place.ensures.missed h' c.if-place.true fed))
+    (subst (λ t. HasNoLine t false c.lines.end c.lines.next) i.text
+    (c.plain_line-place.ensures.missed h' c.if-place.true fed))
 
 pub returns-then-place-2-clause-found : goal.returns-then-place-2-clause-found
 returns-then-place-2-clause-found c = λ h f b unnamed some. absurd (some refl)
@@ -78,7 +80,8 @@ lines-preserved c =
     let same = line.kept.0 ∙ i.text in
     record {
       grows = grows_on c.args.self.now c.lines.self c.margin-place.new.self i.grows
-          (grows_on c.lines.self c.plain_line-place.new.self c.margin-place.new.self line.kept.1.1.1 margin.reached.1.0);
+          (grows_on c.lines.self c.plain_line-place.new.self c.margin-place.new.self line.kept.1.1.1
+          margin.reached.1.0);
       forward = omega (arith, i.forward, p.0, m.0);
       low = m.0;
       here = m.1.0;
@@ -95,8 +98,10 @@ lines-preserved c =
           record {
             says = line_on text c.lines.self c.args.least c.args.from c.lines.end c.lines.next c.plain_line-place.result
                 c.lines.value.items c.plain_line-place.new.value.items h s i.text c.is_within.result
-                (c.is_within.ensures.same h' s.behind.counted) c.lines-test.true (line.found h' c.if-place.false) p.0 p.1.1;
-            behind = subst (λ t. IsBehindLine t c.margin-place.new.self c.plain_line-place.result c.margin-place.result) same
+                (c.is_within.ensures.same h' s.behind.counted) c.lines-test.true
+                (line.found h' c.if-place.false) p.0 p.1.1;
+            behind = subst (λ t. IsBehindLine t c.margin-place.new.self c.plain_line-place.result
+                c.margin-place.result) same
                 (line_behind c.plain_line-place.new.self c.margin-place.new.self c.plain_line-place.result
                 c.margin-place.result (margin.found h'' c.if-place-2.false) margin.reached.0
                 (margin.ended h'' c.if-place-2.false) m.1.1);

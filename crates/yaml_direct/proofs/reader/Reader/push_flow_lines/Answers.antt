@@ -1,5 +1,6 @@
 -- A line more, and the end.
-use Rattle.std.proofs.Common.{arith, inl, inr, length, refl, subst, sym, true, false, ◌≡◌, ◌∙◌, ◌≤◌, ◌<◌, ◌⊎◌, ap, not, ◌&&◌}
+use Rattle.std.proofs.Common.{arith, inl, inr, length, refl, subst, sym, true, false, ◌≡◌, ◌∙◌, ◌≤◌, ◌<◌, ◌⊎◌, ap}
+use Rattle.std.proofs.Common.{not, ◌&&◌}
 use Rattle.std.proofs.lemmas.Bool.{and_left, and_right, cases_eq, false≢true}
 use Rattle.yaml_base.specs.declared.event.ScalarStyle.TheVariants as style
 use Rattle.yaml_direct.specs.Bytes as code
@@ -47,7 +48,8 @@ returns-then-place-clause-missed c =
     cut_left text c.args.from c.args.first c.args.second c.lines.end c.lines.next c.lines.value.items c.lines.broken h b
     c.requires.part.0 i.forward (i.said h b)
     (ap code.is_bracket (sym byte) ∙ (sym c.is_bracket.ensures ∙ c.if-not-is_bracket.true))
-    (subst (λ t. HasNoLine t true c.lines.end c.lines.next) i.text (c.plain_line-place.ensures.missed h' c.if-place.true fed))
+    (subst (λ t. HasNoLine t true c.lines.end c.lines.next) i.text
+    (c.plain_line-place.ensures.missed h' c.if-place.true fed))
 
 pub returns-then-place-2-clause-missed : goal.returns-then-place-2-clause-missed
 returns-then-place-2-clause-missed c =
@@ -105,7 +107,8 @@ lines-preserved c =
             there = subst (λ t. c.flow_gap-place.result ≡ next t stop) same found.there;
             lines = found.lines ∙ ap (λ t. breaks t stop) same;
             here = λ later. subst (λ t. is_over t c.flow_gap-place.result ≡ false) same
-                (gap.there h'' (λ whole. absurd (false≢true (sym whole ∙ (sym found.lines ∙ later)))) c.if-place-2.false);
+                (gap.there h'' (λ whole. absurd (false≢true (sym whole ∙ (sym found.lines
+                ∙ later)))) c.if-place-2.false);
           };
     }
 
@@ -152,5 +155,6 @@ returns-clause-missed c =
       | inr some ↦
           let colon : at text c.push_scalar.result ≡ 58 = elim e [ inl none ↦ absurd (some none) | inr is ↦ is ] in
           colon_left text c.args.from c.args.first c.args.second c.lines.end c.lines.next c.lines.value.items
-          c.lines.broken h b c.requires.part.0 i.forward (i.said h b) over (ap (at text) (sym (push.there some)) ∙ colon)
+          c.lines.broken h b c.requires.part.0 i.forward (i.said h b) over (ap (at text) (sym (push.there some))
+          ∙ colon)
     ]

@@ -1,5 +1,5 @@
 -- A line feed more, and the end.
-use Rattle.std.proofs.Common.{◌≡◌, ◌≢◌, ◌+◌, ◌≤◌, ◌∙◌, ap, arith, drop, length, refl, subst, sym, true}
+use Rattle.std.proofs.Common.{◌≡◌, ◌+◌, ◌≤◌, ◌∙◌, ap, arith, drop, length, refl, subst, sym, true}
 use Rattle.yaml_direct.specs.Quoted.{IsLineBegin, passed_by}
 use Rattle.yaml_direct.proofs.Growing.{grows_on, grows_same}
 use Rattle.yaml_direct.proofs.QuoteLines.{breaks_end, breaks_more, breaks_none, breaks_parted}
@@ -31,7 +31,8 @@ returns-then-place-clause-missed c =
     λ h dark none fed quote.
     let h' = subst (λ t. is_text t ≡ true) (sym i.text) h in
     breaks_parted text (passed_by c.args.passed) c.feeds.count c.args.from place (i.read h dark) feed
-    (subst (λ t. parts (drop (place + 1) t) ≡ true) i.text (c.begin_quoted_line-place.ensures.missed h' c.if-place.true))
+    (subst (λ t. parts (drop (place + 1) t) ≡ true) i.text
+    (c.begin_quoted_line-place.ensures.missed h' c.if-place.true))
     quote
 
 pub feeds-preserved : goal.feeds-preserved

@@ -1,9 +1,9 @@
 -- A run and what stands behind it, and the quote that closes all.
-use Rattle.std.proofs.Common.{◌≡◌, ◌∙◌, ◌+◌, ◌-◌, ◌≤◌, ◌==◌, ◌&&◌, None, Some, ap, ap₂, arith, false, length, not, refl}
+use Rattle.std.proofs.Common.{◌≡◌, ◌∙◌, ◌+◌, ◌-◌, ◌≤◌, ◌==◌, None, Some, ap, ap₂, arith, false, length, not, refl}
 use Rattle.std.proofs.Common.{slice_range, subst, sym, true}
 use Rattle.std.proofs.lemmas.Bool.{and_left, and_right, ne_eqb}
 use Rattle.yaml_direct.specs.Added.{AddsScalar}
-use Rattle.yaml_direct.specs.Quoted.{EndsRun, Unquotes, is_closing, is_other, quote_of, quoted_from}
+use Rattle.yaml_direct.specs.Quoted.{EndsRun, Unquotes, is_closing, quote_of, quoted_from}
 use Rattle.yaml_direct.proofs.Growing.{grows_on, grows_same}
 use Rattle.yaml_direct.proofs.PlainLeaves.{adds_scalar_from}
 use Rattle.yaml_direct.proofs.QuoteBreaks.{over_unread, read_closed, read_none, read_on}
@@ -118,5 +118,6 @@ runs-preserved c =
 pub returns-clause-missed : goal.returns-clause-missed
 returns-clause-missed c =
     let text = c.args.self.now.text.now in
-    λ h none fed. read_none text c.args.quote (c.args.from + 1) c.runs.place c.runs.value.items (c.runs.invariant.read h)
+    λ h none fed. read_none text c.args.quote (c.args.from + 1) c.runs.place c.runs.value.items
+    (c.runs.invariant.read h)
     (over_unread text c.args.quote c.runs.place c.runs-test.false)

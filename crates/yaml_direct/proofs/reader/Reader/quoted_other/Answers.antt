@@ -1,5 +1,5 @@
 -- A line feed, and one behind a backslash.
-use Rattle.std.proofs.Common.{◌≡◌, ◌∙◌, None, arith, drop, false, subst, sym, true}
+use Rattle.std.proofs.Common.{◌≡◌, ◌∙◌, None, drop, false, subst, sym, true}
 use Rattle.yaml_direct.specs.Quoted.{UnquotesBehind, passed_by, quoted_rest}
 use Rattle.yaml_direct.proofs.QuoteBreaks.{escaped_parted, escaped_unquotes, escaped_unread}
 use Rattle.yaml_direct.proofs.QuoteLines.{feed_parted, feed_unquotes, feed_unread}
@@ -44,7 +44,8 @@ returns-then-at-eq10-clause-missed c =
 
 pub returns-then-place-2-clause-missed : goal.returns-then-place-2-clause-missed
 returns-then-place-2-clause-missed c =
-    λ h ends shut none fed. escaped_parted c.args.self.now.text.now c.args.quote c.args.stop c.feed_at-feed.result h ends
+    λ h ends shut none fed. escaped_parted c.args.self.now.text.now c.args.quote c.args.stop c.feed_at-feed.result h
+    ends
     (sym c.at-2.ensures.value ∙ c.if-at-ne92.false) c.feed_at-feed.ensures.here
     (sym c.at-3.ensures.value ∙ c.if-at-ne10.false) (c.begin_quoted_line-place-2.ensures.missed h c.if-place-2.true)
 
