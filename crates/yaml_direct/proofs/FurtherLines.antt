@@ -1,10 +1,10 @@
 -- Plain text that goes on in later lines.
 use Rattle.std.proofs.Common.{ℕ, suc, ◌+◌, ◌-◌, ◌≡◌, ◌≢◌, ◌<◌, ◌≤◌, ◌==◌, ◌&&◌, ◌||◌, not, Bool, true, false}
-use Rattle.std.proofs.Common.{List, [], ◌∷◌, ◌++◌, length, refl, sym, subst, ap, ap₂, ◌∙◌, arith, inl, inr, drop, nat_le}
+use Rattle.std.proofs.Common.{List, [], ◌∷◌, ◌++◌, length, sym, subst, ap, ap₂, ◌∙◌, arith, inl, inr, drop, nat_le}
 use Rattle.std.proofs.Common.{nat_lt}
 use Rattle.std.specs.Prelude.{slice_range}
-use Rattle.std.proofs.lemmas.Bool.{and_cases, and_left, and_parts, cases_eq, cases_lt, eq-eqb}
-use Rattle.std.proofs.lemmas.Bool.{false≢true, leb-true, lt-ltb, ne_eqb, not-false, not-true, or_cases, or_from}
+use Rattle.std.proofs.lemmas.Bool.{and_cases, and_left, cases_eq, cases_lt, eq-eqb}
+use Rattle.std.proofs.lemmas.Bool.{false≢true, leb-true, lt-ltb, ne_eqb, not-false, or_cases, or_from}
 use Rattle.std.proofs.lemmas.Bool.{or_left, or_parts, or_right}
 use Rattle.std.proofs.lemmas.List.{append_assoc}
 use Rattle.yaml_direct.specs.Bytes as code
@@ -15,10 +15,10 @@ use Rattle.yaml_direct.proofs.NextLaws.{Goes, before_apart, bytes_at, feed_goes,
 use Rattle.yaml_direct.proofs.PlainRest.{byte_turn, goes_on as line_goes, line_said, slice_more, slice_none, twice}
 use Rattle.yaml_direct.proofs.PlainEnds.{behind_end, fed_feed, fed_space, inside_by}
 use Rattle.yaml_direct.proofs.PlainEnds.{stops_later}
-use Rattle.yaml_grammar.specs.Bytes.{at, column, is_gap, is_over, is_text, parts}
+use Rattle.yaml_grammar.specs.Bytes.{at, column, is_bracket, is_gap, is_over, is_text, parts}
 use Rattle.yaml_grammar.specs.Folding.{Rest, blanks, feeds, folded, nothing_passed, with_bytes}
 use Rattle.yaml_grammar.specs.Gaps.{is_within, next}
-use Rattle.yaml_grammar.specs.Plain.{Context, by_columns, column_behind, is_flow}
+use Rattle.yaml_grammar.specs.Plain.{Context, by_columns, column_behind, goes_on_in, is_flow}
 use Rattle.yaml_grammar.specs.Plain.{plain_rest, stops_plain}
 
 one_more : (i : ℕ) → suc i ≡ i + 1
@@ -124,47 +124,55 @@ next_no_sharp text n i k f some e sharp =
     moved (a_space {n = m} {i = j} e f) some = omega (arith, feeds_forward text m (j + 1) k f)
     moved (a_feed {n = m} {i = j} e f) some = omega (arith, feeds_forward text m (j + 1) k f)
 
--- where a token stands less far in nothing goes on
-pub less_stops : (text : List ℕ) (least k : ℕ) → is_within text least k ≡ false
-    → stops_later (by_columns least) text k ≡ true
-less_stops text least k e =
+-- where the document ends nothing goes on
+pub over_stops : (context : Context) (text : List ℕ) (k : ℕ) → is_over text k ≡ true
+    → stops_later context text k ≡ true
+over_stops context text k over =
     elim (cases_lt k (length text)) [
-      | inr over ↦ behind_end (by_columns least) text k over
+      | inr past ↦ behind_end context text k past
       | inl inside ↦
           let c = at text k in
           let cs = drop (suc k) text in
           or_right (is_gap c) _ (or_right (c == 58 && is_gap (at cs 0)) _ (or_right (c == 35 && true) _
-          (elim (and_cases (not (is_over text k)) (nat_le least (column text k)) e) [
-            | inr far ↦ or_left (not (nat_le least (column text k))) _ (ap not far)
-            | inl over ↦ or_right (not (nat_le least (column text k))) _
-                (elim (or_cases (nat_le (length text) k) _ (not-false (is_over text k) over)) [
-                  | inl past ↦ absurd (omega (arith, leb-true (length text) k past, inside))
-                  | inr both ↦ ap (λ x. column text k == 0 && parts x) (sym (bytes_at text k inside)) ∙ both
-                ])
-          ])))
+          (or_right (is_flow context && is_bracket c) _ (or_right (not (goes_on_in context (column text k))) _
+          (elim (or_cases (nat_le (length text) k) _ over) [
+            | inl past ↦ absurd (omega (arith, leb-true (length text) k past, inside))
+            | inr both ↦ ap (λ x. column text k == 0 && parts x) (sym (bytes_at text k inside)) ∙ both
+          ])))))
     ]
 
-none_left : (x : Bool) → (x && true) ≡ false → x ≡ false
-none_left true e = e
-none_left false e = e
-
--- and where one stands as far in and may go on it does
-pub further_goes : (text : List ℕ) (least k n : ℕ) → is_text text ≡ true → code.stops_plain text false k ≡ false
-    → at text k ≢ 32 → at text k ≢ 35 → is_within text least k ≡ true → k < length text
-    → stops_plain (by_columns least) (column text k) (feeds n) (at text k) (drop (suc k) text) ≡ false
-further_goes text least k n h goes space sharp within inside =
+-- where a token stands less far in nothing goes on
+pub less_stops : (text : List ℕ) (least k : ℕ) → is_within text least k ≡ false
+    → stops_later (by_columns least) text k ≡ true
+less_stops text least k e =
     let c = at text k in
     let cs = drop (suc k) text in
-    let line = line_goes (by_columns least) text false k [] h refl space (λ e. absurd (false≢true e)) goes in
+    elim (and_cases (not (is_over text k)) (nat_le least (column text k)) e) [
+      | inl over ↦ over_stops (by_columns least) text k (not-false (is_over text k) over)
+      | inr far ↦ or_right (is_gap c) _ (or_right (c == 58 && is_gap (at cs 0)) _ (or_right (c == 35 && true) _
+          (or_left (not (nat_le least (column text k))) _ (ap not far))))
+    ]
+
+-- and where one stands as far in and may go on it does
+pub further_goes : (context : Context) (text : List ℕ) (flow : Bool) (k n : ℕ) → is_text text ≡ true
+    → is_flow context ≡ flow → code.stops_plain text flow k ≡ false → at text k ≢ 32 → at text k ≢ 35
+    → goes_on_in context (column text k) ≡ true → is_over text k ≡ false → k < length text
+    → stops_plain context (column text k) (feeds n) (at text k) (drop (suc k) text) ≡ false
+further_goes context text flow k n h f goes space sharp far here inside =
+    let c = at text k in
+    let cs = drop (suc k) text in
+    let line = line_goes context text flow k [] h f space (λ e. absurd (false≢true e)) goes in
     let gap = or_parts (is_gap c) _ (line.no_stop 0) in
     let colon = or_parts (c == 58 && is_gap (at cs 0)) _ gap.1 in
-    let here = and_parts (not (is_over text k)) (nat_le least (column text k)) within in
-    let over = or_parts (nat_le (length text) k) _ (not-true (is_over text k) here.0) in
+    let comment = or_parts (c == 35 && false) _ colon.1 in
+    let bracket = or_parts (is_flow context && is_bracket c) _ comment.1 in
+    let over = or_parts (nat_le (length text) k) _ here in
     let apart : (column text k == 0 && parts (c ∷ cs)) ≡ false =
     ap (λ x. column text k == 0 && parts x) (sym (bytes_at text k inside)) ∙ over.1 in
     or_from (is_gap c) _ gap.0 (or_from (c == 58 && is_gap (at cs 0)) _ colon.0
     (or_from (c == 35 && true) _ (and_left (c == 35) true (ne_eqb c 35 sharp))
-    (or_from (not (nat_le least (column text k))) _ (ap not here.1) apart)))
+    (or_from (is_flow context && is_bracket c) _ bracket.0
+    (or_from (not (goes_on_in context (column text k))) _ (ap not far) apart))))
 
 -- the rest behind a part of a line
 abbrev pub Behind : Context → List ℕ → (j : ℕ) → Rest → Type 0
@@ -183,21 +191,21 @@ line_whole context text flow h f i j r l some within tail col =
     ∙ ap (λ n. with_bytes n (slice_range text i j) r) count
 
 -- a further line
-pub further_line : (text : List ℕ) (least end k stop n : ℕ) (r : Rest) → is_text text ≡ true → AreFeeds text n end k
-    → 0 < n → at text k ≢ 32 → at text k ≢ 35 → is_within text least k ≡ true
-    → code.stops_plain text false k ≡ false → PlainLine text false k stop → k < stop → stop ≤ length text
-    → Behind (by_columns least) text stop r
-    → Behind (by_columns least) text end (with_bytes (stop - end) (folded n ++ slice_range text k stop) r)
-further_line text least end k stop n r h f some space sharp within goes l more inside tail col =
-    let context = by_columns least in
+pub further_line : (context : Context) (text : List ℕ) (flow : Bool) (end k stop n : ℕ) (r : Rest)
+    → is_text text ≡ true → is_flow context ≡ flow → AreFeeds text n end k → 0 < n → at text k ≢ 32
+    → stops_plain context (column text k) (feeds n) (at text k) (drop (suc k) text) ≡ false
+    → code.stops_plain text flow k ≡ false → PlainLine text flow k stop → k < stop → stop ≤ length text
+    → Behind context text stop r
+    → Behind context text end (with_bytes (stop - end) (folded n ++ slice_range text k stop) r)
+further_line context text flow end k stop n r h is f some space stays goes l more inside tail col =
     let here : k < length text = omega (arith, more, inside) in
-    let line = line_goes context text false k [] h refl space (λ e. absurd (false≢true e)) goes in
+    let line = line_goes context text flow k [] h is space (λ e. absurd (false≢true e)) goes in
     let low = feeds_forward text n end k f in
     let c = at text k in
     feeds_first context text n end k f some col 0 []
     ∙ ap (plain_rest context (column text k) (0 + (k - end)) (feeds n)) (bytes_at text k here)
     ∙ byte_turn context (column text k) (0 + (k - end)) (feeds n) c (drop (suc k) text) space line.no_feed
-    (further_goes text least k n h goes space sharp within here) line.taken
+    stays line.taken
     ∙ elim (cases_lt (suc k) stop) [
       | inl longer ↦
           let size : suc k + suc (stop - suc (suc k)) ≡ stop = omega (arith, longer) in
@@ -206,7 +214,7 @@ further_line text least end k stop n r h f some space sharp within goes l more i
           append_assoc (folded n) (c ∷ []) (slice_range text (suc k) stop)
           ∙ ap (λ x. folded n ++ x) (sym (slice_more text k stop more here)) in
           ap (with_bytes (suc (0 + (k - end))) (folded n ++ c ∷ []))
-          (line_said context text false h refl stop r tail (l.last more) inside (stop - suc (suc k)) (suc k) size
+          (line_said context text flow h is stop r tail (l.last more) inside (stop - suc (suc k)) (suc k) size
           (λ q a b. l.goes_on q (omega (arith, a)) (omega (arith, b, l.forward))) 0 [] (column_behind (column text k) c)
           (λ e. absurd (false≢true e)))
           ∙ twice (suc (0 + (k - end))) (0 + suc (stop - suc (suc k))) (folded n ++ c ∷ []) (slice_range text (suc k) stop) r

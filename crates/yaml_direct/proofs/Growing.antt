@@ -6,7 +6,7 @@ use Rattle.std.proofs.lemmas.List.Edits.{insert-append_right}
 use Rattle.std.specs.List.{insert}
 use Rattle.yaml_base.specs.PlainEvent.{PlainEvent, document_end, document_start, stream_end, stream_start}
 use Rattle.yaml_base.specs.Position.{Position}
-use Rattle.yaml_direct.specs.Documents.{AddsDocument, AddsEnd, IsBegun, IsWholeStream, told_by}
+use Rattle.yaml_direct.specs.Documents.{AddsDocument, AddsEnd, IsBegun, IsWholeStream}
 use Rattle.yaml_direct.specs.Places.{Grows}
 use Rattle.yaml_direct.specs.declared.reader.Reader.{Reader}
 use Rattle.yaml_tape.specs.OnTape.{marked_by}

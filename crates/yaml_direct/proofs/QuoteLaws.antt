@@ -16,7 +16,7 @@ use Rattle.yaml_grammar.specs.Folding.{with_bytes}
 use Rattle.yaml_grammar.specs.Quotes.{double_rest, single_rest, with_character}
 
 -- a byte that stands for itself, and is no blank
-dark_by : (quote : Quote) (passed : Passed) (c : ℕ) (cs : List ℕ) → is_stop quote c ≡ false → is_blank c ≡ false
+pub dark_by : (quote : Quote) (passed : Passed) (c : ℕ) (cs : List ℕ) → is_stop quote c ≡ false → is_blank c ≡ false
     → quoted_rest quote false passed (c ∷ cs)
     ≡ with_bytes 1 (said_by passed ++ c ∷ []) (quoted_rest quote false nothing_passed cs)
 dark_by Single passed c cs stop blank =
@@ -26,7 +26,7 @@ dark_by Double passed c cs stop blank =
     let more = or_parts (c == 92) (c == 10) parts.1 in rw (parts.0, more.0, more.1, blank) refl
 
 -- a blank
-blank_by : (quote : Quote) (passed : Passed) (c : ℕ) (cs : List ℕ) → is_stop quote c ≡ false → is_blank c ≡ true
+pub blank_by : (quote : Quote) (passed : Passed) (c : ℕ) (cs : List ℕ) → is_stop quote c ≡ false → is_blank c ≡ true
     → quoted_rest quote false passed (c ∷ cs) ≡ with_bytes 1 [] (quoted_rest quote false (and_blank passed c) cs)
 blank_by Single passed c cs stop blank =
     let parts = or_parts (c == 39) (c == 10) stop in rw (parts.0, parts.1, blank) refl

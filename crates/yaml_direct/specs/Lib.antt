@@ -1,4 +1,6 @@
 pub mod Added
+pub mod BlockHeads
+pub mod BlockRows
 pub mod Blocks
 pub mod Bytes
 pub mod Documents

@@ -1,5 +1,5 @@
 -- Where a reader stands, and what its steps keep.
-use Rattle.std.specs.Prelude.{ℕ, List, ◌≡◌, ◌≢◌, ◌≤◌, ◌<◌, ◌++◌, length}
+use Rattle.std.specs.Prelude.{ℕ, List, ◌≡◌, ◌≢◌, ◌≤◌, ◌++◌, length}
 use Rattle.yaml_tape.specs.Pushes.{marked_on}
 use Rattle.yaml_base.specs.PlainEvent.{PlainEvent}
 use Rattle.yaml_base.specs.Position.{Position}

@@ -1,6 +1,7 @@
 -- What stands between quotes, as it is defined, from a place on.
-use Rattle.std.specs.Prelude.{ℕ, ◌+◌, ◌-◌, ◌<◌, ◌≤◌, ◌≡◌, ◌≢◌, ◌⊎◌, ◌++◌, Bool, false, true, not, ◌==◌, ◌&&◌, ◌||◌}
-use Rattle.std.specs.Prelude.{List, Option, Some, None, MatchOption, drop, length, encode_utf8, slice_range}
+use Rattle.std.specs.Prelude.{ℕ, zero, suc, ◌+◌, ◌-◌, ◌<◌, ◌≤◌, ◌≡◌, ◌≢◌, ◌⊎◌, ◌++◌, Bool, false, true, not, ◌==◌}
+use Rattle.std.specs.Prelude.{◌&&◌, ◌||◌}
+use Rattle.std.specs.Prelude.{List, Option, Some, None, MatchOption, drop, length, encode_utf8, replicate, slice_range}
 use Rattle.std.specs.Prelude.{if◌then◌else◌}
 use Rattle.std.specs.Char.{digit_value}
 use Rattle.yaml_base.specs.QuotedLines.{digits, none}
@@ -15,7 +16,8 @@ use Rattle.yaml_direct.specs.declared.leaf.LeafKind.TheVariants.{Alias, Escaped,
 use Rattle.yaml_direct.specs.declared.quote.Quote.{Quote}
 use Rattle.yaml_direct.specs.declared.quote.Quote.TheVariants.{Single, Double}
 use Rattle.yaml_direct.specs.declared.reader.Reader.{Reader}
-use Rattle.yaml_grammar.specs.Folding.{Passed, Rest, nothing_passed, with_bytes}
+use Rattle.yaml_grammar.specs.Bytes.{is_blank, parts}
+use Rattle.yaml_grammar.specs.Folding.{Passed, Rest, escaped, feeds, folded, nothing_passed, with_bytes}
 use Rattle.yaml_grammar.specs.Quotes.{double_rest, single_rest}
 
 -- the quote itself
@@ -94,6 +96,36 @@ pub record Unquotes (text : List ℕ) (quote : Quote) (i j : ℕ) (old new : Lis
   pub said : List ℕ
   pub added : new ≡ old ++ said
   pub rest : quoted_from text quote i ≡ with_bytes (j - i) said (quoted_from text quote j)
+
+-- a blank, or the carriage return that may stand before a line feed
+abbrev pub is_end_blank : ℕ → Bool
+is_end_blank c = c == 32 || (c == 9 || c == 13)
+
+-- Between quotes, a line begins in a place, and blanks stand there up to another. No documents are parted there.
+pub record IsLineBegin (text : List ℕ) (i j : ℕ) : Type 0 where
+  pub whole : parts (drop i text) ≡ false
+  pub blanks : (k : ℕ) → i ≤ k → k < j → is_blank (at text k) ≡ true
+  pub dark : is_blank (at text j) ≡ false
+
+-- one line feed was passed, or one behind a backslash, which is none
+abbrev pub passed_by : ℕ → Passed
+passed_by zero = escaped 0
+passed_by (suc count) = feeds (suc count)
+
+-- what so many further line feeds say behind that
+abbrev pub said_break : (passed count : ℕ) → List ℕ
+said_break zero count = replicate count 10
+said_break (suc passed) count = folded (count + 1)
+
+-- the same behind what was passed
+pub record UnquotesBehind (text : List ℕ) (quote : Quote) (passed : Passed) (i j : ℕ) (old new : List ℕ) : Type 0 where
+  pub said : List ℕ
+  pub added : new ≡ old ++ said
+  pub rest : quoted_rest quote false passed (drop i text) ≡ with_bytes (j - i) said (quoted_from text quote j)
+
+-- a quote stands here that closes the scalar
+abbrev pub is_closing : List ℕ → Quote → ℕ → Bool
+is_closing text quote i = at text i == quote_of quote && not (is_other text quote i)
 
 -- up to a place, or none where nothing can be read
 abbrev pub UnquotesIf : List ℕ → Quote → (i j : ℕ) → (old new : List ℕ) → Type 0

@@ -2,7 +2,7 @@
 use Rattle.std.specs.Prelude.{ℕ, ◌+◌, ◌-◌, ◌<◌, ◌≤◌, ◌≡◌, ◌==◌, not, true, false, List, length}
 use Rattle.yaml_direct.specs.declared.reader.Reader.{Reader}
 use Rattle.yaml_grammar.specs.Bytes.{at, column, is_mark}
-use Rattle.yaml_grammar.specs.Gaps.{breaks, next}
+use Rattle.yaml_grammar.specs.Gaps.{breaks, ends_its_line, next}
 
 -- A reader has gone from a place to the next token, or to the end of the text, and has counted a line if one ended. In
 -- the same line only spaces come before the token; else its column is counted from where its line begins.
@@ -43,3 +43,9 @@ pub record EndsKey (text : List ℕ) (end colon : ℕ) : Type 0 where
   pub there : colon ≡ next text end
   pub in_line : breaks text end ≡ false
   pub mark : is_mark text 58 colon ≡ true
+
+-- a reader stands at the next token behind what ends its line here, and columns are counted there
+pub record IsBehindLine (text : List ℕ) (r : Reader) (end next' : ℕ) : Type 0 where
+  pub there : next' ≡ next text end
+  pub ends : ends_its_line text end ≡ true
+  pub counted : IsCounted r next'

@@ -1,9 +1,12 @@
 //! Blocks of text behind `|` or `>`.
 #![tactic(auto, using(crate::proofs::Growing::grows_on, crate::proofs::Growing::grows_same))]
 
-ghost use Rattle.std.specs.Prelude.{◌≡◌, ◌≢◌, ◌+◌, ◌++◌, ◌<◌, ◌≤◌, length, replicate, true};
+ghost use Rattle.std.specs.Prelude.{◌≡◌, ◌≢◌, ◌+◌, ◌++◌, ◌<◌, ◌≤◌, false, length, replicate, true};
+ghost use Rattle.yaml_direct.specs.BlockHeads.{chomping_as};
+ghost use Rattle.yaml_direct.specs.BlockRows.{EndsAtTab, IsIndented, ReadsEmpty, ReadsRows, kept_feeds};
 ghost use Rattle.yaml_direct.specs.Blocks.{begins_blank, joins, joint};
 ghost use Rattle.yaml_direct.specs.Places.{Grows, IsHere, IsLonger, Keeps, Reaches, no_place};
+ghost use Rattle.yaml_grammar.specs.Bytes.{is_text};
 
 use crate::byte::{at, feed_at, line_end};
 use crate::header::{Chomping, Header, detected, read_header};
@@ -29,6 +32,7 @@ fn indentation_end(text: &[u8], line: usize, indent: usize) -> usize
     requires { line ≤ length text.now }
     ensures forward { line ≤ result }
     ensures within { result ≤ length text.now }
+    ensures read { IsIndented text.now indent line result }
 {
     for (count, byte) in text[line..].iter().enumerate() {
         if count == indent || *byte != b' ' {
@@ -44,6 +48,7 @@ fn empties(text: &[u8], from: usize, indent: usize) -> EmptyLines
     requires { from ≤ length text.now }
     ensures places { (result.line ≤ result.place) × (result.place ≤ length text.now) × (from ≤ result.line) }
     ensures counted { from + result.count ≤ result.line }
+    ensures read { is_text text.now ≡ true → ReadsEmpty text.now indent from result }
 {
     let (mut count, mut line) = (0, from);
     let mut place = indentation_end(text, line, indent);
@@ -61,7 +66,8 @@ fn empties(text: &[u8], from: usize, indent: usize) -> EmptyLines
 #[inline(always)]
 fn text_end(text: &[u8], from: usize, feed: usize) -> usize
     requires { (from ≤ feed) × (feed ≤ length text.now) }
-    ensures { (from ≤ result) × (result ≤ feed) }
+    ensures part { (from ≤ result) × (result ≤ feed) }
+    ensures same { is_text text.now ≡ true → result ≡ feed }
 {
     if from < feed && text[feed - 1] == b'\r' {
         feed - 1
@@ -123,7 +129,9 @@ impl Block {
     }
 
     // How many of the last line feeds are wanted.
-    fn feeds_kept(&self, chomping: Chomping) -> usize {
+    fn feeds_kept(&self, chomping: Chomping) -> usize
+        ensures { result ≡ kept_feeds (chomping_as chomping) self.now }
+    {
         match chomping {
             Chomping::Strip => 0,
             Chomping::Clip => self.feeds.min(self.begun as usize),
@@ -162,6 +170,8 @@ impl<'a> Reader<'a> {
         ensures longer { IsLonger self.old self.new }
         ensures line { result ≡ true → self.new.tape.arena.items
             ≡ (self.old.tape.arena.items ++ joint (joins block.old line.now) block.old.feeds) ++ line.now }
+        ensures row { (block.new.folds ≡ block.old.folds) × ((block.new.begun ≡ true)
+            × ((block.new.blank ≡ begins_blank line.now) × (block.new.feeds ≡ 0))) }
     {
         let before = joint(block.joins(line), block.feeds);
         block.begun = true;
@@ -177,6 +187,11 @@ impl<'a> Reader<'a> {
         ensures reached { Reaches self.old self.new from result }
         ensures start { self.new.start ≡ self.old.start }
         ensures longer { IsLonger self.old self.new }
+        ensures found { is_text self.old.text.now ≡ true → block.old.begun ≡ false → result ≢ no_place
+            → ReadsRows self.old.text.now block.old.folds indent from result self.old.tape.arena.items
+            self.new.tape.arena.items block.new }
+        ensures missed { is_text self.old.text.now ≡ true → block.old.begun ≡ false → result ≡ no_place
+            → self.new.starved ≡ false → EndsAtTab self.old.text.now block.old.folds indent from }
     {
         let text = self.text;
         let mut next = empties(text, from, indent);

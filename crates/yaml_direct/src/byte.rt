@@ -1,9 +1,9 @@
 //! What single bytes of a text mean. A place is an index; behind the text each byte is 0.
 
-ghost use Rattle.std.specs.Prelude.{true, ◌≡◌, ◌≢◌, ◌+◌, ◌<◌, ◌≤◌, IsTrue, drop, length};
+ghost use Rattle.std.specs.Prelude.{false, true, ◌≡◌, ◌≢◌, ◌+◌, ◌<◌, ◌≤◌, ℕ, IsTrue, drop, length};
 ghost use Rattle.yaml_direct.specs.Gaps.{InLine, IsLineEnd};
 ghost use Rattle.yaml_direct.specs.Bytes.{AreBlanks, at, is_bracket, is_gap};
-ghost use Rattle.yaml_grammar.specs.Bytes.{is_mark, is_text, is_triple, parts};
+ghost use Rattle.yaml_grammar.specs.Bytes.{is_blank, is_mark, is_text, is_triple, parts};
 
 use memchr::memchr;
 
@@ -103,6 +103,8 @@ pub(crate) fn blanks_end(text: &[u8], from: usize) -> usize
     requires { from ≤ length text.now }
     ensures forward { from ≤ result }
     ensures within { result ≤ length text.now }
+    ensures blanks { (k : ℕ) → from ≤ k → k < result → is_blank (at text.now k) ≡ true }
+    ensures over { is_blank (at text.now result) ≡ false }
 {
     for (count, byte) in text[from..].iter().enumerate() {
         if !matches!(*byte, b' ' | b'\t') {

@@ -1,9 +1,12 @@
 //! Leaves within brackets, and pairs that begin with one.
 #![tactic(auto, using(crate::proofs::Growing::grows_on, crate::proofs::Growing::grows_same))]
 
-ghost use Rattle.std.specs.Prelude.{◌≡◌, ◌≢◌, ◌+◌, ◌-◌, ◌<◌, ◌≤◌, length};
+ghost use Rattle.std.specs.Prelude.{◌≡◌, ◌≢◌, ◌+◌, ◌-◌, ◌<◌, ◌≤◌, ◌⊎◌, false, length, true};
+ghost use Rattle.yaml_direct.specs.Added.{AddsFlow};
 ghost use Rattle.yaml_direct.specs.Leaves.{IsPart};
 ghost use Rattle.yaml_direct.specs.Places.{IsHere, Keeps, Reaches, no_place};
+ghost use Rattle.yaml_direct.specs.PlainTexts.{IsBrokenLine, LeavesFlow};
+ghost use Rattle.yaml_grammar.specs.Bytes.{at, is_text};
 
 use crate::byte::{at, is_bracket, is_gap};
 use crate::flow::Slot;
@@ -145,8 +148,7 @@ impl Reader<'_> {
         self.push_end(EntryKind::MappingEnd, spot(next), first, next)
     }
 
-    // A plain text within brackets behind which a line ends. It goes on in the next line unless something else
-    // stands there.
+    // A plain text within brackets behind which a line ends, and what goes with it.
     #[inline(never)]
     fn flow_plain_lines(&mut self, from: usize, first: usize, second: usize, slot: Slot) -> usize
         requires part { (from ≤ first) × (first ≤ second) }
@@ -155,6 +157,27 @@ impl Reader<'_> {
         requires within { second < length self.old.text.now }
         ensures reached { Reaches self.old self.new second result }
         ensures inside { result ≢ no_place → result < length self.old.text.now }
+    {
+        let next = reach!(self.push_flow_lines(from, first, second));
+        self.flow_no_key(next, slot)
+    }
+
+    // Adds the node as such a text, and gives the place of the next token. It goes on in the next line unless something
+    // else stands there.
+    #[inline(always)]
+    fn push_flow_lines(&mut self, from: usize, first: usize, second: usize) -> usize
+        requires part { (from ≤ first) × (first ≤ second) }
+        requires begun { self.old.start.index ≤ first }
+        requires here { IsHere self.old second }
+        requires within { second < length self.old.text.now }
+        ensures reached { Reaches self.old self.new second result }
+        ensures inside { result ≢ no_place → result < length self.old.text.now }
+        ensures found { is_text self.old.text.now ≡ true → IsBrokenLine self.old.text.now from first second
+            → self.old.named ≡ false → result ≢ no_place → at self.old.text.now result ≢ 58
+            → AddsFlow self.old self.new from result }
+        ensures missed { is_text self.old.text.now ≡ true → IsBrokenLine self.old.text.now from first second
+            → (result ≡ no_place) ⊎ (at self.old.text.now result ≡ 58) → self.new.starved ≡ false
+            → LeavesFlow self.old.text.now from }
     {
         let Ok(mut value) = Vec::from_slice(self.alloc, &self.text[from..first]) else {
             return self.starve();
@@ -167,7 +190,6 @@ impl Reader<'_> {
             next = reach!(self.flow_gap(end));
             broken = self.line != line;
         }
-        reach!(self.push_scalar(value, ScalarStyle::Plain, end, next));
-        self.flow_no_key(next, slot)
+        self.push_scalar(value, ScalarStyle::Plain, end, next)
     }
 }

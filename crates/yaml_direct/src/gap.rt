@@ -6,7 +6,7 @@ ghost use Rattle.yaml_direct.specs.Gaps.{Between, is_apart};
 ghost use Rattle.yaml_direct.specs.Places.{IsHere, Keeps, Reaches, no_place};
 ghost use Rattle.yaml_direct.specs.Tokens.{HasNoToken, IsAmidLine, IsAtNext};
 ghost use Rattle.yaml_grammar.specs.Bytes.{is_over, is_text};
-ghost use Rattle.yaml_grammar.specs.Gaps.{ends_its_line, next};
+ghost use Rattle.yaml_grammar.specs.Gaps.{breaks, ends_its_line, next};
 
 use crate::byte::{at, is_feed, line_end, spaces_end};
 use crate::place::{NO_PLACE, reach};
@@ -128,12 +128,16 @@ impl Reader<'_> {
         requires here { IsHere self.old from }
         ensures reached { Reaches self.old self.new from result }
         ensures start { self.new.start ≡ self.old.start }
+        ensures still { self.new.tape ≡ self.old.tape }
+        ensures named { self.new.named ≡ self.old.named }
         ensures inside { result ≢ no_place → result < length self.old.text.now }
         ensures found { is_text self.old.text.now ≡ true → result ≢ no_place
             → IsAtNext self.old self.new from result }
-        ensures there { is_text self.old.text.now ≡ true → IsAmidLine self.old from → result ≢ no_place
+        ensures there { is_text self.old.text.now ≡ true
+            → (breaks self.old.text.now from ≡ false → IsAmidLine self.old from) → result ≢ no_place
             → is_over self.old.text.now result ≡ false }
-        ensures missed { is_text self.old.text.now ≡ true → IsAmidLine self.old from → result ≡ no_place
+        ensures missed { is_text self.old.text.now ≡ true
+            → (breaks self.old.text.now from ≡ false → self.old.line_start < from) → result ≡ no_place
             → HasNoToken self.old.text.now from ⊎ (is_over self.old.text.now (next self.old.text.now from) ≡ true) }
     {
         let text = self.text;
@@ -152,12 +156,16 @@ impl Reader<'_> {
         requires here { IsHere self.old from }
         ensures reached { Reaches self.old self.new from result }
         ensures start { self.new.start ≡ self.old.start }
+        ensures still { self.new.tape ≡ self.old.tape }
+        ensures named { self.new.named ≡ self.old.named }
         ensures inside { result ≢ no_place → result < length self.old.text.now }
         ensures found { is_text self.old.text.now ≡ true → result ≢ no_place
             → IsAtNext self.old self.new from result }
-        ensures there { is_text self.old.text.now ≡ true → IsAmidLine self.old from → result ≢ no_place
+        ensures there { is_text self.old.text.now ≡ true
+            → (breaks self.old.text.now from ≡ false → IsAmidLine self.old from) → result ≢ no_place
             → is_over self.old.text.now result ≡ false }
-        ensures missed { is_text self.old.text.now ≡ true → IsAmidLine self.old from → result ≡ no_place
+        ensures missed { is_text self.old.text.now ≡ true
+            → (breaks self.old.text.now from ≡ false → self.old.line_start < from) → result ≡ no_place
             → HasNoToken self.old.text.now from ⊎ (is_over self.old.text.now (next self.old.text.now from) ≡ true) }
     {
         let next = reach!(self.gap(from));

@@ -1,7 +1,12 @@
 //! The first line of a block of text, and how far in its lines stand.
 
-ghost use Rattle.std.specs.Prelude.{◌≢◌, ◌≤◌, length};
+ghost use Rattle.std.specs.Option.{option_map};
+ghost use Rattle.std.specs.Prelude.{◌≡◌, ◌≢◌, ◌<◌, ◌≤◌, ◌⊎◌, None, Some, drop, if◌then◌else◌, length, max, true};
+ghost use Rattle.yaml_direct.specs.BlockHeads.{HasNoRemark, IsCommented, IsRemark, IsSpaced, ReadsHeader, ReadsSigns};
+ghost use Rattle.yaml_direct.specs.BlockHeads.{chomping_as};
 ghost use Rattle.yaml_direct.specs.Places.{no_place};
+ghost use Rattle.yaml_grammar.specs.BlockTexts.{chomping_of, found_indent, is_sign, lines_of, step_of};
+ghost use Rattle.yaml_grammar.specs.Bytes.{is_text};
 
 use crate::byte::{at, feed_at, line_end, spaces_end};
 use crate::place::NO_PLACE;
@@ -27,7 +32,9 @@ pub(crate) struct Header {
 }
 
 // What a sign in the first line of a block says, if it is one.
-fn chomping_of(byte: u8) -> Option<Chomping> {
+fn chomping_of(byte: u8) -> Option<Chomping>
+    ensures { option_map chomping_as result ≡ (if is_sign byte then Some (chomping_of byte) else None) }
+{
     match byte {
         b'-' => Some(Chomping::Strip),
         b'+' => Some(Chomping::Keep),
@@ -36,22 +43,38 @@ fn chomping_of(byte: u8) -> Option<Chomping> {
 }
 
 // How many columns further in a block stands by a digit of its first line, or 0.
-fn step_of(byte: u8) -> usize {
+fn step_of(byte: u8) -> usize
+    ensures { result ≡ step_of byte }
+{
     match byte {
         b'1'..=b'9' => (byte - b'0') as usize,
         _ => 0,
     }
 }
 
-// Where the rest of a block's first line ends: spaces, and a comment behind one.
+// Where spaces end, and a comment behind one.
+fn remark_end(text: &[u8], from: usize) -> usize
+    requires { from ≤ length text.now }
+    ensures forward { from ≤ result }
+    ensures within { result ≤ length text.now }
+    ensures read { IsCommented text.now from result ⊎ IsSpaced text.now from result }
+{
+    let place = spaces_end(text, from);
+    if place != from && at(text, place) == b'#' {
+        return line_end(text, place);
+    }
+    place
+}
+
+// Where the rest of a block's first line ends, if it is a remark.
 fn header_end(text: &[u8], from: usize) -> usize
     requires { from ≤ length text.now }
-    ensures { result ≢ no_place → (from ≤ result) × (result ≤ length text.now) }
+    ensures within { result ≢ no_place → (from ≤ result) × (result ≤ length text.now) }
+    ensures found { is_text text.now ≡ true → result ≢ no_place → IsRemark text.now from result }
+    ensures missed { is_text text.now ≡ true → length text.now < no_place → result ≡ no_place
+        → HasNoRemark text.now from }
 {
-    let mut place = spaces_end(text, from);
-    if place != from && at(text, place) == b'#' {
-        place = line_end(text, place);
-    }
+    let place = remark_end(text, from);
     let feed = feed_at(text, place);
     match at(text, feed) {
         b'\n' | 0 => feed,
@@ -59,30 +82,68 @@ fn header_end(text: &[u8], from: usize) -> usize
     }
 }
 
-// Reads a block's first line, from behind `|` or `>`: a sign and a digit, in either order.
+// What a sign and a digit say behind `|` or `>`, and where they end.
+#[derive(Clone, Copy)]
+struct Signs {
+    chomping: Chomping,
+    step: usize,
+    end: usize,
+}
+
+// A sign and a digit, in either order, one of them, or neither.
+fn read_signs(text: &[u8], from: usize) -> Signs
+    requires { from ≤ length text.now }
+    ensures { ReadsSigns text.now from result }
+{
+    let first = at(text, from);
+    if let Some(chomping) = chomping_of(first) {
+        let step = step_of(at(text, from + 1));
+        if step == 0 {
+            return Signs {
+                chomping,
+                step,
+                end: from + 1,
+            };
+        }
+        return Signs {
+            chomping,
+            step,
+            end: from + 2,
+        };
+    }
+    let step = step_of(first);
+    if step == 0 {
+        return Signs {
+            chomping: Chomping::Clip,
+            step,
+            end: from,
+        };
+    }
+    match chomping_of(at(text, from + 1)) {
+        Some(chomping) => Signs {
+            chomping,
+            step,
+            end: from + 2,
+        },
+        None => Signs {
+            chomping: Chomping::Clip,
+            step,
+            end: from + 1,
+        },
+    }
+}
+
+// Reads a block's first line, from behind `|` or `>`.
 pub(crate) fn read_header(text: &[u8], from: usize) -> Header
     requires { from ≤ length text.now }
-    ensures { result.end ≢ no_place → (from ≤ result.end) × (result.end ≤ length text.now) }
+    ensures within { result.end ≢ no_place → (from ≤ result.end) × (result.end ≤ length text.now) }
+    ensures read { is_text text.now ≡ true → length text.now < no_place → ReadsHeader text.now from result }
 {
-    let mut place = from;
-    let mut step = step_of(at(text, place));
-    if step != 0 {
-        place += 1;
-    }
-    let sign = chomping_of(at(text, place));
-    if sign.is_some() {
-        place += 1;
-        if step == 0 {
-            step = step_of(at(text, place));
-            if step != 0 {
-                place += 1;
-            }
-        }
-    }
+    let signs = read_signs(text, from);
     Header {
-        chomping: sign.unwrap_or(Chomping::Clip),
-        step,
-        end: header_end(text, place.min(text.len())),
+        chomping: signs.chomping,
+        step: signs.step,
+        end: header_end(text, signs.end),
     }
 }
 
@@ -90,6 +151,10 @@ pub(crate) fn read_header(text: &[u8], from: usize) -> Header
 // it, and at least as far as `least`. No tab may begin that line.
 pub(crate) fn detected(text: &[u8], from: usize, least: usize) -> usize
     requires { from ≤ length text.now }
+    ensures found { is_text text.now ≡ true → result ≢ no_place
+        → found_indent (max least 1) (lines_of (drop from text.now)) ≡ Some result }
+    ensures missed { is_text text.now ≡ true → length text.now < no_place → least < no_place → result ≡ no_place
+        → found_indent (max least 1) (lines_of (drop from text.now)) ≡ None }
 {
     let mut widest = least.max(1);
     let mut line = from;

@@ -1,12 +1,18 @@
 //! Plain text, in one line or in more.
 #![tactic(auto, using(crate::proofs::Growing::grows_on, crate::proofs::Growing::grows_same))]
 
-ghost use Rattle.std.specs.Prelude.{◌≡◌, ◌≢◌, ◌+◌, ◌-◌, ◌<◌, ◌≤◌, length, ℕ, Some, slice_range, true, false};
+ghost use Rattle.std.specs.Prelude.{◌≡◌, ◌≢◌, ◌+◌, ◌++◌, ◌-◌, ◌<◌, ◌≤◌, length, ℕ, IfOk, Some, replicate, slice_range};
+ghost use Rattle.std.specs.Prelude.{false, true};
+ghost use Rattle.yaml_direct.specs.Added.{AddsPlain};
 ghost use Rattle.yaml_direct.specs.Bytes.{at, may_stop, stops_at_colon, stops_plain};
 ghost use Rattle.yaml_direct.specs.Lines.{PlainLine};
 ghost use Rattle.yaml_direct.specs.Places.{IsHere, Keeps, Reaches, no_place};
+ghost use Rattle.yaml_direct.specs.PlainTexts.{HasFeeds, HasNoLine, IsFirstLine, IsFurtherLine, LeavesPlain, flow_line};
+ghost use Rattle.yaml_direct.specs.Tokens.{IsBehindLine};
 ghost use Rattle.yaml_grammar.specs.Bytes.{is_text, parts_documents};
-ghost use Rattle.yaml_grammar.specs.Plain.{as_key, begins_plain, plain_at};
+ghost use Rattle.yaml_grammar.specs.Folding.{folded};
+ghost use Rattle.yaml_grammar.specs.Gaps.{breaks};
+ghost use Rattle.yaml_grammar.specs.Plain.{as_key, begins_plain, in_brackets, plain_at};
 
 use crate::byte::{at, feed_at, is_bracket, is_gap, spaces_end};
 use crate::place::{NO_PLACE, reach};
@@ -92,6 +98,8 @@ pub(crate) fn plain_end(text: &[u8], flow: bool, from: usize) -> usize
     ensures line { PlainLine text.now flow from result }
     ensures key { is_text text.now ≡ true → flow ≡ false → begins_plain text.now false from ≡ true
         → plain_at text.now as_key from ≡ Some (result - from, slice_range text.now from result) }
+    ensures flow { is_text text.now ≡ true → flow ≡ true → begins_plain text.now true from ≡ true
+        → breaks text.now result ≡ false → plain_at text.now in_brackets from ≡ flow_line text.now from result }
 {
     let mut place = run_end(text, flow, from);
     'runs: while place < text.len() {
@@ -120,7 +128,8 @@ pub(crate) struct LineFeeds {
 // The line feeds here, and the spaces around them.
 fn feeds(text: &[u8], from: usize) -> LineFeeds
     requires { from ≤ length text.now }
-    ensures { result.end ≤ length text.now }
+    ensures within { result.end ≤ length text.now }
+    ensures read { is_text text.now ≡ true → HasFeeds text.now result.count from result.end }
 {
     let mut count = 0;
     let mut end = feed_at(text, spaces_end(text, from));
@@ -132,7 +141,9 @@ fn feeds(text: &[u8], from: usize) -> LineFeeds
 }
 
 // Puts so many line feeds behind a text.
-pub(crate) fn push_feeds(out: &mut Vec<u8>, count: usize) -> Result<(), AllocError> {
+pub(crate) fn push_feeds(out: &mut Vec<u8>, count: usize) -> Result<(), AllocError>
+    ensures { IfOk result (λ _. out.new.items ≡ out.old.items ++ replicate count 10) }
+{
     for _ in 0..count {
         out.push(b'\n')?;
     }
@@ -140,7 +151,9 @@ pub(crate) fn push_feeds(out: &mut Vec<u8>, count: usize) -> Result<(), AllocErr
 }
 
 // Puts behind a text what so many line feeds within a scalar stand for: one is a space, and of more the first goes.
-pub(crate) fn push_folded(out: &mut Vec<u8>, count: usize) -> Result<(), AllocError> {
+pub(crate) fn push_folded(out: &mut Vec<u8>, count: usize) -> Result<(), AllocError>
+    ensures { IfOk result (λ _. out.new.items ≡ out.old.items ++ folded count) }
+{
     if count == 1 {
         out.push(b' ')?;
         return Ok(());
@@ -149,7 +162,9 @@ pub(crate) fn push_folded(out: &mut Vec<u8>, count: usize) -> Result<(), AllocEr
 }
 
 // Puts behind a text what so many line feeds stand for, and then a line.
-fn push_line(out: &mut Vec<u8>, feeds: usize, line: &[u8]) -> Result<(), AllocError> {
+fn push_line(out: &mut Vec<u8>, feeds: usize, line: &[u8]) -> Result<(), AllocError>
+    ensures { IfOk result (λ _. out.new.items ≡ out.old.items ++ (folded feeds ++ line.now)) }
+{
     push_folded(out, feeds)?;
     out.extend_from_slice(line)
 }
@@ -163,6 +178,10 @@ impl<'a> Reader<'a> {
         requires begun { self.old.start.index ≤ end }
         requires here { IsHere self.old end }
         ensures reached { Reaches self.old self.new end result }
+        ensures found { is_text self.old.text.now ≡ true → IsFirstLine self.old.text.now false from end
+            → self.old.named ≡ false → result ≢ no_place → AddsPlain self.old self.new least from result }
+        ensures missed { is_text self.old.text.now ≡ true → IsFirstLine self.old.text.now false from end
+            → result ≡ no_place → self.new.starved ≡ false → LeavesPlain self.old.text.now least from }
     {
         let next = reach!(self.margin(end));
         if self.is_within(next, least) {
@@ -179,6 +198,12 @@ impl<'a> Reader<'a> {
         requires begun { self.old.start.index ≤ first }
         requires here { IsHere self.old second }
         ensures reached { Reaches self.old self.new second result }
+        ensures found { is_text self.old.text.now ≡ true → IsFirstLine self.old.text.now false from first
+            → IsBehindLine self.old.text.now self.old first second → self.old.named ≡ false → result ≢ no_place
+            → AddsPlain self.old self.new least from result }
+        ensures missed { is_text self.old.text.now ≡ true → IsFirstLine self.old.text.now false from first
+            → IsBehindLine self.old.text.now self.old first second → result ≡ no_place → self.new.starved ≡ false
+            → LeavesPlain self.old.text.now least from }
     {
         let Ok(mut value) = Vec::from_slice(self.alloc, &self.text[from..first]) else {
             return self.starve();
@@ -203,6 +228,12 @@ impl<'a> Reader<'a> {
         requires before { end ≤ next }
         ensures reached { Reaches self.old self.new (next + 1) result }
         ensures kept { Keeps self.old self.new }
+        ensures still { self.new.tape ≡ self.old.tape }
+        ensures named { self.new.named ≡ self.old.named }
+        ensures found { is_text self.old.text.now ≡ true → result ≢ no_place
+            → IsFurtherLine self.old.text.now flow end next result value.old.items value.new.items }
+        ensures missed { is_text self.old.text.now ≡ true → result ≡ no_place → self.new.starved ≡ false
+            → HasNoLine self.old.text.now flow end next }
     {
         let text = self.text;
         let feeds = feeds(text, end);

@@ -1,12 +1,15 @@
 //! Quotes, and what stands between them in one line.
 
-ghost use Rattle.std.specs.Prelude.{◌≡◌, ◌≢◌, ◌+◌, ◌-◌, ◌<◌, ◌≤◌, IfOk, IsTrue, length, true};
+ghost use Rattle.std.specs.Prelude.{◌≡◌, ◌≢◌, ◌+◌, ◌-◌, ◌<◌, ◌≤◌, ℕ, IfOk, IsTrue, false, length, slice_range, true};
 ghost use Rattle.memchr.specs.Find.{IsFirstByte};
 ghost use Rattle.std.specs.Option.{option_map};
 ghost use Rattle.yaml_direct.specs.Bytes.{at};
 ghost use Rattle.yaml_direct.specs.Places.{no_place};
 ghost use Rattle.yaml_direct.specs.Quoted.{Closes, ClosesInLine, EndsRun, IsRun, UnquotesIf, is_other, is_stop};
-ghost use Rattle.yaml_direct.specs.Quoted.{quote_of, quoted_from, style_of};
+ghost use Rattle.yaml_direct.specs.Quoted.{is_end_blank, quote_of, quoted_from, style_of};
+ghost use Rattle.yaml_direct.specs.declared.quote.Quote.{Quote};
+ghost use Rattle.yaml_grammar.specs.Bytes.{is_text};
+ghost use Rattle.yaml_grammar.specs.Folding.{with_bytes};
 
 use crate::byte::at;
 use crate::escape::read_escape;
@@ -127,8 +130,11 @@ pub(crate) fn read_other(
 }
 
 // How many blanks end a run before a line feed, with the carriage return that may stand before that.
-pub(crate) fn blanks_at_end(run: &[u8]) -> usize
-    ensures { result ≤ length run.now }
+fn blanks_at_end(run: &[u8]) -> usize
+    ensures within { result ≤ length run.now }
+    ensures blanks { (k : ℕ) → length run.now - result ≤ k → k < length run.now
+        → is_end_blank (at run.now k) ≡ true }
+    ensures dark { result < length run.now → is_end_blank (at run.now (length run.now - 1 - result)) ≡ false }
 {
     for count in 0..run.len() {
         if !matches!(run[run.len() - 1 - count], b' ' | b'\t' | b'\r') {
@@ -136,6 +142,22 @@ pub(crate) fn blanks_at_end(run: &[u8]) -> usize
         }
     }
     run.len()
+}
+
+// Where the text of a run ends, without the blanks before a line feed that ends it.
+#[inline(always)]
+pub(crate) fn run_text_end(text: &[u8], from: usize, stop: usize) -> usize
+    requires { (from ≤ stop) × (stop ≤ length text.now) }
+    ensures part { (from ≤ result) × (result ≤ stop) }
+    ensures says { is_text text.now ≡ true → (quote : Quote) → IsRun text.now quote from stop
+        → EndsRun text.now quote stop → quoted_from text.now quote from
+        ≡ with_bytes (stop - from) (slice_range text.now from result) (quoted_from text.now quote stop) }
+{
+    if at(text, stop) == b'\n' {
+        stop - blanks_at_end(&text[from..stop])
+    } else {
+        stop
+    }
 }
 
 // The text between quotes in one line, if its escapes are in due form.

@@ -2,14 +2,31 @@
 #![tactic(auto, using(crate::proofs::Growing::grows_on, crate::proofs::Growing::grows_same))]
 
 ghost use Rattle.yaml_direct.specs.Places.{IsHere, Keeps, Reaches, no_place};
-ghost use Rattle.yaml_direct.specs.Quoted.{AddsQuoted, ClosesInLine, quoted_from};
-ghost use Rattle.std.specs.Prelude.{◌≡◌, ◌≢◌, ◌+◌, ◌<◌, ◌≤◌, None, false, length};
+ghost use Rattle.yaml_direct.specs.Quoted.{AddsQuoted, ClosesInLine, EndsRun, IsLineBegin, Unquotes, UnquotesBehind};
+ghost use Rattle.yaml_direct.specs.Quoted.{is_closing, passed_by, quoted_from, quoted_rest, said_break};
+ghost use Rattle.yaml_direct.specs.declared.quote.Quote.{Quote};
+ghost use Rattle.yaml_grammar.specs.Bytes.{at, is_blank, is_text, parts};
+ghost use Rattle.std.specs.Prelude.{◌≡◌, ◌≢◌, ◌+◌, ◌++◌, ◌<◌, ◌≤◌, IfOk, None, drop, false, length, true};
 
 use crate::byte::{at, blanks_end, feed_at, parts_documents};
 use crate::place::{NO_PLACE, reach};
 use crate::plain::{push_feeds, push_folded};
-use crate::quote::{Quote, blanks_at_end, read_other, run_end, stands_for_another, unquoted};
+use crate::quote::{Quote, read_other, run_end, run_text_end, stands_for_another, unquoted};
 use crate::reader::Reader;
+use std::alloc::AllocError;
+
+// Puts behind a text what so many further line feeds stand for, where one was passed, or one behind a backslash.
+fn push_break(out: &mut Vec<u8>, passed: usize, count: usize) -> Result<(), AllocError>
+    requires few { passed ≤ 1 }
+    requires fits { count < no_place }
+    ensures { IfOk result (λ _. out.new.items ≡ out.old.items ++ said_break passed count) }
+{
+    if passed == 0 {
+        push_feeds(out, count)
+    } else {
+        push_folded(out, count + 1)
+    }
+}
 
 impl<'a> Reader<'a> {
     // Adds the node as a scalar between quotes in one line, some of which stands for something else.
@@ -45,6 +62,12 @@ impl<'a> Reader<'a> {
         requires within { place ≤ length self.old.text.now }
         ensures reached { Reaches self.old self.new place result }
         ensures start { self.new.start ≡ self.old.start }
+        ensures still { self.new.tape ≡ self.old.tape }
+        ensures named { self.new.named ≡ self.old.named }
+        ensures found { is_text self.old.text.now ≡ true → result ≢ no_place
+            → IsLineBegin self.old.text.now place result }
+        ensures missed { is_text self.old.text.now ≡ true → result ≡ no_place
+            → parts (drop place self.old.text.now) ≡ true }
     {
         self.begin_line(place);
         if parts_documents(self.text, place) {
@@ -60,6 +83,14 @@ impl<'a> Reader<'a> {
         requires few { passed ≤ 1 }
         ensures reached { Reaches self.old self.new from result }
         ensures start { self.new.start ≡ self.old.start }
+        ensures still { self.new.tape ≡ self.old.tape }
+        ensures named { self.new.named ≡ self.old.named }
+        ensures found { is_text self.old.text.now ≡ true → is_blank (at self.old.text.now from) ≡ false
+            → result ≢ no_place → (quote : Quote)
+            → UnquotesBehind self.old.text.now quote (passed_by passed) from result value.old.items value.new.items }
+        ensures missed { is_text self.old.text.now ≡ true → is_blank (at self.old.text.now from) ≡ false
+            → result ≡ no_place → self.new.starved ≡ false → (quote : Quote)
+            → quoted_rest quote false (passed_by passed) (drop from self.old.text.now) ≡ None }
     {
         let mut count = 0;
         let mut place = from;
@@ -67,12 +98,7 @@ impl<'a> Reader<'a> {
             count += 1;
             place = reach!(self.begin_quoted_line(place + 1));
         }
-        let pushed = if passed == 0 {
-            push_feeds(value, count)
-        } else {
-            push_folded(value, count + 1)
-        };
-        match pushed {
+        match push_break(value, passed, count) {
             Ok(()) => place,
             Err(_) => self.starve(),
         }
@@ -84,6 +110,13 @@ impl<'a> Reader<'a> {
         requires here { IsHere self.old stop }
         ensures reached { Reaches self.old self.new (stop + 1) result }
         ensures start { self.new.start ≡ self.old.start }
+        ensures still { self.new.tape ≡ self.old.tape }
+        ensures named { self.new.named ≡ self.old.named }
+        ensures found { is_text self.old.text.now ≡ true → EndsRun self.old.text.now quote stop → result ≢ no_place
+            → Unquotes self.old.text.now quote stop result value.old.items value.new.items }
+        ensures missed { is_text self.old.text.now ≡ true → EndsRun self.old.text.now quote stop
+            → is_closing self.old.text.now quote stop ≡ false → result ≡ no_place → self.new.starved ≡ false
+            → quoted_from self.old.text.now quote stop ≡ None }
     {
         let text = self.text;
         if at(text, stop) == b'\n' {
@@ -114,17 +147,17 @@ impl<'a> Reader<'a> {
         requires within { from < length self.old.text.now }
         requires begun { self.old.start.index ≤ from }
         ensures reached { Reaches self.old self.new from result }
+        ensures found { is_text self.old.text.now ≡ true → self.old.named ≡ false → result ≢ no_place
+            → AddsQuoted self.old self.new quote (from + 1) result }
+        ensures missed { is_text self.old.text.now ≡ true → result ≡ no_place → self.new.starved ≡ false
+            → quoted_from self.old.text.now quote (from + 1) ≡ None }
     {
         let text = self.text;
         let mut value = Vec::new(self.alloc);
         let mut place = from + 1;
         'runs: while place < text.len() {
             let stop = run_end(text, quote, place);
-            let kept = if at(text, stop) == b'\n' {
-                stop - blanks_at_end(&text[place..stop])
-            } else {
-                stop
-            };
+            let kept = run_text_end(text, place, stop);
             let Ok(()) = value.extend_from_slice(&text[place..kept]) else {
                 return self.starve();
             };

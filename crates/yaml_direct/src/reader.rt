@@ -148,6 +148,7 @@ impl<'a> Reader<'a> {
     #[inline(always)]
     pub(crate) fn is_over(&self, next: usize) -> bool
         ensures inside { result ≡ false → next ≡ length self.now.text.now → ⊥ }
+        ensures ends { result ≡ true → next ≢ self.now.line_start → next ≡ length self.now.text.now }
         ensures same { is_text self.now.text.now ≡ true → IsLined self.now next
             → result ≡ is_over self.now.text.now next }
     {

@@ -1,4 +1,4 @@
-use Rattle.std.proofs.Common.{◌≡◌, ◌==◌, ◌||◌, not, true, false, refl, sym, subst, ◌∙◌, arith}
+use Rattle.std.proofs.Common.{◌≡◌, ◌==◌, ◌||◌, not, true, refl, sym, subst, ◌∙◌, arith}
 use Rattle.yaml_direct.specs.Gaps.{Gap, a_blank, a_comment, a_line_feed, a_return}
 use Rattle.yaml_direct.proofs.GapLaws.{behind_end, counted, or_true, whole_gap}
 use Rattle.yaml_direct.proofs.GapTurns.{apart_behind, feed_on, goes_comment, goes_feed, goes_space, no_byte, no_sharp}

@@ -1,0 +1,8 @@
+-- Blanks stand up to here.
+use Rattle.std.proofs.Common.{◌≡◌, ◌≤◌, ◌<◌, ◌+◌, ℕ, true}
+use Rattle.yaml_direct.specs.Bytes.{at}
+use Rattle.yaml_direct.proofs.byte.blanks_end.Given as goal
+use Rattle.yaml_grammar.specs.Bytes.{is_blank}
+
+abbrev pub invariant-loop-count : goal.invariant-loop-count
+invariant-loop-count l = (k : ℕ) → l.from ≤ k → k < l.from + l.count → is_blank (at l.text k) ≡ true
