@@ -1,5 +1,7 @@
 -- The printed text of a refused table of shapes.
-use Rattle.std.specs.Prelude.{ℕ, List, ◌++◌, codes, decimal}
+use Rattle.std.specs.Prelude.{ℕ, List, ◌++◌, None, codes, decimal}
+use Rattle.yaml_base.specs.declared.error.Cause.{Cause}
+use Rattle.yaml_base.specs.declared.error.Cause.TheVariants as cause
 use Rattle.yaml_shape.specs.declared.fault.SchemaFault.{SchemaFault}
 use Rattle.yaml_shape.specs.declared.fault.SchemaFault.TheVariants.{OutsideTable, OptionCycle, NameTwice, TooManyShapes}
 use Rattle.yaml_shape.specs.declared.fault.SchemaFault.TheVariants.{Memory}
@@ -11,3 +13,8 @@ schema_fault_text (OptionCycle number) = codes "shape " ++ (decimal number ++ co
 schema_fault_text (NameTwice number) = codes "shape " ++ (decimal number ++ codes " has a name twice")
 schema_fault_text TooManyShapes = codes "more than 4096 shapes"
 schema_fault_text Memory = codes "out of memory"
+
+-- the cause that such a refusal is: its text, if it is no want of memory
+abbrev pub schema_cause : SchemaFault → Cause
+schema_cause Memory = cause.Memory
+schema_cause fault = cause.Custom (schema_fault_text fault) None

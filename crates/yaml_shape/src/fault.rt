@@ -1,11 +1,12 @@
 //! Why a table of shapes is no schema.
 
-ghost use Rattle.std.specs.Prelude.{◌≡◌, Some};
-ghost use Rattle.yaml_shape.specs.SchemaFaultText.{schema_fault_text};
+ghost use Rattle.std.specs.Prelude.{◌≡◌, Some, false};
+ghost use Rattle.yaml_base.specs.Answer.{is_memory};
+ghost use Rattle.yaml_shape.specs.SchemaFaultText.{schema_cause, schema_fault_text};
 
-use std::alloc::{AllocError, AllocFailed};
-use std::error::Error;
+use std::alloc::{AllocError, AllocFailed, Global};
 use std::fmt;
+use yaml_base::{Cause, Error};
 
 /// Why a table of shapes is no schema. A number is that of the least shape concerned.
 #[derive(Debug, Drop, PartialEq, Eq)]
@@ -55,6 +56,22 @@ impl SchemaFault {
     }
 }
 
+impl SchemaFault {
+    /// The fault of a reading or a writing that this is: its text, or want of memory. The text takes memory, so there
+    /// is no `From`: write `fault.into_error(alloc)`, or `map_err(|fault| fault.into_error(alloc))?`.
+    pub fn into_error(self, alloc: Global) -> Error
+        ensures { is_memory result ≡ false → result ≡ schema_cause self }
+    {
+        match self {
+            SchemaFault::Memory => Error::new(Cause::Memory),
+            fault => match fault.to_string(alloc) {
+                Ok(text) => Error::custom(text),
+                Err(refused) => refused.into(),
+            },
+        }
+    }
+}
+
 impl fmt::Display for SchemaFault {
     ghost output = { λ fault. Some (schema_fault_text fault) };
 
@@ -72,7 +89,7 @@ impl fmt::Display for SchemaFault {
     }
 }
 
-impl Error for SchemaFault {}
+impl std::error::Error for SchemaFault {}
 
 impl From<AllocError> for SchemaFault {
     ghost use Rattle.yaml_shape.specs.declared.fault.SchemaFault.TheVariants.{Memory};

@@ -1,9 +1,11 @@
 -- What contracts of this crate cite.
+pub mod Change
 pub mod Find
 pub mod Forms
 pub mod Kinds
 pub mod Merge
 pub mod Numbers
+pub mod Path
 pub mod PlainEqual
 pub mod PlainValue
 pub mod Small

@@ -1,15 +1,105 @@
 //! Changing a value in place.
 
-ghost use Rattle.std.specs.Prelude.{◌≡◌, IfOk, IfSome, IsSomeAnd, option_and_then, option_map};
+ghost use Rattle.std.specs.Prelude.{◌≡◌, IfOk, IfSome, IsSomeAnd, OnErr, option_and_then, option_map};
+ghost use Rattle.yaml_value.specs.Change.{Inserts, Removes};
 ghost use Rattle.yaml_value.specs.Find.{HasFewPairs, IsValueAt, get, item_in_place, items_in, pairs_in};
 ghost use Rattle.yaml_value.specs.PlainValue.{null, tagged, text as plain_text};
-ghost use Rattle.yaml_value.specs.View.{plain, plain_items, plain_pairs, tag_text};
+ghost use Rattle.yaml_value.specs.View.{plain, plain_items, plain_pairs, plain_tagged, tag_text};
 
 use crate::mapping::Mapping;
 use crate::tag::Tag;
 use crate::value::{TaggedValue, Value};
 use std::alloc::{AllocError, Global};
 use std::mem;
+
+// Puts a value at a key of the mapping that a value is, or becomes of null. What is neither gives it back.
+#[cycle(put)]
+fn put_at(
+    value: &mut Value,
+    alloc: Global,
+    key: Value,
+    part: Value,
+) -> Result<Option<Value>, AllocError>
+    ensures put { IfOk result (λ told. Inserts (plain key) (plain part) (plain value.old) (plain value.new)
+        (option_map plain told)) }
+    ensures err { OnErr result (plain value.new ≡ plain value.old) }
+{
+    match value.take() {
+        Value::Null => {
+            let mut mapping = Mapping::new(alloc);
+            mapping.append(key, part)?;
+            *value = Value::Mapping(mapping);
+            Ok(None)
+        }
+        Value::Mapping(mut mapping) => {
+            let told = mapping.insert(key, part);
+            *value = Value::Mapping(mapping);
+            told
+        }
+        Value::Tagged(mut tagged) => {
+            let told = put_under(&mut *tagged, alloc, key, part);
+            *value = Value::Tagged(tagged);
+            told
+        }
+        whole => {
+            *value = whole;
+            Ok(Some(part))
+        }
+    }
+}
+
+// The same of what a tag is around.
+#[cycle(put)]
+fn put_under(
+    tagged: &mut TaggedValue,
+    alloc: Global,
+    key: Value,
+    part: Value,
+) -> Result<Option<Value>, AllocError>
+    ensures tag { (plain_tagged tagged.new).0 ≡ (plain_tagged tagged.old).0 }
+    ensures put { IfOk result (λ told. Inserts (plain key) (plain part) (plain_tagged tagged.old).1
+        (plain_tagged tagged.new).1 (option_map plain told)) }
+    ensures err { OnErr result ((plain_tagged tagged.new).1 ≡ (plain_tagged tagged.old).1) }
+{
+    put_at(&mut tagged.value, alloc, key, part)
+}
+
+// Takes the value at a key that is a text out of the mapping that a value is.
+#[cycle(remove)]
+fn remove_at(value: &mut Value, key: &str) -> Option<Value>
+    ensures taken { Removes (plain_text key.now) (plain value.old) (plain value.new) (option_map plain result) }
+    ensures few { HasFewPairs (pairs_in (plain value.old)) → option_map plain result
+        ≡ get key.now (plain value.old) }
+{
+    match value.take() {
+        Value::Mapping(mut mapping) => {
+            let told = mapping.remove(key);
+            *value = Value::Mapping(mapping);
+            told
+        }
+        Value::Tagged(mut tagged) => {
+            let told = remove_under(&mut *tagged, key);
+            *value = Value::Tagged(tagged);
+            told
+        }
+        whole => {
+            *value = whole;
+            None
+        }
+    }
+}
+
+// The same of what a tag is around.
+#[cycle(remove)]
+fn remove_under(tagged: &mut TaggedValue, key: &str) -> Option<Value>
+    ensures tag { (plain_tagged tagged.new).0 ≡ (plain_tagged tagged.old).0 }
+    ensures taken { Removes (plain_text key.now) (plain_tagged tagged.old).1 (plain_tagged tagged.new).1
+        (option_map plain result) }
+    ensures few { HasFewPairs (pairs_in (plain_tagged tagged.old).1) → option_map plain result
+        ≡ get key.now (plain_tagged tagged.old).1 }
+{
+    remove_at(&mut tagged.value, key)
+}
 
 impl Value {
     /// A text, which is copied.
@@ -72,25 +162,28 @@ impl Value {
     }
 
     /// Puts a value at a key that is a text, and answers the one that was there. Null becomes a mapping first. What is
-    /// neither stays as it is, and the value is given back.
+    /// neither stays as it is, and the value is given back. Where memory is wanting, it stays as it was.
     pub fn insert(
         &mut self,
         alloc: Global,
         key: &str,
         value: Value,
-    ) -> Result<Option<Value>, AllocError> {
-        if matches!(self, Value::Null) {
-            *self = Value::Mapping(Mapping::new(alloc));
-        }
-        match self.as_mapping_mut() {
-            Some(mapping) => mapping.insert(Value::text(alloc, key)?, value),
-            None => Ok(Some(value)),
-        }
+    ) -> Result<Option<Value>, AllocError>
+        ensures put { IfOk result (λ told. Inserts (plain_text key.now) (plain value) (plain self.old)
+            (plain self.new) (option_map plain told)) }
+        ensures err { OnErr result (plain self.new ≡ plain self.old) }
+    {
+        let key = Value::text(alloc, key)?;
+        put_at(self, alloc, key, value)
     }
 
     /// Takes the value at a key that is a text out of the mapping that it is. The others stay in their order.
-    pub fn remove(&mut self, key: &str) -> Option<Value> {
-        self.as_mapping_mut()?.remove(key)
+    pub fn remove(&mut self, key: &str) -> Option<Value>
+        ensures taken { Removes (plain_text key.now) (plain self.old) (plain self.new) (option_map plain result) }
+        ensures few { HasFewPairs (pairs_in (plain self.old)) → option_map plain result
+            ≡ get key.now (plain self.old) }
+    {
+        remove_at(self, key)
     }
 
     /// Takes the value out, and leaves null.

@@ -1,0 +1,3 @@
+-- What contracts of this crate cite.
+pub mod Asks
+pub mod Through

@@ -1,0 +1,3 @@
+//! The same as `singleton_map`, which takes optional enums too.
+
+pub use crate::singleton_map::{deserialize, serialize};
