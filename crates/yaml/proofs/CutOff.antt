@@ -67,3 +67,9 @@ allowed_of_one (Ok value) (Ok found) text documents left d parsed first none is_
 allowed_of_one (Ok value) (Err cause) text documents left d parsed first none is_read whole =
     let bad = is_read in absurd cc
 allowed_of_one (Err cause) read text documents left d parsed first none is_read whole = tt
+
+-- a value of a document that is cut off as another is one of that
+pub same_ending : {X : Type 0} (read : Result X Cause) (treated ending : Option Cause) → treated ≡ ending
+    → OnOk read (treated ≡ None) → OnOk read (ending ≡ None)
+same_ending (Ok value) treated ending same whole = sym same ∙ whole
+same_ending (Err cause) treated ending same whole = tt

@@ -1,10 +1,7 @@
 -- Which name a step picks: of a key, or of a variant.
 use Rattle.std.specs.Prelude.{◌≡◌, ◌⊎◌, ℕ, List, Some, None, Bool, true, false, ◌&&◌}
-use Rattle.std.specs.List.{list_any}
 use Rattle.serde.specs.Names.{Finds}
 use Rattle.serde.specs.declared.name.Name.{Name}
-use Rattle.serde.specs.declared.name.NameKind.{NameKind}
-use Rattle.serde.specs.declared.name.NameKind.TheVariants.{Field, Variant}
 use Rattle.yaml.specs.Around.{Standing, standing, next_tag, next_target, LeftFollowing, frame_here, Opens}
 use Rattle.yaml.specs.Collections.{ReachesEntry}
 use Rattle.yaml.specs.NodeSteps.{TookText}
@@ -12,6 +9,7 @@ use Rattle.yaml.specs.TagSteps.{TookMark}
 use Rattle.yaml.specs.declared.frame.Kind.TheVariants as kind
 use Rattle.yaml.specs.declared.leaf.Leaf.TheVariants as leaf
 use Rattle.yaml.specs.declared.reader.Reader.{Reader}
+use Rattle.yaml_with.specs.Asks.{asks_for_variants}
 
 -- the next node's text was read as the name of a field or of a variant
 abbrev pub TookName : List ℕ → Standing → Standing → Type 0
@@ -45,15 +43,6 @@ pub record TookKey (name : List ℕ) (old new : Standing) : Type 0 where
   pub key : Standing
   pub reaches : ReachesEntry old key
   pub took : TookName name key new
-
--- a name is that of a variant
-abbrev pub is_variant : NameKind → Bool
-is_variant Field = false
-is_variant Variant = true
-
--- one of the names is
-abbrev pub asks_for_variants : List Name → Bool
-asks_for_variants names = list_any (λ n. is_variant n.kind) names
 
 -- the name was read of a variant, or of the next key
 abbrev pub TookKeyOr : (variant : Bool) → List ℕ → Standing → Standing → Type 0

@@ -6,18 +6,18 @@ ghost use Rattle.yaml.specs.Around.{standing};
 ghost use Rattle.yaml.specs.Collections.{AtEntry, EndsMap, LeavesCollection, LeavesMap, LeavesSeq};
 ghost use Rattle.yaml.specs.Collections.{ReachesEntry};
 ghost use Rattle.yaml.specs.NodeSteps.{TookNothing};
-ghost use Rattle.yaml.specs.Picks.{Chooses, TookAs, TookKeyOr, TookName, asks_for_variants};
-ghost use Rattle.yaml.specs.Picks.{is_variant};
+ghost use Rattle.yaml.specs.Picks.{Chooses, TookAs, TookKeyOr, TookName};
 
 use crate::frame::{Deed, Kind, Last, Stranger};
 use crate::leaf::Leaf;
 use crate::makers::is_fatal;
 use crate::reader::Reader;
 use crate::tagged::asks_for_tag;
-use serde::{Case, Name, NameKind, find};
+use serde::{Case, Name, find};
 use yaml_base::Result;
 use yaml_read::DocEvent;
 use yaml_shape::Data;
+use yaml_with::asks_for_variants;
 
 impl Stranger {
     // It is now the name that the last step read, which is not among the names.
@@ -33,22 +33,6 @@ impl Stranger {
         }
         Ok(())
     }
-}
-
-fn is_variant(kind: NameKind) -> bool
-    ensures { result ≡ is_variant kind }
-{
-    match kind {
-        NameKind::Field => false,
-        NameKind::Variant => true,
-    }
-}
-
-// Whether a variant is among the names.
-fn asks_for_variants(names: &[Name<'_>]) -> bool
-    ensures { result ≡ asks_for_variants names.now }
-{
-    names.iter().any(|name| is_variant(name.kind))
 }
 
 // The case of all names, where they have the same.

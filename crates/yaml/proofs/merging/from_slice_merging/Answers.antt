@@ -1,13 +1,6 @@
 -- A value is given of a text that was parsed to one document, which is cut off as the one that is read.
-use Rattle.std.proofs.Common.{◌≡◌, None, OnOk, Option, Result, Ok, Err, sym, ◌∙◌}
-use Rattle.yaml.proofs.CutOff.{allowed_of_one, value_of_one}
-use Rattle.yaml_base.specs.declared.error.Cause.{Cause}
+use Rattle.yaml.proofs.CutOff.{allowed_of_one, same_ending, value_of_one}
 use Rattle.yaml.proofs.merging.from_slice_merging.Goals as goal
-
-same_ending : {X : Type 0} (read : Result X Cause) (treated ending : Option Cause) → treated ≡ ending
-    → OnOk read (treated ≡ None) → OnOk read (ending ≡ None)
-same_ending (Ok value) treated ending same whole = sym same ∙ whole
-same_ending (Err cause) treated ending same whole = tt
 
 pub returns-clause-one : goal.returns-clause-one
 returns-clause-one g c =
