@@ -1,7 +1,8 @@
 #!/bin/sh
 # Makes what pages list of the repository: the files of specs/, in docs/DEFINITIONS.md, each with the first sentence that
 # stands in it, and how many rows, tests and edits there are, in docs/TESTING.md. Then it sees that what pages name is
-# there: a page that is linked to, a file, and each name between backquotes in a source or a script.
+# there: a page that is linked to, a file, each name between backquotes in a source or a script, and each row that
+# docs/TESTING.md shows.
 #
 # usage: pages.sh [--check]   With --check nothing is written. Status 1 where a list is another, or a name is not there.
 set -eu
@@ -144,6 +145,14 @@ put docs/DEFINITIONS.md scaffolding
 # with a comma between thousands
 counts | sed -e :more -e 's/\([0-9]\)\([0-9][0-9][0-9]\)\([^0-9]\)/\1,\2\3/' -e t\ more > "$work/made"
 put docs/TESTING.md counts
+
+# rows that are shown
+awk '/^```$/ { inside = !inside; next } inside && /  => /' docs/TESTING.md > "$work/shown"
+cat crates/yaml_probe/rows/*.rows crates/derived_case/stdout > "$work/rows"
+if grep -vxFf "$work/rows" "$work/shown"; then
+    echo "docs/TESTING.md: there are no such rows"
+    exit 1
+fi
 
 # what is there: files, and the words of sources, of scripts, and of what the crates stand on
 git ls-files -co --exclude-standard > "$work/there" 2> /dev/null ||
