@@ -1,16 +1,15 @@
 -- Leaves that were added, as nodes of the grammar.
-use Rattle.std.proofs.Common.{ℕ, suc, ◌+◌, ◌-◌, ◌≡◌, ◌≢◌, ◌≤◌, ◌==◌, ◌&&◌, not, Bool, true, false, List, [], ◌∷◌, ◌++◌, Option}
+use Rattle.std.proofs.Common.{ℕ, suc, ◌+◌, ◌-◌, ◌≡◌, ◌≢◌, ◌≤◌, ◌==◌, not, Bool, true, false, List, [], ◌∷◌, ◌++◌, Option}
 use Rattle.std.proofs.Common.{Some, None, refl, sym, subst, ap, ap₂, ◌∙◌, arith, slice_range}
-use Rattle.std.proofs.lemmas.Bool.{and_parts, eq-eqb, eqb-true, false≢true, ne_eqb}
-use Rattle.std.specs.Option.{is_none, option_map}
+use Rattle.std.proofs.lemmas.Bool.{and_parts, false≢true, ne_eqb}
+use Rattle.std.specs.Option.{option_map}
 use Rattle.std.specs.Prelude.{IfSome}
-use Rattle.yaml_base.specs.PlainEvent.{PlainEvent, alias, scalar}
-use Rattle.yaml_base.specs.Position.{Position}
+use Rattle.yaml_base.specs.PlainEvent.{alias, scalar}
 use Rattle.yaml_base.specs.declared.event.ScalarStyle.{ScalarStyle}
 use Rattle.yaml_base.specs.declared.event.ScalarStyle.TheVariants as style
 use Rattle.yaml_direct.specs.Added.{Adds, AddsLeaf, AddsNode, AddsScalar, HasNoLeaf}
 use Rattle.yaml_direct.specs.Held.{IsUnnamed, names_of}
-use Rattle.yaml_direct.specs.Leaves.{IsAliasLeaf, IsFound, IsLeaf, IsPlainLeaf, whole_alias, whole_plain, whole_quotes}
+use Rattle.yaml_direct.specs.Leaves.{IsLeaf, whole_alias, whole_plain, whole_quotes}
 use Rattle.yaml_direct.specs.Quoted.{AddsQuoted, ClosesInLine, HasKind, IsQuotedLeaf, quote_of, quoted_from, style_of}
 use Rattle.yaml_direct.specs.declared.leaf.Leaf.{Leaf as Found}
 use Rattle.yaml_direct.specs.declared.leaf.LeafKind.{LeafKind}
@@ -21,7 +20,7 @@ use Rattle.yaml_direct.specs.declared.reader.Reader.{Reader}
 use Rattle.yaml_grammar.specs.Bytes.{at, is_gap, is_indicator}
 use Rattle.yaml_grammar.specs.Folding.{Rest}
 use Rattle.yaml_grammar.specs.Leaves.{Leaf, alias_at, in_style, leaf_at, leaf_node, styled, to_anchor}
-use Rattle.yaml_grammar.specs.Names.{Names, is_unnamed, name_end, unnamed}
+use Rattle.yaml_grammar.specs.Names.{Names, name_end, unnamed}
 use Rattle.yaml_grammar.specs.Nodes.{Node, mark, node_events, scalar_at}
 use Rattle.yaml_grammar.specs.Nodes as nodes
 use Rattle.yaml_grammar.specs.Plain.{Context, begins_plain, is_flow, plain_at}

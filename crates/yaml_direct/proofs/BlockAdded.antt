@@ -1,7 +1,7 @@
 -- A block of lines that was added.
-use Rattle.std.proofs.Common.{ℕ, zero, suc, ◌+◌, ◌-◌, ◌<◌, ◌≤◌, ◌≡◌, ◌==◌, ◌||◌, inl, inr, Bool, true, false, List, ◌++◌}
+use Rattle.std.proofs.Common.{ℕ, zero, suc, ◌+◌, ◌-◌, ◌<◌, ◌≤◌, ◌≡◌, ◌==◌, inl, inr, Bool, true, List, ◌++◌}
 use Rattle.std.proofs.Common.{Some, refl, sym, subst, ap, ◌∙◌, arith, drop, length, replicate}
-use Rattle.std.proofs.lemmas.Bool.{cases_Bool, eq-eqb, or_left, or_right}
+use Rattle.std.proofs.lemmas.Bool.{cases_Bool, eq-eqb, or_right}
 use Rattle.std.proofs.lemmas.List.{get_or_past}
 use Rattle.yaml_base.specs.declared.event.ScalarStyle.{ScalarStyle}
 use Rattle.yaml_direct.specs.Added.{AddsBlock, AddsScalar, LeavesBlock, begins_block}
@@ -14,7 +14,7 @@ use Rattle.yaml_direct.proofs.BlockWhole.{block_is}
 use Rattle.yaml_direct.proofs.ColumnLaws.{feed_column, first_column}
 use Rattle.yaml_direct.proofs.NextLaws.{before_apart, sharp_moves}
 use Rattle.yaml_direct.proofs.PlainLeaves.{adds_scalar_marked, adds_scalar_on}
-use Rattle.yaml_grammar.specs.BlockTexts.{Header, header_of}
+use Rattle.yaml_grammar.specs.BlockTexts.{header_of}
 use Rattle.yaml_grammar.specs.Blocks.{block_style}
 use Rattle.yaml_grammar.specs.Bytes.{at, column}
 use Rattle.yaml_grammar.specs.Gaps.{breaks, next}

@@ -1,8 +1,8 @@
 -- A block of lines: its first line, and the lines behind it.
-use Rattle.std.proofs.Common.{ℕ, suc, ◌+◌, ◌-◌, ◌<◌, ◌≤◌, ◌≡◌, ◌≢◌, ◌==◌, ◌||◌, inl, inr, Bool, true, false, List, [], ◌∷◌}
-use Rattle.std.proofs.Common.{◌++◌, Option, Some, None, refl, sym, subst, ap, ap₂, ◌∙◌, arith, drop, length, slice_range}
-use Rattle.std.proofs.Common.{max, nat_le, append-nil, take, replicate}
-use Rattle.std.proofs.lemmas.Bool.{cases_eq, cases_lt, eq-eqb, false≢true, le-leb, lt-leb}
+use Rattle.std.proofs.Common.{ℕ, suc, ◌+◌, ◌-◌, ◌<◌, ◌≤◌, ◌≡◌, ◌≢◌, ◌==◌, inl, inr, Bool, true, false, List, [], ◌∷◌}
+use Rattle.std.proofs.Common.{◌++◌, Option, Some, None, refl, sym, subst, ap, ◌∙◌, arith, drop, length, slice_range}
+use Rattle.std.proofs.Common.{max, append-nil, take, replicate}
+use Rattle.std.proofs.lemmas.Bool.{cases_lt, false≢true, le-leb, lt-leb}
 use Rattle.std.proofs.lemmas.List.{append_assoc, drop_at, length-append, take_all}
 use Rattle.std.specs.Option.{option_map}
 use Rattle.std.specs.Prelude.{if◌then◌else◌}

@@ -4,20 +4,19 @@ use Rattle.std.proofs.Common.{false, List, [], ◌∷◌, ◌++◌, Option, Some
 use Rattle.std.proofs.Common.{append_assoc, append-nil, drop, get_or, length, not, take, nat_eq, nat_lt, codes, slice_range}
 use Rattle.std.proofs.lemmas.Bool.{and_parts, cases_eq, cases_lt, eq-eqb, eqb-true, false_from_ne_true, false≢true, lt-ltb}
 use Rattle.std.proofs.lemmas.Bool.{ltb-true, ne_eqb, or_cases}
-use Rattle.std.proofs.lemmas.List.{drop_at, get_or-drop, get_or-take, get_or_past, length-drop, length-take-le, take_all}
-use Rattle.std.proofs.lemmas.List.{take-append-drop}
+use Rattle.std.proofs.lemmas.List.{drop_at, get_or-take, get_or_past, length-drop, take_all}
 use Rattle.std.proofs.lemmas.List.Folds.{list_any_at, list_any_none}
 use Rattle.std.proofs.lemmas.Str.{IsUtf8-from_ascii, IsUtf8-from_is_utf8, is_utf8-from_IsUtf8}
 use Rattle.std.proofs.lemmas.Str.Ascii.{IsAscii-from_all}
 use Rattle.std.specs.Char.{digit_value}
 use Rattle.std.specs.List.{list_all, list_any}
 use Rattle.std.specs.Option.{is_some, option_and_then, option_map}
-use Rattle.std.specs.Prelude.{All, if◌then◌else◌}
+use Rattle.std.specs.Prelude.{if◌then◌else◌}
 use Rattle.std.specs.Str.{IsUtf8, is_utf8}
 use Rattle.memchr.specs.Find.{Nowhere, Passes, is_byte}
 use Rattle.yaml_base.specs.QuotedLines.{before, digits, none}
 use Rattle.yaml_direct.specs.Bytes.{at}
-use Rattle.yaml_direct.specs.Tags.{IsSimple, Unescapes, closed_end, handle_as}
+use Rattle.yaml_direct.specs.Tags.{IsSimple, Unescapes, closed_end}
 use Rattle.yaml_direct.proofs.NextLaws.{bytes_at}
 use Rattle.yaml_grammar.specs.Bytes.{is_one_of}
 use Rattle.yaml_grammar.specs.Names.{Handle, checked, core, count_while, decoded, ends_tag, handle_of, is_local}

@@ -1,5 +1,5 @@
 -- How a tag is written, in the words of the grammar.
-use Rattle.std.specs.Prelude.{ℕ, suc, ◌+◌, ◌≡◌, ◌<◌, ◌++◌, ◌∷◌, ◌==◌, [], List, Option, None, Some, All, MatchOption, drop}
+use Rattle.std.specs.Prelude.{ℕ, ◌+◌, ◌≡◌, ◌<◌, ◌++◌, ◌∷◌, ◌==◌, [], List, Option, None, Some, All, MatchOption, drop}
 use Rattle.std.specs.Prelude.{if◌then◌else◌}
 use Rattle.yaml_base.specs.QuotedLines.{before, digits, none}
 use Rattle.yaml_direct.specs.Bytes.{at}

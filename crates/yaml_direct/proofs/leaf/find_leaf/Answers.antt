@@ -4,7 +4,6 @@ use Rattle.yaml_direct.specs.Leaves.{an_alias, in_quotes, plain_text}
 use Rattle.yaml_direct.specs.declared.quote.Quote.TheVariants.{Double, Single}
 use Rattle.yaml_direct.proofs.AddedLeaves.{if_some, no_plain, no_star_at}
 use Rattle.yaml_direct.proofs.leaf.find_leaf.Goals as goal
-use Rattle.yaml_grammar.specs.Bytes.{at}
 use Rattle.yaml_grammar.specs.Names.{name_end}
 use Rattle.yaml_grammar.specs.Plain.{begins_plain}
 

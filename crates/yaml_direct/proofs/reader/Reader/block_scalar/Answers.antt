@@ -1,5 +1,5 @@
 -- All of a block, or what leaves it.
-use Rattle.std.proofs.Common.{◌≡◌, ◌<◌, ◌≤◌, ◌+◌, ◌++◌, ◌==◌, ◌∙◌, ap, arith, drop, length, refl, replicate, slice_range, subst, sym}
+use Rattle.std.proofs.Common.{◌≡◌, ◌≤◌, ◌+◌, ◌++◌, ◌==◌, ◌∙◌, ap, arith, drop, length, refl, replicate, slice_range, subst, sym}
 use Rattle.std.proofs.Common.{true}
 use Rattle.std.proofs.lemmas.List.{length-drop}
 use Rattle.yaml_direct.specs.Added.{AddsScalar}
@@ -12,7 +12,6 @@ use Rattle.yaml_direct.proofs.reader.Reader.block_scalar.Goals as goal
 use Rattle.yaml_grammar.specs.BlockTexts.{header_of}
 use Rattle.yaml_grammar.specs.Bytes.{at, is_text}
 use Rattle.yaml_grammar.specs.Gaps.{next}
-use Rattle.yaml_tape.specs.Pushes.{marked_on}
 
 pub returns-then-place-clause-found : goal.returns-then-place-clause-found
 returns-then-place-clause-found c = λ h few begins some. absurd (some refl)

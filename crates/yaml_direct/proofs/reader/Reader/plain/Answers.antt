@@ -1,5 +1,5 @@
 -- One line, or more.
-use Rattle.std.proofs.Common.{false, refl, slice_range, subst, sym, true, ◌≡◌, ◌∙◌}
+use Rattle.std.proofs.Common.{false, refl, slice_range, subst, sym, true, ◌≡◌}
 use Rattle.yaml_base.specs.declared.event.ScalarStyle.TheVariants as style
 use Rattle.yaml_direct.specs.Added.{AddsScalar}
 use Rattle.yaml_direct.specs.PlainTexts.{IsFirstLine, LeavesPlain}

@@ -1,5 +1,5 @@
 -- One, and another.
-use Rattle.std.proofs.Common.{◌≡◌, None, Some, refl, subst, sym, true}
+use Rattle.std.proofs.Common.{◌≡◌, None, Some, subst, sym, true}
 use Rattle.yaml_direct.specs.Held.{names_of}
 use Rattle.yaml_direct.proofs.NameLaws.{both_names, no_first_name}
 use Rattle.yaml_direct.proofs.reader.Reader.properties.Goals as goal

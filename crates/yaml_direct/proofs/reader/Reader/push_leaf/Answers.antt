@@ -1,8 +1,7 @@
 -- By the kind of the leaf.
-use Rattle.std.proofs.Common.{◌≡◌, ◌≢◌, ◌+◌, ◌∙◌, None, arith, refl, subst, sym}
+use Rattle.std.proofs.Common.{◌≡◌, ◌∙◌, None, arith, refl, subst, sym}
 use Rattle.std.proofs.lemmas.Bool.{false≢true}
 use Rattle.yaml_direct.specs.Held.{names_of}
-use Rattle.yaml_direct.specs.Places.{no_place}
 use Rattle.yaml_direct.specs.Quoted.{quoted_from}
 use Rattle.yaml_direct.proofs.AddedLeaves.{alias_leaf, escaped_is, leaf_alias, leaf_in_quotes, leaf_open, leaf_plain}
 use Rattle.yaml_direct.proofs.AddedLeaves.{leaf_quoted, named_alias, none_leaf, quoted_no_alias, quoted_no_plain}
