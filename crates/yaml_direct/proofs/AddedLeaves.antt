@@ -252,9 +252,6 @@ pub record InQuotes (text : List ℕ) (i : ℕ) (leaf : Found) : Type 0 where
   pub here : at text i ≡ quote_of quote
   pub leaf_is : IsQuotedLeaf text quote i leaf
 
-no_plain_kind : (q : LeafKind) → (q ≡ kind.Plain → ⊥) → q ≡ kind.Plain → ⊥
-no_plain_kind q f e = f e
-
 pub leaf_in_quotes : (text : List ℕ) (context : Context) (i : ℕ) (leaf : Found) → (leaf.kind ≡ kind.Plain → ⊥)
     → (leaf.kind ≡ kind.Alias → ⊥) → IsLeaf text context i leaf → InQuotes text i leaf
 leaf_in_quotes text context i leaf plain alias' (whole_plain k begins stops low read) = absurd (plain k)

@@ -1,7 +1,7 @@
 -- A block of lines: its first line, and the lines behind it.
-use Rattle.std.proofs.Common.{ℕ, suc, ◌+◌, ◌-◌, ◌<◌, ◌≤◌, ◌≡◌, ◌≢◌, ◌==◌, inl, inr, Bool, true, false, List, [], ◌∷◌}
+use Rattle.std.proofs.Common.{ℕ, suc, ◌+◌, ◌-◌, ◌<◌, ◌≤◌, ◌≡◌, ◌==◌, inl, inr, Bool, true, false, List, [], ◌∷◌}
 use Rattle.std.proofs.Common.{◌++◌, Option, Some, None, refl, sym, subst, ap, ◌∙◌, arith, drop, length, slice_range}
-use Rattle.std.proofs.Common.{max, append-nil, take, replicate}
+use Rattle.std.proofs.Common.{append-nil, take, replicate}
 use Rattle.std.proofs.lemmas.Bool.{cases_lt, false≢true, le-leb, lt-leb}
 use Rattle.std.proofs.lemmas.List.{append_assoc, drop_at, length-append, take_all}
 use Rattle.std.specs.Option.{option_map}
@@ -15,7 +15,7 @@ use Rattle.yaml_direct.specs.declared.block_scalar.Block.{Block}
 use Rattle.yaml_direct.proofs.BlockLines.{first_line, last_line, line_length, line_of, lines_some}
 use Rattle.yaml_direct.proofs.DetectLaws.{lines_at}
 use Rattle.yaml_direct.proofs.RowsRead.{none_kept}
-use Rattle.yaml_grammar.specs.BlockTexts.{Header, behind, block_at, block_lines, chomping_of, clip, found_indent}
+use Rattle.yaml_grammar.specs.BlockTexts.{Header, behind, block_at, block_lines, chomping_of, clip}
 use Rattle.yaml_grammar.specs.BlockTexts.{header_of, indent_of, is_last}
 use Rattle.yaml_grammar.specs.BlockTexts.{is_remark, is_sign, is_step, lines_of, no_row, rows, step_of}
 use Rattle.yaml_grammar.specs.Gaps.{next}
@@ -124,20 +124,6 @@ no_block text least i j one b within none =
   where
     no_some : (x : ℕ × List ℕ) → ◌≡◌ {A = Found} None (Some x) → ⊥
     no_some x e = cc
-
--- how far in its lines stand, where its first line says that
-pub step_indent : (h : Header) (least step indent : ℕ) (lines : List (List ℕ)) → h.step ≡ step → step ≢ 0
-    → indent ≡ least - 1 + step → indent_of h least lines ≡ Some indent
-step_indent h least step indent lines e some is =
-    rw (ap (λ s. s == 0) e ∙ no_step step some) (ap (λ s. Some (least - 1 + s)) e ∙ ap (λ n. Some n) (sym is))
-  where
-    no_step : (n : ℕ) → n ≢ 0 → (n == 0) ≡ false
-    no_step n z = grind (arith, z)
-
--- and where it does not
-pub found_indent_is : (h : Header) (least : ℕ) (lines : List (List ℕ)) (found : Option ℕ) → h.step ≡ 0
-    → found_indent (max least 1) lines ≡ found → indent_of h least lines ≡ found
-found_indent_is h least lines found e is = rw (ap (λ s. s == 0) e) is
 
 -- what a sign and a digit say, by which of them stands first
 abbrev header_by : (sign digit : Bool) → (c d : ℕ) → Header

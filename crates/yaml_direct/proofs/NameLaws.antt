@@ -1,14 +1,13 @@
 -- Names before a node, byte by byte.
-use Rattle.std.proofs.Common.{ℕ, zero, suc, ◌+◌, ◌-◌, ◌<◌, ◌≤◌, ◌≡◌, ◌≢◌, ◌==◌, ◌&&◌, ◌||◌, Bool, true, false}
+use Rattle.std.proofs.Common.{ℕ, zero, suc, ◌+◌, ◌-◌, ◌<◌, ◌≤◌, ◌≡◌, ◌≢◌, ◌==◌, ◌&&◌, Bool, true, false}
 use Rattle.std.proofs.Common.{List, [], ◌∷◌, Option, Some, None, refl, sym, ap, ◌∙◌, arith, drop, get_or}
-use Rattle.std.proofs.Common.{length, take, nat_eq, nat_lt}
-use Rattle.std.proofs.lemmas.Bool.{lt-ltb, ne_eqb}
+use Rattle.std.proofs.Common.{length, take, nat_eq}
+use Rattle.std.proofs.lemmas.Bool.{ne_eqb}
 use Rattle.std.proofs.lemmas.List.{get_or-drop, get_or-take, length-drop}
 use Rattle.std.specs.Option.{is_none, option_and_then, option_map}
 use Rattle.std.specs.Prelude.{if◌then◌else◌, slice_range}
 use Rattle.yaml_direct.specs.Bytes.{AreBlanks, at}
-use Rattle.yaml_grammar.specs.Bytes.{is_mark}
-use Rattle.yaml_grammar.specs.Names.{Names, count_while, ends_name, is_name_byte, name_end, names_at, one_name, tag_at}
+use Rattle.yaml_grammar.specs.Names.{Names, count_while, name_end, names_at, one_name, tag_at}
 use Rattle.yaml_grammar.specs.Names.{unnamed}
 
 -- a part of a text, byte by byte
@@ -51,34 +50,6 @@ spaces_are text from place low within blank over =
   where
     other : (c : ℕ) → c ≢ 32 → nat_eq 32 c ≡ false
     other c e = ne_eqb 32 c (λ f. e (sym f))
-
--- a name that ends in due form, or not
-pub no_name : (text : List ℕ) (flow : Bool) (from place : ℕ) → place ≡ from + count_while is_name_byte (drop from text)
-    → place ≡ from → name_end text flow from ≡ None
-no_name text flow from place there same =
-    let none : count_while is_name_byte (drop from text) ≡ 0 = omega (arith, there, same) in
-    by_size (count_while is_name_byte (drop from text)) none
-  where
-    by_size : (n : ℕ) → n ≡ 0
-        → ◌≡◌ {A = Option ℕ} (if nat_lt 0 n && (ends_name flow (at text (from + n)) || is_mark text 58 (from + n))
-        then Some (from + n) else None) None
-    by_size n e = rw (ap (nat_lt 0) e) refl
-
-pub name_by : (text : List ℕ) (flow : Bool) (from place : ℕ) (ends : Bool)
-    → place ≡ from + count_while is_name_byte (drop from text) → place ≢ from
-    → (ends_name flow (at text place) || is_mark text 58 place) ≡ ends
-    → name_end text flow from ≡ (if ends then Some place else None)
-name_by text flow from place ends there some e =
-    let more : nat_lt 0 (count_while is_name_byte (drop from text)) ≡ true =
-    lt-ltb 0 (count_while is_name_byte (drop from text)) (omega (arith, there, some)) in
-    by_end (nat_lt 0 (count_while is_name_byte (drop from text))) more
-    (from + count_while is_name_byte (drop from text)) (sym there)
-  where
-    by_end : (b : Bool) → b ≡ true → (k : ℕ) → k ≡ place
-        → ◌≡◌ {A = Option ℕ} (if b && (ends_name flow (at text k) || is_mark text 58 k) then Some k else None)
-        (if ends then Some place else None)
-    by_end b more k same =
-        rw (more, same, e) refl
 
 -- names with an anchor, or with a tag
 abbrev pub anchored : List ℕ → Option (List ℕ) → (start end : ℕ) → Names × ℕ

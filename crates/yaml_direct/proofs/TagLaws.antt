@@ -2,10 +2,10 @@
 use Rattle.std.proofs.Common.{ℕ, zero, suc, ◌+◌, ◌-◌, ◌*◌, ◌<◌, ◌≤◌, ◌≡◌, ◌≢◌, ◌==◌, ◌&&◌, ◌||◌, inl, inr, Bool, true}
 use Rattle.std.proofs.Common.{false, List, [], ◌∷◌, ◌++◌, Option, Some, None, refl, sym, subst, ap, ap₂, ◌∙◌, arith}
 use Rattle.std.proofs.Common.{append_assoc, append-nil, drop, get_or, length, not, take, nat_eq, nat_lt, codes, slice_range}
-use Rattle.std.proofs.lemmas.Bool.{and_parts, cases_eq, cases_lt, eq-eqb, eqb-true, false_from_ne_true, false≢true, lt-ltb}
+use Rattle.std.proofs.lemmas.Bool.{and_parts, cases_lt, eq-eqb, eqb-true, false_from_ne_true, false≢true, lt-ltb}
 use Rattle.std.proofs.lemmas.Bool.{ltb-true, ne_eqb, or_cases}
-use Rattle.std.proofs.lemmas.List.{drop_at, get_or-take, get_or_past, length-drop, take_all}
-use Rattle.std.proofs.lemmas.List.Folds.{list_any_at, list_any_none}
+use Rattle.std.proofs.lemmas.List.{get_or-take, get_or_past}
+use Rattle.std.proofs.lemmas.List.Folds.{list_any_none}
 use Rattle.std.proofs.lemmas.Str.{IsUtf8-from_ascii, IsUtf8-from_is_utf8, is_utf8-from_IsUtf8}
 use Rattle.std.proofs.lemmas.Str.Ascii.{IsAscii-from_all}
 use Rattle.std.specs.Char.{digit_value}
@@ -16,7 +16,7 @@ use Rattle.std.specs.Str.{IsUtf8, is_utf8}
 use Rattle.memchr.specs.Find.{Nowhere, Passes, is_byte}
 use Rattle.yaml_base.specs.QuotedLines.{before, digits, none}
 use Rattle.yaml_direct.specs.Bytes.{at}
-use Rattle.yaml_direct.specs.Tags.{IsSimple, Unescapes, closed_end}
+use Rattle.yaml_direct.specs.Tags.{IsSimple, closed_end}
 use Rattle.yaml_direct.proofs.NextLaws.{bytes_at}
 use Rattle.yaml_grammar.specs.Bytes.{is_one_of}
 use Rattle.yaml_grammar.specs.Names.{Handle, checked, core, count_while, decoded, ends_tag, handle_of, is_local}
@@ -60,59 +60,6 @@ octet_read text place a b first few second less =
     ∙ last_digit (16 * 0 + digit_value c) d (drop (suc (suc place)) text)
     (lt-ltb (digit_value d) 16 (omega (arith, second', less)))
     ∙ ap₂ (λ n k. before (n ∷ []) (decoded none (drop k text))) sum two
-
-pub octet_within : (text : List ℕ) (place a b : ℕ) → a ≡ digit_value (at text place) → a < 16
-    → b ≡ digit_value (at text (place + 1)) → b < 16 → place + 2 ≤ length text
-octet_within text place a b first few second less =
-    let there = digit_inside text (place + 1) (omega (arith, second, less)) in omega (arith, there)
-
-no_last : (code c : ℕ) (cs : List ℕ) → nat_lt (digit_value c) 16 ≡ false
-    → ◌≡◌ {A = Option (List ℕ)} (decoded (digits 1 code) (c ∷ cs)) None
-no_last code c cs e = rw e refl
-
-no_first : (c : ℕ) (cs : List ℕ) → nat_lt (digit_value c) 16 ≡ false
-    → ◌≡◌ {A = Option (List ℕ)} (decoded (digits 2 0) (c ∷ cs)) None
-no_first c cs e = rw e refl
-
-not_less : (n : ℕ) → 16 ≤ n → nat_lt n 16 ≡ false
-not_less n le = grind (arith, le)
-
-pub no_octet : (text : List ℕ) (place : ℕ) → 16 ≤ digit_value (at text place)
-    → ◌≡◌ {A = Option (List ℕ)} (decoded (digits 2 0) (drop place text)) None
-no_octet text place more =
-    elim (cases_lt place (length text)) [
-      | inl inside ↦ ap (decoded (digits 2 0)) (bytes_at text place inside)
-          ∙ no_first (at text place) (drop (suc place) text) (not_less (digit_value (at text place)) more)
-      | inr behind ↦ ap (decoded (digits 2 0)) (nothing_left place text behind)
-    ]
-  where
-    nothing_left : (n : ℕ) (xs : List ℕ) → length xs ≤ n → drop n xs ≡ []
-    nothing_left n xs le = no_items (drop n xs) (omega (arith, length-drop n xs, le))
-      where
-        no_items : (ys : List ℕ) → length ys ≡ 0 → ys ≡ []
-        no_items [] e = refl
-        no_items (y ∷ ys) e = absurd (omega (arith, e))
-
-pub no_second : (text : List ℕ) (place a : ℕ) → a ≡ digit_value (at text place) → a < 16
-    → 16 ≤ digit_value (at text (place + 1))
-    → ◌≡◌ {A = Option (List ℕ)} (decoded (digits 2 0) (drop place text)) None
-no_second text place a first few more =
-    let one : place + 1 ≡ suc place = omega arith in
-    let c = at text place in
-    let d = at text (suc place) in
-    let more' : 16 ≤ digit_value d = subst (λ k. 16 ≤ digit_value (at text k)) one more in
-    ap (decoded (digits 2 0)) (bytes_at text place (digit_inside text place (omega (arith, first, few))))
-    ∙ first_digit c (drop (suc place) text) (lt-ltb (digit_value c) 16 (omega (arith, first, few)))
-    ∙ elim (cases_lt (suc place) (length text)) [
-      | inl inside ↦ ap (decoded (digits 1 (16 * 0 + digit_value c))) (bytes_at text (suc place) inside)
-          ∙ no_last (16 * 0 + digit_value c) d (drop (suc (suc place)) text) (not_less (digit_value d) more')
-      | inr behind ↦ ap (decoded (digits 1 (16 * 0 + digit_value c)))
-          (no_items (drop (suc place) text) (omega (arith, length-drop (suc place) text, behind)))
-    ]
-  where
-    no_items : (ys : List ℕ) → length ys ≡ 0 → ys ≡ []
-    no_items [] e = refl
-    no_items (y ∷ ys) e = absurd (omega (arith, e))
 
 -- what was read of a tag's bytes up to a place was put behind a text
 pub record UnescapedTo (written : List ℕ) (place : ℕ) (old now : List ℕ) : Type 0 where
@@ -176,38 +123,6 @@ unescaped_octet written place old now more o inside is added read u =
           ∙ before_twice u.said (o ∷ []) (decoded none (drop (place + 3) written));
     }
 
-pub unescaped_refused : (written : List ℕ) (place : ℕ) (old now : List ℕ) → place < length written
-    → at written place ≡ 37 → decoded (digits 2 0) (drop (place + 1) written) ≡ None
-    → UnescapedTo written place old now → ◌≡◌ {A = Option (List ℕ)} (decoded none written) None
-unescaped_refused written place old now inside is refused u =
-    u.read ∙ ap (before u.said) (percent_at written place inside is ∙ refused)
-
-pub unescaped_all : (written : List ℕ) (place : ℕ) (old now : List ℕ) → length written ≤ place
-    → UnescapedTo written place old now → Unescapes written old now
-unescaped_all written place old now over u = record {
-  said = u.said;
-  read = u.read ∙ ap (λ x. before u.said (decoded none x)) (no_items (drop place written) (omega
-      (arith, length-drop place written, over)))
-      ∙ ap (λ x. Some x) (append-nil u.said);
-  added = u.added;
-}
-  where
-    no_items : (ys : List ℕ) → length ys ≡ 0 → ys ≡ []
-    no_items [] e = refl
-    no_items (y ∷ ys) e = absurd (omega (arith, e))
-
--- bytes of a tag are UTF-8 without 0, or not
-pub checked_zero : (bytes : List ℕ) (k : ℕ) → k < length bytes → (at bytes k == 0) ≡ true
-    → false ≡ is_some (checked bytes)
-checked_zero bytes k inside e =
-    by_any (is_utf8 bytes) (list_any (nat_eq 0) bytes)
-    (list_any_at (nat_eq 0) bytes k 0 inside (ap (nat_eq 0) (eqb-true (at bytes k) 0 e)))
-  where
-    by_any : (u z : Bool) → z ≡ true
-        → false ≡ is_some {T = List ℕ} (if u && not z then Some bytes else None)
-    by_any true z h = rw h refl
-    by_any false z h = refl
-
 pub checked_text : (bytes : List ℕ) → Nowhere (Passes (is_byte 0) bytes) 0 (length bytes) → IsUtf8 bytes
     → checked bytes ≡ Some bytes
 checked_text bytes nowhere u =
@@ -251,41 +166,6 @@ tag_plain prefix suffix nowhere simple =
     ))) utf8 in
     ap (λ o. option_map (λ t. prefix ++ t) (option_and_then checked o)) (plain_bytes suffix nowhere)
     ∙ ap (option_map (λ t. prefix ++ t)) some
-
--- and one with others
-pub tag_read : (prefix suffix said : List ℕ) → decoded none suffix ≡ Some said → is_some (checked said) ≡ true
-    → tag_of prefix suffix ≡ Some (prefix ++ said)
-tag_read prefix suffix said read some =
-    ap (λ o. option_map (λ t. prefix ++ t) (option_and_then checked o)) read
-    ∙ by_check (is_utf8 said && not (list_any (nat_eq 0) said)) some
-  where
-    by_check : (b : Bool) → is_some {T = List ℕ} (if b then Some said else None) ≡ true
-        → option_map (λ t. prefix ++ t) (if b then Some said else None) ≡ Some (prefix ++ said)
-    by_check true e = refl
-    by_check false e = absurd (false≢true e)
-
-pub tag_unread : (prefix suffix : List ℕ) → decoded none suffix ≡ None → tag_of prefix suffix ≡ None
-tag_unread prefix suffix refused = ap (λ o. option_map (λ t. prefix ++ t) (option_and_then checked o)) refused
-
-pub tag_refused : (prefix suffix said : List ℕ) → decoded none suffix ≡ Some said → is_some (checked said) ≡ false
-    → tag_of prefix suffix ≡ None
-tag_refused prefix suffix said read refused =
-    ap (λ o. option_map (λ t. prefix ++ t) (option_and_then checked o)) read
-    ∙ by_check (is_utf8 said && not (list_any (nat_eq 0) said)) refused
-  where
-    by_check : (b : Bool) → is_some {T = List ℕ} (if b then Some said else None) ≡ false
-        → ◌≡◌ {A = Option (List ℕ)} (option_map (λ t. prefix ++ t) (if b then Some said else None)) None
-    by_check true e = absurd (false≢true (sym e))
-    by_check false e = refl
-
--- the bytes behind a prefix
-pub behind_prefix : (prefix said text : List ℕ) → text ≡ prefix ++ said
-    → take (length text - length prefix) (drop (length prefix) text) ≡ said
-behind_prefix prefix said text e =
-    let rest : drop (length prefix) text ≡ said = ap (drop (length prefix)) e ∙ drop_at prefix said (length prefix) refl in
-    let size = length-drop (length prefix) text in
-    ap (take (length text - length prefix)) rest
-    ∙ take_all (length text - length prefix) said (omega (arith, size, ap length rest))
 
 -- bytes that may stand in a tag are simple
 in_list : (c : ℕ) (xs : List ℕ) → list_any (nat_eq c) xs ≡ true
@@ -372,16 +252,6 @@ tag_is text flow from start stop handle is begins ends =
         ∙ ap (λ k. tag_by text flow handle k (k + count_while (is_tag_byte (is_whole handle)) (drop k text))) (sym begins)
         ∙ ap (tag_by text flow handle start) (sym ends)
 
--- none whose text is missing, that is not closed, or that does not end
-pub empty_tag : (text : List ℕ) (flow : Bool) (handle : Handle) (start stop : ℕ) → stop ≡ start
-    → is_local handle ≡ false → ◌≡◌ {A = Option (List ℕ × ℕ)} (tag_by text flow handle start stop) None
-empty_tag text flow handle start stop same other =
-    let none_left : nat_lt start stop ≡ false = not_below start stop (omega (arith, same)) in
-    rw (other, none_left) refl
-  where
-    not_below : (a b : ℕ) → b ≤ a → nat_lt a b ≡ false
-    not_below a b le = grind (arith, le)
-
 some_text : (handle : Handle) (start stop : ℕ) → (stop ≡ start → is_local handle ≡ true) → start ≤ stop
     → (is_local handle || nat_lt start stop) ≡ true
 some_text handle start stop some low =
@@ -393,40 +263,6 @@ some_text handle start stop some low =
     by_local : (a b : Bool) → b ≡ true → (a || b) ≡ true
     by_local true b e = refl
     by_local false b e = e
-
-pub open_tag : (text : List ℕ) (flow : Bool) (handle : Handle) (start stop : ℕ)
-    → closed_end text handle stop ≡ None → ◌≡◌ {A = Option (List ℕ × ℕ)} (tag_by text flow handle start stop) None
-open_tag text flow verbatim start stop open' =
-    by_close (at text stop == 62) (nat_lt start stop) refl
-  where
-    by_close : (b some : Bool) → (at text stop == 62) ≡ b
-        → ◌≡◌ {A = Option (List ℕ × ℕ)} (tag_by text flow verbatim start stop) None
-    by_close true some e = absurd (no_some (stop + 1) (sym (ap (λ (c : Bool). if c then Some (stop + 1) else None) e) ∙ open'))
-      where
-        no_some : (n : ℕ) → ◌≡◌ {A = Option ℕ} (Some n) None → ⊥
-        no_some n f = cc
-    by_close false true e = rw e (by_some (nat_lt start stop))
-      where
-        by_some : (b : Bool) → ◌≡◌ {A = Option (List ℕ × ℕ)} (if (false || b) && ((false || false)
-            && ends_tag flow (at text (suc stop))) then option_map {U = List ℕ × ℕ} (λ t. (t, suc stop)) (tag_of []
-            (slice_range text start stop)) else None) None
-        by_some true = refl
-        by_some false = refl
-    by_close false false e = rw e (by_some (nat_lt start stop))
-      where
-        by_some : (b : Bool) → ◌≡◌ {A = Option (List ℕ × ℕ)} (if (false || b) && ((false || false)
-            && ends_tag flow (at text (suc stop))) then option_map {U = List ℕ × ℕ} (λ t. (t, suc stop)) (tag_of []
-            (slice_range text start stop)) else None) None
-        by_some true = refl
-        by_some false = refl
-open_tag text flow core start stop open' = absurd (no_some stop open')
-  where
-    no_some : (n : ℕ) → ◌≡◌ {A = Option ℕ} (Some n) None → ⊥
-    no_some n f = cc
-open_tag text flow local start stop open' = absurd (no_some stop open')
-  where
-    no_some : (n : ℕ) → ◌≡◌ {A = Option ℕ} (Some n) None → ⊥
-    no_some n f = cc
 
 -- a tag that ends, or does not
 pub record IsClosed (text : List ℕ) (handle : Handle) (stop end : ℕ) : Type 0 where
@@ -471,22 +307,3 @@ ended_tag text flow handle start stop end ends some low c e =
         then option_map {U = List ℕ × ℕ} (λ t. (t, k)) (tag_of (prefix_of handle) (slice_range text start stop)) else None)
         ≡ (if ends then option_map {U = List ℕ × ℕ} (λ t. (t, end)) (tag_of (prefix_of handle) (slice_range text start stop)) else None)
     by_end k same = rw (some_text handle start stop some low, c.closed, same, e) refl
-
--- the bytes before a tag's text are there
-pub opening_within : (text : List ℕ) (from b : ℕ) (h : Handle) → from < length text
-    → (b ≢ 0 → from + 1 < length text) → h ≡ handle_of b → from + opening_size h ≤ length text
-opening_within text from b h inside more is =
-    elim (cases_eq b 0) [
-      | inl none_there ↦
-          let one : opening_size h ≡ 1 = ap opening_size (is ∙ ap handle_of none_there) in
-          omega (arith, one, inside)
-      | inr some ↦
-          let two = few h in
-          let there = more some in
-          omega (arith, two, there)
-    ]
-  where
-    few : (x : Handle) → opening_size x ≤ 2
-    few verbatim = omega arith
-    few core = omega arith
-    few local = omega arith
