@@ -1,6 +1,6 @@
 -- Plain text by columns as it was added, or left.
 use Rattle.std.proofs.Common.{ℕ, ◌≡◌, ◌≤◌, not, ◌&&◌, Bool, true, false, List, length, refl, sym}
-use Rattle.std.proofs.Common.{subst, ap, ◌∙◌, ◌+◌, ◌-◌, ◌<◌, ◌++◌, ◌∷◌, [], None, Some, arith, inl, inr, slice_range}
+use Rattle.std.proofs.Common.{subst, ap, ◌∙◌, ◌+◌, ◌-◌, ◌<◌, ◌++◌, ◌∷◌, [], Option, Some, arith, inl, inr, slice_range}
 use Rattle.std.proofs.lemmas.Bool.{false≢true}
 use Rattle.yaml_base.specs.PlainEvent.{PlainEvent, scalar}
 use Rattle.yaml_base.specs.Position.{Position}
@@ -16,11 +16,12 @@ use Rattle.yaml_direct.proofs.ColumnSays.{column_cut, column_further, says_all}
 use Rattle.yaml_direct.proofs.PlainSays.{SaysSoFar, says_first}
 use Rattle.yaml_grammar.specs.Bytes.{column, is_text}
 use Rattle.yaml_grammar.specs.Gaps.{ends_its_line, is_within, next}
+use Rattle.yaml_grammar.specs.Names as grammar
 use Rattle.yaml_grammar.specs.Plain.{by_columns, plain_at}
 use Rattle.yaml_tape.specs.OnTape.{position_at}
 use Rattle.yaml_tape.specs.Pushes.{marked_on}
+use Rattle.yaml_tape.specs.declared.entry.Names.{Names}
 use Rattle.yaml_tape.specs.declared.entry.Spot.{Spot}
-use Rattle.yaml_tape.specs.declared.tape.Tape.{Tape}
 
 -- a reader behind a line of plain text
 pub line_behind : (old new : Reader) (end to : ℕ) → IsAtNext old new end to → new.text.now ≡ old.text.now
@@ -54,23 +55,44 @@ amid_goes_on false b e = refl
 amid_goes_on true b e = absurd (false≢true (sym e))
 
 -- what was added is the same for a reader with the same tape, text and start
-pub adds_scalar_from : (a b c : Reader) (said : List ℕ) (how : ScalarStyle) (end : ℕ) → b.tape ≡ a.tape
-    → b.text.now ≡ a.text.now → b.start ≡ a.start → AddsScalar b c said how end → AddsScalar a c said how end
-adds_scalar_from a b c said how end tape text start added =
-    added ∙ ap (λ x. adds x b.text.now b.start) tape ∙ ap (λ x. adds a.tape x b.start) text
-    ∙ ap (λ x. adds a.tape a.text.now x) start
+pub adds_scalar_marked : (a b c : Reader) (said : List ℕ) (how : ScalarStyle) (end : ℕ)
+    → marked_on b.tape ≡ marked_on a.tape → b.text.now ≡ a.text.now → b.start ≡ a.start → b.names ≡ a.names
+    → AddsScalar b c said how end → AddsScalar a c said how end
+adds_scalar_marked a b c said how end tape text start names h = record {
+  added = h.added ∙ ap (λ x. adds x b.text.now b.start b.names) tape
+      ∙ ap (λ x. adds (marked_on a.tape) x b.start b.names) text
+      ∙ ap (λ x. adds (marked_on a.tape) a.text.now x b.names) start
+      ∙ ap (λ x. adds (marked_on a.tape) a.text.now a.start x) names;
+  unnamed = h.unnamed;
+}
   where
-    adds : Tape → List ℕ → Spot → List (PlainEvent × Position)
-    adds t x s = marked_on t ++ (
+    adds : List (PlainEvent × Position) → List ℕ → Spot → Names → List (PlainEvent × Position)
+    adds t x s n = t ++ (
       scalar (record {
-        anchor = None;
-        tag = None;
+        anchor = n.anchor;
+        tag = n.tag;
         text = said;
         style = how;
         source = Some (slice_range x s.index end);
       }),
       position_at x s.index s.late,
     ) ∷ []
+
+pub adds_scalar_from : (a b c : Reader) (said : List ℕ) (how : ScalarStyle) (end : ℕ) → b.tape ≡ a.tape
+    → b.text.now ≡ a.text.now → b.start ≡ a.start → b.names ≡ a.names → AddsScalar b c said how end
+    → AddsScalar a c said how end
+adds_scalar_from a b c said how end tape = adds_scalar_marked a b c said how end (ap marked_on tape)
+
+-- and it stays where the tape does
+pub adds_scalar_on : (a b c : Reader) (said : List ℕ) (how : ScalarStyle) (end : ℕ) → c.tape ≡ b.tape
+    → c.names ≡ b.names → AddsScalar a b said how end → AddsScalar a c said how end
+adds_scalar_on a b c said how end tape names h = record {
+  added = ap marked_on tape ∙ h.added;
+  unnamed = ap (λ n. both n.anchor n.tag) names ∙ h.unnamed;
+}
+  where
+    both : Option (List ℕ) → Option (List ℕ) → grammar.Names
+    both anchor tag = record { anchor = anchor; tag = tag }
 
 -- columns are counted on
 counted_kept : (a b : Reader) (place : ℕ) → b.text.now ≡ a.text.now → b.line_start ≡ a.line_start → IsCounted a place
@@ -104,9 +126,9 @@ line_on text r least from end k stop said more h s same b test is f low within =
 -- the end, behind which the next token stands less far in
 pub plain_added : (old mid new : Reader) (least from end k to : ℕ) (said : List ℕ) → is_text old.text.now ≡ true
     → PlainSoFar old.text.now mid least from end k said → is_within old.text.now least k ≡ false → mid.tape ≡ old.tape
-    → mid.text.now ≡ old.text.now → mid.start ≡ old.start → Keeps mid new → to ≡ k
+    → mid.text.now ≡ old.text.now → mid.start ≡ old.start → mid.names ≡ old.names → Keeps mid new → to ≡ k
     → AddsScalar mid new said style.Plain end → AddsPlain old new least from to
-plain_added old mid new least from end k to said h s less tape same start kept there added =
+plain_added old mid new least from end k to said h s less tape same start names kept there added =
     let text = old.text.now in
     let none = subst (λ j. is_within text least j ≡ false) s.behind.there less in
     record {
@@ -114,20 +136,20 @@ plain_added old mid new least from end k to said h s less tape same start kept t
       said = said;
       low = s.says.low;
       read = says_all text least from end said h s.says (inr none);
-      added = adds_scalar_from old mid new said style.Plain end tape same start added;
+      added = adds_scalar_from old mid new said style.Plain end tape same start names added;
       behind = subst (λ j. IsBehindLine text new end j) (sym there)
           (behind_kept text mid new end k kept.0 kept.1.0 s.behind);
       ends = ends_both (ends_its_line text end) (is_within text least (next text end)) s.behind.ends none;
     }
 
 pub adds_plain_from : (a b c : Reader) (least from to : ℕ) → b.tape ≡ a.tape → b.text.now ≡ a.text.now
-    → b.start ≡ a.start → AddsPlain b c least from to → AddsPlain a c least from to
-adds_plain_from a b c least from to tape text start h = record {
+    → b.start ≡ a.start → b.names ≡ a.names → AddsPlain b c least from to → AddsPlain a c least from to
+adds_plain_from a b c least from to tape text start names h = record {
   end = h.end;
   said = h.said;
   low = h.low;
   read = subst (λ t. plain_at t (by_columns least) from ≡ Some (h.end - from, h.said)) text h.read;
-  added = adds_scalar_from a b c h.said style.Plain h.end tape text start h.added;
+  added = adds_scalar_from a b c h.said style.Plain h.end tape text start names h.added;
   behind = subst (λ t. IsBehindLine t c h.end to) text h.behind;
   ends = subst (λ t. ends_plain t least h.end ≡ true) text h.ends;
 }

@@ -69,7 +69,7 @@ kept_is strip block = refl
 kept_is clip block = refl
 kept_is keep block = refl
 
-none_kept : (ch : Chomping) (block : Block) → block.feeds ≡ 0 → kept_feeds ch block ≡ 0
+pub none_kept : (ch : Chomping) (block : Block) → block.feeds ≡ 0 → kept_feeds ch block ≡ 0
 none_kept strip block e = refl
 none_kept clip block e = omega (arith, e)
 none_kept keep block e = e

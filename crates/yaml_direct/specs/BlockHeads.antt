@@ -1,5 +1,5 @@
 -- The first line of a block of text, in the words of the grammar.
-use Rattle.std.specs.Prelude.{ℕ, ◌+◌, ◌≡◌, ◌≢◌, ◌<◌, ◌≤◌, true, false, List, drop, length, slice_range}
+use Rattle.std.specs.Prelude.{ℕ, ◌+◌, ◌^◌, ◌≡◌, ◌≢◌, ◌<◌, ◌≤◌, true, false, List, Option, drop, length, slice_range}
 use Rattle.yaml_direct.specs.Bytes.{AreBlanks, at}
 use Rattle.yaml_direct.specs.Gaps.{InLine, IsLineEnd}
 use Rattle.yaml_direct.specs.Places.{no_place}
@@ -8,7 +8,7 @@ use Rattle.yaml_direct.specs.declared.header.Chomping.TheVariants.{Clip, Keep, S
 use Rattle.yaml_direct.specs.declared.header.Header.{Header}
 use Rattle.yaml_direct.specs.declared.header.Signs.{Signs}
 use Rattle.yaml_grammar.specs.BlockTexts as grammar
-use Rattle.yaml_grammar.specs.BlockTexts.{header_of, is_remark}
+use Rattle.yaml_grammar.specs.BlockTexts.{header_of, indent_of, is_remark, lines_of}
 
 -- the rest of a line from a place on ends in another, and is a remark: spaces, or spaces and a comment
 pub record IsRemark (text : List ℕ) (i j : ℕ) : Type 0 where
@@ -57,3 +57,12 @@ pub record ReadsHeader (text : List ℕ) (from : ℕ) (header : Header) : Type 0
   pub step : header.step ≡ (header_of (drop from text)).step
   pub found : header.end ≢ no_place → IsRemark text (from + (header_of (drop from text)).size) header.end
   pub missed : header.end ≡ no_place → HasNoRemark text (from + (header_of (drop from text)).size)
+
+-- a text that a tape takes, and a least column that it may have
+abbrev pub IsShort : List ℕ → (least : ℕ) → Type 0
+IsShort text least = (length text < 2 ^ 32) × (least ≤ length text + 1)
+
+-- how far in the lines of a block stand that begin in a place, if its first line says so
+abbrev pub StandsIn : List ℕ → (from step least : ℕ) → Option ℕ → Type 0
+StandsIn text from step least found =
+    (header : grammar.Header) → header.step ≡ step → indent_of header least (lines_of (drop from text)) ≡ found

@@ -1,10 +1,12 @@
 -- The lines of a block of text, from a place on, in the words of the grammar.
 use Rattle.std.specs.Prelude.{ℕ, ◌+◌, ◌-◌, ◌≤◌, ◌≡◌, ◌≢◌, ◌⊎◌, Bool, List, [], ◌++◌, drop, if◌then◌else◌, min}
-use Rattle.std.specs.Prelude.{replicate}
+use Rattle.std.specs.Prelude.{Option, Some, length, nat_le, replicate}
+use Rattle.std.specs.Option.{option_map}
 use Rattle.yaml_direct.specs.Bytes.{AreBlanks, at}
 use Rattle.yaml_direct.specs.declared.block_scalar.Block.{Block}
 use Rattle.yaml_direct.specs.declared.block_scalar.EmptyLines.{EmptyLines}
-use Rattle.yaml_grammar.specs.BlockTexts.{Chomping, Row, clip, deep, flat, keep, lines_of, no_row, rows, strip}
+use Rattle.yaml_grammar.specs.BlockTexts.{Chomping, Header, Row, behind, clip, deep, flat, indent_of, keep, lines_of}
+use Rattle.yaml_grammar.specs.BlockTexts.{no_row, rows, strip}
 use Rattle.yaml_grammar.specs.Gaps.{next}
 
 -- the rest of a block from a place on, behind a line and so many empty ones
@@ -53,6 +55,28 @@ pub record ReadsRows (text : List ℕ) (folds : Bool) (indent from to : ℕ) (ol
   pub added : new ≡ old ++ said
   pub read : (chomping : Chomping) → rows_from text folds chomping indent no_row 0 from
       ≡ (to - from, said ++ replicate (kept_feeds chomping block) 10)
+
+-- the block behind a first line that ends in a place
+abbrev pub block_behind : List ℕ → (folds : Bool) → Header → (least end : ℕ) → Option (ℕ × List ℕ)
+block_behind text folds header least end =
+    if nat_le (length text) end then Some (end, [])
+    else option_map (λ indent. behind (end + 1) (rows_from text folds header.chomping indent no_row 0 (end + 1)))
+    (indent_of header least (lines_of (drop (end + 1) text)))
+
+-- The block behind a first line that ends in a place, and that says so, goes up to another. Its text was put behind a
+-- text, but for the line feeds that are wanted of the last.
+pub record ReadsBlock (text : List ℕ) (folds : Bool) (step least from to : ℕ) (old new : List ℕ)
+    (block : Block) : Type 0 where
+  pub said : List ℕ
+  pub added : new ≡ old ++ said
+  pub read : (header : Header) → header.step ≡ step → block_behind text folds header least from
+      ≡ Some (to, said ++ replicate (kept_feeds header.chomping block) 10)
+
+-- there is none, or a tab is the next token behind it
+abbrev pub HasNoBlock : List ℕ → (folds : Bool) → (step least from : ℕ) → Type 0
+HasNoBlock text folds step least from =
+    (header : Header) → header.step ≡ step → (end : ℕ) (said : List ℕ)
+    → block_behind text folds header least from ≡ Some (end, said) → at text (next text end) ≡ 9
 
 -- a tab is the next token behind a block
 pub record EndsAtTab (text : List ℕ) (folds : Bool) (indent from : ℕ) : Type 0 where

@@ -5,9 +5,11 @@ pub mod Blocks
 pub mod Bytes
 pub mod Documents
 pub mod Gaps
+pub mod Held
 pub mod Leaves
 pub mod Lines
 pub mod PlainTexts
 pub mod Places
 pub mod Quoted
+pub mod Tags
 pub mod Tokens

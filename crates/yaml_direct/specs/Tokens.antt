@@ -1,5 +1,5 @@
 -- Where a reader stands behind a gap, and in which column, in the words of the grammar.
-use Rattle.std.specs.Prelude.{ℕ, ◌+◌, ◌-◌, ◌<◌, ◌≤◌, ◌≡◌, ◌==◌, not, true, false, List, length}
+use Rattle.std.specs.Prelude.{ℕ, ◌+◌, ◌-◌, ◌<◌, ◌≤◌, ◌≡◌, ◌==◌, ◌⊎◌, not, true, false, List, length}
 use Rattle.yaml_direct.specs.declared.reader.Reader.{Reader}
 use Rattle.yaml_grammar.specs.Bytes.{at, column, is_mark}
 use Rattle.yaml_grammar.specs.Gaps.{breaks, ends_its_line, next}
@@ -15,6 +15,11 @@ pub record IsAtNext (old new : Reader) (from to : ℕ) : Type 0 where
       → column old.text.now to ≡ column old.text.now from + (to - from)
   pub in_later_line : breaks old.text.now from ≡ true → to < length old.text.now
       → column old.text.now to ≡ to - new.line_start
+
+-- the line that was begun last begins in a place, or the text ends there
+abbrev pub IsLineBegin : Reader → ℕ → Type 0
+IsLineBegin r place =
+    ((place ≡ r.line_start) × (at r.text.now (place - 1) ≡ 10)) ⊎ (place ≡ length r.text.now)
 
 -- no token follows: `#` stands right here, where it begins no comment
 pub record HasNoToken (text : List ℕ) (from : ℕ) : Type 0 where

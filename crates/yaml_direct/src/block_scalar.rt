@@ -1,18 +1,23 @@
 //! Blocks of text behind `|` or `>`.
 #![tactic(auto, using(crate::proofs::Growing::grows_on, crate::proofs::Growing::grows_same))]
 
-ghost use Rattle.std.specs.Prelude.{◌≡◌, ◌≢◌, ◌+◌, ◌++◌, ◌<◌, ◌≤◌, false, length, replicate, true};
+ghost use Rattle.std.specs.Prelude.{◌≡◌, ◌≢◌, ◌+◌, ◌-◌, ◌++◌, ◌<◌, ◌≤◌, false, length, replicate, true};
+ghost use Rattle.yaml_direct.specs.Added.{AddsBlock, LeavesBlock, begins_block};
 ghost use Rattle.yaml_direct.specs.BlockHeads.{chomping_as};
-ghost use Rattle.yaml_direct.specs.BlockRows.{EndsAtTab, IsIndented, ReadsEmpty, ReadsRows, kept_feeds};
+ghost use Rattle.yaml_direct.specs.BlockRows.{EndsAtTab, HasNoBlock, IsIndented, ReadsBlock, ReadsEmpty, ReadsRows};
+ghost use Rattle.yaml_direct.specs.BlockRows.{kept_feeds};
+ghost use Rattle.yaml_direct.specs.Bytes.{at};
 ghost use Rattle.yaml_direct.specs.Blocks.{begins_blank, joins, joint};
+ghost use Rattle.yaml_direct.specs.Gaps.{IsLineEnd};
 ghost use Rattle.yaml_direct.specs.Places.{Grows, IsHere, IsLonger, Keeps, Reaches, no_place};
+ghost use Rattle.yaml_direct.specs.Tokens.{IsLineBegin};
 ghost use Rattle.yaml_grammar.specs.Bytes.{is_text};
+ghost use Rattle.yaml_tape.specs.Pushes.{marked_on};
 
 use crate::byte::{at, feed_at, line_end};
-use crate::header::{Chomping, Header, detected, read_header};
+use crate::header::{Chomping, Header, block_style, indentation, read_header};
 use crate::place::{NO_PLACE, reach};
 use crate::reader::Reader;
-use yaml_base::ScalarStyle;
 use yaml_tape::Piece;
 
 // Empty lines: how many, and the place behind them and behind the spaces of the next line, as many as the block is
@@ -48,6 +53,7 @@ fn empties(text: &[u8], from: usize, indent: usize) -> EmptyLines
     requires { from ≤ length text.now }
     ensures places { (result.line ≤ result.place) × (result.place ≤ length text.now) × (from ≤ result.line) }
     ensures counted { from + result.count ≤ result.line }
+    ensures feed { at text.now (from - 1) ≡ 10 → at text.now (result.line - 1) ≡ 10 }
     ensures read { is_text text.now ≡ true → ReadsEmpty text.now indent from result }
 {
     let (mut count, mut line) = (0, from);
@@ -157,6 +163,7 @@ impl<'a> Reader<'a> {
         ensures begun { self.new.line_start ≡ empties.line }
         ensures start { self.new.start ≡ self.old.start }
         ensures tape { self.new.tape ≡ self.old.tape }
+        ensures names { self.new.names ≡ self.old.names }
         ensures grows { Grows self.old self.new }
     {
         self.line += empties.count + 1;
@@ -168,6 +175,8 @@ impl<'a> Reader<'a> {
     fn push_line(&mut self, block: &mut Block, line: &[u8]) -> bool
         ensures kept { Keeps self.old self.new }
         ensures longer { IsLonger self.old self.new }
+        ensures events { marked_on self.new.tape ≡ marked_on self.old.tape }
+        ensures names { self.new.names ≡ self.old.names }
         ensures line { result ≡ true → self.new.tape.arena.items
             ≡ (self.old.tape.arena.items ++ joint (joins block.old line.now) block.old.feeds) ++ line.now }
         ensures row { (block.new.folds ≡ block.old.folds) × ((block.new.begun ≡ true)
@@ -187,6 +196,9 @@ impl<'a> Reader<'a> {
         ensures reached { Reaches self.old self.new from result }
         ensures start { self.new.start ≡ self.old.start }
         ensures longer { IsLonger self.old self.new }
+        ensures events { marked_on self.new.tape ≡ marked_on self.old.tape }
+        ensures names { self.new.names ≡ self.old.names }
+        ensures begun { at self.old.text.now (from - 1) ≡ 10 → result ≢ no_place → IsLineBegin self.new result }
         ensures found { is_text self.old.text.now ≡ true → block.old.begun ≡ false → result ≢ no_place
             → ReadsRows self.old.text.now block.old.folds indent from result self.old.tape.arena.items
             self.new.tape.arena.items block.new }
@@ -222,16 +234,24 @@ impl<'a> Reader<'a> {
         ensures reached { Reaches self.old self.new header.end result }
         ensures start { self.new.start ≡ self.old.start }
         ensures longer { IsLonger self.old self.new }
+        ensures events { marked_on self.new.tape ≡ marked_on self.old.tape }
+        ensures names { self.new.names ≡ self.old.names }
+        ensures begun { IsLineEnd self.old.text.now header.end → result ≢ no_place → IsLineBegin self.new result }
+        ensures found { is_text self.old.text.now ≡ true → least ≤ length self.old.text.now + 1 → header.step ≤ 9
+            → IsLineEnd self.old.text.now header.end → (block.old.begun ≡ false) × (block.old.feeds ≡ 0)
+            → result ≢ no_place → ReadsBlock self.old.text.now block.old.folds header.step least header.end result
+            self.old.tape.arena.items self.new.tape.arena.items block.new }
+        ensures missed { is_text self.old.text.now ≡ true → least ≤ length self.old.text.now + 1 → header.step ≤ 9
+            → IsLineEnd self.old.text.now header.end → block.old.begun ≡ false → result ≡ no_place
+            → self.new.starved ≡ false
+            → HasNoBlock self.old.text.now block.old.folds header.step least header.end }
     {
         let text = self.text;
         if header.end == text.len() {
             return header.end;
         }
         let first = header.end + 1;
-        let indent = match header.step {
-            0 => reach!(detected(text, first, least)),
-            step => least.saturating_sub(1).saturating_add(step),
-        };
+        let indent = reach!(indentation(text, first, header.step, least));
         self.block_lines(block, first, indent)
     }
 
@@ -242,13 +262,15 @@ impl<'a> Reader<'a> {
         requires within { from < length self.old.text.now }
         requires begun { self.old.start.index ≤ from }
         ensures reached { Reaches self.old self.new from result }
+        ensures found { is_text self.old.text.now ≡ true → least ≤ length self.old.text.now + 1
+            → begins_block (at self.old.text.now from) ≡ true → result ≢ no_place
+            → AddsBlock self.old self.new least from result }
+        ensures missed { is_text self.old.text.now ≡ true → least ≤ length self.old.text.now + 1
+            → begins_block (at self.old.text.now from) ≡ true → result ≡ no_place → self.new.starved ≡ false
+            → LeavesBlock self.old.text.now least from }
     {
         let folds = self.text[from] == b'>';
-        let style = if folds {
-            ScalarStyle::Folded
-        } else {
-            ScalarStyle::Literal
-        };
+        let style = block_style(folds);
         let header = read_header(self.text, from + 1);
         reach!(header.end);
         let mut block = Block {
@@ -259,10 +281,7 @@ impl<'a> Reader<'a> {
         };
         let start = self.tape.arena.len();
         let end = reach!(self.block_text(&mut block, header, least));
-        if !self
-            .tape
-            .append_repeated(b'\n', block.feeds_kept(header.chomping))
-        {
+        if !self.push_feeds(block.feeds_kept(header.chomping)) {
             return self.starve();
         }
         let text = Piece {

@@ -173,7 +173,7 @@ impl Reader<'_> {
         ensures reached { Reaches self.old self.new second result }
         ensures inside { result ≢ no_place → result < length self.old.text.now }
         ensures found { is_text self.old.text.now ≡ true → IsBrokenLine self.old.text.now from first second
-            → self.old.named ≡ false → result ≢ no_place → at self.old.text.now result ≢ 58
+            → result ≢ no_place → at self.old.text.now result ≢ 58
             → AddsFlow self.old self.new from result }
         ensures missed { is_text self.old.text.now ≡ true → IsBrokenLine self.old.text.now from first second
             → (result ≡ no_place) ⊎ (at self.old.text.now result ≡ 58) → self.new.starved ≡ false

@@ -39,7 +39,7 @@ impl Reader<'_> {
         ensures reached { Reaches self.old self.new from result }
         ensures start { self.new.start ≡ self.old.start }
         ensures still { self.new.tape ≡ self.old.tape }
-        ensures named { self.new.named ≡ self.old.named }
+        ensures names { self.new.names ≡ self.old.names }
         ensures between { result ≢ no_place
             → Between self.old.text.now (not (self.new.line == self.old.line)) from result }
         ensures found { is_text self.old.text.now ≡ true → result ≢ no_place
@@ -78,7 +78,7 @@ impl Reader<'_> {
         ensures reached { Reaches self.old self.new from result }
         ensures start { self.new.start ≡ self.old.start }
         ensures still { self.new.tape ≡ self.old.tape }
-        ensures named { self.new.named ≡ self.old.named }
+        ensures names { self.new.names ≡ self.old.names }
         ensures found { is_text self.old.text.now ≡ true → result ≢ no_place
             → IsAtNext self.old self.new from result }
         ensures ended { is_text self.old.text.now ≡ true → result ≢ no_place
@@ -106,7 +106,7 @@ impl Reader<'_> {
         ensures reached { Reaches self.old self.new from result }
         ensures start { self.new.start ≡ self.old.start }
         ensures still { self.new.tape ≡ self.old.tape }
-        ensures named { self.new.named ≡ self.old.named }
+        ensures names { self.new.names ≡ self.old.names }
         ensures found { is_text self.old.text.now ≡ true → result ≢ no_place
             → IsAtNext self.old self.new from result }
         ensures ended { is_text self.old.text.now ≡ true → result ≢ no_place
@@ -129,7 +129,7 @@ impl Reader<'_> {
         ensures reached { Reaches self.old self.new from result }
         ensures start { self.new.start ≡ self.old.start }
         ensures still { self.new.tape ≡ self.old.tape }
-        ensures named { self.new.named ≡ self.old.named }
+        ensures names { self.new.names ≡ self.old.names }
         ensures inside { result ≢ no_place → result < length self.old.text.now }
         ensures found { is_text self.old.text.now ≡ true → result ≢ no_place
             → IsAtNext self.old self.new from result }
@@ -157,7 +157,7 @@ impl Reader<'_> {
         ensures reached { Reaches self.old self.new from result }
         ensures start { self.new.start ≡ self.old.start }
         ensures still { self.new.tape ≡ self.old.tape }
-        ensures named { self.new.named ≡ self.old.named }
+        ensures names { self.new.names ≡ self.old.names }
         ensures inside { result ≢ no_place → result < length self.old.text.now }
         ensures found { is_text self.old.text.now ≡ true → result ≢ no_place
             → IsAtNext self.old self.new from result }

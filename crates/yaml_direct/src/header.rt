@@ -2,14 +2,17 @@
 
 ghost use Rattle.std.specs.Option.{option_map};
 ghost use Rattle.std.specs.Prelude.{◌≡◌, ◌≢◌, ◌<◌, ◌≤◌, ◌⊎◌, None, Some, drop, if◌then◌else◌, length, max, true};
+ghost use Rattle.yaml_base.specs.declared.event.ScalarStyle.TheVariants as style;
 ghost use Rattle.yaml_direct.specs.BlockHeads.{HasNoRemark, IsCommented, IsRemark, IsSpaced, ReadsHeader, ReadsSigns};
-ghost use Rattle.yaml_direct.specs.BlockHeads.{chomping_as};
+ghost use Rattle.yaml_direct.specs.BlockHeads.{IsShort, StandsIn, chomping_as};
 ghost use Rattle.yaml_direct.specs.Places.{no_place};
 ghost use Rattle.yaml_grammar.specs.BlockTexts.{chomping_of, found_indent, is_sign, lines_of, step_of};
 ghost use Rattle.yaml_grammar.specs.Bytes.{is_text};
 
 use crate::byte::{at, feed_at, line_end, spaces_end};
 use crate::place::NO_PLACE;
+use yaml_base::ScalarStyle;
+
 // Which of the last line feeds of a block stay.
 #[derive(Clone, Copy, PartialEq, Eq)]
 pub(crate) enum Chomping {
@@ -29,6 +32,18 @@ pub(crate) struct Header {
     pub(crate) step: usize,
     // Where it ends, if it has a due end.
     pub(crate) end: usize,
+}
+
+// The style of a block whose lines are folded or not.
+#[inline(always)]
+pub(crate) fn block_style(folds: bool) -> ScalarStyle
+    ensures { result ≡ (if folds then style.Folded else style.Literal) }
+{
+    if folds {
+        ScalarStyle::Folded
+    } else {
+        ScalarStyle::Literal
+    }
 }
 
 // What a sign in the first line of a block says, if it is one.
@@ -144,6 +159,21 @@ pub(crate) fn read_header(text: &[u8], from: usize) -> Header
         chomping: signs.chomping,
         step: signs.step,
         end: header_end(text, signs.end),
+    }
+}
+
+// How far in the lines of a block stand, counted from the column before `least` where the first line says it.
+#[inline(always)]
+pub(crate) fn indentation(text: &[u8], from: usize, step: usize, least: usize) -> usize
+    requires { from ≤ length text.now }
+    ensures found { is_text text.now ≡ true → IsShort text.now least → step ≤ 9 → result ≢ no_place
+        → StandsIn text.now from step least (Some result) }
+    ensures missed { is_text text.now ≡ true → IsShort text.now least → step ≤ 9 → result ≡ no_place
+        → StandsIn text.now from step least None }
+{
+    match step {
+        0 => detected(text, from, least),
+        step => least.saturating_sub(1).saturating_add(step),
     }
 }
 

@@ -64,7 +64,7 @@ impl Reader<'_> {
         requires some { at self.old.text.now place ≢ 32 }
         ensures reached { Reaches self.old self.new place result }
         ensures inside { result ≢ no_place → result < length self.old.text.now }
-        ensures read { self.old.named ≡ false → result ≢ no_place → AddsPlainKey self.old self.new place result }
+        ensures read { result ≢ no_place → AddsPlainKey self.old self.new place result }
     {
         let text = self.text;
         let end = plain_end(text, false, place);

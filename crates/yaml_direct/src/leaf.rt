@@ -2,13 +2,22 @@
 //! since one that is a key begins a mapping first.
 #![tactic(auto, using(crate::proofs::Growing::grows_on, crate::proofs::Growing::grows_same))]
 
-ghost use Rattle.std.specs.Prelude.{◌≡◌, ◌≢◌, ◌<◌, ◌≤◌, ℕ, IfSome, None, false, length};
+ghost use Rattle.std.specs.Prelude.{◌≡◌, ◌≢◌, ◌+◌, ◌<◌, ◌≤◌, ℕ, IfSome, None, false, length, slice_range, true};
+ghost use Rattle.yaml_base.specs.PlainEvent.{alias};
+ghost use Rattle.yaml_base.specs.declared.event.ScalarStyle.TheVariants as style;
+ghost use Rattle.yaml_direct.specs.Added.{Adds, AddsLeaf, AddsScalar, HasNoLeaf};
 ghost use Rattle.yaml_direct.specs.Bytes.{at};
-ghost use Rattle.yaml_direct.specs.Leaves.{IsPart};
+ghost use Rattle.yaml_direct.specs.Held.{IsUnnamed, names_of};
+ghost use Rattle.yaml_direct.specs.Leaves.{IsAliasLeaf, IsFound, IsLeaf, IsPart, IsPlainLeaf};
 ghost use Rattle.yaml_direct.specs.Places.{IsHere, Keeps, Reaches, no_place};
 ghost use Rattle.yaml_direct.specs.Quoted.{AddsQuoted, IsQuotedLeaf};
 ghost use Rattle.yaml_direct.specs.declared.quote.Quote.{Quote};
 ghost use Rattle.yaml_direct.specs.declared.quote.Quote.TheVariants.{Double, Single};
+ghost use Rattle.yaml_direct.specs.declared.leaf.LeafKind.TheVariants as kind;
+ghost use Rattle.yaml_grammar.specs.Bytes.{is_text, parts_documents};
+ghost use Rattle.yaml_grammar.specs.Leaves.{leaf_at};
+ghost use Rattle.yaml_grammar.specs.Names.{name_end};
+ghost use Rattle.yaml_grammar.specs.Plain.{Context, begins_plain, is_flow};
 
 use crate::byte::at;
 use crate::place::NO_PLACE;
@@ -45,7 +54,8 @@ impl Leaf {
     // Plain text that stands here.
     #[inline(always)]
     pub(crate) fn plain(begin: usize, end: usize) -> Leaf
-        ensures { (result.begin ≡ begin) × (result.stop ≡ end) × (result.end ≡ end) }
+        ensures { (result.begin ≡ begin) × (result.stop ≡ end) × (result.end ≡ end)
+            × (result.kind ≡ kind.Plain) }
     {
         Leaf {
             kind: LeafKind::Plain,
@@ -91,7 +101,9 @@ fn find_quoted(text: &[u8], quote: Quote, from: usize) -> Leaf
 // The alias that begins here.
 fn find_alias(text: &[u8], flow: bool, from: usize) -> Option<Leaf>
     requires { from < length text.now }
-    ensures { IfSome result (IsPart text.now from) }
+    ensures part { IfSome result (IsPart text.now from) }
+    ensures alias { is_text text.now ≡ true → IfSome result (IsAliasLeaf text.now flow from) }
+    ensures missed { is_text text.now ≡ true → result ≡ None → name_end text.now flow (from + 1) ≡ None }
 {
     let begin = from + 1;
     let end = name_end(text, flow, begin)?;
@@ -107,7 +119,11 @@ fn find_alias(text: &[u8], flow: bool, from: usize) -> Option<Leaf>
 #[inline(always)]
 fn find_plain(text: &[u8], flow: bool, from: usize) -> Option<Leaf>
     requires { from ≤ length text.now }
-    ensures { IfSome result (IsPart text.now from) }
+    ensures part { IfSome result (IsPart text.now from) }
+    ensures plain { is_text text.now ≡ true → parts_documents text.now from ≡ false
+        → IfSome result (IsPlainLeaf text.now flow from) }
+    ensures missed { is_text text.now ≡ true → parts_documents text.now from ≡ false → result ≡ None
+        → begins_plain text.now flow from ≡ false }
 {
     if !begins_plain(text, flow, from) {
         return None;
@@ -124,6 +140,10 @@ pub(crate) fn find_leaf(text: &[u8], flow: bool, from: usize) -> Option<Leaf>
     ensures double { at text.now from ≡ 34 → IfSome result (IsQuotedLeaf text.now Double from) }
     ensures single { at text.now from ≡ 39 → IfSome result (IsQuotedLeaf text.now Single from) }
     ensures some { result ≡ None → (at text.now from ≢ 34) × (at text.now from ≢ 39) }
+    ensures found { is_text text.now ≡ true → parts_documents text.now from ≡ false
+        → IfSome result (IsFound text.now flow from) }
+    ensures missed { is_text text.now ≡ true → parts_documents text.now from ≡ false → result ≡ None
+        → (context : Context) → is_flow context ≡ flow → leaf_at text.now context from ≡ None }
 {
     match at(text, from) {
         b'"' => Some(find_quoted(text, Quote::Double, from)),
@@ -139,6 +159,9 @@ impl<'a> Reader<'a> {
         requires begun { self.old.start.index ≤ length self.old.text.now }
         ensures kept { Keeps self.old self.new }
         ensures there { result ≢ no_place → result ≡ next }
+        ensures starved { result ≡ no_place → next ≢ no_place → self.new.starved ≡ true }
+        ensures names { self.new.names ≡ self.old.names }
+        ensures added { result ≢ no_place → Adds self.old self.new (alias name) self.old.start }
     {
         let names = Names {
             anchor: Some(name),
@@ -162,6 +185,10 @@ impl<'a> Reader<'a> {
         requires within { leaf.end ≤ length self.old.text.now }
         ensures kept { Keeps self.old self.new }
         ensures there { result ≢ no_place → result ≡ leaf.end }
+        ensures unnamed { result ≢ no_place → IsUnnamed self.old × IsUnnamed self.new }
+        ensures added { result ≢ no_place
+            → Adds self.old self.new (alias (slice_range self.old.text.now leaf.begin leaf.stop)) self.old.start }
+        ensures missed { result ≡ no_place → self.new.starved ≡ false → IsUnnamed self.old → ⊥ }
     {
         if self.named {
             return NO_PLACE;
@@ -180,8 +207,15 @@ impl<'a> Reader<'a> {
         requires within { leaf.end ≤ length self.old.text.now }
         ensures kept { Keeps self.old self.new }
         ensures there { result ≢ no_place → result ≡ leaf.end }
-        ensures quoted { (quote : Quote) (i : ℕ) → IsQuotedLeaf self.old.text.now quote i leaf → self.old.named ≡ false
-            → result ≢ no_place → AddsQuoted self.old self.new quote leaf.begin leaf.end }
+        ensures plain { leaf.kind ≡ kind.Plain → result ≢ no_place → AddsScalar self.old self.new
+            (slice_range self.old.text.now leaf.begin leaf.stop) style.Plain leaf.end }
+        ensures quoted { (quote : Quote) (i : ℕ) → IsQuotedLeaf self.old.text.now quote i leaf → result ≢ no_place
+            → AddsQuoted self.old self.new quote leaf.begin leaf.end }
+        ensures found { (context : Context) (i : ℕ) → IsLeaf self.old.text.now context i leaf
+            → self.old.start.late ≡ false → result ≢ no_place → AddsLeaf self.old self.new context i leaf.end }
+        ensures missed { (context : Context) (i : ℕ) → IsLeaf self.old.text.now context i leaf
+            → result ≡ no_place → self.new.starved ≡ false
+            → HasNoLeaf self.old.text.now context (names_of self.old) i }
     {
         let end = leaf.end;
         match leaf.kind {

@@ -40,6 +40,7 @@ mod quote;
 mod quoted;
 mod reader;
 mod stream;
+mod tag;
 mod text;
 mod whole;
 

@@ -179,7 +179,7 @@ impl<'a> Reader<'a> {
         requires here { IsHere self.old end }
         ensures reached { Reaches self.old self.new end result }
         ensures found { is_text self.old.text.now ≡ true → IsFirstLine self.old.text.now false from end
-            → self.old.named ≡ false → result ≢ no_place → AddsPlain self.old self.new least from result }
+            → result ≢ no_place → AddsPlain self.old self.new least from result }
         ensures missed { is_text self.old.text.now ≡ true → IsFirstLine self.old.text.now false from end
             → result ≡ no_place → self.new.starved ≡ false → LeavesPlain self.old.text.now least from }
     {
@@ -199,7 +199,7 @@ impl<'a> Reader<'a> {
         requires here { IsHere self.old second }
         ensures reached { Reaches self.old self.new second result }
         ensures found { is_text self.old.text.now ≡ true → IsFirstLine self.old.text.now false from first
-            → IsBehindLine self.old.text.now self.old first second → self.old.named ≡ false → result ≢ no_place
+            → IsBehindLine self.old.text.now self.old first second → result ≢ no_place
             → AddsPlain self.old self.new least from result }
         ensures missed { is_text self.old.text.now ≡ true → IsFirstLine self.old.text.now false from first
             → IsBehindLine self.old.text.now self.old first second → result ≡ no_place → self.new.starved ≡ false
@@ -229,7 +229,7 @@ impl<'a> Reader<'a> {
         ensures reached { Reaches self.old self.new (next + 1) result }
         ensures kept { Keeps self.old self.new }
         ensures still { self.new.tape ≡ self.old.tape }
-        ensures named { self.new.named ≡ self.old.named }
+        ensures names { self.new.names ≡ self.old.names }
         ensures found { is_text self.old.text.now ≡ true → result ≢ no_place
             → IsFurtherLine self.old.text.now flow end next result value.old.items value.new.items }
         ensures missed { is_text self.old.text.now ≡ true → result ≡ no_place → self.new.starved ≡ false

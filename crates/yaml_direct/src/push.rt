@@ -1,12 +1,15 @@
 //! Events that a reader adds.
 #![tactic(auto, using(crate::proofs::Growing::grows_on, crate::proofs::Growing::grows_same, crate::proofs::Growing::grows_pushed))]
 
-ghost use Rattle.std.specs.Prelude.{◌≡◌, ◌≢◌, ◌≤◌, IfSome, IsTrue, None, false, length, slice_range, true};
-ghost use Rattle.yaml_direct.specs.Added.{Adds, AddsScalar};
+ghost use Rattle.std.specs.Prelude.{◌≡◌, ◌≢◌, ◌≤◌, ◌++◌, IfSome, IsTrue, None, Some, [], false, length, replicate, slice_range};
+ghost use Rattle.std.specs.Prelude.{true};
+ghost use Rattle.yaml_direct.specs.Added.{Adds, AddsScalar, start_event};
+ghost use Rattle.yaml_direct.specs.Held.{IsUnnamed};
 ghost use Rattle.yaml_direct.specs.Places.{Grows, Keeps, no_place};
-ghost use Rattle.yaml_tape.specs.OnTape.{bound_event, is_bound};
+ghost use Rattle.yaml_tape.specs.OnTape.{bound_event, is_bound, names_at};
 ghost use Rattle.yaml_base.specs.PlainEvent.{mapping_start};
-ghost use Rattle.yaml_tape.specs.Pushes.{Inserts, IsPiece, piece_of};
+ghost use Rattle.yaml_base.specs.declared.event.ScalarStyle.TheVariants as plain_style;
+ghost use Rattle.yaml_tape.specs.Pushes.{Inserts, IsPiece, marked_on, piece_of};
 
 use crate::place::NO_PLACE;
 use crate::reader::Reader;
@@ -18,8 +21,11 @@ impl Reader<'_> {
     #[inline(never)]
     fn keep_names(&mut self) -> Option<u32>
         ensures kept { Keeps self.old self.new }
+        ensures events { marked_on self.new.tape ≡ marked_on self.old.tape }
         ensures arena { self.new.tape.arena.items ≡ self.old.tape.arena.items }
         ensures named { IfSome result (λ id. id ≤ length self.new.tape.names.items) }
+        ensures names { IfSome result (λ id. names_at self.new.tape.names.items id ≡ Some self.old.names) }
+        ensures taken { IsUnnamed self.new }
     {
         self.named = false;
         let names = Names {
@@ -35,7 +41,9 @@ impl Reader<'_> {
         requires bound { IsTrue (is_bound kind) }
         requires within { spot.index ≤ length self.old.text.now }
         ensures kept { Keeps self.old self.new }
+        ensures names { self.new.names ≡ self.old.names }
         ensures there { result ≢ no_place → result ≡ next }
+        ensures starved { result ≡ no_place → next ≢ no_place → self.new.starved ≡ true }
         ensures added { result ≢ no_place → Adds self.old self.new (bound_event kind) spot }
     {
         if !self.tape.push_bound(kind, spot) {
@@ -56,7 +64,9 @@ impl Reader<'_> {
         requires bound { IsTrue (is_bound kind) }
         requires within { spot.index ≤ length self.old.text.now }
         ensures kept { Keeps self.old self.new }
+        ensures names { self.new.names ≡ self.old.names }
         ensures there { result ≢ no_place → result ≡ next }
+        ensures starved { result ≡ no_place → next ≢ no_place → self.new.starved ≡ true }
         ensures added { result ≢ no_place → Adds self.old self.new (bound_event kind) spot }
     {
         if !self.tape.push_end(kind, spot, start) {
@@ -80,7 +90,7 @@ impl Reader<'_> {
         ensures kept { Keeps self.old self.new }
         ensures there { result ≢ no_place → result ≡ next }
         ensures starved { next ≢ no_place → result ≡ no_place → self.new.starved ≡ true }
-        ensures added { self.old.named ≡ false → result ≢ no_place
+        ensures added { result ≢ no_place
             → AddsScalar self.old self.new (piece_of self.old.tape text) style end }
     {
         if self.named {
@@ -108,6 +118,7 @@ impl Reader<'_> {
         ensures kept { Keeps self.old self.new }
         ensures there { result ≢ no_place → result ≡ next }
         ensures starved { next ≢ no_place → result ≡ no_place → self.new.starved ≡ true }
+        ensures added { result ≢ no_place → AddsScalar self.old self.new (piece_of self.old.tape text) style end }
     {
         let Some(names) = self.keep_names() else {
             return self.starve();
@@ -133,7 +144,7 @@ impl Reader<'_> {
         ensures kept { Keeps self.old self.new }
         ensures there { result ≢ no_place → result ≡ next }
         ensures starved { next ≢ no_place → result ≡ no_place → self.new.starved ≡ true }
-        ensures added { self.old.named ≡ false → result ≢ no_place
+        ensures added { result ≢ no_place
             → AddsScalar self.old self.new value.items style end }
     {
         match self.tape.store(value.as_slice()) {
@@ -159,7 +170,7 @@ impl Reader<'_> {
         ensures kept { Keeps self.old self.new }
         ensures there { result ≢ no_place → result ≡ next }
         ensures starved { result ≡ no_place → next ≢ no_place → self.new.starved ≡ true }
-        ensures added { self.old.named ≡ false → result ≢ no_place
+        ensures added { result ≢ no_place
             → AddsScalar self.old self.new (slice_range self.old.text.now from to) style end }
     {
         self.push_piece(
@@ -181,8 +192,22 @@ impl Reader<'_> {
         requires within { end ≤ length self.old.text.now }
         ensures kept { Keeps self.old self.new }
         ensures there { result ≢ no_place → result ≡ next }
+        ensures starved { result ≡ no_place → next ≢ no_place → self.new.starved ≡ true }
+        ensures added { result ≢ no_place → AddsScalar self.old self.new [] plain_style.Plain end }
     {
         self.push_text(end, end, ScalarStyle::Plain, end, next)
+    }
+
+    // Puts so many line feeds behind the texts that the source does not show.
+    #[inline(always)]
+    pub(crate) fn push_feeds(&mut self, count: usize) -> bool
+        ensures kept { Keeps self.old self.new }
+        ensures events { marked_on self.new.tape ≡ marked_on self.old.tape }
+        ensures names { self.new.names ≡ self.old.names }
+        ensures line { result ≡ true
+            → self.new.tape.arena.items ≡ self.old.tape.arena.items ++ replicate count 10 }
+    {
+        self.tape.append_repeated(b'\n', count)
     }
 
     // Adds the start of a collection with the names of this number.
@@ -191,6 +216,10 @@ impl Reader<'_> {
         requires begun { self.old.start.index ≤ length self.old.text.now }
         requires named { names ≤ length self.old.tape.names.items }
         ensures kept { Keeps self.old self.new }
+        ensures names { self.new.names ≡ self.old.names }
+        ensures starved { self.new.starved ≡ self.old.starved }
+        ensures added { result ≡ true → Adds self.old self.new
+            (start_event kind (names_at self.old.tape.names.items names)) self.old.start }
     {
         let start = self.start;
         if kind == EntryKind::SequenceStart {
@@ -206,6 +235,9 @@ impl Reader<'_> {
         requires begun { self.old.start.index ≤ length self.old.text.now }
         ensures kept { Keeps self.old self.new }
         ensures there { result ≢ no_place → result ≡ next }
+        ensures starved { result ≡ no_place → next ≢ no_place → self.new.starved ≡ true }
+        ensures added { result ≢ no_place → Adds self.old self.new (start_event kind (Some self.old.names)) self.old.start }
+        ensures unnamed { result ≢ no_place → IsUnnamed self.new }
     {
         let mut names = 0;
         if self.named {
@@ -226,6 +258,9 @@ impl Reader<'_> {
         requires begun { self.old.start.index ≤ length self.old.text.now }
         ensures kept { Keeps self.old self.new }
         ensures there { result ≢ no_place → result ≡ next }
+        ensures starved { result ≡ no_place → next ≢ no_place → self.new.starved ≡ true }
+        ensures names { self.new.names ≡ self.old.names }
+        ensures added { result ≢ no_place → Adds self.old self.new (mapping_start None None) self.old.start }
     {
         let start = self.start;
         if !self.tape.push_mapping(start, 0) {
@@ -241,6 +276,8 @@ impl Reader<'_> {
         requires begun { start.index ≤ length self.old.text.now }
         ensures text { self.new.text.now ≡ self.old.text.now }
         ensures line { self.new.line_start ≡ self.old.line_start }
+        ensures names { self.new.names ≡ self.old.names }
+        ensures starved { result ≡ false → self.new.starved ≡ true }
         ensures inserted { result ≡ true
             → Inserts self.old.tape self.new.tape count (mapping_start None None) start }
         ensures kept { result ≡ false → Grows self.old self.new }

@@ -43,8 +43,7 @@ impl<'a> Reader<'a> {
         requires within { end ≤ length self.old.text.now }
         ensures kept { Keeps self.old self.new }
         ensures there { result ≢ no_place → result ≡ end }
-        ensures found { ClosesInLine self.old.text.now quote from stop → end ≡ stop + 1 → self.old.named ≡ false
-            → result ≢ no_place → AddsQuoted self.old self.new quote from end }
+        ensures found { ClosesInLine self.old.text.now quote from stop → end ≡ stop + 1 → result ≢ no_place → AddsQuoted self.old self.new quote from end }
         ensures missed { ClosesInLine self.old.text.now quote from stop → end ≢ no_place → result ≡ no_place
             → self.new.starved ≡ false → quoted_from self.old.text.now quote from ≡ None }
     {
@@ -63,7 +62,7 @@ impl<'a> Reader<'a> {
         ensures reached { Reaches self.old self.new place result }
         ensures start { self.new.start ≡ self.old.start }
         ensures still { self.new.tape ≡ self.old.tape }
-        ensures named { self.new.named ≡ self.old.named }
+        ensures names { self.new.names ≡ self.old.names }
         ensures found { is_text self.old.text.now ≡ true → result ≢ no_place
             → IsLineBegin self.old.text.now place result }
         ensures missed { is_text self.old.text.now ≡ true → result ≡ no_place
@@ -84,7 +83,7 @@ impl<'a> Reader<'a> {
         ensures reached { Reaches self.old self.new from result }
         ensures start { self.new.start ≡ self.old.start }
         ensures still { self.new.tape ≡ self.old.tape }
-        ensures named { self.new.named ≡ self.old.named }
+        ensures names { self.new.names ≡ self.old.names }
         ensures found { is_text self.old.text.now ≡ true → is_blank (at self.old.text.now from) ≡ false
             → result ≢ no_place → (quote : Quote)
             → UnquotesBehind self.old.text.now quote (passed_by passed) from result value.old.items value.new.items }
@@ -111,7 +110,7 @@ impl<'a> Reader<'a> {
         ensures reached { Reaches self.old self.new (stop + 1) result }
         ensures start { self.new.start ≡ self.old.start }
         ensures still { self.new.tape ≡ self.old.tape }
-        ensures named { self.new.named ≡ self.old.named }
+        ensures names { self.new.names ≡ self.old.names }
         ensures found { is_text self.old.text.now ≡ true → EndsRun self.old.text.now quote stop → result ≢ no_place
             → Unquotes self.old.text.now quote stop result value.old.items value.new.items }
         ensures missed { is_text self.old.text.now ≡ true → EndsRun self.old.text.now quote stop
@@ -147,7 +146,7 @@ impl<'a> Reader<'a> {
         requires within { from < length self.old.text.now }
         requires begun { self.old.start.index ≤ from }
         ensures reached { Reaches self.old self.new from result }
-        ensures found { is_text self.old.text.now ≡ true → self.old.named ≡ false → result ≢ no_place
+        ensures found { is_text self.old.text.now ≡ true → result ≢ no_place
             → AddsQuoted self.old self.new quote (from + 1) result }
         ensures missed { is_text self.old.text.now ≡ true → result ≡ no_place → self.new.starved ≡ false
             → quoted_from self.old.text.now quote (from + 1) ≡ None }

@@ -1,7 +1,8 @@
 //! A text, the line that is read, the node that begins, and the events that were made.
 #![tactic(auto, using(crate::proofs::Growing::grows_on, crate::proofs::Growing::grows_same))]
 
-ghost use Rattle.std.specs.Prelude.{◌≡◌, ◌≢◌, ◌+◌, ◌-◌, ◌<◌, ◌≤◌, IsTrue, false, length, true};
+ghost use Rattle.std.specs.Prelude.{◌≡◌, ◌≢◌, ◌+◌, ◌-◌, ◌<◌, ◌≤◌, ◌&&◌, IsTrue, false, length, not, true};
+ghost use Rattle.std.specs.Option.{is_none};
 
 use crate::byte::{is_mark, parts_documents};
 use crate::place::NO_PLACE;
@@ -29,6 +30,7 @@ pub(crate) struct Reader<'a> {
     ghost inside: { line_start ≤ length text.now },
     ghost fewer: { line ≤ line_start },
     ghost same: { tape.text.now ≡ text.now },
+    ghost held: { named ≡ not (is_none names.anchor && is_none names.tag) },
 }
 
 // The mark of a place.
@@ -40,6 +42,7 @@ pub(crate) fn spot(index: usize) -> Spot
 }
 
 impl<'a> Reader<'a> {
+    ghost use Rattle.yaml_direct.specs.Held.{IsUnnamed};
     ghost use Rattle.yaml_direct.specs.Places.{Grows, IsHere, Keeps, no_place};
     ghost use Rattle.yaml_direct.specs.Tokens.{IsCounted, IsLined};
     ghost use Rattle.yaml_grammar.specs.Bytes.{at, is_over, is_text};
@@ -53,6 +56,7 @@ impl<'a> Reader<'a> {
         ensures text { IfSome result (λ r. r.text.now ≡ text.now) }
         ensures begun { IfSome result (λ r. r.line_start ≡ from) }
         ensures empty { IfSome result (λ r. marked_on r.tape ≡ []) }
+        ensures unnamed { IfSome result IsUnnamed }
     {
         let tape = Tape::new(alloc, text)?;
         Some(Reader {
@@ -90,7 +94,7 @@ impl<'a> Reader<'a> {
         ensures starved { self.new.starved ≡ true }
         ensures kept { Keeps self.old self.new }
         ensures tape { self.new.tape ≡ self.old.tape }
-        ensures named { self.new.named ≡ self.old.named }
+        ensures names { self.new.names ≡ self.old.names }
     {
         self.starved = true;
         NO_PLACE
@@ -105,7 +109,7 @@ impl<'a> Reader<'a> {
         ensures begun { self.new.line_start ≡ place }
         ensures start { self.new.start ≡ self.old.start }
         ensures counted { self.new.line ≡ self.old.line + 1 }
-        ensures named { self.new.named ≡ self.old.named }
+        ensures names { self.new.names ≡ self.old.names }
         ensures tape { self.new.tape ≡ self.old.tape }
         ensures grows { Grows self.old self.new }
         ensures column { at self.old.text.now (place - 1) ≡ 10 → IsCounted self.new place }
@@ -195,6 +199,9 @@ impl<'a> Reader<'a> {
         ensures text { self.new.text.now ≡ self.old.text.now }
         ensures line { self.new.line_start ≡ self.old.line_start }
         ensures start { self.new.start.index ≡ place }
+        ensures early { self.new.start.late ≡ false }
+        ensures still { self.new.tape ≡ self.old.tape }
+        ensures names { self.new.names ≡ self.old.names }
         ensures grows { Grows self.old self.new }
     {
         self.start = spot(place);

@@ -1,5 +1,5 @@
 -- One empty line more, and none.
-use Rattle.std.proofs.Common.{◌≡◌, ◌+◌, ◌∙◌, ap, arith, subst, sym}
+use Rattle.std.proofs.Common.{◌≡◌, ◌+◌, ◌-◌, ◌∙◌, ap, arith, subst, sym}
 use Rattle.yaml_direct.specs.BlockRows.{AreEmpty}
 use Rattle.yaml_direct.proofs.RowLaws.{empty_more, empty_none}
 use Rattle.yaml_direct.proofs.TextLaws.{no_return}
@@ -12,6 +12,7 @@ lines-init c =
     let feed = c.feed_at-feed.ensures in
     record {
       counted = omega arith;
+      begun = λ e. e;
       low = spaces.forward;
       high = feed.forward;
       within = feed.within;
@@ -30,6 +31,7 @@ lines-preserved c =
     let inside = c.at.ensures.within (λ e. omega (arith, e, c.lines-test.true)) in
     record {
       counted = omega (arith, i.counted, i.low, i.high);
+      begun = λ _. (let back : c.lines.feed ≡ c.lines.feed + 1 - 1 = omega arith in ap (at text) (sym back) ∙ is);
       low = spaces.forward;
       high = feed.forward;
       within = feed.within;

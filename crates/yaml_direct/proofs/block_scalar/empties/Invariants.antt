@@ -8,6 +8,7 @@ use Rattle.yaml_grammar.specs.Bytes.{is_text}
 abbrev pub invariant-lines : goal.invariant-lines
 invariant-lines l = record {
   counted : l.from + l.count ≤ l.line;
+  begun : at l.text (l.from - 1) ≡ 10 → at l.text (l.line - 1) ≡ 10;
   low : l.line ≤ l.place;
   high : l.place ≤ l.feed;
   within : l.feed ≤ length l.text;

@@ -6,6 +6,7 @@ use Rattle.yaml_direct.specs.Bytes.{at}
 use Rattle.yaml_direct.specs.declared.block_scalar.Block.{Block}
 use Rattle.yaml_direct.proofs.Growing.{grows_on}
 use Rattle.yaml_direct.proofs.RowsRead.{row_some, rows_begin, rows_last, rows_next, rows_over, rows_tab}
+use Rattle.yaml_tape.specs.Pushes.{marked_on}
 use Rattle.yaml_direct.proofs.reader.Reader.block_lines.Goals as goal
 use Rattle.yaml_direct.proofs.reader.Reader.block_lines.Goals.{then-lines-test+else-next-indent, else-lines-test}
 
@@ -26,6 +27,9 @@ lines-init c =
       within = empty.places.1;
       text = pass.text;
       start = pass.start;
+      events = ap marked_on pass.tape;
+      names = pass.names;
+      feed = empty.feed;
       indented = λ h. (empty.read h).indented;
       some = λ h. (empty.read h).some;
       rows = λ h begun. rows_begin text old.folds c.args.indent c.args.from lines.line lines.count
@@ -88,6 +92,9 @@ lines-preserved c =
       within = empty.places.1;
       text = pass.text ∙ (push.kept.0 ∙ i.text);
       start = pass.start ∙ (push.kept.1.1.0 ∙ i.start);
+      events = ap marked_on pass.tape ∙ (push.events ∙ i.events);
+      names = pass.names ∙ (push.names ∙ i.names);
+      feed = λ _. empty.feed (let back : e ≡ e + 1 - 1 = omega arith in ap (at text) (sym back) ∙ feed);
       indented = λ h. (empty.read h).indented;
       some = λ h. (empty.read h).some;
       rows = λ h begun.
@@ -134,3 +141,8 @@ returns-clause-found c =
     c.args.self.now.tape.arena.items c.lines.self.tape.arena.items c.lines.block (i.rows h begun)
     (i.indented h) i.within
     (i.some h) why
+
+pub returns-clause-begun : goal.returns-clause-begun
+returns-clause-begun c =
+    let i = c.lines.invariant in
+    λ e some. inl (sym i.begun, ap (λ t. at t (c.lines.next.line - 1)) i.text ∙ i.feed e)

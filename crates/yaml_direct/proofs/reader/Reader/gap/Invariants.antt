@@ -13,7 +13,7 @@ invariant-gap l = record {
   text : l.self.text.now ≡ l.text;
   start : l.self.start ≡ l.fn.self.start;
   tape : l.self.tape ≡ l.fn.self.tape;
-  named : l.self.named ≡ l.fn.self.named;
+  names : l.self.names ≡ l.fn.self.names;
   lines : l.fn.self.line ≤ l.self.line;
   front : (c : Bool) (k : ℕ) → Gap l.text c l.place k
       → Gap l.text (not (l.self.line == l.fn.self.line) || c) l.from k;

@@ -26,7 +26,7 @@ lines-init c =
       start = refl;
       part = omega arith;
       tape = refl;
-      named = refl;
+      names = refl;
       said = λ h f b. subst (λ x. PlainSoFar text self c.args.least c.args.from c.args.first c.args.second x)
           (sym c.in-Ok.ensures.items)
           (plain_first text self c.args.least c.args.from c.args.first c.args.second h f b part.0
@@ -34,7 +34,7 @@ lines-init c =
     }
 
 pub returns-then-place-clause-found : goal.returns-then-place-clause-found
-returns-then-place-clause-found c = λ h f b unnamed some. absurd (some refl)
+returns-then-place-clause-found c = λ h f b some. absurd (some refl)
 
 pub returns-then-place-clause-missed : goal.returns-then-place-clause-missed
 returns-then-place-clause-missed c =
@@ -50,7 +50,7 @@ returns-then-place-clause-missed c =
     (c.plain_line-place.ensures.missed h' c.if-place.true fed))
 
 pub returns-then-place-2-clause-found : goal.returns-then-place-2-clause-found
-returns-then-place-2-clause-found c = λ h f b unnamed some. absurd (some refl)
+returns-then-place-2-clause-found c = λ h f b some. absurd (some refl)
 
 pub returns-then-place-2-clause-missed : goal.returns-then-place-2-clause-missed
 returns-then-place-2-clause-missed c =
@@ -90,7 +90,7 @@ lines-preserved c =
       start = margin.start ∙ (line.kept.1.1.0 ∙ i.start);
       part = omega (arith, i.part, i.low, p.0);
       tape = margin.still ∙ (line.still ∙ i.tape);
-      named = margin.named ∙ (line.named ∙ i.named);
+      names = margin.names ∙ (line.names ∙ i.names);
       said = λ h f b.
           let s = i.said h f b in
           let h' = subst (λ t. is_text t ≡ true) (sym i.text) h in
@@ -113,11 +113,11 @@ returns-clause-found c =
     let text = c.args.self.now.text.now in
     let i = c.lines.invariant in
     let push = c.push_scalar.ensures in
-    λ h f b unnamed some.
+    λ h f b some.
     let s = i.said h f b in
     let h' = subst (λ t. is_text t ≡ true) (sym i.text) h in
     plain_added c.args.self.now c.lines.self c.push_scalar.new.self c.args.least c.args.from c.lines.end c.lines.next
     c.push_scalar.result c.lines.value.items h s
     (within_here text c.lines.self c.args.least c.lines.next c.is_within.result i.text
     (c.is_within.ensures.same h' s.behind.counted) c.lines-test.false)
-    i.tape i.text i.start push.kept (push.there some) (push.added (i.named ∙ unnamed) some)
+    i.tape i.text i.start i.names push.kept (push.there some) (push.added some)

@@ -32,7 +32,7 @@ lines-init c =
       start = refl;
       part = omega arith;
       tape = refl;
-      named = refl;
+      names = refl;
       said = λ h b. subst (λ x. FlowSoFar text c.args.from c.args.first c.args.second true x)
           (sym c.in-Ok.ensures.items)
           (flow_first text c.args.from c.args.first c.args.second h b part.0 (omega (arith, part.1, here.1)));
@@ -93,7 +93,7 @@ lines-preserved c =
       start = gap.start ∙ (line.kept.1.1.0 ∙ i.start);
       part = omega (arith, i.part, i.low, p.0);
       tape = gap.still ∙ (line.still ∙ i.tape);
-      named = gap.named ∙ (line.named ∙ i.named);
+      names = gap.names ∙ (line.names ∙ i.names);
       said = λ h b.
           let h' = subst (λ t. is_text t ≡ true) (sym i.text) h in
           let h'' = subst (λ t. is_text t ≡ true) (sym same) h in
@@ -124,7 +124,7 @@ returns-clause-found c =
           (ap not (ap code.is_bracket (sym byte) ∙ (sym w.is_bracket.ensures ∙ w.if-not-is_bracket.false)))
       | else-lines-test w ↦ and_left c.lines.broken _ w.lines-test.false
     ] in
-    λ h b unnamed some other.
+    λ h b some other.
     let s = i.said h b in
     record {
       end = c.lines.end;
@@ -133,7 +133,7 @@ returns-clause-found c =
       read = flow_read text c.args.from c.lines.end c.lines.next c.lines.value.items c.lines.broken h s over
           (λ colon. other (ap (at text) (push.there some) ∙ colon));
       added = adds_scalar_from c.args.self.now c.lines.self c.push_scalar.new.self c.lines.value.items style.Plain
-          c.lines.end i.tape i.text i.start (push.added (i.named ∙ unnamed) some);
+          c.lines.end i.tape i.text i.start i.names (push.added some);
       there = push.there some ∙ s.there;
     }
 

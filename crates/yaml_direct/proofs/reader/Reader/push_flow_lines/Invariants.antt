@@ -17,7 +17,7 @@ invariant-lines l = record {
   start : l.self.start ≡ l.fn.self.start;
   part : l.first ≤ l.end;
   tape : l.self.tape ≡ l.fn.self.tape;
-  named : l.self.named ≡ l.fn.self.named;
+  names : l.self.names ≡ l.fn.self.names;
   said : is_text l.fn.self.text.now ≡ true → IsBrokenLine l.fn.self.text.now l.from l.first l.second
       → FlowSoFar l.fn.self.text.now l.from l.end l.next l.broken l.value.items;
 }

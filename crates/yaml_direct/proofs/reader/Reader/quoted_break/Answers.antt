@@ -18,7 +18,7 @@ feeds-init c =
       start = refl;
       few = omega arith;
       tape = refl;
-      named = refl;
+      names = refl;
       read = λ h dark. breaks_none self.text.now (passed_by c.args.passed) c.args.from dark;
     }
 
@@ -53,7 +53,7 @@ feeds-preserved c =
       start = begin.start ∙ i.start;
       few = omega (arith, i.few, b.0);
       tape = begin.still ∙ i.tape;
-      named = begin.named ∙ i.named;
+      names = begin.names ∙ i.names;
       read = λ h dark.
           let h' = subst (λ t. is_text t ≡ true) (sym i.text) h in
           breaks_more text (passed_by c.args.passed) c.feeds.count c.args.from place to (i.read h dark) feed b.0

@@ -26,7 +26,7 @@ runs-init c =
       text = refl;
       start = refl;
       tape = refl;
-      named = refl;
+      names = refl;
       read = λ h. sym (no_bytes rest)
           ∙ ap₂ (λ n s. with_bytes n s rest) (omega arith) (sym c.new-value.ensures.items);
     }
@@ -41,7 +41,7 @@ returns-then-not-stands_for_another-clause-found c =
     let stop = c.run_end-stop.result in
     let new = c.push_scalar.new.self in
     let value = c.extend_from_slice.new.self.items in
-    λ h unnamed some.
+    λ h some.
     let there = c.push_scalar.ensures.there some in
     let read = read_on text c.args.quote b c.runs.place stop c.runs.value.items
     (slice_range text c.runs.place c.run_text_end-kept.result) value i.forward run.forward (i.read h)
@@ -54,8 +54,8 @@ returns-then-not-stands_for_another-clause-found c =
           ∙ ap (λ n. Some (n - b, value)) (sym there);
       added = subst (λ s. AddsScalar self new value s c.push_scalar.result) c.style.ensures
           (subst (λ e. AddsScalar self new value c.style.result e) (sym there)
-          (adds_scalar_from self c.runs.self new value c.style.result (stop + 1) i.tape i.text i.start
-          (c.push_scalar.ensures.added (i.named ∙ unnamed) some)));
+          (adds_scalar_from self c.runs.self new value c.style.result (stop + 1) i.tape i.text i.start i.names
+          (c.push_scalar.ensures.added some)));
     }
 
 pub returns-then-place-clause-missed : goal.returns-then-place-clause-missed
@@ -103,7 +103,7 @@ runs-preserved c =
       text = other.reached.0 ∙ i.text;
       start = other.start ∙ i.start;
       tape = other.still ∙ i.tape;
-      named = other.named ∙ i.named;
+      names = other.names ∙ i.names;
       read = λ h.
           let h' = subst (λ t. is_text t ≡ true) (sym i.text) h in
           let read = read_on text c.args.quote b c.runs.place stop c.runs.value.items

@@ -1,0 +1,41 @@
+-- By the first byte.
+use Rattle.std.proofs.Common.{◌≡◌, ◌+◌, ◌∙◌, None, arith, false, subst, sym}
+use Rattle.yaml_direct.specs.Leaves.{an_alias, in_quotes, plain_text}
+use Rattle.yaml_direct.specs.declared.quote.Quote.TheVariants.{Double, Single}
+use Rattle.yaml_direct.proofs.AddedLeaves.{if_some, no_plain, no_star_at}
+use Rattle.yaml_direct.proofs.leaf.find_leaf.Goals as goal
+use Rattle.yaml_grammar.specs.Names.{name_end}
+use Rattle.yaml_grammar.specs.Plain.{begins_plain}
+
+pub returns-in-34-clause-found : goal.returns-in-34-clause-found
+returns-in-34-clause-found c =
+    λ h parts. in_quotes Double (sym c.at.ensures.value ∙ c.in-34.is) c.find_quoted.ensures.quoted
+
+pub returns-in-39-clause-found : goal.returns-in-39-clause-found
+returns-in-39-clause-found c =
+    λ h parts. in_quotes Single (sym c.at.ensures.value ∙ c.in-39.is) c.find_quoted-in-39.ensures.quoted
+
+pub returns-in-42-clause-found : goal.returns-in-42-clause-found
+returns-in-42-clause-found c =
+    λ h parts. if_some c.find_alias.result (λ leaf a. an_alias (sym c.at.ensures.value ∙ c.in-42.is) a)
+    (c.find_alias.ensures.alias h)
+
+pub returns-in-42-clause-missed : goal.returns-in-42-clause-missed
+returns-in-42-clause-missed c =
+    let text = c.args.text.now in
+    λ h parts none context flow. no_star_at text context c.args.from (sym c.at.ensures.value ∙ c.in-42.is)
+    (subst (λ f. name_end text f (c.args.from + 1) ≡ None) (sym flow) (c.find_alias.ensures.missed h none))
+
+pub returns-in_default-clause-found : goal.returns-in_default-clause-found
+returns-in_default-clause-found c =
+    λ h parts. if_some c.find_plain.result (λ leaf p. plain_text p) (c.find_plain.ensures.plain h parts)
+
+pub returns-in_default-clause-missed : goal.returns-in_default-clause-missed
+returns-in_default-clause-missed c =
+    let text = c.args.text.now in
+    let star : c.at.result ≡ 42 → ⊥ = grind (arith, c.in_default) in
+    let single : c.at.result ≡ 39 → ⊥ = grind (arith, c.in_default) in
+    let double : c.at.result ≡ 34 → ⊥ = grind (arith, c.in_default) in
+    λ h parts none context flow. no_plain text context c.args.from (λ e. star (c.at.ensures.value ∙ e))
+    (λ e. single (c.at.ensures.value ∙ e)) (λ e. double (c.at.ensures.value ∙ e))
+    (subst (λ f. begins_plain text f c.args.from ≡ false) (sym flow) (c.find_plain.ensures.missed h parts none))
