@@ -199,10 +199,15 @@ function structs(    i, all) {
     fault("field-unknown", "unknown field `f150`, expected one of " all " at line 1 column 4")
 }
 
-# A text that is read as any value, and its answer: data, or a fault where the status is 1.
-function text(id, spelled, status, told) {
-    print "@@ " id " text:1\n" spelled > IN
+# A text that is read under a shape, and its answer: data, or a fault where the status is 1.
+function under(shape, id, spelled, status, told) {
+    print "@@ " id " text:" shape "\n" spelled > IN
     print id "\t" status "\t\"" (status ? "fault: " : "") told "\"" > WANTED
+}
+
+# The same of any value.
+function text(id, spelled, status, told) {
+    under(1, id, spelled, status, told)
 }
 
 function texts(    key, deep) {
@@ -227,6 +232,18 @@ function texts(    key, deep) {
     text("entries-129", repeat("- ", 129) "x", 1, deep 257)
     text("brackets-100000", repeat("[", 100000) repeat("]", 100000), 1, deep 129)
     text("entries-100000", repeat("- ", 100000) "x", 1, deep 257)
+    # what is too deep is refused where it is, whatever follows, unless it is stepped over
+    text("brackets-unclosed", repeat("[", 100000), 1, deep 129)
+    text("keys-100000", repeat("? ", 100000) "x", 1, deep 257)
+    text("brackets-behind-a-document", "a\\n--- " repeat("[", 1000), 1,
+        "deserializing from YAML containing more than one document is not supported")
+    text("brackets-behind-a-fault", "[*b, " repeat("[", 1000), 1, "unknown anchor at line 1 column 2")
+    under(4, "ignored-brackets", repeat("[", 100000) repeat("]", 100000), 0, "ignored")
+    under(4, "ignored-entries", repeat("- ", 100000) "x", 0, "ignored")
+    under(4, "ignored-brackets-unclosed", repeat("[", 1000) "\\n", 1,
+        "did not find expected node content at line 2 column 1, while parsing a flow node")
+    under(0, "brackets-of-another-kind", "[{}, " repeat("[", 1000), 1,
+        ".[0]: invalid type: map, expected a sequence at line 1 column 2")
     text("a-long-text", repeat("k", 1000000), 0, "\\\"" repeat("k", 1000000) "\\\"")
 }
 

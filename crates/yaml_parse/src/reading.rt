@@ -1,6 +1,6 @@
 //! Tokens to events, step by step.
 
-ghost use Rattle.std.specs.Prelude.{◌≡◌, ◌<◌, ◌∷◌, ◌++◌, [], IfOk, false, true};
+ghost use Rattle.std.specs.Prelude.{◌≡◌, ◌<◌, ◌≤◌, ◌∷◌, ◌++◌, [], IfOk, false, true};
 ghost use Rattle.std.specs.Option.{ForSome};
 ghost use Rattle.yaml_base.specs.declared.fault.FaultKind.TheVariants as kind;
 ghost use Rattle.yaml_parse.specs.Handed.{handed_out, made_so_far, waiting};
@@ -10,7 +10,8 @@ use std::alloc::AllocError;
 use yaml_base::{Event, Mark};
 use yaml_scan::{Fault, Tokens};
 
-// How many events are made before the first of them is handed out. One that was just written is slow to move on.
+// How many events are made before the first of them is handed out. One that was just written is slow to move on. No more
+// are, but those of one token, however many collections end there: tokens that are ready wait as well.
 const BATCH: usize = 64;
 
 // The tokens of a text and its parser.
@@ -18,17 +19,25 @@ const BATCH: usize = 64;
 pub(crate) struct Reading<'a> {
     tokens: Tokens<'a>,
     parser: Parser<'a>,
-    // The most steps that the scanner has left; none where the text has ended, or no more of it is parsed.
+    // The most steps that the scanner has left; none where the text has ended, whose last tokens may be ready yet, or no
+    // more of it is parsed.
     steps: usize,
 }
 
-// Hands tokens that are ready over to the parser, and tells whether it takes more.
+// Hands tokens that are ready over to the parser, until so many events wait, and tells whether it takes more.
 #[inline(always)]
-fn hand_over(tokens: &mut Tokens<'_>, parser: &mut Parser<'_>) -> Result<bool, AllocError>
+fn hand_over(
+    tokens: &mut Tokens<'_>,
+    parser: &mut Parser<'_>,
+    enough: usize,
+) -> Result<bool, AllocError>
     ensures text { parser.new.text.now ≡ parser.old.text.now }
     ensures handed { handed_out parser.new ≡ handed_out parser.old }
 {
     'ready: for _ in 0..tokens.ready() {
+        if parser.waiting() >= enough {
+            break;
+        }
         match tokens.next() {
             Some(placed) => {
                 if !parser.take(placed)? {
@@ -53,29 +62,42 @@ impl<'a> Reading<'a> {
         }
     }
 
-    // Scans a step, and parses the tokens that are ready then.
+    // Parses the tokens that are ready, until so many events wait, and scans no more where the parser takes no more.
     #[inline(always)]
-    fn advance(&mut self) -> Result<(), AllocError>
+    fn parse_ready(&mut self, enough: usize) -> Result<(), AllocError>
+        ensures text { self.new.parser.text.now ≡ self.old.parser.text.now }
+        ensures handed { handed_out self.new.parser ≡ handed_out self.old.parser }
+        ensures steps { self.new.steps ≤ self.old.steps }
+    {
+        if !hand_over(&mut self.tokens, &mut self.parser, enough)? {
+            self.steps = 0;
+        }
+        Ok(())
+    }
+
+    // Scans a step, and parses the tokens that are ready then, until so many events wait.
+    #[inline(always)]
+    fn advance(&mut self, enough: usize) -> Result<(), AllocError>
         requires { 0 < self.old.steps }
         ensures text { self.new.parser.text.now ≡ self.old.parser.text.now }
         ensures handed { handed_out self.new.parser ≡ handed_out self.old.parser }
         ensures fewer { self.new.steps < self.old.steps }
     {
         self.steps -= 1;
-        let goes_on = self.tokens.advance()?;
-        if !hand_over(&mut self.tokens, &mut self.parser)? || !goes_on {
+        if !self.tokens.advance()? {
             self.steps = 0;
         }
-        Ok(())
+        self.parse_ready(enough)
     }
 
-    // Scans and parses until enough events wait, or the tokens have ended.
-    fn refill(&mut self) -> Result<(), AllocError>
+    // Parses what is ready, and scans and parses on until so many events wait, or the tokens have ended.
+    fn refill(&mut self, enough: usize) -> Result<(), AllocError>
         ensures text { self.new.parser.text.now ≡ self.old.parser.text.now }
         ensures handed { handed_out self.new.parser ≡ handed_out self.old.parser }
     {
-        'steps: while self.steps > 0 && self.parser.waiting() < BATCH {
-            self.advance()?;
+        self.parse_ready(enough)?;
+        'steps: while self.steps > 0 && self.parser.waiting() < enough {
+            self.advance(enough)?;
         }
         Ok(())
     }
@@ -85,10 +107,7 @@ impl<'a> Reading<'a> {
         ensures text { self.new.parser.text.now ≡ self.old.parser.text.now }
         ensures handed { handed_out self.new.parser ≡ handed_out self.old.parser }
     {
-        'steps: while self.steps > 0 {
-            self.advance()?;
-        }
-        Ok(())
+        self.refill(usize::MAX)
     }
 
     // What is wrong with the tokens, behind all of them, if that was found, and the parser.
@@ -116,7 +135,7 @@ impl<'a> Reading<'a> {
         ensures none { IfOk result (λ more. more ≡ false → handed_out self.new.parser ≡ made_so_far self.new.parser) }
     {
         if !self.parser.has_waiting() {
-            self.refill()?;
+            self.refill(BATCH)?;
         }
         Ok(self.parser.has_waiting())
     }
