@@ -8,14 +8,17 @@ pub mod ChosenStyles
 pub mod Collections
 pub mod ColumnNodes
 pub mod Contents
+pub mod Digits
 pub mod Entries
 pub mod Escapes
 pub mod ExampleLaws
 pub mod Finds
+pub mod FirstRoots
 pub mod Inline
 pub mod KeyLines
 pub mod Keys
 pub mod Nodes
+pub mod Outcomes
 pub mod PlainFits
 pub mod QuotedLeaves
 pub mod Rests
@@ -34,3 +37,9 @@ pub mod TreeEnds
 pub mod TreeSpelling
 pub mod Whole
 pub mod Words
+pub mod WrittenData
+pub mod WrittenLeaves
+pub mod WrittenNames
+pub mod WrittenStreams
+pub mod WrittenTags
+pub mod WrittenValues

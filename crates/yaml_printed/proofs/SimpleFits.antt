@@ -2,9 +2,9 @@
 use Rattle.std.proofs.Common.{◌≡◌, ℕ, zero, suc, ◌<◌, ◌≤◌, ◌==◌, ◌&&◌, ◌||◌, not, Bool, true, false, refl, sym, ap, ◌∙◌}
 use Rattle.std.proofs.Common.{arith, List, [], ◌∷◌, length, codes, nat_eq, get_or}
 use Rattle.std.proofs.lemmas.Bool.{and_from, and_parts, or_from, false≢true, le-leb, ne_eqb}
-use Rattle.std.proofs.lemmas.Str.{chars-encodes, encodes-IsAscii}
+use Rattle.std.proofs.lemmas.Str.{IsUtf8-from_ascii, chars-encodes, encodes-IsAscii}
 use Rattle.std.specs.List.{list_all, starts_with}
-use Rattle.std.specs.Str.{chars}
+use Rattle.std.specs.Str.{IsUtf8, chars}
 use lib.Utf8.{scalar, scalars}
 use Rattle.yaml_emit.specs.Characters.{is_printable}
 use Rattle.yaml_emit.specs.Styles.{begins_otherwise, ends_with_byte, fits_plain, has_behind, is_dash, is_first}
@@ -72,6 +72,10 @@ ascii_of : (t : List ℕ) → list_all is_simple_byte t ≡ true → (i : ℕ) �
 ascii_of [] h i = omega arith
 ascii_of (c ∷ cs) h zero = omega (arith, low_of c (and_parts (is_simple_byte c) (list_all is_simple_byte cs) h).0)
 ascii_of (c ∷ cs) h (suc i) = ascii_of cs (and_parts (is_simple_byte c) (list_all is_simple_byte cs) h).1 i
+
+-- it is UTF-8
+pub simple_utf8 : (t : List ℕ) → is_simple t ≡ true → IsUtf8 t
+simple_utf8 t h = IsUtf8-from_ascii t (ascii_of t (and_parts (list_all is_simple_byte t) _ h).0)
 
 characters_of : (t : List ℕ) → list_all is_simple_byte t ≡ true → chars t ≡ t
 characters_of t h = ap chars (sym (encodes-IsAscii t (ascii_of t h))) ∙ chars-encodes t (scalars_of t h)
