@@ -4,6 +4,7 @@
 mod fault;
 mod first;
 mod keys;
+pub mod laws;
 mod merge;
 mod nodes;
 mod plan;
