@@ -2,7 +2,8 @@
 use Rattle.std.proofs.Common.{◌≡◌, ◌+◌, ◌∙◌, None, arith, false, subst, sym}
 use Rattle.yaml_direct.specs.Leaves.{an_alias, in_quotes, plain_text}
 use Rattle.yaml_direct.specs.declared.quote.Quote.TheVariants.{Double, Single}
-use Rattle.yaml_direct.proofs.AddedLeaves.{if_some, no_plain, no_star_at}
+use Rattle.yaml_direct.proofs.AddedLeaves.{no_plain, no_star_at}
+use Rattle.yaml_direct.proofs.LeafKinds.{if_some}
 use Rattle.yaml_direct.proofs.leaf.find_leaf.Goals as goal
 use Rattle.yaml_grammar.specs.Names.{name_end}
 use Rattle.yaml_grammar.specs.Plain.{begins_plain}

@@ -1,7 +1,8 @@
 -- A tag that ends, and one that does not.
 use Rattle.std.proofs.Common.{◌≡◌, ◌+◌, ◌∙◌, ap, drop, false, subst, sym, true}
 use Rattle.yaml_direct.specs.Tags.{handle_as}
-use Rattle.yaml_direct.proofs.TagLaws.{closed_is, ended_tag, simple_part, tag_is}
+use Rattle.yaml_direct.proofs.TagBytes.{simple_part}
+use Rattle.yaml_direct.proofs.TagLaws.{closed_is, ended_tag, tag_is}
 use Rattle.yaml_direct.proofs.tag.tag_at.Goals as goal
 use Rattle.yaml_direct.proofs.tag.tag_at.Goals.{else-stop-start-via-then-stop-start+else-not-is_local}
 use Rattle.yaml_direct.proofs.tag.tag_at.Goals.{else-stop-start-via-else-stop-start}

@@ -3,9 +3,9 @@ use Rattle.std.proofs.Common.{◌≡◌, ◌∙◌, None, arith, refl, subst, sy
 use Rattle.std.proofs.lemmas.Bool.{false≢true}
 use Rattle.yaml_direct.specs.Held.{names_of}
 use Rattle.yaml_direct.specs.Quoted.{quoted_from}
-use Rattle.yaml_direct.proofs.AddedLeaves.{alias_leaf, escaped_is, leaf_alias, leaf_in_quotes, leaf_open, leaf_plain}
-use Rattle.yaml_direct.proofs.AddedLeaves.{leaf_quoted, named_alias, none_leaf, quoted_no_alias, quoted_no_plain}
-use Rattle.yaml_direct.proofs.AddedLeaves.{quoted_none, whole_quoted}
+use Rattle.yaml_direct.proofs.AddedLeaves.{alias_leaf, named_alias, none_leaf, quoted_none}
+use Rattle.yaml_direct.proofs.LeafKinds.{escaped_is, leaf_alias, leaf_in_quotes, leaf_open, leaf_plain, leaf_quoted}
+use Rattle.yaml_direct.proofs.LeafKinds.{quoted_no_alias, quoted_no_plain, whole_quoted}
 use Rattle.yaml_direct.proofs.ReaderLaws.{no_such_place}
 use Rattle.yaml_direct.proofs.reader.Reader.push_leaf.Goals as goal
 
