@@ -1,5 +1,6 @@
 -- One run, or more.
-use Rattle.std.proofs.Common.{◌+◌, refl, ◌∙◌}
+use Rattle.std.proofs.Common.{◌+◌, ◌≡◌, false, refl, true, ◌∙◌}
+use Rattle.yaml_direct.proofs.LeafLines.{quotes_line}
 use Rattle.yaml_direct.proofs.Unquoting.{found_escaped, found_whole}
 use Rattle.yaml_direct.proofs.leaf.find_quoted.Goals as goal
 use Rattle.yaml_direct.proofs.leaf.find_quoted.Goals.{then-stop-first, else-stop-first}
@@ -22,3 +23,15 @@ returns-clause-quoted c =
             run.forward run.run closes
       ];
     }
+
+pub returns-clause-line : goal.returns-clause-line
+returns-clause-line c =
+    let byte = c.if-text-stop.false ∙ c.byte.ensures.quote in
+    λ open closed. quotes_line c.args.text.now c.args.quote c.args.from c.run_end-first.result c.closing-stop.result open
+    c.run_end-first.ensures.run (c.closing-stop.ensures.closes byte) byte
+
+pub returns-then-text-stop-clause-line : goal.returns-then-text-stop-clause-line
+returns-then-text-stop-clause-line c = λ open closed. absurd (true≢false closed)
+  where
+    true≢false : true ≡ false → ⊥
+    true≢false e = cc
