@@ -1,10 +1,11 @@
 -- Quotes that are closed in their line, and names, stand in a line.
 use Rattle.std.proofs.Common.{ℕ, zero, suc, ◌+◌, ◌-◌, ◌<◌, ◌≤◌, ◌≡◌, ◌≢◌, ◌==◌, ◌&&◌, ◌||◌, not, Bool, true, false}
 use Rattle.std.proofs.Common.{List, [], ◌∷◌, Some, refl, sym, subst, ap, ◌∙◌, arith, inl, inr, drop}
-use Rattle.std.proofs.lemmas.Bool.{and_parts, cases_Bool, cases_eq, eq-eqb, eqb-true, false≢true, not-true, or_parts}
+use Rattle.std.proofs.lemmas.Bool.{and_parts, cases_Bool, cases_eq, eq-eqb, eqb-true, false≢true, not-true, or_cases, or_parts}
 use Rattle.std.proofs.lemmas.List.{get_or-drop}
 use Rattle.std.specs.Prelude.{if◌then◌else◌, nat_lt, Option, None}
 use Rattle.yaml_direct.specs.Gaps.{InLine}
+use Rattle.yaml_direct.specs.InBrackets.{quotes}
 use Rattle.yaml_direct.specs.Quoted.{Closes, IsRun, closed, is_other, later, quote_of}
 use Rattle.yaml_direct.specs.declared.quote.Quote.{Quote}
 use Rattle.yaml_direct.specs.declared.quote.Quote.TheVariants.{Double, Single}
@@ -57,15 +58,16 @@ quotes_line text quote i first stop other run closes byte =
     (byte_line text stop (λ e. quote_no_feed quote (sym byte ∙ e)))))
 
 -- names
+passed_by : (test : ℕ → Bool) (x : ℕ) (xs : List ℕ) (b : Bool) → test x ≡ b
+    → ((j : ℕ) → j < count_while test xs → test (at xs j) ≡ true) → (k : ℕ)
+    → k < (let more = suc (count_while test xs) in if b then more else 0) → test (at (x ∷ xs) k) ≡ true
+passed_by test x xs true e rest zero less = e
+passed_by test x xs true e rest (suc k) less = rest k (omega (arith, less))
+passed_by test x xs false e rest k less = absurd (omega (arith, less))
+
 passed : (test : ℕ → Bool) (xs : List ℕ) (k : ℕ) → k < count_while test xs → test (at xs k) ≡ true
 passed test [] k less = absurd (omega (arith, less))
-passed test (x ∷ xs) k less = by_test (test x) refl k less
-  where
-    by_test : (b : Bool) → test x ≡ b → (k : ℕ)
-        → k < (let more = suc (count_while test xs) in if b then more else 0) → test (at (x ∷ xs) k) ≡ true
-    by_test true e zero less = e
-    by_test true e (suc k) less = passed test xs k (omega (arith, less))
-    by_test false e k less = absurd (omega (arith, less))
+passed test (x ∷ xs) k less = passed_by test x xs (test x) refl (λ j l. passed test xs j l) k less
 
 name_some : (b : Bool) (n e : ℕ) → (if b then Some n else None) ≡ Some e → n ≡ e
 name_some true n e h = same_some n e h
@@ -80,3 +82,13 @@ name_line text flow i e h k low high feed =
     let name = passed is_name_byte (drop i text) (k - i) (omega (arith, low, high, end)) in
     let byte : at (drop i text) (k - i) ≡ 10 = get_or-drop i text (k - i) 0 ∙ ap (at text) there ∙ feed in
     false≢true (ap is_name_byte (sym byte) ∙ name)
+
+-- neither a quote nor `*`
+pub no_quotes : (c : ℕ) → (c ≡ 34 → ⊥) → (c ≡ 39 → ⊥) → (c ≡ 42 → ⊥) → quotes c ≡ true → ⊥
+no_quotes c double single star h = elim (or_cases (c == 34) _ h) [
+  | inl e ↦ double (eqb-true c 34 e)
+  | inr h ↦ elim (or_cases (c == 39) (c == 42) h) [
+    | inl e ↦ single (eqb-true c 39 e)
+    | inr e ↦ star (eqb-true c 42 e)
+  ]
+]

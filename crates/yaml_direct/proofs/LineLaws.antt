@@ -23,7 +23,7 @@ line_none text i k low high = absurd (omega (arith, low, high))
 
 pub line_on : (text : List ℕ) (i j k : ℕ) → InLine text i j → InLine text j k → InLine text i k
 line_on text i j k f g m low high =
-    elim (cases_lt m j) [ | inl before ↦ f m low before | inr behind ↦ g m behind high ]
+    elim (cases_lt m j) [ inl before ↦ f m low before | inr behind ↦ g m behind high ]
 
 -- a line is one line
 taken : (text : List ℕ) (n i : ℕ) → InLine text i (i + n) → list_any (nat_eq 10) (take n (drop i text)) ≡ false

@@ -9,6 +9,7 @@ ghost use Rattle.yaml_direct.specs.Added.{Adds, AddsLeaf, AddsScalar, HasNoLeaf}
 ghost use Rattle.yaml_direct.specs.Bytes.{at};
 ghost use Rattle.yaml_direct.specs.Gaps.{InLine};
 ghost use Rattle.yaml_direct.specs.Held.{IsUnnamed, names_of};
+ghost use Rattle.yaml_direct.specs.InBrackets.{quotes};
 ghost use Rattle.yaml_direct.specs.Leaves.{IsAliasLeaf, IsFound, IsLeaf, IsPart, IsPlainLeaf, is_open};
 ghost use Rattle.yaml_direct.specs.Places.{IsHere, Keeps, Reaches, no_place};
 ghost use Rattle.yaml_direct.specs.Quoted.{AddsQuoted, IsQuotedLeaf};
@@ -147,7 +148,7 @@ pub(crate) fn find_leaf(text: &[u8], flow: bool, from: usize) -> Option<Leaf>
         → IfSome result (IsFound text.now flow from) }
     ensures missed { is_text text.now ≡ true → parts_documents text.now from ≡ false → result ≡ None
         → (context : Context) → is_flow context ≡ flow → leaf_at text.now context from ≡ None }
-    ensures line { is_text text.now ≡ true
+    ensures line { is_text text.now ≡ true → quotes (at text.now from) ≡ true
         → IfSome result (λ leaf. is_open leaf.kind ≡ false → InLine text.now from leaf.end) }
 {
     match at(text, from) {

@@ -1,5 +1,5 @@
 -- One run, or more.
-use Rattle.std.proofs.Common.{◌+◌, ◌≡◌, false, refl, true, ◌∙◌}
+use Rattle.std.proofs.Common.{◌+◌, refl, ◌∙◌}
 use Rattle.yaml_direct.proofs.LeafLines.{quotes_line}
 use Rattle.yaml_direct.proofs.Unquoting.{found_escaped, found_whole}
 use Rattle.yaml_direct.proofs.leaf.find_quoted.Goals as goal
@@ -27,11 +27,5 @@ returns-clause-quoted c =
 pub returns-clause-line : goal.returns-clause-line
 returns-clause-line c =
     let byte = c.if-text-stop.false ∙ c.byte.ensures.quote in
-    λ open closed. quotes_line c.args.text.now c.args.quote c.args.from c.run_end-first.result c.closing-stop.result open
+    λ other closed. quotes_line c.args.text.now c.args.quote c.args.from c.run_end-first.result c.closing-stop.result other
     c.run_end-first.ensures.run (c.closing-stop.ensures.closes byte) byte
-
-pub returns-then-text-stop-clause-line : goal.returns-then-text-stop-clause-line
-returns-then-text-stop-clause-line c = λ open closed. absurd (true≢false closed)
-  where
-    true≢false : true ≡ false → ⊥
-    true≢false e = cc

@@ -556,7 +556,8 @@ flow_leaf-returns-then-self-line-clause-found t c = λ text of b quoted some.
     let found = subst (λ t. IsFound t true place leaf) of.same (c.in-Some.ensures.found (of_allowed text old of) parts) in
     let closed = not_open leaf.kind (λ q e. c.in_default-kind.not-Open q e) in
     let first = quote_by is_plain_first refl refl refl (at text place) quoted in
-    let line = subst (λ t. InLine t place e) of.same (c.in-Some.ensures.line (of_allowed text old of) closed) in
+    let line = subst (λ t. InLine t place e) of.same (c.in-Some.ensures.line (of_allowed text old of)
+    (ap (λ t. quotes (at t place)) of.same ∙ quoted) closed) in
     let index = ap (λ s. s.index) gap.start in
     let fl = behind_names place (behind_kept text true old g place gap.start gap.names b)
     (found_leaf text place leaf found first closed)
