@@ -3,6 +3,7 @@ use Rattle.std.specs.Prelude.{ℕ, ◌+◌, ◌-◌, ◌≡◌, ◌≤◌, Bool,
 use Rattle.yaml_direct.specs.PlainTexts.{IsFirstLine, flow_line}
 use Rattle.yaml_direct.specs.Quoted.{IsQuotedLeaf, quote_of}
 use Rattle.yaml_direct.specs.declared.leaf.Leaf.{Leaf}
+use Rattle.yaml_direct.specs.declared.leaf.LeafKind.{LeafKind}
 use Rattle.yaml_direct.specs.declared.leaf.LeafKind.TheVariants.{Alias, Open, Plain}
 use Rattle.yaml_direct.specs.declared.quote.Quote.{Quote}
 use Rattle.yaml_grammar.specs.Bytes.{at}
@@ -23,6 +24,11 @@ pub record IsPlainLeaf (text : List ℕ) (flow : Bool) (i : ℕ) (leaf : Leaf) :
   pub first : IsFirstLine text flow i leaf.end
   pub key : flow ≡ false → plain_at text as_key i ≡ Some (leaf.end - i, slice_range text i leaf.end)
   pub part : flow ≡ true → breaks text leaf.end ≡ false → plain_at text in_brackets i ≡ flow_line text i leaf.end
+
+-- quotes that are not closed in their line
+abbrev pub is_open : LeafKind → Bool
+is_open (Open quote) = true
+is_open kind = false
 
 -- an alias that stands in a place
 pub record IsAliasLeaf (text : List ℕ) (flow : Bool) (i : ℕ) (leaf : Leaf) : Type 0 where

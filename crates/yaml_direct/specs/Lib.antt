@@ -6,6 +6,7 @@ pub mod Bytes
 pub mod Documents
 pub mod Gaps
 pub mod Held
+pub mod InBrackets
 pub mod Leaves
 pub mod Lines
 pub mod PlainTexts

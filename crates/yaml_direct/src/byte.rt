@@ -3,7 +3,8 @@
 ghost use Rattle.std.specs.Prelude.{false, true, ◌≡◌, ◌≢◌, ◌+◌, ◌<◌, ◌≤◌, ℕ, IsTrue, drop, length};
 ghost use Rattle.yaml_direct.specs.Gaps.{InLine, IsLineEnd};
 ghost use Rattle.yaml_direct.specs.Bytes.{AreBlanks, at, is_bracket, is_gap};
-ghost use Rattle.yaml_grammar.specs.Bytes.{is_blank, is_mark, is_text, is_triple, parts};
+ghost use Rattle.yaml_direct.specs.PlainTexts.{is_tight};
+ghost use Rattle.yaml_grammar.specs.Bytes.{is_blank, is_mark, is_text, is_triple, parts, parts_documents};
 
 use memchr::memchr;
 
@@ -114,6 +115,17 @@ pub(crate) fn blanks_end(text: &[u8], from: usize) -> usize
     text.len()
 }
 
+// Whether no line feed stands between two places.
+pub(crate) fn is_one_line(text: &[u8], from: usize, to: usize) -> bool
+    requires { (from ≤ to) × (to ≤ length text.now) }
+    ensures { IsTrue result → InLine text.now from to }
+{
+    match memchr(b'\n', &text[from..to]) {
+        Some(_) => false,
+        None => true,
+    }
+}
+
 // Whether a line feed stands here.
 #[inline(always)]
 pub(crate) fn is_feed(text: &[u8], place: usize) -> bool
@@ -150,4 +162,31 @@ pub(crate) fn line_end(text: &[u8], from: usize) -> usize
         Some(len) => from + len,
         None => text.len(),
     }
+}
+
+// Whether documents may be parted here. They are not where another byte of ASCII than a line feed stands before.
+#[inline(always)]
+pub(crate) fn may_part_documents(text: &[u8], place: usize) -> bool
+    requires { place ≤ length text.now }
+    ensures { is_text text.now ≡ true → result ≡ false → parts_documents text.now place ≡ false }
+{
+    if !parts_documents(text, place) {
+        return false;
+    }
+    if place == 0 {
+        return true;
+    }
+    let before = text[place - 1];
+    if before == b'\n' {
+        return true;
+    }
+    before >= 128
+}
+
+// Whether `:` stands here before a byte that is no gap.
+#[inline(always)]
+pub(crate) fn is_tight(text: &[u8], place: usize) -> bool
+    ensures { is_text text.now ≡ true → result ≡ is_tight text.now place }
+{
+    at(text, place) == b':' && !is_gap(text, place + 1)
 }

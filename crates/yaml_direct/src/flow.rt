@@ -1,10 +1,19 @@
 //! Nodes within brackets.
 #![tactic(auto, using(crate::proofs::Growing::grows_on, crate::proofs::Growing::grows_same))]
 
-ghost use Rattle.std.specs.Prelude.{◌≡◌, ◌≢◌, ◌+◌, ◌-◌, ◌<◌, ◌≤◌, IsTrue, length};
+ghost use Rattle.std.specs.Prelude.{◌≡◌, ◌≢◌, ◌+◌, ◌++◌, ◌-◌, ◌<◌, ◌≤◌, ◌⊎◌, IsTrue, List, Some, false, length, true, ℕ};
+ghost use Rattle.yaml_direct.specs.Bytes.{at};
+ghost use Rattle.yaml_direct.specs.Held.{IsUnnamed, names_of};
+ghost use Rattle.yaml_direct.specs.InBrackets.{AreFlowParts, Has, IsBehindNames, IsBrackets, IsFlowElement, IsFlowPart};
+ghost use Rattle.yaml_direct.specs.InBrackets.{IsFlowValue, IsOf, alone_events, closing_of, opens};
 ghost use Rattle.yaml_direct.specs.Places.{IsHere, Keeps, Reaches, no_place};
+ghost use Rattle.yaml_direct.specs.declared.flow.Slot.TheVariants as slots;
+ghost use Rattle.yaml_grammar.specs.Brackets.{part_after};
+ghost use Rattle.yaml_grammar.specs.Bytes.{is_text};
+ghost use Rattle.yaml_grammar.specs.Gaps.{next};
+ghost use Rattle.yaml_tape.specs.Pushes.{marked_on};
 
-use crate::byte::at;
+use crate::byte::{at, is_one_line};
 use crate::key::LONGEST_KEY;
 use crate::leaf::Leaf;
 use crate::place::{NO_PLACE, reach};
@@ -30,6 +39,9 @@ impl Reader<'_> {
         requires begun { self.old.start.index ≤ place }
         requires within { place < length self.old.text.now }
         ensures reached { Reaches self.old self.new place result }
+        ensures found { (text : List ℕ) → IsOf text self.old → self.old.start.late ≡ false
+            → opens (at text place) ≡ true → result ≢ no_place
+            → Has self.old self.new (IsBrackets text depth self.old.start.index (names_of self.old) place result) }
     {
         if depth == 0 {
             return NO_PLACE;
@@ -53,20 +65,40 @@ impl Reader<'_> {
         requires here { IsHere self.old from }
         ensures reached { Reaches self.old self.new from result }
         ensures inside { result ≢ no_place → result < length self.old.text.now }
+        ensures found { (text : List ℕ) → IsOf text self.old → IsUnnamed self.old
+            → closing ≡ closing_of slot → (slot ≢ slots.Value) → result ≢ no_place
+            → Has self.old self.new (AreFlowParts text slot depth (next text from) result) }
     {
         let mut next = reach!(self.flow_gap(from));
         'parts: while at(self.text, next) != closing {
-            next = reach!(self.flow_element(next, slot, depth));
-            if at(self.text, next) != b',' {
-                break 'parts;
-            }
-            next = reach!(self.flow_gap(next + 1));
+            let behind = reach!(self.flow_element(next, slot, depth));
+            next = reach!(self.flow_next(behind, closing));
         }
-        if at(self.text, next) == closing {
-            next
-        } else {
-            NO_PLACE
+        next
+    }
+
+    // Behind an item or an entry, the place of the next one behind `,`, or of the bracket that ends the collection.
+    #[inline(always)]
+    fn flow_next(&mut self, behind: usize, closing: u8) -> usize
+        requires here { IsHere self.old behind }
+        requires within { behind < length self.old.text.now }
+        ensures reached { Reaches self.old self.new behind result }
+        ensures inside { result ≢ no_place → result < length self.old.text.now }
+        ensures still { self.new.tape ≡ self.old.tape }
+        ensures names { self.new.names ≡ self.old.names }
+        ensures found { is_text self.old.text.now ≡ true → result ≢ no_place
+            → part_after self.old.text.now closing behind ≡ Some result }
+        ensures further { result ≢ no_place
+            → ((result ≡ behind) × (at self.old.text.now result ≡ closing)) ⊎ (behind < result) }
+    {
+        let byte = at(self.text, behind);
+        if byte == closing {
+            return behind;
         }
+        if byte != b',' {
+            return NO_PLACE;
+        }
+        self.flow_gap(behind + 1)
     }
 
     // An item, or an entry with its value, and the place of the next token.
@@ -76,12 +108,18 @@ impl Reader<'_> {
         requires here { IsHere self.old place }
         ensures reached { Reaches self.old self.new place result }
         ensures inside { result ≢ no_place → result < length self.old.text.now }
+        ensures found { (text : List ℕ) → IsOf text self.old → IsUnnamed self.old → (slot ≢ slots.Value)
+            → result ≢ no_place
+            → Has self.old self.new (IsFlowElement text slot depth place result) }
     {
         let next = reach!(self.flow_part(place, slot, depth));
-        if slot == Slot::Entry && at(self.text, next) == b':' {
-            return self.flow_value(next + 1, depth);
+        if slot != Slot::Entry {
+            return next;
         }
-        next
+        if at(self.text, next) != b':' {
+            return next;
+        }
+        self.flow_value(next + 1, depth)
     }
 
     // An item, an entry or a value, and the place of the next token: of an entry with a value that of its `:`.
@@ -90,6 +128,8 @@ impl Reader<'_> {
         requires here { IsHere self.old place }
         ensures reached { Reaches self.old self.new place result }
         ensures inside { result ≢ no_place → result < length self.old.text.now }
+        ensures found { (text : List ℕ) → IsOf text self.old → IsUnnamed self.old → result ≢ no_place
+            → Has self.old self.new (IsFlowPart text slot depth place result) }
     {
         self.begin(place);
         match at(self.text, place) {
@@ -108,11 +148,20 @@ impl Reader<'_> {
         requires begun { self.old.start.index ≤ place }
         ensures reached { Reaches self.old self.new place result }
         ensures inside { result ≢ no_place → result < length self.old.text.now }
+        ensures found { (text : List ℕ) → IsOf text self.old → IsUnnamed self.old → self.old.start.late ≡ false
+            → self.old.start.index ≡ place → result ≢ no_place
+            → Has self.old self.new (IsFlowPart text slot depth place result) }
     {
         let end = reach!(self.properties(place, true));
         let line = self.line;
         let next = reach!(self.flow_gap(end));
         if self.line != line {
+            return NO_PLACE;
+        }
+        if end == place {
+            return NO_PLACE;
+        }
+        if !is_one_line(self.text, place, next) {
             return NO_PLACE;
         }
         match at(self.text, next) {
@@ -132,17 +181,27 @@ impl Reader<'_> {
         requires within { place < length self.old.text.now }
         ensures reached { Reaches self.old self.new place result }
         ensures inside { result ≢ no_place → result < length self.old.text.now }
+        ensures found { (text : List ℕ) → IsOf text self.old → IsBehindNames text true self.old place
+            → opens (at text place) ≡ true → result ≢ no_place
+            → Has self.old self.new (IsFlowPart text slot depth self.old.start.index result) }
     {
-        let (start, line) = (self.start.index, self.line);
+        let start = self.start.index;
         let end = reach!(self.flow(place, depth));
         let next = reach!(self.flow_gap(end));
         if at(self.text, next) != b':' {
             return self.flow_alone(next, slot);
         }
-        if slot != Slot::Entry || self.line != line || next > start + LONGEST_KEY {
+        if slot != Slot::Entry {
             return NO_PLACE;
         }
-        next
+        if next > start + LONGEST_KEY {
+            return NO_PLACE;
+        }
+        if is_one_line(self.text, start, next) {
+            next
+        } else {
+            NO_PLACE
+        }
     }
 
     // Behind a node that is no key with a value: in a mapping it is one without.
@@ -152,6 +211,10 @@ impl Reader<'_> {
         requires within { next < length self.old.text.now }
         ensures reached { Reaches self.old self.new next result }
         ensures inside { result ≢ no_place → result < length self.old.text.now }
+        ensures there { result ≢ no_place → result ≡ next }
+        ensures found { (text : List ℕ) → IsOf text self.old → IsUnnamed self.old → result ≢ no_place
+            → (marked_on self.new.tape ≡ marked_on self.old.tape ++ alone_events text slot next)
+            × IsUnnamed self.new }
     {
         if slot != Slot::Entry {
             return next;
@@ -166,6 +229,8 @@ impl Reader<'_> {
         requires here { IsHere self.old from }
         ensures reached { Reaches self.old self.new from result }
         ensures inside { result ≢ no_place → result < length self.old.text.now }
+        ensures found { (text : List ℕ) → IsOf text self.old → IsUnnamed self.old → result ≢ no_place
+            → Has self.old self.new (IsFlowValue text depth (next text from) result) }
     {
         let place = reach!(self.flow_gap(from));
         if matches!(at(self.text, place), b',' | b']' | b'}') {

@@ -1,14 +1,20 @@
 //! Leaves within brackets, and pairs that begin with one.
 #![tactic(auto, using(crate::proofs::Growing::grows_on, crate::proofs::Growing::grows_same))]
 
-ghost use Rattle.std.specs.Prelude.{◌≡◌, ◌≢◌, ◌+◌, ◌-◌, ◌<◌, ◌≤◌, ◌⊎◌, false, length, true};
+ghost use Rattle.std.specs.Prelude.{◌≡◌, ◌≢◌, ◌+◌, ◌-◌, ◌<◌, ◌≤◌, ◌⊎◌, List, false, length, true, ℕ};
 ghost use Rattle.yaml_direct.specs.Added.{AddsFlow};
 ghost use Rattle.yaml_direct.specs.Leaves.{IsPart};
 ghost use Rattle.yaml_direct.specs.Places.{IsHere, Keeps, Reaches, no_place};
-ghost use Rattle.yaml_direct.specs.PlainTexts.{IsBrokenLine, LeavesFlow};
+ghost use Rattle.yaml_direct.specs.Held.{IsUnnamed};
+ghost use Rattle.yaml_direct.specs.InBrackets.{Has, IsAlone, IsBehindNames, IsFlowItem, IsFlowLeaf, IsFlowPart, IsOf, quotes};
+ghost use Rattle.yaml_direct.specs.PlainTexts.{IsBrokenLine, IsFirstLine, LeavesFlow};
+ghost use Rattle.yaml_grammar.specs.Brackets.{has_colon};
 ghost use Rattle.yaml_grammar.specs.Bytes.{at, is_text};
+ghost use Rattle.yaml_grammar.specs.Gaps as gaps;
+ghost use Rattle.yaml_grammar.specs.Gaps.{breaks};
+ghost use Rattle.yaml_grammar.specs.Plain.{begins_plain};
 
-use crate::byte::{at, is_bracket, is_gap};
+use crate::byte::{at, is_bracket, is_tight, may_part_documents};
 use crate::flow::Slot;
 use crate::key::LONGEST_KEY;
 use crate::leaf::{Leaf, LeafKind, find_leaf};
@@ -27,14 +33,23 @@ impl Reader<'_> {
         requires begun { self.old.start.index ≤ place }
         ensures reached { Reaches self.old self.new place result }
         ensures inside { result ≢ no_place → result < length self.old.text.now }
+        ensures found { (text : List ℕ) → IsOf text self.old
+            → (begins_plain text true place ≡ true → IsBehindNames text true self.old place) → result ≢ no_place
+            → Has self.old self.new (IsFlowPart text slot depth self.old.start.index result) }
     {
         let text = self.text;
         if !begins_plain(text, true, place) {
             return NO_PLACE;
         }
+        if may_part_documents(text, place) {
+            return NO_PLACE;
+        }
         let end = plain_end(text, true, place);
-        if matches!(at(text, end), b',' | b']' | b'}') && slot != Slot::Entry {
-            return self.push_text(place, end, ScalarStyle::Plain, end, end);
+        if slot == Slot::Entry {
+            return self.far_flow_plain(place, end, slot, depth);
+        }
+        if matches!(at(text, end), b',' | b']' | b'}') {
+            return self.push_leaf(Leaf::plain(place, end));
         }
         self.far_flow_plain(place, end, slot, depth)
     }
@@ -48,20 +63,23 @@ impl Reader<'_> {
         requires begun { self.old.start.index ≤ place }
         ensures reached { Reaches self.old self.new end result }
         ensures inside { result ≢ no_place → result < length self.old.text.now }
+        ensures found { (text : List ℕ) → IsOf text self.old → IsBehindNames text true self.old place
+            → IsFirstLine text true place end → result ≢ no_place
+            → Has self.old self.new (IsFlowPart text slot depth self.old.start.index result) }
     {
         let text = self.text;
         let line = self.line;
         let next = reach!(self.flow_gap(end));
-        if at(text, next) == b':' && !is_gap(text, next + 1) {
+        if is_tight(text, next) {
             return NO_PLACE;
         }
-        if self.line != line && at(text, next) != b':' {
-            return self.flow_plain_lines(place, end, next, slot);
+        if self.line == line {
+            return self.flow_entry(Leaf::plain(place, end), next, slot, depth);
         }
-        if self.line != line {
+        if at(text, next) == b':' {
             return NO_PLACE;
         }
-        self.flow_entry(Leaf::plain(place, end), next, slot, depth)
+        self.flow_plain_lines(place, end, next, slot)
     }
 
     // Quotes or an alias within brackets, and what goes with it.
@@ -73,6 +91,9 @@ impl Reader<'_> {
         requires within { place < length self.old.text.now }
         ensures reached { Reaches self.old self.new place result }
         ensures inside { result ≢ no_place → result < length self.old.text.now }
+        ensures found { (text : List ℕ) → IsOf text self.old → IsBehindNames text true self.old place
+            → quotes (at text place) ≡ true → result ≢ no_place
+            → Has self.old self.new (IsFlowPart text slot depth self.old.start.index result) }
     {
         let Some(leaf) = find_leaf(self.text, true, place) else {
             return NO_PLACE;
@@ -97,6 +118,9 @@ impl Reader<'_> {
         requires within { next < length self.old.text.now }
         ensures reached { Reaches self.old self.new next result }
         ensures inside { result ≢ no_place → result < length self.old.text.now }
+        ensures found { (text : List ℕ) → IsOf text self.old → IsUnnamed self.old → result ≢ no_place
+            → IsAlone text slot self.old self.new next result }
+        ensures other { result ≢ no_place → at self.old.text.now next ≢ 58 }
     {
         if at(self.text, next) == b':' {
             return NO_PLACE;
@@ -113,12 +137,18 @@ impl Reader<'_> {
         requires within { next < length self.old.text.now }
         ensures reached { Reaches self.old self.new next result }
         ensures inside { result ≢ no_place → result < length self.old.text.now }
+        ensures found { (text : List ℕ) → IsOf text self.old → IsFlowLeaf text self.old leaf
+            → next ≡ gaps.next text leaf.end → breaks text leaf.end ≡ false → result ≢ no_place
+            → Has self.old self.new (IsFlowPart text slot depth self.old.start.index result) }
     {
         if at(self.text, next) != b':' {
             reach!(self.push_leaf(leaf));
             return self.flow_alone(next, slot);
         }
-        if slot == Slot::Value || next > self.start.index + LONGEST_KEY {
+        if slot == Slot::Value {
+            return NO_PLACE;
+        }
+        if next > self.start.index + LONGEST_KEY {
             return NO_PLACE;
         }
         if slot == Slot::Item {
@@ -137,6 +167,10 @@ impl Reader<'_> {
         requires within { colon < length self.old.text.now }
         ensures reached { Reaches self.old self.new colon result }
         ensures inside { result ≢ no_place → result < length self.old.text.now }
+        ensures found { (text : List ℕ) → IsOf text self.old → IsFlowLeaf text self.old leaf
+            → has_colon text self.old.start.index leaf.end ≡ true → colon ≡ gaps.next text leaf.end
+            → breaks text leaf.end ≡ false → result ≢ no_place
+            → Has self.old self.new (IsFlowItem text depth self.old.start.index result) }
     {
         if depth == 0 {
             return NO_PLACE;
@@ -157,6 +191,9 @@ impl Reader<'_> {
         requires within { second < length self.old.text.now }
         ensures reached { Reaches self.old self.new second result }
         ensures inside { result ≢ no_place → result < length self.old.text.now }
+        ensures found { (text : List ℕ) (depth : ℕ) → IsOf text self.old → IsBehindNames text true self.old from
+            → IsBrokenLine text from first second → result ≢ no_place
+            → Has self.old self.new (IsFlowPart text slot depth self.old.start.index result) }
     {
         let next = reach!(self.push_flow_lines(from, first, second));
         self.flow_no_key(next, slot)

@@ -7,8 +7,10 @@ ghost use Rattle.yaml_base.specs.PlainEvent.{alias};
 ghost use Rattle.yaml_base.specs.declared.event.ScalarStyle.TheVariants as style;
 ghost use Rattle.yaml_direct.specs.Added.{Adds, AddsLeaf, AddsScalar, HasNoLeaf};
 ghost use Rattle.yaml_direct.specs.Bytes.{at};
+ghost use Rattle.yaml_direct.specs.Gaps.{InLine};
 ghost use Rattle.yaml_direct.specs.Held.{IsUnnamed, names_of};
-ghost use Rattle.yaml_direct.specs.Leaves.{IsAliasLeaf, IsFound, IsLeaf, IsPart, IsPlainLeaf};
+ghost use Rattle.yaml_direct.specs.InBrackets.{quotes};
+ghost use Rattle.yaml_direct.specs.Leaves.{IsAliasLeaf, IsFound, IsLeaf, IsPart, IsPlainLeaf, is_open};
 ghost use Rattle.yaml_direct.specs.Places.{IsHere, Keeps, Reaches, no_place};
 ghost use Rattle.yaml_direct.specs.Quoted.{AddsQuoted, IsQuotedLeaf};
 ghost use Rattle.yaml_direct.specs.declared.quote.Quote.{Quote};
@@ -72,6 +74,7 @@ fn find_quoted(text: &[u8], quote: Quote, from: usize) -> Leaf
     requires { from < length text.now }
     ensures part { IsPart text.now from result }
     ensures quoted { IsQuotedLeaf text.now quote from result }
+    ensures line { at text.now from ≢ 10 → is_open result.kind ≡ false → InLine text.now from result.end }
 {
     let begin = from + 1;
     let first = run_end(text, quote, begin);
@@ -104,6 +107,7 @@ fn find_alias(text: &[u8], flow: bool, from: usize) -> Option<Leaf>
     ensures part { IfSome result (IsPart text.now from) }
     ensures alias { is_text text.now ≡ true → IfSome result (IsAliasLeaf text.now flow from) }
     ensures missed { is_text text.now ≡ true → result ≡ None → name_end text.now flow (from + 1) ≡ None }
+    ensures line { is_text text.now ≡ true → at text.now from ≢ 10 → IfSome result (λ leaf. InLine text.now from leaf.end) }
 {
     let begin = from + 1;
     let end = name_end(text, flow, begin)?;
@@ -144,6 +148,8 @@ pub(crate) fn find_leaf(text: &[u8], flow: bool, from: usize) -> Option<Leaf>
         → IfSome result (IsFound text.now flow from) }
     ensures missed { is_text text.now ≡ true → parts_documents text.now from ≡ false → result ≡ None
         → (context : Context) → is_flow context ≡ flow → leaf_at text.now context from ≡ None }
+    ensures line { is_text text.now ≡ true → quotes (at text.now from) ≡ true
+        → IfSome result (λ leaf. is_open leaf.kind ≡ false → InLine text.now from leaf.end) }
 {
     match at(text, from) {
         b'"' => Some(find_quoted(text, Quote::Double, from)),

@@ -150,6 +150,7 @@ impl<'a> Reader<'a> {
             → AddsQuoted self.old self.new quote (from + 1) result }
         ensures missed { is_text self.old.text.now ≡ true → result ≡ no_place → self.new.starved ≡ false
             → quoted_from self.old.text.now quote (from + 1) ≡ None }
+        ensures behind { result ≢ no_place → from + 2 ≤ result }
     {
         let text = self.text;
         let mut value = Vec::new(self.alloc);

@@ -4,7 +4,9 @@ use Rattle.yaml_direct.specs.Leaves.{an_alias, in_quotes, plain_text}
 use Rattle.yaml_direct.specs.declared.quote.Quote.TheVariants.{Double, Single}
 use Rattle.yaml_direct.proofs.AddedLeaves.{no_plain, no_star_at}
 use Rattle.yaml_direct.proofs.LeafKinds.{if_some}
+use Rattle.yaml_direct.proofs.LeafLines.{no_quotes}
 use Rattle.yaml_direct.proofs.leaf.find_leaf.Goals as goal
+use Rattle.yaml_grammar.specs.Bytes.{at}
 use Rattle.yaml_grammar.specs.Names.{name_end}
 use Rattle.yaml_grammar.specs.Plain.{begins_plain}
 
@@ -40,3 +42,26 @@ returns-in_default-clause-missed c =
     λ h parts none context flow. no_plain text context c.args.from (λ e. star (c.at.ensures.value ∙ e))
     (λ e. single (c.at.ensures.value ∙ e)) (λ e. double (c.at.ensures.value ∙ e))
     (subst (λ f. begins_plain text f c.args.from ≡ false) (sym flow) (c.find_plain.ensures.missed h parts none))
+
+pub returns-in-34-clause-line : goal.returns-in-34-clause-line
+returns-in-34-clause-line c =
+    let byte = sym c.at.ensures.value ∙ c.in-34.is in
+    λ h q closed. c.find_quoted.ensures.line (λ e. omega (arith, e, byte)) closed
+
+pub returns-in-39-clause-line : goal.returns-in-39-clause-line
+returns-in-39-clause-line c =
+    let byte = sym c.at.ensures.value ∙ c.in-39.is in
+    λ h q closed. c.find_quoted-in-39.ensures.line (λ e. omega (arith, e, byte)) closed
+
+pub returns-in-42-clause-line : goal.returns-in-42-clause-line
+returns-in-42-clause-line c =
+    let byte = sym c.at.ensures.value ∙ c.in-42.is in
+    λ h q. if_some c.find_alias.result (λ leaf line closed. line) (c.find_alias.ensures.line h (λ e. omega (arith, e, byte)))
+
+pub returns-in_default-clause-line : goal.returns-in_default-clause-line
+returns-in_default-clause-line c =
+    let star : c.at.result ≡ 42 → ⊥ = grind (arith, c.in_default) in
+    let single : c.at.result ≡ 39 → ⊥ = grind (arith, c.in_default) in
+    let double : c.at.result ≡ 34 → ⊥ = grind (arith, c.in_default) in
+    λ h q. absurd (no_quotes (at c.args.text.now c.args.from) (λ e. double (c.at.ensures.value ∙ e))
+    (λ e. single (c.at.ensures.value ∙ e)) (λ e. star (c.at.ensures.value ∙ e)) q)

@@ -1,5 +1,6 @@
 -- One run, or more.
 use Rattle.std.proofs.Common.{◌+◌, refl, ◌∙◌}
+use Rattle.yaml_direct.proofs.LeafLines.{quotes_line}
 use Rattle.yaml_direct.proofs.Unquoting.{found_escaped, found_whole}
 use Rattle.yaml_direct.proofs.leaf.find_quoted.Goals as goal
 use Rattle.yaml_direct.proofs.leaf.find_quoted.Goals.{then-stop-first, else-stop-first}
@@ -22,3 +23,9 @@ returns-clause-quoted c =
             run.forward run.run closes
       ];
     }
+
+pub returns-clause-line : goal.returns-clause-line
+returns-clause-line c =
+    let byte = c.if-text-stop.false ∙ c.byte.ensures.quote in
+    λ other closed. quotes_line c.args.text.now c.args.quote c.args.from c.run_end-first.result c.closing-stop.result other
+    c.run_end-first.ensures.run (c.closing-stop.ensures.closes byte) byte
