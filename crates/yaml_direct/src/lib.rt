@@ -15,7 +15,7 @@
 //! - collections between brackets as keys of pairs within `[ ]`, and as a mapping's first key where its anchor or its
 //!   tag stands in a line before, or where it has twice as many events as collections may still be open;
 //! - `? ` within brackets, and entries without a key;
-//! - more than 128 open collections;
+//! - more than 128 open collections, and a tag with `%00`;
 //! - a document without `---` behind `...`.
 #![tactic(auto)]
 
