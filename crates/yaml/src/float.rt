@@ -133,24 +133,27 @@ impl<'a, 'de> Reader<'a, 'de> {
         }
     }
 
-    // What the node of the last step is found to be.
-    fn found(&self) -> Result<Found> {
+    // What the node of the last step is found to be, if there is one.
+    fn found(&self) -> Result<Option<Found>> {
         match self.event(self.last.start) {
-            Some(DocEvent::Scalar(scalar)) => self.found_scalar(scalar),
-            Some(DocEvent::SequenceStart(_)) => Ok(Found::Seq),
-            Some(DocEvent::MappingStart(_)) => Ok(Found::Map),
-            _ => Ok(Found::Unit),
+            Some(DocEvent::Scalar(scalar)) => Ok(Some(self.found_scalar(scalar)?)),
+            Some(DocEvent::SequenceStart(_)) => Ok(Some(Found::Seq)),
+            Some(DocEvent::MappingStart(_)) => Ok(Some(Found::Map)),
+            _ => Ok(None),
         }
     }
 
-    // The fault of the last step's node, which is no float.
+    // The fault of the last step's node, which is no float, or that there is none.
     fn fault_of_float(&self, expected: &str) -> Error {
         Self::made(self.try_float(expected))
     }
 
     fn try_float(&self, expected: &str) -> Result<Error> {
+        let Some(found) = self.found()? else {
+            return Ok(self.ended());
+        };
         self.at_last(Cause::InvalidType {
-            found: self.found()?,
+            found,
             expected: self.words(expected)?,
             place: None,
         })
