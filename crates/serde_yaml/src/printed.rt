@@ -1,8 +1,9 @@
 //! Writing YAML text.
 
-ghost use Rattle.std.specs.Prelude.{◌≡◌, false, map, string_bytes, Err, IfErr, IfOk, OnOk};
+ghost use Rattle.std.specs.Prelude.{◌≡◌, false, map, string_bytes, Err, IfErr, IfOk, IsTrue, OnOk};
 ghost use Rattle.yaml_base.specs.Answer.{is_memory};
 ghost use Rattle.yaml_shape.specs.DataView.{data_of};
+ghost use Rattle.yaml_shape.specs.Held.{IsHeld, is_table};
 ghost use Rattle.yaml_shape.specs.TypedView.{content_in, id_in, schema_in};
 ghost use Rattle.yaml_base.specs.EmitEvents.{emit_of};
 ghost use Rattle.yaml_base.specs.EmitTree.{IsEmitStream};
@@ -41,6 +42,10 @@ pub fn to_string<T: Serialize>(alloc: Global, value: &T) -> Result<String>
     ensures text { IfOk result (λ text. HasText (TypeWrites T.start (T.written value.now) (T.unwritten value.now))
         (string_bytes text)) }
     ensures kept { OnOk result (T.kept value.now) }
+
+    // As with events: what laws of reading the text again ask of the type's table and of the data.
+    ensures table { OnOk result (IsTrue (is_table T.start.0)) }
+    ensures held { OnOk result (IsHeld (T.written value.now)) }
     ensures refused { IfErr result (λ cause. is_memory cause ≡ false
         → IsTextRefused (TypeWrites T.start (T.written value.now) (T.unwritten value.now)) cause) }
     ensures unwritten { IfErr result (λ cause. is_memory cause ≡ false
@@ -89,6 +94,8 @@ pub fn data_to_string(alloc: Global, value: &Typed<'_, '_>) -> Result<String>
         (data_of (content_in value.now)))) }
     ensures text { IfOk result (λ text. HasText (IsDataWritten (schema_in value.now) (id_in value.now).0
         (data_of (content_in value.now))) (string_bytes text)) }
+    ensures table { OnOk result (IsTrue (is_table (schema_in value.now))) }
+    ensures held { OnOk result (IsHeld (data_of (content_in value.now))) }
     ensures refused { IfErr result (λ cause. is_memory cause ≡ false
         → IsTextRefused (IsDataWritten (schema_in value.now) (id_in value.now).0
         (data_of (content_in value.now))) cause) }

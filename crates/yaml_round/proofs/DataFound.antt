@@ -17,7 +17,7 @@ use Rattle.yaml_meaning.specs.Meaning.{MeanEach, MeanRow}
 use Rattle.yaml_meaning.specs.Meaning.{MeanPairs, MeanFields}
 use Rattle.yaml_write.specs.Written.{written}
 use Rattle.yaml_round.specs.Fits.{data_fits}
-use Rattle.yaml_round.specs.Nestings.{nestings, items_nestings, entries_nestings}
+use Rattle.yaml_printed.specs.Nestings.{nestings, items_nestings, entries_nestings}
 use Rattle.yaml_round.specs.SameOrder.{same_data, same_items, same_entries}
 use Rattle.yaml_round.proofs.RenderedTrees.{IsRendered}
 

@@ -29,7 +29,7 @@ use Rattle.yaml_round.specs.Fits.{data_fits, each_fits, parts_fit, is_written_nu
 use Rattle.yaml_round.specs.Fits.{variant_passes}
 use Rattle.yaml_shape.specs.Held.{IsHeld, AreHeld, EntriesAreHeld, is_table, is_table_shape, is_named_content}
 use Rattle.yaml_shape.specs.Held.{are_texts}
-use Rattle.yaml_round.specs.Nestings.{nestings}
+use Rattle.yaml_printed.specs.Nestings.{nestings}
 use Rattle.yaml_round.proofs.ByPlace.{all_at, each_at, within, variant_at, name_at}
 use Rattle.yaml_round.proofs.Contents.{data_stands}
 use Rattle.yaml_round.proofs.Outcomes.{made_ok}

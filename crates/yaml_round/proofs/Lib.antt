@@ -21,10 +21,12 @@ pub mod ScalarLeaves
 pub mod ShapesOfData
 pub mod SimpleFits
 pub mod PartsFit
+pub mod SimpleTexts
 pub mod StreamsReturn
 pub mod SurvivesLaws
 pub mod SurvivesMeans
 pub mod TagsWritten
+pub mod TextsReturn
 pub mod TypedReturn
 pub mod ValuesReturn
 pub mod VariantsReturn

@@ -29,7 +29,7 @@ use Rattle.yaml_write.specs.Written.{written_entries, written_fields}
 use Rattle.yaml_write.specs.WrittenValue.{pair_node, pair_before}
 use Rattle.yaml_round.specs.Fits.{data_fits, all_fit, each_fits, entries_fit, parts_fit}
 use Rattle.yaml_shape.specs.Held.{are_texts}
-use Rattle.yaml_round.specs.Nestings.{nestings, items_nestings, entries_nestings}
+use Rattle.yaml_printed.specs.Nestings.{nestings, items_nestings, entries_nestings}
 use Rattle.yaml_round.specs.SameOrder.{same_data, same_items, same_entries}
 use Rattle.yaml_round.proofs.FieldsInOrder.{struct_read}
 use Rattle.yaml_round.proofs.Outcomes.{same_answer, made_ok, joined_ok}

@@ -14,7 +14,7 @@ use Rattle.yaml_write.specs.Outcomes.{made, joined}
 use Rattle.yaml_write.specs.Written.{written, written_elements}
 use Rattle.yaml_write.specs.WrittenValue.{written_value}
 use Rattle.yaml_round.specs.Fits.{Fits, EachFits, data_fits, all_fit, tree_fits, is_variant_name, is_written_null}
-use Rattle.yaml_round.specs.Nestings.{nestings, items_nestings, tree_nestings}
+use Rattle.yaml_printed.specs.Nestings.{nestings, items_nestings, tree_nestings}
 use Rattle.yaml_round.proofs.SameOrders.{both}
 use Rattle.yaml_round.proofs.SimpleFits.{joined_ok}
 

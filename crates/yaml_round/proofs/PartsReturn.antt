@@ -18,7 +18,7 @@ use Rattle.yaml_meaning.specs.Meaning.{Means}
 use Rattle.yaml_meaning.specs.Meaning.{MeanFields, means_field}
 use Rattle.yaml_meaning.specs.ScalarShapes.{lent_text}
 use Rattle.yaml_write.specs.Outcomes.{string_node}
-use Rattle.yaml_round.specs.Nestings.{items_nestings}
+use Rattle.yaml_printed.specs.Nestings.{items_nestings}
 use Rattle.yaml_round.specs.SameOrder.{same_data, same_items}
 use Rattle.yaml_round.proofs.ByPlace.{behind, find_at}
 use Rattle.yaml_round.proofs.FieldsInOrder.{free_behind, put_behind}

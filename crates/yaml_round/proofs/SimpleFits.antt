@@ -17,7 +17,7 @@ use Rattle.yaml_write.specs.Outcomes.{made, joined, string_node}
 use Rattle.yaml_write.specs.Written.{written, written_elements, written_items, written_entries, written_fields}
 use Rattle.yaml_write.specs.WrittenValue.{pair_node, pair_before}
 use Rattle.yaml_round.specs.Fits.{Fits, data_fits, all_fit, each_fits, entries_fit}
-use Rattle.yaml_round.specs.Nestings.{nestings}
+use Rattle.yaml_printed.specs.Nestings.{nestings}
 use Rattle.yaml_round.specs.SimpleData.{is_simple, are_simple, entries_are_simple}
 use Rattle.yaml_round.proofs.SameOrders.{both, first, second}
 

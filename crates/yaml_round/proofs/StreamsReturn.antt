@@ -22,7 +22,7 @@ use Rattle.serde_yaml.specs.Headline.{one_document}
 use Rattle.serde_yaml.specs.TypedWrites.{written_stream}
 use Rattle.yaml_round.specs.Fits.{Fits}
 use Rattle.yaml_shape.specs.Held.{IsHeld, is_table}
-use Rattle.yaml_round.specs.Nestings.{nestings}
+use Rattle.yaml_printed.specs.Nestings.{nestings}
 use Rattle.yaml_round.specs.ReadsBack.{ComesBack, ReadsBack}
 use Rattle.yaml_round.proofs.DataReturn.{data_returns}
 use Rattle.yaml_round.proofs.RenderedTrees.{first_of, comes, IsRendered}

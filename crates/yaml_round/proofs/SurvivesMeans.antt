@@ -31,8 +31,8 @@ use Rattle.yaml_write.specs.WrittenParts.{written_content}
 use Rattle.yaml_write.specs.WrittenValue.{written_value, written_values, written_pairs, pair_node, pair_before}
 use Rattle.yaml_round.specs.Fits.{Fits, data_fits, parts_fit, all_fit, each_fits, entries_fit, variant_passes}
 use Rattle.yaml_round.specs.Fits.{is_variant_name, is_written_null, tree_fits, trees_fit, pairs_fit, begins_with_two}
-use Rattle.yaml_round.specs.Nestings.{nestings, items_nestings, entries_nestings, tree_nestings, trees_nestings}
-use Rattle.yaml_round.specs.Nestings.{pairs_nestings}
+use Rattle.yaml_printed.specs.Nestings.{nestings, items_nestings, entries_nestings, tree_nestings, trees_nestings}
+use Rattle.yaml_printed.specs.Nestings.{pairs_nestings}
 use Rattle.yaml_round.specs.Survives.{survives, variant_survives, value_survives, values_survive, pairs_survive}
 use Rattle.yaml_round.specs.Survives.{all_survive, each_survives, entries_survive, is_null, row_survives}
 use Rattle.yaml_round.specs.Survives.{fields_survive}

@@ -30,7 +30,7 @@ use Rattle.yaml_write.specs.LocalTags.{value_tag}
 use Rattle.yaml_write.specs.Outcomes.{Outcome, joined}
 use Rattle.yaml_write.specs.WrittenValue.{written_value, written_values, written_pairs, pair_node, pair_before}
 use Rattle.yaml_round.specs.Fits.{tree_fits, trees_fit, pairs_fit, begins_with_two}
-use Rattle.yaml_round.specs.Nestings.{tree_nestings, trees_nestings, pairs_nestings}
+use Rattle.yaml_printed.specs.Nestings.{tree_nestings, trees_nestings, pairs_nestings}
 use Rattle.yaml_round.specs.SameOrder.{same_tree, same_trees, same_pairs}
 use Rattle.yaml_round.proofs.LocalNames.{local_name-value, tag_eq-name}
 use Rattle.yaml_round.proofs.Outcomes.{same_answer, made_ok, joined_ok, tag_of, rendered_tag}

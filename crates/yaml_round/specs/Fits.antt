@@ -15,7 +15,7 @@ use Rattle.yaml_write.specs.InShape.{inner_shape, element_shape, item_shapes, ke
 use Rattle.yaml_write.specs.InShape.{named_variants}
 use Rattle.yaml_write.specs.Outcomes.{Outcome}
 use Rattle.yaml_write.specs.Written.{written}
-use Rattle.yaml_round.specs.Nestings.{nestings}
+use Rattle.yaml_printed.specs.Nestings.{nestings}
 
 -- the text begins with two `!` (byte 33)
 abbrev pub begins_with_two : List ℕ → Bool

@@ -1,6 +1,6 @@
 -- What contracts of this crate cite.
 pub mod Fits
-pub mod Nestings
+pub mod InTexts
 pub mod ReadsBack
 pub mod Rendered
 pub mod SameOrder

@@ -8,6 +8,7 @@ ghost use Rattle.yaml_base.specs.AskedStyles.{asked_style};
 ghost use Rattle.yaml_base.specs.DocTree.{DocNode, word};
 ghost use Rattle.yaml_base.specs.EmitEvents.{PlainEmit};
 ghost use Rattle.yaml_base.specs.PlainEvent.{PlainScalar};
+ghost use Rattle.yaml_base.specs.PlainFault.{PlainFault};
 ghost use Rattle.yaml_base.specs.Renders.{Renders, RendersScalar};
 ghost use Rattle.yaml_base.specs.declared.emitter.AskedStyle.{AskedStyle};
 ghost use Rattle.yaml_base.specs.declared.emitter.AskedStyle.TheVariants as asked;
@@ -31,12 +32,16 @@ ghost use Rattle.yaml_read.specs.MarkedEvents.{events_in};
 ghost use Rattle.yaml_meaning.specs.Meaning.{Means};
 ghost use Rattle.yaml_meaning.specs.ScalarShapes.{lent_text};
 ghost use Rattle.yaml_read.specs.TreeReader.{PlainLimits};
+ghost use Rattle.serde_yaml.specs.Printed.{HasText, IsDataWritten};
 ghost use Rattle.serde_yaml.specs.StreamReads.{InputGives};
 ghost use Rattle.serde_yaml.specs.TypedReads.{TypeGives};
 ghost use Rattle.serde_yaml.specs.TypedWrites.{TypeWrites};
 ghost use Rattle.yaml_round.specs.Fits.{EachFits, Fits, data_fits, is_variant_name, is_written_null, tree_fits};
-ghost use Rattle.yaml_round.specs.Nestings.{nestings, tree_nestings};
+ghost use Rattle.yaml_grammar.specs.Documents.{most_nestings};
+ghost use Rattle.yaml_printed.specs.Nestings.{nestings, tree_nestings};
+ghost use Rattle.yaml_printed.specs.WrittenRoots.{FitsText};
 ghost use Rattle.yaml_shape.specs.Held.{IsHeld, is_table};
+ghost use Rattle.yaml_round.specs.InTexts.{AreEventsOf, IsReadAsEqual, StandsAsWritten, TakesWhatStands};
 ghost use Rattle.yaml_round.specs.ReadsBack.{ComesBack, ReadsBack};
 ghost use Rattle.yaml_round.specs.Rendered.{rendered};
 ghost use Rattle.yaml_round.specs.SameOrder.{same_data};
@@ -90,6 +95,51 @@ pub fn a_written_value_reads_back<'de, T: RoundTrip<'de>>()
     equal_in_one_order_is_equal();
 }
 
+/// The text of a value that is written, as `to_string` promises it, stands in the grammar: it has documents, and their
+/// events are what those that were written may come back as. And whatever documents stand in it, as whatever reader of
+/// the grammar finds them, their events are read as an equal value. So nothing is assumed of an emitter, and of a parser
+/// that it takes what stands as it stands. The value fits a text: it has at most 128 nestings, and is written with no
+/// tag that has a character 0.
+pub fn a_printed_value_reads_back<'de, T: RoundTrip<'de>>()
+    ensures stands { (x : T) (text : List ℕ) → IsTrue (is_table T.Serialize.start.0) → IsHeld (T.written x)
+        → FitsText T.Serialize.start.0 T.Serialize.start.1 (T.written x)
+        → HasText (TypeWrites T.Serialize.start (T.written x) (T.unwritten x)) text
+        → StandsAsWritten (TypeWrites T.Serialize.start (T.written x) (T.unwritten x)) text }
+    ensures reads { (limits : PlainLimits) (x : T) (text : List ℕ)
+        → IsTrue (is_table T.Serialize.start.0) → T.kept x → IsHeld (T.written x)
+        → FitsText T.Serialize.start.0 T.Serialize.start.1 (T.written x)
+        → Fits limits.nesting T.Serialize.start.0 T.Serialize.start.1 (T.written x)
+        → HasText (TypeWrites T.Serialize.start (T.written x) (T.unwritten x)) text
+        → IsReadAsEqual limits T.Deserialize.start T.built T.refused T.eq x text }
+
+    // So a parser that takes what stands, met no fault, and of what it gives an equal value is read.
+    ensures taken { (limits : PlainLimits) (x : T) (text : List ℕ) (input : Input) (fault : Option PlainFault)
+        (given : Result T Cause) → IsTrue (is_table T.Serialize.start.0) → T.kept x → IsHeld (T.written x)
+        → FitsText T.Serialize.start.0 T.Serialize.start.1 (T.written x)
+        → Fits limits.nesting T.Serialize.start.0 T.Serialize.start.1 (T.written x)
+        → HasText (TypeWrites T.Serialize.start (T.written x) (T.unwritten x)) text
+        → TakesWhatStands text input fault
+        → TypeGives limits T.Deserialize.start T.built T.refused input fault given
+        → (y : T) × (given ≡ Ok y) × (T.eq x y ≡ true) }
+{
+    a_written_value_reads_back::<T>();
+}
+
+/// The same of data under its schema, as `data_to_string` promises its text: it stands, and whatever documents stand in
+/// it read back as equal data, with the pairs of mappings in the same order.
+pub fn printed_data_reads_back()
+    ensures stands { (table : List PlainShape) (id : ℕ) (d : PlainData) (text : List ℕ) → IsTrue (is_table table)
+        → IsHeld d → FitsText table id d → HasText (IsDataWritten table id d) text
+        → StandsAsWritten (IsDataWritten table id d) text }
+    ensures reads { (limits : PlainLimits) (table : List PlainShape) (id : ℕ) (s : PlainShape) (d : PlainData)
+        (text : List ℕ) (input : Input)
+        → IsValidSchema table → IsTrue (is_table table) → shape_at table id ≡ Some s → IsHeld d
+        → FitsText table id d → Fits limits.nesting table id d → HasText (IsDataWritten table id d) text
+        → AreEventsOf text input → ReadsBack limits table s input d }
+{
+    written_data_reads_back();
+}
+
 /// Data that is equal with the pairs of its mappings in one order is equal.
 pub fn equal_in_one_order_is_equal()
     ensures { (a b : PlainData) → IsTrue (same_data a b) → EqualData a b }
@@ -100,6 +150,12 @@ pub fn equal_in_one_order_is_equal()
 pub fn simple_data_fits()
     ensures { (nesting : ℕ) (table : List PlainShape) (id : ℕ) (d : PlainData) → HasShape table id d
         → IsTrue (is_simple d) → nestings d ≤ nesting → Fits nesting table id d }
+{}
+
+/// Such data, within 128 nestings, fits a text: it is written without tags.
+pub fn simple_data_fits_a_text()
+    ensures { (table : List PlainShape) (id : ℕ) (d : PlainData) → IsTrue (is_simple d) → nestings d ≤ most_nestings
+        → FitsText table id d }
 {}
 
 /// A present optional fits where its content does, and is not written as null by itself.
