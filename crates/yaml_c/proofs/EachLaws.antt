@@ -1,10 +1,15 @@
 -- The events of rows, one more.
-use Rattle.std.proofs.Common.{◌≡◌, ℕ, ◌∙◌, ap, refl, subst, sym, List, [], ◌∷◌, ◌++◌, map}
+use Rattle.std.proofs.Common.{◌≡◌, ℕ, ◌∙◌, ap, refl, subst, sym, List, [], ◌∷◌, ◌++◌, map, Option}
 use Rattle.std.proofs.lemmas.List.{append-nil, append_assoc, map-append}
-use Rattle.yaml_base.specs.EmitEvents.{PlainEmit, emit_of, emit_stream_end, emit_stream_start}
+use Rattle.yaml_base.specs.EmitEvents.{PlainEmit, emit_mapping_start, emit_of, emit_scalar, emit_sequence_start}
+use Rattle.yaml_base.specs.EmitEvents.{emit_stream_end, emit_stream_start}
+use Rattle.yaml_base.specs.declared.emitter.AskedStyle.{AskedStyle}
+use Rattle.yaml_base.specs.declared.emitter.AskedStyle.TheVariants as asked
 use Rattle.yaml_base.specs.declared.emitter.EmitEvent.{EmitEvent}
 use Rattle.yaml_base.specs.declared.emitter.EmitEvent.TheVariants as event
-use Rattle.yaml_c.specs.RowEvents.{AreEach, AreEventsOf, IsEventOf, none_left, one_more}
+use Rattle.yaml_c.specs.RowEvents.{AreEach, AreEventsOf, IsEventOf, IsNumberText, a_mapping, a_number, a_sequence}
+use Rattle.yaml_c.specs.RowEvents.{a_string, none_left, one_more, string_style}
+use Rattle.yaml_c.specs.Rows.{row_tag, row_text}
 use Rattle.yaml_c.specs.declared.rows.YamlRow.{YamlRow}
 use Rattle.yaml_c.specs.inner.Printing.{AddsEach, AddsFirst}
 
@@ -69,3 +74,35 @@ stream_of_rows source texts rows start all ended begun adds pushed = record {
       ∙ ap (λ (xs : List PlainEmit). xs ++ (emit_stream_end ∷ []))
       (adds.added ∙ ap (λ (xs : List EmitEvent). map emit_of xs ++ adds.more) begun));
 }
+
+-- a sequence begins, with the row's tag
+pub sequence_begins_row : (source texts : List ℕ) (row : YamlRow) (tag : Option (List ℕ)) → row.kind ≡ 10
+    → tag ≡ row_tag texts row → IsEventOf source texts row (emit_sequence_start tag)
+sequence_begins_row source texts row tag kind same =
+    subst (λ (t : Option (List ℕ)). IsEventOf source texts row (emit_sequence_start t)) (sym same) (a_sequence kind)
+
+-- a mapping begins, with the row's tag
+pub mapping_begins_row : (source texts : List ℕ) (row : YamlRow) (tag : Option (List ℕ)) → row.kind ≡ 12
+    → tag ≡ row_tag texts row → IsEventOf source texts row (emit_mapping_start tag)
+mapping_begins_row source texts row tag kind same =
+    subst (λ (t : Option (List ℕ)). IsEventOf source texts row (emit_mapping_start t)) (sym same) (a_mapping kind)
+
+-- a number, with the row's tag
+pub number_row : (source texts : List ℕ) (row : YamlRow) (tag : Option (List ℕ)) (text : List ℕ)
+    → IsNumberText row text
+    → tag ≡ row_tag texts row → IsEventOf source texts row (emit_scalar tag text asked.Plain)
+number_row source texts row tag text is same =
+    subst (λ (t : Option (List ℕ)). IsEventOf source texts row (emit_scalar t text asked.Plain)) (sym same) (a_number is)
+
+-- a string, with the row's tag
+pub string_row : (source texts : List ℕ) (row : YamlRow) (tag : Option (List ℕ)) (text : List ℕ) (style : AskedStyle)
+    → row.kind ≡ 5
+    → text ≡ row_text source texts row
+    → style ≡ string_style row text
+    → tag ≡ row_tag texts row → IsEventOf source texts row (emit_scalar tag text style)
+string_row source texts row tag text style kind is asked same =
+    subst (λ (s : AskedStyle). IsEventOf source texts row (emit_scalar tag text s)) (sym asked)
+    (subst (λ (x : List ℕ). IsEventOf source texts row (emit_scalar tag x (string_style row x))) (sym is)
+    (subst (λ (t : Option (List ℕ)). IsEventOf source texts row
+    (emit_scalar t (row_text source texts row) (string_style row (row_text source texts row)))) (sym same)
+    (a_string kind)))

@@ -3,3 +3,4 @@ pub mod DocumentLaws
 pub mod EachLaws
 pub mod RoomLaws
 pub mod ShowingLaws
+pub mod SortLaws

@@ -87,14 +87,22 @@ pub record ScalarNumbers : Type 0 where
   pub tag : ℕ
   pub text : TextNumbers
 
+-- a scalar with this text whose tag, with this number, says what it is
+abbrev pub core_numbers : (tag : ℕ) → (text : List ℕ) → ScalarNumbers
+core_numbers tag text =
+    record { kind = tagged_number (looked_at text) tag text; tag = tag; text = looked_at text }
+
+-- a plain scalar with this text whose tag, with this number, does not say it
+abbrev pub plain_numbers : (tag : ℕ) → (text : List ℕ) → ScalarNumbers
+plain_numbers tag text =
+    record { kind = plain_number (looked_at text) tag; tag = tag; text = looked_at text }
+
 -- a scalar whose tag has this number: bytes that are no text, a string that is not looked at, or what its text is
 abbrev pub numbers_under : (tag : ℕ) → PlainScalar → ScalarNumbers
 numbers_under tag s =
     if not (is_utf8 s.text) then record { kind = 6; tag = tag; text = unlooked 6 }
-    else (if is_core tag
-    then record { kind = tagged_number (looked_at s.text) tag s.text; tag = tag; text = looked_at s.text }
-    else (if is_plain s.style
-    then record { kind = plain_number (looked_at s.text) tag; tag = tag; text = looked_at s.text }
+    else (if is_core tag then core_numbers tag s.text
+    else (if is_plain s.style then plain_numbers tag s.text
     else record { kind = 5; tag = tag; text = unlooked 5 }))
 
 -- what a scalar is

@@ -1,7 +1,7 @@
 //! Rows as a text.
 
-ghost use Rattle.std.specs.Prelude.{◌≡◌, IfOk, IfSome, map, string_bytes};
-ghost use Rattle.yaml_base.specs.EmitEvents.{emit_of, emit_scalar, tag_bytes};
+ghost use Rattle.std.specs.Prelude.{◌≡◌, ◌++◌, ◌∷◌, [], IfOk, IfSome, map, string_bytes};
+ghost use Rattle.yaml_base.specs.EmitEvents.{emit_of, tag_bytes};
 ghost use Rattle.yaml_c.specs.RowEvents.{AreEventsOf, IsEventOf, string_style};
 ghost use Rattle.yaml_c.specs.Rows.{part, row_tag, row_text};
 ghost use Rattle.yaml_c.specs.inner.Printing.{AddsEach, IsPrinted, IsTextOf};
@@ -27,6 +27,15 @@ pub(crate) enum Outcome {
     Text(String),
     /// The row at this place is wrong.
     Refused(usize),
+    /// Memory ran out.
+    Memory,
+}
+
+/// Why rows have no events.
+#[derive(Clone, Copy)]
+enum Refusal {
+    /// The row at this place has none.
+    Row(usize),
     /// Memory ran out.
     Memory,
 }
@@ -100,13 +109,16 @@ fn string_event(
     row: &YamlRow,
     tag: Option<String>,
 ) -> Result<EmitEvent, Stop>
-    ensures { IfOk result (λ event. emit_of event ≡ emit_scalar (tag_bytes tag)
-        (row_text texts.entry.source.now texts.entry.texts.now row.now)
-        (string_style row.now (row_text texts.entry.source.now texts.entry.texts.now row.now))) }
+    ensures { row.now.kind ≡ 5 → tag_bytes tag ≡ row_tag texts.entry.texts.now row.now
+        → IfOk result (λ event. IsEventOf texts.entry.source.now texts.entry.texts.now row.now (emit_of event)) }
 {
-    let value = text_of(alloc, texts.source, texts.texts, row)?;
-    let style = asked_style(row, &value);
-    Ok(EmitEvent::Scalar(EmitScalar { tag, value, style }))
+    match text_of(alloc, texts.source, texts.texts, row) {
+        Ok(value) => {
+            let style = asked_style(row, &value);
+            Ok(EmitEvent::Scalar(EmitScalar { tag, value, style }))
+        }
+        Err(stop) => Err(stop),
+    }
 }
 
 // The event of a scalar with this tag, if the row is one.
@@ -148,6 +160,16 @@ fn event_of(alloc: Global, texts: Texts<'_>, row: &YamlRow) -> Result<EmitEvent,
     }
 }
 
+// Adds an event.
+fn push_event(events: &mut Vec<EmitEvent>, event: EmitEvent) -> Result<(), Stop>
+    ensures { IfOk result (λ _. events.new.items ≡ events.old.items ++ event ∷ []) }
+{
+    match events.push(event) {
+        Ok(()) => Ok(()),
+        Err(_) => Err(Stop::Memory),
+    }
+}
+
 // Adds the events of rows, or tells why one has none. That one is the first behind those that were added.
 fn push_events(
     alloc: Global,
@@ -160,31 +182,29 @@ fn push_events(
     let mut left = rows;
     while let Some((row, rest)) = left.split_first() {
         let event = event_of(alloc, texts, row)?;
-        if events.push(event).is_err() {
-            return Err(Stop::Memory);
-        }
+        push_event(events, event)?;
         left = rest;
     }
     Ok(())
 }
 
 // The events of the stream that rows are.
-fn events_of(alloc: Global, rows: &[YamlRow], texts: Texts<'_>) -> Result<Vec<EmitEvent>, Outcome>
+fn events_of(alloc: Global, rows: &[YamlRow], texts: Texts<'_>) -> Result<Vec<EmitEvent>, Refusal>
     ensures { IfOk result (λ events. AreEventsOf rows.now texts.entry.source.now texts.entry.texts.now (map emit_of events.items)) }
 {
     let Ok(mut events) = Vec::with_capacity(alloc, rows.len().saturating_add(2)) else {
-        return Err(Outcome::Memory);
+        return Err(Refusal::Memory);
     };
     if events.push(EmitEvent::StreamStart).is_err() {
-        return Err(Outcome::Memory);
+        return Err(Refusal::Memory);
     }
     match push_events(alloc, rows, texts, &mut events) {
         Ok(()) => {}
-        Err(Stop::Wrong) => return Err(Outcome::Refused(events.len().saturating_sub(1))),
-        Err(Stop::Memory) => return Err(Outcome::Memory),
+        Err(Stop::Wrong) => return Err(Refusal::Row(events.len().saturating_sub(1))),
+        Err(Stop::Memory) => return Err(Refusal::Memory),
     }
     if events.push(EmitEvent::StreamEnd).is_err() {
-        return Err(Outcome::Memory);
+        return Err(Refusal::Memory);
     }
     Ok(events)
 }
@@ -208,6 +228,7 @@ pub(crate) fn print(alloc: Global, rows: &[YamlRow], texts: Texts<'_>) -> Outcom
 {
     match events_of(alloc, rows, texts) {
         Ok(events) => printed(alloc, events.as_slice(), rows.len()),
-        Err(outcome) => outcome,
+        Err(Refusal::Row(place)) => Outcome::Refused(place),
+        Err(Refusal::Memory) => Outcome::Memory,
     }
 }

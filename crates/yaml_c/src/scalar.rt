@@ -2,8 +2,8 @@
 
 ghost use Rattle.std.specs.Prelude.{◌≡◌, ◌<◌, ◌*◌, ◌+◌, ◌^◌, Some, bytes_eq};
 ghost use Rattle.yaml_base.specs.DocEventView.{doc_scalar_of};
-ghost use Rattle.yaml_c.specs.Numbers.{fits_tag, is_core, kind_number, kind_value, looked_at, numbers_under};
-ghost use Rattle.yaml_c.specs.Numbers.{plain_number, tag_number, tagged_number, unlooked};
+ghost use Rattle.yaml_c.specs.Numbers.{core_numbers, fits_tag, is_core, kind_number, kind_value, looked_at};
+ghost use Rattle.yaml_c.specs.Numbers.{numbers_under, plain_number, plain_numbers, tag_number, tagged_number, unlooked};
 ghost use Rattle.yaml_c.specs.Rows.{style_of};
 ghost use Rattle.yaml_c.specs.inner.Sorts.{numbers_of, text_numbers_of};
 ghost use Rattle.yaml_meaning.specs.ScalarSorts.{is_local, is_plain};
@@ -214,6 +214,30 @@ fn unlooked(kind: u8) -> Sort
     }
 }
 
+// What a scalar with this text is whose tag, with this number, says what it is.
+fn core_sort(text: &str, tag_kind: u8) -> Sort
+    ensures value { numbers_of result tag_kind ≡ core_numbers tag_kind text.now }
+    ensures short { result.kind < 8 }
+{
+    let sort = TextSort::of_text(text);
+    Sort {
+        kind: sort.tagged_kind(tag_kind, text),
+        text: sort,
+    }
+}
+
+// What a plain scalar with this text is whose tag, with this number, does not say what it is.
+fn plain_sort(text: &str, tag_kind: u8) -> Sort
+    ensures value { numbers_of result tag_kind ≡ plain_numbers tag_kind text.now }
+    ensures short { result.kind < 8 }
+{
+    let sort = TextSort::of_text(text);
+    Sort {
+        kind: sort.plain_kind(tag_kind),
+        text: sort,
+    }
+}
+
 /// What a scalar is whose tag has this number.
 pub(crate) fn sort_of(scalar: &DocScalar<'_>, tag_kind: u8) -> Sort
     ensures value { numbers_of result tag_kind ≡ numbers_under tag_kind (doc_scalar_of scalar.now) }
@@ -223,18 +247,10 @@ pub(crate) fn sort_of(scalar: &DocScalar<'_>, tag_kind: u8) -> Sort
         return unlooked(kind::BYTES);
     };
     if is_core(tag_kind) {
-        let sort = TextSort::of_text(text);
-        return Sort {
-            kind: sort.tagged_kind(tag_kind, text),
-            text: sort,
-        };
+        return core_sort(text, tag_kind);
     }
     if is_plain(scalar.style) {
-        let sort = TextSort::of_text(text);
-        return Sort {
-            kind: sort.plain_kind(tag_kind),
-            text: sort,
-        };
+        return plain_sort(text, tag_kind);
     }
     unlooked(kind::STRING)
 }
