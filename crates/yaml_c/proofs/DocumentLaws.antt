@@ -10,7 +10,7 @@ use Rattle.yaml_base.specs.PlainDocument.{PlainDocument}
 use Rattle.yaml_base.specs.Position.{Position}
 use Rattle.yaml_base.specs.declared.error.Cause.{Cause}
 use Rattle.yaml_c.specs.RowDocuments.{ShownDocument, documents_of_rows, fault_place, in_front, no_more, read_shown}
-use Rattle.yaml_c.specs.RowDocuments.{shown_document, unsourced_event}
+use Rattle.yaml_c.specs.RowDocuments.{shown_document, shown_event}
 use Rattle.yaml_c.specs.Rows.{Shown, begins, holds, shown_by}
 use Rattle.yaml_c.specs.declared.rows.YamlRow.{YamlRow}
 use Rattle.yaml_c.specs.inner.Showing.{Adds, Room, Shows, ShowsFirst, all_shown, shown_ending, shown_events, shown_of}
@@ -30,12 +30,12 @@ read_ending (Some cause) rest = refl
 read_document : (events : List (PlainDocEvent × Position)) (ending : Option Cause) (rest : List Shown)
     → read_shown (shown_events events ++ shown_ending ending ∷ rest)
     ≡ (
-      record { events = map (λ e. (unsourced_event e.0, e.1)) events; fault = shown_fault ending },
+      record { events = map (λ e. (shown_event e.0, e.1)) events; fault = shown_fault ending },
       (read_shown rest).1,
     )
 read_document [] ending rest = read_ending ending (read_shown rest)
 read_document (e ∷ events) ending rest =
-    ap (in_front (holds (unsourced_event e.0) e.1)) (read_document events ending rest)
+    ap (in_front (holds (shown_event e.0) e.1)) (read_document events ending rest)
 
 -- documents
 read_all : (documents : List PlainDocument)

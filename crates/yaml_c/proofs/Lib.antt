@@ -1,4 +1,6 @@
 -- Lemmas of this crate.
 pub mod DocumentLaws
+pub mod EachLaws
 pub mod RoomLaws
 pub mod ShowingLaws
+pub mod SortLaws

@@ -7,7 +7,7 @@ use Rattle.yaml_base.specs.DocEventView.{doc_event_of, marked_events_of}
 use Rattle.yaml_base.specs.Position.{Position}
 use Rattle.yaml_base.specs.declared.doc_event.DocEvent.{DocEvent}
 use Rattle.yaml_c.proofs.RoomLaws.{holds_on}
-use Rattle.yaml_c.specs.RowDocuments.{unsourced_event}
+use Rattle.yaml_c.specs.RowDocuments.{shown_event}
 use Rattle.yaml_c.specs.Rows.{Shown, holds, shown_by}
 use Rattle.yaml_c.specs.declared.rows.YamlRow.{YamlRow}
 use Rattle.yaml_c.specs.inner.Room.{Grows, IsPut}
@@ -75,11 +75,11 @@ pub adds_event : (source : List ℕ) (events : List (DocEvent × Position)) (i :
     → i < length events
     → e ≡ get_or events i e
     → Adds source a b (shown_events (marked_events_of (take i events)))
-    → Adds source b c (holds (unsourced_event (doc_event_of e.0)) e.1 ∷ [])
+    → Adds source b c (holds (shown_event (doc_event_of e.0)) e.1 ∷ [])
     → Adds source a c (shown_events (marked_events_of (take (i + 1) events)))
 adds_event source events i e a b c in_range is f g =
     let step : take (i + 1) events ≡ take i events ++ e ∷ [] =
     (take_at_read events i e in_range).1 ∙ ap (λ x. take i events ++ x ∷ []) (sym is) in
-    let shown : shown_events (marked_events_of (take i events)) ++ (holds (unsourced_event (doc_event_of e.0)) e.1 ∷ [])
+    let shown : shown_events (marked_events_of (take i events)) ++ (holds (shown_event (doc_event_of e.0)) e.1 ∷ [])
     ≡ shown_events (marked_events_of (take (i + 1) events)) = rw step (simp map-append) in
     subst (Adds source a c) shown (adds_on source a b c _ _ f g)

@@ -1,6 +1,8 @@
 -- What contracts of this crate cite.
 pub mod FaultTexts
+pub mod Numbers
 pub mod RowDocuments
+pub mod RowEvents
 pub mod Rows
 pub mod TextRows
 pub mod inner

@@ -7,12 +7,14 @@ use Rattle.yaml_base.specs.PlainDocument.{PlainDocument}
 use Rattle.yaml_base.specs.PlainEvent.{PlainScalar}
 use Rattle.yaml_base.specs.Position.{Position}
 use Rattle.yaml_base.specs.declared.error.Cause.{Cause}
-use Rattle.yaml_c.specs.Rows.{Shown, begins, ends, holds, is_cut, shown_by}
+use Rattle.yaml_c.specs.Numbers.{event_numbers}
+use Rattle.yaml_c.specs.Rows.{Shown, ShownEvent, begins, ends, holds, is_cut, shown_by}
 use Rattle.yaml_c.specs.declared.rows.YamlRow.{YamlRow}
 
--- its events with their places, and the text and the place of the fault that cut it off, if one did
+-- its events with their places and with what its scalars are, and the text and the place of the fault that cut it off, if
+-- one did
 pub record ShownDocument : Type 0 where
-  pub events : List (PlainDocEvent × Position)
+  pub events : List (ShownEvent × Position)
   pub fault : Option (List ℕ × Position)
 
 -- nothing is left of a document
@@ -44,6 +46,10 @@ abbrev pub unsourced_event : PlainDocEvent → PlainDocEvent
 unsourced_event (a_scalar s) = a_scalar (unsourced s)
 unsourced_event other = other
 
+-- an event as rows can show it, and what it is if it is a scalar
+abbrev pub shown_event : PlainDocEvent → ShownEvent
+shown_event e = (unsourced_event e, event_numbers e)
+
 -- where a fault is, or the start
 abbrev pub fault_place : Cause → Position
 fault_place cause = unwrap_or (cause_mark cause) (record { index = 0; line = 0; column = 0 })
@@ -51,6 +57,6 @@ fault_place cause = unwrap_or (cause_mark cause) (record { index = 0; line = 0; 
 -- a document as rows can show it: its scalars without their sources, and of its fault the text and the place
 abbrev pub shown_document : PlainDocument → ShownDocument
 shown_document d = record {
-  events = map (λ e. (unsourced_event e.0, e.1)) d.events;
+  events = map (λ e. (shown_event e.0, e.1)) d.events;
   fault = option_map (λ cause. (error_text cause, fault_place cause)) d.ending;
 }

@@ -6,12 +6,17 @@ use Rattle.yaml_base.specs.PlainEvent.{PlainScalar}
 use Rattle.yaml_base.specs.Position.{Position}
 use Rattle.yaml_base.specs.declared.event.ScalarStyle.{ScalarStyle}
 use Rattle.yaml_base.specs.declared.event.ScalarStyle.TheVariants as style
+use Rattle.yaml_c.specs.Numbers.{ScalarNumbers, row_numbers}
 use Rattle.yaml_c.specs.declared.rows.YamlRow.{YamlRow}
+
+-- an event, and what it is if it is a scalar
+abbrev pub ShownEvent : Type 0
+ShownEvent = PlainDocEvent × Option ScalarNumbers
 
 -- a document begins; an event of it at a place; it ends; or it is cut off, by a fault with this text and this place
 pub data Shown : Type 0 where
   begins : Shown
-  holds : PlainDocEvent → Position → Shown
+  holds : ShownEvent → Position → Shown
   ends : Shown
   is_cut : (text : List ℕ) → Position → Shown
 
@@ -81,6 +86,6 @@ row_event source texts row = if nat_lt row.kind 8 then a_scalar (row_scalar sour
 
 -- what a row shows: rows of kinds below 14 are events
 abbrev pub shown_by : (source texts : List ℕ) → YamlRow → Shown
-shown_by source texts row = if nat_lt row.kind 14 then holds (row_event source texts row) (row_place row)
+shown_by source texts row = if nat_lt row.kind 14 then holds (row_event source texts row, row_numbers row) (row_place row)
     else (if row.kind == 14 then begins
     else (if row.kind == 15 then ends else is_cut (row_text source texts row) (row_place row)))

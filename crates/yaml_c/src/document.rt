@@ -4,7 +4,7 @@ ghost use Rattle.std.specs.Prelude.{◌≡◌, ◌++◌, ◌∷◌, ℕ, List, [
 ghost use Rattle.std.specs.Option.{option_copied};
 ghost use Rattle.yaml_base.specs.DocEventView.{doc_event_of, marked_events_of};
 ghost use Rattle.yaml_base.specs.ErrorText.{error_text};
-ghost use Rattle.yaml_c.specs.RowDocuments.{fault_place, unsourced_event};
+ghost use Rattle.yaml_c.specs.RowDocuments.{fault_place, shown_event};
 ghost use Rattle.yaml_c.specs.Rows.{begins, holds, is_cut};
 ghost use Rattle.yaml_c.specs.inner.Room.{Grows};
 ghost use Rattle.yaml_c.specs.inner.Showing.{Adds, IsRowOf, shown_ending, shown_events};
@@ -103,7 +103,7 @@ fn put_event(
     ensures { Adds source.now
         (record { rows = rows.old; bytes = texts.old; used = tally.old.rows; taken = tally.old.bytes })
         (record { rows = rows.new; bytes = texts.new; used = tally.new.rows; taken = tally.new.bytes })
-        (holds (unsourced_event (doc_event_of event.now.0)) event.now.1 ∷ []) }
+        (holds (shown_event (doc_event_of event.now.0)) event.now.1 ∷ []) }
 {
     let (event, mark) = event;
     let row = event_row(source, texts, tally, event, *mark, end, base);

@@ -1,8 +1,9 @@
 //! The row of an event.
 
 ghost use Rattle.std.specs.Prelude.{◌≡◌, ◌<◌, IfSome, length};
-ghost use Rattle.yaml_base.specs.DocEventView.{doc_event_of};
-ghost use Rattle.yaml_c.specs.RowDocuments.{unsourced_event};
+ghost use Rattle.yaml_base.specs.DocEventView.{doc_event_of, doc_scalar_of};
+ghost use Rattle.yaml_c.specs.Numbers.{numbers_in, scalar_numbers, tag_number};
+ghost use Rattle.yaml_c.specs.RowDocuments.{shown_event};
 ghost use Rattle.yaml_c.specs.Rows.{holds, part, row_place, style_of};
 ghost use Rattle.yaml_c.specs.inner.Room.{Grows, HasTag, HasTextIn};
 ghost use Rattle.yaml_c.specs.inner.Showing.{IsRowOf};
@@ -62,6 +63,7 @@ fn row_at(kind: u8, mark: Mark) -> YamlRow
 fn put_tag(texts: &mut [u8], tally: &mut Tally, tag: &Option<Tag>) -> TagPart
     ensures grows { Grows texts.old tally.old.bytes texts.new tally.new.bytes }
     ensures put { HasTag texts.new tally.new.bytes result.kind result.part.at result.part.len tag.now }
+    ensures kind { result.kind ≡ tag_number tag.now }
     ensures rows { tally.new.rows ≡ tally.old.rows }
 {
     match tag {
@@ -114,6 +116,7 @@ fn scalar_row(
 ) -> YamlRow
     ensures grows { Grows texts.old tally.old.bytes texts.new tally.new.bytes }
     ensures kind { result.kind < 8 }
+    ensures numbers { numbers_in result ≡ scalar_numbers (doc_scalar_of scalar.now) }
     ensures style { style_of result.style ≡ scalar.now.style }
     ensures place { row_place result ≡ mark }
     ensures tag { HasTag texts.new tally.new.bytes result.tag_kind result.tag_at result.tag_len scalar.now.tag }
@@ -126,11 +129,11 @@ fn scalar_row(
     let sort = sort_of(scalar, tag.kind);
     YamlRow {
         kind: sort.kind,
-        word: sort.word,
+        word: sort.text.word,
         style: style_number(scalar.style),
         tag_kind: tag.kind,
         text_in_source: text.in_source,
-        has_float: sort.has_float,
+        has_float: sort.text.has_float,
         ask_quotes: 0,
         unused: 0,
         text_at: text.part.at,
@@ -140,9 +143,9 @@ fn scalar_row(
         line: mark.line(),
         column: mark.column(),
         index: mark.index(),
-        low: sort.low,
-        high: sort.high,
-        float_bits: sort.float_bits,
+        low: sort.text.low,
+        high: sort.text.high,
+        float_bits: sort.text.float_bits,
         link: 0,
     }
 }
@@ -195,7 +198,7 @@ pub(crate) fn event_row(
 ) -> YamlRow
     ensures grows { Grows texts.old tally.old.bytes texts.new tally.new.bytes }
     ensures row { IsRowOf source.now texts.new tally.new.bytes result
-        (holds (unsourced_event (doc_event_of event.now)) mark) }
+        (holds (shown_event (doc_event_of event.now)) mark) }
     ensures rows { tally.new.rows ≡ tally.old.rows }
 {
     let end = base.saturating_add(end);

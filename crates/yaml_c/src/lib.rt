@@ -5,6 +5,7 @@ ghost use Rattle.std.specs.Prelude.{◌≡◌, ◌⊎◌, ◌<◌, List, length,
 ghost use Rattle.yaml_base.specs.EmitEvents.{PlainEmit};
 ghost use Rattle.yaml_base.specs.ErrorText.{error_text};
 ghost use Rattle.yaml_c.specs.FaultTexts.{asked_cause};
+ghost use Rattle.yaml_c.specs.RowEvents.{AreEventsOf};
 ghost use Rattle.yaml_c.specs.TextRows.{ShowDocumentsOf};
 ghost use Rattle.yaml_emit.specs.StreamTexts.{IsStreamText};
 
@@ -63,7 +64,7 @@ pub extern "C" fn yaml_c_print(
     out: &mut [u8],
     sizes: &mut YamlSizes,
 ) -> u32
-    ensures printed { result ≡ 0 → (events : List PlainEmit)
+    ensures printed { result ≡ 0 → (events : List PlainEmit) × AreEventsOf rows.now source.now texts.now events
         × IsStreamText events (take sizes.new.texts out.new) }
     ensures lacks { result ≡ 2 → length out.new < sizes.new.texts }
 {

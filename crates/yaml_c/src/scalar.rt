@@ -1,21 +1,33 @@
 //! What a scalar is: by its text, its tag and its style.
 
-ghost use Rattle.std.specs.Prelude.{◌≡◌, ◌<◌};
+ghost use Rattle.std.specs.Prelude.{◌≡◌, ◌<◌, ◌*◌, ◌+◌, ◌^◌, Some, bytes_eq};
+ghost use Rattle.yaml_base.specs.DocEventView.{doc_scalar_of};
+ghost use Rattle.yaml_c.specs.Numbers.{core_numbers, fits_tag, is_core, kind_number, kind_value, looked_at};
+ghost use Rattle.yaml_c.specs.Numbers.{numbers_under, plain_number, plain_numbers, tag_number, tagged_number, unlooked};
 ghost use Rattle.yaml_c.specs.Rows.{style_of};
+ghost use Rattle.yaml_c.specs.inner.Sorts.{numbers_of, text_numbers_of};
+ghost use Rattle.yaml_meaning.specs.ScalarSorts.{is_local, is_plain};
 
 use crate::rows::{kind, style, tag};
-use simdutf8::basic::from_utf8;
+use std::num::f64_to_bits_with_nan;
 use yaml_base::{DocScalar, Kind, ScalarStyle, Tag, resolve};
+use yaml_scalar::text_of;
 
-/// What a scalar is, and the values that its text has.
+/// What a text is without quotes and without a tag: its kind, its value in two halves, and its float.
 #[derive(Clone, Copy)]
-pub(crate) struct Sort {
-    pub(crate) kind: u8,
+pub(crate) struct TextSort {
     pub(crate) word: u8,
     pub(crate) has_float: u8,
     pub(crate) low: u64,
     pub(crate) high: u64,
     pub(crate) float_bits: u64,
+}
+
+/// What a scalar is, as any value, and what its text is.
+#[derive(Clone, Copy)]
+pub(crate) struct Sort {
+    pub(crate) kind: u8,
+    pub(crate) text: TextSort,
 }
 
 /// The number of a style.
@@ -31,19 +43,37 @@ pub(crate) fn style_number(style: ScalarStyle) -> u8
     }
 }
 
-/// What a tag is. It is never 0.
-pub(crate) fn tag_kind(tag: &Tag) -> u8
-    ensures { 0 < result }
+// Whether the tag begins with `!`.
+fn is_local(tag: &Tag) -> bool
+    ensures { result ≡ is_local (Some tag.now) }
 {
-    if tag.starts_with("!") {
+    match tag.as_slice().split_first() {
+        Some((first, _)) => *first == b'!',
+        None => false,
+    }
+}
+
+// Whether the tag is this one.
+fn is_named(tag: &Tag, name: &str) -> bool
+    ensures { result ≡ bytes_eq tag.now name.now }
+{
+    tag.is(name)
+}
+
+/// What a tag is.
+#[tactic(auto, unfolding(yaml_meaning::specs::CoreTags::null_tag, yaml_meaning::specs::CoreTags::bool_tag, yaml_meaning::specs::CoreTags::int_tag, yaml_meaning::specs::CoreTags::float_tag))]
+pub(crate) fn tag_kind(tag: &Tag) -> u8
+    ensures { result ≡ tag_number (Some tag.now) }
+{
+    if is_local(tag) {
         tag::LOCAL
-    } else if tag.is(Tag::NULL) {
+    } else if is_named(tag, Tag::NULL) {
         tag::NULL
-    } else if tag.is(Tag::BOOL) {
+    } else if is_named(tag, Tag::BOOL) {
         tag::BOOL
-    } else if tag.is(Tag::INT) {
+    } else if is_named(tag, Tag::INT) {
         tag::INT
-    } else if tag.is(Tag::FLOAT) {
+    } else if is_named(tag, Tag::FLOAT) {
         tag::FLOAT
     } else {
         tag::OTHER
@@ -51,33 +81,53 @@ pub(crate) fn tag_kind(tag: &Tag) -> u8
 }
 
 // Whether a tag says what its scalar is.
-fn is_core(tag_kind: u8) -> bool {
+fn is_core(tag_kind: u8) -> bool
+    ensures { result ≡ is_core tag_kind }
+{
     tag::NULL <= tag_kind && tag_kind <= tag::FLOAT
 }
 
 // Whether the scalar stands without quotes.
-fn is_plain(style: ScalarStyle) -> bool {
+fn is_plain(style: ScalarStyle) -> bool
+    ensures { result ≡ is_plain style }
+{
     matches!(style, ScalarStyle::Plain)
 }
 
-// The bits of a float, those of one that is no number always the same.
-fn bits_of(number: f64) -> u64 {
-    if number.is_nan() {
-        0x7ff8_0000_0000_0000
-    } else {
-        number.to_bits()
+// The number of a kind of text.
+fn word_of(kind: Kind) -> u8
+    ensures value { result ≡ kind_number kind }
+    ensures short { result < 8 }
+{
+    match kind {
+        Kind::Null => kind::NULL,
+        Kind::Bool(_) => kind::BOOL,
+        Kind::Unsigned(_) => kind::UNSIGNED,
+        Kind::Signed(_) => kind::SIGNED,
+        Kind::Float => kind::FLOAT,
+        Kind::Str => kind::STRING,
     }
 }
 
-impl Sort {
-    // A scalar that is this, and has no value.
-    fn of(kind: u8) -> Sort
-        ensures kind { result.kind ≡ kind }
-        ensures word { result.word ≡ kind }
+// The boolean or the integer of such a text.
+fn value_of(kind: Kind) -> u128
+    ensures { result ≡ kind_value kind }
+{
+    match kind {
+        Kind::Bool(truth) => truth as u128,
+        Kind::Unsigned(number) => number,
+        Kind::Signed(number) => number.cast_unsigned(),
+        _ => 0,
+    }
+}
+
+impl TextSort {
+    // A text that is not looked at, and said to be this.
+    fn unlooked(word: u8) -> TextSort
+        ensures { text_numbers_of result ≡ unlooked word }
     {
-        Sort {
-            kind,
-            word: kind,
+        TextSort {
+            word,
             has_float: 0,
             low: 0,
             high: 0,
@@ -85,50 +135,41 @@ impl Sort {
         }
     }
 
-    // An integer that is this.
-    fn integer(kind: u8, number: u128) -> Sort
-        ensures { result.word ≡ kind }
+    // A text of this kind with this value, of which no float is known.
+    fn of_kind(word: u8, value: u128) -> TextSort
+        ensures word { result.word ≡ word }
+        ensures value { result.high * 2 ^ 64 + result.low ≡ value }
+        ensures float { result.has_float ≡ 0 }
     {
-        let mut sort = Sort::of(kind);
-        sort.low = (number % (1 << 64)) as u64;
-        sort.high = (number >> 64) as u64;
-        sort
-    }
-
-    // What a text is without quotes and without a tag.
-    fn resolved(text: &str) -> Sort
-        ensures { result.word < 8 }
-    {
-        match resolve(text) {
-            Kind::Null => Sort::of(kind::NULL),
-            Kind::Bool(truth) => {
-                let mut sort = Sort::of(kind::BOOL);
-                sort.low = if truth { 1 } else { 0 };
-                sort
-            }
-            Kind::Unsigned(number) => Sort::integer(kind::UNSIGNED, number),
-            Kind::Signed(number) => Sort::integer(kind::SIGNED, number.cast_unsigned()),
-            Kind::Float => Sort::of(kind::FLOAT),
-            Kind::Str => Sort::of(kind::STRING),
+        TextSort {
+            word,
+            has_float: 0,
+            low: (value % (1 << 64)) as u64,
+            high: (value >> 64) as u64,
+            float_bits: 0,
         }
     }
 
-    // The same with the float of the text, if it has one.
-    fn with_float(self, text: &str) -> Sort
-        ensures { result.word ≡ self.word }
+    // What a text is that is looked at.
+    fn of_text(text: &str) -> TextSort
+        ensures value { text_numbers_of result ≡ looked_at text.now }
+        ensures short { result.word < 8 }
     {
-        let mut sort = self;
+        let kind = resolve(text);
+        let mut sort = TextSort::of_kind(word_of(kind), value_of(kind));
         if let Some(number) = yaml_float::parse_f64(text.as_bytes()) {
             sort.has_float = 1;
-            sort.float_bits = bits_of(number);
+            sort.float_bits = f64_to_bits_with_nan(number);
         }
         sort
     }
 
     // Whether the text is what the tag says.
-    fn fits(&self, tag_kind: u8, is_empty: bool) -> bool {
+    fn fits(&self, tag_kind: u8, text: &str) -> bool
+        ensures { result ≡ fits_tag (text_numbers_of self.now) tag_kind text.now }
+    {
         match tag_kind {
-            tag::NULL => self.word == kind::NULL && !is_empty,
+            tag::NULL => self.word == kind::NULL && !text.is_empty(),
             tag::BOOL => self.word == kind::BOOL,
             tag::INT => self.word == kind::UNSIGNED || self.word == kind::SIGNED,
             _ => self.has_float == 1,
@@ -136,11 +177,11 @@ impl Sort {
     }
 
     // What the scalar is whose tag says what it is.
-    fn tagged_kind(&self, tag_kind: u8, is_empty: bool) -> u8
-        requires { self.now.word < 8 }
-        ensures { result < 8 }
+    fn tagged_kind(&self, tag_kind: u8, text: &str) -> u8
+        ensures value { result ≡ tagged_number (text_numbers_of self.now) tag_kind text.now }
+        ensures short { self.now.word < 8 → result < 8 }
     {
-        if !self.fits(tag_kind, is_empty) {
+        if !self.fits(tag_kind, text) {
             kind::MISFIT
         } else if tag_kind == tag::FLOAT {
             kind::FLOAT
@@ -151,10 +192,10 @@ impl Sort {
 
     // What the plain scalar is whose tag does not say what it is.
     fn plain_kind(&self, tag_kind: u8) -> u8
-        requires { self.now.word < 8 }
-        ensures { result < 8 }
+        ensures value { result ≡ plain_number (text_numbers_of self.now) tag_kind }
+        ensures short { self.now.word < 8 → result < 8 }
     {
-        if tag_kind == tag::OTHER || (self.word == kind::FLOAT && self.has_float == 0) {
+        if tag_kind == tag::OTHER || (self.word == kind::FLOAT && self.has_float != 1) {
             kind::STRING
         } else {
             self.word
@@ -162,22 +203,54 @@ impl Sort {
     }
 }
 
+// What a scalar is that is not looked at.
+fn unlooked(kind: u8) -> Sort
+    ensures kind { result.kind ≡ kind }
+    ensures text { text_numbers_of result.text ≡ unlooked kind }
+{
+    Sort {
+        kind,
+        text: TextSort::unlooked(kind),
+    }
+}
+
+// What a scalar with this text is whose tag, with this number, says what it is.
+fn core_sort(text: &str, tag_kind: u8) -> Sort
+    ensures value { numbers_of result tag_kind ≡ core_numbers tag_kind text.now }
+    ensures short { result.kind < 8 }
+{
+    let sort = TextSort::of_text(text);
+    Sort {
+        kind: sort.tagged_kind(tag_kind, text),
+        text: sort,
+    }
+}
+
+// What a plain scalar with this text is whose tag, with this number, does not say what it is.
+fn plain_sort(text: &str, tag_kind: u8) -> Sort
+    ensures value { numbers_of result tag_kind ≡ plain_numbers tag_kind text.now }
+    ensures short { result.kind < 8 }
+{
+    let sort = TextSort::of_text(text);
+    Sort {
+        kind: sort.plain_kind(tag_kind),
+        text: sort,
+    }
+}
+
 /// What a scalar is whose tag has this number.
 pub(crate) fn sort_of(scalar: &DocScalar<'_>, tag_kind: u8) -> Sort
-    ensures { result.kind < 8 }
+    ensures value { numbers_of result tag_kind ≡ numbers_under tag_kind (doc_scalar_of scalar.now) }
+    ensures short { result.kind < 8 }
 {
-    let Ok(text) = from_utf8(scalar.value.as_slice()) else {
-        return Sort::of(kind::BYTES);
+    let Some(text) = text_of(scalar) else {
+        return unlooked(kind::BYTES);
     };
-    let is_core = is_core(tag_kind);
-    if !is_core && !is_plain(scalar.style) {
-        return Sort::of(kind::STRING);
+    if is_core(tag_kind) {
+        return core_sort(text, tag_kind);
     }
-    let mut sort = Sort::resolved(text).with_float(text);
-    sort.kind = if is_core {
-        sort.tagged_kind(tag_kind, text.is_empty())
-    } else {
-        sort.plain_kind(tag_kind)
-    };
-    sort
+    if is_plain(scalar.style) {
+        return plain_sort(text, tag_kind);
+    }
+    unlooked(kind::STRING)
 }

@@ -6,7 +6,7 @@ use Rattle.yaml_base.specs.PlainDocEvent.{PlainDocEvent}
 use Rattle.yaml_base.specs.PlainDocument.{PlainDocument}
 use Rattle.yaml_base.specs.Position.{Position}
 use Rattle.yaml_base.specs.declared.error.Cause.{Cause}
-use Rattle.yaml_c.specs.RowDocuments.{fault_place, unsourced_event}
+use Rattle.yaml_c.specs.RowDocuments.{fault_place, shown_event}
 use Rattle.yaml_c.specs.Rows.{Shown, begins, ends, holds, is_cut, shown_by}
 use Rattle.yaml_c.specs.declared.rows.YamlRow.{YamlRow}
 
@@ -33,7 +33,7 @@ pub record Adds (source : List ℕ) (old new : Room) (shown : List Shown) : Type
 
 -- events of a document
 abbrev pub shown_events : List (PlainDocEvent × Position) → List Shown
-shown_events events = map (λ e. holds (unsourced_event e.0) e.1) events
+shown_events events = map (λ e. holds (shown_event e.0) e.1) events
 
 -- the end of a document, or the fault that cuts it off
 abbrev pub shown_ending : Option Cause → Shown
