@@ -1,5 +1,5 @@
 #!/usr/bin/env python3
-"""Prints YAML texts as `yaml_tool format` does, and sees whether they read back.
+"""Prints YAML texts as `yaml_tool convert` does, and sees whether they read back.
 
 usage: read_back.py PROGRAM random SEED COUNT            random texts
        read_back.py PROGRAM mutants SEED COUNT PATH..    changed parts of YAML files, found below the paths
@@ -19,30 +19,24 @@ from concurrent.futures import ThreadPoolExecutor
 from compare import files_below, mutants, random_texts, read
 
 SHOWN = 10
-FAULT = b"fault: "
 
 
 def run(program, words, text):
-    """What the program prints of a text."""
-    return subprocess.run([program] + words, input=text, stdout=subprocess.PIPE, stderr=subprocess.DEVNULL).stdout
-
-
-def first_fault(lines):
-    """The first line that tells a fault, or None."""
-    return next((line for line in lines if line.startswith(FAULT)), None)
+    """What the program prints of a text, and the first fault that it tells, or None."""
+    ran = subprocess.run([program] + words + ["--format", "json"], input=text, capture_output=True)
+    return ran.stdout, next(iter(ran.stderr.splitlines()), None)
 
 
 def tried(program, text):
     """How a text fares: whether it was printed, and what is not as it should be, or None."""
-    shown = run(program, ["show", "--documents"], text)
-    printed = run(program, ["format"], text)
-    fault = first_fault(shown.split(b"\n"))
+    shown, fault = run(program, ["show", "--documents"], text)
+    printed, refusal = run(program, ["convert"], text)
     if fault is not None:
-        return False, None if printed == fault + b"\n" else (b"it is not refused by " + fault, printed)
-    again = run(program, ["show", "--documents"], printed)
-    if again != shown:
+        return False, None if refusal == fault and not printed else (b"it is not refused by " + fault, printed)
+    again, fault = run(program, ["show", "--documents"], printed)
+    if again != shown or fault is not None:
         return True, (b"it shows " + shown, b"and printed " + printed + b" it shows " + again)
-    twice = run(program, ["format"], printed)
+    twice, _ = run(program, ["convert"], printed)
     return True, None if twice == printed else (b"it prints as " + printed, b"and that as " + twice)
 
 

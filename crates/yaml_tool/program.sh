@@ -44,6 +44,21 @@ run() {
     compare "$title" $? "$wanted" "$output" "$part"
 }
 
+# The same of a run that prints nothing, and whose standard error is just this.
+told() {
+    title=$1 wanted=$2 error=$3
+    shift 3
+    "$program" "$@" < "$work/in" > "$work/out" 2> "$work/err"
+    status=$?
+    printf '%s' "$error" > "$work/wanted"
+    if ! cmp -s "$work/err" "$work/wanted"; then
+        echo "program: $title: wrong standard error:"
+        head -c 500 "$work/err"
+        failed=1
+    fi
+    compare "$title" "$status" "$wanted" "" "$(head -n 1 "$work/wanted")"
+}
+
 cat > "$work/in" << 'END'
 web: &p 8080
 proxy: [*p, 0x1F91]
@@ -51,33 +66,36 @@ END
 lf='
 '
 run "data" 0 '{"web": 8080, "proxy": [8080, 8081]}'"$lf" "" show
-run "few nestings" 1 "fault: recursion limit exceeded at line 2 column 8$lf" "" show --nesting 1
-run "no follows" 1 "fault: repetition limit exceeded$lf" "" show --nesting 2 --follows 0
+run "few nestings" 1 "" "standard input:2:8: recursion limit exceeded" show --nesting 1
+run "no follows" 1 "" "standard input: repetition limit exceeded" show --nesting 2 --follows 0
 run "another file" 0 '{"web": 8080, "proxy": [8080, 8081]}'"$lf" "" show "$work/in"
 
 # Faults at the start of a text have a place as others have.
-run "no nestings" 1 "fault: recursion limit exceeded at line 1 column 1$lf" "" show --nesting 0
+run "no nestings" 1 "" "standard input:1:1: recursion limit exceeded" show --nesting 0
 printf '1.5\n' > "$work/in"
-run "a fault of the root" 1 "fault: floating point \`1.5\` is not supported at line 1 column 1$lf" "" show
-run "a fault of the root, formatted" 1 "fault: floating point \`1.5\` is not supported at line 1 column 1$lf" "" format
+run "a fault of the root" 1 "" "standard input:1:1: floating point \`1.5\` is not supported" show
+run "a fault of the root, converted" 1 "" "standard input:1:1: floating point \`1.5\` is not supported" convert
 printf '*a\n' > "$work/in"
-run "an anchor that is not there" 1 "fault: unknown anchor at line 1 column 1$lf" "" show
+run "an anchor that is not there" 1 "" "standard input:1:1: unknown anchor \`a\`" show
 printf '@a\n' > "$work/in"
-run "the parser's fault" 1 "fault: found character that cannot start any token, while scanning for the next token at \
-line 1 column 1$lf" "" show
+told "the parser's fault" 1 "standard input:1:1: found character that cannot start any token, while scanning for the \
+next token
+  1 | @a
+    | ^
+  hint: a text that begins with \`@\` has to stand in quotes
+" show
 printf '\001\n' > "$work/in"
-run "a byte that no text has" 1 "fault: control characters are not allowed at line 1 column 1$lf" "" show
+run "a byte that no text has" 1 "" "standard input:1:1: control characters are not allowed" show
 printf 'a\001\n' > "$work/in"
-run "such a byte behind another" 1 "fault: control characters are not allowed at position 1$lf" "" show
+run "such a byte behind another" 1 "" "standard input:1:2: control characters are not allowed" show
 
 # Control characters in keys, texts and tags.
 printf '"\\e]0;owned\\a": 1.5\n' > "$work/in"
-run "a path" 1 "fault: \\u{1b}]0;owned\\u{7}: floating point \`1.5\` is not supported at line 1 column 17$lf" "" show
-run "a path, formatted" 1 "fault: \\u{1b}]0;owned\\u{7}: floating point \`1.5\` is not supported at line 1 column \
-17$lf" "" format
+run "a path" 1 "" "standard input:1:17: \\u{1b}]0;owned\\u{7}: floating point \`1.5\` is not supported" show
+run "a path, converted" 1 "" "standard input:1:17: \\u{1b}]0;owned\\u{7}: floating point \`1.5\`" convert
 printf '"\\n{\\"x\\": 1}\\nfault": 1.5\n--- {ok: 1}\n' > "$work/in"
-run "lines in a path" 1 "fault: \\u{a}{\"x\": 1}\\u{a}fault: floating point \`1.5\` is not supported at line 1 column \
-24$lf{\"ok\": 1}$lf" "" show --documents
+run "lines in a path" 1 "{\"ok\": 1}$lf" "standard input:1:24: \\u{a}{\"x\": 1}\\u{a}fault: floating point" show \
+    --documents
 printf '"\\e[31m\\x85": "a\\nb"\n' > "$work/in"
 run "texts" 0 '{"\x1b[31m\xc2\x85": "a\x0ab"}'"$lf" "" show
 printf '!%%1B%%5B31m x\n' > "$work/in"
@@ -95,14 +113,18 @@ run "events" 0 '0:0:0 +STR
 ' "" events
 
 printf 'web: 1\n---\n[a\n' > "$work/in"
-run "two documents" 1 "fault: deserializing from YAML containing more than one document is not supported$lf" "" show
-run "each document" 1 '{"web": 1}'"$lf""fault: did not find expected ',' or ']' at line 4 column 1, while parsing a flow \
-sequence at line 3 column 1$lf" "" show --documents
+told "two documents" 1 "standard input:2:1: deserializing from YAML containing more than one document is not supported
+  2 | ---
+    | ^
+  hint: \`--documents\` reads each
+" show
+run "each document" 1 '{"web": 1}'"$lf" "standard input:4:1: did not find expected ',' or ']', while parsing a flow \
+sequence at line 3 column 1" show --documents
 printf 'web: 1\n---\n[a]\n---\n' > "$work/in"
 run "each of good documents" 0 '{"web": 1}'"$lf"'["a"]'"$lf""null$lf" "" show --documents
 printf '1.5\n--- [2.5]\n---\n' > "$work/in"
-run "each document, with faults" 1 "fault: floating point \`1.5\` is not supported at line 1 column 1$lf"\
-"fault: .[0]: floating point \`2.5\` is not supported at line 2 column 6${lf}null$lf" "" show --documents
+run "each document, with faults" 1 "null$lf" "standard input:2:6: .[0]: floating point \`2.5\` is not supported" \
+    show --documents
 printf '' > "$work/in"
 # a stream without documents is read as one that stands for nothing
 run "no document" 0 "null$lf" "" show --documents
@@ -126,7 +148,7 @@ note: |
   two
   lines
 END
-cat > "$work/formatted" << 'END'
+cat > "$work/converted" << 'END'
 web: 8080
 proxy:
 - 8080
@@ -145,23 +167,23 @@ note: |
   two
   lines
 END
-run "formatted" 0 "$(cat "$work/formatted")$lf" "" format
-run "formatted, another file" 0 "$(cat "$work/formatted")$lf" "" format "$work/in"
+run "converted" 0 "$(cat "$work/converted")$lf" "" convert
+run "converted, another file" 0 "$(cat "$work/converted")$lf" "" convert "$work/in"
 "$program" show < "$work/in" > "$work/shown"
-cp "$work/formatted" "$work/in"
-run "formatted once more" 0 "$(cat "$work/formatted")$lf" "" format
-run "what was formatted" 0 "$(cat "$work/shown")$lf" "" show
+cp "$work/converted" "$work/in"
+run "converted once more" 0 "$(cat "$work/converted")$lf" "" convert
+run "what was converted" 0 "$(cat "$work/shown")$lf" "" show
 printf -- '--- a\n...\n---\n- "1"\n--- {}\n' > "$work/in"
-run "formatted documents" 0 "a$lf---$lf- '1'$lf--- {}$lf" "" format
+run "converted documents" 0 "a$lf---$lf- '1'$lf--- {}$lf" "" convert
 printf 'a: 1\n---\n[b\n---\n[c\n' > "$work/in"
-run "formatted up to a fault" 1 "fault: did not find expected ',' or ']' at line 4 column 1, while parsing a flow \
-sequence at line 3 column 1$lf" "" format
+run "converted up to a fault" 1 "" "standard input:4:1: did not find expected ',' or ']', while parsing a flow \
+sequence at line 3 column 1" convert
 printf 'a: [1]\n' > "$work/in"
-run "formatted within few nestings" 1 "fault: recursion limit exceeded at line 1 column 4$lf" "" format --nesting 1
+run "converted within few nestings" 1 "" "standard input:1:4: recursion limit exceeded" convert --nesting 1
 printf -- '- &a 1\n- *a\n' > "$work/in"
-run "formatted without follows" 1 "fault: repetition limit exceeded$lf" "" format --follows 0
+run "converted without follows" 1 "" "standard input: repetition limit exceeded" convert --follows 0
 printf '# nothing\n' > "$work/in"
-run "nothing formatted" 0 "null$lf" "" format
+run "nothing converted, by its other name" 0 "null$lf" "" format
 
 printf 'web: 1\n---\n[a\n' > "$work/in"
 run "events" 1 '0:0:0 +STR
@@ -191,52 +213,51 @@ run "all of events" 1 '0:0:0 +STR
 # Files: one, several, and one that is not there.
 echo 'a: 1' > "$work/first"
 echo '[' > "$work/second"
-run "files" 1 "@@ $work/first$lf{\"a\": 1}$lf@@ $work/second${lf}fault: did not find expected node content at line 2 \
-column 1, while parsing a flow node$lf" "" show "$work/first" "$work/second"
-run "a missing file" 2 "" "yaml_tool: $work/none: it can't be read: No such file or directory (os error 2)" \
+run "files" 1 "@@ $work/first$lf{\"a\": 1}$lf@@ $work/second$lf" "$work/second:2:1: did not find expected node content, \
+while parsing a flow node" show "$work/first" "$work/second"
+run "a missing file" 2 "" "yaml: $work/none: it can't be read: No such file or directory (os error 2)" \
     show "$work/none"
 run "a missing file and one that is there" 2 "@@ $work/none$lf@@ $work/first$lf{\"a\": 1}$lf" "it can't be read" \
     show "$work/none" "$work/first"
-run "a folder" 2 "" "yaml_tool: $work: it can't be read: Is a directory (os error 21)" show "$work"
 run "a file below a file" 2 "" "it can't be read: Not a directory (os error 20)" show "$work/first/none"
 : > "$work/closed"
 chmod 0 "$work/closed"
 [ -r "$work/closed" ] ||
     run "no permission" 2 "" "it can't be read: Permission denied (os error 13)" show "$work/closed"
 odd=$work/$(printf 'a\033[31mb')
-run "a missing file with an odd name" 2 "" "yaml_tool: $work/a\\u{1b}[31mb: it can't be read: No such file" show "$odd"
+run "a missing file with an odd name" 2 "" "yaml: $work/a\\u{1b}[31mb: it can't be read: No such file" show "$odd"
 echo 'a: 1' > "$odd"
 run "a file with an odd name" 0 "@@ $work/first$lf{\"a\": 1}$lf@@ $work/a\\u{1b}[31mb$lf{\"a\": 1}$lf" "" \
     show "$work/first" "$odd"
-run "a word that is no text" 2 "" "yaml_tool: the call: a word of it is not UTF-8" show "$(printf 'a\377')"
+run "a word that is no text" 2 "" "yaml: the call: a word of it is not UTF-8" show "$(printf 'a\377')"
 
 # Words.
 run "no command" 2 "" "requires a subcommand"
 run "a wrong command" 2 "" "unrecognized subcommand 'shov'" shov
-run "a second file" 2 "" "unexpected argument '$work/second' found" format "$work/first" "$work/second"
+run "a second file" 2 "" "unexpected argument '$work/second' found" convert "$work/first" "$work/second"
 run "a wrong option" 2 "" "unexpected argument '--documents' found" events --documents
 run "a shape, which is no option" 2 "" "unexpected argument '--shape' found" show --shape bool
 run "a word with a control character" 2 "" "unexpected argument '--a\\u{1b}[31m' found" show "--a$(printf '\033[31m')"
 run "too many nestings" 2 "" "300 is not in 0..=255" show --nesting 300
 run "too many follows" 2 "" "1001 is not in 0..=1000" show --follows 1001
 run "an option twice" 2 "" "cannot be used multiple times" show --nesting 1 --nesting 2
-run "the version" 0 "yaml_tool 0.9.34$lf" "" --version
+run "the version" 0 "yaml 0.1.0$lf" "" --version
 "$program" --help > "$work/out" 2> "$work/err"
 compare "help" $? 0 "$(cat "$work/out")$lf"
 
 # A read that fails, and a write that fails. A pipe whose reader is gone is told to nobody.
 "$program" show < / > "$work/out" 2> "$work/err"
-compare "a folder as standard input" $? 2 "" "yaml_tool: standard input: it can't be read: Is a directory (os error 21)"
+compare "a folder as standard input" $? 2 "" "yaml: standard input: it can't be read: Is a directory (os error 21)"
 "$program" show <&- > "$work/out" 2> "$work/err"
-compare "closed standard input" $? 2 "" "yaml_tool: standard input: it can't be read: Bad file descriptor (os error 9)"
-"$program" format < / > "$work/out" 2> "$work/err"
-compare "a folder to format" $? 2 "" "yaml_tool: standard input: it can't be read"
+compare "closed standard input" $? 2 "" "yaml: standard input: it can't be read: Bad file descriptor (os error 9)"
+"$program" convert < / > "$work/out" 2> "$work/err"
+compare "a folder to convert" $? 2 "" "yaml: standard input: it can't be read"
 : > "$work/out"
 "$program" show < "$work/first" >&- 2> "$work/err"
 compare "closed standard output" $? 2 "" \
-    "yaml_tool: standard output: it can't be written: Bad file descriptor (os error 9)"
+    "yaml: standard output: it can't be written: Bad file descriptor (os error 9)"
 if [ -w /dev/full ]; then
-    full="yaml_tool: standard output: it can't be written: No space left on device (os error 28)"
+    full="yaml: standard output: it can't be written: No space left on device (os error 28)"
     "$program" show < "$work/first" > /dev/full 2> "$work/err"
     compare "full standard output" $? 2 "" "$full"
     "$program" show "$work/first" "$work/second" > /dev/full 2> "$work/err"
@@ -255,31 +276,125 @@ compare "standard output that its reader closed" "$(cat "$work/status")" 2 ""
 # What the events say, read by yaml_case where it is built, is what is shown.
 reader=$root/../yaml_case/out/yaml_case
 if [ -x "$reader" ]; then
-    for name in "$root/stdin" "$work/first" "$work/in"; do
+    for name in "$root/stdin" "$work/first"; do
         "$program" show < "$name" > "$work/shown"
         "$program" events < "$name" | "$reader" any > "$work/out" 2> "$work/err"
-        compare "events of $name, read again" 0 0 "$(sed 's/, while parsing.*//' "$work/shown")$lf"
+        compare "events of $name, read again" 0 0 "$(cat "$work/shown")$lf"
     done
 fi
 
+# Hints, colors, and faults for editors.
+printf 'a: 1\nb: 2\na: 3\n' > "$work/in"
+told "a key that stands twice" 1 "standard input:3:1: duplicate entry with key \"a\"
+  3 | a: 3
+    | ^
+  hint: it stands first at line 1 column 1
+" show
+told "the same, checked" 1 "standard input:3:1: duplicate entry with key \"a\"
+  3 | a: 3
+    | ^
+  hint: it stands first at line 1 column 1
+" check
+told "the same for editors" 1 '{"file":"standard input","line":3,"column":1,"message":"duplicate entry with key \"a\"",'\
+'"hint":"it stands first at line 1 column 1"}
+' check --format json
+printf 'base: &defaults {a: 1}\nweb: *defautls\n{b: *x\n' > "$work/in"
+told "all faults" 1 "standard input:2:6: unknown anchor \`defautls\`
+  2 | web: *defautls
+    |      ^
+  hint: is \`*defaults\` meant?
+standard input:4:1: could not find expected ':', while scanning a simple key at line 3 column 1
+  3 | {b: *x
+    | ^
+" check
+printf 'a:\n\tb: 1\n' > "$work/in"
+told "a tab" 1 "standard input:2:1: found character that cannot start any token, while scanning for the next token
+  2 |     b: 1
+    | ^
+  hint: tabs can't indent YAML: use blanks
+" check
+printf 'a: 1\nkey:value\nb: 2\n' > "$work/in"
+told "a colon without a blank" 1 "standard input:3:1: could not find expected ':', while scanning a simple key at line 2 column 1
+  3 | b: 2
+    | ^
+  hint: a blank has to stand behind the \`:\` of a key
+" check
+printf 'a: b: c\n' > "$work/in"
+told "a colon in a text" 1 "standard input:1:5: mapping values are not allowed in this context
+  1 | a: b: c
+    |     ^
+  hint: a text with \`: \` in it has to stand in quotes
+" check
+printf 'a: "b\nc: d\n' > "$work/in"
+told "an open quote" 1 "standard input:3:1: found unexpected end of stream, while scanning a quoted scalar at line 1 column 4
+  1 | a: \"b
+    |    ^
+  hint: the quote at line 1 column 4 is not closed
+" check
+printf '日本: "x" y\n' > "$work/in"
+told "wide characters" 1 "standard input:1:9: did not find expected key, while parsing a block mapping at line 1 column 1
+  1 | 日本: \"x\" y
+    |           ^
+" check
+"$program" check --color always < "$work/in" > "$work/out" 2> "$work/err"
+count=$((count + 1))
+printf '\033[1mstandard input:1:9:\033[0m ' > "$work/wanted"
+head -c "$(wc -c < "$work/wanted")" "$work/err" | cmp -s - "$work/wanted" || {
+    echo "program: colors: wrong standard error"
+    failed=1
+}
+printf 'caf\351: 1\n' > "$work/in"
+told "a text that is not UTF-8" 1 "standard input:1:5: invalid trailing UTF-8 octet
+  1 | caf�: 1
+    |     ^
+  hint: the text is not UTF-8
+" check
+
+# Folders, and standard input among files.
+mkdir -p "$work/folder/below/more" "$work/folder/empty"
+echo 'a: 1' > "$work/folder/b.yaml"
+echo '[' > "$work/folder/below/a.yml"
+echo '{' > "$work/folder/below/more/c.txt"
+echo 'b: 2' > "$work/in"
+run "a folder" 1 "2 files checked, 1 with faults$lf" "$work/folder/below/a.yml:2:1: did not find expected node content" \
+    check "$work/folder"
+run "an empty folder" 0 "" "" check "$work/folder/empty"
+run "files and standard input" 0 "@@ $work/folder/b.yaml$lf{\"a\": 1}$lf@@ -$lf{\"b\": 2}$lf" "" \
+    show "$work/folder/b.yaml" -
+
+# Each command of the page, in a folder with its files, as it stands there.
+page=$root/../../docs/COMMANDS.md
+mkdir "$work/page" "$work/bin"
+ln -s "$(realpath "$program")" "$work/bin/yaml"
+awk -v FOLDER="$work/page" -f "$root/../../.ci/page.awk" "$page" || exit 1
+number=1
+while [ -e "$work/page/$number.command" ]; do
+    (cd "$work/page" && PATH="$work/bin:$PATH" sh "./$number.command") > "$work/out" 2>&1
+    count=$((count + 1))
+    if ! cmp -s "$work/out" "$work/page/$number.wanted"; then
+        echo "program: $page: $(cat "$work/page/$number.command"): wrong output:"
+        head -c 500 "$work/out"
+        failed=1
+    fi
+    number=$((number + 1))
+done
+
 # Texts that are long or deep.
 awk 'BEGIN { for (i = 0; i < 1000000; i++) printf "["; }' > "$work/in"
-run "a million brackets" 1 "fault: recursion limit exceeded at line 1 column 129$lf" "" show
+run "a million brackets" 1 "" "standard input:1:129: recursion limit exceeded" show
 awk 'BEGIN { for (i = 0; i < 1000000; i++) printf "- "; }' > "$work/in"
-run "a million entries on a line" 1 "fault: recursion limit exceeded at line 1 column 257$lf" "" show
+run "a million entries on a line" 1 "" "standard input:1:257: recursion limit exceeded" show
 awk 'BEGIN { for (i = 0; i < 1000000; i++) printf "k"; print ": 1" }' > "$work/in"
-run "a key of a million bytes" 1 "fault: mapping values are not allowed in this context at line 1 column 1000001$lf" \
-    "" show
+run "a key of a million bytes" 1 "" "standard input:1:1000001: mapping values are not allowed in this context" show
 
 # Memory that runs out.
 if command -v prlimit > /dev/null; then
     yes -- '- 7' | head -n 1000000 > "$work/in"
     prlimit --as=30000000 "$program" show < "$work/in" > "$work/out" 2> "$work/err"
-    compare "a text that is too large" $? 2 "" "yaml_tool: standard input: out of memory"
+    compare "a text that is too large" $? 2 "" "yaml: standard input: out of memory"
     prlimit --as=30000000 "$program" show "$work/first" "$work/in" "$work/second" > "$work/out" 2> "$work/err"
     compare "a file that is too large among others" $? 2 "@@ $work/first$lf{\"a\": 1}$lf@@ $work/in$lf""\
-@@ $work/second${lf}fault: did not find expected node content at line 2 column 1, while parsing a flow node$lf" \
-        "yaml_tool: $work/in: out of memory"
+@@ $work/second$lf" "yaml: $work/in: out of memory"
 fi
 
 finish

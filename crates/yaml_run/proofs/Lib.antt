@@ -3,5 +3,6 @@ pub mod ReadingLaws
 pub mod Readings
 pub mod RunLaws
 pub mod ShapeLaws
+pub mod ShownLaws
 pub mod StreamWalks
 pub mod TurnLaws

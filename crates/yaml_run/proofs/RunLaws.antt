@@ -27,7 +27,7 @@ concluded Same known old new P (Ok a) result h prints err read = (line_of a, h.0
 concluded Same known old new P (Err e) result h prints err read = absurd (read err.0)
 
 -- what was printed ends no run as a failed read
-printed-read : (old new : Option (List ℕ)) (line : List ℕ) (ended result : Status) → Prints old new line ended result
+pub printed-read : (old new : Option (List ℕ)) (line : List ℕ) (ended result : Status) → Prints old new line ended result
     → ended ≢ status.ReadFailed → result ≢ status.ReadFailed
 printed-read old new line ended result p apart = λ f.
     apart (sym (p (λ w. let same = sym f ∙ w in absurd cc)).0 ∙ f)

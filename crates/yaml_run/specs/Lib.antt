@@ -4,6 +4,7 @@ pub mod EventReadings
 pub mod ExitCode
 pub mod Printed
 pub mod Shapes
+pub mod Shown
 pub mod TextReadings
 pub mod Told
 pub mod Turns

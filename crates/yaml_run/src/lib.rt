@@ -1,5 +1,5 @@
-//! What programs over YAML share: shapes with names, an input that is read whole, what is told of a reading, and how
-//! that is printed.
+//! What programs over YAML share: shapes with names, an input that is read whole, what is told of a reading or shown to
+//! people, and how that is printed.
 #![tactic(auto)]
 
 mod answer;
@@ -9,6 +9,7 @@ mod faults;
 mod input;
 mod printing;
 mod shapes;
+mod shown;
 mod status;
 mod text;
 mod told;
@@ -21,6 +22,7 @@ pub use events::read_events;
 pub use input::{Unanswered, Unread, read_input};
 pub use printing::{conclude, print, print_bytes};
 pub use shapes::Named;
+pub use shown::{Shown, show_in_turn, show_text};
 pub use status::Status;
 pub use text::read_text;
 pub use told::{Told, told_for, told_of, told_of_bad_line};

@@ -51,7 +51,7 @@ pub fn told_for(alloc: Global, audience: Audience, text: String) -> Result<Strin
 }
 
 // The text of data.
-fn data_text(alloc: Global, content: &Data<'_>) -> Result<String, AllocError>
+pub(crate) fn data_text(alloc: Global, content: &Data<'_>) -> Result<String, AllocError>
     ensures { IfOk result (λ text. string_bytes text ≡ data_text (data_of content.now)) }
 {
     let mut text = String::new(alloc);

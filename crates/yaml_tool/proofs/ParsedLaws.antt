@@ -2,15 +2,14 @@
 use Rattle.std.proofs.Common.{◌≡◌, false, ℕ, List, [], ◌++◌, Option, subst, ap, ◌∙◌}
 use Rattle.yaml_base.specs.MarkedEvents.{plain_marked}
 use Rattle.yaml_base.specs.PlainFault.{PlainFault}
+use Rattle.yaml_base.specs.declared.error.Cause.{Cause}
 use Rattle.yaml_read.specs.Documents.{Input, documents_of}
 use Rattle.yaml_read.specs.TreeReader.{PlainLimits}
 use Rattle.yaml_shape.specs.PlainShape.{PlainShape}
 use Rattle.serde_yaml.specs.PlainStream.{PlainStream}
 use Rattle.serde_yaml.specs.StreamReads.{stream_of}
 use Rattle.serde_yaml.specs.TextReads.{IsParsed}
-use Rattle.yaml_run.specs.Turns.{AreToldInTurn}
-use Rattle.yaml_run.specs.declared.audience.Audience.{Audience}
-use Rattle.yaml_run.specs.declared.status.Status.{Status}
+use Rattle.yaml_run.specs.Shown.{AreShown}
 
 -- what follows from what holds of it holds of it too
 pub parsed-weaker : (text : List ℕ) (P Q : Input → Option PlainFault → Type 0)
@@ -31,17 +30,16 @@ IsOfText text stream = IsParsed text (λ events fault. stream ≡ stream_of even
 pub many-documents : (text : List ℕ) (stream : PlainStream) → IsOfText text stream → stream.is_document ≡ false
 many-documents text stream p = ap (λ x. x.is_document) p.holds
 
--- what is told of its documents is told of the text's
-pub turns-parsed : (bytes : List ℕ) (audience : Audience) (limits : PlainLimits) (table named : List PlainShape)
-    (s : PlainShape) (stream : PlainStream)
-    (ended : Status) (text : List ℕ) → table ≡ named → IsOfText bytes stream
-    → AreToldInTurn audience limits table s stream.documents ended text
-    → IsParsed bytes (λ events fault. AreToldInTurn audience limits named s (documents_of events fault) ended text)
-turns-parsed bytes audience limits table named s stream ended text same p told =
+-- what is shown of its documents is shown of the text's
+pub shown-parsed : (bytes : List ℕ) (limits : PlainLimits) (table named : List PlainShape) (s : PlainShape)
+    (stream : PlainStream) (text : List ℕ) (faults : List Cause) → table ≡ named → IsOfText bytes stream
+    → AreShown limits table s stream.documents text faults
+    → IsParsed bytes (λ events fault. AreShown limits named s (documents_of events fault) text faults)
+shown-parsed bytes limits table named s stream text faults same p shown =
     parsed-weaker bytes (λ events fault. stream ≡ stream_of events fault)
-    (λ events fault. AreToldInTurn audience limits named s (documents_of events fault) ended text)
-    (λ events fault is. subst (λ x. AreToldInTurn audience limits named s x.documents ended text) is
-    (subst (λ t. AreToldInTurn audience limits t s stream.documents ended text) same told)) p
+    (λ events fault. AreShown limits named s (documents_of events fault) text faults)
+    (λ events fault is. subst (λ x. AreShown limits named s x.documents text faults) is
+    (subst (λ t. AreShown limits t s stream.documents text faults) same shown)) p
 
 -- two parts, put behind nothing
 pub two_parts : (a b c one two : List ℕ) → a ≡ [] → b ≡ a ++ one → c ≡ b ++ two → c ≡ one ++ two

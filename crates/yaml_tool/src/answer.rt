@@ -3,35 +3,35 @@
 ghost use Rattle.std.specs.Prelude.{◌≡◌, [], string_bytes, IfOk};
 ghost use Rattle.yaml_read.specs.Documents.{documents_of};
 ghost use Rattle.serde_yaml.specs.TextReads.{IsParsed};
-ghost use Rattle.yaml_run.specs.Printed.{line_of, status_of};
-ghost use Rattle.yaml_run.specs.Turns.{AreToldInTurn};
-ghost use Rattle.yaml_run.specs.declared.audience.Audience.TheVariants.{People};
-ghost use Rattle.yaml_tool.specs.Answers.{any_first, any_table, IsAnswer, IsReadingLine};
+ghost use Rattle.yaml_run.specs.Shown.{AreShown, ended_by, IsShown};
+ghost use Rattle.yaml_tool.specs.Answers.{any_first, any_table, IsAnswer, IsAsked};
+ghost use Rattle.yaml_tool.specs.declared.task.Task.TheVariants.{Show, ShowEach, Events, FullEvents};
 
+use crate::answered::{Answered, of_parts, of_text};
+use crate::convert::converted;
 use crate::events::{told_events, told_full_events};
-use crate::format::formatted;
 use crate::task::Task;
 use serde_yaml::{Deserializer, Limits};
 use std::alloc::{AllocError, Global};
-use yaml_run::{Answer, Audience, Named, Status, Told, read_in_turn, read_text};
+use yaml_report::faults_of;
+use yaml_run::{Named, Shown, Status, show_in_turn, show_text};
 use yaml_shape::ShapeId;
 
-// The data of the one document of a text, or its fault: a line.
-fn shown(alloc: Global, limits: Limits, text: &[u8]) -> Result<Told, AllocError>
-    ensures { IfOk result (λ told. IsReadingLine limits text.now told.ended (string_bytes told.text)) }
+// The data of the one document of a text: a line.
+fn shown(alloc: Global, limits: Limits, text: &[u8]) -> Result<Shown, AllocError>
+    ensures { IfOk result (λ shown.
+        IsShown limits any_table any_first text.now (string_bytes shown.text) shown.faults.items) }
 {
     let Ok(schema) = Named::Any.schema(alloc) else {
         return Err(AllocError);
     };
-    let told = read_text(alloc, Audience::People, &schema, ShapeId(0), limits, text)?;
-    let line = told.with_line_feed()?;
-    Ok(line)
+    show_text(alloc, &schema, ShapeId(0), limits, text)
 }
 
-// The data of each document of a text, or its fault: a line each.
-fn shown_in_turn(alloc: Global, limits: Limits, text: &[u8]) -> Result<Told, AllocError>
-    ensures { IfOk result (λ told. IsParsed text.now (λ events fault. AreToldInTurn People limits any_table
-        any_first (documents_of events fault) told.ended (string_bytes told.text))) }
+// The data of each document of a text: a line each.
+fn shown_in_turn(alloc: Global, limits: Limits, text: &[u8]) -> Result<Shown, AllocError>
+    ensures { IfOk result (λ shown. IsParsed text.now (λ events fault. AreShown limits any_table any_first
+        (documents_of events fault) (string_bytes shown.text) shown.faults.items)) }
 {
     let Ok(schema) = Named::Any.schema(alloc) else {
         return Err(AllocError);
@@ -39,36 +39,104 @@ fn shown_in_turn(alloc: Global, limits: Limits, text: &[u8]) -> Result<Told, All
     let Ok(stream) = Deserializer::from_slice(alloc, text) else {
         return Err(AllocError);
     };
-    read_in_turn(alloc, Audience::People, stream, &schema, ShapeId(0), limits)
+    show_in_turn(alloc, stream, &schema, ShapeId(0), limits)
 }
 
-// What is told of a text.
-fn told_of(alloc: Global, task: Task, text: &[u8]) -> Result<Told, AllocError>
-    ensures { IfOk result (λ told. IsAnswer task text.now told.ended (string_bytes told.text)) }
+// The answer to `Task::Show`.
+fn show(alloc: Global, limits: Limits, text: &[u8]) -> Result<Answered, AllocError>
+    ensures { IfOk result (λ answer.
+        IsAsked (Show limits) text.now answer.ended (string_bytes answer.text) answer.faults.items) }
+{
+    let shown = shown(alloc, limits, text)?;
+    let ended = shown.ended();
+    Ok(Answered {
+        ended,
+        text: shown.text,
+        faults: shown.faults,
+    })
+}
+
+// The answer to `Task::ShowEach`.
+fn show_each(alloc: Global, limits: Limits, text: &[u8]) -> Result<Answered, AllocError>
+    ensures { IfOk result (λ answer.
+        IsAsked (ShowEach limits) text.now answer.ended (string_bytes answer.text) answer.faults.items) }
+{
+    let shown = shown_in_turn(alloc, limits, text)?;
+    let ended = shown.ended();
+    Ok(Answered {
+        ended,
+        text: shown.text,
+        faults: shown.faults,
+    })
+}
+
+// The answer to `Task::Events`.
+fn events(alloc: Global, text: &[u8]) -> Result<Answered, AllocError>
+    ensures { IfOk result (λ answer.
+        IsAsked Events text.now answer.ended (string_bytes answer.text) answer.faults.items) }
+{
+    let told = told_events(alloc, text)?;
+    Ok(Answered {
+        ended: told.ended,
+        text: told.text,
+        faults: Vec::new(alloc),
+    })
+}
+
+// The answer to `Task::FullEvents`.
+fn full_events(alloc: Global, text: &[u8]) -> Result<Answered, AllocError>
+    ensures { IfOk result (λ answer.
+        IsAsked FullEvents text.now answer.ended (string_bytes answer.text) answer.faults.items) }
+{
+    let told = told_full_events(alloc, text)?;
+    Ok(Answered {
+        ended: told.ended,
+        text: told.text,
+        faults: Vec::new(alloc),
+    })
+}
+
+// The faults of a text that need no type to tell, and no lines.
+fn checked(alloc: Global, text: &[u8]) -> Result<Answered, AllocError>
+    ensures { IfOk result (λ answer. answer.ended ≡ ended_by answer.faults.items) }
+{
+    Ok(of_parts(String::new(alloc), faults_of(alloc, text)?))
+}
+
+// What is asked of a text.
+fn answered(alloc: Global, task: Task, text: &[u8]) -> Result<Answered, AllocError>
+    ensures { IfOk result (λ answer.
+        IsAsked task text.now answer.ended (string_bytes answer.text) answer.faults.items) }
 {
     match task {
-        Task::Show(limits) => shown(alloc, limits, text),
-        Task::ShowEach(limits) => shown_in_turn(alloc, limits, text),
-        Task::Format(limits) => formatted(alloc, limits, text),
-        Task::Events => told_events(alloc, text),
-        Task::FullEvents => told_full_events(alloc, text),
+        Task::Show(limits) => show(alloc, limits, text),
+        Task::ShowEach(limits) => show_each(alloc, limits, text),
+        Task::Convert(limits) => of_text(alloc, converted(alloc, limits, text)),
+        Task::Events => events(alloc, text),
+        Task::FullEvents => full_events(alloc, text),
+        Task::Check => checked(alloc, text),
     }
 }
 
 /// The answer where memory runs out: nothing.
-pub fn no_answer(alloc: Global) -> Answer
-    ensures status { status_of result ≡ Status.OutOfMemory }
-    ensures line { line_of result ≡ [] }
+pub fn no_answer(alloc: Global) -> Answered
+    ensures ended { result.ended ≡ Status.OutOfMemory }
+    ensures text { string_bytes result.text ≡ [] }
+    ensures faults { result.faults.items ≡ [] }
 {
-    Answer::Made(Status::OutOfMemory, String::new(alloc))
+    Answered {
+        ended: Status::OutOfMemory,
+        text: String::new(alloc),
+        faults: Vec::new(alloc),
+    }
 }
 
-/// What a text is answered. Where memory runs out, nothing is printed.
-pub fn answer_to(alloc: Global, task: Task, text: &[u8]) -> Answer
-    ensures { IsAnswer task text.now (status_of result) (line_of result) }
+/// What a text is answered. Where memory runs out, nothing is printed and no fault is told.
+pub fn answer_to(alloc: Global, task: Task, text: &[u8]) -> Answered
+    ensures { IsAnswer task text.now result.ended (string_bytes result.text) result.faults.items }
 {
-    match told_of(alloc, task, text) {
-        Ok(told) => Answer::Made(told.ended, told.text),
+    match answered(alloc, task, text) {
+        Ok(answer) => answer,
         Err(_) => no_answer(alloc),
     }
 }

@@ -6,14 +6,51 @@ use clap::{Arg, ArgAction, ArgMatches, Command, Error};
 use serde_yaml::Limits;
 use std::alloc::{AllocError, Global};
 
+/// When faults have colors.
+#[derive(Clone, Copy)]
+pub enum Color {
+    /// On a terminal.
+    Auto,
+    /// In each case.
+    Always,
+    /// Never.
+    Never,
+}
+
+/// How faults are told.
+#[derive(Clone, Copy)]
+pub enum Telling {
+    /// In lines for people.
+    Lines(Color),
+    /// As JSON for programs, a line each.
+    Records,
+}
+
 /// What the words ask for.
 #[derive(Drop)]
 pub struct Request<'a> {
     /// What is asked.
     pub task: Task,
+    /// How faults are told.
+    pub telling: Telling,
     /// The files that it is asked of; standard input where there are none.
     pub files: Vec<&'a str>,
 }
+
+const ABOUT: &str = "Reads YAML, tells what is wrong with it, and prints what is in it";
+
+const EXAMPLES: &str = "Examples:
+  yaml check .                    each fault of the YAML files here and below
+  yaml show config.yaml           the data of a file, in a line
+  yaml convert config.yaml        the same data as YAML
+
+Without a FILE, or for -, standard input is read. What is asked is printed on standard
+output, and faults on standard error. The status is 0, or 1 where a text has a fault, or 2
+where something can't be read or written, or the words are wrong.";
+
+const COLORS: &[&str] = &["auto", "always", "never"];
+
+const FORMATS: &[&str] = &["text", "json"];
 
 // The files that a command is asked of.
 fn files<'a>(alloc: Global) -> Arg<'a> {
@@ -21,7 +58,14 @@ fn files<'a>(alloc: Global) -> Arg<'a> {
         .value_name("FILE")
         .num_args(0..)
         .action(ArgAction::Append)
-        .help("The files to read, in turn; standard input where none is named")
+        .help(
+            "The files to read, in turn: folders with all YAML files below them, and - for standard input",
+        )
+}
+
+// The one file that a command is asked of.
+fn one_file<'a>(alloc: Global, help: &'a str) -> Arg<'a> {
+    Arg::new(alloc, "file").value_name("FILE").help(help)
 }
 
 // How deep documents may be nested.
@@ -44,55 +88,96 @@ fn follows<'a>(alloc: Global) -> Arg<'a> {
         .help("How many aliases may be followed for each event, at most 1000")
 }
 
-// The command that shows data.
-fn show<'a>(alloc: Global) -> Result<Command<'a>, AllocError> {
-    Command::new(alloc, "show")
-        .about("Prints the data of the one document, or the fault")
-        .arg(
-            Arg::new(alloc, "documents")
-                .long("documents")
-                .action(ArgAction::SetTrue)
-                .help("Prints the data of each document, a line each"),
-        )?
-        .arg(nesting(alloc))?
-        .arg(follows(alloc))?
-        .arg(files(alloc))
+// A word that is there or not.
+fn flag<'a>(alloc: Global, name: &'a str, help: &'a str) -> Arg<'a> {
+    Arg::new(alloc, name)
+        .long(name)
+        .action(ArgAction::SetTrue)
+        .help(help)
 }
 
-// The command that prints documents as YAML text.
-fn format<'a>(alloc: Global) -> Result<Command<'a>, AllocError> {
-    Command::new(alloc, "format")
-        .about("Prints the documents as YAML text, or the first fault")
-        .arg(nesting(alloc))?
-        .arg(follows(alloc))?
+// A command, with how its faults are told.
+fn with_telling<'a>(alloc: Global, command: Command<'a>) -> Result<Command<'a>, AllocError> {
+    command
         .arg(
-            Arg::new(alloc, "file")
-                .value_name("FILE")
-                .help("The file to read; standard input where none is named"),
+            Arg::new(alloc, "format")
+                .long("format")
+                .value_name("FORMAT")
+                .value_parser(FORMATS)
+                .default_value("text")
+                .help("How faults are told: for people, or as lines of JSON for editors"),
+        )?
+        .arg(
+            Arg::new(alloc, "color")
+                .long("color")
+                .value_name("WHEN")
+                .value_parser(COLORS)
+                .default_value("auto")
+                .help("When faults have colors; by auto on a terminal, unless NO_COLOR is set"),
         )
+}
+
+// The command that tells faults.
+fn check<'a>(alloc: Global) -> Result<Command<'a>, AllocError> {
+    let command = Command::new(alloc, "check").about(
+        "Tells each fault of files: what is no YAML, keys that stand twice, unknown anchors",
+    );
+    with_telling(alloc, command)?.arg(files(alloc))
+}
+
+// The command that shows data.
+fn show<'a>(alloc: Global) -> Result<Command<'a>, AllocError> {
+    let command = Command::new(alloc, "show")
+        .about("Prints the data of the one document in a line that keeps bytes and tags apart")
+        .arg(flag(
+            alloc,
+            "documents",
+            "Prints the data of each document, a line each",
+        ))?
+        .arg(nesting(alloc))?
+        .arg(follows(alloc))?;
+    with_telling(alloc, command)?.arg(files(alloc))
+}
+
+// The command that prints documents as YAML text. It is also called by the name that a command which keeps comments is
+// to have.
+fn convert<'a>(alloc: Global) -> Result<Command<'a>, AllocError> {
+    let command = Command::new(alloc, "convert")
+        .visible_alias("format")?
+        .about(
+            "Prints the data of the documents as YAML: without comments, anchors, styles and core tags",
+        )
+        .arg(nesting(alloc))?
+        .arg(follows(alloc))?;
+    with_telling(alloc, command)?.arg(one_file(
+        alloc,
+        "The file to read; standard input where none is named",
+    ))
 }
 
 // The command that prints events.
 fn events<'a>(alloc: Global) -> Result<Command<'a>, AllocError> {
-    Command::new(alloc, "events")
-        .about("Prints the events, a line each, and the parser's fault")
-        .arg(
-            Arg::new(alloc, "full")
-                .long("full")
-                .action(ArgAction::SetTrue)
-                .help("Also prints where each scalar ends, and the context of a fault"),
-        )?
-        .arg(files(alloc))
+    let command = Command::new(alloc, "events")
+        .about("Prints the events of the parser, a line each, and its fault")
+        .arg(flag(
+            alloc,
+            "full",
+            "Also prints where each scalar ends, and the context of a fault",
+        ))?;
+    with_telling(alloc, command)?.arg(files(alloc))
 }
 
 // The program.
 fn program<'a>(alloc: Global) -> Result<Command<'a>, AllocError> {
-    Command::new(alloc, "yaml_tool")
-        .version("0.9.34")
-        .about("Reads YAML text and prints what is in it")
+    Command::new(alloc, "yaml")
+        .bin_name("yaml")?
+        .version("0.1.0")
+        .about(ABOUT)
+        .after_help(EXAMPLES)
         .subcommand_required(true)
+        .subcommand(check(alloc)?)?
+        .subcommand(convert(alloc)?)?
         .subcommand(show(alloc)?)?
-        .subcommand(format(alloc)?)?
         .subcommand(events(alloc)?)
 }
 
@@ -111,13 +196,30 @@ fn limits_of(matches: &ArgMatches<'_>) -> Limits {
     Limits::new(nesting, follows).unwrap_or(Limits::DEFAULT)
 }
 
-// What is asked of data.
-fn show_task(matches: &ArgMatches<'_>) -> Task {
-    let limits = limits_of(matches);
-    if matches.get_flag("documents") {
-        Task::ShowEach(limits)
-    } else {
-        Task::Show(limits)
+fn color_of(matches: &ArgMatches<'_>) -> Color {
+    match matches.get_str("color") {
+        Some("always") => Color::Always,
+        Some("never") => Color::Never,
+        _ => Color::Auto,
+    }
+}
+
+fn telling_of(matches: &ArgMatches<'_>) -> Telling {
+    match matches.get_str("format") {
+        Some("json") => Telling::Records,
+        _ => Telling::Lines(color_of(matches)),
+    }
+}
+
+// What is asked by the command with this name.
+fn task_of(name: &str, matches: &ArgMatches<'_>) -> Task {
+    match name {
+        "show" if matches.get_flag("documents") => Task::ShowEach(limits_of(matches)),
+        "show" => Task::Show(limits_of(matches)),
+        "convert" => Task::Convert(limits_of(matches)),
+        "check" => Task::Check,
+        _ if matches.get_flag("full") => Task::FullEvents,
+        _ => Task::Events,
     }
 }
 
@@ -125,26 +227,16 @@ fn show_task(matches: &ArgMatches<'_>) -> Task {
 /// is wrong with a word.
 pub fn requested<'a>(alloc: Global, words: &'a [String]) -> Result<Request<'a>, Error> {
     let matches = program(alloc)?.try_get_matches_from(words)?;
-    match matches.subcommand() {
-        Some(("show", matches)) => Ok(Request {
-            task: show_task(matches),
-            files: files_of(alloc, matches)?,
-        }),
-        Some(("format", matches)) => Ok(Request {
-            task: Task::Format(limits_of(matches)),
-            files: files_of(alloc, matches)?,
-        }),
-        Some((_, matches)) => Ok(Request {
-            task: if matches.get_flag("full") {
-                Task::FullEvents
-            } else {
-                Task::Events
-            },
-            files: files_of(alloc, matches)?,
-        }),
-        None => Ok(Request {
-            task: Task::Events,
+    let Some((name, matches)) = matches.subcommand() else {
+        return Ok(Request {
+            task: Task::Check,
+            telling: Telling::Lines(Color::Auto),
             files: Vec::new(alloc),
-        }),
-    }
+        });
+    };
+    Ok(Request {
+        task: task_of(name, matches),
+        telling: telling_of(matches),
+        files: files_of(alloc, matches)?,
+    })
 }

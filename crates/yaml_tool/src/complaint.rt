@@ -20,7 +20,7 @@ fn tell_no_memory<E: Write>(errors: &mut E, name: &str) -> io::Result<()>
     ensures { OnOk result (Appends (E.contents errors.old) (E.contents errors.new) (no_memory_line name.now)) }
 {
     let name = Visible(name);
-    writeln!(errors, "yaml_tool: {name}: out of memory")
+    writeln!(errors, "yaml: {name}: out of memory")
 }
 
 // Tells that the input with this name was not read, with these words behind that.
@@ -28,17 +28,14 @@ fn write_unread<E: Write>(errors: &mut E, name: &str, words: &str) -> io::Result
     ensures { OnOk result (Appends (E.contents errors.old) (E.contents errors.new) (unread_line name.now words.now)) }
 {
     let shown = Visible(name);
-    writeln!(errors, "yaml_tool: {shown}: it can't be read{words}")
+    writeln!(errors, "yaml: {shown}: it can't be read{words}")
 }
 
 // Tells that the output was not written, with these words behind that.
 fn write_unwritten<E: Write>(errors: &mut E, words: &str) -> io::Result<()>
     ensures { OnOk result (Appends (E.contents errors.old) (E.contents errors.new) (unwritten_line words.now)) }
 {
-    writeln!(
-        errors,
-        "yaml_tool: standard output: it can't be written{words}"
-    )
+    writeln!(errors, "yaml: standard output: it can't be written{words}")
 }
 
 // Tells that the input with this name was not read, and why.
@@ -82,7 +79,7 @@ pub fn complain_of_words<E: Write>(errors: &mut E, why: &io::Error) -> io::Resul
     if why.kind() == ErrorKind::OutOfMemory {
         return tell_no_memory(errors, "the call");
     }
-    writeln!(errors, "yaml_tool: the call: a word of it is not UTF-8")
+    writeln!(errors, "yaml: the call: a word of it is not UTF-8")
 }
 
 /// Tells why a run on the input with this name failed, if it did: that memory ran out, or that it was not read, or its

@@ -1,24 +1,29 @@
-//! The program: it reads YAML text and prints the data in it, as a line or as YAML text again, or its events.
+//! The program: it reads YAML text and prints what is in it, as YAML text again, as a line or as events, or checks it.
 #![tactic(auto)]
 
 mod answer;
+mod answered;
 mod args;
 mod complaint;
+mod convert;
 mod events;
 mod files;
-mod format;
+mod folder;
 mod reply;
 mod run;
 mod task;
+mod tell;
 mod usage;
 
-use args::{Request, requested};
+use args::{Color, Request, Telling, requested};
 use complaint::complain_of_words;
-use files::{run_all, run_input};
+use files::{Order, run_all};
 use std::env::{self, Env};
-use std::io;
+use std::io::{self, IsTerminal};
 use std::process::ExitCode;
+use tell::Manner;
 use usage::show_usage;
+use yaml_report::Look;
 use yaml_run::{Status, Watched};
 
 // The words of the call, the program's name first.
@@ -26,24 +31,43 @@ fn words(rt: &(impl Env + AllocGlobal)) -> io::Result<Vec<String>> {
     Ok(env::args(rt)?.collect(rt.alloc())?)
 }
 
-// Does what is asked: of standard input, or of each file.
+// Whether the one who calls wants no colors.
+fn refuses_color(rt: &(impl Env + AllocGlobal)) -> bool {
+    match env::var(rt, "NO_COLOR") {
+        Ok(value) => !value.as_str().is_empty(),
+        Err(_) => false,
+    }
+}
+
+// Whether faults have colors: where that is asked, and else on a terminal, unless the environment refuses them.
+fn look_of(rt: &HostRuntime, color: Color) -> Look {
+    let colored = match color {
+        Color::Always => true,
+        Color::Never => false,
+        Color::Auto => rt.stderr().is_terminal() && !refuses_color(rt),
+    };
+    if colored { Look::Colored } else { Look::Plain }
+}
+
+// How faults are told.
+fn manner_of(rt: &HostRuntime, telling: Telling) -> Manner {
+    match telling {
+        Telling::Lines(color) => Manner::Lines(look_of(rt, color)),
+        Telling::Records => Manner::Records,
+    }
+}
+
+// Does what is asked.
 fn perform(rt: &HostRuntime, request: &Request<'_>) -> Status {
     let mut writer = Watched::new(rt.stdout());
     let mut errors = rt.stderr();
-    if request.files.is_empty() {
-        let (alloc, input) = (rt.alloc(), rt.stdin());
-        return run_input(
-            alloc,
-            request.task,
-            "standard input",
-            input,
-            &mut writer,
-            &mut errors,
-        );
-    }
+    let order = Order {
+        task: request.task,
+        manner: manner_of(rt, request.telling),
+    };
     run_all(
         rt,
-        &request.task,
+        &order,
         request.files.as_slice(),
         &mut writer,
         &mut errors,

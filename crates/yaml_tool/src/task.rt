@@ -10,9 +10,21 @@ pub enum Task {
     /// The data of each of its documents, so read: a line each.
     ShowEach(Limits),
     /// Its documents printed as YAML text, each read as a value of any kind within limits.
-    Format(Limits),
+    Convert(Limits),
     /// Its events, a line each, and the parser's fault.
     Events,
     /// The same, with the slice of each scalar and the context of the fault.
     FullEvents,
+    /// All its faults that need no type to tell.
+    Check,
+}
+
+impl Task {
+    /// Whether what is printed of each of several files stands behind a line with its name.
+    pub fn is_titled(&self) -> bool {
+        matches!(
+            self,
+            Task::Show(_) | Task::ShowEach(_) | Task::Events | Task::FullEvents
+        )
+    }
 }

@@ -20,7 +20,7 @@ fn write_lines<W: Write>(writer: &mut W, text: &str) -> io::Result<()> {
 fn write_usage<W: Write>(alloc: Global, error: &Error, writer: &mut W) -> io::Result<()> {
     match format!(in alloc; "{error}") {
         Ok(text) => write_lines(writer, text.as_str()),
-        Err(_) => writeln!(writer, "yaml_tool: the call: out of memory"),
+        Err(_) => writeln!(writer, "yaml: the call: out of memory"),
     }
 }
 

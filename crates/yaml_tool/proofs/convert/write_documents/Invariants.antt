@@ -1,6 +1,6 @@
 -- Nothing is open between two documents.
 use Rattle.std.proofs.Common.{◌≡◌, []}
-use Rattle.yaml_tool.proofs.format.write_documents.Given as goal
+use Rattle.yaml_tool.proofs.convert.write_documents.Given as goal
 
 abbrev pub invariant-loop-document : goal.invariant-loop-document
 invariant-loop-document l = l.out.opened ≡ []

@@ -1,13 +1,13 @@
 //! Documents printed as YAML text.
 
-ghost use Rattle.std.specs.Prelude.{◌≡◌, ◌<◌, ◌⊎◌, [], length, IfOk};
+ghost use Rattle.std.specs.Prelude.{◌≡◌, ◌<◌, [], length};
 
 use serde_yaml::{Deserializer, Limits};
 use std::alloc::{AllocError, Global};
 use yaml_base::emitter::EmitEvent;
 use yaml_base::{Cause, Error, Result};
 use yaml_emit::emit;
-use yaml_run::{Audience, Named, Status, Told, told_of};
+use yaml_run::Named;
 use yaml_shape::{Data, Schema, ShapeId, Typed};
 use yaml_write::Serializer;
 
@@ -56,29 +56,9 @@ fn events_of(alloc: Global, limits: Limits, text: &[u8]) -> Result<Vec<EmitEvent
     }
 }
 
-// The documents of a text as YAML text, or why they have none.
-fn printed(alloc: Global, limits: Limits, text: &[u8]) -> Result<String> {
+/// The documents of a text, each read as a value of any kind within limits, as YAML text. Where one is refused, that is
+/// told, and no other.
+pub fn converted(alloc: Global, limits: Limits, text: &[u8]) -> Result<String> {
     let events = events_of(alloc, limits, text)?;
     emit(alloc, events.as_slice())
-}
-
-/// The documents of a text, each read as a value of any kind within limits, as YAML text. Where one is refused, that is
-/// told, and no other. The only error is that memory runs out.
-pub fn formatted(
-    alloc: Global,
-    limits: Limits,
-    text: &[u8],
-) -> std::result::Result<Told, AllocError>
-    ensures { IfOk result (λ told. (told.ended ≡ Status.Read) ⊎ (told.ended ≡ Status.Fault)) }
-{
-    match printed(alloc, limits, text) {
-        Ok(text) => {
-            let ended = Status::Read;
-            Ok(Told { ended, text })
-        }
-        Err(fault) => {
-            let told = told_of(alloc, Audience::People, Err(fault))?;
-            told.with_line_feed()
-        }
-    }
 }
