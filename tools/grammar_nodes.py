@@ -221,11 +221,17 @@ class Text:
     def flow_items(self, d, i):
         return self.parts_in_brackets(d, i, 93, self.flow_item, ("no_flow_item", "a_flow_item"))
 
+    def begins_collection(self, i):
+        named = names_at(self.text, True, i)
+        return bool(named) and at(self.text, self.next(named[1])) in b"[{"
+
     def flow_item(self, d, i):
-        single, two = self.flow_node(d, i), self.flow_pair(d - 1, i) if d > 0 else None
+        single, two = self.flow_node(d, i), None
+        if d > 0 and not self.begins_collection(i):
+            two = self.flow_pair(d - 1, i)
         if two:
             pair = Mapping(self.mark(i), UNNAMED, [two[1]], self.mark(self.next(two[0])))
-            return two[0], pair, by("a_pair", two[2])
+            return two[0], pair, by("a_pair", 1, two[2])
         return single and (*single[:2], by("a_single", single[2]))
 
     def flow_pair(self, d, i):

@@ -1,9 +1,10 @@
 //! The events of a YAML text that the direct parser takes, each checked against the text before it is handed out.
 //!
-//! Nothing is proved of which events a text has, neither here nor of the parser by tokens. What is proved of that
-//! parser's events holds of these too, since each is looked at: it follows the one before as a
-//! stream's may, its source stands in the text, plain text in a line is what stands there, marks ascend, and their
-//! lines and columns are counted anew.
+//! Which events a text has is proved of the direct parser's tape, where the text has the grammar's characters alone
+//! (`yaml_direct::parse`); it is not carried on to the events here, nor proved of the parser by tokens. What is proved of
+//! that parser's events holds of these too, since each is looked at: it follows the one before as a stream's may, its
+//! source stands in the text, plain text in a line is what stands there, marks ascend, and their lines and columns are
+//! counted anew.
 #![tactic(auto)]
 
 mod allowed;

@@ -122,7 +122,7 @@ pub plain_at_is : (text : List ℕ) (context : Context) (i : ℕ)
     → leaf_at text context i ≡ styled style.Plain i (plain_at text context i)
 plain_at_is text context i h = rw (h.0, h.1.0, h.1.1) refl
 
-begun_plain : (text : List ℕ) (flow : Bool) (i : ℕ) → begins_plain text flow i ≡ true
+pub begun_plain : (text : List ℕ) (flow : Bool) (i : ℕ) → begins_plain text flow i ≡ true
     → ((at text i == 42) ≡ false) × (((at text i == 39) ≡ false) × ((at text i == 34) ≡ false))
 begun_plain text flow i h =
     plain_byte (at text i) (dark (is_indicator (at text i))

@@ -1,9 +1,9 @@
 -- Leaves in brackets, and names alone.
-use Rattle.std.proofs.Common.{ℕ, suc, ◌+◌, ◌-◌, ◌<◌, ◌≤◌, ◌≡◌, ◌≢◌, ◌==◌, ◌&&◌, ◌||◌, not, Bool, true, false, List, Some}
-use Rattle.std.proofs.Common.{refl, sym, subst, ap, ◌∙◌, arith, inl, inr, codes, drop}
-use Rattle.std.specs.Prelude.{Option, if◌then◌else◌}
+use Rattle.std.proofs.Common.{ℕ, suc, ◌+◌, ◌-◌, ◌<◌, ◌≤◌, ◌≡◌, ◌==◌, ◌&&◌, ◌||◌, not, Bool, true, false, List, Some}
+use Rattle.std.proofs.Common.{refl, sym, subst, ap, ◌∙◌, arith, drop}
+use Rattle.std.specs.Prelude.{if◌then◌else◌}
 use Rattle.yaml_base.specs.QuotedLines.{none}
-use Rattle.std.proofs.lemmas.Bool.{and_from, and_parts, cases_Bool, eq-eqb, eqb-true, false≢true, ne_eqb, or_cases}
+use Rattle.std.proofs.lemmas.Bool.{and_from, and_parts, false≢true, ne_eqb}
 use Rattle.yaml_base.specs.declared.event.ScalarStyle.{ScalarStyle}
 use Rattle.yaml_base.specs.declared.event.ScalarStyle.TheVariants as style
 use Rattle.yaml_direct.specs.Added.{AddsFlow, AddsScalar}
@@ -13,7 +13,6 @@ use Rattle.yaml_direct.specs.InBrackets.{IsBehindNames, IsFlowLeaf, IsOf, behind
 use Rattle.yaml_direct.specs.Leaves.{IsFound, IsLeaf, an_alias, in_quotes, is_open, plain_text, whole_alias, whole_quotes}
 use Rattle.yaml_direct.specs.Quoted.{AddsQuoted, HasKind, quote_of, quoted_from, style_of}
 use Rattle.yaml_direct.specs.declared.leaf.Leaf as code
-use Rattle.yaml_direct.specs.declared.leaf.LeafKind.{LeafKind}
 use Rattle.yaml_direct.specs.declared.leaf.LeafKind.TheVariants.{Alias, Open, Plain}
 use Rattle.yaml_direct.specs.declared.quote.Quote.{Quote}
 use Rattle.yaml_direct.specs.declared.quote.Quote.TheVariants.{Double, Single}
@@ -29,7 +28,7 @@ use Rattle.yaml_grammar.specs.Names.{Names, names_at}
 use Rattle.yaml_grammar.specs.Nodes.{scalar_at}
 use Rattle.yaml_grammar.specs.Plain.{Context, begins_plain, in_brackets, is_flow, plain_at}
 use Rattle.yaml_grammar.specs.Quotes.{double_rest, single_rest}
-use Rattle.yaml_reading.proofs.Begins.{Stays, stays, wanders}
+use Rattle.yaml_reading.proofs.Begins.{stays, wanders}
 
 -- the first byte of a plain text
 abbrev pub is_plain_first : ℕ → Bool

@@ -1,5 +1,5 @@
 -- What was read in brackets, put together.
-use Rattle.std.proofs.Common.{ℕ, zero, suc, ◌+◌, ◌-◌, ◌<◌, ◌≤◌, ◌≡◌, ◌≢◌, ◌⊎◌, ◌++◌, ◌∷◌, ◌==◌, ◌||◌, Bool, true, false}
+use Rattle.std.proofs.Common.{ℕ, zero, suc, ◌+◌, ◌-◌, ◌<◌, ◌≤◌, ◌≡◌, ◌≢◌, ◌⊎◌, ◌++◌, ◌∷◌, ◌==◌, Bool, true, false}
 use Rattle.std.proofs.Common.{List, [], Some, refl, sym, subst, ap, ap₂, ◌∙◌, arith, inl, inr, append_assoc, append-nil}
 use Rattle.std.proofs.Common.{codes, drop, length, not, take}
 use Rattle.std.specs.Prelude.{None, if◌then◌else◌, slice_range}
@@ -12,7 +12,7 @@ use Rattle.yaml_direct.specs.Added.{Adds, AddsLeaf, AddsScalar}
 use Rattle.yaml_direct.specs.Gaps.{InLine}
 use Rattle.yaml_direct.specs.Held.{IsUnnamed, names_of}
 use Rattle.yaml_direct.specs.InBrackets.{AreFlowEntries, AreFlowItems, AreFlowParts, Has, IsAlone, IsBehindNames}
-use Rattle.yaml_direct.specs.InBrackets.{IsBrackets, IsFlowElement, IsFlowEntry, IsFlowItem, IsFlowKey, IsFlowLeaf}
+use Rattle.yaml_direct.specs.InBrackets.{IsBrackets, IsFlowElement, IsFlowEntry, IsFlowItem, IsFlowLeaf}
 use Rattle.yaml_direct.specs.InBrackets.{IsFlowNode, IsFlowPart, IsFlowValue, IsOf, alone_events, behind_names, closing_of}
 use Rattle.yaml_direct.specs.InBrackets.{opens}
 use Rattle.yaml_direct.specs.InBrackets.{names_alone}
@@ -23,16 +23,17 @@ use Rattle.yaml_direct.specs.Leaves.{IsLeaf}
 use Rattle.yaml_direct.specs.declared.leaf.Leaf as code
 use Rattle.yaml_direct.specs.declared.leaf.LeafKind.TheVariants.{Plain}
 use Rattle.yaml_direct.specs.declared.reader.Reader.{Reader}
+use Rattle.yaml_direct.proofs.BracketOnly.{alone_only, pair_only, single_only, whole_only}
 use Rattle.yaml_grammar.specs.Brackets.{FlowEntry, FlowValue}
 use Rattle.yaml_grammar.specs.Brackets.{Brackets, FlowEntries, FlowItems, FlowNode, a_flow_entry, a_flow_item, a_flow_value}
 use Rattle.yaml_grammar.specs.Brackets.{a_pair, a_single, curly, flow_collection, flow_key_alone, flow_leaf, flow_names}
-use Rattle.yaml_grammar.specs.Brackets.{has_colon, key_and_value, no_flow_entry, no_flow_item, no_flow_value}
+use Rattle.yaml_grammar.specs.Brackets.{begins_collection, has_colon, key_and_value, no_flow_entry, no_flow_item, no_flow_value}
 use Rattle.yaml_grammar.specs.Brackets.{nothing_here, part_after, square, whole_entry}
 use Rattle.yaml_grammar.specs.Bytes.{at, is_one_of, is_text}
 use Rattle.yaml_grammar.specs.Gaps.{breaks, next}
 use Rattle.yaml_grammar.specs.Leaves.{leaf_at, leaf_node}
 use Rattle.yaml_grammar.specs.Names.{Names, names_at, unnamed}
-use Rattle.yaml_grammar.specs.Nodes.{Marked, Node, Nodes, mapping, mark, no_content, no_nodes, no_pairs, node, node_events}
+use Rattle.yaml_grammar.specs.Nodes.{Marked, Node, mapping, mark, no_content, no_nodes, no_pairs, node, node_events}
 use Rattle.yaml_grammar.specs.Nodes.{nodes_events, scalar_at, pair, pairs_events, sequence}
 use Rattle.yaml_grammar.specs.Plain.{Context, in_brackets}
 use Rattle.yaml_tape.specs.OnTape.{position_at}
@@ -234,6 +235,8 @@ entry_value text d i k j es xs colon (inl x) v =
       key = x.node;
       value = v.node;
       stands = whole_entry (key_and_value x.stands x.colon (subst (λ q. FlowValue text d q v.end v.node) there v.stands));
+      only = λ a m n y ends. whole_only text d d d i a v.end x.end m n x.node v.node x.stands x.colon
+          (subst (λ q. FlowValue text d q v.end v.node) there v.stands) y ends;
       there = v.there;
       events = ap₂ (λ a b. a ++ b) x.events v.events;
     }
@@ -261,7 +264,15 @@ pub part_alone : (text : List ℕ) (slot : Slot) (d i k : ℕ) (es : List Marked
     → at text k ≢ 58 → IsFlowPart text slot d i k (es ++ alone_events text slot k)
 part_alone text Item d i k es x other =
     subst (λ l. IsFlowItem text d i k l) (sym (append-nil es))
-    (record { end = x.end; node = x.node; stands = a_single x.stands; there = x.there; events = x.events })
+    (record {
+      end = x.end;
+      node = x.node;
+      stands = a_single x.stands;
+      only = λ j n y ends. single_only text d d i j x.end n x.node x.stands
+          (λ e. other (ap (at text) x.there ∙ e)) y ends;
+      there = x.there;
+      events = x.events;
+    })
 part_alone text Entry d i k es x other = inr (
   other,
   record {
@@ -269,6 +280,8 @@ part_alone text Entry d i k es x other = inr (
     key = x.node;
     value = nothing_here text (next text x.end);
     stands = whole_alone;
+    only = λ j m n y ends. alone_only text d d i j x.end m n x.node x.stands
+        (λ e. other (ap (at text) x.there ∙ e)) y ends;
     there = x.there;
     events = ap₂ (λ a b. a ++ b) x.events (ap (λ q. node_events (nothing_here text q)) x.there);
   },
@@ -437,11 +450,11 @@ leaf_read text old new d leaf of (names_alone names some early kind begins stops
 -- a pair as an item
 pub pair_has : (text : List ℕ) (old a b c new : Reader) (d i e k j : ℕ) (s : Spot) → d ≢ 0
     → marked_on a.tape ≡ marked_on old.tape ++ (mapping_start None None, mark text i) ∷ []
-    → NodeRead text a b (d - 1) i e → has_colon text i e ≡ true → k ≡ next text e
+    → begins_collection text i ≡ false → NodeRead text a b (d - 1) i e → has_colon text i e ≡ true → k ≡ next text e
     → Has b c (IsFlowValue text (d - 1) (next text (k + 1)) j) → c.text.now ≡ text → s.index ≡ j → s.late ≡ false
     → Adds c new mapping_end s → IsUnnamed new → Has old new (IsFlowItem text d i j)
-pair_has text old a b c new zero i e k j s some begun x colon there v same at_end end ended gone = absurd (some refl)
-pair_has text old a b c new (suc d) i e k j s some begun x colon there v same at_end end ended gone =
+pair_has text old a b c new zero i e k j s some begun none x colon there v same at_end end ended gone = absurd (some refl)
+pair_has text old a b c new (suc d) i e k j s some begun none x colon there v same at_end end ended gone =
     let x' : FlowNode text d i e x.node = subst (λ m. FlowNode text m i e x.node) (less_one d) x.stands in
     let place : next text (k + 1) ≡ next text (suc (next text e)) =
     ap (next text) (sym (one_more k)) ∙ ap (λ q. next text (suc q)) there in
@@ -454,7 +467,8 @@ pair_has text old a b c new (suc d) i e k j s some begun x colon there v same at
       what = record {
         end = v.what.end;
         node = n;
-        stands = a_pair (key_and_value x' colon v'');
+        stands = a_pair none (key_and_value x' colon v'');
+        only = λ a m y ends. pair_only text (suc d) d d i a v.what.end e m x.node v.what.node x' colon v'' y ends;
         there = v.what.there;
         events = refl;
       };

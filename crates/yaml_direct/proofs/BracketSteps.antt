@@ -1,13 +1,13 @@
 -- The steps of a reader in brackets.
-use Rattle.std.proofs.Common.{ℕ, suc, ◌+◌, ◌-◌, ◌<◌, ◌≤◌, ◌≡◌, ◌≢◌, ◌==◌, ◌||◌, Bool, true, false, List, Some}
+use Rattle.std.proofs.Common.{ℕ, ◌+◌, ◌-◌, ◌<◌, ◌≤◌, ◌≡◌, ◌≢◌, ◌==◌, ◌||◌, Bool, true, false, List, Some}
 use Rattle.std.proofs.Common.{refl, sym, subst, ap, ◌∙◌, arith, inl, inr, codes, drop, not, ◌++◌, append-nil}
-use Rattle.std.proofs.lemmas.Bool.{and_left, and_parts, eq-eqb, eqb-true, false≢true, ne_eqb, or_cases}
-use Rattle.std.specs.Prelude.{None, if◌then◌else◌, slice_range}
+use Rattle.std.proofs.lemmas.Bool.{and_left, eqb-true, false≢true, or_cases, or_parts}
+use Rattle.std.specs.Prelude.{nat_le, slice_range, length}
 use denote.Enum.Bare.{sameb}
 use Rattle.yaml_direct.specs.contracts.flow.Slot.{the_type}
 use Rattle.yaml_direct.specs.Gaps.{InLine}
-use Rattle.yaml_direct.specs.Held.{IsUnnamed, names_of}
-use Rattle.yaml_direct.specs.InBrackets.{Has, IsAlone, IsBehindNames, IsFlowElement, IsFlowItem, IsFlowPart, IsOf, alone_events, opens, quotes}
+use Rattle.yaml_direct.specs.Held.{names_of}
+use Rattle.yaml_direct.specs.InBrackets.{Has, IsBehindNames, IsFlowElement, IsFlowPart, IsOf, alone_events, opens, quotes}
 use Rattle.yaml_direct.specs.InBrackets.{IsFlowLeaf, behind_names, names_alone}
 use Rattle.yaml_direct.specs.Leaves.{is_open, whole_plain}
 use Rattle.yaml_direct.specs.declared.leaf.Leaf as code
@@ -26,7 +26,7 @@ use Rattle.yaml_direct.proofs.BracketReads.{element_alone, has_from, line_of, ne
 use Rattle.yaml_direct.proofs.LineLaws.{colon_by, line_on, next_line, no_dash, one_line}
 use Rattle.yaml_direct.proofs.NextLaws.{token_here}
 use Rattle.yaml_grammar.specs.Brackets.{has_colon, nothing_here}
-use Rattle.yaml_grammar.specs.Bytes.{at, is_one_of, is_text, parts_documents}
+use Rattle.yaml_grammar.specs.Bytes.{at, is_one_of, is_over, is_text, parts_documents}
 use Rattle.yaml_grammar.specs.Folding.{Rest}
 use Rattle.yaml_grammar.specs.Gaps.{before, breaks, gap, next}
 use Rattle.yaml_grammar.specs.Names.{Names, names_at}
@@ -78,8 +78,8 @@ element_has text slot old new d i k some other x = record {
 pub named_behind : (text : List ℕ) (old p g : Reader) (place end next' : ℕ) → IsOf text old → p.text.now ≡ old.text.now
     → names_at old.text.now true place ≡ Some (names_of p, end) → p.start ≡ old.start → g.start ≡ p.start
     → g.names ≡ p.names → old.start.index ≡ place → old.start.late ≡ false → IsAtNext p g end next' → g.line ≡ p.line
-    → InLine text place next' → end ≤ next' → IsBehindNames text true g next'
-named_behind text old p g place end next' of same names ps gs kept there early n line whole low =
+    → InLine text place end → IsBehindNames text true g next'
+named_behind text old p g place end next' of same names ps gs kept there early n line whole =
     let of_p : IsOf text p = record { same = same ∙ of.same; allowed = of.allowed } in
     let index : g.start.index ≡ place = ap (λ s. s.index) (gs ∙ ps) ∙ there in
     behind_some text true g end next'
@@ -87,7 +87,7 @@ named_behind text old p g place end next' of same names ps gs kept there early n
     ∙ ap (λ k. let r : Names = record { anchor = k.anchor; tag = k.tag } in Some (r, end)) (sym kept))
     (line_of text p g end next' of_p n line) (next_of text p g end next' of_p n)
     (ap (λ s. s.late) (gs ∙ ps) ∙ early)
-    (subst (λ i. InLine text i end) (sym index) (λ k a b. whole k a (omega (arith, b, low))))
+    (subst (λ i. InLine text i end) (sym index) whole)
 
 -- the `:` of a key
 pub key_colon : (text : List ℕ) (i e k : ℕ) → k ≡ next text e → at text k ≡ 58 → i ≤ k → k ≤ i + 1024 → InLine text i k
@@ -175,18 +175,22 @@ pub leaf_early : (text : List ℕ) (r : Reader) (leaf : code.Leaf) → IsFlowLea
 leaf_early text r leaf (behind_names place b l line) = b.early
 leaf_early text r leaf (names_alone names some early kind begins stops ends line) = early
 
+-- no documents are parted where none is over
+pub no_parts : (text : List ℕ) (i : ℕ) → is_over text i ≡ false → parts_documents text i ≡ false
+no_parts text i over = (or_parts (nat_le (length text) i) _ over).1
+
 -- plain text that begins here, as far as its first line goes
-pub first_line : (text : List ℕ) (r : Reader) (place e : ℕ) → IsOf text r → (begins parted : Bool)
+pub first_line : (text : List ℕ) (r : Reader) (place e : ℕ) → IsOf text r → (begins : Bool)
     → (begins ≡ true → code_bytes.stops_plain r.text.now true place ≡ false)
     → (begins ≡ true → at r.text.now place ≢ 32)
     → (is_text r.text.now ≡ true → parts_documents r.text.now place ≡ false
     → begins ≡ begins_plain r.text.now true place)
-    → (is_text r.text.now ≡ true → parted ≡ false → parts_documents r.text.now place ≡ false)
-    → begins ≡ true → parted ≡ false → PlainLine r.text.now true place e → IsFirstLine text true place e
-first_line text r place e of begins parted goes some same apart b p line =
+    → is_over text place ≡ false → begins ≡ true → PlainLine r.text.now true place e → IsFirstLine text true place e
+first_line text r place e of begins goes some same over b line =
     let h = of_allowed text r of in
+    let apart = ap (λ t. parts_documents t place) of.same ∙ no_parts text place over in
     record {
-      begins = ap (λ t. begins_plain t true place) (sym of.same) ∙ (sym (same h (apart h p)) ∙ b);
+      begins = ap (λ t. begins_plain t true place) (sym of.same) ∙ (sym (same h apart) ∙ b);
       goes = ap (λ t. code_bytes.stops_plain t true place) (sym of.same) ∙ goes b;
       some = λ e. some b (ap (λ t. at t place) of.same ∙ e);
       line = subst (λ t. PlainLine t true place e) of.same line;

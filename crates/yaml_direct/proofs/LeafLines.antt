@@ -1,9 +1,9 @@
 -- Quotes that are closed in their line, and names, stand in a line.
-use Rattle.std.proofs.Common.{ℕ, zero, suc, ◌+◌, ◌-◌, ◌<◌, ◌≤◌, ◌≡◌, ◌≢◌, ◌==◌, ◌&&◌, ◌||◌, not, Bool, true, false}
+use Rattle.std.proofs.Common.{ℕ, zero, suc, ◌+◌, ◌-◌, ◌<◌, ◌≡◌, ◌≢◌, ◌==◌, ◌&&◌, ◌||◌, Bool, true, false}
 use Rattle.std.proofs.Common.{List, [], ◌∷◌, Some, refl, sym, subst, ap, ◌∙◌, arith, inl, inr, drop}
-use Rattle.std.proofs.lemmas.Bool.{and_parts, cases_Bool, cases_eq, eq-eqb, eqb-true, false≢true, not-true, or_cases, or_parts}
+use Rattle.std.proofs.lemmas.Bool.{and_parts, eq-eqb, eqb-true, false≢true, not-true, or_cases, or_parts}
 use Rattle.std.proofs.lemmas.List.{get_or-drop}
-use Rattle.std.specs.Prelude.{if◌then◌else◌, nat_lt, Option, None}
+use Rattle.std.specs.Prelude.{if◌then◌else◌, nat_lt, None}
 use Rattle.yaml_direct.specs.Gaps.{InLine}
 use Rattle.yaml_direct.specs.InBrackets.{quotes}
 use Rattle.yaml_direct.specs.Quoted.{Closes, IsRun, closed, is_other, later, quote_of}
@@ -65,7 +65,7 @@ passed_by test x xs true e rest zero less = e
 passed_by test x xs true e rest (suc k) less = rest k (omega (arith, less))
 passed_by test x xs false e rest k less = absurd (omega (arith, less))
 
-passed : (test : ℕ → Bool) (xs : List ℕ) (k : ℕ) → k < count_while test xs → test (at xs k) ≡ true
+pub passed : (test : ℕ → Bool) (xs : List ℕ) (k : ℕ) → k < count_while test xs → test (at xs k) ≡ true
 passed test [] k less = absurd (omega (arith, less))
 passed test (x ∷ xs) k less = passed_by test x xs (test x) refl (λ j l. passed test xs j l) k less
 

@@ -1,14 +1,14 @@
 -- Where no line feed stands.
-use Rattle.std.proofs.Common.{ℕ, zero, suc, ◌+◌, ◌-◌, ◌<◌, ◌≤◌, ◌≡◌, ◌≢◌, ◌⊎◌, ◌==◌, ◌||◌, not, Bool, true, false, List, []}
+use Rattle.std.proofs.Common.{ℕ, zero, suc, ◌+◌, ◌-◌, ◌<◌, ◌≤◌, ◌≡◌, ◌≢◌, ◌==◌, ◌||◌, not, Bool, true, false, List, []}
 use Rattle.std.proofs.Common.{◌∷◌, length, refl, sym, subst, ap, ◌∙◌, arith, inl, inr, drop, take}
 use Rattle.std.proofs.lemmas.Bool.{and_left, and_right, cases_lt, eq-eqb, false≢true, le-leb, ne_eqb}
 use Rattle.std.proofs.lemmas.List.{drop_all, get_or-drop}
 use Rattle.std.specs.List.{list_any}
-use Rattle.std.specs.Prelude.{if◌then◌else◌, nat_eq, nat_le, slice_range}
+use Rattle.std.specs.Prelude.{if◌then◌else◌, nat_eq, nat_le}
 use Rattle.yaml_direct.specs.Bytes as code
 use Rattle.yaml_direct.specs.Gaps.{InLine}
 use Rattle.yaml_direct.specs.Lines.{PlainLine}
-use Rattle.yaml_direct.specs.Quoted.{Closes, ClosesInLine, IsRun, is_other, is_stop, quote_of}
+use Rattle.yaml_direct.specs.Quoted.{IsRun}
 use Rattle.yaml_direct.specs.declared.quote.Quote.{Quote}
 use Rattle.yaml_direct.specs.declared.quote.Quote.TheVariants.{Double, Single}
 use Rattle.yaml_direct.proofs.ColumnLaws.{column_on}

@@ -62,11 +62,13 @@ pub record IsFlowKey (text : List ℕ) (d i k : ℕ) (es : List Marked) : Type 0
   pub there : k ≡ next text end
   pub events : es ≡ node_events node
 
--- an item
+-- an item, and no other stands there behind which a part ends
 pub record IsFlowItem (text : List ℕ) (d i k : ℕ) (es : List Marked) : Type 0 where
   pub end : ℕ
   pub node : Node
   pub stands : FlowItem text d i end node
+  pub only : (j : ℕ) (n : Node) → FlowItem text d i j n → is_one_of (codes ",]}") (at text (next text j)) ≡ true
+      → j ≡ end
   pub there : k ≡ next text end
   pub events : es ≡ node_events node
 
@@ -78,12 +80,14 @@ pub record IsFlowValue (text : List ℕ) (d i k : ℕ) (es : List Marked) : Type
   pub there : k ≡ next text end
   pub events : es ≡ node_events node
 
--- an entry
+-- an entry, and no other stands there behind which a part ends
 pub record IsFlowEntry (text : List ℕ) (d i k : ℕ) (es : List Marked) : Type 0 where
   pub end : ℕ
   pub key : Node
   pub value : Node
   pub stands : FlowEntry text d i end key value
+  pub only : (j : ℕ) (m n : Node) → FlowEntry text d i j m n → is_one_of (codes ",]}") (at text (next text j)) ≡ true
+      → j ≡ end
   pub there : k ≡ next text end
   pub events : es ≡ node_events key ++ node_events value
 

@@ -2,9 +2,20 @@
 //! the place of the next token, which stands at the beginning of a later line or ends the text.
 #![tactic(auto, using(crate::proofs::Growing::grows_on, crate::proofs::Growing::grows_same))]
 
-ghost use Rattle.std.specs.Prelude.{◌≡◌, ◌≢◌, ◌+◌, ◌-◌, ◌<◌, ◌≤◌, IsTrue, length};
-ghost use Rattle.yaml_direct.specs.Places.{IsHere, Keeps, Reaches, no_place};
+ghost use Rattle.std.specs.Prelude.{◌≡◌, ◌≢◌, ◌+◌, ◌-◌, ◌<◌, ◌≤◌, ◌==◌, IsTrue, List, false, length, suc, true, ℕ};
+ghost use Rattle.yaml_direct.specs.Bytes.{at};
+ghost use Rattle.yaml_direct.specs.ByColumns.{AreEntriesBehind, BeginsColumns, BeginsWithKey, IsBehind, IsBlockNamed};
+ghost use Rattle.yaml_direct.specs.ByColumns.{IsBlockNode, Reads, Takes, room_of};
+ghost use Rattle.yaml_direct.specs.Held.{IsUnnamed};
+ghost use Rattle.yaml_direct.specs.InBrackets.{IsOf, opens, quotes};
 ghost use Rattle.yaml_direct.specs.Leaves.{IsPart};
+ghost use Rattle.yaml_direct.specs.Places.{IsHere, Keeps, Reaches, no_place};
+ghost use Rattle.yaml_direct.specs.Tokens.{IsCounted};
+ghost use Rattle.yaml_direct.specs.declared.block.Room.TheVariants as rooms;
+ghost use Rattle.yaml_grammar.specs.Blocks as grammar;
+ghost use Rattle.yaml_grammar.specs.Blocks.{is_own};
+ghost use Rattle.yaml_grammar.specs.Bytes.{column, is_mark, is_over, is_text};
+ghost use Rattle.yaml_reading.proofs.Begins.{wanders};
 
 use crate::byte::{at, is_gap, is_mark};
 use crate::gap::begins_token;
@@ -27,7 +38,9 @@ pub(crate) enum Room {
 
 impl Room {
     // The same in a later line.
-    fn later(self) -> Room {
+    fn later(self) -> Room
+        ensures { room_of result ≡ grammar.later (room_of self) }
+    {
         match self {
             Room::Value => Room::Part,
             room => room,
@@ -35,7 +48,9 @@ impl Room {
     }
 
     // Whether a sequence may stand in the column of the collection around it.
-    fn is_of_mapping(self) -> bool {
+    fn is_of_mapping(self) -> bool
+        ensures { result ≡ grammar.is_of_mapping (room_of self) }
+    {
         self != Room::Item
     }
 }
@@ -47,7 +62,12 @@ impl Reader<'_> {
     #[cycle(block)]
     pub(crate) fn part(&mut self, behind: usize, least: usize, room: Room, depth: usize) -> usize
         requires here { IsHere self.old behind }
+        requires near { least ≤ length self.old.text.now + 1 }
         ensures reached { Reaches self.old self.new behind result }
+        ensures found { (text : List ℕ) (c : ℕ) → IsOf text self.old → IsUnnamed self.old → least ≡ suc c
+            → (column text behind == 0) ≡ false → (room ≢ rooms.Value → IsCounted self.old behind)
+            → result ≢ no_place
+            → Reads self.old self.new result (IsBehind text depth c (room_of room) behind result) }
     {
         let text = self.text;
         if at(text, behind) == b' ' && begins_token(at(text, behind + 1)) {
@@ -61,7 +81,12 @@ impl Reader<'_> {
     #[cycle(block)]
     fn far_part(&mut self, behind: usize, least: usize, room: Room, depth: usize) -> usize
         requires here { IsHere self.old behind }
+        requires near { least ≤ length self.old.text.now + 1 }
         ensures reached { Reaches self.old self.new behind result }
+        ensures found { (text : List ℕ) (c : ℕ) → IsOf text self.old → IsUnnamed self.old → least ≡ suc c
+            → (column text behind == 0) ≡ false → (room ≢ rooms.Value → IsCounted self.old behind)
+            → result ≢ no_place
+            → Reads self.old self.new result (IsBehind text depth c (room_of room) behind result) }
     {
         self.begin(behind);
         let line = self.line;
@@ -82,7 +107,9 @@ impl Reader<'_> {
     // Whether a sequence stands here that is a part of a mapping, in the column of that, before `least`.
     pub(crate) fn is_own_sequence(&self, next: usize, least: usize, room: Room) -> bool
         requires { IsHere self.now next }
-        ensures { IsTrue result → next < length self.now.text.now }
+        ensures inside { IsTrue result → next < length self.now.text.now }
+        ensures same { is_text self.now.text.now ≡ true → IsCounted self.now next
+            → result ≡ is_own self.now.text.now (room_of room) least next }
     {
         room.is_of_mapping() && least > 0 && self.is_item(next, least - 1)
     }
@@ -91,7 +118,11 @@ impl Reader<'_> {
     #[cycle(block)]
     pub(crate) fn node(&mut self, place: usize, least: usize, room: Room, depth: usize) -> usize
         requires here { IsHere self.old place }
+        requires near { least ≤ length self.old.text.now + 1 }
         ensures reached { Reaches self.old self.new place result }
+        ensures found { (text : List ℕ) → IsOf text self.old → IsUnnamed self.old → is_over text place ≡ false
+            → (room ≢ rooms.Value → IsCounted self.old place) → result ≢ no_place
+            → Reads self.old self.new result (IsBlockNode text depth least (room_of room) place result) }
     {
         self.begin(place);
         let byte = at(self.text, place);
@@ -112,6 +143,10 @@ impl Reader<'_> {
         requires begun { self.old.start.index ≤ place }
         requires within { place < length self.old.text.now }
         ensures reached { Reaches self.old self.new place result }
+        ensures found { (text : List ℕ) (least : ℕ) → IsOf text self.old → IsUnnamed self.old
+            → self.old.start.late ≡ false → self.old.start.index ≡ place → is_mark text indicator place ≡ true
+            → is_over text place ≡ false → (room ≢ rooms.Value → IsCounted self.old place) → result ≢ no_place
+            → Reads self.old self.new result (IsBlockNode text depth least (room_of room) place result) }
     {
         if room == Room::Value {
             NO_PLACE
@@ -129,7 +164,12 @@ impl Reader<'_> {
     pub(crate) fn content(&mut self, place: usize, least: usize, room: Room, depth: usize) -> usize
         requires here { IsHere self.old place }
         requires begun { self.old.start.index ≤ place }
-        ensures reached { Reaches self.old self.new place result }
+        requires near { least ≤ length self.old.text.now + 1 }
+        ensures reached { Reaches self.old self.new self.old.start.index result }
+        ensures found { (text : List ℕ) (in_room : grammar.Room) → IsOf text self.old → Takes room in_room
+            → is_over text place ≡ false
+            → (wanders (at text place) ≡ false → IsBlockNamed text least room self.old place) → result ≢ no_place
+            → Reads self.old self.new result (IsBlockNode text depth least in_room self.old.start.index result) }
     {
         match at(self.text, place) {
             b'|' | b'>' => self.block_scalar(place, least),
@@ -145,7 +185,11 @@ impl Reader<'_> {
     fn plain_leaf(&mut self, place: usize, least: usize, room: Room, depth: usize) -> usize
         requires here { IsHere self.old place }
         requires begun { self.old.start.index ≤ place }
-        ensures reached { Reaches self.old self.new place result }
+        ensures reached { Reaches self.old self.new self.old.start.index result }
+        ensures found { (text : List ℕ) (in_room : grammar.Room) → IsOf text self.old → Takes room in_room
+            → is_over text place ≡ false
+            → (wanders (at text place) ≡ false → IsBlockNamed text least room self.old place) → result ≢ no_place
+            → Reads self.old self.new result (IsBlockNode text depth least in_room self.old.start.index result) }
     {
         let text = self.text;
         if !begins_plain(text, false, place) {
@@ -165,7 +209,11 @@ impl Reader<'_> {
         requires here { IsHere self.old place }
         requires begun { self.old.start.index ≤ place }
         requires within { place < length self.old.text.now }
-        ensures reached { Reaches self.old self.new place result }
+        ensures reached { Reaches self.old self.new self.old.start.index result }
+        ensures found { (text : List ℕ) (in_room : grammar.Room) → IsOf text self.old → Takes room in_room
+            → quotes (at text place) ≡ true
+            → IsBlockNamed text least room self.old place → result ≢ no_place
+            → Reads self.old self.new result (IsBlockNode text depth least in_room self.old.start.index result) }
     {
         let Some(leaf) = find_leaf(self.text, false, place) else {
             return NO_PLACE;
@@ -188,6 +236,9 @@ impl Reader<'_> {
         requires part { IsPart self.old.text.now self.old.start.index leaf }
         requires here { IsHere self.old leaf.end }
         ensures reached { Reaches self.old self.new leaf.end result }
+        ensures found { (text : List ℕ) (least : ℕ) (in_room : grammar.Room) → IsOf text self.old → Takes room in_room
+            → (room ≢ rooms.Value → BeginsWithKey text self.old leaf) → result ≢ no_place
+            → Reads self.old self.new result (IsBlockNode text depth least in_room self.old.start.index result) }
     {
         let colon = colon_behind(self.text, leaf.end);
         let start = self.start.index;
@@ -202,9 +253,10 @@ impl Reader<'_> {
 
     // Whether a mapping may begin here with a key whose `:` stands there.
     #[inline(always)]
-    fn begins_mapping(&self, start: usize, colon: usize, room: Room) -> bool
+    pub(crate) fn begins_mapping(&self, start: usize, colon: usize, room: Room) -> bool
         ensures line { IsTrue result → self.now.line_start ≤ start }
         ensures near { IsTrue result → colon ≤ start + 1024 }
+        ensures room { IsTrue result → room ≢ rooms.Value }
     {
         room != Room::Value
             && start >= self.line_start
@@ -219,43 +271,41 @@ impl Reader<'_> {
         requires within { colon < length self.old.text.now }
         requires column { column ≤ length self.old.text.now }
         ensures reached { Reaches self.old self.new colon result }
+        ensures found { (text : List ℕ) → IsOf text self.old → IsUnnamed self.old → at text colon ≡ 58
+            → result ≢ no_place
+            → Reads self.old self.new result (AreEntriesBehind text depth column colon result) }
     {
         let next = reach!(self.part(colon + 1, column + 1, Room::Value, depth));
         self.entries(next, column, first, depth)
     }
 
-    // A collection between brackets, or a mapping that begins with it as a key.
+    // A collection between brackets, or a mapping that begins with it as a key. Where it turns out to be that, its
+    // events are taken back, and the mapping is read from there.
     #[inline(never)]
     #[cycle(block)]
-    #[tactic(auto, using(crate::proofs::Growing::grows_on, crate::proofs::Growing::grows_inserted))]
     fn brackets(&mut self, place: usize, room: Room, depth: usize) -> usize
         requires here { IsHere self.old place }
         requires begun { self.old.start.index ≤ place }
         requires within { place < length self.old.text.now }
-        ensures reached { Reaches self.old self.new place result }
+        ensures reached { Reaches self.old self.new self.old.start.index result }
+        ensures found { (text : List ℕ) (least : ℕ) (in_room : grammar.Room) → IsOf text self.old → Takes room in_room
+            → opens (at text place) ≡ true
+            → IsBlockNamed text least room self.old place → result ≢ no_place
+            → Reads self.old self.new result (IsBlockNode text depth least in_room self.old.start.index result) }
     {
-        let start = self.start;
+        let start = self.start.index;
+        let line_start = self.line_start;
         let first = self.tape.entries.len();
         let end = reach!(self.flow(place, depth));
         let colon = colon_behind(self.text, end);
         if colon == NO_PLACE {
             return self.margin(end);
         }
-        if !self.begins_mapping(start.index, colon, room) || !self.has_depth(first, depth) {
+        if self.line_start != line_start || !self.begins_mapping(start, colon, room) {
             return NO_PLACE;
         }
-        if !self.insert_mapping(start, first) {
-            return NO_PLACE;
-        }
-        let column = start.index - self.line_start;
-        self.keyed_entries(colon, column, first, depth - 1)
-    }
-
-    // Whether so many collections can be open that one more is around all that were added behind so many events.
-    #[inline(always)]
-    fn has_depth(&self, first: usize, depth: usize) -> bool
-        ensures { IsTrue result → 0 < depth }
-    {
-        self.tape.entries.len().saturating_sub(first) / 2 < depth
+        self.take_back(first);
+        self.begin(start);
+        self.mapping(start, depth)
     }
 }

@@ -4,7 +4,7 @@ ghost use Rattle.std.specs.Prelude.{false, true, ◌≡◌, ◌≢◌, ◌+◌, 
 ghost use Rattle.yaml_direct.specs.Gaps.{InLine, IsLineEnd};
 ghost use Rattle.yaml_direct.specs.Bytes.{AreBlanks, at, is_bracket, is_gap};
 ghost use Rattle.yaml_direct.specs.PlainTexts.{is_tight};
-ghost use Rattle.yaml_grammar.specs.Bytes.{is_blank, is_mark, is_text, is_triple, parts, parts_documents};
+ghost use Rattle.yaml_grammar.specs.Bytes.{is_blank, is_mark, is_one_line, is_text, is_triple, parts};
 
 use memchr::memchr;
 
@@ -118,7 +118,8 @@ pub(crate) fn blanks_end(text: &[u8], from: usize) -> usize
 // Whether no line feed stands between two places.
 pub(crate) fn is_one_line(text: &[u8], from: usize, to: usize) -> bool
     requires { (from ≤ to) × (to ≤ length text.now) }
-    ensures { IsTrue result → InLine text.now from to }
+    ensures line { IsTrue result → InLine text.now from to }
+    ensures lines { result ≡ false → is_one_line text.now from to ≡ false }
 {
     match memchr(b'\n', &text[from..to]) {
         Some(_) => false,
@@ -162,25 +163,6 @@ pub(crate) fn line_end(text: &[u8], from: usize) -> usize
         Some(len) => from + len,
         None => text.len(),
     }
-}
-
-// Whether documents may be parted here. They are not where another byte of ASCII than a line feed stands before.
-#[inline(always)]
-pub(crate) fn may_part_documents(text: &[u8], place: usize) -> bool
-    requires { place ≤ length text.now }
-    ensures { is_text text.now ≡ true → result ≡ false → parts_documents text.now place ≡ false }
-{
-    if !parts_documents(text, place) {
-        return false;
-    }
-    if place == 0 {
-        return true;
-    }
-    let before = text[place - 1];
-    if before == b'\n' {
-        return true;
-    }
-    before >= 128
 }
 
 // Whether `:` stands here before a byte that is no gap.

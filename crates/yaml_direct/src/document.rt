@@ -1,7 +1,7 @@
 //! Documents, one after another.
 #![tactic(auto, using(crate::proofs::Growing::given_up))]
 
-ghost use Rattle.std.specs.Prelude.{◌≡◌, ◌≢◌, ◌≤◌, [], IfOk, IfSome, length};
+ghost use Rattle.std.specs.Prelude.{◌≡◌, ◌≢◌, ◌+◌, ◌<◌, ◌≤◌, [], IfOk, IfSome, List, false, length, true};
 
 use crate::byte::ends_document;
 use crate::place::NO_PLACE;
@@ -34,8 +34,15 @@ pub struct Documents<'a> {
 }
 
 impl<'a> Documents<'a> {
-    ghost use Rattle.yaml_direct.specs.Documents.{AddsDocument, AddsEnd, IsBegun, told_by};
+    ghost use Rattle.yaml_base.specs.Places.{has_order_mark};
+    ghost use Rattle.yaml_direct.specs.Documents.{AddsDocument, AddsEnd, EndsText, HasBegun, HasRead, IsBegun};
+    ghost use Rattle.yaml_direct.specs.Documents.{ReadsDocument, told_by};
+    ghost use Rattle.yaml_direct.specs.Held.{IsUnnamed};
     ghost use Rattle.yaml_direct.specs.Places.{IsHere, no_place};
+    ghost use Rattle.yaml_grammar.specs.Bytes.{is_text};
+    ghost use Rattle.yaml_grammar.specs.Documents.{ends_document};
+    ghost use Rattle.yaml_grammar.specs.Nodes.{Document};
+    ghost use Rattle.yaml_reading.specs.Refused.{NothingStands};
     ghost use Rattle.yaml_direct.specs.declared.document.Step.TheVariants as step;
     ghost use Rattle.yaml_tape.specs.Pushes.{marked_on};
 
@@ -43,6 +50,7 @@ impl<'a> Documents<'a> {
     pub fn new(alloc: Global, text: &'a [u8]) -> Result<Option<Documents<'a>>, AllocError>
         ensures text { IfOk result (λ o. IfSome o (λ d. d.reader.text.now ≡ text.now)) }
         ensures begun { IfOk result (λ o. IfSome o (λ d. IsBegun (told_by d))) }
+        ensures stands { is_text text.now ≡ true → IfOk result (λ o. IfSome o HasBegun) }
     {
         let from: usize = if has_order_mark(text) { 3 } else { 0 };
         let ascii = match characters_of(&text[from..]) {
@@ -63,6 +71,8 @@ impl<'a> Documents<'a> {
         requires empty { marked_on reader.tape ≡ [] }
         ensures text { IfOk result (λ o. IfSome o (λ d. d.reader.text.now ≡ reader.entry.text.now)) }
         ensures begun { IfOk result (λ o. IfSome o (λ d. IsBegun (told_by d))) }
+        ensures stands { is_text reader.entry.text.now ≡ true → IsUnnamed reader.entry → from ≡ 0
+            → reader.entry.line_start ≡ 0 → IfOk result (λ o. IfSome o HasBegun) }
     {
         let mut reader = reader;
         let next = reader.begin_stream(from);
@@ -80,12 +90,17 @@ impl<'a> Documents<'a> {
         }))
     }
 
-    /// Reads a document, or the end of the text, and adds its events.
+    /// Reads a document, or the end of the text, and adds its events. Of a text that has only characters of the grammar
+    /// each document stands in it behind those that were read, and at the end they are all.
     pub fn advance(&mut self) -> Result<Step, AllocError>
         ensures text { self.new.reader.text.now ≡ self.old.reader.text.now }
         ensures document { IfOk result (λ s. s ≡ step.Document → AddsDocument (told_by self.old) (told_by self.new)) }
         ensures end { IfOk result (λ s. s ≡ step.End → AddsEnd (told_by self.old) (told_by self.new)) }
         ensures elsewhere { IfOk result (λ s. s ≡ step.Elsewhere → told_by self.new ≡ told_by self.old) }
+        ensures stands { (ds : List Document) → HasRead self.old ds
+            → IfOk result (λ s. s ≡ step.Document → ReadsDocument self.old self.new ds) }
+        ensures whole { (ds : List Document) → HasRead self.old ds
+            → IfOk result (λ s. s ≡ step.End → EndsText self.old self.new ds) }
     {
         self.skip_ends();
         if self.next == NO_PLACE {
@@ -102,6 +117,8 @@ impl<'a> Documents<'a> {
         ensures text { self.new.reader.text.now ≡ self.old.reader.text.now }
         ensures step { IfOk result (λ s. s ≡ step.End) }
         ensures end { IfOk result (λ s. AddsEnd (told_by self.old) (told_by self.new)) }
+        ensures whole { (ds : List Document) → HasRead self.old ds → self.old.next ≡ length self.old.reader.text.now
+            → IfOk result (λ s. EndsText self.old self.new ds) }
     {
         let end = self.reader.end_stream();
         self.next = NO_PLACE;
@@ -118,6 +135,9 @@ impl<'a> Documents<'a> {
         ensures step { IfOk result (λ s. s ≢ step.End) }
         ensures document { IfOk result (λ s. s ≡ step.Document → AddsDocument (told_by self.old) (told_by self.new)) }
         ensures elsewhere { IfOk result (λ s. s ≡ step.Elsewhere → told_by self.new ≡ told_by self.old) }
+        ensures stands { (ds : List Document) → HasRead self.old ds → self.old.next ≢ length self.old.reader.text.now
+            → ends_document self.old.reader.text.now self.old.next ≡ false
+            → IfOk result (λ s. s ≡ step.Document → ReadsDocument self.old self.new ds) }
     {
         let count = self.reader.tape.entries.len();
         self.next = self.reader.document(self.next, !self.begun, self.ended);
@@ -133,21 +153,42 @@ impl<'a> Documents<'a> {
         Ok(Step::Elsewhere)
     }
 
-    // Steps over `...` behind a document.
+    // Steps over `...` behind a document. Where that can't be, nothing stands in the text.
     fn skip_ends(&mut self)
         ensures text { self.new.reader.text.now ≡ self.old.reader.text.now }
         ensures still { told_by self.new ≡ told_by self.old }
+        ensures read { (ds : List Document) → HasRead self.old ds → self.new.next ≢ no_place → HasRead self.new ds }
+        ensures content { (ds : List Document) → HasRead self.old ds → self.new.next ≢ no_place
+            → ends_document self.new.reader.text.now self.new.next ≡ false }
+        ensures left { (ds : List Document) → HasRead self.old ds → self.new.next ≡ no_place
+            → NothingStands self.old.reader.text.now }
     {
         'ends: while self.next == self.reader.line_start
             && ends_document(self.reader.text, self.next)
         {
-            self.next = if self.begun {
-                self.reader.margin(self.next + 3)
-            } else {
-                NO_PLACE
-            };
-            self.ended = true;
+            self.skip_end();
         }
+    }
+
+    // Steps over the `...` that stands here.
+    fn skip_end(&mut self)
+        requires within { self.old.next + 3 ≤ length self.old.reader.text.now }
+        ensures text { self.new.reader.text.now ≡ self.old.reader.text.now }
+        ensures tape { self.new.reader.tape ≡ self.old.reader.tape }
+        ensures further { self.old.next < self.new.next }
+        ensures read { (ds : List Document) → HasRead self.old ds
+            → ends_document self.old.reader.text.now self.old.next ≡ true → self.new.next ≢ no_place
+            → HasRead self.new ds }
+        ensures left { (ds : List Document) → HasRead self.old ds
+            → ends_document self.old.reader.text.now self.old.next ≡ true → self.new.next ≡ no_place
+            → NothingStands self.old.reader.text.now }
+    {
+        if self.begun {
+            self.next = self.reader.margin(self.next + 3);
+            self.ended = true;
+            return;
+        }
+        self.next = NO_PLACE;
     }
 
     /// The events that were read since the last such call, which are the documents' no more.

@@ -1,16 +1,24 @@
 //! Nodes within brackets.
 #![tactic(auto, using(crate::proofs::Growing::grows_on, crate::proofs::Growing::grows_same))]
 
-ghost use Rattle.std.specs.Prelude.{◌≡◌, ◌≢◌, ◌+◌, ◌++◌, ◌-◌, ◌<◌, ◌≤◌, ◌⊎◌, IsTrue, List, Some, false, length, true, ℕ};
+ghost use Rattle.std.specs.Prelude.{◌≡◌, ◌≢◌, ◌+◌, ◌++◌, ◌-◌, ◌<◌, ◌≤◌, ◌⊎◌, IsTrue, List, None, Some, false, length};
+ghost use Rattle.std.specs.Prelude.{true, ℕ};
 ghost use Rattle.yaml_direct.specs.Bytes.{at};
 ghost use Rattle.yaml_direct.specs.Held.{IsUnnamed, names_of};
 ghost use Rattle.yaml_direct.specs.InBrackets.{AreFlowParts, Has, IsBehindNames, IsBrackets, IsFlowElement, IsFlowPart};
 ghost use Rattle.yaml_direct.specs.InBrackets.{IsFlowValue, IsOf, alone_events, closing_of, opens};
+ghost use Rattle.yaml_direct.specs.Gaps.{begins_token};
+ghost use Rattle.yaml_direct.specs.LeftInBrackets.{HasNothing, LeavesPart, LeavesParts, LeavesValue};
 ghost use Rattle.yaml_direct.specs.Places.{IsHere, Keeps, Reaches, no_place};
+ghost use Rattle.yaml_direct.specs.Tokens.{IsAmidLine};
 ghost use Rattle.yaml_direct.specs.declared.flow.Slot.TheVariants as slots;
 ghost use Rattle.yaml_grammar.specs.Brackets.{part_after};
-ghost use Rattle.yaml_grammar.specs.Bytes.{is_text};
+ghost use Rattle.yaml_grammar.specs.Bytes.{is_over, is_text};
 ghost use Rattle.yaml_grammar.specs.Gaps.{next};
+ghost use Rattle.yaml_grammar.specs.Names.{Names};
+ghost use Rattle.yaml_grammar.specs.Nodes.{Marked};
+ghost use Rattle.yaml_reading.specs.BracketReader.{brackets_at};
+ghost use Rattle.yaml_reading.specs.Readers.{Read};
 ghost use Rattle.yaml_tape.specs.Pushes.{marked_on};
 
 use crate::byte::{at, is_one_line};
@@ -42,6 +50,10 @@ impl Reader<'_> {
         ensures found { (text : List ℕ) → IsOf text self.old → self.old.start.late ≡ false
             → opens (at text place) ≡ true → result ≢ no_place
             → Has self.old self.new (IsBrackets text depth self.old.start.index (names_of self.old) place result) }
+        ensures behind { result ≢ no_place → self.new.line_start < result }
+        ensures missed { (text : List ℕ) → IsOf text self.old → opens (at text place) ≡ true → result ≡ no_place
+            → self.new.starved ≡ false → (names : Names) (i : ℕ) (es : List Marked)
+            → ◌≡◌ {A = Read} (brackets_at text depth names i es place) None }
     {
         if depth == 0 {
             return NO_PLACE;
@@ -65,9 +77,12 @@ impl Reader<'_> {
         requires here { IsHere self.old from }
         ensures reached { Reaches self.old self.new from result }
         ensures inside { result ≢ no_place → result < length self.old.text.now }
-        ensures found { (text : List ℕ) → IsOf text self.old → IsUnnamed self.old
+        ensures found { (text : List ℕ) → IsOf text self.old → IsUnnamed self.old → IsAmidLine self.old from
             → closing ≡ closing_of slot → (slot ≢ slots.Value) → result ≢ no_place
             → Has self.old self.new (AreFlowParts text slot depth (next text from) result) }
+        ensures missed { (text : List ℕ) → IsOf text self.old → IsUnnamed self.old → IsAmidLine self.old from
+            → closing ≡ closing_of slot → (slot ≢ slots.Value) → result ≡ no_place → self.new.starved ≡ false
+            → LeavesParts text slot depth (next text from) }
     {
         let mut next = reach!(self.flow_gap(from));
         'parts: while at(self.text, next) != closing {
@@ -88,6 +103,12 @@ impl Reader<'_> {
         ensures names { self.new.names ≡ self.old.names }
         ensures found { is_text self.old.text.now ≡ true → result ≢ no_place
             → part_after self.old.text.now closing behind ≡ Some result }
+        ensures token { result ≢ no_place → (closing ≡ 93) ⊎ (closing ≡ 125)
+            → begins_token self.old.text.now result ≡ true }
+        ensures there { is_text self.old.text.now ≡ true → (closing ≡ 93) ⊎ (closing ≡ 125) → result ≢ no_place
+            → is_over self.old.text.now result ≡ false }
+        ensures missed { is_text self.old.text.now ≡ true → result ≡ no_place → (k : ℕ)
+            → part_after self.old.text.now closing behind ≡ Some k → HasNothing self.old.text.now k }
         ensures further { result ≢ no_place
             → ((result ≡ behind) × (at self.old.text.now result ≡ closing)) ⊎ (behind < result) }
     {
@@ -108,9 +129,12 @@ impl Reader<'_> {
         requires here { IsHere self.old place }
         ensures reached { Reaches self.old self.new place result }
         ensures inside { result ≢ no_place → result < length self.old.text.now }
-        ensures found { (text : List ℕ) → IsOf text self.old → IsUnnamed self.old → (slot ≢ slots.Value)
-            → result ≢ no_place
+        ensures found { (text : List ℕ) → IsOf text self.old → IsUnnamed self.old → is_over text place ≡ false
+            → (slot ≢ slots.Value) → result ≢ no_place
             → Has self.old self.new (IsFlowElement text slot depth place result) }
+        ensures missed { (text : List ℕ) → IsOf text self.old → IsUnnamed self.old → is_over text place ≡ false
+            → begins_token text place ≡ true → result ≡ no_place → self.new.starved ≡ false
+            → LeavesPart text slot depth place }
     {
         let next = reach!(self.flow_part(place, slot, depth));
         if slot != Slot::Entry {
@@ -128,8 +152,12 @@ impl Reader<'_> {
         requires here { IsHere self.old place }
         ensures reached { Reaches self.old self.new place result }
         ensures inside { result ≢ no_place → result < length self.old.text.now }
-        ensures found { (text : List ℕ) → IsOf text self.old → IsUnnamed self.old → result ≢ no_place
+        ensures found { (text : List ℕ) → IsOf text self.old → IsUnnamed self.old → is_over text place ≡ false
+            → result ≢ no_place
             → Has self.old self.new (IsFlowPart text slot depth place result) }
+        ensures missed { (text : List ℕ) → IsOf text self.old → IsUnnamed self.old → is_over text place ≡ false
+            → begins_token text place ≡ true → result ≡ no_place → self.new.starved ≡ false
+            → LeavesPart text slot depth place }
     {
         self.begin(place);
         match at(self.text, place) {
@@ -151,17 +179,17 @@ impl Reader<'_> {
         ensures found { (text : List ℕ) → IsOf text self.old → IsUnnamed self.old → self.old.start.late ≡ false
             → self.old.start.index ≡ place → result ≢ no_place
             → Has self.old self.new (IsFlowPart text slot depth place result) }
+        ensures missed { (text : List ℕ) → IsOf text self.old → IsUnnamed self.old → self.old.start.late ≡ false
+            → self.old.start.index ≡ place → (at text place ≡ 38) ⊎ (at text place ≡ 33) → result ≡ no_place
+            → self.new.starved ≡ false → LeavesPart text slot depth place }
     {
         let end = reach!(self.properties(place, true));
-        let line = self.line;
-        let next = reach!(self.flow_gap(end));
-        if self.line != line {
-            return NO_PLACE;
-        }
         if end == place {
             return NO_PLACE;
         }
-        if !is_one_line(self.text, place, next) {
+        let line = self.line;
+        let next = reach!(self.flow_gap(end));
+        if self.line != line {
             return NO_PLACE;
         }
         match at(self.text, next) {
@@ -184,6 +212,9 @@ impl Reader<'_> {
         ensures found { (text : List ℕ) → IsOf text self.old → IsBehindNames text true self.old place
             → opens (at text place) ≡ true → result ≢ no_place
             → Has self.old self.new (IsFlowPart text slot depth self.old.start.index result) }
+        ensures missed { (text : List ℕ) → IsOf text self.old → IsBehindNames text true self.old place
+            → opens (at text place) ≡ true → result ≡ no_place → self.new.starved ≡ false
+            → LeavesPart text slot depth self.old.start.index }
     {
         let start = self.start.index;
         let end = reach!(self.flow(place, depth));
@@ -215,6 +246,7 @@ impl Reader<'_> {
         ensures found { (text : List ℕ) → IsOf text self.old → IsUnnamed self.old → result ≢ no_place
             → (marked_on self.new.tape ≡ marked_on self.old.tape ++ alone_events text slot next)
             × IsUnnamed self.new }
+        ensures starved { result ≡ no_place → self.new.starved ≡ true }
     {
         if slot != Slot::Entry {
             return next;
@@ -229,8 +261,11 @@ impl Reader<'_> {
         requires here { IsHere self.old from }
         ensures reached { Reaches self.old self.new from result }
         ensures inside { result ≢ no_place → result < length self.old.text.now }
-        ensures found { (text : List ℕ) → IsOf text self.old → IsUnnamed self.old → result ≢ no_place
+        ensures found { (text : List ℕ) → IsOf text self.old → IsUnnamed self.old → IsAmidLine self.old from
+            → result ≢ no_place
             → Has self.old self.new (IsFlowValue text depth (next text from) result) }
+        ensures missed { (text : List ℕ) → IsOf text self.old → IsUnnamed self.old → IsAmidLine self.old from
+            → result ≡ no_place → self.new.starved ≡ false → LeavesValue text depth (next text from) }
     {
         let place = reach!(self.flow_gap(from));
         if matches!(at(self.text, place), b',' | b']' | b'}') {

@@ -4,17 +4,18 @@
 ghost use Rattle.std.specs.Prelude.{◌≡◌, ◌≢◌, ◌+◌, ◌-◌, ◌<◌, ◌≤◌, ◌⊎◌, List, false, length, true, ℕ};
 ghost use Rattle.yaml_direct.specs.Added.{AddsFlow};
 ghost use Rattle.yaml_direct.specs.Leaves.{IsPart};
+ghost use Rattle.yaml_direct.specs.LeftInBrackets.{IsOtherByte, LeavesItem, LeavesNode, LeavesPart};
 ghost use Rattle.yaml_direct.specs.Places.{IsHere, Keeps, Reaches, no_place};
 ghost use Rattle.yaml_direct.specs.Held.{IsUnnamed};
 ghost use Rattle.yaml_direct.specs.InBrackets.{Has, IsAlone, IsBehindNames, IsFlowItem, IsFlowLeaf, IsFlowPart, IsOf, quotes};
 ghost use Rattle.yaml_direct.specs.PlainTexts.{IsBrokenLine, IsFirstLine, LeavesFlow};
 ghost use Rattle.yaml_grammar.specs.Brackets.{has_colon};
-ghost use Rattle.yaml_grammar.specs.Bytes.{at, is_text};
+ghost use Rattle.yaml_grammar.specs.Bytes.{at, is_over, is_text};
 ghost use Rattle.yaml_grammar.specs.Gaps as gaps;
 ghost use Rattle.yaml_grammar.specs.Gaps.{breaks};
 ghost use Rattle.yaml_grammar.specs.Plain.{begins_plain};
 
-use crate::byte::{at, is_bracket, is_tight, may_part_documents};
+use crate::byte::{at, is_bracket, is_tight};
 use crate::flow::Slot;
 use crate::key::LONGEST_KEY;
 use crate::leaf::{Leaf, LeafKind, find_leaf};
@@ -34,14 +35,15 @@ impl Reader<'_> {
         ensures reached { Reaches self.old self.new place result }
         ensures inside { result ≢ no_place → result < length self.old.text.now }
         ensures found { (text : List ℕ) → IsOf text self.old
+            → is_over text place ≡ false
             → (begins_plain text true place ≡ true → IsBehindNames text true self.old place) → result ≢ no_place
             → Has self.old self.new (IsFlowPart text slot depth self.old.start.index result) }
+        ensures missed { (text : List ℕ) → IsOf text self.old → is_over text place ≡ false
+            → IsBehindNames text true self.old place → IsOtherByte text self.old.start.index place
+            → result ≡ no_place → self.new.starved ≡ false → LeavesPart text slot depth self.old.start.index }
     {
         let text = self.text;
         if !begins_plain(text, true, place) {
-            return NO_PLACE;
-        }
-        if may_part_documents(text, place) {
             return NO_PLACE;
         }
         let end = plain_end(text, true, place);
@@ -66,20 +68,20 @@ impl Reader<'_> {
         ensures found { (text : List ℕ) → IsOf text self.old → IsBehindNames text true self.old place
             → IsFirstLine text true place end → result ≢ no_place
             → Has self.old self.new (IsFlowPart text slot depth self.old.start.index result) }
+        ensures missed { (text : List ℕ) → IsOf text self.old → IsBehindNames text true self.old place
+            → IsFirstLine text true place end → self.old.line_start ≤ place → result ≡ no_place
+            → self.new.starved ≡ false → LeavesPart text slot depth self.old.start.index }
     {
         let text = self.text;
         let line = self.line;
         let next = reach!(self.flow_gap(end));
+        if self.line != line {
+            return self.flow_plain_lines(place, end, next, slot);
+        }
         if is_tight(text, next) {
             return NO_PLACE;
         }
-        if self.line == line {
-            return self.flow_entry(Leaf::plain(place, end), next, slot, depth);
-        }
-        if at(text, next) == b':' {
-            return NO_PLACE;
-        }
-        self.flow_plain_lines(place, end, next, slot)
+        self.flow_entry(Leaf::plain(place, end), next, slot, depth)
     }
 
     // Quotes or an alias within brackets, and what goes with it.
@@ -94,6 +96,9 @@ impl Reader<'_> {
         ensures found { (text : List ℕ) → IsOf text self.old → IsBehindNames text true self.old place
             → quotes (at text place) ≡ true → result ≢ no_place
             → Has self.old self.new (IsFlowPart text slot depth self.old.start.index result) }
+        ensures missed { (text : List ℕ) → IsOf text self.old → IsBehindNames text true self.old place
+            → quotes (at text place) ≡ true → result ≡ no_place → self.new.starved ≡ false
+            → LeavesPart text slot depth self.old.start.index }
     {
         let Some(leaf) = find_leaf(self.text, true, place) else {
             return NO_PLACE;
@@ -121,6 +126,8 @@ impl Reader<'_> {
         ensures found { (text : List ℕ) → IsOf text self.old → IsUnnamed self.old → result ≢ no_place
             → IsAlone text slot self.old self.new next result }
         ensures other { result ≢ no_place → at self.old.text.now next ≢ 58 }
+        ensures missed { result ≡ no_place → self.new.starved ≡ false
+            → (at self.old.text.now next ≡ 58) × (self.old.starved ≡ false) }
     {
         if at(self.text, next) == b':' {
             return NO_PLACE;
@@ -140,6 +147,9 @@ impl Reader<'_> {
         ensures found { (text : List ℕ) → IsOf text self.old → IsFlowLeaf text self.old leaf
             → next ≡ gaps.next text leaf.end → breaks text leaf.end ≡ false → result ≢ no_place
             → Has self.old self.new (IsFlowPart text slot depth self.old.start.index result) }
+        ensures missed { (text : List ℕ) → IsOf text self.old → IsFlowLeaf text self.old leaf
+            → next ≡ gaps.next text leaf.end → breaks text leaf.end ≡ false → result ≡ no_place
+            → self.new.starved ≡ false → LeavesPart text slot depth self.old.start.index }
     {
         if at(self.text, next) != b':' {
             reach!(self.push_leaf(leaf));
@@ -171,6 +181,10 @@ impl Reader<'_> {
             → has_colon text self.old.start.index leaf.end ≡ true → colon ≡ gaps.next text leaf.end
             → breaks text leaf.end ≡ false → result ≢ no_place
             → Has self.old self.new (IsFlowItem text depth self.old.start.index result) }
+        ensures missed { (text : List ℕ) → IsOf text self.old → IsFlowLeaf text self.old leaf
+            → has_colon text self.old.start.index leaf.end ≡ true → colon ≡ gaps.next text leaf.end
+            → breaks text leaf.end ≡ false → result ≡ no_place → self.new.starved ≡ false
+            → LeavesItem text depth self.old.start.index }
     {
         if depth == 0 {
             return NO_PLACE;
@@ -194,6 +208,9 @@ impl Reader<'_> {
         ensures found { (text : List ℕ) (depth : ℕ) → IsOf text self.old → IsBehindNames text true self.old from
             → IsBrokenLine text from first second → result ≢ no_place
             → Has self.old self.new (IsFlowPart text slot depth self.old.start.index result) }
+        ensures missed { (text : List ℕ) → IsOf text self.old → IsBehindNames text true self.old from
+            → IsBrokenLine text from first second → result ≡ no_place → self.new.starved ≡ false
+            → LeavesNode text self.old.start.index }
     {
         let next = reach!(self.push_flow_lines(from, first, second));
         self.flow_no_key(next, slot)

@@ -2,7 +2,7 @@
 #![tactic(auto, using(crate::proofs::Growing::grows_on, crate::proofs::Growing::grows_same))]
 
 ghost use Rattle.std.specs.Prelude.{◌≡◌, ◌==◌, not, ◌≢◌, ◌<◌, ◌≤◌, ◌⊎◌, IsTrue, false, length, true};
-ghost use Rattle.yaml_direct.specs.Gaps.{Between, is_apart};
+ghost use Rattle.yaml_direct.specs.Gaps.{Between, begins_token, is_apart};
 ghost use Rattle.yaml_direct.specs.Places.{IsHere, Keeps, Reaches, no_place};
 ghost use Rattle.yaml_direct.specs.Tokens.{HasNoToken, IsAmidLine, IsAtNext};
 ghost use Rattle.yaml_grammar.specs.Bytes.{is_over, is_text};
@@ -131,6 +131,7 @@ impl Reader<'_> {
         ensures still { self.new.tape ≡ self.old.tape }
         ensures names { self.new.names ≡ self.old.names }
         ensures inside { result ≢ no_place → result < length self.old.text.now }
+        ensures token { result ≢ no_place → begins_token self.old.text.now result ≡ true }
         ensures found { is_text self.old.text.now ≡ true → result ≢ no_place
             → IsAtNext self.old self.new from result }
         ensures there { is_text self.old.text.now ≡ true
@@ -159,6 +160,7 @@ impl Reader<'_> {
         ensures still { self.new.tape ≡ self.old.tape }
         ensures names { self.new.names ≡ self.old.names }
         ensures inside { result ≢ no_place → result < length self.old.text.now }
+        ensures token { result ≢ no_place → begins_token self.old.text.now result ≡ true }
         ensures found { is_text self.old.text.now ≡ true → result ≢ no_place
             → IsAtNext self.old self.new from result }
         ensures there { is_text self.old.text.now ≡ true

@@ -1,16 +1,22 @@
 //! Keys that stand in one line.
 #![tactic(auto, using(crate::proofs::Growing::grows_on, crate::proofs::Growing::grows_same))]
 
-ghost use Rattle.std.specs.Prelude.{false, true, ◌≡◌, ◌≢◌, ◌+◌, ◌-◌, ◌^◌, ◌<◌, ◌≤◌, ◌&&◌, not, length};
+ghost use Rattle.std.specs.Prelude.{false, true, ◌≡◌, ◌≢◌, ◌+◌, ◌-◌, ◌^◌, ◌<◌, ◌≤◌, ◌&&◌, not, length, ℕ, List, Some};
 ghost use Rattle.yaml_direct.specs.Added.{AddsPlainKey};
 ghost use Rattle.yaml_direct.specs.Bytes.{AreBlanks, at, is_gap, stops_plain};
+ghost use Rattle.yaml_direct.specs.Held.{IsUnnamed, names_of};
+ghost use Rattle.yaml_direct.specs.InBrackets.{Has, IsBehindNames, IsOf, opens};
+ghost use Rattle.yaml_direct.specs.Keys.{IsKey, begins_content};
+ghost use Rattle.yaml_direct.specs.LeftByColumns.{IsBehindBlanks, LeavesKey};
 ghost use Rattle.yaml_direct.specs.Places.{IsHere, Keeps, Reaches, no_place};
 ghost use Rattle.yaml_direct.specs.Tokens.{EndsKey};
-ghost use Rattle.yaml_grammar.specs.Bytes.{is_mark, is_text};
+ghost use Rattle.yaml_grammar.specs.Bytes.{is_mark, is_over, is_text, parts_documents};
 ghost use Rattle.yaml_grammar.specs.Gaps.{breaks, next};
+ghost use Rattle.yaml_grammar.specs.Names.{names_at};
+ghost use Rattle.yaml_grammar.specs.Plain.{begins_plain};
 
-use crate::byte::{at, is_mark, spaces_end};
-use crate::leaf::find_leaf;
+use crate::byte::{at, is_mark, is_one_line, spaces_end};
+use crate::leaf::{LeafKind, find_leaf};
 use crate::place::{NO_PLACE, reach};
 use crate::plain::{begins_plain, plain_end};
 use crate::reader::Reader;
@@ -47,6 +53,12 @@ impl Reader<'_> {
         requires begun { self.old.start.index ≤ place }
         ensures reached { Reaches self.old self.new place result }
         ensures inside { result ≢ no_place → result < length self.old.text.now }
+        ensures found { (text : List ℕ) → IsOf text self.old → IsUnnamed self.old → self.old.start.late ≡ false
+            → is_over text place ≡ false → result ≢ no_place
+            → Has self.old self.new (IsKey text depth place result) }
+        ensures missed { (text : List ℕ) → IsOf text self.old → IsUnnamed self.old → self.old.start.late ≡ false
+            → is_over text place ≡ false → at text place ≢ 32 → result ≡ no_place → self.new.starved ≡ false
+            → LeavesKey text depth place }
     {
         if begins_plain(self.text, false, place) {
             self.plain_key(place)
@@ -65,6 +77,12 @@ impl Reader<'_> {
         ensures reached { Reaches self.old self.new place result }
         ensures inside { result ≢ no_place → result < length self.old.text.now }
         ensures read { result ≢ no_place → AddsPlainKey self.old self.new place result }
+        ensures found { (text : List ℕ) (depth : ℕ) → IsOf text self.old → IsUnnamed self.old
+            → self.old.start.late ≡ false → begins_plain text false place ≡ true → result ≢ no_place
+            → Has self.old self.new (IsKey text depth place result) }
+        ensures missed { (text : List ℕ) (depth : ℕ) → IsOf text self.old → IsUnnamed self.old
+            → self.old.start.late ≡ false → begins_plain text false place ≡ true → result ≡ no_place
+            → self.new.starved ≡ false → LeavesKey text depth place }
     {
         let text = self.text;
         let end = plain_end(text, false, place);
@@ -84,6 +102,12 @@ impl Reader<'_> {
         requires within { colon < length self.old.text.now }
         ensures reached { Reaches self.old self.new from result }
         ensures inside { result ≢ no_place → result < length self.old.text.now }
+        ensures found { (text : List ℕ) (depth : ℕ) → IsOf text self.old → self.old.start.index ≡ from
+            → names_at text false from ≡ Some (names_of self.old, end) → from < end → self.old.start.late ≡ false
+            → EndsKey text end colon → result ≢ no_place → Has self.old self.new (IsKey text depth from result) }
+        ensures missed { (text : List ℕ) (depth : ℕ) → IsOf text self.old → self.old.start.index ≡ from
+            → names_at text false from ≡ Some (names_of self.old, end) → EndsKey text end colon → result ≡ no_place
+            → self.new.starved ≡ false → LeavesKey text depth from }
     {
         if colon > from + LONGEST_KEY {
             return NO_PLACE;
@@ -98,22 +122,49 @@ impl Reader<'_> {
         requires begun { self.old.start.index ≤ from }
         ensures reached { Reaches self.old self.new from result }
         ensures inside { result ≢ no_place → result < length self.old.text.now }
+        ensures found { (text : List ℕ) → IsOf text self.old → IsUnnamed self.old → self.old.start.index ≡ from
+            → self.old.start.late ≡ false → is_over text from ≡ false → result ≢ no_place
+            → Has self.old self.new (IsKey text depth from result) }
+        ensures missed { (text : List ℕ) → IsOf text self.old → IsUnnamed self.old → self.old.start.index ≡ from
+            → self.old.start.late ≡ false → is_over text from ≡ false → at text from ≢ 32 → result ≡ no_place
+            → self.new.starved ≡ false → LeavesKey text depth from }
     {
-        let mut place = from;
-        if matches!(at(self.text, place), b'&' | b'!') {
-            place = reach!(self.properties(place, false));
-            let colon = colon_behind(self.text, place);
-            if colon != NO_PLACE {
-                return self.empty_key(from, place, colon);
-            }
-            place = spaces_end(self.text, place);
+        if !matches!(at(self.text, from), b'&' | b'!') {
+            return self.content_key(from, from, depth);
         }
+        let end = reach!(self.properties(from, false));
+        let colon = colon_behind(self.text, end);
+        if colon != NO_PLACE {
+            return self.empty_key(from, end, colon);
+        }
+        let place = spaces_end(self.text, end);
+        self.content_key(from, place, depth)
+    }
+
+    // The content of a key, which begins here or behind its anchor and its tag.
+    fn content_key(&mut self, from: usize, place: usize, depth: usize) -> usize
+        requires here { IsHere self.old from }
+        requires begun { self.old.start.index ≤ from }
+        requires part { (from ≤ place) × (place ≤ length self.old.text.now) }
+        ensures reached { Reaches self.old self.new from result }
+        ensures inside { result ≢ no_place → result < length self.old.text.now }
+        ensures found { (text : List ℕ) → IsOf text self.old → self.old.start.index ≡ from
+            → (begins_content (at text place) ≡ true → IsBehindNames text false self.old place)
+            → parts_documents text place ≡ false → result ≢ no_place
+            → Has self.old self.new (IsKey text depth from result) }
+        ensures missed { (text : List ℕ) → IsOf text self.old → self.old.start.index ≡ from
+            → self.old.start.late ≡ false → IsBehindBlanks text self.old place → parts_documents text place ≡ false
+            → result ≡ no_place → self.new.starved ≡ false → LeavesKey text depth from }
+    {
         if matches!(at(self.text, place), b'[' | b'{') {
             return self.brackets_key(from, place, depth);
         }
         let Some(leaf) = find_leaf(self.text, false, place) else {
             return NO_PLACE;
         };
+        if let LeafKind::Open(_) = leaf.kind {
+            return NO_PLACE;
+        }
         let colon = reach!(colon_behind(self.text, leaf.end));
         if colon > from + LONGEST_KEY {
             return NO_PLACE;
@@ -126,15 +177,24 @@ impl Reader<'_> {
     #[inline(never)]
     fn brackets_key(&mut self, from: usize, place: usize, depth: usize) -> usize
         requires here { IsHere self.old from }
-        requires begun { self.old.start.index ≤ place }
+        requires begun { self.old.start.index ≤ from }
         requires part { from ≤ place }
         requires within { place < length self.old.text.now }
         ensures reached { Reaches self.old self.new from result }
         ensures inside { result ≢ no_place → result < length self.old.text.now }
+        ensures found { (text : List ℕ) → IsOf text self.old → self.old.start.index ≡ from
+            → IsBehindNames text false self.old place → opens (at text place) ≡ true → result ≢ no_place
+            → Has self.old self.new (IsKey text depth from result) }
+        ensures missed { (text : List ℕ) → IsOf text self.old → self.old.start.index ≡ from
+            → IsBehindNames text false self.old place → opens (at text place) ≡ true → result ≡ no_place
+            → self.new.starved ≡ false → LeavesKey text depth from }
     {
         let end = reach!(self.flow(place, depth));
         let colon = reach!(colon_behind(self.text, end));
-        if from < self.line_start || colon > from + LONGEST_KEY {
+        if colon > from + LONGEST_KEY {
+            return NO_PLACE;
+        }
+        if !is_one_line(self.text, from, colon) {
             return NO_PLACE;
         }
         colon

@@ -11,8 +11,9 @@ ghost use Rattle.yaml_direct.specs.Gaps.{InLine};
 ghost use Rattle.yaml_direct.specs.Held.{IsUnnamed, names_of};
 ghost use Rattle.yaml_direct.specs.InBrackets.{quotes};
 ghost use Rattle.yaml_direct.specs.Leaves.{IsAliasLeaf, IsFound, IsLeaf, IsPart, IsPlainLeaf, is_open};
+ghost use Rattle.yaml_direct.specs.LeftInBrackets.{IsLeftOpen};
 ghost use Rattle.yaml_direct.specs.Places.{IsHere, Keeps, Reaches, no_place};
-ghost use Rattle.yaml_direct.specs.Quoted.{AddsQuoted, IsQuotedLeaf};
+ghost use Rattle.yaml_direct.specs.Quoted.{AddsQuoted, IsQuotedLeaf, quote_of};
 ghost use Rattle.yaml_direct.specs.declared.quote.Quote.{Quote};
 ghost use Rattle.yaml_direct.specs.declared.quote.Quote.TheVariants.{Double, Single};
 ghost use Rattle.yaml_direct.specs.declared.leaf.LeafKind.TheVariants as kind;
@@ -75,6 +76,7 @@ fn find_quoted(text: &[u8], quote: Quote, from: usize) -> Leaf
     ensures part { IsPart text.now from result }
     ensures quoted { IsQuotedLeaf text.now quote from result }
     ensures line { at text.now from ≢ 10 → is_open result.kind ≡ false → InLine text.now from result.end }
+    ensures opened { is_open result.kind ≡ true → IsLeftOpen text.now quote (from + 1) result.stop }
 {
     let begin = from + 1;
     let first = run_end(text, quote, begin);
@@ -150,6 +152,8 @@ pub(crate) fn find_leaf(text: &[u8], flow: bool, from: usize) -> Option<Leaf>
         → (context : Context) → is_flow context ≡ flow → leaf_at text.now context from ≡ None }
     ensures line { is_text text.now ≡ true → quotes (at text.now from) ≡ true
         → IfSome result (λ leaf. is_open leaf.kind ≡ false → InLine text.now from leaf.end) }
+    ensures opened { (quote : Quote) → at text.now from ≡ quote_of quote → IfSome result (λ leaf.
+        is_open leaf.kind ≡ true → IsLeftOpen text.now quote (from + 1) leaf.stop) }
 {
     match at(text, from) {
         b'"' => Some(find_quoted(text, Quote::Double, from)),
@@ -222,6 +226,7 @@ impl<'a> Reader<'a> {
         ensures missed { (context : Context) (i : ℕ) → IsLeaf self.old.text.now context i leaf
             → result ≡ no_place → self.new.starved ≡ false
             → HasNoLeaf self.old.text.now context (names_of self.old) i }
+        ensures starved { leaf.kind ≡ kind.Plain → result ≡ no_place → self.new.starved ≡ true }
     {
         let end = leaf.end;
         match leaf.kind {

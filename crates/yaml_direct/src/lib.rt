@@ -3,7 +3,9 @@
 //! A text is read by recursive descent, a document at a time. A leaf is found before it is added, so that the mapping
 //! that it may be a key of begins first. What this parser does not read it leaves: it then answers
 //! [`Step::Elsewhere`], with the tape cut back to where that document began, and the text is for the scanner and the
-//! parser that read all of YAML and know its faults. It leaves
+//! parser that read all of YAML and know its faults. What is read of a whole text that has only characters of
+//! `yaml_grammar` are the documents that stand in it ([`parse`]: `stands`); of a text with a carriage return or U+FEFF
+//! nothing is said. It leaves
 //!
 //! - texts with a fault, whichever it is;
 //! - texts with a byte that is not allowed, that are not UTF-8, or of 4 GiB or more;
@@ -12,8 +14,7 @@
 //! - U+FEFF but at the head of the text;
 //! - tabs that part tokens, or that stand amid plain text;
 //! - `%TAG` and directives that it does not know;
-//! - collections between brackets as keys of pairs within `[ ]`, and as a mapping's first key where its anchor or its
-//!   tag stands in a line before, or where it has twice as many events as collections may still be open;
+//! - collections between brackets as keys of pairs within `[ ]`;
 //! - `? ` within brackets, and entries without a key;
 //! - more than 128 open collections, and a tag with `%00`;
 //! - a document without `---` behind `...`.
@@ -23,6 +24,7 @@ mod block;
 mod block_scalar;
 mod byte;
 mod collection;
+mod column;
 mod document;
 mod escape;
 mod flow;

@@ -1,15 +1,23 @@
 //! Nodes by columns with an anchor or a tag.
 #![tactic(auto, using(crate::proofs::Growing::grows_on, crate::proofs::Growing::grows_same))]
 
-ghost use Rattle.std.specs.Prelude.{◌≡◌, ◌≢◌, ◌≤◌, length};
-ghost use Rattle.yaml_direct.specs.Places.{IsHere, Reaches, no_place};
+ghost use Rattle.std.specs.Prelude.{◌≡◌, ◌≢◌, ◌+◌, ◌<◌, ◌≤◌, List, false, length, true, ℕ};
+ghost use Rattle.yaml_direct.specs.Bytes.{at};
+ghost use Rattle.yaml_direct.specs.ByColumns.{IsBelowNames, IsBlockNode, Reads, room_of};
+ghost use Rattle.yaml_direct.specs.Held.{IsUnnamed};
+ghost use Rattle.yaml_direct.specs.InBrackets.{IsOf, opens};
+ghost use Rattle.yaml_direct.specs.Places.{Grows, IsHere, Reaches, no_place};
+ghost use Rattle.yaml_direct.specs.Tokens.{IsCounted};
+ghost use Rattle.yaml_direct.specs.declared.block.Room.TheVariants as rooms;
+ghost use Rattle.yaml_grammar.specs.Blocks as grammar;
+ghost use Rattle.yaml_grammar.specs.Bytes.{is_over};
 
 use crate::block::Room;
 use crate::byte::{at, is_mark};
 use crate::key::colon_behind;
 use crate::leaf::{Leaf, find_leaf};
 use crate::place::{NO_PLACE, reach};
-use crate::reader::Reader;
+use crate::reader::{Reader, spot};
 
 impl Reader<'_> {
     // A node with an anchor or a tag.
@@ -17,10 +25,17 @@ impl Reader<'_> {
     #[cycle(block)]
     pub(crate) fn named(&mut self, place: usize, least: usize, room: Room, depth: usize) -> usize
         requires here { IsHere self.old place }
-        requires begun { self.old.start.index ≤ place }
+        requires begun { self.old.start.index ≡ place }
+        requires near { least ≤ length self.old.text.now + 1 }
         ensures reached { Reaches self.old self.new place result }
+        ensures found { (text : List ℕ) → IsOf text self.old → IsUnnamed self.old → self.old.start.late ≡ false
+            → is_over text place ≡ false → (room ≢ rooms.Value → IsCounted self.old place) → result ≢ no_place
+            → Reads self.old self.new result (IsBlockNode text depth least (room_of room) place result) }
     {
         let end = reach!(self.properties(place, false));
+        if end == place {
+            return NO_PLACE;
+        }
         if colon_behind(self.text, end) != NO_PLACE {
             return self.keyed(Leaf::plain(end, end), room, depth);
         }
@@ -43,7 +58,11 @@ impl Reader<'_> {
     fn named_below(&mut self, place: usize, least: usize, depth: usize) -> usize
         requires here { IsHere self.old place }
         requires begun { self.old.start.index ≤ place }
-        ensures reached { Reaches self.old self.new place result }
+        requires near { least ≤ length self.old.text.now + 1 }
+        ensures reached { Reaches self.old self.new self.old.start.index result }
+        ensures found { (text : List ℕ) (in_room : grammar.Room) → IsOf text self.old
+            → IsBelowNames text least self.old place → result ≢ no_place
+            → Reads self.old self.new result (IsBlockNode text depth least in_room self.old.start.index result) }
     {
         if is_mark(self.text, b'-', place) {
             return self.sequence(place, depth);
@@ -51,7 +70,53 @@ impl Reader<'_> {
         if self.begins_entry(place) {
             return self.mapping(place, depth);
         }
+        if matches!(at(self.text, place), b'[' | b'{') {
+            return self.brackets_below(place, depth);
+        }
         self.content(place, least, Room::Value, depth)
+    }
+
+    // A collection between brackets in such a line, or a mapping that begins with it as a key and has the names. Where
+    // it turns out to be one, the events are taken back, and the names and the mapping are read again.
+    #[inline(never)]
+    #[cycle(block)]
+    fn brackets_below(&mut self, place: usize, depth: usize) -> usize
+        requires here { IsHere self.old place }
+        requires begun { self.old.start.index ≤ place }
+        requires within { place < length self.old.text.now }
+        ensures reached { Reaches self.old self.new self.old.start.index result }
+        ensures found { (text : List ℕ) (least : ℕ) (in_room : grammar.Room) → IsOf text self.old
+            → opens (at text place) ≡ true → IsBelowNames text least self.old place → result ≢ no_place
+            → Reads self.old self.new result (IsBlockNode text depth least in_room self.old.start.index result) }
+    {
+        let start = self.start.index;
+        let line_start = self.line_start;
+        let first = self.tape.entries.len();
+        let end = reach!(self.flow(place, depth));
+        let colon = colon_behind(self.text, end);
+        if colon == NO_PLACE {
+            return self.margin(end);
+        }
+        if self.line_start != line_start || !self.begins_mapping(place, colon, Room::Part) {
+            return NO_PLACE;
+        }
+        self.take_back(first);
+        self.begin_above(start);
+        reach!(self.properties(start, false));
+        self.mapping(place, depth)
+    }
+
+    // A node begins here, which may be in an earlier line.
+    fn begin_above(&mut self, place: usize)
+        ensures text { self.new.text.now ≡ self.old.text.now }
+        ensures line { self.new.line_start ≡ self.old.line_start }
+        ensures start { self.new.start.index ≡ place }
+        ensures early { self.new.start.late ≡ false }
+        ensures still { self.new.tape ≡ self.old.tape }
+        ensures names { self.new.names ≡ self.old.names }
+        ensures grows { Grows self.old self.new }
+    {
+        self.start = spot(place);
     }
 
     // Whether a mapping begins here, with a key in its line or behind `?`.

@@ -9,7 +9,7 @@ ghost use Rattle.yaml_direct.specs.Places.{Grows, Keeps, no_place};
 ghost use Rattle.yaml_tape.specs.OnTape.{bound_event, is_bound, names_at};
 ghost use Rattle.yaml_base.specs.PlainEvent.{mapping_start};
 ghost use Rattle.yaml_base.specs.declared.event.ScalarStyle.TheVariants as plain_style;
-ghost use Rattle.yaml_tape.specs.Pushes.{Inserts, IsPiece, marked_on, piece_of};
+ghost use Rattle.yaml_tape.specs.Pushes.{IsPiece, marked_on, piece_of};
 
 use crate::place::NO_PLACE;
 use crate::reader::Reader;
@@ -267,23 +267,5 @@ impl Reader<'_> {
             return self.starve();
         }
         next
-    }
-
-    // Adds a mapping that begins here with the node that was added behind so many events, which keeps its anchor and
-    // its tag.
-    #[tactic(auto, using(crate::proofs::Growing::grows_same))]
-    pub(crate) fn insert_mapping(&mut self, start: Spot, count: usize) -> bool
-        requires begun { start.index ≤ length self.old.text.now }
-        ensures text { self.new.text.now ≡ self.old.text.now }
-        ensures line { self.new.line_start ≡ self.old.line_start }
-        ensures names { self.new.names ≡ self.old.names }
-        ensures starved { result ≡ false → self.new.starved ≡ true }
-        ensures inserted { result ≡ true
-            → Inserts self.old.tape self.new.tape count (mapping_start None None) start }
-        ensures kept { result ≡ false → Grows self.old self.new }
-    {
-        let there = self.tape.insert_mapping(count, start);
-        self.starved = self.starved || !there;
-        there
     }
 }

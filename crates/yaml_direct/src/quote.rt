@@ -4,6 +4,7 @@ ghost use Rattle.std.specs.Prelude.{◌≡◌, ◌≢◌, ◌+◌, ◌-◌, ◌<
 ghost use Rattle.memchr.specs.Find.{IsFirstByte};
 ghost use Rattle.std.specs.Option.{option_map};
 ghost use Rattle.yaml_direct.specs.Bytes.{at};
+ghost use Rattle.yaml_direct.specs.LeftInBrackets.{Passes};
 ghost use Rattle.yaml_direct.specs.Places.{no_place};
 ghost use Rattle.yaml_direct.specs.Quoted.{Closes, ClosesInLine, EndsRun, IsRun, UnquotesIf, is_other, is_stop};
 ghost use Rattle.yaml_direct.specs.Quoted.{is_end_blank, quote_of, quoted_from, style_of};
@@ -82,6 +83,9 @@ pub(crate) fn closing(text: &[u8], quote: Quote, from: usize) -> usize
     ensures forward { from ≤ result }
     ensures within { result ≤ length text.now }
     ensures closes { at text.now result ≡ quote_of quote → Closes text.now quote from result }
+    ensures passes { Passes text.now quote from result }
+    ensures ends { EndsRun text.now quote from → EndsRun text.now quote result }
+    ensures opened { is_other text.now quote result ≡ false }
 {
     let mut place = from;
     'runs: while stands_for_another(text, quote, place) {

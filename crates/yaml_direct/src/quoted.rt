@@ -151,6 +151,7 @@ impl<'a> Reader<'a> {
         ensures missed { is_text self.old.text.now ≡ true → result ≡ no_place → self.new.starved ≡ false
             → quoted_from self.old.text.now quote (from + 1) ≡ None }
         ensures behind { result ≢ no_place → from + 2 ≤ result }
+        ensures begun { result ≢ no_place → self.new.line_start < result }
     {
         let text = self.text;
         let mut value = Vec::new(self.alloc);

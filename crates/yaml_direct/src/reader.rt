@@ -5,6 +5,7 @@ ghost use Rattle.std.specs.Prelude.{◌≡◌, ◌≢◌, ◌+◌, ◌-◌, ◌<
 ghost use Rattle.std.specs.Option.{is_none};
 
 use crate::byte::{is_mark, parts_documents};
+use crate::column::reaches_column;
 use crate::place::NO_PLACE;
 use std::alloc::Global;
 use yaml_tape::{Names, Spot, Tape};
@@ -48,6 +49,8 @@ impl<'a> Reader<'a> {
     ghost use Rattle.yaml_grammar.specs.Bytes.{at, is_over, is_text};
     ghost use Rattle.yaml_grammar.specs.Gaps.{is_at, is_item, is_within};
     ghost use Rattle.std.specs.Prelude.{[], IfSome, take, true};
+    ghost use Rattle.yaml_grammar.specs.Nodes.{end_mark};
+    ghost use Rattle.yaml_tape.specs.OnTape.{position_at};
     ghost use Rattle.yaml_tape.specs.Pushes.{marked_on};
 
     // At the beginning of a text, whose first line begins in this place.
@@ -118,33 +121,15 @@ impl<'a> Reader<'a> {
         self.line_start = place;
     }
 
-    // Whether a line that ends the text has so many characters.
-    #[inline(never)]
-    fn reaches_column(&self, next: usize, column: usize) -> bool
-        requires { IsHere self.now next }
-    {
-        if self.ascii {
-            return column <= next - self.line_start;
-        }
-        let mut characters: usize = 0;
-        for byte in &self.text[self.line_start..next] {
-            if *byte & 0xC0 != 0x80 {
-                characters = characters.saturating_add(1);
-            }
-        }
-        column <= characters
-    }
-
     // The mark at which a collection in this column ends, before the next token. Where the text has ended in a line
     // without a line feed, that line counts as ended, unless the collection stands further in.
     #[inline(always)]
     pub(crate) fn end_spot(&self, next: usize, column: usize) -> Spot
-        requires { IsHere self.now next }
-        ensures { result.index ≡ next }
+        ensures index { result.index ≡ next }
+        ensures ended { position_at self.now.text.now result.index result.late
+            ≡ end_mark self.now.text.now column next }
     {
-        let late = next == self.text.len()
-            && next != self.line_start
-            && self.reaches_column(next, column);
+        let late = next == self.text.len() && reaches_column(self.text, column);
         Spot { index: next, late }
     }
 
@@ -211,7 +196,9 @@ impl<'a> Reader<'a> {
     pub(crate) fn take_back(&mut self, count: usize)
         ensures text { self.new.text.now ≡ self.old.text.now }
         ensures line { self.new.line_start ≡ self.old.line_start }
+        ensures names { self.new.names ≡ self.old.names }
         ensures events { marked_on self.new.tape ≡ take count (marked_on self.old.tape) }
+        ensures starved { self.new.starved ≡ self.old.starved }
     {
         self.tape.cut(count);
     }

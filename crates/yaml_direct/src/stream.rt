@@ -1,11 +1,22 @@
 //! A stream's start and end, and one document of it.
 #![tactic(auto, using(crate::proofs::Growing::grows_on, crate::proofs::Growing::grows_same))]
 
-ghost use Rattle.std.specs.Prelude.{◌≡◌, ◌≢◌, ◌<◌, ◌≤◌, IfSome, false, length};
-ghost use Rattle.yaml_base.specs.PlainEvent.{stream_start};
+ghost use Rattle.std.specs.Prelude.{◌≡◌, ◌≢◌, ◌++◌, ◌∷◌, ◌<◌, ◌≤◌, ◌⊎◌, [], IfSome, List, None, Some, false, length, true, ℕ};
+ghost use Rattle.yaml_base.specs.PlainEvent.{stream_end, stream_start};
 ghost use Rattle.yaml_direct.specs.Added.{Adds};
+ghost use Rattle.yaml_direct.specs.ByColumns.{Reads};
 ghost use Rattle.yaml_direct.specs.Documents.{AddsDocument, AddsEnd};
+ghost use Rattle.yaml_direct.specs.Held.{IsUnnamed};
+ghost use Rattle.yaml_direct.specs.LeftDocuments.{LeavesDirective};
+ghost use Rattle.yaml_direct.specs.InBrackets.{IsOf};
 ghost use Rattle.yaml_direct.specs.Places.{IsHere, Reaches, no_place};
+ghost use Rattle.yaml_direct.specs.Standing.{IsContent, IsContentAt, IsDirective, IsDocument, IsRoot};
+ghost use Rattle.yaml_direct.specs.Tokens.{HasNoToken, IsAmidLine, IsCounted};
+ghost use Rattle.yaml_grammar.specs.Bytes.{column, is_over, is_text};
+ghost use Rattle.yaml_grammar.specs.Documents as grammar;
+ghost use Rattle.yaml_grammar.specs.Documents.{Earlier, ends_document, none, takes_directive};
+ghost use Rattle.yaml_grammar.specs.Gaps.{next};
+ghost use Rattle.yaml_grammar.specs.Nodes.{end_mark};
 ghost use Rattle.yaml_tape.specs.Pushes.{marked_on};
 
 use crate::block::Room;
@@ -20,7 +31,9 @@ const NESTINGS: usize = 128;
 // The place behind a directive `%YAML 1.1` or `%YAML 1.2`, if one stands here.
 fn directive_end(text: &[u8], place: usize) -> Option<usize>
     requires { place < length text.now }
-    ensures { IfSome result (λ end. (place ≤ end) × (end ≤ length text.now)) }
+    ensures within { IfSome result (λ end. (place < end) × (end ≤ length text.now)) }
+    ensures read { column text.now place ≡ 0 → IfSome result (λ end. grammar.directive_end text.now place ≡ Some end) }
+    ensures missed { result ≡ None → grammar.directive_end text.now place ≡ None }
 {
     if !text[place..].starts_with(b"%YAML ") {
         return None;
@@ -42,6 +55,11 @@ impl Reader<'_> {
         requires { IsHere self.old from }
         ensures reached { Reaches self.old self.new from result }
         ensures begun { result ≢ no_place → Adds self.old self.new stream_start (record { index = 0; late = false }) }
+        ensures names { self.new.names ≡ self.old.names }
+        ensures first { is_text self.old.text.now ≡ true → result ≢ no_place → IsCounted self.old from
+            → (result ≡ next self.old.text.now from) × IsCounted self.new result }
+        ensures missed { is_text self.old.text.now ≡ true → result ≡ no_place → self.new.starved ≡ false
+            → HasNoToken self.old.text.now from }
     {
         reach!(self.push_bound(EntryKind::StreamStart, spot(0), from));
         self.gap(from)
@@ -51,6 +69,8 @@ impl Reader<'_> {
     pub(crate) fn end_stream(&mut self) -> usize
         ensures reached { Reaches self.old self.new (length self.old.text.now) result }
         ensures ended { result ≢ no_place → AddsEnd (marked_on self.old.tape) (marked_on self.new.tape) }
+        ensures last { result ≢ no_place → marked_on self.new.tape ≡ marked_on self.old.tape
+            ++ (stream_end, end_mark self.old.text.now 0 (length self.old.text.now)) ∷ [] }
     {
         let end = self.text.len();
         let mark = self.end_spot(end, 0);
@@ -64,6 +84,10 @@ impl Reader<'_> {
         requires { IsHere self.old place }
         ensures reached { Reaches self.old self.new place result }
         ensures added { result ≢ no_place → AddsDocument (marked_on self.old.tape) (marked_on self.new.tape) }
+        ensures found { (text : List ℕ) (earlier : Earlier) → IsOf text self.old → IsUnnamed self.old
+            → IsCounted self.old place → place < length text → ends_document text place ≡ false
+            → (bare ≡ true → earlier ≡ none) → (directed ≡ true → takes_directive earlier ≡ true)
+            → result ≢ no_place → Reads self.old self.new result (IsDocument text earlier place result) }
     {
         reach!(self.push_bound(EntryKind::DocumentStart, spot(place), place));
         let next = reach!(self.directed_content(place, bare, directed));
@@ -74,26 +98,48 @@ impl Reader<'_> {
     // What a document holds, behind its directive and its `---` if it has them.
     fn directed_content(&mut self, place: usize, bare: bool, directed: bool) -> usize
         requires { IsHere self.old place }
-        ensures { Reaches self.old self.new place result }
+        ensures reached { Reaches self.old self.new place result }
+        ensures found { (text : List ℕ) (earlier : Earlier) → IsOf text self.old → IsUnnamed self.old
+            → IsCounted self.old place → place < length text → ends_document text place ≡ false
+            → (bare ≡ true → earlier ≡ none) → (directed ≡ true → takes_directive earlier ≡ true)
+            → result ≢ no_place → Reads self.old self.new result (IsContent text earlier place result) }
     {
         let start = reach!(self.directives(place, directed));
-        let next = if start == self.line_start && begins_document(self.text, start) {
-            reach!(self.marked_content(start + 3))
-        } else if bare && start == place {
-            reach!(self.node(start, 0, Room::Item, NESTINGS))
-        } else {
-            NO_PLACE
-        };
-        if next == NO_PLACE || !self.is_over(next) {
+        let next = reach!(self.content_at(start, bare, place));
+        if !self.is_over(next) {
             return NO_PLACE;
         }
         next
     }
 
+    // What a document holds that begins at this place, from its `---` on, or from there on where it may be bare.
+    fn content_at(&mut self, start: usize, bare: bool, place: usize) -> usize
+        requires { IsHere self.old start }
+        ensures reached { Reaches self.old self.new start result }
+        ensures found { (text : List ℕ) → IsOf text self.old → IsUnnamed self.old → IsCounted self.old start
+            → place < length text → ends_document text place ≡ false → result ≢ no_place
+            → IsContentAt text bare place self.old self.new start result }
+    {
+        if start == self.line_start && begins_document(self.text, start) {
+            return self.marked_content(start + 3);
+        }
+        if bare && start == place {
+            return self.node(start, 0, Room::Item, NESTINGS);
+        }
+        NO_PLACE
+    }
+
     // Steps over a directive, if one stands here.
     fn directives(&mut self, place: usize, directed: bool) -> usize
         requires { IsHere self.old place }
-        ensures { Reaches self.old self.new place result }
+        ensures reached { Reaches self.old self.new place result }
+        ensures found { is_text self.old.text.now ≡ true → IsCounted self.old place → result ≢ no_place
+            → ((result ≡ place) × (self.new ≡ self.old))
+            ⊎ ((directed ≡ true) × IsDirective self.old self.new place result) }
+        ensures none { is_text self.old.text.now ≡ true → IsCounted self.old place → place < length self.old.text.now
+            → result ≡ place → grammar.directive_end self.old.text.now place ≡ None }
+        ensures missed { is_text self.old.text.now ≡ true → IsCounted self.old place → place < length self.old.text.now
+            → result ≡ no_place → LeavesDirective self.old.text.now directed place }
     {
         if at(self.text, place) != b'%' || place != self.line_start {
             return place;
@@ -107,7 +153,9 @@ impl Reader<'_> {
     // What stands behind `---`: in its line, in a later one, or nothing.
     fn marked_content(&mut self, behind: usize) -> usize
         requires { IsHere self.old behind }
-        ensures { Reaches self.old self.new behind result }
+        ensures reached { Reaches self.old self.new behind result }
+        ensures found { (text : List ℕ) → IsOf text self.old → IsUnnamed self.old → IsAmidLine self.old behind
+            → result ≢ no_place → Reads self.old self.new result (IsRoot text behind result) }
     {
         let line = self.line;
         let next = reach!(self.gap(behind));
@@ -115,11 +163,9 @@ impl Reader<'_> {
             self.start = self.end_spot(next, 0);
             return self.push_nothing(next, next);
         }
-        let room = if self.line == line {
-            Room::Value
-        } else {
-            Room::Item
-        };
-        self.node(next, 0, room, NESTINGS)
+        if self.line == line {
+            return self.node(next, 0, Room::Value, NESTINGS);
+        }
+        self.node(next, 0, Room::Item, NESTINGS)
     }
 }

@@ -159,11 +159,11 @@ brackets =
             (flow_collection refl refl
             (square refl
             (a_flow_item {j = 53} {k = 55}
-            (a_pair
+            (a_pair refl
             (key_and_value {k = 50} (flow_leaf refl refl refl refl) refl
             (a_flow_value (flow_leaf refl refl refl refl)))) refl
             (a_flow_item {j = 60} {k = 60}
-            (a_pair
+            (a_pair refl
             (key_and_value {k = 58} (flow_leaf refl refl refl refl) refl (no_flow_value refl))) refl
             (no_flow_item refl)))))))) refl
             (a_flow_entry {j = 81} {k = 83}

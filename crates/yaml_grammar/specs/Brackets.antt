@@ -1,7 +1,7 @@
 -- What stands in brackets. Each relation holds of a text, so many nestings that are left, the place where something
 -- begins and the one behind it, and what it is.
-use Rattle.std.specs.Prelude.{ℕ, suc, ◌+◌, ◌≡◌, Bool, true, false, ◌==◌, ◌&&◌, if◌then◌else◌, List, [], nat_le, nat_lt}
-use Rattle.std.specs.Prelude.{Option, Some, None, codes, slice_range}
+use Rattle.std.specs.Prelude.{ℕ, suc, ◌+◌, ◌≡◌, Bool, true, false, ◌==◌, ◌&&◌, ◌||◌, if◌then◌else◌, List, [], nat_le}
+use Rattle.std.specs.Prelude.{Option, Some, None, codes, nat_lt, slice_range}
 use Rattle.yaml_grammar.specs.Bytes.{at, is_one_line, is_one_of}
 use Rattle.yaml_grammar.specs.Gaps.{breaks, next}
 use Rattle.yaml_grammar.specs.Leaves.{Leaf, leaf_at, leaf_node}
@@ -21,6 +21,15 @@ abbrev pub has_colon : List ℕ → (i end : ℕ) → Bool
 has_colon text i end =
     let colon = next text end in
     at text colon == 58 && (is_one_line text i colon && nat_le colon (i + 1024))
+
+-- a bracket stands behind these names, if there are any, and opens a collection
+abbrev pub opens_behind : List ℕ → Option (Names × ℕ) → Bool
+opens_behind text None = false
+opens_behind text (Some named) = let c = at text (next text named.1) in c == 91 || c == 123
+
+-- a collection begins here, with its names or without
+abbrev pub begins_collection : List ℕ → ℕ → Bool
+begins_collection text i = opens_behind text (names_at text true i)
 
 -- no content stands here
 abbrev pub nothing_here : List ℕ → ℕ → Node
@@ -52,10 +61,10 @@ module _ (text : List ℕ) where
       a_flow_item : {d i j k e : ℕ} {n : Node} {ns : Nodes} → FlowItem d i j n
           → part_after text 93 (next text j) ≡ Some k → FlowItems d k e ns → FlowItems d i e (node n ns)
 
-    -- an item: a node, or a pair, which is a mapping
+    -- an item: a node, or a pair whose key is no collection, which is a mapping
     pub data FlowItem : (nestings i j : ℕ) → Node → Type 0 where
       a_single : {d i j : ℕ} {n : Node} → FlowNode d i j n → FlowItem d i j n
-      a_pair : {d i j : ℕ} {m n : Node} → FlowPair d i j m n
+      a_pair : {d i j : ℕ} {m n : Node} → begins_collection text i ≡ false → FlowPair d i j m n
           → FlowItem (suc d) i j (mapping (mark text i) unnamed (pair m n no_pairs) (mark text (next text j)))
 
     -- a key in a line, `:`, and its value

@@ -1,5 +1,5 @@
 -- What stands in brackets is read.
-use Rattle.std.proofs.Common.{◌≡◌, ◌≢◌, ℕ, zero, suc, ◌+◌, ◌≤◌, ◌==◌, Bool, true, false, List}
+use Rattle.std.proofs.Common.{◌≡◌, ◌≢◌, ℕ, zero, suc, ◌+◌, ◌≤◌, ◌==◌, ◌&&◌, not, Bool, true, false, List}
 use Rattle.std.proofs.Common.{◌++◌, length, Option, Some, None, refl, sym, ap, ◌∙◌, arith, codes, inl, inr}
 use Rattle.std.proofs.Common.{append_assoc, append-nil, ne_eqb}
 use Rattle.std.specs.Prelude.{if◌then◌else◌, option_and_then}
@@ -7,7 +7,8 @@ use Rattle.std.proofs.lemmas.Bool.{false≢true, and_left, eqb-true, eq-eqb, fal
 use Rattle.yaml_base.specs.PlainEvent.{mapping_end, mapping_start, sequence_end, sequence_start}
 use Rattle.yaml_grammar.specs.Brackets.{Brackets, FlowEntries, FlowEntry, FlowItem, FlowItems, FlowNode, FlowPair}
 use Rattle.yaml_grammar.specs.Brackets.{FlowValue, a_flow_entry, a_flow_item, a_flow_value, a_pair, a_single, curly}
-use Rattle.yaml_grammar.specs.Brackets.{flow_collection, flow_key_alone, flow_leaf, flow_names, has_colon}
+use Rattle.yaml_grammar.specs.Brackets.{begins_collection, flow_collection, flow_key_alone, flow_leaf, flow_names}
+use Rattle.yaml_grammar.specs.Brackets.{has_colon}
 use Rattle.yaml_grammar.specs.Brackets.{key_and_value, no_flow_entry, no_flow_item, no_flow_value}
 use Rattle.yaml_grammar.specs.Brackets.{part_after, square, whole_entry}
 use Rattle.yaml_grammar.specs.Bytes.{at, is_one_of}
@@ -39,6 +40,14 @@ no_open c e o = elim (or_cases (c == 91) (c == 123) o) [
   | inl h ↦ false≢true (sym (ap (is_one_of (codes ",]}:")) (eqb-true c 91 h)) ∙ e)
   | inr h ↦ false≢true (sym (ap (is_one_of (codes ",]}:")) (eqb-true c 123 h)) ∙ e)
 ]
+
+-- an item is the key of a pair, or none
+no_key : (x y : Bool) → y ≡ false → (not x && y) ≡ false
+no_key true y e = refl
+no_key false y e = e
+
+a_key : (x y : Bool) → x ≡ false → y ≡ true → (not x && y) ≡ true
+a_key x y e f = rw (e, f) refl
 
 module _ (text : List ℕ) where
   leaf_opens : (q : ℕ) (r : Leaf × ℕ) → leaf_at text in_brackets q ≡ Some r → opens (at text q) ≡ false
@@ -158,12 +167,12 @@ module _ (text : List ℕ) where
         → (es : List Marked) → items_within text m es i ≡ Some (and_node es n, j)
     item_of (a_single {i = i} {j = j} {n = n} x) colon m le es =
         item_is text (flow_at text (brackets_at text m)) (pair_item_at text m) es i _ (flow_of x m le es)
-        ∙ ap (item_step (pair_item_at text m) es i (and_node es n) j) colon
-    item_of (a_pair p) colon zero le es = absurd (omega (arith, le))
-    item_of (a_pair (key_and_value {i = i} {k = k} {j = j} {m = y} {n = n} x c v)) colon (suc m) le es =
+        ∙ ap (item_step (pair_item_at text m) es i (and_node es n) j) (no_key (begins_collection text i) _ colon)
+    item_of (a_pair none p) colon zero le es = absurd (omega (arith, le))
+    item_of (a_pair none (key_and_value {i = i} {k = k} {j = j} {m = y} {n = n} x c v)) colon (suc m) le es =
         item_is text (flow_at text (brackets_at text (suc m))) (pair_item_at text (suc m)) es i _
         (flow_of x (suc m) (omega (arith, le)) es)
-        ∙ ap (item_step (pair_item_at text (suc m)) es i (and_node es y) k) c
+        ∙ ap (item_step (pair_item_at text (suc m)) es i (and_node es y) k) (a_key (begins_collection text i) _ none c)
         ∙ pair_item_is text m es i
         ∙ ap (pair_ended text) (pair_of (key_and_value x c v) m (omega (arith, le)) (pair_begun text es i))
         ∙ ap (λ l. Some (l, j))

@@ -83,7 +83,7 @@ module _ (text : List ℕ) where
 
     pub item_forward : {d i j : ℕ} {n : Node} → FlowItem text d i j n → i ≤ j
     item_forward (a_single n) = flow_forward n
-    item_forward (a_pair p) = pair_forward p
+    item_forward (a_pair b p) = pair_forward p
 
     pub pair_forward : {d i j : ℕ} {m n : Node} → FlowPair text d i j m n → i ≤ j
     pair_forward (key_and_value {k = k} m c n) =
@@ -147,7 +147,7 @@ module _ (text : List ℕ) where
 
   pub item_not : {d i j : ℕ} {n : Node} (c : ℕ) → ends_part c ≡ true → FlowItem text d i j n → at text i ≢ c
   item_not c w (a_single n) = flow_not c w n
-  item_not c w (a_pair p) = pair_not c w p
+  item_not c w (a_pair b p) = pair_not c w p
 
   pub entry_not : {d i j : ℕ} {m n : Node} (c : ℕ) → ends_part c ≡ true → FlowEntry text d i j m n → at text i ≢ c
   entry_not c w (whole_entry p) = pair_not c w p

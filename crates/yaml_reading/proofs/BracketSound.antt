@@ -1,12 +1,13 @@
 -- What is read in brackets stands there.
-use Rattle.std.proofs.Common.{◌≡◌, ℕ, zero, suc, ◌==◌, Bool, true, false, List, ◌++◌, length, Option}
+use Rattle.std.proofs.Common.{◌≡◌, ℕ, zero, suc, ◌==◌, not, Bool, true, false, List, ◌++◌, length, Option}
 use Rattle.std.proofs.Common.{Some, None, refl, sym, ap, ◌∙◌, subst, codes, append_assoc, append-nil}
 use Rattle.std.specs.Prelude.{nat_lt}
-use Rattle.std.proofs.lemmas.Bool.{eqb-true}
+use Rattle.std.proofs.lemmas.Bool.{and_parts, eqb-true, not-true}
 use Rattle.yaml_base.specs.PlainEvent.{mapping_end, mapping_start, sequence_end, sequence_start}
 use Rattle.yaml_grammar.specs.Brackets.{Brackets, FlowEntries, FlowEntry, FlowItem, FlowItems, FlowNode, FlowPair}
 use Rattle.yaml_grammar.specs.Brackets.{FlowValue, a_flow_entry, a_flow_item, a_flow_value, a_pair, a_single, curly}
-use Rattle.yaml_grammar.specs.Brackets.{flow_collection, flow_key_alone, flow_leaf, flow_names, has_colon}
+use Rattle.yaml_grammar.specs.Brackets.{begins_collection, flow_collection, flow_key_alone, flow_leaf, flow_names}
+use Rattle.yaml_grammar.specs.Brackets.{has_colon}
 use Rattle.yaml_grammar.specs.Brackets.{key_and_value, no_flow_entry, no_flow_item, no_flow_value, nothing_here}
 use Rattle.yaml_grammar.specs.Brackets.{part_after, square, whole_entry}
 use Rattle.yaml_grammar.specs.Bytes.{at, is_one_of}
@@ -17,7 +18,7 @@ use Rattle.yaml_grammar.specs.Nodes.{Marked, Node, Nodes, Pairs, mapping, mark, 
 use Rattle.yaml_grammar.specs.Nodes.{nodes_events, pair, pairs_events, sequence}
 use Rattle.yaml_grammar.specs.Plain.{in_brackets}
 use Rattle.yaml_reading.specs.BracketReader.{brackets_at, brackets_step, closed_by, entry_step, flow_at}
-use Rattle.yaml_reading.specs.BracketReader.{flow_step, item_step, names_step, pair_at, pair_begun}
+use Rattle.yaml_reading.specs.BracketReader.{flow_step, is_pair, item_step, names_step, pair_at, pair_begun}
 use Rattle.yaml_reading.specs.BracketReader.{pair_item_at, pair_step, parts_at, parts_step, value_at, value_step}
 use Rattle.yaml_reading.specs.Readers.{Reader, alone, and_event, and_node, no_more, with_leaf}
 use Rattle.yaml_reading.proofs.BracketSteps.{between, brackets_are, entries_within, entry_is, flow_behind_is, flow_is}
@@ -106,6 +107,12 @@ module _ (text : List ℕ) where
   abbrev ItemSound : (d : ℕ) → Reader → Type 0
   ItemSound d read =
       (es : List Marked) (i : ℕ) (es' : List Marked) (j : ℕ) → read es i ≡ Some (es', j) → IsItem d i j es es'
+
+  -- the same where no collection begins
+  abbrev PairSound : (d : ℕ) → Reader → Type 0
+  PairSound d read =
+      (es : List Marked) (i : ℕ) (es' : List Marked) (j : ℕ) → begins_collection text i ≡ false
+      → read es i ≡ Some (es', j) → IsItem d i j es es'
 
   names_by : (d : ℕ) (es : List Marked) (i : ℕ) (names : Names) (p : ℕ) (es' : List Marked) (j : ℕ) (x : Bool)
       → names_at text true i ≡ Some (names, p) → nat_lt i p ≡ x → breaks text p ≡ false
@@ -201,11 +208,12 @@ module _ (text : List ℕ) where
       (sym (entry_is text (flow_at text (brackets_at text d)) es i _ refl) ∙ h) in
       entry_by d sound es i t.0.1 t.0.0 es' j _ (sound es i t.0.0 t.0.1 t.1) refl t.2
 
-  item_by : (d : ℕ) → ItemSound d (pair_item_at text d) → (es : List Marked) (i k : ℕ) (ks es' : List Marked) (j : ℕ)
-      (x : Bool) → IsFlow d i k es ks → item_step (pair_item_at text d) es i ks k x ≡ Some (es', j)
-      → IsItem d i j es es'
-  item_by d pairs es i k ks es' j true key h = pairs es i es' j h
-  item_by d pairs es i k ks es' j false key h =
+  item_by : (d : ℕ) → PairSound d (pair_item_at text d) → (es : List Marked) (i k : ℕ) (ks es' : List Marked) (j : ℕ)
+      (x : Bool) → IsFlow d i k es ks → is_pair text i k ≡ x
+      → item_step (pair_item_at text d) es i ks k x ≡ Some (es', j) → IsItem d i j es es'
+  item_by d pairs es i k ks es' j true key is h =
+      pairs es i es' j (not-true (begins_collection text i) (and_parts (not (begins_collection text i)) _ is).0) h
+  item_by d pairs es i k ks es' j false key is h =
       let q = pair_is ks es' k j h in
       record {
         n = key.n;
@@ -213,14 +221,14 @@ module _ (text : List ℕ) where
         said = sym q.0 ∙ key.said;
       }
 
-  item_sound : (d : ℕ) → FlowSound d → ItemSound d (pair_item_at text d) → ItemSound d (items_within text d)
+  item_sound : (d : ℕ) → FlowSound d → PairSound d (pair_item_at text d) → ItemSound d (items_within text d)
   item_sound d sound pairs es i es' j h =
       let t = then_some (flow_at text (brackets_at text d) es i) _ (es', j)
       (sym (item_is text (flow_at text (brackets_at text d)) (pair_item_at text d) es i _ refl) ∙ h) in
-      item_by d pairs es i t.0.1 t.0.0 es' j _ (sound es i t.0.0 t.0.1 t.1) t.2
+      item_by d pairs es i t.0.1 t.0.0 es' j _ (sound es i t.0.0 t.0.1 t.1) refl t.2
 
-  pair_item_sound : (d : ℕ) → FlowSound d → ItemSound (suc d) (pair_item_at text (suc d))
-  pair_item_sound d sound es i es' j h =
+  pair_item_sound : (d : ℕ) → FlowSound d → PairSound (suc d) (pair_item_at text (suc d))
+  pair_item_sound d sound es i es' j none h =
       let t = map_some (pair_at text (flow_at text (brackets_at text d)) (pair_begun text es i) i) _ (es', j)
       (sym (pair_item_is text d es i) ∙ h) in
       let p = pair_sound d sound (pair_begun text es i) i t.0.0 t.0.1 t.1 in
@@ -230,7 +238,7 @@ module _ (text : List ℕ) where
         n = mapping (mark text i) unnamed (pair p.y p.n no_pairs) (mark text (next text t.0.1));
         stands = subst (λ j. FlowItem text (suc d) i j
             (mapping (mark text i) unnamed (pair p.y p.n no_pairs) (mark text (next text t.0.1)))) q.1
-            (a_pair p.stands);
+            (a_pair none p.stands);
         said = sym q.0 ∙ ap (λ l. and_event l end) p.said
             ∙ one_pair es (node_events p.y) (node_events p.n) (mapping_start None None, mark text i) end;
       }
@@ -347,7 +355,7 @@ module _ (text : List ℕ) where
       curly_by d sound names i es k es' j (eqb-true (at text k) 123 f) h
   brackets_by d sound items names i es k es' j false false e f h = absurd (no_some (es', j) h)
 
-  brackets_behind : (d : ℕ) → FlowSound d → ItemSound d (pair_item_at text d) → BracketsSound (suc d)
+  brackets_behind : (d : ℕ) → FlowSound d → PairSound d (pair_item_at text d) → BracketsSound (suc d)
   brackets_behind d sound pairs names i es k es' j h =
       brackets_by d sound (item_sound d sound pairs) names i es k es' j _ _ refl refl
       (sym (brackets_are text d names i es k _ _ refl refl) ∙ h)
@@ -357,6 +365,6 @@ module _ (text : List ℕ) where
     brackets_sound zero = λ names i es k es' j h. absurd (no_some (es', j) (sym (no_brackets text names i es k) ∙ h))
     brackets_sound (suc d) = brackets_behind d (flow_sound d (brackets_sound d)) (pairs_within_sound d)
 
-    pairs_within_sound : (d : ℕ) → ItemSound d (pair_item_at text d)
-    pairs_within_sound zero = λ es i es' j h. absurd (no_some (es', j) (sym (no_pair_item text es i) ∙ h))
+    pairs_within_sound : (d : ℕ) → PairSound d (pair_item_at text d)
+    pairs_within_sound zero = λ es i es' j none h. absurd (no_some (es', j) (sym (no_pair_item text es i) ∙ h))
     pairs_within_sound (suc d) = pair_item_sound d (flow_sound d (brackets_sound d))

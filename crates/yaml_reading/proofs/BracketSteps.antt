@@ -8,7 +8,7 @@ use Rattle.yaml_grammar.specs.Gaps.{breaks, next}
 use Rattle.yaml_grammar.specs.Names.{Names, names_at}
 use Rattle.yaml_grammar.specs.Nodes.{Marked}
 use Rattle.yaml_reading.specs.BracketReader.{brackets_at, brackets_step, entry_at, entry_step, flow_at, flow_behind}
-use Rattle.yaml_reading.specs.BracketReader.{flow_step, item_at, item_step, pair_at, pair_begun, pair_ended}
+use Rattle.yaml_reading.specs.BracketReader.{flow_step, is_pair, item_at, item_step, pair_at, pair_begun, pair_ended}
 use Rattle.yaml_reading.specs.BracketReader.{pair_item_at, pair_step, parts_at, parts_step, value_at, value_step}
 use Rattle.yaml_reading.specs.Readers.{Collections, Read, Reader, and_then, no_more, opens}
 
@@ -44,9 +44,9 @@ unfolding entry_at
 entry_is text flow es i r h = ap (λ r. and_then r (λ ks k. entry_step text flow ks k (has_colon text i k))) h
 
 pub item_is : (text : List ℕ) (flow pair : Reader) (es : List Marked) (i : ℕ) (r : Read) → flow es i ≡ r
-    → item_at text flow pair es i ≡ and_then r (λ ks k. item_step pair es i ks k (has_colon text i k))
+    → item_at text flow pair es i ≡ and_then r (λ ks k. item_step pair es i ks k (is_pair text i k))
 unfolding item_at
-item_is text flow pair es i r h = ap (λ r. and_then r (λ ks k. item_step pair es i ks k (has_colon text i k))) h
+item_is text flow pair es i r h = ap (λ r. and_then r (λ ks k. item_step pair es i ks k (is_pair text i k))) h
 
 -- the parts behind the next one
 abbrev pub more_parts : List ℕ → (close : ℕ) → (part : Reader) → (turns : ℕ) → Reader

@@ -85,6 +85,7 @@ nothing_stands_in_these_either = record {
   a_comment_behind_a_bracket = nothing_stands _ refl;
   a_comment_behind_a_header = nothing_stands _ refl;
   a_dash_in_brackets = nothing_stands _ refl;
+  a_collection_as_a_pairs_key = nothing_stands _ refl;
   names_in_an_earlier_line = nothing_stands _ refl;
   a_tag_with_a_mark = nothing_stands _ refl;
   too_many_open = nothing_stands _ refl;

@@ -1,8 +1,8 @@
 -- A reader of what stands in brackets.
-use Rattle.std.specs.Prelude.{ℕ, zero, suc, Bool, true, false, ◌==◌, List, length, Some}
+use Rattle.std.specs.Prelude.{ℕ, zero, suc, Bool, true, false, not, ◌==◌, ◌&&◌, List, length, Some}
 use Rattle.std.specs.Prelude.{None, codes, nat_lt, option_and_then, option_map}
 use Rattle.yaml_base.specs.PlainEvent.{PlainEvent, mapping_end, mapping_start, sequence_end, sequence_start}
-use Rattle.yaml_grammar.specs.Brackets.{has_colon, nothing_here, part_after}
+use Rattle.yaml_grammar.specs.Brackets.{begins_collection, has_colon, nothing_here, part_after}
 use Rattle.yaml_grammar.specs.Bytes.{at, is_one_of}
 use Rattle.yaml_grammar.specs.Gaps.{breaks, next}
 use Rattle.yaml_grammar.specs.Leaves.{leaf_at}
@@ -63,13 +63,17 @@ entry_step text flow es k false = Some (and_node es (nothing_here text (next tex
 unfoldable pub entry_at : List ℕ → Reader → Reader
 entry_at text flow es i = and_then (flow es i) (λ ks k. entry_step text flow ks k (has_colon text i k))
 
--- an item that was read as a node, or is a pair where `:` stands behind it
-abbrev pub item_step : Reader → List Marked → (i : ℕ) → List Marked → (k : ℕ) → (colon : Bool) → Read
+-- an item that begins here and ends in a place is the key of a pair: no collection, and `:` stands behind it
+abbrev pub is_pair : List ℕ → (i k : ℕ) → Bool
+is_pair text i k = not (begins_collection text i) && has_colon text i k
+
+-- an item that was read as a node, or is a pair whose key that is
+abbrev pub item_step : Reader → List Marked → (i : ℕ) → List Marked → (k : ℕ) → (key : Bool) → Read
 item_step pair es i ks k true = pair es i
 item_step pair es i ks k false = Some (ks, k)
 
 unfoldable pub item_at : List ℕ → (flow pair : Reader) → Reader
-item_at text flow pair es i = and_then (flow es i) (λ ks k. item_step pair es i ks k (has_colon text i k))
+item_at text flow pair es i = and_then (flow es i) (λ ks k. item_step pair es i ks k (is_pair text i k))
 
 -- a pair as a mapping of its own
 abbrev pub pair_begun : List ℕ → List Marked → (i : ℕ) → List Marked

@@ -88,6 +88,8 @@ pub record NothingStandsInTheseEither : Type 0 where
   pub a_comment_behind_a_header : NothingStands (codes "|#b\n a\n")
   -- `-` alone in brackets
   pub a_dash_in_brackets : NothingStands (codes "[-]\n")
+  -- a pair in brackets whose key is a collection
+  pub a_collection_as_a_pairs_key : NothingStands (codes "[[a]: b]\n")
   -- in brackets, names in a line before their node
   pub names_in_an_earlier_line : NothingStands (codes "[&a\n b]\n")
   -- a tag with `!` in its text

@@ -1,6 +1,9 @@
 -- By the first byte.
-use Rattle.std.proofs.Common.{◌≡◌, ◌+◌, ◌∙◌, None, arith, false, subst, sym}
-use Rattle.yaml_direct.specs.Leaves.{an_alias, in_quotes, plain_text}
+use Rattle.std.proofs.Common.{◌≡◌, ◌+◌, ◌∙◌, None, arith, false, refl, subst, sym, true}
+use Rattle.yaml_direct.specs.Leaves.{an_alias, in_quotes, is_open, plain_text}
+use Rattle.yaml_direct.specs.LeftInBrackets.{IsLeftOpen}
+use Rattle.yaml_direct.specs.Quoted.{quote_of}
+use Rattle.yaml_direct.specs.declared.quote.Quote.{Quote}
 use Rattle.yaml_direct.specs.declared.quote.Quote.TheVariants.{Double, Single}
 use Rattle.yaml_direct.proofs.AddedLeaves.{no_plain, no_star_at}
 use Rattle.yaml_direct.proofs.LeafKinds.{if_some}
@@ -57,6 +60,48 @@ pub returns-in-42-clause-line : goal.returns-in-42-clause-line
 returns-in-42-clause-line c =
     let byte = sym c.at.ensures.value ∙ c.in-42.is in
     λ h q. if_some c.find_alias.result (λ leaf line closed. line) (c.find_alias.ensures.line h (λ e. omega (arith, e, byte)))
+
+pub returns-in-42-clause-opened : goal.returns-in-42-clause-opened
+returns-in-42-clause-opened c =
+    let byte = sym c.at.ensures.value ∙ c.in-42.is in
+    λ quote q. absurd (no_quote quote (sym byte ∙ q))
+  where
+    no_quote : (quote : Quote) → 42 ≡ quote_of quote → ⊥
+    no_quote Single e = omega (arith, e)
+    no_quote Double e = omega (arith, e)
+
+pub returns-in-34-clause-opened : goal.returns-in-34-clause-opened
+returns-in-34-clause-opened c =
+    let byte = sym c.at.ensures.value ∙ c.in-34.is in
+    let leaf = c.find_quoted.result in
+    λ quote q. subst (λ x. is_open leaf.kind ≡ true → IsLeftOpen c.args.text.now x (c.args.from + 1) leaf.stop)
+    (same_quote quote (sym byte ∙ q)) c.find_quoted.ensures.opened
+  where
+    same_quote : (quote : Quote) → 34 ≡ quote_of quote → Double ≡ quote
+    same_quote Double e = refl
+    same_quote Single e = absurd (omega (arith, e))
+
+pub returns-in-39-clause-opened : goal.returns-in-39-clause-opened
+returns-in-39-clause-opened c =
+    let byte = sym c.at.ensures.value ∙ c.in-39.is in
+    let leaf = c.find_quoted-in-39.result in
+    λ quote q. subst (λ x. is_open leaf.kind ≡ true → IsLeftOpen c.args.text.now x (c.args.from + 1) leaf.stop)
+    (same_quote quote (sym byte ∙ q)) c.find_quoted-in-39.ensures.opened
+  where
+    same_quote : (quote : Quote) → 39 ≡ quote_of quote → Single ≡ quote
+    same_quote Single e = refl
+    same_quote Double e = absurd (omega (arith, e))
+
+pub returns-in_default-clause-opened : goal.returns-in_default-clause-opened
+returns-in_default-clause-opened c =
+    let single : c.at.result ≡ 39 → ⊥ = grind (arith, c.in_default) in
+    let double : c.at.result ≡ 34 → ⊥ = grind (arith, c.in_default) in
+    λ quote q. absurd (no_quote quote (λ e. single (c.at.ensures.value ∙ e)) (λ e. double (c.at.ensures.value ∙ e)) q)
+  where
+    no_quote : (quote : Quote) → (at c.args.text.now c.args.from ≡ 39 → ⊥) → (at c.args.text.now c.args.from ≡ 34 → ⊥)
+        → at c.args.text.now c.args.from ≡ quote_of quote → ⊥
+    no_quote Single single double e = single e
+    no_quote Double single double e = double e
 
 pub returns-in_default-clause-line : goal.returns-in_default-clause-line
 returns-in_default-clause-line c =

@@ -1,38 +1,28 @@
--- Nothing was read, behind the directives or what follows them.
-use Rattle.std.proofs.Common.{refl, subst, sym, ◌∙◌}
-use Rattle.yaml_direct.specs.Places.{Reaches, no_place}
-use Rattle.yaml_direct.specs.declared.reader.Reader.{Reader}
-use Rattle.yaml_direct.proofs.Growing.{grows_on}
+-- Behind a directive, or without.
+use Rattle.std.proofs.Common.{ap, sym, ◌∙◌}
+use Rattle.yaml_direct.proofs.BracketReads.{of_allowed, of_kept}
+use Rattle.yaml_direct.proofs.CountedLaws.{counted_lined}
+use Rattle.yaml_direct.proofs.StandReads.{content_counted, directed_counted, directed_has, directed_unnamed}
 use Rattle.yaml_direct.proofs.reader.Reader.directed_content.Goals as goal
-use Rattle.yaml_direct.proofs.reader.Reader.directed_content.Goals.{
-  then-start-self+then-begins_document+else-place-2,
-  else-start-self+then-bare+then-start-place+else-place-3,
-  else-start-self+else-bare,
-}
+use Rattle.yaml_grammar.specs.Bytes.{is_over}
 
-pub returns-then-next : goal.returns-then-next
-returns-then-next c =
-    let self = c.args.self.now in
-    let mid = c.directives-place.new.self in
+pub returns-clause-found : goal.returns-clause-found
+returns-clause-found c = λ text earlier of none counted inside content bare directed some.
+    let old = c.args.self.now in
+    let m = c.directives-place.new.self in
+    let new = c.content_at-place.new.self in
     let first = c.directives-place.ensures in
-    elim c.if-start-self.branch [
-      | then-start-self+then-begins_document+else-place-2 w ↦
-          subst (λ (r : Reader). Reaches self r c.args.place no_place) (sym w.self-is) (
-            w.marked_content-place.ensures.0 ∙ first.0,
-            (
-              grows_on self mid w.marked_content-place.new.self first.1.0 w.marked_content-place.ensures.1.0,
-              λ some. absurd (some refl),
-            ),
-          )
-      | else-start-self+then-bare+then-start-place+else-place-3 w ↦
-          subst (λ (r : Reader). Reaches self r c.args.place no_place) (sym w.self-is) (
-            w.node-place.ensures.reached.0 ∙ first.0,
-            (
-              grows_on self mid w.node-place.new.self first.1.0 w.node-place.ensures.reached.1.0,
-              λ some. absurd (some refl),
-            ),
-          )
-      | else-start-self+else-bare w ↦
-          subst (λ (r : Reader). Reaches self r c.args.place no_place) (sym w.self-is)
-          (first.0, (first.1.0, λ some. absurd (some refl)))
-    ]
+    let then = c.content_at-place.ensures in
+    let i = c.args.place in
+    let k = c.directives-place.result in
+    let j = c.content_at-place.result in
+    let of_m = of_kept text old m of first.reached.0 in
+    let of_new = of_kept text m new of_m then.reached.0 in
+    let d = first.found (of_allowed text old of) counted c.if-place.false in
+    let x = then.found text of_m (directed_unnamed c.args.directed old m i k d none)
+    (directed_counted c.args.directed old m i k d counted) inside content c.if-place-2.false in
+    let low = then.reached.1.1 c.if-place-2.false in
+    let over = ap (λ t. is_over t j) (sym of_new.same)
+    ∙ sym (c.if-not-is_over.ensures.same (of_allowed text new of_new)
+    (counted_lined new j low.1.0 (content_counted text c.args.bare i m new k j x))) in
+    directed_has text earlier old m new c.args.bare c.args.directed i k j of.same d bare directed inside content over x

@@ -1,7 +1,5 @@
-use Rattle.std.proofs.Common.{true, false}
 use Rattle.yaml_direct.proofs.BracketReads.{nothing_is, of_kept, unnamed_kept}
 use Rattle.yaml_direct.proofs.BracketSteps.{is_entry, ne_entry, alone_entry, alone_none}
-use Rattle.yaml_grammar.specs.Gaps.{next}
 use Rattle.yaml_direct.proofs.reader.Reader.flow_alone.Goals as goal
 
 pub returns-then-ne-clause-found : goal.returns-then-ne-clause-found

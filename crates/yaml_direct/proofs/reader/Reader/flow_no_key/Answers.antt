@@ -1,6 +1,6 @@
-use Rattle.std.proofs.Common.{◌∙◌, ap, false}
+use Rattle.std.proofs.Common.{◌∙◌, ap, sym}
+use Rattle.std.proofs.lemmas.Bool.{false≢true}
 use Rattle.yaml_grammar.specs.Bytes.{at}
-use Rattle.yaml_grammar.specs.Gaps.{next}
 use Rattle.yaml_direct.proofs.reader.Reader.flow_no_key.Goals as goal
 
 pub returns-clause-found : goal.returns-clause-found
@@ -12,3 +12,9 @@ returns-clause-found c = λ text of none some.
       added = a.0;
       unnamed = a.1;
     }
+
+pub returns-then-at-eq58-clause-missed : goal.returns-then-at-eq58-clause-missed
+returns-then-at-eq58-clause-missed c = λ none fed. (sym c.at.ensures.value ∙ c.if-at-eq58.true, fed)
+
+pub returns-clause-missed : goal.returns-clause-missed
+returns-clause-missed c = λ none fed. absurd (false≢true (sym fed ∙ c.flow_alone.ensures.starved none))
