@@ -1,0 +1,65 @@
+-- The text of an integer of 128 bits is a number of JSON.
+use Rattle.std.proofs.Common.{◌≡◌, ℕ, ℤ, pos, negsuc, zero, suc, ◌+◌, ◌/◌, ◌%◌, ◌^◌, ◌<◌, ◌≤◌, false, cond, ◌==◌}
+use Rattle.std.proofs.Common.{List, [], ◌∷◌, ◌++◌, length, drop, get_or, Some, option_and_then, decimal, refl, ap}
+use Rattle.std.proofs.Common.{◌∙◌, arith}
+use Rattle.std.proofs.lemmas.Bool.{ne_eqb, le-leb, and_from}
+use Rattle.std.proofs.lemmas.List.{drop_all}
+use Rattle.std.proofs.lemmas.Fmt.{decimal_is_IsNumeral_wide, decimal_digit, decimal_by_steps_wide}
+use Rattle.std.proofs.lemmas.Str.Parse.{digit_at}
+use Rattle.std.specs.Fmt.{signed_decimal}
+use lib.Signed.{mag}
+use Rattle.std.specs.List.{prefix_len}
+use Rattle.std.specs.Char.{is_ascii_digit}
+use Rattle.json.specs.Word.{head, after_whole, after_fraction, after_exponent, after_number}
+use Rattle.json.specs.Print.{IsNumber}
+
+all_digits : (ds : List ℕ) → ((i : ℕ) → i < length ds → (48 ≤ get_or ds i 0) × (get_or ds i 0 ≤ 57)) → prefix_len
+    is_ascii_digit ds ≡ length ds
+all_digits [] h = refl
+all_digits (d ∷ ds) h =
+    let first = h 0 (omega arith) in
+    let rest = all_digits ds (λ i l. h (suc i) (omega arith)) in
+    ap (λ b. cond b (1 + prefix_len is_ascii_digit ds) 0) (and_from _ _ (le-leb 48 d first.0) (le-leb d 57 first.1))
+    ∙ omega arith
+
+whole_digits : (ds : List ℕ) → 48 < get_or ds 0 0 → prefix_len is_ascii_digit ds ≡ length ds → (after_whole ds ≡
+    Some []) × ((head ds == 45) ≡ false)
+whole_digits [] first all = absurd (omega arith)
+whole_digits (d ∷ ds) first all = (
+  rw (ne_eqb d 48 (λ e. omega arith), all, ne_eqb (suc (length ds)) 0 (λ e. omega arith)) (ap Some (drop_all (length
+      ds) ds (omega arith))),
+  ne_eqb d 45 (λ e. omega arith),
+)
+
+first_kept : (n : ℕ) (ds : List ℕ) → 10 ≤ n → (0 < n / 10 → 48 < get_or ds 0 0) → 0 < n → 48 < get_or (ds ++ ((48 +
+    n % 10) ∷ [])) 0 0
+first_kept n [] le h some = let gt = h (omega (arith, le)) in absurd (omega (arith, gt))
+first_kept n (d ∷ ds) le h some = h (omega (arith, le))
+
+first_wide : (n : ℕ) → n < 10 ^ 64 → 0 < n → 48 < get_or (decimal n) 0 0
+first_wide = decimal_by_steps_wide (λ n ds. 0 < n → 48 < get_or ds 0 0) (λ n lt some. omega (arith, some)) first_kept
+
+whole_decimal : (n : ℕ) → n < 10 ^ 64 → (after_whole (decimal n) ≡ Some []) × ((head (decimal n) == 45) ≡ false)
+whole_decimal zero h = let e = decimal_digit 0 (omega arith) in (ap after_whole e, ap (λ l. head l == 45) e)
+whole_decimal (suc n) h =
+    whole_digits (decimal (suc n)) (first_wide (suc n) h (omega arith)) (all_digits _ (λ i l. digit_at _ i
+    (decimal_is_IsNumeral_wide (suc n) h).0.1 l))
+
+IsNumber-decimal : (n : ℕ) → n < 10 ^ 64 → IsNumber (decimal n)
+unfolding after_number
+IsNumber-decimal n h =
+    let w = whole_decimal n h in
+    ap (λ o. option_and_then after_exponent (option_and_then after_fraction o))
+    (ap (λ b. after_whole (cond b (drop 1 (decimal n)) (decimal n))) w.1 ∙ w.0)
+
+IsNumber-negative : (n : ℕ) → n < 10 ^ 64 → IsNumber (45 ∷ decimal n)
+unfolding after_number
+IsNumber-negative n h = ap (λ o. option_and_then after_exponent (option_and_then after_fraction o)) (whole_decimal n
+    h).0
+
+pub IsNumber-natural : (n : ℕ) → n < 2 ^ 128 → IsNumber (decimal n)
+IsNumber-natural n h = IsNumber-decimal n (omega (arith, h))
+
+pub IsNumber-integer : (z : ℤ) → mag z < 2 ^ 127 → IsNumber (signed_decimal z)
+IsNumber-integer (pos n) h = let k : n < 2 ^ 127 = h in IsNumber-decimal n (omega (arith, k))
+IsNumber-integer (negsuc n) h = let k : n < 2 ^ 127 = h in IsNumber-negative (suc n) (omega (arith, k))

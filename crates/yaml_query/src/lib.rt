@@ -1,0 +1,22 @@
+//! Questions to values: their JSON text, and what a path leads to.
+//!
+//! The JSON of a value, and why there may be none, are definitions; so are the steps that the text of a path has, and
+//! what they lead to. Each call equals them. A float's text is known by what it is read back as.
+#![tactic(auto)]
+
+mod encode;
+mod fault;
+mod lookup;
+mod name;
+mod out;
+mod parse;
+mod reading;
+mod step;
+mod way;
+
+pub use encode::{to_json, to_json_pretty};
+pub use fault::{JsonFault, Reason};
+pub use lookup::{find, get};
+pub use parse::{PathFault, parse_path};
+pub use step::{Path, Step};
+pub use way::Steps;
