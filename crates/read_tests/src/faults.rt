@@ -61,5 +61,6 @@ fn short_names_stand_for_the_long_ones(rt: HostRuntime) {
         assert!(rt; short == *long, "{wanted}");
         says(&rt, &short, wanted);
         says(&rt, long, wanted);
+        says(&rt, &short.into_error(rt.alloc()), wanted);
     }
 }

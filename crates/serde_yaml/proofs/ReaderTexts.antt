@@ -16,3 +16,8 @@ refused_of None text cause A B same all other = tt
 refused_of (Some given) text cause A B same all other =
     let p = all other in
     subst (λ given. IsParsed given B) same (parsed_as B p p.holds.1)
+
+pub of_reader : (remaining : Option (List ℕ)) (text : List ℕ) (P : List ℕ → Type 0)
+    → IfSome remaining (λ given. text ≡ given) → P text → IfSome remaining P
+of_reader None text P same holds = tt
+of_reader (Some given) text P same holds = subst P same holds

@@ -44,8 +44,8 @@ fn event_alone<'de>(event: Event<'_>) -> Event<'de>
     }
 }
 
-// The same of all events, each with its mark.
-fn events_alone<'de>(
+/// The events without the slices of the source that they show, each with its mark.
+pub(crate) fn events_alone<'de>(
     alloc: Global,
     events: Vec<(Event<'_>, Mark)>,
 ) -> Result<Vec<(Event<'de>, Mark)>>

@@ -15,7 +15,10 @@ pub mod value;
 
 pub use de::{Deserializer, data_from_events, from_events, from_events_limited};
 pub use input::from_reader;
-pub use merging::{data_from_slice_merging, from_slice_merging, from_str_merging};
+pub use merging::{
+    data_from_slice_merging, data_from_slice_merging_limited, from_reader_merging,
+    from_slice_merging, from_slice_merging_limited, from_str_merging,
+};
 pub use printed::{data_to_string, to_string, to_writer};
 pub use ser::to_events;
 pub use text::{data_from_slice, data_from_str, from_slice, from_slice_limited, from_str};

@@ -6,6 +6,7 @@ ghost use Rattle.yaml_base.specs.Answer.{is_memory};
 ghost use Rattle.yaml_documents.specs.TextDocuments.{AreDocumentsOf};
 
 use crate::leaf::Leaves;
+use crate::merging::read_merging;
 use crate::typed::read;
 use crate::values::Values;
 use serde::Deserialize;
@@ -13,6 +14,7 @@ use std::alloc::Global;
 use std::marker::Model;
 use yaml_base::Result;
 use yaml_documents::load;
+use yaml_merge::Merge;
 use yaml_read::{Document, Loader};
 
 /// The documents of a YAML text that are still to be read.
@@ -66,6 +68,15 @@ impl<'de> Documents<'de> {
     {
         let document: Document<'de> = self.left.next_document()?;
         Some(read(self.alloc, self.text, &document, &self.leaves))
+    }
+
+    /// The same, with the document's merge keys treated so.
+    pub fn read_next_merging<T: Deserialize<'de>>(&mut self, merge: Merge) -> Option<Result<T>>
+        ensures next { IfSome result (λ read. ReadsNext self.old read self.new) }
+        ensures none { IfNone result ((self.old ≡ []) × (self.new ≡ [])) }
+    {
+        let document = self.left.next_document()?;
+        Some(read_merging(self.alloc, self.text, document, &self.leaves, merge))
     }
 
     /// The documents that are left as values of one type, for a `for` loop: each is what `read_next` gives.

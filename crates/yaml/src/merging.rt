@@ -1,19 +1,35 @@
 //! Reading with a choice of what is done with merge keys.
 
-ghost use Rattle.std.specs.Prelude.{IfErr, IfSome, OnOk};
+ghost use Rattle.std.specs.Prelude.{◌≡◌, IfErr, IfSome, None, OnOk};
 ghost use Rattle.std.specs.Io.KnownBytes.{IsAtEnd};
 ghost use Rattle.yaml.specs.OneDocument.{IsOneDocument};
 ghost use Rattle.yaml_documents.specs.ReaderFaults.{IfOfText};
 ghost use Rattle.yaml_documents.specs.TextDocuments.{IsParsed};
 ghost use Rattle.yaml_scan.specs.AllowedText.{IsAllowed};
 
-use crate::typed::{alone, read_alone, read_owned};
+use crate::leaf::Leaves;
+use crate::typed::{alone, read, read_alone, read_owned};
 use serde::{Deserialize, DeserializeOwned};
 use std::alloc::Global;
 use std::io::Read;
 use yaml_base::{Cause, Error, Result};
 use yaml_documents::{ReaderFault, load, read_bytes};
 use yaml_merge::{Merge, merged};
+use yaml_read::Document;
+
+/// The value that a document is once its merge keys are treated so.
+pub(crate) fn read_merging<'de, T: Deserialize<'de>>(
+    alloc: Global,
+    input: &'de [u8],
+    document: Document<'de>,
+    leaves: &Leaves,
+    merge: Merge,
+) -> Result<T>
+    ensures { OnOk result (document.entry.ending ≡ None) }
+{
+    let treated = merged(alloc, document, merge)?;
+    read(alloc, input, &treated, leaves)
+}
 
 /// The one document of a YAML text as a value of the type, as `from_str` reads it, with its merge keys treated so.
 pub fn from_str_merging<'de, T: Deserialize<'de>>(

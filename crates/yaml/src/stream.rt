@@ -7,12 +7,14 @@ ghost use Rattle.yaml_documents.specs.HandingOut.{HandsOut};
 ghost use Rattle.yaml_documents.specs.PlainReader.{fresh};
 
 use crate::leaf::Leaves;
+use crate::merging::read_merging;
 use crate::typed::read;
 use serde::Deserialize;
 use std::alloc::Global;
 use std::marker::Model;
 use yaml_base::Result;
 use yaml_documents::DocumentReader;
+use yaml_merge::Merge;
 
 /// The documents of a YAML text, of which the first were read. They are parsed and loaded ahead, some at a time, as a
 /// `DocumentReader` does it, and let go before the next ones are loaded. So a text of many documents takes no more
@@ -71,5 +73,19 @@ impl<'de> DocumentStream<'de> {
         };
         let document = found?;
         Some(read(self.alloc, self.text, &document, &self.leaves))
+    }
+
+    /// The same, with the document's merge keys treated so.
+    pub fn read_next_merging<T: Deserialize<'de>>(&mut self, merge: Merge) -> Option<Result<T>>
+        ensures text { self.new.text ≡ self.old.text }
+        ensures next { IfSome result (λ read. ReadsFurther self.old self.new read) }
+        ensures none { IfNone result (HandsOut self.old None self.new) }
+    {
+        let further = match self.documents.next_document() {
+            Ok(found) => found,
+            Err(refused) => return Some(Err(refused)),
+        };
+        let document = further?;
+        Some(read_merging(self.alloc, self.text, document, &self.leaves, merge))
     }
 }

@@ -1,0 +1,36 @@
+-- The document is that of the text's events without what they show of it.
+use Rattle.std.proofs.Common.{◌≡◌, ◌∷◌, []}
+use Rattle.yaml_base.specs.MarkedEvents.{plain_marked}
+use Rattle.yaml_read.specs.Documents.{documents_of}
+use Rattle.yaml_read.specs.TreeReader.{default_limits}
+use Rattle.serde_yaml.specs.MergedReads.{HasOwnDocument}
+use Rattle.serde_yaml.specs.OwnEvents.{events_alone}
+use Rattle.serde_yaml.specs.TextReads.{IsParsed}
+use Rattle.serde_yaml.proofs.MergedLaws.{of_own, value_of}
+use Rattle.serde_yaml.proofs.merging.from_slice_owned_merging.Goals as goal
+
+pub returns : goal.returns
+returns g c =
+    let documents = c.in_ok-documents.documents in
+    let first = c.in_ok-parsed.ensures in
+    let own : documents
+    ≡ documents_of (events_alone (plain_marked c.in_ok-parsed.parsed.events.items)) c.in_ok-parsed.parsed.fault =
+    rw c.in_ok-events.ensures.alone at c.in_ok-documents.ensures.documents in
+    let parsed : IsParsed c.args.text.now (λ events fault. documents ≡ documents_of (events_alone events) fault) =
+    record {
+      events = c.in_ok-parsed.parsed.events.items;
+      fault = c.in_ok-parsed.parsed.fault;
+      parsed = record {
+        taken = first.taken;
+        sources = first.sources;
+        plain = first.plain;
+        marks = first.marks;
+        places = first.places;
+        allowed = first.allowed;
+        refused = first.refused;
+      };
+      holds = own;
+    } in
+    value_of c.value_of_alone.result default_limits g.T.Deserialize.start g.T.Deserialize.built c.args.merge
+    (λ d. documents ≡ d ∷ []) (HasOwnDocument c.args.text.now) (of_own c.args.text.now documents parsed)
+    c.value_of_alone.ensures
