@@ -15,14 +15,16 @@ pages=$(ls README.md CONTRIBUTING.md rust/README.md docs/*.md crates/*/CALLING.m
 # Files that no public contract leads to, beside those of inner/: whatever they say, no promise changes.
 scaffolding='serde_yaml/StreamView serde_yaml/TapeReads uses/FolderLaws yaml_base/StreamMachine yaml_direct/Added
 yaml_direct/BlockHeads yaml_direct/BlockRows yaml_direct/Blocks yaml_direct/Bytes yaml_direct/Gaps yaml_direct/Leaves
-yaml_direct/Lines yaml_direct/Places yaml_direct/PlainTexts yaml_direct/Quoted yaml_direct/Tokens
+yaml_direct/LeftByColumns yaml_direct/LeftDocuments yaml_direct/LeftInBrackets yaml_direct/Lines yaml_direct/Places
+yaml_direct/PlainTexts yaml_direct/Quoted yaml_direct/Tokens
 yaml_documents/OnlyDocument yaml_emit/LayoutMachine yaml_emit/Leaves yaml_lines/DataTextView yaml_load/Gathering
-yaml_load/StreamPhases yaml_parse/Frames yaml_parse/Kept yaml_parse/Sources yaml_read/QuickReads yaml_round/Survives
-yaml_scan/Surrogates yaml_shape/Walks yaml_tree/Code yaml_tree/Entries yaml_tree/EntryText yaml_tree/EqualLaws
-yaml_tree/Falls yaml_tree/Hash yaml_tree/Index yaml_tree/Lookup yaml_tree/TakeOut yaml_types/ArrayLaws
-yaml_types/ChoiceLaws yaml_types/ChoiceReturns yaml_types/MapLaws yaml_types/PlainLaws yaml_types/ReturnLaws
-yaml_types/RowReturns yaml_types/SetLaws yaml_types/ShapeLaws yaml_types/StartLaws yaml_types/StructLaws
-yaml_types/WrittenLaws yaml_write/Content yaml_write/PartsOf yaml_write/WrittenEvents yaml_write/WrittenParts'
+yaml_load/StreamPhases yaml_parse/Frames yaml_parse/Kept yaml_parse/Sources yaml_query/FaultSteps yaml_query/Out
+yaml_query/PairFaults yaml_query/Reading yaml_read/QuickReads yaml_round/Survives yaml_scan/Surrogates
+yaml_shape/Walks yaml_tree/Code yaml_tree/Entries yaml_tree/EntryText yaml_tree/EqualLaws yaml_tree/Falls
+yaml_tree/Hash yaml_tree/Index yaml_tree/Lookup yaml_tree/TakeOut yaml_types/ArrayLaws yaml_types/ChoiceLaws
+yaml_types/ChoiceReturns yaml_types/MapLaws yaml_types/PlainLaws yaml_types/ReturnLaws yaml_types/RowReturns
+yaml_types/SetLaws yaml_types/ShapeLaws yaml_types/StartLaws yaml_types/StructLaws yaml_types/WrittenLaws
+yaml_write/Content yaml_write/PartsOf yaml_write/WrittenEvents yaml_write/WrittenParts'
 # The one of inner/ that a promise cites: the fault of a document that was cut off.
 stated='yaml_read/inner/Reader'
 # Names of the toolchain's and the original's, and of C, which stand in no source here.

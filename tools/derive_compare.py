@@ -3,6 +3,7 @@
 
 usage: derive_compare.py THEIRS rows FILE            the rows of a file, as crates/derived_case/stdin
        derive_compare.py THEIRS random SEED COUNT    random rows
+       derive_compare.py THEIRS more SEED COUNT      random rows of floats, values of any kind, and merge keys
        add OURS.. behind `--` to name our program, as crates/derived_case/out/derived_case: else it is `rt try` in
        crates/derived_case, which proves nothing, and takes some 5,000 rows at a time
 
@@ -12,6 +13,7 @@ many are listed of each kind, and in the last line how many were the same, liste
 0 only if none differs. Left out are rows at which the other program panics.
 """
 
+import math
 import os
 import random
 import re
@@ -45,6 +47,65 @@ class Texts:
         if near >= 0 and self.often(0.1):
             return self.pick("0x%X" % near, "0o%o" % near, "0b" + bin(near)[2:], "+%d" % near)
         return "'%d'" % near if self.often(0.03) else str(near)
+
+    def float(self):
+        """A text of a float, or of what is near to one."""
+        kind = self.random.random()
+        if kind < 0.15:
+            return self.pick(".inf", "-.inf", "+.Inf", ".INF", ".nan", ".NaN", "-.nan", ".Nan", "inf", "nan", "+.inf")
+        if kind < 0.3:
+            return self.pick("12", "-3", "0x10", "0o7", "1_000.5", "'1.5'", "!!float 3", "!!str 1.5", "!!int 1", "-0", "+1",
+                             "1.", ".5", "00.5", "0.1", "~", "", "true", "16777217", "12345678901234567890123")
+        digits = "".join(self.pick(*"0123456789") for _ in range(self.random.randint(1, self.pick(3, 9, 17, 30))))
+        point = self.random.randint(0, len(digits))
+        text = self.pick("", "", "-", "+") + digits[:point] + (self.pick(".", "") + digits[point:])
+        if self.often(0.4):
+            text += self.pick("e", "E") + self.pick("", "+", "-") + str(self.random.randint(0, self.pick(5, 40, 400)))
+        return text
+
+    def pairs(self, depth):
+        """The entries of a mapping with merge keys, which name what stands before them."""
+        keys = self.random.sample(["attempts", "delay", "label", "x", "'y'"], self.random.randint(0, 3))
+        entries = []
+        for key in keys:
+            entries.append("%s: %s" % (key, self.word() if key == "label" else self.number(0, 255)))
+        if self.often(0.6):
+            entries.insert(self.random.randint(0, len(entries)), "<<: " + self.merged(depth))
+        return "{%s}" % ", ".join(entries)
+
+    def merged(self, depth):
+        """What stands at a merge key."""
+        if self.often(0.04):
+            return self.pick("1", "~", "a", "[1]", "[[]]", "!t {a: 1}", "[!t {}]", "*none")
+        if self.anchors and self.often(0.7):
+            one = "*m%d" % self.random.randint(1, self.anchors)
+        else:
+            one = self.pairs(depth + 1) if depth < 3 else "{attempts: 1}"
+        if self.often(0.3):
+            return "[%s]" % ", ".join([one] + ["{delay: %s}" % self.number(0, 255)] * self.random.randint(0, 2))
+        return one
+
+    def merging(self, name):
+        """A text of which merge keys are applied before it is read."""
+        self.anchors = 0
+        retries = []
+        for at in range(self.random.randint(1, 4)):
+            made = self.pairs(0)
+            if self.often(0.7):
+                made = "&m%d %s" % (self.anchors + 1, made)
+                self.anchors += 1
+            retries.append(made)
+        if name == "apply:Retry":
+            return "{<<: [%s], delay: 1}" % ", ".join(retries)
+        if name == "apply:Vec<Retry>":
+            return "[%s]" % ", ".join(retries)
+        if name == "apply:Plan":
+            return "jobs: {%s}" % ", ".join("%s: %s" % (letter, made) for letter, made in zip("abcd", retries))
+        if name == "apply:BTreeMap<i64,bool>":
+            one = "{1: true, <<: {2: false, 1: false}}"
+            return self.pick(one, "{<<: [{%s: true}, %s], 3: false}" % (self.number(-5, 5), one), "{<<: %s}" % one)
+        maps = [re.sub(r"label: [^,}]*", "label: 1", made) for made in retries]
+        return "{%s}" % ", ".join("%s: %s" % (letter, made) for letter, made in zip("abcd", maps))
 
     def any(self, depth):
         kind = self.random.random()
@@ -89,6 +150,39 @@ class Texts:
         if number:
             bits = int(number.group(2))
             return self.number(*((0, 2**bits - 1) if number.group(1) == "u" else (-(2 ** (bits - 1)), 2 ** (bits - 1) - 1)))
+        if name in ("f32", "f64"):
+            return self.float()
+        if name.startswith("apply:"):
+            return self.merging(name)
+        if name == "Value":
+            return self.pick(self.any(depth), self.any(depth), self.float(), self.number(-(2**63), 2**64 - 1))
+        if name == "Option<Value>":
+            return self.pick("~", self.of("Value", depth))
+        if name == "Vec<Value>":
+            return self.list([to("Value")] * self.random.randint(0, 4), depth)
+        if name == "Mapping" or name == "BTreeMap<String,Value>":
+            return self.entries([(("a", "b", "1", "c", "'x'", "1.5"), to("Value"))] * self.random.randint(0, 4), depth)
+        if name == "Number":
+            return self.pick(self.float(), self.number(-(2**63), 2**64 - 1))
+        if name == "Weather":
+            return self.entries([(("wind",), to("f64")), (("rain",), to("f32")), (("size",), to("Size")), (("hours",),
+                                 lambda deeper: self.list([to("f64")] * self.random.randint(0, 3), deeper))], depth)
+        if name == "Size":
+            return self.pick("any", "!exact " + self.float(), "~", "exact",
+                             "!range " + self.entries([(("low",), to("f64")), (("high",), to("f64"))], depth))
+        if name == "Parcel":
+            return self.entries([(("name",), to("text")), (("given",), to("Value")), (("more",), to("Option<Value>"))],
+                                depth)
+        if name == "Task":
+            return self.entries([(("runs-on",), to("text")), (("with", "env", "if"), to("Value")), (("steps",),
+                                 lambda deeper: self.list([to("Mapping")] * self.random.randint(0, 3), deeper))], depth)
+        if name == "Sign":
+            return self.entries([(("text",), to("text")), (("row",), to("u8")), (("a", "b", "c"), to("Value"))], depth)
+        if name == "Either":
+            return self.pick(self.of("u8", depth), self.of("Value", depth))
+        if name == "Choice":
+            return self.pick("!Any " + self.any(depth), "!Pairs " + self.entries(
+                [(("pairs",), to("Mapping")), (("size",), to("Number"))], depth), "Any", "!Some 1")
         if name == "text":
             return self.word()
         if name == "bool":
@@ -168,6 +262,9 @@ class Texts:
 NAMES = """bool i8 u8 i64 u64 i128 u128 char () String &str CowStr Option<u8> Vec<u8> (u8,bool) BTreeMap<String,u8>
 Service Service/slice Service/events Person Person/documents Note Setting Window Mark Figure Vec<Figure> Command Step
 Scalar Vec<Scalar> BTreeMap<String,Scalar> Nest Passed Metres Nothing Pair Ends<i8> Ends<Option<Pair>> Percent""".split()
+# Types with floats, parts of any kind, and merge keys.
+MORE = """f32 f64 Weather Value Vec<Value> Option<Value> Mapping Number Parcel Task Sign Either Choice BTreeMap<String,Value>
+apply:Retry apply:Vec<Retry> apply:Plan apply:BTreeMap<i64,bool> apply:BTreeMap<String,BTreeMap<String,u8>>""".split()
 WEIGHED = NAMES + "Service Setting Mark Figure Vec<Figure> Command Step Scalar".split() * 3
 
 
@@ -182,11 +279,11 @@ def unquoted(text):
     return re.sub(r"\\(.)", lambda match: {"n": "\n"}.get(match.group(1), match.group(1)), text[1:-1])
 
 
-def random_rows(seed, count):
+def random_rows(seed, count, names):
     texts = Texts(seed)
     rows = []
     for _ in range(count):
-        name = texts.pick(*WEIGHED)
+        name = texts.pick(*names)
         text = texts.of(name).replace("\\\\", "\\")
         if texts.often(0.5):
             text = "\n" + text
@@ -221,11 +318,18 @@ EXPECTED = [
     (r"untagged enum [A-Z]\w*", "untagged enum"),
     (r"expected variant identifier", "expected field identifier"),
     (r"expected a borrowed string", "expected a string"),
+    (r"expected a number(?! in)", "expected f64"),
+    (r"expected a YAML mapping", "expected a map"),
     (r"missing field `back-colour`", "missing field `back_colour`"),
     (r"duplicate field `(enabled|is-on)`", "duplicate field `on`"),
 ]
+# Floats, parts of any kind and merge keys: what docs/DIFFERENCES.md lists of them.
+FLOATS = {"f32", "f64", "Weather"}
+VALUES = {"Value", "Vec<Value>", "Option<Value>", "Mapping", "Number", "Parcel", "Task", "Sign", "Either", "Choice",
+          "BTreeMap<String,Value>"}
 # What is copied first by the original: such a fault says how the copy read, and other faults may come before it.
 COPIED = {"Mark", "Command", "Step", "Scalar", "Vec<Scalar>", "BTreeMap<String,Scalar>"}
+REST = {"Task", "Sign", "Either"}
 
 
 def plain(answer):
@@ -239,7 +343,7 @@ def plain(answer):
 
 def kind(name, text, ours, theirs):
     """The kind of the difference, where docs/DIFFERENCES.md lists it, or None."""
-    ours, theirs = plain(ours), plain(theirs)
+    as_it_is, ours, theirs = ours, plain(ours), plain(theirs)
     if ours == theirs:
         return "names of types and widths of numbers"
     if ours.startswith("! floating point numbers are not"):
@@ -248,6 +352,14 @@ def kind(name, text, ours, theirs):
         return kind_of_documents(ours, theirs)
     if name in COPIED:
         return kind_of_copy(name, text, ours, theirs)
+    if name in FLOATS | VALUES and (found := kind_of_float(as_it_is)):
+        return found
+    if name in VALUES and (found := kind_of_value(name, text, ours, theirs)):
+        return found
+    if name.startswith("apply:"):
+        return kind_of_merge(ours, theirs)
+    if ours.startswith("! ") and theirs.startswith("! ") and MISFIT.search(ours + theirs):
+        return "core tags that their texts do not fit"
     if not (ours.startswith("! ") and theirs.startswith("! ")):
         return None
     our_way, their_way = WAY.match(ours), WAY.match(theirs)
@@ -289,6 +401,61 @@ def kind_of_copy(name, text, ours, theirs):
     return None
 
 
+def loose(answer):
+    """An answer with bare keys and floats, and null as it may stand."""
+    return QUOTED_FLOAT.sub(r"\1", QUOTED_KEY.sub(r"\1:", answer)).replace("~:", "null:")
+
+
+def is_beyond(text, bits):
+    """Whether a text is a float past the greatest of its size."""
+    try:
+        return abs(float(text)) >= (2.0**128 * (1 - 2.0**-25) if bits == "32" else math.inf)
+    except ValueError:
+        return False
+
+
+BEYOND = re.compile(r"floating point `([^`]+)`, expected f(32|64)")
+QUOTED_FLOAT = re.compile(r"'([-+]?[\d.]+[eE][-+]?\d+)'")
+QUOTED_KEY = re.compile(r"'([-+.\w~]*)':")
+MISFIT = re.compile(r'invalid value: string "[^"]*", expected (null|a boolean|an integer|a float)')
+NO_NUMBER = re.compile(r"! (size: )?invalid type: (string|enum|Option)\b.*, expected f64")
+LABEL = re.compile(r"label: .*?\\n")
+
+
+def kind_of_float(ours):
+    """The same for types with floats."""
+    found = BEYOND.search(ours)
+    return "floats beyond the range" if found and is_beyond(*found.groups()) else None
+
+
+def kind_of_merge(ours, theirs):
+    """The same for what is read once merge keys are applied, of a value there."""
+    if ours.startswith("! ") and theirs.startswith("! "):
+        return "faults once merge keys are applied"
+    if MISFIT.search(theirs) or "duplicate entry" in theirs or LABEL.sub("", ours) == LABEL.sub("", theirs):
+        return "what is a value first"
+    return None
+
+
+def kind_of_value(name, text, ours, theirs):
+    """The same for types with parts of any kind."""
+    if name in ("Number", "Choice") and NO_NUMBER.match(theirs) and not NO_NUMBER.match(ours):
+        return "texts and tagged nodes that are numbers"
+    if name in REST and re.search("!!(str|float)", text):
+        return "texts of `!!str` and `!!float` in what is copied"
+    if re.search(r"integer `-?\d+` as [iu]128, expected", theirs):
+        return "integers past 64 bits"
+    if ours.startswith('"') and QUOTED_FLOAT.sub(r"\1", ours) == QUOTED_FLOAT.sub(r"\1", theirs):
+        return "floats beyond the range"
+    if name not in REST:
+        return None
+    if theirs.startswith("! "):
+        return "faults of what is copied"
+    if ours.startswith('"') and loose(ours) == loose(theirs):
+        return "keys that are no texts in what is copied"
+    return None
+
+
 def main():
     words = sys.argv[1:]
     ours = ["rt", "try"]
@@ -298,8 +465,8 @@ def main():
     if len(words) == 3 and words[1] == "rows":
         with open(words[2]) as file:
             rows = [line.rstrip("\n") for line in file if line.strip() and not line.startswith("#")]
-    elif len(words) == 4 and words[1] == "random":
-        rows = random_rows(int(words[2]), int(words[3]))
+    elif len(words) == 4 and words[1] in ("random", "more"):
+        rows = random_rows(int(words[2]), int(words[3]), WEIGHED if words[1] == "random" else MORE)
     else:
         sys.exit(__doc__)
     theirs = answers([words[0]], rows, None)

@@ -4,7 +4,7 @@ mod types;
 
 use serde::de::DeserializeOwned;
 use serde::{Deserialize, Serialize};
-use serde_yaml::{from_slice, from_str, to_string, Error};
+use serde_yaml::{from_slice, from_str, to_string, Error, Mapping, Number, Value};
 use std::borrow::Cow;
 use std::collections::{BTreeMap, BTreeSet, HashMap, HashSet, VecDeque};
 use std::io::{self, Read, Write};
@@ -52,6 +52,38 @@ fn renamed(text: &str) -> Answer {
     serde_yaml::to_string(&server)
 }
 
+// Applies the merge keys of a value, those of its parts first: so what is merged is merged whole.
+fn merge(value: &mut Value) -> Result<(), Error> {
+    match value {
+        Value::Sequence(items) => {
+            for item in items {
+                merge(item)?;
+            }
+        }
+        Value::Mapping(pairs) => {
+            for (_, part) in pairs.iter_mut() {
+                merge(part)?;
+            }
+        }
+        Value::Tagged(tagged) => merge(&mut tagged.value)?,
+        _ => {}
+    }
+    value.apply_merge()
+}
+
+// What is read of such a value, by its text.
+fn answer_of_merged<T: DeserializeOwned + Serialize>(text: &str) -> Answer {
+    let mut value: Value = from_str(text)?;
+    merge(&mut value)?;
+    to_string(&from_str::<T>(&to_string(&value)?)?)
+}
+
+fn merged_once(text: &str) -> Answer {
+    let mut value: Value = from_str(text)?;
+    value.apply_merge()?;
+    to_string(&value)
+}
+
 fn longest_name(text: &str) -> Answer {
     let mut longest = "";
     for document in serde_yaml::Deserializer::from_str(text) {
@@ -90,7 +122,28 @@ fn answer_as(name: &str, text: &str) -> Answer {
         "u64" => answer::<u64>(text),
         "i128" => answer::<i128>(text),
         "u128" => answer::<u128>(text),
+        "f32" => answer::<f32>(text),
         "f64" => answer::<f64>(text),
+        "Weather" => answer::<Weather>(text),
+        "Value" | "Value/events" => answer::<Value>(text),
+        "Value/documents" => answer_of_documents::<Value>(text),
+        "Vec<Value>" => answer::<Vec<Value>>(text),
+        "Option<Value>" => answer::<Option<Value>>(text),
+        "Mapping" => answer::<Mapping>(text),
+        "Number" => answer::<Number>(text),
+        "Parcel" => answer::<Parcel>(text),
+        "Task" | "Task/events" => answer::<Task>(text),
+        "Sign" => answer::<Sign>(text),
+        "Either" => answer::<Either>(text),
+        "Choice" => answer::<Choice>(text),
+        "BTreeMap<String,Value>" => answer::<BTreeMap<String, Value>>(text),
+        "Value:merged" => merged_once(text),
+        "apply:Value" | "apply:Value/reader" => answer_of_merged::<Value>(text),
+        "apply:Retry" => answer_of_merged::<Retry>(text),
+        "apply:Vec<Retry>" | "apply:Vec<Retry>/reader" => answer_of_merged::<Vec<Retry>>(text),
+        "apply:Plan" => answer_of_merged::<Plan>(text),
+        "apply:BTreeMap<i64,bool>" => answer_of_merged::<BTreeMap<i64, bool>>(text),
+        "apply:BTreeMap<String,BTreeMap<String,u8>>" => answer_of_merged::<BTreeMap<String, BTreeMap<String, u8>>>(text),
         "char" => answer::<char>(text),
         "()" => answer::<()>(text),
         "String" => answer::<String>(text),

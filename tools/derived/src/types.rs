@@ -1,7 +1,9 @@
 //! The types of `crates/derived_types` and of the callers in `crates/derived_case`, with the same attributes.
 
 use serde::{Deserialize, Deserializer, Serialize, Serializer};
+use serde_yaml::{Mapping, Number, Value};
 use std::borrow::Cow;
+use std::collections::BTreeMap;
 
 #[derive(Serialize, Deserialize)]
 pub struct Server {
@@ -209,4 +211,83 @@ pub struct Backoff {
 pub struct Chain {
     link: u8,
     next: Option<Box<Chain>>,
+}
+
+#[derive(Serialize, Deserialize)]
+#[serde(rename_all = "lowercase")]
+pub enum Size {
+    Exact(f64),
+    Range { low: f64, high: f64 },
+    Any,
+}
+
+#[derive(Serialize, Deserialize)]
+pub struct Weather {
+    wind: f64,
+    #[serde(default)]
+    rain: Option<f32>,
+    #[serde(default)]
+    hours: Vec<f64>,
+    #[serde(default)]
+    size: Option<Size>,
+}
+
+#[derive(Serialize, Deserialize)]
+#[serde(deny_unknown_fields)]
+pub struct Parcel {
+    name: String,
+    given: Value,
+    #[serde(default, skip_serializing_if = "Option::is_none")]
+    more: Option<Value>,
+}
+
+#[derive(Serialize, Deserialize)]
+#[serde(rename_all = "kebab-case")]
+pub struct Task {
+    runs_on: String,
+    #[serde(default)]
+    steps: Vec<Mapping>,
+    #[serde(flatten)]
+    rest: Mapping,
+}
+
+#[derive(Serialize, Deserialize)]
+pub struct Spot {
+    row: u8,
+}
+
+#[derive(Serialize, Deserialize)]
+pub struct Sign {
+    text: String,
+    #[serde(flatten)]
+    spot: Spot,
+    #[serde(flatten)]
+    rest: Mapping,
+}
+
+#[derive(Serialize, Deserialize)]
+#[serde(untagged)]
+pub enum Either {
+    Known(u8),
+    Other(Value),
+}
+
+#[derive(Serialize, Deserialize)]
+pub enum Choice {
+    Any(Value),
+    Pairs { pairs: Mapping, size: Number },
+}
+
+#[derive(Serialize, Deserialize)]
+#[serde(deny_unknown_fields)]
+pub struct Retry {
+    attempts: u8,
+    delay: u8,
+    #[serde(skip_serializing_if = "Option::is_none")]
+    label: Option<String>,
+}
+
+#[derive(Serialize, Deserialize)]
+pub struct Plan {
+    jobs: BTreeMap<String, Retry>,
 }
