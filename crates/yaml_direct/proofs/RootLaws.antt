@@ -2,13 +2,13 @@
 use Rattle.std.proofs.Common.{ℕ, ◌+◌, ◌<◌, ◌≤◌, ◌≡◌, ◌==◌, ◌&&◌, ◌||◌, ◌∷◌, Bool, true, false, List, length}
 use Rattle.std.proofs.Common.{Option, Some, None, refl, sym, subst, ap, ◌∙◌, arith, drop, inl, inr}
 use Rattle.std.specs.Prelude.{if◌then◌else◌, nat_le}
-use Rattle.std.proofs.lemmas.Bool.{and_from, and_parts, false≢true, le-leb, leb-true, lt-leb, or_left}
+use Rattle.std.proofs.lemmas.Bool.{and_from, and_parts, false≢true, leb-true, lt-leb, or_left}
 use Rattle.yaml_direct.specs.Standing.{HasRoot, bare_root, document_at, marked_root}
 use Rattle.yaml_grammar.specs.Blocks.{BlockNode, anything, value}
-use Rattle.yaml_grammar.specs.Bytes.{at, column, is_over, is_triple, parts_documents}
+use Rattle.yaml_grammar.specs.Bytes.{column, is_over, is_triple, parts_documents}
 use Rattle.yaml_grammar.specs.Documents.{Documents, Earlier, Root, a_document, an_end, bare_document, begins_document}
 use Rattle.yaml_grammar.specs.Documents.{behind_directive, directive_end, end_marker, ends_document, has_document}
-use Rattle.yaml_grammar.specs.Documents.{marked_document, marker_at, most_nestings, no_document, no_root, none}
+use Rattle.yaml_grammar.specs.Documents.{marked_document, marker_at, most_nestings, no_document, no_root}
 use Rattle.yaml_grammar.specs.Documents.{root_in_a_later_line, root_in_its_line, takes_directive}
 use Rattle.yaml_grammar.specs.Gaps.{ends_its_line, next}
 use Rattle.yaml_grammar.specs.Nodes.{Document, Node}

@@ -24,7 +24,7 @@ use Rattle.yaml_grammar.specs.Documents.{directive_end, ends_document, marker_at
 use Rattle.yaml_grammar.specs.Documents.{root_in_a_later_line, root_in_its_line, takes_directive}
 use Rattle.yaml_grammar.specs.Gaps.{ends_its_line, next}
 use Rattle.yaml_grammar.specs.Names.{Names, unnamed}
-use Rattle.yaml_grammar.specs.Nodes.{Document, Marked, Node, documents_events, end_mark, mark, no_content, node_events}
+use Rattle.yaml_grammar.specs.Nodes.{Marked, Node, documents_events, end_mark, mark, no_content, node_events}
 use Rattle.yaml_tape.specs.OnTape.{position_at}
 use Rattle.yaml_tape.specs.Pushes.{marked_on}
 use Rattle.yaml_tape.specs.declared.entry.Spot.{Spot}

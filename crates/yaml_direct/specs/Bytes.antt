@@ -36,3 +36,13 @@ abbrev pub stops_plain : List ℕ → (flow : Bool) → ℕ → Bool
 stops_plain text flow i =
     ends_line text i || (at text i == 9 || ((at text i == 58 && stops_at_colon text flow i)
     || ((at text i == 35 && at text (i - 1) == 32) || (flow && is_bracket (at text i)))))
+
+-- a character begins with these bytes that is not allowed, ends a line, or is the mark of the order of bytes
+abbrev pub is_forbidden : (first second third : ℕ) → Bool
+is_forbidden a b c =
+    (a == 0xC2 && (nat_le 0x80 b && nat_le b 0x9F)) || ((a == 0xE2 && (b == 0x80 && (c == 0xA8 || c == 0xA9)))
+    || (a == 0xEF && ((b == 0xBB && c == 0xBF) || (b == 0xBF && (c == 0xBE || c == 0xBF)))))
+
+-- such a character begins the bytes
+abbrev pub begins_forbidden : List ℕ → Bool
+begins_forbidden bytes = is_forbidden (at bytes 0) (at bytes 1) (at bytes 2)

@@ -1,7 +1,8 @@
 -- What the documents of a text add to a tape.
-use Rattle.std.specs.Prelude.{ℕ, List, [], ◌∷◌, ◌++◌, ◌≡◌, length, true}
+use Rattle.std.specs.Prelude.{ℕ, List, [], ◌∷◌, ◌++◌, ◌≡◌, ◌≤◌, length, false, true}
 use Rattle.yaml_base.specs.PlainEvent.{PlainEvent, document_end, document_start, stream_end, stream_start}
 use Rattle.yaml_base.specs.Position.{Position}
+use Rattle.yaml_direct.specs.Gaps.{begins_token}
 use Rattle.yaml_direct.specs.Held.{IsUnnamed}
 use Rattle.yaml_direct.specs.Standing.{earlier_of}
 use Rattle.yaml_direct.specs.Tokens.{IsCounted}
@@ -57,12 +58,16 @@ pub record AreBefore (text : List ℕ) (earlier : Earlier) (i : ℕ) (documents 
   pub on : (ds : List Document) → grammar.Documents text none (next text 0) ds
       → (es : List Document) × grammar.Documents text earlier i es
 
--- These documents were read, and the next token stands behind them.
+-- These documents were read, each of a byte or more, and the next token stands behind them. Before the first a directive
+-- may stand, as behind `...`.
 pub record HasRead (d : Documents) (documents : List Document) : Type 0 where
   pub allowed : is_text d.reader.text.now ≡ true
   pub before : AreBefore d.reader.text.now (earlier_of d.begun d.ended) d.next documents
   pub unnamed : IsUnnamed d.reader
   pub counted : IsCounted d.reader d.next
+  pub token : begins_token d.reader.text.now d.next ≡ true
+  pub few : length documents ≤ d.next
+  pub free : d.begun ≡ false → d.ended ≡ true
 
 -- no document was read yet
 pub record HasBegun (d : Documents) : Type 0 where

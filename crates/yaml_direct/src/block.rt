@@ -3,12 +3,16 @@
 #![tactic(auto, using(crate::proofs::Growing::grows_on, crate::proofs::Growing::grows_same))]
 
 ghost use Rattle.std.specs.Prelude.{◌≡◌, ◌≢◌, ◌+◌, ◌-◌, ◌<◌, ◌≤◌, ◌==◌, IsTrue, List, false, length, suc, true, ℕ};
+ghost use Rattle.std.specs.Prelude.{◌⊎◌};
 ghost use Rattle.yaml_direct.specs.Bytes.{at};
 ghost use Rattle.yaml_direct.specs.ByColumns.{AreEntriesBehind, BeginsColumns, BeginsWithKey, IsBehind, IsBlockNamed};
 ghost use Rattle.yaml_direct.specs.ByColumns.{IsBlockNode, Reads, Takes, room_of};
+ghost use Rattle.yaml_direct.specs.Gaps.{begins_token};
 ghost use Rattle.yaml_direct.specs.Held.{IsUnnamed};
 ghost use Rattle.yaml_direct.specs.InBrackets.{IsOf, opens, quotes};
 ghost use Rattle.yaml_direct.specs.Leaves.{IsPart};
+ghost use Rattle.yaml_direct.specs.LeftByColumns.{IsContent, IsKeyed, LeavesBehind, LeavesBlockNode};
+ghost use Rattle.yaml_direct.specs.LeftByColumns.{LeavesEntriesBehind, begins_other};
 ghost use Rattle.yaml_direct.specs.Places.{IsHere, Keeps, Reaches, no_place};
 ghost use Rattle.yaml_direct.specs.Tokens.{IsCounted};
 ghost use Rattle.yaml_direct.specs.declared.block.Room.TheVariants as rooms;
@@ -17,7 +21,7 @@ ghost use Rattle.yaml_grammar.specs.Blocks.{is_own};
 ghost use Rattle.yaml_grammar.specs.Bytes.{column, is_mark, is_over, is_text};
 ghost use Rattle.yaml_reading.proofs.Begins.{wanders};
 
-use crate::byte::{at, is_gap, is_mark};
+use crate::byte::{at, is_gap, is_mark, is_one_line};
 use crate::gap::begins_token;
 use crate::key::{LONGEST_KEY, colon_behind};
 use crate::leaf::{Leaf, LeafKind, find_leaf};
@@ -68,6 +72,9 @@ impl Reader<'_> {
             → (column text behind == 0) ≡ false → (room ≢ rooms.Value → IsCounted self.old behind)
             → result ≢ no_place
             → Reads self.old self.new result (IsBehind text depth c (room_of room) behind result) }
+        ensures missed { (text : List ℕ) (c : ℕ) → IsOf text self.old → IsUnnamed self.old → least ≡ suc c
+            → (column text behind == 0) ≡ false → (room ≢ rooms.Value → IsCounted self.old behind)
+            → result ≡ no_place → self.new.starved ≡ false → LeavesBehind text depth c (room_of room) behind }
     {
         let text = self.text;
         if at(text, behind) == b' ' && begins_token(at(text, behind + 1)) {
@@ -87,6 +94,9 @@ impl Reader<'_> {
             → (column text behind == 0) ≡ false → (room ≢ rooms.Value → IsCounted self.old behind)
             → result ≢ no_place
             → Reads self.old self.new result (IsBehind text depth c (room_of room) behind result) }
+        ensures missed { (text : List ℕ) (c : ℕ) → IsOf text self.old → IsUnnamed self.old → least ≡ suc c
+            → (column text behind == 0) ≡ false → (room ≢ rooms.Value → IsCounted self.old behind)
+            → result ≡ no_place → self.new.starved ≡ false → LeavesBehind text depth c (room_of room) behind }
     {
         self.begin(behind);
         let line = self.line;
@@ -123,6 +133,9 @@ impl Reader<'_> {
         ensures found { (text : List ℕ) → IsOf text self.old → IsUnnamed self.old → is_over text place ≡ false
             → (room ≢ rooms.Value → IsCounted self.old place) → result ≢ no_place
             → Reads self.old self.new result (IsBlockNode text depth least (room_of room) place result) }
+        ensures missed { (text : List ℕ) → IsOf text self.old → IsUnnamed self.old → is_over text place ≡ false
+            → begins_token text place ≡ true → (room ≢ rooms.Value → IsCounted self.old place) → result ≡ no_place
+            → self.new.starved ≡ false → LeavesBlockNode text depth least (room_of room) place }
     {
         self.begin(place);
         let byte = at(self.text, place);
@@ -147,6 +160,11 @@ impl Reader<'_> {
             → self.old.start.late ≡ false → self.old.start.index ≡ place → is_mark text indicator place ≡ true
             → is_over text place ≡ false → (room ≢ rooms.Value → IsCounted self.old place) → result ≢ no_place
             → Reads self.old self.new result (IsBlockNode text depth least (room_of room) place result) }
+        ensures missed { (text : List ℕ) (least : ℕ) → IsOf text self.old → IsUnnamed self.old
+            → self.old.start.late ≡ false → self.old.start.index ≡ place → is_mark text indicator place ≡ true
+            → (indicator ≡ 45) ⊎ (indicator ≡ 63) → is_over text place ≡ false
+            → (room ≢ rooms.Value → IsCounted self.old place) → result ≡ no_place → self.new.starved ≡ false
+            → LeavesBlockNode text depth least (room_of room) place }
     {
         if room == Room::Value {
             NO_PLACE
@@ -170,6 +188,11 @@ impl Reader<'_> {
             → is_over text place ≡ false
             → (wanders (at text place) ≡ false → IsBlockNamed text least room self.old place) → result ≢ no_place
             → Reads self.old self.new result (IsBlockNode text depth least in_room self.old.start.index result) }
+        ensures missed { (text : List ℕ) (in_room : grammar.Room) → IsOf text self.old
+            → IsContent text depth least room in_room self.old place → is_over text place ≡ false
+            → begins_token text place ≡ true
+            → result ≡ no_place → self.new.starved ≡ false
+            → LeavesBlockNode text depth least in_room self.old.start.index }
     {
         match at(self.text, place) {
             b'|' | b'>' => self.block_scalar(place, least),
@@ -190,6 +213,11 @@ impl Reader<'_> {
             → is_over text place ≡ false
             → (wanders (at text place) ≡ false → IsBlockNamed text least room self.old place) → result ≢ no_place
             → Reads self.old self.new result (IsBlockNode text depth least in_room self.old.start.index result) }
+        ensures missed { (text : List ℕ) (in_room : grammar.Room) → IsOf text self.old
+            → IsContent text depth least room in_room self.old place → is_over text place ≡ false
+            → begins_other (at text place) ≡ true
+            → result ≡ no_place → self.new.starved ≡ false
+            → LeavesBlockNode text depth least in_room self.old.start.index }
     {
         let text = self.text;
         if !begins_plain(text, false, place) {
@@ -214,6 +242,11 @@ impl Reader<'_> {
             → quotes (at text place) ≡ true
             → IsBlockNamed text least room self.old place → result ≢ no_place
             → Reads self.old self.new result (IsBlockNode text depth least in_room self.old.start.index result) }
+        ensures missed { (text : List ℕ) (in_room : grammar.Room) → IsOf text self.old
+            → IsContent text depth least room in_room self.old place → is_over text place ≡ false
+            → quotes (at text place) ≡ true
+            → result ≡ no_place → self.new.starved ≡ false
+            → LeavesBlockNode text depth least in_room self.old.start.index }
     {
         let Some(leaf) = find_leaf(self.text, false, place) else {
             return NO_PLACE;
@@ -239,10 +272,17 @@ impl Reader<'_> {
         ensures found { (text : List ℕ) (least : ℕ) (in_room : grammar.Room) → IsOf text self.old → Takes room in_room
             → (room ≢ rooms.Value → BeginsWithKey text self.old leaf) → result ≢ no_place
             → Reads self.old self.new result (IsBlockNode text depth least in_room self.old.start.index result) }
+        ensures missed { (text : List ℕ) (least : ℕ) (in_room : grammar.Room) → IsOf text self.old
+            → (room ≢ rooms.Value → BeginsWithKey text self.old leaf)
+            → IsKeyed text depth least room in_room self.old leaf → result ≡ no_place → self.new.starved ≡ false
+            → LeavesBlockNode text depth least in_room self.old.start.index }
     {
         let colon = colon_behind(self.text, leaf.end);
         let start = self.start.index;
-        if depth == 0 || !self.begins_mapping(start, colon, room) {
+        if depth == 0 {
+            return NO_PLACE;
+        }
+        if !self.begins_mapping(start, colon, room) {
             return NO_PLACE;
         }
         let first = self.tape.entries.len();
@@ -257,6 +297,7 @@ impl Reader<'_> {
         ensures line { IsTrue result → self.now.line_start ≤ start }
         ensures near { IsTrue result → colon ≤ start + 1024 }
         ensures room { IsTrue result → room ≢ rooms.Value }
+        ensures missed { result ≡ false → room ≢ rooms.Value → self.now.line_start ≤ start → start + 1024 < colon }
     {
         room != Room::Value
             && start >= self.line_start
@@ -274,13 +315,15 @@ impl Reader<'_> {
         ensures found { (text : List ℕ) → IsOf text self.old → IsUnnamed self.old → at text colon ≡ 58
             → result ≢ no_place
             → Reads self.old self.new result (AreEntriesBehind text depth column colon result) }
+        ensures missed { (text : List ℕ) → IsOf text self.old → IsUnnamed self.old → at text colon ≡ 58
+            → result ≡ no_place → self.new.starved ≡ false → LeavesEntriesBehind text depth column colon }
     {
         let next = reach!(self.part(colon + 1, column + 1, Room::Value, depth));
         self.entries(next, column, first, depth)
     }
 
     // A collection between brackets, or a mapping that begins with it as a key. Where it turns out to be that, its
-    // events are taken back, and the mapping is read from there.
+    // events are taken back, and the mapping is read from there, in the line where it begins.
     #[inline(never)]
     #[cycle(block)]
     fn brackets(&mut self, place: usize, room: Room, depth: usize) -> usize
@@ -292,8 +335,14 @@ impl Reader<'_> {
             → opens (at text place) ≡ true
             → IsBlockNamed text least room self.old place → result ≢ no_place
             → Reads self.old self.new result (IsBlockNode text depth least in_room self.old.start.index result) }
+        ensures missed { (text : List ℕ) (least : ℕ) (in_room : grammar.Room) → IsOf text self.old
+            → IsContent text depth least room in_room self.old place → is_over text place ≡ false
+            → opens (at text place) ≡ true
+            → result ≡ no_place → self.new.starved ≡ false
+            → LeavesBlockNode text depth least in_room self.old.start.index }
     {
         let start = self.start.index;
+        let line = self.line;
         let line_start = self.line_start;
         let first = self.tape.entries.len();
         let end = reach!(self.flow(place, depth));
@@ -301,10 +350,13 @@ impl Reader<'_> {
         if colon == NO_PLACE {
             return self.margin(end);
         }
-        if self.line_start != line_start || !self.begins_mapping(start, colon, room) {
+        self.go_back(first, line, line_start);
+        if !self.begins_mapping(start, colon, room) {
             return NO_PLACE;
         }
-        self.take_back(first);
+        if !is_one_line(self.text, start, colon) {
+            return NO_PLACE;
+        }
         self.begin(start);
         self.mapping(start, depth)
     }

@@ -5,6 +5,9 @@ ghost use Rattle.std.specs.Prelude.{◌≡◌, ◌≢◌, ◌+◌, ◌-◌, ◌<
 ghost use Rattle.yaml_direct.specs.ByColumns.{AreLastEntries, IsEntry, IsMapping, IsSequence, Reads};
 ghost use Rattle.yaml_direct.specs.Held.{IsUnnamed, names_of};
 ghost use Rattle.yaml_direct.specs.InBrackets.{IsOf};
+ghost use Rattle.yaml_direct.specs.LeftByColumns.{LeavesColumns, LeavesEntries, LeavesEntry};
+ghost use Rattle.yaml_direct.specs.Bytes.{at};
+ghost use Rattle.yaml_reading.specs.BlockReader.{entries, items};
 ghost use Rattle.yaml_direct.specs.Places.{Grows, IsHere, Keeps, Reaches, no_place};
 ghost use Rattle.yaml_direct.specs.Tokens.{IsCounted};
 ghost use Rattle.yaml_grammar.specs.Bytes.{column, is_mark, is_over};
@@ -31,6 +34,9 @@ impl Reader<'_> {
             → is_mark text 45 place ≡ true → IsCounted self.old place → result ≢ no_place
             → Reads self.old self.new result (IsSequence text (depth - 1) (column text place) self.old.start.index
             (names_of self.old) place result) }
+        ensures missed { (text : List ℕ) → IsOf text self.old → self.old.start.late ≡ false
+            → is_mark text 45 place ≡ true → IsCounted self.old place → result ≡ no_place → self.new.starved ≡ false
+            → LeavesColumns text items depth place }
     {
         if depth == 0 {
             return NO_PLACE;
@@ -60,6 +66,9 @@ impl Reader<'_> {
             → is_over text place ≡ false → IsCounted self.old place → result ≢ no_place
             → Reads self.old self.new result (IsMapping text (depth - 1) (column text place) self.old.start.index
             (names_of self.old) place result) }
+        ensures missed { (text : List ℕ) → IsOf text self.old → self.old.start.late ≡ false
+            → is_over text place ≡ false → at text place ≢ 32 → IsCounted self.old place → result ≡ no_place
+            → self.new.starved ≡ false → LeavesColumns text entries depth place }
     {
         if depth == 0 {
             return NO_PLACE;
@@ -86,6 +95,9 @@ impl Reader<'_> {
         ensures found { (text : List ℕ) → IsOf text self.old → IsUnnamed self.old → IsCounted self.old from
             → result ≢ no_place
             → Reads self.old self.new result (AreLastEntries text depth column from result) }
+        ensures missed { (text : List ℕ) → IsOf text self.old → IsUnnamed self.old → IsCounted self.old from
+            → at text from ≢ 32 → result ≡ no_place → self.new.starved ≡ false
+            → LeavesEntries text depth column from }
     {
         let mut next = from;
         'entries: while self.is_at(next, column) {
@@ -108,6 +120,9 @@ impl Reader<'_> {
         ensures found { (text : List ℕ) → IsOf text self.old → IsUnnamed self.old → IsCounted self.old place
             → is_at text column place ≡ true → result ≢ no_place
             → Reads self.old self.new result (IsEntry text depth column place result) }
+        ensures missed { (text : List ℕ) → IsOf text self.old → IsUnnamed self.old → IsCounted self.old place
+            → is_at text column place ≡ true → at text place ≢ 32 → result ≡ no_place → self.new.starved ≡ false
+            → LeavesEntry text depth column place }
     {
         self.begin(place);
         if is_mark(self.text, b'?', place) {
@@ -129,6 +144,9 @@ impl Reader<'_> {
         ensures found { (text : List ℕ) → IsOf text self.old → IsUnnamed self.old → IsCounted self.old place
             → is_mark text 63 place ≡ true → result ≢ no_place
             → Reads self.old self.new result (IsEntry text depth column place result) }
+        ensures missed { (text : List ℕ) → IsOf text self.old → IsUnnamed self.old → IsCounted self.old place
+            → is_mark text 63 place ≡ true → result ≡ no_place → self.new.starved ≡ false
+            → LeavesEntry text depth column place }
     {
         let next = reach!(self.part(place + 1, column + 1, Room::Part, depth));
         if is_mark(self.text, b':', next) && self.is_at(next, column) {

@@ -1,7 +1,7 @@
 //! Documents, one after another.
 #![tactic(auto, using(crate::proofs::Growing::given_up))]
 
-ghost use Rattle.std.specs.Prelude.{◌≡◌, ◌≢◌, ◌+◌, ◌<◌, ◌≤◌, [], IfOk, IfSome, List, false, length, true};
+ghost use Rattle.std.specs.Prelude.{◌≡◌, ◌≢◌, ◌+◌, ◌^◌, ◌<◌, ◌≤◌, [], IfNone, IfOk, IfSome, List, false, length, true};
 
 use crate::byte::ends_document;
 use crate::place::NO_PLACE;
@@ -46,11 +46,14 @@ impl<'a> Documents<'a> {
     ghost use Rattle.yaml_direct.specs.declared.document.Step.TheVariants as step;
     ghost use Rattle.yaml_tape.specs.Pushes.{marked_on};
 
-    /// The documents of a text, or none where the text can't be read so.
+    /// The documents of a text, or none where the text can't be read so. Then none stand in it, if it has only characters
+    /// of the grammar and fewer than 2^32 bytes.
     pub fn new(alloc: Global, text: &'a [u8]) -> Result<Option<Documents<'a>>, AllocError>
         ensures text { IfOk result (λ o. IfSome o (λ d. d.reader.text.now ≡ text.now)) }
         ensures begun { IfOk result (λ o. IfSome o (λ d. IsBegun (told_by d))) }
         ensures stands { is_text text.now ≡ true → IfOk result (λ o. IfSome o HasBegun) }
+        ensures left { is_text text.now ≡ true → length text.now < 2 ^ 32
+            → IfOk result (λ o. IfNone o (NothingStands text.now)) }
     {
         let from: usize = if has_order_mark(text) { 3 } else { 0 };
         let ascii = match characters_of(&text[from..]) {
@@ -73,6 +76,8 @@ impl<'a> Documents<'a> {
         ensures begun { IfOk result (λ o. IfSome o (λ d. IsBegun (told_by d))) }
         ensures stands { is_text reader.entry.text.now ≡ true → IsUnnamed reader.entry → from ≡ 0
             → reader.entry.line_start ≡ 0 → IfOk result (λ o. IfSome o HasBegun) }
+        ensures left { is_text reader.entry.text.now ≡ true → from ≡ 0
+            → IfOk result (λ o. IfNone o (NothingStands reader.entry.text.now)) }
     {
         let mut reader = reader;
         let next = reader.begin_stream(from);
@@ -91,7 +96,8 @@ impl<'a> Documents<'a> {
     }
 
     /// Reads a document, or the end of the text, and adds its events. Of a text that has only characters of the grammar
-    /// each document stands in it behind those that were read, and at the end they are all.
+    /// each document stands in it behind those that were read, and at the end they are all. Where it leaves what comes
+    /// next, no documents stand in the text.
     pub fn advance(&mut self) -> Result<Step, AllocError>
         ensures text { self.new.reader.text.now ≡ self.old.reader.text.now }
         ensures document { IfOk result (λ s. s ≡ step.Document → AddsDocument (told_by self.old) (told_by self.new)) }
@@ -101,6 +107,8 @@ impl<'a> Documents<'a> {
             → IfOk result (λ s. s ≡ step.Document → ReadsDocument self.old self.new ds) }
         ensures whole { (ds : List Document) → HasRead self.old ds
             → IfOk result (λ s. s ≡ step.End → EndsText self.old self.new ds) }
+        ensures left { (ds : List Document) → HasRead self.old ds
+            → IfOk result (λ s. s ≡ step.Elsewhere → NothingStands self.old.reader.text.now) }
     {
         self.skip_ends();
         if self.next == NO_PLACE {
@@ -138,6 +146,9 @@ impl<'a> Documents<'a> {
         ensures stands { (ds : List Document) → HasRead self.old ds → self.old.next ≢ length self.old.reader.text.now
             → ends_document self.old.reader.text.now self.old.next ≡ false
             → IfOk result (λ s. s ≡ step.Document → ReadsDocument self.old self.new ds) }
+        ensures left { (ds : List Document) → HasRead self.old ds → self.old.next ≢ length self.old.reader.text.now
+            → ends_document self.old.reader.text.now self.old.next ≡ false
+            → IfOk result (λ s. s ≡ step.Elsewhere → NothingStands self.old.reader.text.now) }
     {
         let count = self.reader.tape.entries.len();
         self.next = self.reader.document(self.next, !self.begun, self.ended);
@@ -197,6 +208,7 @@ impl<'a> Documents<'a> {
         ensures of_text { result.text.now ≡ self.old.reader.text.now }
         ensures taken { marked_on result ≡ told_by self.old }
         ensures none { told_by self.new ≡ [] }
+        ensures read { (ds : List Document) → HasRead self.old ds → HasRead self.new ds }
     {
         self.reader.take_tape()
     }

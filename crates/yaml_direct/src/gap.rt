@@ -83,6 +83,7 @@ impl Reader<'_> {
             → IsAtNext self.old self.new from result }
         ensures ended { is_text self.old.text.now ≡ true → result ≢ no_place
             → ends_its_line self.old.text.now from ≡ true }
+        ensures token { result ≢ no_place → begins_token self.old.text.now result ≡ true }
         ensures missed { is_text self.old.text.now ≡ true → result ≡ no_place
             → ends_its_line self.old.text.now from ≡ false }
     {
@@ -111,6 +112,7 @@ impl Reader<'_> {
             → IsAtNext self.old self.new from result }
         ensures ended { is_text self.old.text.now ≡ true → result ≢ no_place
             → ends_its_line self.old.text.now from ≡ true }
+        ensures token { result ≢ no_place → begins_token self.old.text.now result ≡ true }
         ensures missed { is_text self.old.text.now ≡ true → result ≡ no_place
             → ends_its_line self.old.text.now from ≡ false }
     {

@@ -1,7 +1,7 @@
 //! A text, the line that is read, the node that begins, and the events that were made.
 #![tactic(auto, using(crate::proofs::Growing::grows_on, crate::proofs::Growing::grows_same))]
 
-ghost use Rattle.std.specs.Prelude.{◌≡◌, ◌≢◌, ◌+◌, ◌-◌, ◌<◌, ◌≤◌, ◌&&◌, IsTrue, false, length, not, true};
+ghost use Rattle.std.specs.Prelude.{◌≡◌, ◌≢◌, ◌+◌, ◌-◌, ◌^◌, ◌<◌, ◌≤◌, ◌&&◌, IfNone, IsTrue, false, length, not, true};
 ghost use Rattle.std.specs.Option.{is_none};
 
 use crate::byte::{is_mark, parts_documents};
@@ -60,6 +60,7 @@ impl<'a> Reader<'a> {
         ensures begun { IfSome result (λ r. r.line_start ≡ from) }
         ensures empty { IfSome result (λ r. marked_on r.tape ≡ []) }
         ensures unnamed { IfSome result IsUnnamed }
+        ensures none { IfNone result (2 ^ 32 ≤ length text.now) }
     {
         let tape = Tape::new(alloc, text)?;
         Some(Reader {
@@ -86,6 +87,7 @@ impl<'a> Reader<'a> {
         ensures of_text { result.text.now ≡ self.old.text.now }
         ensures taken { marked_on result ≡ marked_on self.old.tape }
         ensures none { marked_on self.new.tape ≡ [] }
+        ensures names { self.new.names ≡ self.old.names }
     {
         self.tape.take(self.alloc)
     }
@@ -190,6 +192,21 @@ impl<'a> Reader<'a> {
         ensures grows { Grows self.old self.new }
     {
         self.start = spot(place);
+    }
+
+    // Goes back to a line that begins there, behind so many lines: takes off all events behind so many.
+    pub(crate) fn go_back(&mut self, count: usize, line: usize, line_start: usize)
+        requires fewer { line ≤ line_start }
+        requires inside { line_start ≤ length self.old.text.now }
+        ensures text { self.new.text.now ≡ self.old.text.now }
+        ensures line { self.new.line_start ≡ line_start }
+        ensures names { self.new.names ≡ self.old.names }
+        ensures events { marked_on self.new.tape ≡ take count (marked_on self.old.tape) }
+        ensures starved { self.new.starved ≡ self.old.starved }
+    {
+        self.tape.cut(count);
+        self.line = line;
+        self.line_start = line_start;
     }
 
     // Takes off all events behind so many.

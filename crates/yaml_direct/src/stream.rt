@@ -4,10 +4,12 @@
 ghost use Rattle.std.specs.Prelude.{◌≡◌, ◌≢◌, ◌++◌, ◌∷◌, ◌<◌, ◌≤◌, ◌⊎◌, [], IfSome, List, None, Some, false, length, true, ℕ};
 ghost use Rattle.yaml_base.specs.PlainEvent.{stream_end, stream_start};
 ghost use Rattle.yaml_direct.specs.Added.{Adds};
+ghost use Rattle.yaml_direct.specs.Bytes.{is_gap};
 ghost use Rattle.yaml_direct.specs.ByColumns.{Reads};
 ghost use Rattle.yaml_direct.specs.Documents.{AddsDocument, AddsEnd};
 ghost use Rattle.yaml_direct.specs.Held.{IsUnnamed};
-ghost use Rattle.yaml_direct.specs.LeftDocuments.{LeavesDirective};
+ghost use Rattle.yaml_direct.specs.Gaps.{begins_token};
+ghost use Rattle.yaml_direct.specs.LeftDocuments.{LeavesContent, LeavesDirective, NoDocument, NoRoot};
 ghost use Rattle.yaml_direct.specs.InBrackets.{IsOf};
 ghost use Rattle.yaml_direct.specs.Places.{IsHere, Reaches, no_place};
 ghost use Rattle.yaml_direct.specs.Standing.{IsContent, IsContentAt, IsDirective, IsDocument, IsRoot};
@@ -58,6 +60,7 @@ impl Reader<'_> {
         ensures names { self.new.names ≡ self.old.names }
         ensures first { is_text self.old.text.now ≡ true → result ≢ no_place → IsCounted self.old from
             → (result ≡ next self.old.text.now from) × IsCounted self.new result }
+        ensures token { result ≢ no_place → begins_token self.old.text.now result ≡ true }
         ensures missed { is_text self.old.text.now ≡ true → result ≡ no_place → self.new.starved ≡ false
             → HasNoToken self.old.text.now from }
     {
@@ -88,6 +91,11 @@ impl Reader<'_> {
             → IsCounted self.old place → place < length text → ends_document text place ≡ false
             → (bare ≡ true → earlier ≡ none) → (directed ≡ true → takes_directive earlier ≡ true)
             → result ≢ no_place → Reads self.old self.new result (IsDocument text earlier place result) }
+        ensures missed { (text : List ℕ) (earlier : Earlier) → IsOf text self.old → IsUnnamed self.old
+            → IsCounted self.old place → place < length text → ends_document text place ≡ false
+            → begins_token text place ≡ true → (earlier ≡ none → bare ≡ true)
+            → (takes_directive earlier ≡ true → directed ≡ true) → result ≡ no_place → self.new.starved ≡ false
+            → NoDocument text earlier place }
     {
         reach!(self.push_bound(EntryKind::DocumentStart, spot(place), place));
         let next = reach!(self.directed_content(place, bare, directed));
@@ -103,6 +111,11 @@ impl Reader<'_> {
             → IsCounted self.old place → place < length text → ends_document text place ≡ false
             → (bare ≡ true → earlier ≡ none) → (directed ≡ true → takes_directive earlier ≡ true)
             → result ≢ no_place → Reads self.old self.new result (IsContent text earlier place result) }
+        ensures missed { (text : List ℕ) (earlier : Earlier) → IsOf text self.old → IsUnnamed self.old
+            → IsCounted self.old place → place < length text → ends_document text place ≡ false
+            → begins_token text place ≡ true → (earlier ≡ none → bare ≡ true)
+            → (takes_directive earlier ≡ true → directed ≡ true) → result ≡ no_place → self.new.starved ≡ false
+            → NoDocument text earlier place }
     {
         let start = reach!(self.directives(place, directed));
         let next = reach!(self.content_at(start, bare, place));
@@ -119,6 +132,9 @@ impl Reader<'_> {
         ensures found { (text : List ℕ) → IsOf text self.old → IsUnnamed self.old → IsCounted self.old start
             → place < length text → ends_document text place ≡ false → result ≢ no_place
             → IsContentAt text bare place self.old self.new start result }
+        ensures missed { (text : List ℕ) → IsOf text self.old → IsUnnamed self.old → IsCounted self.old start
+            → (start ≡ place → begins_token text start ≡ true) → result ≡ no_place → self.new.starved ≡ false
+            → LeavesContent text bare place start }
     {
         if start == self.line_start && begins_document(self.text, start) {
             return self.marked_content(start + 3);
@@ -156,6 +172,8 @@ impl Reader<'_> {
         ensures reached { Reaches self.old self.new behind result }
         ensures found { (text : List ℕ) → IsOf text self.old → IsUnnamed self.old → IsAmidLine self.old behind
             → result ≢ no_place → Reads self.old self.new result (IsRoot text behind result) }
+        ensures missed { (text : List ℕ) → IsOf text self.old → IsUnnamed self.old → IsAmidLine self.old behind
+            → is_gap text behind ≡ true → result ≡ no_place → self.new.starved ≡ false → NoRoot text behind }
     {
         let line = self.line;
         let next = reach!(self.gap(behind));

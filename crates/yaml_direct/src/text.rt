@@ -1,8 +1,11 @@
 //! Which texts are read at all: those whose characters are allowed, and in which only line feeds end lines, each after
 //! a carriage return or not.
 
-ghost use Rattle.std.specs.Prelude.{◌≡◌, ◌≤◌, IsTrue, length};
+ghost use Rattle.std.specs.Prelude.{◌≡◌, ◌≢◌, ◌<◌, ◌≤◌, IsTrue, false, length, true};
 ghost use Rattle.yaml_base.specs.Places.{has_order_mark};
+ghost use Rattle.yaml_direct.specs.Bytes.{begins_forbidden};
+ghost use Rattle.yaml_direct.specs.declared.text.Characters.TheVariants as characters;
+ghost use Rattle.yaml_grammar.specs.Bytes.{at, is_character, is_text};
 
 use crate::byte::at;
 use memchr::{memchr_iter, memchr3_iter};
@@ -21,7 +24,9 @@ pub(crate) enum Characters {
 
 // Whether this byte of ASCII may stand in a text.
 #[inline(always)]
-fn is_allowed_byte(byte: u8) -> bool {
+fn is_allowed_byte(byte: u8) -> bool
+    ensures { is_character byte ≡ true → byte < 128 → result ≡ true }
+{
     (byte >= 0x20 && byte <= 0x7E) | (byte == b'\n') | (byte == b'\t') | (byte == b'\r')
 }
 
@@ -35,16 +40,20 @@ fn is_allowed_ascii(text: &[u8]) -> bool {
 }
 
 // Whether each byte of ASCII is an allowed one.
-fn has_allowed_ascii(text: &[u8]) -> bool {
+fn has_allowed_ascii(text: &[u8]) -> bool
+    ensures { is_text text.now ≡ true → result ≡ true }
+{
     let mut allowed = true;
-    for byte in text {
+    'bytes: for byte in text {
         allowed &= is_allowed_byte(*byte) | (*byte >= 0x80);
     }
     allowed
 }
 
 // Whether a character begins the bytes that is not allowed, ends a line, or is the mark of the order of bytes.
-fn begins_forbidden(bytes: &[u8]) -> bool {
+fn begins_forbidden(bytes: &[u8]) -> bool
+    ensures { IsTrue result → begins_forbidden bytes.now ≡ true }
+{
     matches!(
         bytes,
         [0xC2, 0x80..=0x9F, ..]
@@ -55,18 +64,24 @@ fn begins_forbidden(bytes: &[u8]) -> bool {
 }
 
 // Whether such a character stands in the text.
-fn has_forbidden(text: &[u8]) -> bool {
-    for place in memchr3_iter(0xC2, 0xE2, 0xEF, text) {
-        if text.get(place..).is_some_and(|rest| begins_forbidden(rest)) {
-            return true;
+fn has_forbidden(text: &[u8]) -> bool
+    ensures { is_text text.now ≡ true → result ≡ false }
+{
+    'marks: for place in memchr3_iter(0xC2, 0xE2, 0xEF, text) {
+        if let Some(rest) = text.get(place..) {
+            if begins_forbidden(rest) {
+                return true;
+            }
         }
     }
     false
 }
 
 // Whether a carriage return stands in the text, and no line feed behind it.
-fn has_lone_return(text: &[u8]) -> bool {
-    for place in memchr_iter(b'\r', text) {
+fn has_lone_return(text: &[u8]) -> bool
+    ensures { is_text text.now ≡ true → result ≡ false }
+{
+    'returns: for place in memchr_iter(b'\r', text) {
         if !text
             .get(place..)
             .is_some_and(|rest| rest.starts_with(b"\r\n"))
@@ -86,7 +101,9 @@ pub(crate) fn has_order_mark(text: &[u8]) -> bool
 }
 
 // What the characters of a text are, behind the mark of the order of bytes.
-pub(crate) fn characters_of(text: &[u8]) -> Characters {
+pub(crate) fn characters_of(text: &[u8]) -> Characters
+    ensures other { is_text text.now ≡ true → result ≢ characters.Other }
+{
     if has_lone_return(text) {
         Characters::Other
     } else if is_allowed_ascii(text) {

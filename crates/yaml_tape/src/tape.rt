@@ -1,7 +1,7 @@
 //! A tape, and what is kept on it beside its events.
 
-ghost use Rattle.std.specs.Prelude.{◌≡◌, ◌≤◌, ◌<◌, ◌^◌, ◌++◌, ◌∷◌, [], All, IfSome, IsTrue, None, Some, length, take};
-ghost use Rattle.std.specs.Prelude.{true, false, vec_capacity, vec_len};
+ghost use Rattle.std.specs.Prelude.{◌≡◌, ◌≤◌, ◌<◌, ◌^◌, ◌++◌, ◌∷◌, [], All, IfNone, IfSome, IsTrue, None, Some};
+ghost use Rattle.std.specs.Prelude.{length, take, true, false, vec_capacity, vec_len};
 ghost use Rattle.yaml_tape.specs.OnTape.{IsInside};
 
 use crate::entry::{Entry, EntryKind, Names, Spot};
@@ -39,6 +39,7 @@ impl<'t> Tape<'t> {
     pub fn new(alloc: Global, text: &'t [u8]) -> Option<Tape<'t>>
         ensures text { IfSome result (λ t. t.text.now ≡ text.now) }
         ensures empty { IfSome result (λ t. marked_on t ≡ []) }
+        ensures none { IfNone result (2 ^ 32 ≤ length text.now) }
     {
         if text.len() > LONGEST {
             return None;

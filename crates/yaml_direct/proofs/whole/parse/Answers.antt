@@ -1,5 +1,5 @@
 -- A document more, and the end.
-use Rattle.std.proofs.Common.{subst, sym, ◌∙◌}
+use Rattle.std.proofs.Common.{ap, arith, length, subst, sym, ◌∙◌}
 use Rattle.yaml_direct.specs.Documents.{SaysDocuments}
 use Rattle.yaml_direct.proofs.DocumentReads.{all_more, all_whole}
 use Rattle.yaml_direct.proofs.Growing.{begun_document}
@@ -14,7 +14,7 @@ documents-preserved c =
       text = c.advance.ensures.text ∙ i.text;
       read = λ h.
           let a = i.read h in
-          all_more c.args.text.now c.documents.documents c.advance.new.self a
+          all_more c.args.text.now c.documents.counter c.documents.documents c.advance.new.self a
           (e.stands a.documents a.read c.in-Document.is);
     }
 
@@ -23,5 +23,20 @@ returns-in-End-clause-stands c = λ h.
     let i = c.documents.invariant in
     let a = i.read h in
     subst (SaysDocuments c.args.text.now) (sym c.into_tape.ensures.events)
-    (all_whole c.args.text.now c.documents.documents c.advance.new.self a i.text
+    (all_whole c.args.text.now c.documents.counter c.documents.documents c.advance.new.self a i.text
     (c.in_ok-advance.ensures.whole a.documents a.read c.in-End.is))
+
+-- each turn reads a document, which has a byte at least: the text has no room for so many
+pub returns-clause-left : goal.returns-clause-left
+returns-clause-left c = λ h short ds stand.
+    let i = c.documents.invariant in
+    let a = i.read h in
+    omega (
+      arith,
+      a.each,
+      a.read.few,
+      a.read.counted.within,
+      ap length i.text,
+      c.documents-test.false,
+      c.documents.auto.counter-end,
+    )

@@ -9,5 +9,5 @@ abbrev pub invariant-documents : goal.invariant-documents
 invariant-documents l = record {
   begun : IsBegun (told_by l.documents);
   text : l.documents.reader.text.now ≡ l.text;
-  read : is_text l.text ≡ true → AllRead l.text l.documents;
+  read : is_text l.text ≡ true → AllRead l.text l.counter l.documents;
 }

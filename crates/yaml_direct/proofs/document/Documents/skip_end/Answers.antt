@@ -1,5 +1,5 @@
 -- What stands behind `...`.
-use Rattle.std.proofs.Common.{refl, sym, ◌∙◌}
+use Rattle.std.proofs.Common.{arith, refl, sym, ◌∙◌}
 use Rattle.std.proofs.lemmas.Bool.{false≢true}
 use Rattle.yaml_direct.proofs.BracketReads.{unnamed_kept}
 use Rattle.yaml_direct.proofs.CountedLaws.{column_later}
@@ -16,7 +16,8 @@ returns-then-self-clause-read c = λ ds h here some.
     let ends = m.ended h.allowed some in
     end_read old _ ds h m.reached.0 c.if-self.true c.if-self.true refl here ends n.there
     (unnamed_kept old.reader r m.names h.unnamed)
-    (column_later old.reader r _ c.margin-self.result n m.reached.0 ends (m.reached.1.1 some).1.1)
+    (column_later old.reader r _ c.margin-self.result n m.reached.0 ends (m.reached.1.1 some).1.1) (m.token some)
+    (omega (arith, (m.reached.1.1 some).0))
 
 pub returns-then-self-clause-left : goal.returns-then-self-clause-left
 returns-then-self-clause-left c = λ ds h here none.

@@ -23,3 +23,12 @@ returns-clause-found c = λ text earlier of none counted inside content bare dir
     c.spot.ensures.0 c.spot.ensures.1 (start.added c.if-place.false) x (p.reached.0 ∙ of_a.same)
     c.end_spot-mark.ensures.ended (end.added some) end.names (end.there some)
     (subst (λ q. IsCounted new q) (sym (end.there some)) (counted_same b new j end.kept.0 end.kept.1.0 x.counted))
+
+pub returns-then-place-2-clause-missed : goal.returns-then-place-2-clause-missed
+returns-then-place-2-clause-missed c = λ text earlier of none counted inside content token bare takes lost fed.
+    let old = c.args.self.now in
+    let a = c.push_bound-place.new.self in
+    let start = c.push_bound-place.ensures in
+    c.directed_content-place.ensures.missed text earlier (of_kept text old a of start.kept.0)
+    (unnamed_kept old a start.names none) (counted_same old a c.args.place start.kept.0 start.kept.1.0 counted) inside
+    content token bare takes c.if-place-2.true fed
