@@ -12,6 +12,7 @@ use Rattle.yaml_shape.specs.PlainShape.{PlainShape, any_shape, shape_at}
 use Rattle.yaml_shape.specs.Validity.{IsValidSchema}
 use Rattle.yaml_meaning.specs.Meaning.{Means}
 use Rattle.yaml_scan.specs.AllowedText.{IsAllowed}
+use Rattle.yaml_checked.specs.OfText.{SaysText}
 use Rattle.yaml_checked.specs.StandsInText.{StandsInText}
 use Rattle.yaml_documents.proofs.ParsedDocuments.{one_document_parsed}
 use Rattle.yaml_read.specs.Documents.{Input, documents_of}
@@ -55,13 +56,13 @@ only_gives limits table s input document found formed only gives = a_stream form
 -- a value that the tape of an allowed text holds is what the text gives
 pub tape_gives : {T : Type 0} (limits : PlainLimits) (start : Start) (built : PlainData → T → Type 0)
     (refused : PlainData → List ℕ → Type 0) (t : Tape) (x : T) → InputsGiveMeanings → IsClosed start
-    → IsValidSchema start.0 → OptionalsEnd start.0 → IsAllowed t.text.now → StandsInText t
+    → IsValidSchema start.0 → OptionalsEnd start.0 → IsAllowed t.text.now → SaysText t → StandsInText t
     → HoldsValue start built t limits.nesting x
     → IsParsed t.text.now (λ events fault. GivesValue limits start built refused events fault (Ok x)
     × TypeGives limits start built refused events fault (Ok x))
-tape_gives {T} limits start built refused t x law closed valid ends allowed stands h =
+tape_gives {T} limits start built refused t x law closed valid ends allowed says stands h =
     let (end, only, n) = h in
-    let p = one_document_parsed t n.node stands allowed (record {
+    let p = one_document_parsed t n.node stands says allowed (record {
       end = end;
       stream = only.stream_starts;
       document = only.document_starts;

@@ -16,8 +16,7 @@ use crate::de::from_events;
 use std::alloc::Global;
 use std::io::Read;
 use yaml_base::{Event, Mark, Result, Scalar};
-use yaml_documents::{ReaderFault, read_bytes};
-use yaml_parse::parse;
+use yaml_documents::{ReaderFault, events_of_text, read_bytes};
 use yaml_types::Deserialize;
 
 // The event, without the slice of the source that it shows.
@@ -66,9 +65,9 @@ fn from_slice_owned<'de, T: Deserialize<'de>>(alloc: Global, text: &[u8]) -> Res
         GivesValue default_limits T.start T.built T.refused (events_alone events) fault given
         × TypeGives default_limits T.start T.built T.refused (events_alone events) fault given)) }
 {
-    let parsed = parse(alloc, text)?;
-    let events = events_alone(alloc, parsed.events)?;
-    from_events(alloc, events, parsed.fault)
+    let (shown, fault) = events_of_text(alloc, text)?;
+    let events = events_alone(alloc, shown)?;
+    from_events(alloc, events, fault)
 }
 
 /// The one document of the YAML text that a reader gives, as a value of the type, within 128 nestings and 100 follows

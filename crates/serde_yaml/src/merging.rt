@@ -14,9 +14,8 @@ use crate::type_faults::{build_refusal, schema_refusal};
 use std::alloc::Global;
 use std::io::Read;
 use yaml_base::{Cause, Error, Result};
-use yaml_documents::{ReaderFault, load, read_bytes};
+use yaml_documents::{ReaderFault, events_of_text, load, read_bytes};
 use yaml_merge::{Merge, merged};
-use yaml_parse::parse;
 use yaml_read::laws::a_meaning_has_its_shape;
 use yaml_read::{Limits, Loader};
 use yaml_shape::{Data, Schema, ShapeId};
@@ -150,9 +149,9 @@ fn from_slice_owned_merging<'de, T: Deserialize<'de>>(
 ) -> Result<T>
     ensures { IfOk result (GivesMergedOwn default_limits T.start T.built merge text.now) }
 {
-    let parsed = parse(alloc, text)?;
-    let events = events_alone(alloc, parsed.events)?;
-    let documents = Loader::new(alloc, events, parsed.fault)?;
+    let (shown, fault) = events_of_text(alloc, text)?;
+    let events = events_alone(alloc, shown)?;
+    let documents = Loader::new(alloc, events, fault)?;
     value_of_alone(alloc, documents, merge, Limits::DEFAULT)
 }
 

@@ -2,6 +2,7 @@
 
 ghost use Rattle.std.specs.Prelude.{◌≡◌, ◌<◌, length, Some, IfOk, IfErr, true};
 ghost use Rattle.yaml_base.specs.Answer.{Answers, is_memory};
+ghost use Rattle.yaml_checked.specs.OfText.{MayBeLeft, SaysText};
 ghost use Rattle.yaml_scan.specs.AllowedText.{IsAllowed};
 ghost use Rattle.yaml_shape.specs.DataView.{data_of};
 ghost use Rattle.yaml_shape.specs.HasShape.{HasShape};
@@ -67,8 +68,9 @@ pub fn from_slice_limited<'de, T: Deserialize<'de>>(
     }
 }
 
-// The documents of a text by its tokens.
+// The documents of a text that the direct parser leaves, by its tokens.
 fn stream_by_tokens<'de>(alloc: Global, text: &'de [u8]) -> Result<Deserializer<'de>>
+    requires { MayBeLeft text.now }
     ensures documents { IfOk result
         (λ stream. IsParsed text.now (λ events fault. stream ≡ stream_of events fault)) }
     ensures memory { IfErr result (λ cause. is_memory cause ≡ true) }
@@ -76,9 +78,10 @@ fn stream_by_tokens<'de>(alloc: Global, text: &'de [u8]) -> Result<Deserializer<
     Ok(Deserializer::of_documents(load_by_tokens(alloc, text)?))
 }
 
-// The documents of the text of a tape.
+// The documents of the text of a tape, which says those that stand in it.
 fn stream_of_tape<'de>(alloc: Global, tape: Tape<'de>) -> Result<Deserializer<'de>>
-    requires { IsAllowed tape.text.now }
+    requires allowed { IsAllowed tape.text.now }
+    requires says { SaysText tape }
     ensures documents { IfOk result
         (λ stream. IsParsed tape.entry.text.now (λ events fault. stream ≡ stream_of events fault)) }
     ensures memory { IfErr result (λ cause. is_memory cause ≡ true) }
@@ -88,7 +91,8 @@ fn stream_of_tape<'de>(alloc: Global, tape: Tape<'de>) -> Result<Deserializer<'d
 
 // The value of the text of a tape: as the type reads it from the tape, or else of the text's documents.
 fn from_tape<'de, T: Deserialize<'de>>(alloc: Global, tape: Tape<'de>, limits: Limits) -> Result<T>
-    requires { IsAllowed tape.text.now }
+    requires allowed { IsAllowed tape.text.now }
+    requires says { SaysText tape }
     ensures given { Answers (λ value. value) result (λ given. IsParsed tape.entry.text.now (λ events fault.
         GivesValue limits T.start T.built T.refused events fault given
         × TypeGives limits T.start T.built T.refused events fault given)) }

@@ -1,3 +1,19 @@
 -- Lemmas of this crate.
+pub mod BlocksWithin
+pub mod BracketEvents
+pub mod ColumnEvents
+pub mod LeavesWithin
+pub mod LineFeeds
+pub mod PlainSources
+pub mod AllowedLaws
+pub mod GivenLaws
+pub mod RangeLaws
+pub mod StandingDocuments
+pub mod StandingEvents
+pub mod StandingScalars
 pub mod StandingTapes
 pub mod StateLaws
+pub mod StreamEvents
+pub mod TokenPlaces
+pub mod WayLaws
+pub mod WithinText

@@ -1,6 +1,6 @@
 -- Events made of what stands on a tape.
 use Rattle.std.proofs.Common.{◌≡◌, ◌≢◌, ◌≤◌, ◌<◌, ◌+◌, ◌-◌, ◌∷◌, ◌∙◌, [], Bool, List, None, Option, Some, ap, arith}
-use Rattle.std.proofs.Common.{drop, false, get_or, length, length-drop, map, refl, subst, sym, take, true, ℕ}
+use Rattle.std.proofs.Common.{false, get_or, length, length-drop, map, refl, subst, sym, take, true, ℕ}
 use Rattle.std.proofs.lemmas.Bool.{eq-eqb, ne_eqb}
 use Rattle.std.proofs.lemmas.List.Elements.{All-cons, All-get_or, All-head, All-nil, All-push, All-tail, All-weaker}
 use Rattle.std.proofs.lemmas.List.Sorted.{IsNonDecreasingBy-push}
@@ -86,16 +86,16 @@ event_for other (mapping_start anchor tag) short = (event.MappingStart (record {
 event_for other mapping_end short = (event.MappingEnd, refl)
 
 -- a range of a text
-range_long : (xs : List ℕ) (i j : ℕ) → j ≤ length xs → length (slice_range xs i j) ≡ j - i
+pub range_long : (xs : List ℕ) (i j : ℕ) → j ≤ length xs → length (slice_range xs i j) ≡ j - i
 range_long xs i j le = grind (arith, length-take, length-drop)
 
-range_stands : (text : List ℕ) (i j : ℕ) → i ≤ j → j ≤ length text → StandsAt text i (slice_range text i j)
+pub range_stands : (text : List ℕ) (i j : ℕ) → i ≤ j → j ≤ length text → StandsAt text i (slice_range text i j)
 range_stands text i j le within =
     let long : length (slice_range text i j) ≡ j - i = range_long text i j within in
     let there : i + length (slice_range text i j) ≡ j = omega arith in
     (omega arith, ap (slice_range text i) (sym there))
 
-index_at : (text : List ℕ) (i : ℕ) (late : Bool) → (position_at text i late).index ≡ i
+pub index_at : (text : List ℕ) (i : ℕ) (late : Bool) → (position_at text i late).index ≡ i
 index_at text i true = refl
 index_at text i false = refl
 
@@ -166,7 +166,7 @@ never true true = refl
 never true false = refl
 never false b = refl
 
-placed_at : (text : List ℕ) (i : ℕ) (late : Bool) → (late ≡ true → i ≡ length text)
+pub placed_at : (text : List ℕ) (i : ℕ) (late : Bool) → (late ≡ true → i ≡ length text)
     → (late ≡ true → (place_of text (length text)).1 ≢ 0) → IsInPlace text (position_at text i late)
 placed_at text i true behind amid =
     let place = place_of text i in

@@ -1,4 +1,5 @@
 -- What contracts of this crate, and of those above it, cite.
+pub mod OfText
 pub mod PlainTape
 pub mod StandsInText
 pub mod inner

@@ -1,2 +1,4 @@
 -- What private contracts cite.
 pub mod EntryStands
+pub mod OnWay
+pub mod Parts

@@ -19,9 +19,9 @@ pub struct Bookmark<'a> {
 }
 
 impl<'a> Model for Bookmark<'a> {
-    ghost use Rattle.yaml_checked.specs.PlainTape.{PlainTape};
+    ghost use Rattle.yaml_checked.specs.PlainTape.{PlainPlace};
 
-    ghost Value = { PlainTape };
+    ghost Value = { PlainPlace };
 
     ghost view = { λ b. record { text = b.given.text.now; given = b.given.events.items } };
 }

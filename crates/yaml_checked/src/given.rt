@@ -1,18 +1,20 @@
 //! The events that were handed out, and what is known of them.
 
-ghost use Rattle.std.specs.Prelude.{◌≡◌, ◌++◌, ◌∷◌, ◌≢◌, ◌≤◌, [], All, IfErr, IfOk, IfSome, IsSomeAnd, None, Some};
-ghost use Rattle.std.specs.Prelude.{length, true};
+ghost use Rattle.std.specs.Prelude.{◌≡◌, ◌++◌, ◌∷◌, ◌≢◌, ◌≤◌, ◌↔◌, [], All, IfErr, IfNone, IfOk, IfSome, IsSomeAnd, None};
+ghost use Rattle.std.specs.Prelude.{Some, false, length, true, ℕ};
 ghost use Rattle.std.proofs.Props.{props};
 ghost use Rattle.yaml_base.specs.MarkedEvents.{plain_events};
 ghost use Rattle.yaml_base.specs.Places.{place_of};
 ghost use Rattle.yaml_base.specs.PlainEvent.{event_of};
 ghost use Rattle.yaml_base.specs.Stream.{IsStream};
-ghost use Rattle.yaml_base.specs.StreamMachine.{before_stream, between_documents, run};
+ghost use Rattle.yaml_base.specs.StreamMachine.{after_stream, before_stream, between_documents, run};
+ghost use Rattle.yaml_checked.specs.declared.place.Refusal.TheVariants as refusal;
 ghost use Rattle.yaml_parse.specs.Marks.{MarksAscend};
-ghost use Rattle.yaml_parse.specs.Places.{AreInPlace};
+ghost use Rattle.yaml_parse.specs.Places.{AreInPlace, IsInPlace};
 ghost use Rattle.yaml_parse.specs.PlainText.{SaySources, SaysSource, scalar_in};
 ghost use Rattle.yaml_parse.specs.Shown.{AreShown, StandsAt};
 ghost use Rattle.yaml_scan.specs.AllowedText.{IsAllowed};
+ghost use Rattle.yaml_tape.specs.OnTape.{position_at};
 
 use crate::part::Part;
 use crate::place::{Refusal, begun, first_mark, reach};
@@ -30,7 +32,7 @@ pub(crate) struct Given<'a> {
     // Which part of the stream comes next.
     part: Part,
     // Whether no event was refused.
-    whole: bool,
+    pub(crate) whole: bool,
     ghost allowed: { IsAllowed text.now } by { Prim.hlevel props },
     ghost begins: { run (Some before_stream) (plain_events events.items) ≢ None },
     ghost ran: { whole ≡ true → run (Some before_stream) (plain_events events.items) ≡ Some part } by { Prim.hlevel props },
@@ -38,6 +40,9 @@ pub(crate) struct Given<'a> {
     ghost plain: { SaySources events.items } by { Prim.hlevel props },
     ghost marks: { MarksAscend text.now events.items },
     ghost last: { All (λ e. e.1.index ≤ here.index) events.items },
+    ghost least: { (n : ℕ) → All (λ e. e.1.index ≤ n) events.items → here.index ≤ n },
+    ghost between: { (part ≡ between_documents)
+        ↔ (run (Some before_stream) (plain_events events.items) ≡ Some between_documents) } by { Prim.hlevel props },
     ghost places: { AreInPlace text.now events.items } by { Prim.hlevel props },
     ghost place: { (here.line, here.column) ≡ place_of text.now here.index },
     ghost within: { here.index ≤ length text.now },
@@ -49,6 +54,7 @@ impl<'a> Given<'a> {
         requires { IsAllowed text.now }
         ensures text { result.text.now ≡ text.now }
         ensures events { result.events.items ≡ [] }
+        ensures whole { result.whole ≡ true }
     {
         Given {
             text,
@@ -61,9 +67,12 @@ impl<'a> Given<'a> {
 
     // Whether these are all events of a stream.
     pub(crate) fn is_stream(&self) -> bool
-        ensures { result ≡ true → IsStream (plain_events self.now.events.items) }
+        requires { self.now.whole ≡ true }
+        ensures stream { result ≡ true → IsStream (plain_events self.now.events.items) }
+        ensures only { result ≡ false
+            → run (Some before_stream) (plain_events self.now.events.items) ≢ Some after_stream }
     {
-        self.whole && self.part.is_done()
+        self.part.is_done()
     }
 
     // The same events, if they are those of whole documents.
@@ -72,8 +81,10 @@ impl<'a> Given<'a> {
         ensures events { IfSome result (λ given. given.events.items ≡ self.now.events.items) }
         ensures between { IfSome result (λ given.
             run (Some before_stream) (plain_events given.events.items) ≡ Some between_documents) }
+        ensures none { IfNone result
+            (run (Some before_stream) (plain_events self.now.events.items) ≢ Some between_documents) }
     {
-        if !self.whole || !self.part.is_between() {
+        if !self.part.is_between() {
             return None;
         }
         Some(Given {
@@ -103,16 +114,22 @@ impl<'a> Given<'a> {
         index: u32,
         late: bool,
     ) -> Result<(Event<'a>, Mark), Refusal>
+        requires whole { self.old.whole ≡ true }
+        requires within { index ≤ length self.old.text.now }
         requires shown { IfSome (scalar_in (event_of event)) (λ s.
             IsSomeAnd s.source (StandsAt self.old.text.now index)) }
         requires plain { SaysSource (event_of event) }
         ensures text { self.new.text.now ≡ self.old.text.now }
+        ensures whole { IfOk result (λ _. self.new.whole ≡ true) }
         ensures events { IfOk result (λ item. self.new.events.items ≡ self.old.events.items ++ item ∷ []) }
+        ensures event { IfOk result (λ item. item.0 ≡ event.entry) }
+        ensures mark { IfOk result (λ item. IsInPlace self.old.text.now (position_at self.old.text.now index late)
+            → item.1 ≡ position_at self.old.text.now index late) }
         ensures kept { IfErr result (λ _. self.new.events.items ≡ self.old.events.items) }
+        ensures untrue { IfErr result (λ r. r ≢ refusal.OutOfMemory
+            → All (λ e. e.1.index ≤ index) self.old.events.items
+            → run (Some before_stream) (plain_events self.old.events.items ++ event_of event.entry ∷ []) ≢ None → ⊥) }
     {
-        if !self.whole {
-            return Err(Refusal::Untrue);
-        }
         let here = reach(self.text, self.here, index as u64)?;
         let mark = begun(self.text, here, late);
         self.whole = false;

@@ -1,8 +1,9 @@
 //! Which part of a stream comes next.
 
-ghost use Rattle.std.specs.Prelude.{◌≡◌, IfOk, Some, true};
+ghost use Rattle.std.specs.Prelude.{◌≡◌, ◌≢◌, ◌↔◌, IfErr, IfOk, None, Some, false, true};
 ghost use Rattle.yaml_base.specs.PlainEvent.{event_of};
 ghost use Rattle.yaml_base.specs.StreamMachine.{after_stream, before_stream, between_documents, next_state};
+ghost use Rattle.yaml_checked.specs.inner.Parts.{IsBetweenLike};
 ghost use Rattle.yaml_load.specs.StreamPhases.{IsClean, Moves};
 
 use std::alloc::{AllocError, Global};
@@ -80,7 +81,10 @@ impl Part {
     // Goes over an event, and tells whether it may stand there.
     #[inline(always)]
     pub(crate) fn go(&mut self, alloc: Global, event: &Event<'_>) -> Result<bool, AllocError>
-        ensures { IfOk result (λ on. on ≡ true → next_state self.old (event_of event.now) ≡ Some self.new) }
+        ensures on { IfOk result (λ on. on ≡ true → next_state self.old (event_of event.now) ≡ Some self.new) }
+        ensures off { IfOk result (λ on. on ≡ false → next_state self.old (event_of event.now) ≡ None) }
+        ensures stays { IfOk result (λ on. on ≡ false → IsBetweenLike self.old self.new) }
+        ensures kept { IfErr result (λ _. IsBetweenLike self.old self.new) }
     {
         let mut outer = mem::replace(&mut self.outer, Vec::new(alloc));
         match after(self.phase, &mut outer, event)? {
@@ -95,14 +99,16 @@ impl Part {
 
     // Whether nothing comes any more.
     pub(crate) fn is_done(&self) -> bool
-        ensures { result ≡ true → self.now ≡ after_stream }
+        ensures done { result ≡ true → self.now ≡ after_stream }
+        ensures only { result ≡ false → self.now ≢ after_stream }
     {
         is_after(self.phase)
     }
 
     // Whether a document may come, or the end of the stream.
     pub(crate) fn is_between(&self) -> bool
-        ensures { result ≡ true → self.now ≡ between_documents }
+        ensures between { result ≡ true → self.now ≡ between_documents }
+        ensures only { result ≡ false → self.now ≢ between_documents }
     {
         matches!(self.phase, Phase::Between)
     }

@@ -1,6 +1,7 @@
 //! What the source of a plain scalar says.
 
-ghost use Rattle.std.specs.Prelude.{◌≡◌, ◌-◌, ◌↔◌, IfSome, IsTrue, drop, false, length, true};
+ghost use Rattle.std.specs.Prelude.{◌≡◌, ◌≢◌, ◌-◌, ◌<◌, ◌≤◌, ◌↔◌, ℕ, IfSome, IsTrue, drop, false, length};
+ghost use Rattle.std.specs.Prelude.{slice_index, true};
 ghost use Rattle.yaml_base.specs.LineBreaks.{IsOneLine};
 
 use yaml_tape::Entry;
@@ -16,7 +17,7 @@ fn is(bytes: &[u8], text: &[u8]) -> bool
 // Whether the bytes end with a text.
 #[inline(always)]
 fn ends_with(source: &[u8], text: &[u8]) -> bool
-    ensures { result ≡ true → text.now ≡ drop (length source.now - length text.now) source.now }
+    ensures { IsTrue result ↔ (text.now ≡ drop (length source.now - length text.now) source.now) }
 {
     if text.len() > source.len() {
         return false;
@@ -27,7 +28,8 @@ fn ends_with(source: &[u8], text: &[u8]) -> bool
 // Whether a line feed stands in the bytes.
 #[inline(never)]
 fn has_line_feed(source: &[u8]) -> bool
-    ensures { result ≡ true → IsOneLine source.now → ⊥ }
+    ensures some { result ≡ true → IsOneLine source.now → ⊥ }
+    ensures none { result ≡ false → (k : ℕ) → k < length source.now → slice_index source.now k ≢ 10 }
 {
     for byte in source {
         if *byte == b'\n' {
@@ -44,6 +46,9 @@ pub(crate) fn says(source: &[u8], text: &[u8], has_names: bool) -> bool
     ensures rest { result ≡ true → IsOneLine source.now
         → text.now ≡ drop (length source.now - length text.now) source.now }
     ensures whole { result ≡ true → has_names ≡ false → IsOneLine source.now → text.now ≡ source.now }
+    ensures line { result ≡ false → (k : ℕ) → k < length source.now → slice_index source.now k ≢ 10 }
+    ensures apart { result ≡ false → text.now ≡ drop (length source.now - length text.now) source.now
+        → (has_names ≡ false → text.now ≡ source.now) → ⊥ }
 {
     if ends_with(source, text) && (has_names || text.len() == source.len()) {
         return true;
@@ -55,6 +60,8 @@ pub(crate) fn says(source: &[u8], text: &[u8], has_names: bool) -> bool
 // name stands before it. Then no byte has to be compared.
 #[inline(always)]
 pub(crate) fn end_of(source: &[u8], entry: Entry, has_names: bool) -> Option<&[u8]>
+    ensures places { IfSome result (λ _. (entry.stored ≡ false) × (entry.to ≡ entry.end) × (entry.index ≤ entry.from)) }
+    ensures value { IfSome result (λ text. text.now ≡ drop (entry.from - entry.index) source.now) }
     ensures rest { IfSome result (λ text. text.now ≡ drop (length source.now - length text.now) source.now) }
     ensures whole { IfSome result (λ text. has_names ≡ false → text.now ≡ source.now) }
 {

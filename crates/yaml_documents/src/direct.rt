@@ -1,9 +1,12 @@
 //! All documents of the text of a tape.
 
-ghost use Rattle.std.specs.Prelude.{◌≡◌, IfErr, IfOk, IfSome, true};
+ghost use Rattle.std.specs.Prelude.{◌≡◌, IfErr, IfNone, IfOk, IfSome, false, true};
 ghost use Rattle.yaml_base.specs.Answer.{is_memory};
-ghost use Rattle.yaml_base.specs.MarkedEvents.{plain_marked};
-ghost use Rattle.yaml_documents.specs.TextDocuments.{AreDocumentsOf};
+ghost use Rattle.yaml_base.specs.MarkedEvents.{plain_events, plain_marked};
+ghost use Rattle.yaml_base.specs.Stream.{IsStream};
+ghost use Rattle.yaml_checked.specs.OfText.{AreTextsOwn, IsOfText, SaysText};
+ghost use Rattle.yaml_documents.specs.TextDocuments.{AreDocumentsOf, AreReadDocumentsOf};
+ghost use Rattle.yaml_reading.specs.Refused.{NothingStands};
 ghost use Rattle.yaml_scan.specs.AllowedText.{IsAllowed};
 
 use std::alloc::Global;
@@ -13,14 +16,7 @@ use yaml_load::LoaderBuilder;
 use yaml_read::Loader;
 use yaml_tape::Tape;
 
-// Whether a fault is want of memory.
-fn is_memory(fault: &Error) -> bool
-    ensures { result ≡ is_memory fault.now }
-{
-    matches!(fault.cause(), Cause::Memory)
-}
-
-// Hands all events over to a loader, and tells whether it took them.
+// Hands all events over to a loader, which takes them, and tells whether none was refused.
 fn hand_over<'de>(
     alloc: Global,
     events: &mut TapeEvents<'de>,
@@ -29,31 +25,34 @@ fn hand_over<'de>(
     requires { builder.old ≡ plain_marked events.old.given }
     ensures text { events.new.text ≡ events.old.text }
     ensures agree { IfOk result (λ all. all ≡ true → builder.new ≡ plain_marked events.new.given) }
+    ensures stream { IfOk result (λ all. all ≡ true → IsStream (plain_events events.new.given)) }
+    ensures own { IsOfText events.old → IfOk result (λ all. all ≡ true
+        → AreTextsOwn events.new.text (plain_marked events.new.given)) }
+    ensures left { IsOfText events.old → IfOk result (λ all. all ≡ false → NothingStands events.old.text) }
     ensures memory { IfErr result (λ cause. is_memory cause ≡ true) }
 {
-    'events: for _ in 0..u64::MAX {
+    'events: loop {
         match events.next_event(alloc) {
             Ok(Some((event, mark))) => {
+                events.has_events();
                 if let Err(fault) = builder.push(event, mark) {
-                    return if is_memory(&fault) {
-                        Err(fault)
-                    } else {
-                        Ok(false)
-                    };
+                    return Err(fault);
                 }
             }
             Ok(None) => return Ok(true),
-            Err(Refusal::Untrue | Refusal::Left) => return Ok(false),
             Err(Refusal::OutOfMemory) => return Err(Error::new(Cause::Memory)),
+            Err(Refusal::Untrue | Refusal::Left) => return Ok(false),
         }
     }
-    Ok(false)
 }
 
-// The documents of the text of a tape, if its events are a stream as a loader takes it.
+// The documents of the text of a tape, if its events are a stream: where it says the documents that stand in the text,
+// they are those, and it says none only where none stand.
 pub(crate) fn load_events<'de>(alloc: Global, tape: Tape<'de>) -> Result<Option<Loader<'de>>>
     requires { IsAllowed tape.text.now }
-    ensures documents { IfOk result (λ found. IfSome found (AreDocumentsOf tape.entry.text.now)) }
+    ensures documents { IfOk result (λ found. IfSome found (AreReadDocumentsOf tape.entry.text.now)) }
+    ensures own { SaysText tape.entry → IfOk result (λ found. IfSome found (AreDocumentsOf tape.entry.text.now)) }
+    ensures left { SaysText tape.entry → IfOk result (λ found. IfNone found (NothingStands tape.entry.text.now)) }
     ensures memory { IfErr result (λ cause. is_memory cause ≡ true) }
 {
     let mut events = TapeEvents::of_tape(alloc, tape);
@@ -64,12 +63,6 @@ pub(crate) fn load_events<'de>(alloc: Global, tape: Tape<'de>) -> Result<Option<
     events.has_events();
     match builder.finish(None) {
         Ok(documents) => Ok(Some(Loader::from(documents))),
-        Err(fault) => {
-            if is_memory(&fault) {
-                Err(fault)
-            } else {
-                Ok(None)
-            }
-        }
+        Err(fault) => Err(fault),
     }
 }

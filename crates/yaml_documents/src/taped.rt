@@ -3,9 +3,11 @@
 ghost use Rattle.std.specs.Prelude.{◌≡◌, ◌++◌, IfErr, IfNone, IfOk, None, false, option_to_list, true};
 ghost use Rattle.std.proofs.Props.{props};
 ghost use Rattle.yaml_base.specs.Answer.{is_memory};
-ghost use Rattle.yaml_base.specs.MarkedEvents.{plain_events};
+ghost use Rattle.yaml_base.specs.MarkedEvents.{plain_events, plain_marked};
 ghost use Rattle.yaml_base.specs.Stream.{IsStream};
+ghost use Rattle.yaml_checked.specs.OfText.{AreTextsOwn, IsOfText};
 ghost use Rattle.yaml_documents.specs.inner.Places.{IsPlaceIn, given_before};
+ghost use Rattle.yaml_reading.specs.Refused.{NothingStands};
 
 use std::alloc::Global;
 use yaml_base::{Cause, Error, Event, Mark, Result};
@@ -47,8 +49,12 @@ impl<'de> Taped<'de> {
         ensures back { self.new.back ≡ self.old.back }
         ensures given { IfOk result (λ found.
             self.new.events.given ≡ self.old.events.given ++ option_to_list found) }
-        ensures none { IfOk result (λ found. IfNone found (self.new.left ≡ false →
-            IsStream (plain_events self.new.events.given))) }
+        ensures of_text { IsOfText self.old.events → IsOfText self.new.events }
+        ensures over { IsOfText self.old.events → IfOk result (λ found. IfNone found (self.new.left ≡ false →
+            IsStream (plain_events self.new.events.given)
+            × AreTextsOwn self.new.events.text (plain_marked self.new.events.given))) }
+        ensures left { IsOfText self.old.events → (self.old.left ≡ true → NothingStands self.old.events.text)
+            → self.new.left ≡ true → NothingStands self.new.events.text }
         ensures memory { IfErr result (λ cause. is_memory cause ≡ true) }
     {
         match self.events.next_event(alloc) {

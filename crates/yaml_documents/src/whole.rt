@@ -2,7 +2,8 @@
 
 ghost use Rattle.std.specs.Prelude.{◌≡◌, IfErr, IfOk, true};
 ghost use Rattle.yaml_base.specs.Answer.{is_memory};
-ghost use Rattle.yaml_documents.specs.TextDocuments.{AreDocumentsOf};
+ghost use Rattle.yaml_checked.specs.OfText.{MayBeLeft, SaysText};
+ghost use Rattle.yaml_documents.specs.TextDocuments.{AreDocumentsOf, AreReadDocumentsOf};
 ghost use Rattle.yaml_scan.specs.AllowedText.{IsAllowed};
 
 use crate::direct::load_events;
@@ -15,9 +16,11 @@ use yaml_read::Loader;
 use yaml_tape::Tape;
 
 /// The documents of a YAML text by its tokens, whose events are loaded as they are parsed: those of a text that the
-/// direct parser leaves. The only error is want of memory.
+/// direct parser leaves. Of another text it is not known that its events are those of the documents that stand in it.
+/// The only error is want of memory.
 pub fn load_by_tokens<'de>(alloc: Global, text: &'de [u8]) -> Result<Loader<'de>>
-    ensures documents { IfOk result (AreDocumentsOf text.now) }
+    ensures documents { IfOk result (AreReadDocumentsOf text.now) }
+    ensures left { MayBeLeft text.now → IfOk result (AreDocumentsOf text.now) }
     ensures memory { IfErr result (λ cause. is_memory cause ≡ true) }
 {
     let mut events = Events::new(alloc, text)?;
@@ -37,11 +40,12 @@ pub fn load_by_tokens<'de>(alloc: Global, text: &'de [u8]) -> Result<Loader<'de>
     }
 }
 
-/// The documents of the text of a tape, whose bytes are allowed: those of `load`, and the text is not parsed to a tape
-/// again. The only error is want of memory.
+/// The documents of the text of a tape, whose bytes are allowed: those of `load`, if the tape is that of `parse_allowed`,
+/// and the text is not parsed to a tape again. The only error is want of memory.
 pub fn load_tape<'de>(alloc: Global, tape: Tape<'de>) -> Result<Loader<'de>>
     requires { IsAllowed tape.text.now }
-    ensures documents { IfOk result (AreDocumentsOf tape.entry.text.now) }
+    ensures documents { IfOk result (AreReadDocumentsOf tape.entry.text.now) }
+    ensures own { SaysText tape.entry → IfOk result (AreDocumentsOf tape.entry.text.now) }
     ensures memory { IfErr result (λ cause. is_memory cause ≡ true) }
 {
     let text = tape.text;
@@ -56,7 +60,8 @@ pub fn load_tape<'de>(alloc: Global, tape: Tape<'de>) -> Result<Loader<'de>>
 /// cut off before its first event. The only error is want of memory.
 ///
 /// They are those that `Loader::new` makes of the text's events, and no list of these is made. A text of which some
-/// part is left by the direct parser is read anew by its tokens, so each fault is the one that these tell.
+/// part is left by the direct parser is read anew by its tokens, so each fault is the one that these tell. Where
+/// documents stand in the text by the grammar it has no fault, and its events are theirs.
 pub fn load<'de>(alloc: Global, text: &'de [u8]) -> Result<Loader<'de>>
     ensures documents { IfOk result (AreDocumentsOf text.now) }
     ensures memory { IfErr result (λ cause. is_memory cause ≡ true) }

@@ -1,6 +1,7 @@
 //! A value that reads itself from the tape of a text.
 
 ghost use Rattle.std.specs.Prelude.{◌≡◌, IfSome, Ok, true};
+ghost use Rattle.yaml_checked.specs.OfText.{SaysText};
 ghost use Rattle.yaml_checked.specs.StandsInText.{StandsInText};
 ghost use Rattle.yaml_documents.specs.OnlyDocument.{HasKind};
 ghost use Rattle.yaml_scan.specs.AllowedText.{IsAllowed};
@@ -100,6 +101,7 @@ pub(crate) fn value_of_tape<'de, T: Deserialize<'de>>(
     limits: Limits,
 ) -> Option<T>
     requires allowed { IsAllowed tape.now.text.now }
+    requires says { SaysText tape.now }
     requires table { table.now ≡ T.start.0 }
     ensures { IfSome result (λ x. IsParsed tape.now.text.now (λ events fault.
         GivesValue limits T.start T.built T.refused events fault (Ok x)

@@ -1,12 +1,14 @@
 -- Where the events of a text come from: the direct parser, as far as it takes the text, or its tokens.
 use Rattle.std.specs.Prelude.{◌≡◌, Bool, List, false, true, ℕ}
-use Rattle.yaml_base.specs.MarkedEvents.{plain_events}
+use Rattle.yaml_base.specs.MarkedEvents.{plain_events, plain_marked}
 use Rattle.yaml_base.specs.Position.{Position}
 use Rattle.yaml_base.specs.Stream.{IsStream}
 use Rattle.yaml_base.specs.declared.event.Event.{Event}
+use Rattle.yaml_checked.specs.OfText.{AreTextsOwn, IsOfText, MayBeLeft}
 use Rattle.yaml_documents.specs.declared.source.Source.{Source}
 use Rattle.yaml_documents.specs.declared.source.Source.TheVariants.{Tape, Tokens}
 use Rattle.yaml_documents.specs.inner.Places.{IsPlaceIn, given_before}
+use Rattle.yaml_reading.specs.Refused.{NothingStands}
 
 -- The text, the events that were handed out, and those before the place that may be gone back to; whether they come
 -- from the direct parser, whether that left the text, and whether it was said that no more come.
@@ -43,10 +45,17 @@ abbrev pub IsBackIn : Source → Type 0
 IsBackIn (Tape taped) = IsPlaceIn taped.events.text taped.back
 IsBackIn (Tokens events) = Unit {0}
 
--- where it was said that no more events come, none do
+-- where it was said that no more events come, none do, and where documents stand in the text all were theirs
 abbrev pub IsOver : Source → Type 0
 IsOver (Tape taped) = taped.left ≡ false → IsStream (plain_events taped.events.given)
+    × AreTextsOwn taped.events.text (plain_marked taped.events.given)
 IsOver (Tokens events) = events.over ≡ true
+
+-- Where documents stand in the text, the direct parser gives their events, and does not leave it; so tokens are asked
+-- for the events of other texts alone, and of those of 2^32 bytes.
+abbrev pub IsOfItsText : Source → Type 0
+IsOfItsText (Tape taped) = IsOfText taped.events × (taped.left ≡ true → NothingStands taped.events.text)
+IsOfItsText (Tokens events) = MayBeLeft events.text
 
 -- the text stays, and where its events come from, with the place to go back to
 pub record Stays (old new : PlainSource) : Type 0 where

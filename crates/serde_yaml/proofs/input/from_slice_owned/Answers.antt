@@ -15,19 +15,10 @@ returns g c =
     let start = g.T.Deserialize.start in
     let built = g.T.Deserialize.built in
     let refused = g.T.Deserialize.refused in
-    let first = c.in_ok-parsed.ensures in
     let p : IsParsed c.args.text.now (λ events fault. Unit {0}) = record {
-      events = c.in_ok-parsed.parsed.events.items;
-      fault = c.in_ok-parsed.parsed.fault;
-      parsed = record {
-        taken = first.taken;
-        sources = first.sources;
-        plain = first.plain;
-        marks = first.marks;
-        places = first.places;
-        allowed = first.allowed;
-        refused = first.refused;
-      };
+      events = c.in_ok-shown.shown.items;
+      fault = c.in_ok-shown.fault;
+      parsed = c.in_ok-shown.ensures.parsed;
       holds = tt;
     } in
     let input = events_alone (plain_marked p.events) in

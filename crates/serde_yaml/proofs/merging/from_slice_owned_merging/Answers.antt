@@ -12,23 +12,14 @@ use Rattle.serde_yaml.proofs.merging.from_slice_owned_merging.Goals as goal
 pub returns : goal.returns
 returns g c =
     let documents = c.in_ok-documents.documents in
-    let first = c.in_ok-parsed.ensures in
     let own : documents
-    ≡ documents_of (events_alone (plain_marked c.in_ok-parsed.parsed.events.items)) c.in_ok-parsed.parsed.fault =
+    ≡ documents_of (events_alone (plain_marked c.in_ok-shown.shown.items)) c.in_ok-shown.fault =
     rw c.in_ok-events.ensures.alone at c.in_ok-documents.ensures.documents in
     let parsed : IsParsed c.args.text.now (λ events fault. documents ≡ documents_of (events_alone events) fault) =
     record {
-      events = c.in_ok-parsed.parsed.events.items;
-      fault = c.in_ok-parsed.parsed.fault;
-      parsed = record {
-        taken = first.taken;
-        sources = first.sources;
-        plain = first.plain;
-        marks = first.marks;
-        places = first.places;
-        allowed = first.allowed;
-        refused = first.refused;
-      };
+      events = c.in_ok-shown.shown.items;
+      fault = c.in_ok-shown.fault;
+      parsed = c.in_ok-shown.ensures.parsed;
       holds = own;
     } in
     value_of c.value_of_alone.result default_limits g.T.Deserialize.start g.T.Deserialize.built c.args.merge

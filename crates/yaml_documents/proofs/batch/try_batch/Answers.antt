@@ -1,10 +1,11 @@
 -- A batch is full, or the text's last.
-use Rattle.std.proofs.Common.{◌∙◌, ap, is_some, refl, sym}
+use Rattle.std.proofs.Common.{◌∙◌, ap, is_some, refl, subst, sym}
 use Rattle.yaml_documents.proofs.BatchLaws.{between_closed}
 use Rattle.yaml_documents.proofs.StageLaws.{full_at, full_some, last_at}
 use Rattle.yaml_documents.proofs.StateLaws.{well_formed_alike}
-use Rattle.yaml_documents.proofs.TextLaws.{parsed_of}
+use Rattle.yaml_documents.proofs.TextLaws.{parsed_so, read_of}
 use Rattle.yaml_documents.proofs.batch.try_batch.Goals as goal
+use Rattle.yaml_documents.specs.TextEvents.{AreTheirs}
 use Rattle.yaml_documents.specs.inner.Filling.{is_last, left_documents}
 use Rattle.yaml_load.proofs.Words.{events_in, plain_events}
 
@@ -37,10 +38,13 @@ returns-in_ok-documents-in-Last-clause-loaded c =
     let ended = c.in_ok-fault-in-Last.ensures in (
       last_at c.args.last fault c.requires.between c.in_ok-builder.ensures.front
           (rw c.in-Last.is at c.in_ok-filled.ensures.filled)
-          (parsed_of c.in_ok-filled.ensures.stays.text
+          (parsed_so (read_of c.in_ok-filled.ensures.stays.text
           (ended.taken (c.in_ok-filled.ensures.over (ap is_last c.in-Last.is))
           (sym c.is_left.ensures.left ∙ c.if-is_left.false))
           known.sources known.plain known.marks known.places ended.allowed ended.none ended.refused)
+          (subst (λ t. AreTheirs t c.fill.new.events.given fault) c.in_ok-filled.ensures.stays.text
+          (ended.theirs (c.in_ok-filled.ensures.over (ap is_last c.in-Last.is))
+          (sym c.is_left.ensures.left ∙ c.if-is_left.false))))
           (c.in_ok-documents-in-Last.ensures.left
           ∙ ap (λ b. left_documents c.fill.new.builder fault b c.in-Last.some) c.is_some-before.ensures),
       (λ _. refl),

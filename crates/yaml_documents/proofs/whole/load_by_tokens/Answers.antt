@@ -3,7 +3,7 @@ use Rattle.std.proofs.Common.{rules, ◌≡◌, ◌∙◌, ◌∷◌, ◌++◌, 
 use Rattle.yaml_base.specs.Answer.{is_memory}
 use Rattle.yaml_base.specs.MarkedEvents.{events_in, plain_events, plain_marked}
 use Rattle.yaml_base.specs.Stream.{IsWellFormed}
-use Rattle.yaml_documents.proofs.TextLaws.{never_wrong, not_false, parsed_of, same_events}
+use Rattle.yaml_documents.proofs.TextLaws.{never_wrong, not_false, parsed_as_read, read_of, same_events}
 use Rattle.yaml_documents.proofs.whole.load_by_tokens.Goals as goal
 use Rattle.yaml_read.specs.Documents.{documents_of}
 
@@ -27,12 +27,17 @@ returns-in-Ok-clause-documents c =
     record {
       events = given;
       fault = fault;
-      parsed =
-          parsed_of (c.in_ok-has_next.ensures.text ∙ c.events.invariant.0) (ended.taken over) known.sources known.plain
+      read =
+          read_of (c.in_ok-has_next.ensures.text ∙ c.events.invariant.0) (ended.taken over) known.sources known.plain
           known.marks known.places ended.allowed ended.none ended.refused;
       holds = c.from.ensures ∙ c.in-Ok.ensures.documents
           ∙ ap (λ es. documents_of es fault) (c.events.invariant.1 ∙ ap plain_marked (sym all));
     }
+
+pub returns-in-Ok-clause-left : goal.returns-in-Ok-clause-left
+returns-in-Ok-clause-left c = λ left.
+    parsed_as_read c.args.text.now (λ events fault. c.from.result ≡ documents_of events fault) left
+    (returns-in-Ok-clause-documents c)
 
 pub returns-in-Err-finish-clause-memory : goal.returns-in-Err-finish-clause-memory
 returns-in-Err-finish-clause-memory c =

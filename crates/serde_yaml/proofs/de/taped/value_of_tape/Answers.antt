@@ -17,6 +17,6 @@ returns g c =
     } in
     tape_gives c.args.limits g.T.Deserialize.start g.T.Deserialize.built g.T.Deserialize.refused c.args.tape.now
     c.in_ok-value.value c.reading_gives_the_meaning.ensures closed valid (subst OptionalsEnd c.requires.table ends)
-    c.requires.allowed c.in_ok-value.ensures.stands
+    c.requires.allowed c.requires.says c.in_ok-value.ensures.stands
     (subst (λ d. HoldsValue g.T.Deserialize.start g.T.Deserialize.built c.args.tape.now d c.in_ok-value.value)
     c.nesting.ensures c.in_ok-value.ensures.value)
