@@ -27,6 +27,7 @@ pub mod SurvivesLaws
 pub mod SurvivesMeans
 pub mod TagsWritten
 pub mod TextsReturn
+pub mod TextsTaken
 pub mod TypedReturn
 pub mod ValuesReturn
 pub mod VariantsReturn

@@ -99,3 +99,12 @@ module _ {table : List PlainShape} {id : ℕ} {d : PlainData} (named : is_table 
         rendered = subst (λ es. Renders es (events_in input)) m.2
             (come_back events printed (data_may events writes) found);
       }
+
+  -- of a parser that takes what stands
+  pub data_taken : (text : List ℕ) (input : Input) (fault : Option PlainFault)
+      → HasText (IsDataWritten table id d) text → TakesWhatStands text input fault
+      → (fault ≡ None) × ComesBack table id d input
+  data_taken text input fault printed takes =
+      let s = (data_stands_printed text printed).stands in
+      let t = takes.taken s.documents s.stand in
+      (t.0, data_comes text input printed (record { documents = s.documents; stand = s.stand; same = t.1 }))

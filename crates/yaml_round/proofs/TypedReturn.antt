@@ -78,7 +78,7 @@ only_by_message {unwritten = unwritten} cause e few is (writes.by_message messag
     let same : Custom message None ≡ cause = cc in
     subst (λ c. IsSameUnless unwritten (Err c)) same (by_message message by)
 
-same_value : {T : Type 0} {x y : T} → ◌≡◌ {A = Result T Cause} (Ok x) (Ok y) → x ≡ y
+pub same_value : {T : Type 0} {x y : T} → ◌≡◌ {A = Result T Cause} (Ok x) (Ok y) → x ≡ y
 same_value h = cc
 
 -- a value that is read where an equal one has to be is equal

@@ -1,18 +1,21 @@
 //! A value that is written, comes back from a parser, and is read.
 
-ghost use Rattle.std.specs.Prelude.{◌≤◌, ◌↔◌, length, string_bytes, IfOk, IsTrue};
+ghost use Rattle.std.specs.Prelude.{◌≡◌, ◌<◌, ◌≤◌, ◌^◌, ◌↔◌, length, string_bytes, true, IfOk, IsTrue, Ok};
 ghost use Rattle.yaml_base.specs.Answer.{Answers};
 ghost use Rattle.yaml_printed.specs.WrittenRoots.{FitsText};
 ghost use Rattle.yaml_read.specs.TreeReader.{PlainLimits};
 ghost use Rattle.serde_yaml.specs.TypedWrites.{TypeWrites};
 ghost use Rattle.yaml_round.specs.Fits.{Fits};
-ghost use Rattle.yaml_round.specs.InTexts.{IsReadAsEqual, StandsAsWritten};
+ghost use Rattle.yaml_round.specs.InTexts.{FitsTextWithin, GivesEqual, IsReadAsEqual, IsTextOf, StandsAsWritten};
 ghost use Rattle.yaml_round.specs.ReadsBack.{IsSameUnless};
 
 use crate::fit::value_fits;
-use crate::laws::{a_printed_value_reads_back, a_written_value_reads_back};
+use crate::laws::{
+    a_printed_value_reads_back, a_written_text_of_data_reads_back, a_written_text_reads_back,
+    a_written_value_reads_back,
+};
 use crate::renderer::Renderer;
-use serde_yaml::{from_events_limited, to_events, to_string};
+use serde_yaml::{from_events_limited, from_slice_limited, to_events, to_string};
 use std::alloc::Global;
 use yaml_base::Result;
 use yaml_read::Limits;
@@ -65,7 +68,8 @@ pub fn fits_and_comes_back<'de, T: RoundTrip<'de> + Drop, R: Renderer<'de>>(
 }
 
 /// The value as YAML text, as `to_string` prints it. The text of a value that fits it stands in the grammar, and each
-/// reader that takes what stands there as it stands reads an equal value, within limits in which the value fits.
+/// reader that takes what stands there as it stands reads an equal value, within limits in which the value fits. So
+/// `from_str` does, if the text has fewer than 2^32 bytes (`returns`).
 pub fn text_of<'de, T: RoundTrip<'de>>(alloc: Global, value: &T) -> Result<String>
     ensures stands { IfOk result (λ text. FitsText T.Serialize.start.0 T.Serialize.start.1 (T.written value.now)
         → StandsAsWritten (TypeWrites T.Serialize.start (T.written value.now) (T.unwritten value.now))
@@ -74,10 +78,36 @@ pub fn text_of<'de, T: RoundTrip<'de>>(alloc: Global, value: &T) -> Result<Strin
         → (limits : PlainLimits)
         → Fits limits.nesting T.Serialize.start.0 T.Serialize.start.1 (T.written value.now)
         → IsReadAsEqual limits T.Deserialize.start T.built T.refused T.eq value.now (string_bytes text)) }
+    ensures returns { IfOk result (λ text. length (string_bytes text) < 2 ^ 32 → (limits : PlainLimits)
+        → FitsTextWithin limits T.Serialize.start.0 T.Serialize.start.1 (T.written value.now)
+        → GivesEqual limits T.Deserialize.start T.built T.refused T.eq value.now (string_bytes text)) }
+    ensures own { IfOk result (λ text. IsTextOf T.Serialize.start (T.written value.now) (T.kept value.now)
+        (T.unwritten value.now) (string_bytes text)) }
 {
     a_printed_value_reads_back::<T>();
+    a_written_text_reads_back::<T>();
     match to_string(alloc, value) {
         Ok(text) => Ok(text),
+        Err(fault) => Err(fault),
+    }
+}
+
+/// Whether what is read of a value's own text within limits is equal to the value. Memory aside it is, for each value that
+/// fits, and a text of fewer than 2^32 bytes: what was written is what is read, from text to text.
+pub fn reads_back<'de, T: RoundTrip<'de> + Drop>(
+    alloc: Global,
+    value: &T,
+    text: &'de str,
+    limits: Limits,
+) -> Result<bool>
+    ensures { IsTextOf T.Serialize.start (T.written value.now) (T.kept value.now) (T.unwritten value.now) text.now
+        → length text.now < 2 ^ 32
+        → FitsTextWithin limits T.Serialize.start.0 T.Serialize.start.1 (T.written value.now)
+        → Answers (λ same. same) result (λ given. given ≡ Ok true) }
+{
+    a_written_text_reads_back::<T>();
+    match from_slice_limited::<T>(alloc, text.as_bytes(), limits) {
+        Ok(again) => Ok(*value == again),
         Err(fault) => Err(fault),
     }
 }

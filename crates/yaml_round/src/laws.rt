@@ -1,6 +1,6 @@
 //! Laws of writing and reading together, each the contract of a function that does nothing.
 
-ghost use Rattle.std.specs.Prelude.{◌≡◌, ◌≢◌, ◌≤◌, ℕ, suc, List, Option, None, Some, Ok, Result, true, false, IsTrue};
+ghost use Rattle.std.specs.Prelude.{◌≡◌, ◌≢◌, ◌<◌, ◌≤◌, ◌^◌, ℕ, suc, length, List, Option, None, Some, Ok, Result, true, false, IsTrue};
 ghost use Rattle.std.specs.Prelude.{slice_get};
 ghost use Rattle.std.specs.Option.{is_some};
 ghost use Rattle.std.specs.Str.{is_utf8};
@@ -41,7 +41,8 @@ ghost use Rattle.yaml_grammar.specs.Documents.{most_nestings};
 ghost use Rattle.yaml_printed.specs.Nestings.{nestings, tree_nestings};
 ghost use Rattle.yaml_printed.specs.WrittenRoots.{FitsText};
 ghost use Rattle.yaml_shape.specs.Held.{IsHeld, is_table};
-ghost use Rattle.yaml_round.specs.InTexts.{AreEventsOf, IsReadAsEqual, StandsAsWritten, TakesWhatStands};
+ghost use Rattle.yaml_round.specs.InTexts.{AreEventsOf, FitsTextWithin, GivesEqual, GivesSameData, IsReadAsEqual};
+ghost use Rattle.yaml_round.specs.InTexts.{IsTextOf, StandsAsWritten, TakesWhatStands};
 ghost use Rattle.yaml_round.specs.ReadsBack.{ComesBack, ReadsBack};
 ghost use Rattle.yaml_round.specs.Rendered.{rendered};
 ghost use Rattle.yaml_round.specs.SameOrder.{same_data};
@@ -125,7 +126,31 @@ pub fn a_printed_value_reads_back<'de, T: RoundTrip<'de>>()
     a_written_value_reads_back::<T>();
 }
 
-/// The same of data under its schema, as `data_to_string` promises its text: it stands, and whatever documents stand in
+/// **What was written is what is read, from text to text.** The text of a value that fits it, as `to_string` promises
+/// it, is read by `from_str` and the other calls that read texts as an equal value. Nothing is assumed of an emitter or a
+/// parser: the text stands in the grammar, and what stands there is what these calls read. The text has fewer than 2^32
+/// bytes.
+pub fn a_written_text_reads_back<'de, T: RoundTrip<'de>>()
+    ensures { (limits : PlainLimits) (x : T) (text : List ℕ)
+        → IsTextOf T.Serialize.start (T.written x) (T.kept x) (T.unwritten x) text → length text < 2 ^ 32
+        → FitsTextWithin limits T.Serialize.start.0 T.Serialize.start.1 (T.written x)
+        → GivesEqual limits T.Deserialize.start T.built T.refused T.eq x text }
+{
+    a_printed_value_reads_back::<T>();
+}
+
+/// The same of data under its schema: the text that `data_to_string` promises of it is read by `data_from_str` as equal
+/// data, with the pairs of its mappings in the same order.
+pub fn a_written_text_of_data_reads_back()
+    ensures { (limits : PlainLimits) (table : List PlainShape) (id : ℕ) (s : PlainShape) (d : PlainData)
+        (text : List ℕ) → IsValidSchema table → IsTrue (is_table table) → shape_at table id ≡ Some s → IsHeld d
+        → HasText (IsDataWritten table id d) text → length text < 2 ^ 32 → FitsTextWithin limits table id d
+        → GivesSameData limits table s d text }
+{
+    written_data_reads_back();
+}
+
+/// What stands of the text of data under its schema, as `data_to_string` promises it: it stands, and whatever documents stand in
 /// it read back as equal data, with the pairs of mappings in the same order.
 pub fn printed_data_reads_back()
     ensures stands { (table : List PlainShape) (id : ℕ) (d : PlainData) (text : List ℕ) → IsTrue (is_table table)

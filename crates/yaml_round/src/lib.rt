@@ -1,4 +1,4 @@
-//! What is written reads back: laws over `yaml_write` and `serde_yaml` together.
+//! What is written reads back, from its events and from its own text: laws over `yaml_write` and `serde_yaml` together.
 #![tactic(auto)]
 
 pub mod again;
