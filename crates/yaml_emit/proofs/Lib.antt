@@ -1,6 +1,7 @@
 -- Lemmas that proofs of this crate share.
 pub mod ByItself
 pub mod DoubledLaws
+pub mod EmitterLaws
 pub mod EscapeLaws
 pub mod Letters
 pub mod LeafLaws

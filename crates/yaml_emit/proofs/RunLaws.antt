@@ -1,12 +1,9 @@
 -- One turn of printing: an empty collection at once, and any other event by itself.
-use Rattle.std.proofs.Common.{◌≡◌, ℕ, List, [], ◌∷◌, Option, Some, None, refl, ap, ◌∙◌, sym, subst, Result, Ok, Err}
-use Rattle.std.specs.Prelude.{IsErrAnd}
+use Rattle.std.proofs.Common.{◌≡◌, ℕ, List, [], ◌∷◌, Option, Some, None, refl, ap, ◌∙◌}
 use Rattle.yaml_base.specs.EmitEvents.{PlainEmit, emit_sequence_start, emit_sequence_end}
 use Rattle.yaml_base.specs.EmitEvents.{emit_mapping_start, emit_mapping_end}
 use Rattle.yaml_base.specs.EmitTree.{EmitNode}
-use Rattle.yaml_emit.specs.LayoutMachine.{Laid, Steps, Takes, hollow, printed_from, step, with_node_text}
-use Rattle.yaml_emit.specs.declared.stop.Stop.{Stop}
-use Rattle.yaml_emit.specs.declared.stop.Stop.TheVariants.{OutOfPlace, Memory}
+use Rattle.yaml_emit.specs.LayoutMachine.{Laid, hollow, printed_from, step, with_node_text}
 
 abbrev run_by : Laid → PlainEmit → List PlainEmit → Option (EmitNode × List PlainEmit) → Option (List ℕ)
 run_by s e es None = printed_from (step s e) es
@@ -29,25 +26,3 @@ run_hollow s e es left n is = run_is s e es ∙ ap (run_by s e es) is
 pub run_step : (s : Laid) (e : PlainEmit) (es : List PlainEmit)
     → hollow e es ≡ None → printed_from (Some s) (e ∷ es) ≡ printed_from (step s e) es
 run_step s e es is = run_is s e es ∙ ap (run_by s e es) is
-
-stopped_by : {A : Type 0} (left_in : A → List PlainEmit) (wanted : Option Laid) (whole : Option (List ℕ)) (new : Laid)
-    (es : List PlainEmit) (stop : Stop) → whole ≡ printed_from wanted es → Steps {A = Unit {0}} wanted new (Err stop)
-    → Takes {A = A} left_in whole new (Err stop)
-stopped_by left_in wanted whole new es OutOfPlace is steps = is ∙ ap (λ o. printed_from o es) steps
-stopped_by left_in wanted whole new es Memory is steps = tt
-
--- a refused step ends it
-pub stopped : {A : Type 0} (left_in : A → List PlainEmit) (wanted : Option Laid) (whole : Option (List ℕ)) (new : Laid)
-    (es : List PlainEmit) (stop : Stop) (result : Result A Stop) → whole ≡ printed_from wanted es
-    → Steps {A = Unit {0}} wanted new (Err stop) → IsErrAnd result (λ given. given ≡ stop)
-    → Takes left_in whole new result
-stopped left_in wanted whole new es stop (Ok left) is steps given = absurd given
-stopped left_in wanted whole new es stop (Err other) is steps given =
-    stopped_by left_in wanted whole new es other is
-    (subst (λ t. Steps {A = Unit {0}} wanted new (Err t)) (sym given) steps)
-
--- what ends out of place has no text
-pub refused_take : (whole : Option (List ℕ)) (new : Laid) (stop : Stop)
-    → Takes {A = Unit {0}} (λ _. []) whole new (Err stop) → stop ≡ OutOfPlace → whole ≡ None
-refused_take whole new OutOfPlace h is = h
-refused_take whole new Memory h is = absurd (cc)

@@ -245,9 +245,3 @@ abbrev pub NodeBegins : Option (Laid × Place) → Laid → Result Place Stop �
 NodeBegins wanted new (Ok place) = wanted ≡ Some (new, place)
 NodeBegins wanted new (Err OutOfPlace) = wanted ≡ None
 NodeBegins wanted new (Err Memory) = Unit {0}
-
--- what is left of the events leads to the same end, or an event may not stand where it does, or memory runs out
-abbrev pub Takes : {A : Type 0} → (A → List PlainEmit) → Option (List ℕ) → Laid → Result A Stop → Type 0
-Takes left_in whole new (Ok left) = whole ≡ printed_from (Some new) (left_in left)
-Takes left_in whole new (Err OutOfPlace) = whole ≡ None
-Takes left_in whole new (Err Memory) = Unit {0}

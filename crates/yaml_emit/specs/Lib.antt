@@ -1,5 +1,6 @@
 -- What contracts of this crate cite.
 pub mod Characters
+pub mod Emitting
 pub mod LayoutMachine
 pub mod Leaves
 pub mod Places

@@ -15,7 +15,7 @@ use crate::open::{Lead, Place, push_blank};
 use crate::quoted::{push_double_quoted, push_literal, push_single_quoted};
 use crate::style::{Style, chosen_style};
 use crate::tag::{push_tag, tag_len};
-use std::alloc::AllocError;
+use std::alloc::{AllocError, Global};
 use yaml_base::emitter::{AskedStyle, EmitScalar};
 
 // A node without parts, but for its tag.
@@ -46,6 +46,16 @@ pub(crate) fn lent_tag(tag: &Option<String>) -> Option<&str>
     match tag {
         Some(tag) => Some(tag.as_str()),
         None => None,
+    }
+}
+
+// A copy of a tag.
+pub(crate) fn copied_tag(alloc: Global, tag: &Option<String>) -> Result<Option<String>, AllocError>
+    ensures { IfOk result (λ copy. tag_bytes copy ≡ tag_bytes tag.now) }
+{
+    match tag {
+        Some(tag) => Ok(Some(String::from_str(alloc, tag.as_str())?)),
+        None => Ok(None),
     }
 }
 

@@ -2,6 +2,7 @@
 #![tactic(auto)]
 
 mod character;
+mod emitter;
 mod fit;
 pub mod laws;
 mod layout;
@@ -14,6 +15,7 @@ mod style;
 mod tag;
 mod write_fault;
 
+pub use emitter::Emitter;
 pub use leaf::push_scalar;
 pub use stream::emit;
 pub use tag::push_tag;
