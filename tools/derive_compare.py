@@ -4,6 +4,7 @@
 usage: derive_compare.py THEIRS rows FILE            the rows of a file, as crates/derived_case/stdin
        derive_compare.py THEIRS random SEED COUNT    random rows
        derive_compare.py THEIRS more SEED COUNT      random rows of floats, values of any kind, and merge keys
+       derive_compare.py THEIRS single SEED COUNT    random rows of variants that are mappings of one entry
        add OURS.. behind `--` to name our program, as crates/derived_case/out/derived_case: else it is `rt try` in
        crates/derived_case, which proves nothing, and takes some 5,000 rows at a time
 
@@ -144,6 +145,50 @@ class Texts:
             return "&a " + text
         return "*a" if depth and self.often(0.02) else text
 
+    def variant(self, name, depth, inner=None):
+        """A text of an enum, a variant of which is a mapping of one entry, perhaps with another one."""
+        part = (lambda: self.of("Figure", depth + 1)) if inner else (lambda: self.singleton("Figure", depth + 1))
+        if name == "Figure":
+            made = [("Dot", None), ("none", None), ("Circle", self.entries([(("r",), lambda _: str(self.number(0, 255)))], 0)),
+                    ("Line", self.list([lambda deeper: self.of("i8", deeper)] * 2, depth)), ("Label", self.word())]
+        elif name == "Deed":
+            made = [("Rest", None), ("Draw", part()), ("Each", "[%s]" % ", ".join(part() for _ in range(self.pick(0, 1, 2)))),
+                    ("Move", "{what: %s, by: %s}" % (part(), self.of("Option<u8>", depth + 1))),
+                    ("Swap", "[%s]" % ", ".join(part() for _ in range(self.pick(2, 2, 2, 1, 3))))]
+        elif name == "Size":
+            made = [("any", None), ("exact", self.float()),
+                    ("range", self.entries([(("low",), lambda _: self.float()), (("high",), lambda _: self.float())], 0))]
+        else:
+            made = [("Any", self.any(depth)), ("Pairs", "{pairs: %s, size: %s}" % (self.of("Mapping", depth), self.float()))]
+        word, content = self.pick(*made)
+        if self.often(0.04):
+            word = self.pick("Square", "'Dot'", "true", "12", "~", "[Label]", "&k Label", "''")
+        kind = self.random.random()
+        if kind < 0.03:
+            return "!%s %s" % (word, content or "")
+        if content is None and kind < 0.97 or kind > 0.99:
+            return word
+        if kind < 0.05:
+            return self.pick("{}", "[%s]" % word, "{%s: %s, Dot: ~}" % (word, content), "{%s: 1, %s: 2}" % (word, word))
+        return "{%s: %s}" % (word, content or "~")
+
+    def singleton(self, name, depth):
+        """A text of a type, each variant in which is a mapping of one entry."""
+        if depth and self.often(0.03):
+            return self.pick("*a", self.any(depth))
+        if name.startswith("Vec<"):
+            parts = [self.singleton(name[4:-1], depth + 1) for _ in range(self.random.randint(0, 3))]
+            return "[%s]" % ", ".join("&a " + part if self.often(0.05) and part[0] not in "&*!" else part for part in parts)
+        if name.startswith("BTreeMap"):
+            keys = self.random.sample(["a", "Rest", "b", "1"], self.random.randint(0, 3))
+            return "{%s}" % ", ".join("%s: %s" % (key, self.singleton(name[16:-1], depth + 1)) for key in keys)
+        if name.startswith("Option<"):
+            return self.pick("~", "", *[self.singleton(name[7:-1], depth)] * 6)
+        if name == "Weather":
+            return self.entries([(("wind",), lambda _: self.float()), (("size",), lambda _: self.variant("Size", depth + 1))],
+                                depth)
+        return self.variant(name, depth)
+
     def fitting(self, name, depth):
         to = lambda other: lambda deeper: self.of(other, deeper)
         number = re.fullmatch(r"([iu])(\d+)", name)
@@ -183,6 +228,13 @@ class Texts:
         if name == "Choice":
             return self.pick("!Any " + self.any(depth), "!Pairs " + self.entries(
                 [(("pairs",), to("Mapping")), (("size",), to("Number"))], depth), "Any", "!Some 1")
+        if name.startswith("Singletons<"):
+            return self.singleton(name[11:-1], depth)
+        if name == "Drawing":
+            return self.entries([(("first",), lambda deeper: self.variant("Deed", deeper, "Figure")),
+                                 (("next",), lambda deeper: self.pick("~", self.singleton("Figure", deeper))),
+                                 (("others",), lambda deeper: self.singleton("Vec<Deed>", deeper)),
+                                 (("tagged",), to("Vec<Figure>"))], depth)
         if name == "text":
             return self.word()
         if name == "bool":
@@ -265,7 +317,11 @@ Scalar Vec<Scalar> BTreeMap<String,Scalar> Nest Passed Metres Nothing Pair Ends<
 # Types with floats, parts of any kind, and merge keys.
 MORE = """f32 f64 Weather Value Vec<Value> Option<Value> Mapping Number Parcel Task Sign Either Choice BTreeMap<String,Value>
 apply:Retry apply:Vec<Retry> apply:Plan apply:BTreeMap<i64,bool> apply:BTreeMap<String,BTreeMap<String,u8>>""".split()
+# Types with variants that are mappings of one entry.
+SINGLETONS = """Drawing Singletons<Vec<Figure>> Singletons<Deed> Singletons<BTreeMap<String,Option<Deed>>> Singletons<Choice>
+Singletons<Weather>""".split()
 WEIGHED = NAMES + "Service Setting Mark Figure Vec<Figure> Command Step Scalar".split() * 3
+NAMES_OF = {"random": WEIGHED, "more": MORE, "single": SINGLETONS}
 
 
 def quoted(text):
@@ -304,15 +360,16 @@ def answers(command, rows, folder):
 
 
 PLACE = re.compile(r" at line \d+ column \d+$")
-WAY = re.compile(r"^! (\S*): (?=invalid|unknown|missing|duplicate|no hexadecimal|more than|data did|deserializing)")
+WAY = re.compile(r"^! (\S*): (?=invalid|unknown|missing|duplicate|no [hm]|more than|data did|deserializing)")
 EXPECTED = [
     (r"floating point `[^`]*`", "floating point"),
     (r"(invalid value: integer `-?\d+`, expected) [iu](8|16|32|64)\b", r"\1 a number in the range of its type"),
     (r"expected u(8|16|32)\b", "expected u64"),
     (r"expected i(8|16|32)\b", "expected i64"),
     (r"expected (struct|struct variant|internally tagged enum|adjacently tagged enum) [A-Z][\w:]*", "expected a map"),
-    (r"(invalid length \d+), expected .*? (with 2 elements|of size 2)", r"\1, expected another length"),
-    (r"expected (tuple (struct|variant) [A-Z][\w:]*|a tuple of size 2)", "expected a sequence"),
+    (r"(invalid length \d+), expected .*? (with 2 elements|of size \d+|of length 2)", r"\1, expected another length"),
+    (r"(invalid length \d+), expected sequence of \d+ elements?", r"\1, expected another length"),
+    (r"expected (tuple (struct|variant) [A-Z][\w:]*|a tuple of size \d+)", "expected a sequence"),
     (r"expected (unit struct Nothing|unit variant [A-Z][\w:]*)", "expected unit"),
     (r"expected (struct|tuple|newtype) variant\b", "expected variant with content"),
     (r"untagged enum [A-Z]\w*", "untagged enum"),
@@ -324,9 +381,9 @@ EXPECTED = [
     (r"duplicate field `(enabled|is-on)`", "duplicate field `on`"),
 ]
 # Floats, parts of any kind and merge keys: what docs/DIFFERENCES.md lists of them.
-FLOATS = {"f32", "f64", "Weather"}
+FLOATS = {"f32", "f64", "Weather", "Singletons<Weather>"}
 VALUES = {"Value", "Vec<Value>", "Option<Value>", "Mapping", "Number", "Parcel", "Task", "Sign", "Either", "Choice",
-          "BTreeMap<String,Value>"}
+          "BTreeMap<String,Value>", "Singletons<Choice>"}
 # What is copied first by the original: such a fault says how the copy read, and other faults may come before it.
 COPIED = {"Mark", "Command", "Step", "Scalar", "Vec<Scalar>", "BTreeMap<String,Scalar>"}
 REST = {"Task", "Sign", "Either"}
@@ -343,13 +400,15 @@ def plain(answer):
 
 def kind(name, text, ours, theirs):
     """The kind of the difference, where docs/DIFFERENCES.md lists it, or None."""
+    if name.endswith(("/documents", "/stream")):
+        return kind_of_documents(name.split("/")[0], text, ours, theirs)
+    if "expected a borrowed string" in theirs and not text.isascii():
+        return "texts past ASCII that are lent"
     as_it_is, ours, theirs = ours, plain(ours), plain(theirs)
     if ours == theirs:
         return "names of types and widths of numbers"
     if ours.startswith("! floating point numbers are not"):
         return "floating point numbers"
-    if name.endswith(("/documents", "/stream")):
-        return kind_of_documents(ours, theirs)
     if name in COPIED:
         return kind_of_copy(name, text, ours, theirs)
     if name in FLOATS | VALUES and (found := kind_of_float(as_it_is)):
@@ -358,7 +417,13 @@ def kind(name, text, ours, theirs):
         return found
     if name.startswith("apply:"):
         return kind_of_merge(ours, theirs)
-    if ours.startswith("! ") and theirs.startswith("! ") and MISFIT.search(ours + theirs):
+    if name in SINGLETONS and (found := kind_of_singleton(theirs)):
+        return found
+    if ours.startswith("! ") and theirs.startswith("! ") and (MISFIT.search(ours + theirs) or "!!float '" in text):
+        return "core tags that their texts do not fit"
+    if ours.startswith("! ") and "invalid length" in ours and re.search("unknown anchor|did not find expected", theirs):
+        return "lengths in a document that is cut off"
+    if "Figure" in name and MISFIT.search(ours) and not theirs.startswith("! "):
         return "core tags that their texts do not fit"
     if not (ours.startswith("! ") and theirs.startswith("! ")):
         return None
@@ -371,20 +436,23 @@ def kind(name, text, ours, theirs):
     return None
 
 
-def kind_of_documents(ours, theirs):
+def kind_of_documents(name, text, ours, theirs):
     """The same for documents that are read in turn."""
     # theirs goes on with the parser's fault without end
-    read, more = theirs[: len(ours) - 1], theirs[len(ours) - 1 :].split("--- ")[1:]
-    if ours.startswith(read) and len(more) > 1 and more[0].startswith("! ") and len(set(more[:-1])) == 1:
+    told, more = plain(ours)[:-1], plain(theirs)
+    read, more = more[: len(told)], more[len(told) :].split("--- ")[1:]
+    if told == read and len(more) > 1 and more[0].startswith("! ") and len(set(more[:-1])) == 1:
         return "parser's faults without end"
-    # theirs begins the next document amid the one that failed
-    our_parts, their_parts = ours[1:-1].split("--- "), theirs[1:-1].split("--- ")
-    for our, their in zip(our_parts, their_parts):
+    found = None
+    for our, their in zip(ours[1:-1].split("--- "), theirs[1:-1].split("--- ")):
         if our != their:
-            return None
+            found = kind(name, text, *(one.replace("\\n", "") if "! " in one else '"%s"' % one for one in (our, their)))
+            if not found:
+                return None
         if "unknown anchor" in our:
+            # theirs begins the next document amid the one that failed
             return "documents behind an unknown anchor"
-    return None
+    return found
 
 
 def kind_of_copy(name, text, ours, theirs):
@@ -418,7 +486,7 @@ BEYOND = re.compile(r"floating point `([^`]+)`, expected f(32|64)")
 QUOTED_FLOAT = re.compile(r"'([-+]?[\d.]+[eE][-+]?\d+)'")
 QUOTED_KEY = re.compile(r"'([-+.\w~]*)':")
 MISFIT = re.compile(r'invalid value: string "[^"]*", expected (null|a boolean|an integer|a float)')
-NO_NUMBER = re.compile(r"! (size: )?invalid type: (string|enum|Option)\b.*, expected f64")
+TAGGED_NUMBER = re.compile(r"! (size: )?invalid type: (enum|Option)\b.*, expected f64")
 LABEL = re.compile(r"label: .*?\\n")
 
 
@@ -426,6 +494,17 @@ def kind_of_float(ours):
     """The same for types with floats."""
     found = BEYOND.search(ours)
     return "floats beyond the range" if found and is_beyond(*found.groups()) else None
+
+
+def kind_of_singleton(theirs):
+    """The same for types with variants that are mappings of one entry."""
+    if "invalid type: enum, expected enum" in theirs:
+        return "variants by tags where they are mappings"
+    if "invalid type: map, expected unit variant" in theirs:
+        return "variants without content that are mappings"
+    if re.search("invalid type: .*, expected enum [A-Z]", theirs):
+        return "what is no mapping and no text where a variant is"
+    return None
 
 
 def kind_of_merge(ours, theirs):
@@ -439,8 +518,8 @@ def kind_of_merge(ours, theirs):
 
 def kind_of_value(name, text, ours, theirs):
     """The same for types with parts of any kind."""
-    if name in ("Number", "Choice") and NO_NUMBER.match(theirs) and not NO_NUMBER.match(ours):
-        return "texts and tagged nodes that are numbers"
+    if name in ("Number", "Choice") and TAGGED_NUMBER.match(theirs) and not TAGGED_NUMBER.match(ours):
+        return "numbers under a local tag"
     if name in REST and re.search("!!(str|float)", text):
         return "texts of `!!str` and `!!float` in what is copied"
     if re.search(r"integer `-?\d+` as [iu]128, expected", theirs):
@@ -465,8 +544,8 @@ def main():
     if len(words) == 3 and words[1] == "rows":
         with open(words[2]) as file:
             rows = [line.rstrip("\n") for line in file if line.strip() and not line.startswith("#")]
-    elif len(words) == 4 and words[1] in ("random", "more"):
-        rows = random_rows(int(words[2]), int(words[3]), WEIGHED if words[1] == "random" else MORE)
+    elif len(words) == 4 and words[1] in NAMES_OF:
+        rows = random_rows(int(words[2]), int(words[3]), NAMES_OF[words[1]])
     else:
         sys.exit(__doc__)
     theirs = answers([words[0]], rows, None)

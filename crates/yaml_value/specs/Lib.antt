@@ -2,6 +2,8 @@
 pub mod Change
 pub mod Find
 pub mod Forms
+pub mod Hash
+pub mod Index
 pub mod Kinds
 pub mod Merge
 pub mod Numbers

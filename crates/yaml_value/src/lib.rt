@@ -2,10 +2,12 @@
 //! tags, which is looked through, changed, read and written.
 //!
 //! Clauses go by plain values, as which `plain` sees each value. What is found at a key, changed or taken out there, is
-//! told of all mappings. That a key which stands there is found, and that equal values are called so, is told of
-//! mappings with fewer than 16 pairs, whose keys are gone over one by one: no clause tells that the index of larger
-//! ones misses none. Of merging it is told likewise, where no mapping in a value has as many pairs. No clause tells of
-//! what is read and written.
+//! told of all mappings. That a key which stands there is found is told of mappings with fewer than 16 pairs, whose
+//! keys are gone over one by one, and of larger ones that are sound, where the key is null, a truth value, an integer
+//! or a text: the index misses none there. A new mapping is sound, and so it stays by what is put in and taken out; of
+//! one that is copied, read, merged or changed through what it lends no clause tells it. That equal values are called
+//! so is told where no mapping in them has 16 pairs, and so it is of paths and of merging. No clause tells of what is
+//! read and written.
 #![tactic(auto)]
 
 mod index;

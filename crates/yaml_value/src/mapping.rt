@@ -1,16 +1,19 @@
 //! Mappings of values to values.
 
-ghost use Rattle.std.specs.Prelude.{◌≡◌, ◌==◌, ◌<◌, Some, is_some, length, option_and_then, option_map};
+ghost use Rattle.std.specs.Prelude.{◌≡◌, ◌==◌, ◌<◌, ◌++◌, ◌∷◌, [], None, Some, is_some, length};
+ghost use Rattle.std.specs.Prelude.{option_and_then, option_map};
 ghost use Rattle.std.specs.Prelude.{pos, true, IfOk, IfSome, OnErr, OnOk, slice_index_or};
 ghost use Rattle.std.specs.List.{remove};
 ghost use Rattle.std.specs.Slice.Iter.{iter_rest};
 ghost use Rattle.yaml_value.specs.Find.{few, is_key_at, place_where, value_at, value_in_place};
 ghost use Rattle.yaml_value.specs.Find.{IsPut, IsTakenOut, IsValueAt, with_value};
 ghost use Rattle.yaml_value.specs.Find.{without_found, without_key, without_place};
+ghost use Rattle.yaml_value.specs.Index.{IsSimple, IsSound, IsSoundMapping};
 ghost use Rattle.yaml_value.specs.PlainEqual.{plain_eq};
 ghost use Rattle.yaml_value.specs.PlainValue.{integer, no_pairs, pair_count, text, with_last};
 ghost use Rattle.yaml_value.specs.Small.{IsSmallMapping};
 ghost use Rattle.yaml_value.specs.View.{entry_pairs, plain, plain_entry, plain_pairs};
+ghost use Rattle.yaml_value.specs.declared.value.Value.TheViews.{out-Entry};
 
 use crate::index::{index_all, index_last};
 use crate::value::Value;
@@ -64,7 +67,8 @@ fn discard(_value: Value) {}
 
 // How many entries there are.
 pub(crate) fn count(entries: &[Entry]) -> usize
-    ensures { result ≡ pair_count (entry_pairs entries.now) }
+    ensures pairs { result ≡ pair_count (entry_pairs entries.now) }
+    ensures len { result ≡ length entries.now }
 {
     entries.len()
 }
@@ -92,6 +96,8 @@ fn value_of_text<'e>(entries: &'e [Entry], key: &str) -> Option<&'e Value>
         IfSome result (λ value. IsValueAt (text key.now) pairs (plain value.now)) }
     ensures few { pair_count (entry_pairs entries.now) < few → option_map (λ value. plain value.now) result
         ≡ value_at (text key.now) (entry_pairs entries.now) }
+    ensures sound { IsSound entries.now → option_map (λ value. plain value.now) result
+        ≡ value_at (text key.now) (entry_pairs entries.now) }
 {
     value_in(entries, place_of_text(key, entries))
 }
@@ -101,6 +107,8 @@ fn value_of_key<'e>(entries: &'e [Entry], key: &Value) -> Option<&'e Value>
     ensures found { let pairs = entry_pairs entries.now in
         IfSome result (λ value. IsValueAt (plain key.now) pairs (plain value.now)) }
     ensures small { IsSmallMapping (entry_pairs entries.now) → option_map (λ value. plain value.now) result
+        ≡ value_at (plain key.now) (entry_pairs entries.now) }
+    ensures sound { IsSound entries.now → IsSimple (plain key.now) → option_map (λ value. plain value.now) result
         ≡ value_at (plain key.now) (entry_pairs entries.now) }
 {
     value_in(entries, place_of(key, entries))
@@ -120,6 +128,7 @@ fn take_out(entries: &mut Vec<Entry>, i: usize) -> Entry
     requires { i < length entries.old.items }
     ensures after { entry_pairs entries.new.items ≡ without_place i (entry_pairs entries.old.items) }
     ensures answer { value_in_place i (entry_pairs entries.old.items) ≡ Some (plain_entry result).1 }
+    ensures sound { IsSound entries.old.items → IsSound entries.new.items }
 {
     let entry = removed(entries, i);
     index_all(entries);
@@ -131,6 +140,7 @@ fn taken_from(entries: &mut Vec<Entry>, place: Option<usize>) -> Option<Entry>
     ensures after { entry_pairs entries.new.items ≡ without_found place (entry_pairs entries.old.items) }
     ensures answer { option_map (λ entry. (plain_entry entry).1) result
         ≡ option_and_then (λ i. value_in_place i (entry_pairs entries.old.items)) place }
+    ensures sound { IsSound entries.old.items → IsSound entries.new.items }
 {
     match place {
         Some(i) => {
@@ -158,6 +168,8 @@ fn value_taken(entry: Option<Entry>) -> Option<Value>
 fn place_in(entries: &Vec<Entry>, key: &str) -> Option<usize>
     ensures found { IfSome result (λ i. is_key_at (text key.now) i (entry_pairs entries.now.items) ≡ true) }
     ensures few { pair_count (entry_pairs entries.now.items) < few
+        → result ≡ place_where (plain_eq (text key.now)) (entry_pairs entries.now.items) }
+    ensures sound { IsSound entries.now.items
         → result ≡ place_where (plain_eq (text key.now)) (entry_pairs entries.now.items) }
 {
     place_of_text(key, entries.as_slice())
@@ -193,6 +205,8 @@ fn lend_at_text<'e>(entries: &'e mut Vec<Entry>, key: &str) -> Option<&'e mut Va
         IfSome result (λ value. IsValueAt (text key.now) pairs (plain value.now)) }
     ensures few { let pairs = entry_pairs entries.old.items in
         pair_count pairs < few → option_map (λ value. plain value.now) result ≡ value_at (text key.now) pairs }
+    ensures sound { let pairs = entry_pairs entries.old.items in
+        IsSound entries.old.items → option_map (λ value. plain value.now) result ≡ value_at (text key.now) pairs }
 {
     let place = place_in(entries, key);
     lend_in(entries, place)
@@ -206,6 +220,11 @@ fn remove_text(entries: &mut Vec<Entry>, key: &str) -> Option<Value>
         pair_count old < few → entry_pairs entries.new.items ≡ without_key (text key.now) old }
     ensures answer { let old = entry_pairs entries.old.items in
         pair_count old < few → option_map plain result ≡ value_at (text key.now) old }
+    ensures sound_after { let old = entry_pairs entries.old.items in
+        IsSound entries.old.items → entry_pairs entries.new.items ≡ without_key (text key.now) old }
+    ensures sound_answer { let old = entry_pairs entries.old.items in
+        IsSound entries.old.items → option_map plain result ≡ value_at (text key.now) old }
+    ensures sound { IsSound entries.old.items → IsSound entries.new.items }
 {
     let place = place_in(entries, key);
     value_taken(taken_from(entries, place))
@@ -228,6 +247,8 @@ fn push_entry(entries: &mut Vec<Entry>, entry: Entry) -> Result<(), AllocError>
     ensures ok { let pair = plain_entry entry in
         OnOk result (entry_pairs entries.new.items ≡ with_last (entry_pairs entries.old.items) pair.0 pair.1) }
     ensures err { OnErr result (entry_pairs entries.new.items ≡ entry_pairs entries.old.items) }
+    ensures last { OnOk result (entries.new.items ≡ entries.old.items ++ entry ∷ []) }
+    ensures same { OnErr result (entries.new.items ≡ entries.old.items) }
 {
     entries.push(entry)?;
     Ok(())
@@ -238,6 +259,8 @@ fn add(entries: &mut Vec<Entry>, key: Value, value: Value) -> Result<(), AllocEr
     ensures ok { let old = entry_pairs entries.old.items in
         OnOk result (entry_pairs entries.new.items ≡ with_last old (plain key) (plain value)) }
     ensures err { OnErr result (entry_pairs entries.new.items ≡ entry_pairs entries.old.items) }
+    ensures sound { let old = entry_pairs entries.old.items in IsSound entries.old.items
+        → (IsSimple (plain key) → place_where (plain_eq (plain key)) old ≡ None) → IsSound entries.new.items }
 {
     push_entry(entries, new_entry(key, value))?;
     index_last(entries);
@@ -248,6 +271,8 @@ fn add(entries: &mut Vec<Entry>, key: Value, value: Value) -> Result<(), AllocEr
 fn put_value(entry: &mut Entry, value: Value) -> Value
     ensures after { plain_entry entry.new ≡ ((plain_entry entry.old).0, plain value) }
     ensures answer { plain result ≡ (plain_entry entry.old).1 }
+    ensures last { (out-Entry entry.new).last ≡ (out-Entry entry.old).last }
+    ensures earlier { (out-Entry entry.new).earlier ≡ (out-Entry entry.old).earlier }
 {
     mem::replace(&mut entry.value, value)
 }
@@ -257,21 +282,25 @@ fn put_in(entries: &mut Vec<Entry>, i: usize, value: Value) -> Value
     requires { i < length entries.old.items }
     ensures after { entry_pairs entries.new.items ≡ with_value i (plain value) (entry_pairs entries.old.items) }
     ensures answer { value_in_place i (entry_pairs entries.old.items) ≡ Some (plain result) }
+    ensures sound { IsSound entries.old.items → IsSound entries.new.items }
 {
     put_value(&mut entries[i], value)
 }
 
 // The place of a key.
 fn place_among(entries: &Vec<Entry>, key: &Value) -> Option<usize>
-    ensures { IfSome result (λ i. is_key_at (plain key.now) i (entry_pairs entries.now.items) ≡ true) }
+    ensures found { IfSome result (λ i. is_key_at (plain key.now) i (entry_pairs entries.now.items) ≡ true) }
+    ensures sound { IsSound entries.now.items → IsSimple (plain key.now)
+        → result ≡ place_where (plain_eq (plain key.now)) (entry_pairs entries.now.items) }
 {
     place_of(key, entries.as_slice())
 }
 
 // Takes the entry out that has this key, and answers its value.
 fn remove_key(entries: &mut Vec<Entry>, key: &Value) -> Option<Value>
-    ensures { let old = entry_pairs entries.old.items in
+    ensures taken { let old = entry_pairs entries.old.items in
         IsTakenOut (plain key.now) old (entry_pairs entries.new.items) (option_map plain result) }
+    ensures sound { IsSound entries.old.items → IsSound entries.new.items }
 {
     let place = place_among(entries, key);
     value_taken(taken_from(entries, place))
@@ -286,6 +315,7 @@ fn insert_pair(
     ensures put { IfOk result (λ told. IsPut (plain key) (plain value) (entry_pairs entries.old.items)
         (entry_pairs entries.new.items) (option_map plain told)) }
     ensures err { OnErr result (entry_pairs entries.new.items ≡ entry_pairs entries.old.items) }
+    ensures sound { IsSound entries.old.items → IsSound entries.new.items }
 {
     match place_among(entries, &key) {
         Some(place) => {
@@ -302,7 +332,8 @@ fn insert_pair(
 impl Mapping {
     /// The empty mapping. It takes no memory until a pair goes in.
     pub fn new(alloc: Global) -> Mapping
-        ensures { plain_pairs result ≡ no_pairs }
+        ensures pairs { plain_pairs result ≡ no_pairs }
+        ensures sound { IsSoundMapping result }
     {
         Mapping {
             entries: Vec::new(alloc),
@@ -329,6 +360,8 @@ impl Mapping {
             IfSome result (λ value. IsValueAt (text key.now) pairs (plain value.now)) }
         ensures few { pair_count (plain_pairs self.now) < few → option_map (λ value. plain value.now) result
             ≡ value_at (text key.now) (plain_pairs self.now) }
+        ensures sound { IsSoundMapping self.now → option_map (λ value. plain value.now) result
+            ≡ value_at (text key.now) (plain_pairs self.now) }
     {
         value_of_text(self.entries.as_slice(), key)
     }
@@ -339,6 +372,8 @@ impl Mapping {
             IfSome result (λ value. IsValueAt (plain key.now) pairs (plain value.now)) }
         ensures small { IsSmallMapping (plain_pairs self.now) → option_map (λ value. plain value.now) result
             ≡ value_at (plain key.now) (plain_pairs self.now) }
+        ensures sound { IsSoundMapping self.now → IsSimple (plain key.now)
+            → option_map (λ value. plain value.now) result ≡ value_at (plain key.now) (plain_pairs self.now) }
     {
         value_of_key(self.entries.as_slice(), key)
     }
@@ -356,7 +391,9 @@ impl Mapping {
 
     /// Whether there is a pair with this key.
     pub fn contains_key(&self, key: &str) -> bool
-        ensures { pair_count (plain_pairs self.now) < few
+        ensures few { pair_count (plain_pairs self.now) < few
+            → result ≡ is_some (value_at (text key.now) (plain_pairs self.now)) }
+        ensures sound { IsSoundMapping self.now
             → result ≡ is_some (value_at (text key.now) (plain_pairs self.now)) }
     {
         self.get(key).is_some()
@@ -368,6 +405,8 @@ impl Mapping {
             IfSome result (λ value. IsValueAt (text key.now) pairs (plain value.now)) }
         ensures few { pair_count (plain_pairs self.old) < few → option_map (λ value. plain value.now) result
             ≡ value_at (text key.now) (plain_pairs self.old) }
+        ensures sound { IsSoundMapping self.old → option_map (λ value. plain value.now) result
+            ≡ value_at (text key.now) (plain_pairs self.old) }
     {
         lend_at_text(&mut self.entries, key)
     }
@@ -378,6 +417,7 @@ impl Mapping {
         ensures put { IfOk result (λ told. IsPut (plain key) (plain value) (plain_pairs self.old)
             (plain_pairs self.new) (option_map plain told)) }
         ensures err { OnErr result (plain_pairs self.new ≡ plain_pairs self.old) }
+        ensures sound { IsSoundMapping self.old → IsSoundMapping self.new }
     {
         insert_pair(&mut self.entries, key, value)
     }
@@ -399,14 +439,20 @@ impl Mapping {
             pair_count old < few → plain_pairs self.new ≡ without_key (text key.now) old }
         ensures answer { let old = plain_pairs self.old in
             pair_count old < few → option_map plain result ≡ value_at (text key.now) old }
+        ensures sound_after { let old = plain_pairs self.old in
+            IsSoundMapping self.old → plain_pairs self.new ≡ without_key (text key.now) old }
+        ensures sound_answer { let old = plain_pairs self.old in
+            IsSoundMapping self.old → option_map plain result ≡ value_at (text key.now) old }
+        ensures sound { IsSoundMapping self.old → IsSoundMapping self.new }
     {
         remove_text(&mut self.entries, key)
     }
 
     /// The same of a key of any kind.
     pub fn remove_at(&mut self, key: &Value) -> Option<Value>
-        ensures { let old = plain_pairs self.old in
+        ensures taken { let old = plain_pairs self.old in
             IsTakenOut (plain key.now) old (plain_pairs self.new) (option_map plain result) }
+        ensures sound { IsSoundMapping self.old → IsSoundMapping self.new }
     {
         remove_key(&mut self.entries, key)
     }

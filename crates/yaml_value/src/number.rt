@@ -2,11 +2,13 @@
 
 ghost use Rattle.std.specs.Prelude.{◌≡◌, Some, is_some, pos, true};
 ghost use Rattle.yaml_value.specs.Forms.{is_canonical};
+ghost use Rattle.yaml_value.specs.Hash.{float_hash, integer_hash};
 ghost use Rattle.yaml_value.specs.PlainEqual.{same_float};
 
 use ryu::Buffer;
+use std::cmp::OrderedFloat;
 use std::fmt;
-use std::hash::{FoldHasher, Hasher};
+use std::hash::{FoldHasher, Hash, Hasher};
 use std::num::{nearest_i64_to_f64, nearest_u64_to_f64};
 use yaml_float::print_f64;
 
@@ -27,6 +29,7 @@ pub struct Number {
 
 impl Number {
     ghost use Rattle.std.specs.Prelude.{◌≡◌, Some, is_some, pos};
+    ghost use Rattle.yaml_value.specs.Hash.{hash_of};
     ghost use Rattle.yaml_value.specs.Numbers.{as_f64, as_i128, as_i64, as_u128, as_u64, float_in, integer_in};
     ghost use Rattle.yaml_value.specs.PlainEqual.{plain_eq};
     ghost use Rattle.yaml_value.specs.View.{plain_number};
@@ -132,7 +135,9 @@ impl Number {
     }
 
     // Numbers that are the same have one hash.
-    pub(crate) fn hash(self) -> u64 {
+    pub(crate) fn hash(self) -> u64
+        ensures { result ≡ hash_of (plain_number self) }
+    {
         match self.form {
             Form::Unsigned(n) => hash_integer(n),
             Form::Negative(n) => hash_integer(n.unsigned_abs()),
@@ -150,21 +155,20 @@ fn same_floats(a: f64, b: f64) -> bool
     a == b
 }
 
-fn hash_integer(n: u128) -> u64 {
+fn hash_integer(n: u128) -> u64
+    ensures { result ≡ integer_hash (pos n) }
+{
     let mut hasher = FoldHasher::default();
-    hasher.write(&n.to_le_bytes());
+    hasher.write_u128(n);
     hasher.finish()
 }
 
-fn hash_float(x: f64) -> u64 {
-    if x.is_nan() {
-        return 5;
-    }
-    if x == 0.0 {
-        return 6;
-    }
+// Floats that are no number have one hash, and so have both zeros.
+fn hash_float(x: f64) -> u64
+    ensures { result ≡ float_hash x }
+{
     let mut hasher = FoldHasher::default();
-    hasher.write_u64(x.to_bits());
+    OrderedFloat(x).hash(&mut hasher);
     hasher.finish()
 }
 

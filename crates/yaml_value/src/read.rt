@@ -97,36 +97,66 @@ fn fetch_rest<F: Format>(
     Ok(mapping)
 }
 
+// A number. Behind a local tag it is what the text there is.
 fn fetch_number<F: Format>(
     alloc: Global,
     from: &mut Deserializer<'_, '_, F>,
 ) -> Result<Number, F::Error> {
     match from.peek()? {
+        Kind::Bytes => {
+            let kind = look_behind_tag(alloc, from)?;
+            fetch_number_as(alloc, from, kind)
+        }
+        kind => fetch_number_as(alloc, from, kind),
+    }
+}
+
+// Of which kind the text of a node with a tag is.
+fn look_behind_tag<F: Format>(
+    alloc: Global,
+    from: &mut Deserializer<'_, '_, F>,
+) -> Result<Kind, F::Error> {
+    let mark = from.mark();
+    let read = from.string(alloc);
+    from.rewind(mark);
+    from.release(mark);
+    Ok(kind_of_text(read?.as_str()))
+}
+
+fn kind_of_text(text: &str) -> Kind {
+    match resolve(text) {
+        yaml_base::Kind::Null => Kind::Unit,
+        yaml_base::Kind::Bool(_) => Kind::Bool,
+        yaml_base::Kind::Unsigned(_) => Kind::Unsigned,
+        yaml_base::Kind::Signed(_) => Kind::Signed,
+        yaml_base::Kind::Float => Kind::Float,
+        yaml_base::Kind::Str => Kind::Str,
+    }
+}
+
+// A number that is looked at as of this kind. A text is none, though a float may be read of it, as of `01`.
+fn fetch_number_as<F: Format>(
+    alloc: Global,
+    from: &mut Deserializer<'_, '_, F>,
+    kind: Kind,
+) -> Result<Number, F::Error> {
+    match kind {
         Kind::Unsigned => Ok(Number::from_u128(from.u128()?)),
         Kind::Signed => Ok(Number::from_i128(from.i128()?)),
-        Kind::Bytes => fetch_tagged_number(alloc, from),
+        Kind::Str => {
+            let text = from.string(alloc)?;
+            Err(fault_of_text(alloc, from, text.as_str()))
+        }
         _ => Ok(Number::from_f64(from.f64()?)),
     }
 }
 
-// The number that the text of a node with a tag is.
-fn fetch_tagged_number<F: Format>(
-    alloc: Global,
-    from: &mut Deserializer<'_, '_, F>,
-) -> Result<Number, F::Error> {
-    let text = from.string(alloc)?;
-    match number_of_text(text.as_str()) {
-        Some(number) => Ok(number),
-        None => Err(from.custom("expected a number")),
-    }
-}
-
-fn number_of_text(text: &str) -> Option<Number> {
-    match resolve(text) {
-        yaml_base::Kind::Unsigned(n) => Some(Number::from_u128(n)),
-        yaml_base::Kind::Signed(n) => Some(Number::from_i128(n)),
-        yaml_base::Kind::Float => Some(Number::from_f64(parse_f64(text.as_bytes())?)),
-        _ => None,
+// The fault of a text where a number is read.
+fn fault_of_text<F: Format>(alloc: Global, from: &Deserializer<'_, '_, F>, text: &str) -> F::Error {
+    let quoted = Quoted(text);
+    match format!(in alloc; "invalid type: string {quoted}, expected a number") {
+        Ok(message) => from.custom(message.as_str()),
+        Err(_) => from.no_memory(),
     }
 }
 

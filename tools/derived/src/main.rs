@@ -198,6 +198,13 @@ fn answer_as(name: &str, text: &str) -> Answer {
         "Ends<i8>" => answer::<Ends<i8>>(text),
         "Ends<Option<Pair>>" => answer::<Ends<Option<Pair>>>(text),
         "Percent" => answer::<Percent>(text),
+        "Drawing" | "Drawing/events" => answer::<Drawing>(text),
+        "Singletons<Vec<Figure>>" => answer::<Singletons<Vec<Figure>>>(text),
+        "Singletons<Deed>" => answer::<Singletons<Deed>>(text),
+        "Singletons<Deed>/documents" => answer_of_documents::<Singletons<Deed>>(text),
+        "Singletons<BTreeMap<String,Option<Deed>>>" => answer::<Singletons<BTreeMap<String, Option<Deed>>>>(text),
+        "Singletons<Choice>" => answer::<Singletons<Choice>>(text),
+        "Singletons<Weather>" => answer::<Singletons<Weather>>(text),
         _ => panic!("no such type"),
     }
 }

@@ -291,3 +291,39 @@ pub struct Retry {
 pub struct Plan {
     jobs: BTreeMap<String, Retry>,
 }
+
+#[derive(Serialize, Deserialize)]
+pub enum Deed {
+    Rest,
+    Draw(Figure),
+    Move { what: Figure, by: Option<u8> },
+    Each(Vec<Figure>),
+    Swap(Figure, Figure),
+}
+
+#[derive(Serialize, Deserialize)]
+pub struct Drawing {
+    #[serde(with = "serde_yaml::with::singleton_map")]
+    first: Deed,
+    #[serde(default, with = "serde_yaml::with::singleton_map_optional", skip_serializing_if = "Option::is_none")]
+    next: Option<Figure>,
+    #[serde(default, with = "serde_yaml::with::singleton_map_recursive")]
+    others: Vec<Deed>,
+    #[serde(default)]
+    tagged: Vec<Figure>,
+}
+
+/// A value, each variant in which is a mapping of one entry.
+pub struct Singletons<T>(T);
+
+impl<'de, T: Deserialize<'de>> Deserialize<'de> for Singletons<T> {
+    fn deserialize<D: Deserializer<'de>>(from: D) -> Result<Singletons<T>, D::Error> {
+        serde_yaml::with::singleton_map_recursive::deserialize(from).map(Singletons)
+    }
+}
+
+impl<T: Serialize> Serialize for Singletons<T> {
+    fn serialize<S: Serializer>(&self, out: S) -> Result<S::Ok, S::Error> {
+        serde_yaml::with::singleton_map_recursive::serialize(&self.0, out)
+    }
+}

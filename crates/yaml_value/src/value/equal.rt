@@ -1,14 +1,17 @@
 //! Equality of values.
 
-ghost use Rattle.std.specs.Prelude.{◌≡◌, ◌<◌, true, IfSome};
+ghost use Rattle.std.specs.Prelude.{◌≡◌, ◌<◌, true, length, IfSome};
+ghost use Rattle.yaml_tree.specs.Index.{chain_count};
 ghost use Rattle.yaml_value.specs.Find.{few, is_key_at, place_where};
+ghost use Rattle.yaml_value.specs.Hash.{hash_of, text_hash};
+ghost use Rattle.yaml_value.specs.Index.{IsSimple, IsSound, chain_end};
 ghost use Rattle.yaml_value.specs.PlainEqual.{entry_eq, has_all_pairs, has_pair, items_eq, pairs_eq};
 ghost use Rattle.yaml_value.specs.PlainEqual.{plain_eq, tagged_eq};
 ghost use Rattle.yaml_value.specs.PlainValue.{pair_count, text as plain_text};
 ghost use Rattle.yaml_value.specs.Small.{AreItemsSmall, ArePairsSmall, IsSmall, IsSmallMapping};
 ghost use Rattle.yaml_value.specs.View.{entry_pairs, plain, plain_entry, plain_items, plain_pairs, plain_tagged};
 
-use crate::index::{chain_count, first_of};
+use crate::index::{chain_count, earlier_at, first_of};
 use crate::mapping::{Entry, Mapping, count};
 use crate::value::hash::{hash_text, hash_value};
 use crate::value::{TaggedValue, Value};
@@ -39,6 +42,7 @@ impl Mapping {
 fn same_value(a: &Value, b: &Value) -> bool
     ensures equal { result ≡ true → plain_eq (plain a.now) (plain b.now) ≡ true }
     ensures small { IsSmall (plain b.now) → result ≡ plain_eq (plain a.now) (plain b.now) }
+    ensures simple { IsSimple (plain a.now) → result ≡ plain_eq (plain a.now) (plain b.now) }
 {
     match (a, b) {
         (Value::Null, Value::Null) => true,
@@ -168,8 +172,11 @@ pub(crate) fn place_of(key: &Value, entries: &[Entry]) -> Option<usize>
     ensures found { IfSome result (λ i. is_key_at (plain key.now) i (entry_pairs entries.now) ≡ true) }
     ensures small { IsSmallMapping (entry_pairs entries.now)
         → result ≡ place_where (plain_eq (plain key.now)) (entry_pairs entries.now) }
+    ensures sound { IsSound entries.now → IsSimple (plain key.now)
+        → result ≡ place_where (plain_eq (plain key.now)) (entry_pairs entries.now) }
 {
-    if chain_count(count(entries)) == 0 {
+    let chains = chain_count(count(entries));
+    if chains == 0 {
         return place_in_order(key, entries);
     }
     place_in_chain(key, entries, first_of(hash_value(key), entries))
@@ -178,6 +185,8 @@ pub(crate) fn place_of(key: &Value, entries: &[Entry]) -> Option<usize>
 fn place_in_order(key: &Value, entries: &[Entry]) -> Option<usize>
     ensures found { IfSome result (λ i. is_key_at (plain key.now) i (entry_pairs entries.now) ≡ true) }
     ensures small { ArePairsSmall (entry_pairs entries.now)
+        → result ≡ place_where (plain_eq (plain key.now)) (entry_pairs entries.now) }
+    ensures simple { IsSimple (plain key.now)
         → result ≡ place_where (plain_eq (plain key.now)) (entry_pairs entries.now) }
 {
     for i in 0..entries.len() {
@@ -188,20 +197,27 @@ fn place_in_order(key: &Value, entries: &[Entry]) -> Option<usize>
     None
 }
 
+// The same by the index: only the chain of the key is gone along, from its last entry to its first.
 #[cycle(same)]
 fn place_in_chain(key: &Value, entries: &[Entry], first: usize) -> Option<usize>
-    ensures { IfSome result (λ i. is_key_at (plain key.now) i (entry_pairs entries.now) ≡ true) }
+    ensures found { IfSome result (λ i. is_key_at (plain key.now) i (entry_pairs entries.now) ≡ true) }
+    ensures first { IsSimple (plain key.now) → IsSound entries.now → 0 < chain_count (length entries.now)
+        → first ≡ chain_end (hash_of (plain key.now)) entries.now
+        → result ≡ place_where (plain_eq (plain key.now)) (entry_pairs entries.now) }
 {
     let mut left = first;
-    for _ in 0..entries.len() {
-        let place = left.checked_sub(1)?;
+    for turn in 0..entries.len() {
+        if left == 0 {
+            return None;
+        }
+        let place = left - 1;
         if place >= entries.len() {
             return None;
         }
         if same_value(key, &entries[place].key) {
             return Some(place);
         }
-        left = entries[place].earlier;
+        left = earlier_at(entries, place);
     }
     None
 }
@@ -228,8 +244,11 @@ pub(crate) fn place_of_text(text: &str, entries: &[Entry]) -> Option<usize>
     ensures found { IfSome result (λ i. is_key_at (plain_text text.now) i (entry_pairs entries.now) ≡ true) }
     ensures few { pair_count (entry_pairs entries.now) < few
         → result ≡ place_where (plain_eq (plain_text text.now)) (entry_pairs entries.now) }
+    ensures sound { IsSound entries.now
+        → result ≡ place_where (plain_eq (plain_text text.now)) (entry_pairs entries.now) }
 {
-    if chain_count(count(entries)) == 0 {
+    let chains = chain_count(count(entries));
+    if chains == 0 {
         return text_in_order(text, entries);
     }
     text_in_chain(text, entries, first_of(hash_text(text), entries))
@@ -247,19 +266,26 @@ fn text_in_order(text: &str, entries: &[Entry]) -> Option<usize>
     None
 }
 
+// The same by the index: only the chain of the text is gone along, from its last entry to its first.
 fn text_in_chain(text: &str, entries: &[Entry], first: usize) -> Option<usize>
-    ensures { IfSome result (λ i. is_key_at (plain_text text.now) i (entry_pairs entries.now) ≡ true) }
+    ensures found { IfSome result (λ i. is_key_at (plain_text text.now) i (entry_pairs entries.now) ≡ true) }
+    ensures first { IsSound entries.now → 0 < chain_count (length entries.now)
+        → first ≡ chain_end (text_hash text.now) entries.now
+        → result ≡ place_where (plain_eq (plain_text text.now)) (entry_pairs entries.now) }
 {
     let mut left = first;
-    for _ in 0..entries.len() {
-        let place = left.checked_sub(1)?;
+    for turn in 0..entries.len() {
+        if left == 0 {
+            return None;
+        }
+        let place = left - 1;
         if place >= entries.len() {
             return None;
         }
         if has_text(&entries[place], text) {
             return Some(place);
         }
-        left = entries[place].earlier;
+        left = earlier_at(entries, place);
     }
     None
 }

@@ -1,12 +1,19 @@
 //! Hashes of keys.
 
+ghost use Rattle.std.specs.Prelude.{◌≡◌, ◌+◌, ◌%◌, ◌^◌};
+ghost use Rattle.yaml_value.specs.Hash.{hash_of, pair_hash, tagged_hash, text_hash};
+ghost use Rattle.yaml_value.specs.PlainValue.{mapping as plain_mapping, sequence};
+ghost use Rattle.yaml_value.specs.View.{plain, plain_entry, plain_items, plain_pairs, plain_tagged};
+
 use crate::mapping::{Entry, Mapping};
 use crate::value::{TaggedValue, Value};
 use std::hash::{FoldHasher, Hasher};
 
 /// The hash of a key: equal keys have one hash.
 #[cycle(hash)]
-pub(crate) fn hash_value(key: &Value) -> u64 {
+pub(crate) fn hash_value(key: &Value) -> u64
+    ensures { result ≡ hash_of (plain key.now) }
+{
     match key {
         Value::Null => 0,
         Value::Bool(false) => 1,
@@ -20,7 +27,9 @@ pub(crate) fn hash_value(key: &Value) -> u64 {
 }
 
 #[cycle(hash)]
-fn hash_tagged(tagged: &TaggedValue) -> u64 {
+fn hash_tagged(tagged: &TaggedValue) -> u64
+    ensures { result ≡ tagged_hash (plain_tagged tagged.now).0 (hash_of (plain_tagged tagged.now).1) }
+{
     let content = hash_value(&tagged.value);
     let mut hasher = FoldHasher::default();
     hasher.write(tagged.tag.as_str().as_bytes());
@@ -29,26 +38,42 @@ fn hash_tagged(tagged: &TaggedValue) -> u64 {
 }
 
 #[cycle(hash)]
-fn hash_items(items: &Vec<Value>) -> u64 {
+fn hash_items(items: &Vec<Value>) -> u64
+    ensures { result ≡ hash_of (sequence (plain_items items.now.items)) }
+{
     let mut hasher = FoldHasher::default();
     for item in items {
-        hasher.write_u64(hash_value(item));
+        let hash = hash_value(item);
+        hasher.write_u64(hash);
     }
     hasher.finish()
 }
 
 // In whatever order the pairs stand.
 #[cycle(hash)]
-fn hash_mapping(mapping: &Mapping) -> u64 {
+fn hash_mapping(mapping: &Mapping) -> u64
+    ensures { result ≡ hash_of (plain_mapping (plain_pairs mapping.now)) }
+{
     let mut sum = 4u64;
     for entry in &mapping.entries {
-        sum = sum.wrapping_add(hash_entry(entry));
+        let hash = hash_entry(entry);
+        let more = plus(sum, hash);
+        sum = more;
     }
     sum
 }
 
+// The sum in 64 bits.
+fn plus(a: u64, b: u64) -> u64
+    ensures { result ≡ (a + b) % 2 ^ 64 }
+{
+    a.wrapping_add(b)
+}
+
 #[cycle(hash)]
-fn hash_entry(entry: &Entry) -> u64 {
+fn hash_entry(entry: &Entry) -> u64
+    ensures { result ≡ pair_hash (hash_of (plain_entry entry.now).0) (hash_of (plain_entry entry.now).1) }
+{
     let key = hash_value(&entry.key);
     let value = hash_value(&entry.value);
     let mut hasher = FoldHasher::default();
@@ -58,7 +83,9 @@ fn hash_entry(entry: &Entry) -> u64 {
 }
 
 /// The hash of the key of a text.
-pub(crate) fn hash_text(text: &str) -> u64 {
+pub(crate) fn hash_text(text: &str) -> u64
+    ensures { result ≡ text_hash text.now }
+{
     let mut hasher = FoldHasher::default();
     hasher.write(text.as_bytes());
     hasher.finish()

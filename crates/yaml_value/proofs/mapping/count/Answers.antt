@@ -3,5 +3,5 @@ use Rattle.std.proofs.Common.{sym}
 use Rattle.yaml_value.proofs.Views.{pair_count-entries}
 use Rattle.yaml_value.proofs.mapping.count.Goals as goal
 
-pub returns : goal.returns
-returns c = sym (pair_count-entries c.args.entries.now)
+pub returns-clause-pairs : goal.returns-clause-pairs
+returns-clause-pairs c = sym (pair_count-entries c.args.entries.now)

@@ -13,8 +13,14 @@ returns c =
     let ps = entry_pairs c.args.entries.now.items in (
       told (text c.args.key.now) ps c.place_in-place.result (λ value. plain value.now) c.lend_in.result
           c.place_in-place.ensures.found c.lend_in.ensures,
-      λ few.
-          c.lend_in.ensures
-          ∙ (ap (option_and_then (λ i. value_in_place i ps)) (c.place_in-place.ensures.few few)
-          ∙ value_where-place (plain_eq (text c.args.key.now)) ps),
+      (
+        λ few.
+            c.lend_in.ensures
+            ∙ (ap (option_and_then (λ i. value_in_place i ps)) (c.place_in-place.ensures.few few)
+            ∙ value_where-place (plain_eq (text c.args.key.now)) ps),
+        λ sound.
+            c.lend_in.ensures
+            ∙ (ap (option_and_then (λ i. value_in_place i ps)) (c.place_in-place.ensures.sound sound)
+            ∙ value_where-place (plain_eq (text c.args.key.now)) ps),
+      ),
     )

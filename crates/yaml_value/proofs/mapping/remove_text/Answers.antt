@@ -28,3 +28,18 @@ returns-clause-answer c = λ few.
     ∙ (c.taken_from.ensures.answer
     ∙ (ap (option_and_then (λ i. value_in_place i ps)) (c.place_in-place.ensures.few few)
     ∙ value_where-place (plain_eq (text c.args.key.now)) ps))
+
+pub returns-clause-sound_after : goal.returns-clause-sound_after
+returns-clause-sound_after c = λ sound.
+    let ps = entry_pairs c.args.entries.now.items in
+    c.taken_from.ensures.after
+    ∙ (ap (λ place. without_found place ps) (c.place_in-place.ensures.sound sound)
+    ∙ without_key-place (text c.args.key.now) ps)
+
+pub returns-clause-sound_answer : goal.returns-clause-sound_answer
+returns-clause-sound_answer c = λ sound.
+    let ps = entry_pairs c.args.entries.now.items in
+    c.value_taken.ensures
+    ∙ (c.taken_from.ensures.answer
+    ∙ (ap (option_and_then (λ i. value_in_place i ps)) (c.place_in-place.ensures.sound sound)
+    ∙ value_where-place (plain_eq (text c.args.key.now)) ps))

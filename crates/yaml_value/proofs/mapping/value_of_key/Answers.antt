@@ -18,3 +18,10 @@ returns-clause-small c = λ small.
     c.value_in.ensures
     ∙ (ap (option_and_then (λ i. value_in_place i ps)) (c.place_of.ensures.small small)
     ∙ value_where-place (plain_eq (plain c.args.key.now)) ps)
+
+pub returns-clause-sound : goal.returns-clause-sound
+returns-clause-sound c = λ sound simple.
+    let ps = entry_pairs c.args.entries.now in
+    c.value_in.ensures
+    ∙ (ap (option_and_then (λ i. value_in_place i ps)) (c.place_of.ensures.sound sound simple)
+    ∙ value_where-place (plain_eq (plain c.args.key.now)) ps)

@@ -19,3 +19,10 @@ returns-clause-few c = λ few.
     c.value_in.ensures
     ∙ (ap (option_and_then (λ i. value_in_place i ps)) (c.place_of_text.ensures.few few)
     ∙ value_where-place (plain_eq (text c.args.key.now)) ps)
+
+pub returns-clause-sound : goal.returns-clause-sound
+returns-clause-sound c = λ sound.
+    let ps = entry_pairs c.args.entries.now in
+    c.value_in.ensures
+    ∙ (ap (option_and_then (λ i. value_in_place i ps)) (c.place_of_text.ensures.sound sound)
+    ∙ value_where-place (plain_eq (text c.args.key.now)) ps)

@@ -1,5 +1,7 @@
 -- Comparing by lengths, place by place, and by places of keys.
-use Rattle.std.proofs.Common.{◌&&◌, ◌<◌, ap, arith, length, sym, ◌∙◌, subst, true, false}
+use Rattle.std.proofs.Common.{◌≡◌, ℕ, ◌-◌, ◌&&◌, ◌<◌, ◌≤◌, ap, arith, length, sym, ◌∙◌, subst, true, false}
+use Rattle.yaml_tree.specs.Index.{chain_count}
+use Rattle.yaml_value.specs.Hash.{hash_of}
 use Rattle.yaml_value.specs.Find.{is_key_at}
 use Rattle.yaml_value.specs.PlainEqual.{items_eq, pairs_eq, plain_eq}
 use Rattle.yaml_value.specs.Small.{AreItemsSmall, IsSmallMapping}
@@ -7,6 +9,8 @@ use Rattle.yaml_value.specs.View.{entry_pairs, plain, plain_entry, plain_items}
 use Rattle.yaml_value.proofs.Equals.{has_all_pairs-step, has_pair-at, has_pair-step, is_key_at-entry}
 use Rattle.yaml_value.proofs.Equals.{items_eq-lengths, items_eq-step, pairs_eq-lengths, pairs_eq-same_length}
 use Rattle.yaml_value.proofs.Equals.{small_item-at, small_pair-at}
+use Rattle.yaml_value.proofs.Indexed.{IsAbsentFrom, IsSought, chain_end-le, place-absent, place-found, sought-end}
+use Rattle.yaml_value.proofs.Indexed.{sought-next}
 use Rattle.yaml_value.proofs.Parts.{entry_key, entry_value, key_at, mapping_pairs, value_at}
 use Rattle.yaml_value.proofs.value.equal.+same.Goals as goal
 
@@ -44,19 +48,74 @@ is_among_many-returns-in-Some t c = λ yes.
     let d = c.index-entries-place.result in
     let lt = c.if-place-entries.true in
     let key = sym (is_key_at-entry p.0 es place d lt c.index-entries-place.is)
-    ∙ (ap (λ k. is_key_at k place (entry_pairs es)) (entry_key c.args.wanted.now) ∙ c.in-Some.ensures) in
+    ∙ (ap (λ k. is_key_at k place (entry_pairs es)) (entry_key c.args.wanted.now) ∙ c.in-Some.ensures.found) in
     let value = (λ j. plain_eq (entry_value c.args.wanted.now j) (value_at es place d c.index-entries-place.is j))
     ∙ c.same_value.ensures.equal yes in
     has_pair-at p es place d lt c.index-entries-place.is (λ j. key j && value j)
 
-pub place_in_chain-returns-then-same_value : goal.place_in_chain-returns-then-same_value
-place_in_chain-returns-then-same_value t c =
+is_there : (t : ℕ) (c : goal.place_in_chain-Then-same_value t)
+    → is_key_at (plain c.args.key.now) (c.loop-turn.left - 1) (entry_pairs c.args.entries.now) ≡ true
+is_there t c =
     let k = plain c.args.key.now in
     let es = c.args.entries.now in
-    let place = c.in_ok-place.place in
+    let place = c.loop-turn.left - 1 in
     let d = c.index-entries-place.result in
     is_key_at-entry k es place d c.if-place-entries.false c.index-entries-place.is
     ∙ (ap (plain_eq k) (key_at es place d c.index-entries-place.is) ∙ c.same_value.ensures.equal c.if-same_value.true)
+
+pub place_in_chain-returns-then-same_value-clause-found : goal.place_in_chain-returns-then-same_value-clause-found
+place_in_chain-returns-then-same_value-clause-found t c = is_there t c
+
+pub place_in_chain-returns-then-same_value-clause-first : goal.place_in_chain-returns-then-same_value-clause-first
+place_in_chain-returns-then-same_value-clause-first t c = λ simple sound some first.
+    sym (place-found (plain c.args.key.now) (entry_pairs c.args.entries.now) (c.loop-turn.left - 1) simple sound.1
+    (is_there t c))
+
+pub place_in_chain-loop-turn-init : goal.place_in_chain-loop-turn-init
+place_in_chain-loop-turn-init t c = λ simple sound some first.
+    let k = plain c.args.key.now in
+    let es = c.args.entries.now in (
+      subst (IsSought (chain_count (length es)) k (entry_pairs es)) (sym first) (sought-end k es simple),
+      omega (arith, first, chain_end-le (hash_of k) es),
+    )
+
+pub place_in_chain-returns-then-left-eq0-clause-first : goal.place_in_chain-returns-then-left-eq0-clause-first
+place_in_chain-returns-then-left-eq0-clause-first t c = λ simple sound some first.
+    let k = plain c.args.key.now in
+    let ps = entry_pairs c.args.entries.now in
+    let sought = (c.loop-turn.invariant simple sound some first).0 in
+    sym (place-absent k ps (subst (IsAbsentFrom k ps) c.if-left-eq0.true sought.2))
+
+pub place_in_chain-returns-then-place-entries-clause-first : goal.place_in_chain-returns-then-place-entries-clause-first
+place_in_chain-returns-then-place-entries-clause-first t c = λ simple sound some first.
+    let so_far = c.loop-turn.invariant simple sound some first in
+    absurd (omega (arith, so_far.1, c.if-place-entries.true, c.if-left-eq0.false))
+
+pub place_in_chain-loop-turn-preserved : goal.place_in_chain-loop-turn-preserved
+place_in_chain-loop-turn-preserved t c = λ simple sound some first.
+    let k = plain c.args.key.now in
+    let es = c.args.entries.now in
+    let left = c.loop-turn.left in
+    let d = c.index-entries-place.result in
+    let so_far = c.loop-turn.invariant simple sound some first in
+    let within : left ≤ length es = omega (arith, so_far.1) in
+    let other : is_key_at k (left - 1) (entry_pairs es) ≡ false =
+    is_key_at-entry k es (left - 1) d c.if-place-entries.false c.index-entries-place.is
+    ∙ (ap (plain_eq k) (key_at es (left - 1) d c.index-entries-place.is)
+    ∙ (sym (c.same_value.ensures.simple simple) ∙ c.if-same_value.false)) in
+    let next = sought-next (chain_count (length es)) left k es simple (omega (arith, c.if-left-eq0.false)) within
+    (sound.0 some).1 other so_far.0 in (
+      subst (IsSought (chain_count (length es)) k (entry_pairs es)) (sym c.earlier_at-left.ensures) next.0,
+      omega (arith, next.1, so_far.1, c.earlier_at-left.ensures),
+    )
+
+pub place_in_chain-returns-clause-first : goal.place_in_chain-returns-clause-first
+place_in_chain-returns-clause-first t c = λ simple sound some first.
+    let k = plain c.args.key.now in
+    let ps = entry_pairs c.args.entries.now in
+    let so_far = c.loop-turn.invariant simple sound some first in
+    let none : c.loop-turn.left ≡ 0 = omega (arith, so_far.1, c.loop-turn-test.false) in
+    sym (place-absent k ps (subst (IsAbsentFrom k ps) none so_far.0.2))
 
 pub same_items-returns-then-left-right-clause-small : goal.same_items-returns-then-left-right-clause-small
 same_items-returns-then-left-right-clause-small t c = λ small.

@@ -1,0 +1,306 @@
+-- What the index of entries says: where a simple key can be, and what stays when entries change.
+use Rattle.std.specs.Prelude.{◌≡◌, ℕ, zero, suc, ◌+◌, ◌-◌, ◌<◌, ◌≤◌, ◌==◌, ◌%◌, ◌++◌, ◌∷◌, [], List, length, refl}
+use Rattle.std.specs.Prelude.{Bool, true, false, Option, Some, None, option_map, if◌then◌else◌, ◌⊎◌}
+use Rattle.std.proofs.Common.{ap, arith, sym, ◌∙◌, get_or, set, subst, true≢false, inl, inr, eq-or-lt_of_le}
+use Rattle.std.proofs.lemmas.Bool.{cases_lt}
+use Rattle.std.proofs.lemmas.Bool.Decides.{Decides-eqb}
+use Rattle.std.proofs.lemmas.List.{get_or-set_same, get_or-set_other, length-append, length-map, map_push}
+use Rattle.yaml_tree.specs.Index.{AreChains, chain_at, chain_count, last_before}
+use Rattle.yaml_tree.proofs.Chains.{IsLeft, left-last, last_before-le, gap-last, chain-left, chains-next, chains-more}
+use Rattle.yaml_value.specs.Find.{is_key_at, place_where, with_value, without_place}
+use Rattle.yaml_value.specs.Hash.{hash_of}
+use Rattle.yaml_value.specs.Index.{lasts_of, earliers_of, key_hashes, IsChained, IsIndexedTo, IsIndexed, chain_end}
+use Rattle.yaml_value.specs.Index.{IsSimple, IsNoneAgain, AreApart}
+use Rattle.yaml_value.specs.PlainEqual.{plain_eq}
+use Rattle.yaml_value.specs.PlainValue.{PlainValue, PlainPairs, no_pairs, pair, pair_count, with_last}
+use Rattle.yaml_value.specs.View.{entry_pairs, plain_entry}
+use Rattle.yaml_value.specs.declared.mapping.Entry.{Entry}
+use Rattle.yaml_value.specs.declared.value.Value.TheViews.{out-Entry}
+use Rattle.yaml_value.proofs.Hashes.{simple_is, simple_same}
+use Rattle.yaml_value.proofs.Views.{entry_pairs-push, pair_count-entries}
+
+-- ---- the hashes of keys
+pub hash-at : (es : List Entry) (i : ℕ) (d : Entry) → i < length es → d ≡ get_or es i d
+    → get_or (key_hashes (entry_pairs es)) i 0 ≡ hash_of (plain_entry d).0
+hash-at [] i d lt is = absurd (omega (arith, lt))
+hash-at (e ∷ es) zero d lt is = ap (λ x. hash_of (plain_entry x).0) (sym is)
+hash-at (e ∷ es) (suc i) d lt is = hash-at es i d (omega (arith, lt)) is
+
+hash-key : (k : PlainValue) (ps : PlainPairs) (j : ℕ) → IsSimple k → is_key_at k j ps ≡ true
+    → get_or (key_hashes ps) j 0 ≡ hash_of k
+hash-key k no_pairs j s e = absurd (true≢false (sym e))
+hash-key k (pair l w ps) zero s e = ap hash_of (sym (simple_is k l s e))
+hash-key k (pair l w ps) (suc j) s e = hash-key k ps j s e
+
+count-hashes : (ps : PlainPairs) → length (key_hashes ps) ≡ pair_count ps
+count-hashes no_pairs = refl
+count-hashes (pair k v ps) = omega (arith, count-hashes ps)
+
+hashes-more : (ps : PlainPairs) (k v : PlainValue) → key_hashes (with_last ps k v) ≡ key_hashes ps ++ hash_of k ∷ []
+hashes-more no_pairs k v = refl
+hashes-more (pair l w ps) k v = ap (λ hs. hash_of l ∷ hs) (hashes-more ps k v)
+
+pub hashes-with_value : (i : ℕ) (v : PlainValue) (ps : PlainPairs) → key_hashes (with_value i v ps) ≡ key_hashes ps
+hashes-with_value i v no_pairs = refl
+hashes-with_value zero v (pair l w ps) = refl
+hashes-with_value (suc i) v (pair l w ps) = ap (λ hs. hash_of l ∷ hs) (hashes-with_value i v ps)
+
+-- ---- where a key can be
+-- the chain of each key, among so many
+abbrev pub key_chain : ℕ → PlainPairs → ℕ → ℕ
+key_chain size ps = chain_at size (key_hashes ps)
+
+-- no pair from this place on has this key
+abbrev pub IsAbsentFrom : PlainValue → PlainPairs → ℕ → Type 0
+IsAbsentFrom k ps i = (j : ℕ) → i ≤ j → is_key_at k j ps ≡ false
+
+key_beyond : (k : PlainValue) (ps : PlainPairs) (j : ℕ) → pair_count ps ≤ j → is_key_at k j ps ≡ false
+key_beyond k no_pairs j le = refl
+key_beyond k (pair l w ps) zero le = absurd (omega (arith, le))
+key_beyond k (pair l w ps) (suc j) le = key_beyond k ps j (omega (arith, le))
+
+other_by : (b : Bool) (size : ℕ) (k : PlainValue) (ps : PlainPairs) (j : ℕ) → is_key_at k j ps ≡ b → IsSimple k
+    → (key_chain size ps j == hash_of k % size) ≡ false → b ≡ false
+other_by true size k ps j is s n =
+    absurd (true≢false (sym ((Decides-eqb (key_chain size ps j) (hash_of k % size)).1
+    (ap (λ h. h % size) (hash-key k ps j s is))) ∙ n))
+other_by false size k ps j is s n = refl
+
+-- a key isn't in a chain that isn't its own
+other_chain : (size : ℕ) (k : PlainValue) (ps : PlainPairs) (j : ℕ) → IsSimple k
+    → (key_chain size ps j == hash_of k % size) ≡ false → is_key_at k j ps ≡ false
+other_chain size k ps j s n = other_by (is_key_at k j ps) size k ps j refl s n
+
+-- this is left of a key's chain, and the key isn't behind it
+abbrev pub IsSought : ℕ → PlainValue → PlainPairs → ℕ → Type 0
+IsSought size k ps left =
+    IsLeft (key_chain size ps) (hash_of k % size) left × (left ≤ pair_count ps) × IsAbsentFrom k ps left
+
+behind_by : (size : ℕ) (k : PlainValue) (ps : PlainPairs) (from n j : ℕ) → IsSimple k → from ≤ j → (j < n) ⊎ (n ≤ j)
+    → ((i : ℕ) → from ≤ i → i < n → (key_chain size ps i == hash_of k % size) ≡ false) → IsAbsentFrom k ps n
+    → is_key_at k j ps ≡ false
+behind_by size k ps from n j s le (inl lt) gap absent = other_chain size k ps j s (gap j le lt)
+behind_by size k ps from n j s le (inr beyond) gap absent = absent j beyond
+
+-- so it is with the whole chain
+pub sought-end : (k : PlainValue) (es : List Entry) → IsSimple k
+    → IsSought (chain_count (length es)) k (entry_pairs es) (chain_end (hash_of k) es)
+sought-end k es s =
+    let size = chain_count (length es) in
+    let ps = entry_pairs es in
+    let n = length es in
+    let c = hash_of k % size in
+    let le = last_before-le (key_chain size ps) n c in
+    let count = pair_count-entries es in (
+      left-last (key_chain size ps) n c,
+      omega (arith, le, count),
+      λ j from.
+          behind_by size k ps (chain_end (hash_of k) es) n j s from (cases_lt j n) (gap-last (key_chain size ps) n c)
+          (λ i beyond. key_beyond k ps i (omega (arith, beyond, count))),
+    )
+
+pub chain_end-le : (hash : ℕ) (es : List Entry) → chain_end hash es ≤ length es
+chain_end-le hash es =
+    last_before-le (key_chain (chain_count (length es)) (entry_pairs es)) (length es) (hash % chain_count (length es))
+
+here_or_behind : (k : PlainValue) (ps : PlainPairs) (i j : ℕ) → (i ≡ j) ⊎ (i < j) → is_key_at k i ps ≡ false
+    → IsAbsentFrom k ps (suc i) → is_key_at k j ps ≡ false
+here_or_behind k ps i j (inl is) here behind = ap (λ n. is_key_at k n ps) (sym is) ∙ here
+here_or_behind k ps i j (inr less) here behind = behind j (omega (arith, less))
+
+-- where the last place of what is left has another key, the place before it in its chain is where to go on
+pub sought-next : (size left : ℕ) (k : PlainValue) (es : List Entry) → IsSimple k → 0 < left → left ≤ length es
+    → IsChained size (length es) es → is_key_at k (left - 1) (entry_pairs es) ≡ false
+    → IsSought size k (entry_pairs es) left
+    → IsSought size k (entry_pairs es) (get_or (earliers_of es) (left - 1) 0)
+    × (get_or (earliers_of es) (left - 1) 0 < left)
+sought-next size zero k es s some le chained here sought = absurd (omega (arith, some))
+sought-next size (suc i) k es s some le chained here sought =
+    let ps = entry_pairs es in
+    let chain = key_chain size ps in
+    let c = hash_of k % size in
+    let in_chain : chain i ≡ c = (Decides-eqb (chain i) c).0 (chain-left chain i c sought.0) in
+    let at : suc i - 1 ≡ i = omega arith in
+    let last : last_before chain i c ≡ get_or (earliers_of es) (suc i - 1) 0 =
+    sym (ap (last_before chain i) in_chain)
+    ∙ (sym (chained.1 i (omega (arith, le))) ∙ ap (λ n. get_or (earliers_of es) n 0) (sym at)) in
+    let other : is_key_at k i ps ≡ false = ap (λ n. is_key_at k n ps) (sym at) ∙ here in
+    let absent : IsAbsentFrom k ps i = λ j from.
+    here_or_behind k ps i j (eq-or-lt_of_le {n = i} {m = j} from) other sought.2 in
+    subst (λ n. IsSought size k ps n × (n < suc i)) last (
+      (
+        left-last chain i c,
+        omega (arith, sought.1, last_before-le chain i c),
+        λ j from.
+            behind_by size k ps (last_before chain i c) i j s from (cases_lt j i) (gap-last chain i c) absent,
+      ),
+      omega (arith, last_before-le chain i c),
+    )
+
+none_by : (b : Bool) (o : Option ℕ) → b ≡ false → o ≡ None → (if b then Some 0 else option_map suc o) ≡ None
+none_by true o e n = absurd (true≢false e)
+none_by false o e n = ap (option_map suc) n
+
+-- a key that no pair has is at no place
+pub place-absent : (k : PlainValue) (ps : PlainPairs) → IsAbsentFrom k ps 0 → place_where (plain_eq k) ps ≡ None
+place-absent k no_pairs absent = refl
+place-absent k (pair l w ps) absent =
+    none_by (plain_eq k l) (place_where (plain_eq k) ps) (absent 0 (omega arith))
+    (place-absent k ps (λ j le. absent (suc j) (omega arith)))
+
+-- ---- simple keys are apart
+not_again : (k : PlainValue) (ps : PlainPairs) (i : ℕ) → IsSimple k → IsNoneAgain k ps → is_key_at k i ps ≡ true → ⊥
+not_again k no_pairs i s none e = true≢false (sym e)
+not_again k (pair l w ps) zero s none e =
+    let is : k ≡ l = simple_is k l s e in
+    true≢false (sym (ap (λ x. plain_eq x k) (sym is) ∙ simple_same k s) ∙ none.0 (subst IsSimple is s))
+not_again k (pair l w ps) (suc i) s none e = not_again k ps i s none.1 e
+
+found_by : (b : Bool) (k l w : PlainValue) (ps : PlainPairs) (i : ℕ) → plain_eq k l ≡ b → IsSimple k → IsNoneAgain l ps
+    → is_key_at k i ps ≡ true → place_where (plain_eq k) ps ≡ Some i
+    → (if b then Some 0 else option_map suc (place_where (plain_eq k) ps)) ≡ Some (suc i)
+found_by true k l w ps i is s none e there =
+    absurd (not_again k ps i s (subst (λ x. IsNoneAgain x ps) (sym (simple_is k l s is)) none) e)
+found_by false k l w ps i is s none e there = ap (option_map suc) there
+
+-- where simple keys are apart, one that stands in a place stands in none before
+pub place-found : (k : PlainValue) (ps : PlainPairs) (i : ℕ) → IsSimple k → AreApart ps → is_key_at k i ps ≡ true
+    → place_where (plain_eq k) ps ≡ Some i
+place-found k no_pairs i s apart e = absurd (true≢false (sym e))
+place-found k (pair l w ps) zero s apart e =
+    ap (λ b. if b then Some 0 else option_map suc (place_where (plain_eq k) ps)) e
+place-found k (pair l w ps) (suc i) s apart e =
+    found_by (plain_eq k l) k l w ps i refl s apart.0 e (place-found k ps i s apart.1 e)
+
+-- ---- pairs that change
+none-with_value : (k v : PlainValue) (i : ℕ) (ps : PlainPairs) → IsNoneAgain k ps → IsNoneAgain k (with_value i v ps)
+none-with_value k v i no_pairs none = tt
+none-with_value k v zero (pair l w ps) none = none
+none-with_value k v (suc i) (pair l w ps) none = (none.0, none-with_value k v i ps none.1)
+
+pub apart-with_value : (v : PlainValue) (i : ℕ) (ps : PlainPairs) → AreApart ps → AreApart (with_value i v ps)
+apart-with_value v i no_pairs apart = tt
+apart-with_value v zero (pair l w ps) apart = apart
+apart-with_value v (suc i) (pair l w ps) apart = (none-with_value l v i ps apart.0, apart-with_value v i ps apart.1)
+
+none-without_place : (k : PlainValue) (i : ℕ) (ps : PlainPairs) → IsNoneAgain k ps → IsNoneAgain k (without_place i ps)
+none-without_place k i no_pairs none = tt
+none-without_place k zero (pair l w ps) none = none.1
+none-without_place k (suc i) (pair l w ps) none = (none.0, none-without_place k i ps none.1)
+
+pub apart-without_place : (i : ℕ) (ps : PlainPairs) → AreApart ps → AreApart (without_place i ps)
+apart-without_place i no_pairs apart = tt
+apart-without_place zero (pair l w ps) apart = apart.1
+apart-without_place (suc i) (pair l w ps) apart =
+    (none-without_place l i ps apart.0, apart-without_place i ps apart.1)
+
+first_other : (b : Bool) (o : Option ℕ) → (if b then Some 0 else option_map suc o) ≡ None → b ≡ false
+first_other true o e = absurd (cc)
+first_other false o e = refl
+
+others_none : (b : Bool) (o : Option ℕ) → (if b then Some 0 else option_map suc o) ≡ None → o ≡ None
+others_none true o e = absurd (cc)
+others_none false None e = refl
+others_none false (Some i) e = absurd (cc)
+
+none-with_last : (l k v : PlainValue) (ps : PlainPairs) → IsNoneAgain l ps → (IsSimple k → plain_eq k l ≡ false)
+    → IsNoneAgain l (with_last ps k v)
+none-with_last l k v no_pairs none other = (other, tt)
+none-with_last l k v (pair m w ps) none other = (none.0, none-with_last l k v ps none.1 other)
+
+-- with one more pair at the end, whose key is not there where it is simple
+pub apart-with_last : (k v : PlainValue) (ps : PlainPairs) → AreApart ps
+    → (IsSimple k → place_where (plain_eq k) ps ≡ None) → AreApart (with_last ps k v)
+apart-with_last k v no_pairs apart new = (tt, tt)
+apart-with_last k v (pair l w ps) apart new = (
+  none-with_last l k v ps apart.0 (λ s. first_other (plain_eq k l) (place_where (plain_eq k) ps) (new s)),
+  apart-with_last k v ps apart.1 (λ s. others_none (plain_eq k l) (place_where (plain_eq k) ps) (new s)),
+)
+
+-- ---- entries that change
+-- the next entry behind its chain's last one
+pub chained-next : (size h c e i : ℕ) (es new : List Entry) → 0 < size → size ≤ length es → i < length es
+    → h ≡ get_or (key_hashes (entry_pairs es)) i 0 → c ≡ h % size → e ≡ get_or (lasts_of es) c 0
+    → entry_pairs new ≡ entry_pairs es → lasts_of new ≡ set (lasts_of es) c (i + 1)
+    → earliers_of new ≡ set (earliers_of es) i e → IsChained size i es → IsChained size (i + 1) new
+chained-next size h c e i es new some le lt hash chain last pairs lasts earliers before =
+    let hashes = key_hashes (entry_pairs es) in
+    let at : chain_at size hashes i ≡ c = sym (chain ∙ ap (λ x. x % size) hash) in
+    let next = chains-next size i (lasts_of es) (earliers_of es) hashes some
+    (omega (arith, le, length-map es (λ x. (out-Entry x).last)))
+    (omega (arith, lt, length-map es (λ x. (out-Entry x).earlier))) before in
+    let lasts_are : set (lasts_of es) (chain_at size hashes i) (i + 1) ≡ lasts_of new =
+    ap (λ n. set (lasts_of es) n (i + 1)) at ∙ sym lasts in
+    let earliers_are : set (earliers_of es) i (get_or (lasts_of es) (chain_at size hashes i) 0) ≡ earliers_of new =
+    ap (λ n. set (earliers_of es) i (get_or (lasts_of es) n 0)) at
+    ∙ (ap (set (earliers_of es) i) (sym last) ∙ sym earliers) in
+    subst (λ hs. AreChains size (i + 1) (lasts_of new) (earliers_of new) hs) (ap key_hashes (sym pairs))
+    (subst (λ xs. AreChains size (i + 1) (lasts_of new) xs hashes) earliers_are
+    (subst (λ xs. AreChains size (i + 1) xs (set (earliers_of es) i (get_or (lasts_of es) (chain_at size hashes i) 0))
+    hashes) lasts_are next))
+
+-- so many first chains are empty
+abbrev pub AreEmpty : ℕ → List ℕ → Type 0
+AreEmpty n xs = (c : ℕ) → c < n → get_or xs c 0 ≡ 0
+
+empty_at : (n c : ℕ) (xs : List ℕ) → n < length xs → (c ≡ n) ⊎ (c < n) → AreEmpty n xs → get_or (set xs n 0) c 0 ≡ 0
+empty_at n c xs lt (inl is) before = ap (λ m. get_or (set xs n 0) m 0) is ∙ get_or-set_same xs n 0 0 lt
+empty_at n c xs lt (inr less) before = get_or-set_other xs n c 0 0 (λ e. omega (arith, e, less)) ∙ before c less
+
+-- the next chain is emptied
+pub emptied : (n : ℕ) (es new : List Entry) → n < length es → lasts_of new ≡ set (lasts_of es) n 0
+    → AreEmpty n (lasts_of es) → AreEmpty (n + 1) (lasts_of new)
+emptied n es new lt is before =
+    subst (AreEmpty (n + 1)) (sym is) (λ c less.
+    empty_at n c (lasts_of es) (omega (arith, lt, length-map es (λ x. (out-Entry x).last)))
+    (eq-or-lt_of_le {n = c} {m = n} (omega (arith, less))) before)
+
+-- with one more entry at the end, the others are in their chains as before
+pub indexed-more : (n : ℕ) (es : List Entry) (e : Entry) → length es ≡ n → IsIndexed es → IsIndexedTo n (es ++ e ∷ [])
+indexed-more n es e is indexed some =
+    let to : IsIndexedTo n es = subst (λ m. IsIndexedTo m es) is indexed in
+    let chained = to some in
+    let size = chain_count n in
+    let hashes = key_hashes (entry_pairs es) in
+    let more : key_hashes (entry_pairs (es ++ e ∷ [])) ≡ hashes ++ hash_of (plain_entry e).0 ∷ [] =
+    ap key_hashes (entry_pairs-push es e) ∙ hashes-more (entry_pairs es) (plain_entry e).0 (plain_entry e).1 in
+    let count : length hashes ≡ n = count-hashes (entry_pairs es) ∙ (pair_count-entries es ∙ is) in
+    let all = chains-more size n (out-Entry e).last (out-Entry e).earlier (hash_of (plain_entry e).0)
+    (lasts_of es) (earliers_of es) hashes chained.0
+    (length-map es (λ x. (out-Entry x).last) ∙ is) (length-map es (λ x. (out-Entry x).earlier) ∙ is) count
+    chained.1 in (
+      chained.0,
+      subst (λ hs. AreChains size n (lasts_of (es ++ e ∷ [])) (earliers_of (es ++ e ∷ [])) hs) (sym more)
+          (subst (λ xs. AreChains size n (lasts_of (es ++ e ∷ [])) xs (hashes ++ hash_of (plain_entry e).0 ∷ []))
+          (sym (map_push (λ x. (out-Entry x).earlier) es e))
+          (subst (λ xs. AreChains size n xs (earliers_of es ++ (out-Entry e).earlier ∷ [])
+          (hashes ++ hash_of (plain_entry e).0 ∷ [])) (sym (map_push (λ x. (out-Entry x).last) es e)) all)),
+    )
+
+-- so it is with entries that have one more, however they were made
+pub indexed-pushed : (n : ℕ) (es new : List Entry) (e : Entry) → new ≡ es ++ e ∷ [] → IsIndexed es
+    → n + 1 ≡ length new → IsIndexedTo n new
+indexed-pushed n es new e pushed indexed len =
+    let more : length new ≡ length es + 1 = ap length pushed ∙ length-append es (e ∷ []) in
+    subst (IsIndexedTo n) (sym pushed) (indexed-more n es e (omega (arith, len, more)) indexed)
+
+-- what entries keep for the index, and the hashes of their keys
+abbrev pub SameIndex : List Entry → List Entry → Type 0
+SameIndex es fs =
+    (length es ≡ length fs) × (lasts_of es ≡ lasts_of fs) × (earliers_of es ≡ earliers_of fs)
+    × (key_hashes (entry_pairs es) ≡ key_hashes (entry_pairs fs))
+
+-- entries that keep the same, with keys of the same hashes, are in their chains as the others are
+pub indexed-alike : (es fs : List Entry) → SameIndex es fs → IsIndexed es → IsIndexed fs
+indexed-alike es fs same indexed some =
+    let n = same.0 in
+    let before = indexed (subst (λ m. 0 < chain_count m) (sym n) some) in (
+      subst (λ m. chain_count m ≤ m) n before.0,
+      subst (λ hs. AreChains (chain_count (length fs)) (length fs) (lasts_of fs) (earliers_of fs) hs) same.3
+          (subst (λ xs. AreChains (chain_count (length fs)) (length fs) (lasts_of fs) xs (key_hashes (entry_pairs es)))
+          same.2
+          (subst (λ xs. AreChains (chain_count (length fs)) (length fs) xs (earliers_of es)
+          (key_hashes (entry_pairs es))) same.1
+          (subst (λ m. AreChains (chain_count m) m (lasts_of es) (earliers_of es) (key_hashes (entry_pairs es))) n
+          before.1))),
+    )

@@ -1,0 +1,14 @@
+-- Among few it is looked for one by one, and among many in its chain, whose end the index knows.
+use Rattle.std.proofs.Common.{◌<◌, ap, arith, length, subst, ◌∙◌}
+use Rattle.yaml_tree.specs.Index.{chain_count}
+use Rattle.yaml_value.specs.Index.{chain_end}
+use Rattle.yaml_value.proofs.value.equal.place_of_text.Goals as goal
+
+pub returns-clause-sound : goal.returns-clause-sound
+returns-clause-sound c = λ sound.
+    let es = c.args.entries.now in
+    let some : 0 < chain_count (length es) =
+    subst (λ n. 0 < n) (c.chain_count-chains.ensures.value ∙ ap chain_count c.count.ensures.len)
+    (omega (arith, c.if-chains-eq0.false)) in
+    c.text_in_chain.ensures.first sound some
+    (c.first_of.ensures some sound.0 ∙ ap (λ h. chain_end h es) c.hash_text.ensures)
