@@ -22,6 +22,19 @@ HERE = os.path.dirname(os.path.abspath(__file__))
 ROOT = os.path.dirname(HERE)
 WAYS = "tape events list handed documents value people".split()
 MOST = 6 << 30
+# A small process between this one and the program, since what a process holds at the most is never less than what the
+# one held that it was forked from.
+BETWEEN = """
+import os, resource, sys
+stack, most = int(sys.argv[1]), int(sys.argv[2])
+child = os.fork()
+if child == 0:
+    resource.setrlimit(resource.RLIMIT_AS, (most, most))
+    resource.setrlimit(resource.RLIMIT_STACK, (stack, stack))
+    os.execve(sys.argv[3], sys.argv[3:], {})
+_, status, used = os.wait4(child, 0)
+print(used.ru_utime + used.ru_stime, used.ru_maxrss * 1024, status)
+"""
 
 
 def texts(size):
@@ -84,17 +97,11 @@ def build(folder):
 
 def run(program, way, path, stack=resource.RLIM_INFINITY):
     """Seconds, the most bytes, the status and the answer of a run."""
-
-    def limit():
-        resource.setrlimit(resource.RLIMIT_AS, (MOST, MOST))
-        resource.setrlimit(resource.RLIMIT_STACK, (stack, stack))
-
-    words = [program, way, path]
-    child = subprocess.Popen(words, stdout=subprocess.PIPE, stderr=subprocess.DEVNULL, preexec_fn=limit, env={})
-    told = child.stdout.read()
-    _, status, used = os.wait4(child.pid, 0)
-    child.returncode = status
-    return used.ru_utime + used.ru_stime, used.ru_maxrss * 1024, status, told.decode().strip()
+    words = [sys.executable, "-I", "-S", "-c", BETWEEN, str(stack), str(MOST), program, way, path]
+    child = subprocess.run(words, stdout=subprocess.PIPE, stderr=subprocess.DEVNULL, check=True)
+    told, used = child.stdout.decode().rstrip("\n").rpartition("\n")[::2]
+    seconds, most, status = used.split()
+    return float(seconds), int(most), int(status), told.strip()
 
 
 def measured(program, way, path, base, size):

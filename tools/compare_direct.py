@@ -2,6 +2,7 @@
 """Compares the events of `yaml_direct` with those of libyaml 0.2.5 and with those of `yaml_parse`, text by text.
 
 usage: compare_direct.py random SEED COUNT [PROGRAM]            random texts, made as compare.py makes them
+       compare_direct.py pieces SEED COUNT [PROGRAM]            random texts, made as grammar.py makes them
        compare_direct.py mutants SEED COUNT LIST [PROGRAM]      changed parts of files, whose names are a list's lines
        compare_direct.py files LIST [PROGRAM]                   the files that the lines of a list name
        compare_direct.py every LENGTH FRONT [PROGRAM]           FRONT, and behind it each text of so many bytes at most
@@ -25,6 +26,7 @@ import sys
 import tempfile
 
 import compare
+import grammar
 
 HERE = os.path.dirname(os.path.abspath(__file__))
 BATCH = 400
@@ -155,6 +157,7 @@ def every(length, front):
 def main():
     words = sys.argv[1:]
     makers = {"random": (2, lambda s, n: compare.random_texts(int(s), int(n)))}
+    makers["pieces"] = (2, lambda s, n: grammar.random_texts(int(s), int(n)))
     makers["mutants"] = (3, lambda s, n, path: mutants(int(s), int(n), path))
     makers["files"] = (1, listed)
     makers["every"] = (2, lambda n, front: every(int(n), front.encode()))
