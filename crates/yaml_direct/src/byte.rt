@@ -1,12 +1,18 @@
 //! What single bytes of a text mean. A place is an index; behind the text each byte is 0.
 
-ghost use Rattle.std.specs.Prelude.{false, true, ◌≡◌, ◌≢◌, ◌+◌, ◌<◌, ◌≤◌, ℕ, IsTrue, drop, length};
+ghost use Rattle.std.specs.Prelude.{false, true, ◌≡◌, ◌≢◌, ◌+◌, ◌<◌, ◌≤◌, ℕ, IsTrue, drop, length, map};
+ghost use Rattle.std.specs.Simd.Lanes.{mask_l};
+ghost use Rattle.memchr.specs.Find.{is_byte};
 ghost use Rattle.yaml_direct.specs.Gaps.{InLine, IsLineEnd};
 ghost use Rattle.yaml_direct.specs.Bytes.{AreBlanks, at, is_bracket, is_gap};
 ghost use Rattle.yaml_direct.specs.PlainTexts.{is_tight};
 ghost use Rattle.yaml_grammar.specs.Bytes.{is_blank, is_mark, is_one_line, is_text, is_triple, parts};
 
 use memchr::memchr;
+use std::simd::prelude::*;
+
+// How many bytes are looked at together.
+const PART: usize = 32;
 
 // The byte at a place, or 0 behind the end.
 #[inline(always)]
@@ -151,8 +157,52 @@ pub(crate) fn feed_at(text: &[u8], place: usize) -> usize
     }
 }
 
+// Which of these bytes are line feeds, the first of them in the lowest bit.
+#[inline(always)]
+fn feeds_in(part: u8x32) -> u64
+    ensures { result ≡ mask_l (map (is_byte 10) part) }
+{
+    part.simd_eq(u8x32::splat(b'\n')).to_bitmask()
+}
+
+// How many of the next bytes stand before a line feed, of those that are looked at together.
+#[inline(always)]
+fn count_in_line(text: &[u8], from: usize) -> usize
+    requires { from + PART ≤ length text.now }
+    ensures few { result ≤ PART }
+    ensures line { InLine text.now from (from + result) }
+    ensures feed { result < PART → at text.now (from + result) ≡ 10 }
+{
+    let feeds = feeds_in(u8x32::from_slice(&text[from..]));
+    if feeds == 0 {
+        PART
+    } else {
+        feeds.trailing_zeros() as usize
+    }
+}
+
 // Where the line ends.
+#[inline(always)]
 pub(crate) fn line_end(text: &[u8], from: usize) -> usize
+    requires { from ≤ length text.now }
+    ensures forward { from ≤ result }
+    ensures within { result ≤ length text.now }
+    ensures inside { InLine text.now from result }
+    ensures ends { IsLineEnd text.now result }
+{
+    if text.len() - from < PART {
+        return far_line_end(text, from);
+    }
+    let count = count_in_line(text, from);
+    if count < PART {
+        return from + count;
+    }
+    far_line_end(text, from + PART)
+}
+
+// The same where the line may be long, or the text ends.
+#[inline(never)]
+fn far_line_end(text: &[u8], from: usize) -> usize
     requires { from ≤ length text.now }
     ensures forward { from ≤ result }
     ensures within { result ≤ length text.now }

@@ -154,6 +154,13 @@ pub(crate) fn read_header(text: &[u8], from: usize) -> Header
     ensures within { result.end ≢ no_place → (from ≤ result.end) × (result.end ≤ length text.now) }
     ensures read { is_text text.now ≡ true → length text.now < no_place → ReadsHeader text.now from result }
 {
+    if at(text, from) == b'\n' {
+        return Header {
+            chomping: Chomping::Clip,
+            step: 0,
+            end: from,
+        };
+    }
     let signs = read_signs(text, from);
     Header {
         chomping: signs.chomping,

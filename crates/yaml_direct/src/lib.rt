@@ -4,8 +4,8 @@
 //! that it may be a key of begins first. What this parser does not read it leaves: it then answers
 //! [`Step::Elsewhere`], with the tape cut back to where that document began, and the text is for the scanner and the
 //! parser that read all of YAML and know its faults. What is read of a whole text that has only characters of
-//! `yaml_grammar` are the documents that stand in it ([`parse`]: `stands`); of a text with a carriage return or U+FEFF
-//! nothing is said. It leaves
+//! `yaml_grammar` are the documents that stand in it ([`parse`]: `stands`). Where such a text of under 4 GiB is left,
+//! no documents stand in it (`left`). Of a text with a carriage return or U+FEFF nothing is said. It leaves
 //!
 //! - texts with a fault, whichever it is;
 //! - texts with a byte that is not allowed, that are not UTF-8, or of 4 GiB or more;
