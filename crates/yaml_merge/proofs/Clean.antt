@@ -1,10 +1,11 @@
 -- A merged tree has no merge key.
 use Rattle.std.proofs.Common.{◌≡◌, Bool, true, false, ◌||◌, if◌then◌else◌, is_some, refl}
+use Rattle.std.proofs.Common.{List, [], ◌∷◌, ◌++◌}
 use Rattle.yaml_base.specs.DocTree.{DocNode, nothing, reference, word, list, mapping, DocNodes, no_nodes, node}
 use Rattle.yaml_base.specs.DocTree.{DocPairs, no_pairs, pair}
-use Rattle.yaml_merge.specs.MergedTree.{Sameness, are_merging, given_pairs, has_merge_key, have_merge_keys}
-use Rattle.yaml_merge.specs.MergedTree.{is_merge_key, joined, merged, merged_nodes, merged_pairs, own_pairs, pairs_from}
-use Rattle.yaml_merge.specs.MergedTree.{pairs_of_each, value_at, with_missing, with_new}
+use Rattle.yaml_merge.specs.MergedTree.{Sameness, are_merging, given_mappings, has_merge_key, have_merge_keys}
+use Rattle.yaml_merge.specs.MergedTree.{is_merge_key, joined, mappings_at, mappings_of, merged, merged_nodes}
+use Rattle.yaml_merge.specs.MergedTree.{merged_pairs, missing, own_pairs, value_at, with_each, with_missing}
 use Rattle.yaml_merge.proofs.MergedLaws.{left_false, right_false}
 
 or_false : (a b : Bool) → a ≡ false → b ≡ false → (a || b) ≡ false
@@ -26,30 +27,37 @@ clean_joined (pair k v ps) qs h g =
     (or_false (has_merge_key v) _ (left_false (has_merge_key v) _ more)
     (clean_joined ps qs (right_false (has_merge_key v) _ more) g)))
 
-clean_new : (b : Bool) (ps : DocPairs) (k v : DocNode) → are_merging ps ≡ false
-    → are_merging (pair k v no_pairs) ≡ false
-    → are_merging (if b then ps else joined ps (pair k v no_pairs)) ≡ false
-clean_new true ps k v h g = h
-clean_new false ps k v h g = clean_joined ps (pair k v no_pairs) h g
-
-alone : (k v : DocNode) (ps : DocPairs) → are_merging (pair k v ps) ≡ false → are_merging (pair k v no_pairs) ≡ false
-alone k v ps h =
+clean_missing_if : (b : Bool) (k v : DocNode) (ps qs : DocPairs) → are_merging (pair k v qs) ≡ false
+    → are_merging ps ≡ false → are_merging (if b then ps else pair k v ps) ≡ false
+clean_missing_if true k v ps qs h g = g
+clean_missing_if false k v ps qs h g =
     let rest = right_false (is_merge_key k) _ h in
     let more = right_false (has_merge_key k) _ rest in
     or_false (is_merge_key k) _ (left_false (is_merge_key k) _ h)
     (or_false (has_merge_key k) _ (left_false (has_merge_key k) _ rest)
-    (or_false (has_merge_key v) false (left_false (has_merge_key v) _ more) refl))
+    (or_false (has_merge_key v) _ (left_false (has_merge_key v) _ more) g))
 
 behind : (k v : DocNode) (ps : DocPairs) → are_merging (pair k v ps) ≡ false → are_merging ps ≡ false
 behind k v ps h =
     right_false (has_merge_key v) _ (right_false (has_merge_key k) _ (right_false (is_merge_key k) _ h))
 
-clean_missing : (same : Sameness) (qs ps : DocPairs) → are_merging ps ≡ false → are_merging qs ≡ false
-    → are_merging (with_missing same ps qs) ≡ false
-clean_missing same no_pairs ps h g = h
-clean_missing same (pair k v qs) ps h g =
-    clean_missing same qs (with_new same ps k v) (clean_new (is_some (value_at same k ps)) ps k v h (alone k v qs g))
-    (behind k v qs g)
+clean_missing : (same : Sameness) (ps qs : DocPairs) → are_merging qs ≡ false → are_merging (missing same ps qs) ≡ false
+clean_missing same ps no_pairs h = refl
+clean_missing same ps (pair k v qs) h =
+    clean_missing_if (is_some (value_at same k ps)) k v (missing same ps qs) qs h
+    (clean_missing same ps qs (behind k v qs h))
+
+-- no pair of the mappings is at a merge key or has one within
+abbrev AreClean : List DocPairs → Type 0
+AreClean [] = Unit {0}
+AreClean (ps ∷ given) = (are_merging ps ≡ false) × AreClean given
+
+clean_each : (same : Sameness) (given : List DocPairs) (ps : DocPairs) → are_merging ps ≡ false → AreClean given
+    → are_merging (with_each same ps given) ≡ false
+clean_each same [] ps h all = h
+clean_each same (qs ∷ given) ps h all =
+    clean_each same given (with_missing same ps qs)
+    (clean_joined ps (missing same ps qs) h (clean_missing same ps qs all.0)) all.1
 
 own_if : (b : Bool) (k v : DocNode) (ps own : DocPairs) → is_merge_key k ≡ b → has_merge_key k ≡ false
     → has_merge_key v ≡ false → are_merging own ≡ false → are_merging (if b then own else pair k v own) ≡ false
@@ -64,33 +72,36 @@ clean_own (pair k v ps) h =
     own_if (is_merge_key k) k v ps (own_pairs ps) refl (left_false (has_merge_key k) _ h)
     (left_false (has_merge_key v) _ rest) (clean_own ps (right_false (has_merge_key v) _ rest))
 
-clean_each : (nodes : DocNodes) → have_merge_keys nodes ≡ false → are_merging (pairs_of_each nodes) ≡ false
-clean_each no_nodes h = refl
-clean_each (node (mapping tag ps) nodes) h =
-    clean_joined ps (pairs_of_each nodes) (left_false (are_merging ps) _ h)
-    (clean_each nodes (right_false (are_merging ps) _ h))
-clean_each (node nothing nodes) h = clean_each nodes h
-clean_each (node (reference target) nodes) h = clean_each nodes h
-clean_each (node (word s) nodes) h = clean_each nodes h
-clean_each (node (list tag inner) nodes) h = clean_each nodes (right_false (have_merge_keys inner) _ h)
+clean_of : (nodes : DocNodes) → have_merge_keys nodes ≡ false → AreClean (mappings_of nodes)
+clean_of no_nodes h = tt
+clean_of (node (mapping tag ps) nodes) h =
+    (left_false (are_merging ps) _ h, clean_of nodes (right_false (are_merging ps) _ h))
+clean_of (node nothing nodes) h = clean_of nodes h
+clean_of (node (reference target) nodes) h = clean_of nodes h
+clean_of (node (word s) nodes) h = clean_of nodes h
+clean_of (node (list tag inner) nodes) h = clean_of nodes (right_false (have_merge_keys inner) _ h)
 
-clean_from : (n : DocNode) → has_merge_key n ≡ false → are_merging (pairs_from n) ≡ false
-clean_from nothing h = refl
-clean_from (reference target) h = refl
-clean_from (word s) h = refl
-clean_from (list tag nodes) h = clean_each nodes h
-clean_from (mapping tag ps) h = h
+clean_at : (n : DocNode) → has_merge_key n ≡ false → AreClean (mappings_at n)
+clean_at nothing h = tt
+clean_at (reference target) h = tt
+clean_at (word s) h = tt
+clean_at (list tag nodes) h = clean_of nodes h
+clean_at (mapping tag ps) h = (h, tt)
 
-given_if : (b : Bool) (ps given : DocPairs) → are_merging ps ≡ false → are_merging given ≡ false
-    → are_merging (if b then joined ps given else given) ≡ false
-given_if true ps given h g = clean_joined ps given h g
-given_if false ps given h g = g
+clean_both : (given more : List DocPairs) → AreClean given → AreClean more → AreClean (given ++ more)
+clean_both [] more h g = g
+clean_both (ps ∷ given) more h g = (h.0, clean_both given more h.1 g)
 
-clean_given : (ps : DocPairs) → within ps ≡ false → are_merging (given_pairs ps) ≡ false
-clean_given no_pairs h = refl
+given_if : (b : Bool) (more given : List DocPairs) → AreClean more → AreClean given
+    → AreClean (if b then more ++ given else given)
+given_if true more given h g = clean_both more given h g
+given_if false more given h g = g
+
+clean_given : (ps : DocPairs) → within ps ≡ false → AreClean (given_mappings ps)
+clean_given no_pairs h = tt
 clean_given (pair k v ps) h =
     let rest = right_false (has_merge_key k) _ h in
-    given_if (is_merge_key k) (pairs_from v) (given_pairs ps) (clean_from v (left_false (has_merge_key v) _ rest))
+    given_if (is_merge_key k) (mappings_at v) (given_mappings ps) (clean_at v (left_false (has_merge_key v) _ rest))
     (clean_given ps (right_false (has_merge_key v) _ rest))
 
 mutual
@@ -100,7 +111,7 @@ mutual
   clean same (word s) = refl
   clean same (list tag nodes) = nodes_clean same nodes
   clean same (mapping tag ps) =
-      clean_missing same (given_pairs (merged_pairs same ps)) (own_pairs (merged_pairs same ps))
+      clean_each same (given_mappings (merged_pairs same ps)) (own_pairs (merged_pairs same ps))
       (clean_own (merged_pairs same ps) (pairs_clean same ps))
       (clean_given (merged_pairs same ps) (pairs_clean same ps))
 

@@ -1,11 +1,12 @@
 -- Merged trees, pair by pair.
 use Rattle.std.proofs.Common.{◌≡◌, Bool, true, false, ◌||◌, if◌then◌else◌, Option, Some, None, is_some, refl, sym}
-use Rattle.std.proofs.Common.{ap, ap₂, ◌∙◌}
+use Rattle.std.proofs.Common.{ap, ap₂, ◌∙◌, List, [], ◌∷◌, ◌++◌}
 use Rattle.yaml_base.specs.DocTree.{DocNode, nothing, reference, word, list, mapping, DocNodes, no_nodes, node}
 use Rattle.yaml_base.specs.DocTree.{DocPairs, no_pairs, pair}
-use Rattle.yaml_merge.specs.MergedTree.{IsEquivalence, Sameness, applied, are_merging, first_of, given_pairs}
-use Rattle.yaml_merge.specs.MergedTree.{has_merge_key, have_merge_keys, is_merge_key, joined, merged, merged_nodes}
-use Rattle.yaml_merge.specs.MergedTree.{merged_pairs, own_pairs, stand_once, value_at, with_missing, with_new}
+use Rattle.yaml_merge.specs.MergedTree.{IsEquivalence, Sameness, applied, are_merging, each_stand_once, first_of}
+use Rattle.yaml_merge.specs.MergedTree.{first_value_at, given_mappings, has_merge_key, have_merge_keys, is_merge_key}
+use Rattle.yaml_merge.specs.MergedTree.{joined, merged, merged_nodes, merged_pairs, missing, own_pairs, stand_once}
+use Rattle.yaml_merge.specs.MergedTree.{value_at, with_each, with_missing}
 
 -- ---- trees without merge keys
 pub left_false : (a b : Bool) → (a || b) ≡ false → a ≡ false
@@ -21,8 +22,8 @@ own_stay : (b : Bool) (k v : DocNode) (ps : DocPairs) → b ≡ false → own_pa
 own_stay false k v ps h same = ap (pair k v) same
 own_stay true k v ps h same = absurd cc
 
-none_given : (b : Bool) (given more : DocPairs) → b ≡ false → given ≡ no_pairs
-    → (if b then joined more given else given) ≡ no_pairs
+none_given : (b : Bool) (given more : List DocPairs) → b ≡ false → given ≡ []
+    → (if b then more ++ given else given) ≡ []
 none_given false given more h none = none
 none_given true given more h none = absurd cc
 
@@ -33,15 +34,15 @@ all_own (pair k v ps) h =
     own_stay (is_merge_key k) k v ps (left_false (is_merge_key k) _ h)
     (all_own ps (right_false (has_merge_key v) _ (right_false (has_merge_key k) _ rest)))
 
-pub no_given : (ps : DocPairs) → are_merging ps ≡ false → given_pairs ps ≡ no_pairs
+pub no_given : (ps : DocPairs) → are_merging ps ≡ false → given_mappings ps ≡ []
 no_given no_pairs h = refl
 no_given (pair k v ps) h =
     let rest = right_false (is_merge_key k) _ h in
-    none_given (is_merge_key k) (given_pairs ps) _ (left_false (is_merge_key k) _ h)
+    none_given (is_merge_key k) (given_mappings ps) _ (left_false (is_merge_key k) _ h)
     (no_given ps (right_false (has_merge_key v) _ (right_false (has_merge_key k) _ rest)))
 
 pub applied_stays : (same : Sameness) (ps : DocPairs) → are_merging ps ≡ false → applied same ps ≡ ps
-applied_stays same ps h = ap (with_missing same (own_pairs ps)) (no_given ps h) ∙ all_own ps h
+applied_stays same ps h = ap (with_each same (own_pairs ps)) (no_given ps h) ∙ all_own ps h
 
 mutual
   pub stays : (same : Sameness) (t : DocNode) → has_merge_key t ≡ false → merged same t ≡ t
@@ -80,20 +81,15 @@ joined_joined (pair k v ps) qs rs = ap (pair k v) (joined_joined ps qs rs)
 abbrev Begins : DocPairs → DocPairs → Type 0
 Begins ps qs = (rest : DocPairs) × (qs ≡ joined ps rest)
 
-begins_new : (b : Bool) (ps : DocPairs) (k v : DocNode)
-    → Begins ps (if b then ps else joined ps (pair k v no_pairs))
-begins_new true ps k v = (no_pairs, sym (joined_none ps))
-begins_new false ps k v = (pair k v no_pairs, refl)
-
 begins_on : (ps qs rs : DocPairs) → Begins ps qs → Begins qs rs → Begins ps rs
 begins_on ps qs rs (more, first) (last, second) =
     (joined more last, second ∙ (ap (λ x. joined x last) first ∙ joined_joined ps more last))
 
-pub begins : (same : Sameness) (qs ps : DocPairs) → Begins ps (with_missing same ps qs)
-begins same no_pairs ps = (no_pairs, sym (joined_none ps))
-begins same (pair k v qs) ps =
-    begins_on ps (with_new same ps k v) (with_missing same (with_new same ps k v) qs)
-    (begins_new (is_some (value_at same k ps)) ps k v) (begins same qs (with_new same ps k v))
+pub begins : (same : Sameness) (given : List DocPairs) (ps : DocPairs) → Begins ps (with_each same ps given)
+begins same [] ps = (no_pairs, sym (joined_none ps))
+begins same (qs ∷ given) ps =
+    begins_on ps (with_missing same ps qs) (with_each same (with_missing same ps qs) given)
+    (missing same ps qs, refl) (begins same given (with_missing same ps qs))
 
 -- ---- what stands at a key
 at_joined_if : (b : Bool) (w : DocNode) (o p q : Option DocNode) → p ≡ first_of o q
@@ -140,32 +136,35 @@ first_of_none : (o : Option DocNode) → o ≡ first_of o None
 first_of_none (Some v) = refl
 first_of_none None = refl
 
--- one more pair, by whether its key is there and whether it is the key that is looked for
-at_new_by : (same : Sameness) → IsEquivalence same → (k l : DocNode) (w : DocNode) (ps : DocPairs) (b c : Bool)
-    → is_some (value_at same l ps) ≡ b → same k l ≡ c
-    → value_at same k (if b then ps else joined ps (pair l w no_pairs))
-    ≡ first_of (value_at same k ps) (if c then Some w else None)
-at_new_by same e k l w ps false c there_is same_is =
-    at_joined same k ps (pair l w no_pairs)
-    ∙ ap (λ b. first_of (value_at same k ps) (if b then Some w else None)) same_is
-at_new_by same e k l w ps true false there_is same_is = first_of_none (value_at same k ps)
-at_new_by same e k l w ps true true there_is same_is =
-    first_of_none (value_at same k ps)
-    ∙ first_there (value_at same k ps) None (Some w) (there same e k l ps same_is there_is)
+-- Behind a first value, what is missing has the value that all have: b tells whether the pair's key is there, and c
+-- whether it is the key that is looked for.
+at_missing_if : (b c : Bool) (k v w : DocNode) (m q : DocPairs) (same : Sameness) (o : Option DocNode)
+    → same k v ≡ c → (b ≡ true → c ≡ true → is_some o ≡ true)
+    → first_of o (value_at same k m) ≡ first_of o (value_at same k q)
+    → first_of o (value_at same k (if b then m else pair v w m)) ≡ first_of o (if c then Some w else value_at same k q)
+at_missing_if true true k v w m q same o is there rest = first_there o _ _ (there refl refl)
+at_missing_if true false k v w m q same o is there rest = rest
+at_missing_if false true k v w m q same o is there rest =
+    ap (λ b. first_of o (if b then Some w else value_at same k m)) is
+at_missing_if false false k v w m q same o is there rest =
+    ap (λ b. first_of o (if b then Some w else value_at same k m)) is ∙ rest
 
-at_pair : (b : Bool) (w : DocNode) (o : Option DocNode)
-    → first_of (if b then Some w else None) o ≡ (if b then Some w else o)
-at_pair true w o = refl
-at_pair false w o = refl
+at_missing : (same : Sameness) → IsEquivalence same → (k : DocNode) (ps qs : DocPairs)
+    → first_of (value_at same k ps) (value_at same k (missing same ps qs))
+    ≡ first_of (value_at same k ps) (value_at same k qs)
+at_missing same e k ps no_pairs = refl
+at_missing same e k ps (pair l w qs) =
+    at_missing_if (is_some (value_at same l ps)) (same k l) k l w (missing same ps qs) qs same (value_at same k ps) refl
+    (λ inside is. there same e k l ps is inside) (at_missing same e k ps qs)
 
-pub at_key : (same : Sameness) → IsEquivalence same → (k : DocNode) (qs ps : DocPairs)
-    → value_at same k (with_missing same ps qs) ≡ first_of (value_at same k ps) (value_at same k qs)
-at_key same e k no_pairs ps = first_of_none (value_at same k ps)
-at_key same e k (pair l w qs) ps =
-    at_key same e k qs (with_new same ps l w)
-    ∙ (ap (λ o. first_of o (value_at same k qs)) (at_new_by same e k l w ps _ _ refl refl)
-    ∙ (first_of_first (value_at same k ps) (if same k l then Some w else None) (value_at same k qs)
-    ∙ ap (first_of (value_at same k ps)) (at_pair (same k l) w (value_at same k qs))))
+pub at_key : (same : Sameness) → IsEquivalence same → (k : DocNode) (given : List DocPairs) (ps : DocPairs)
+    → value_at same k (with_each same ps given) ≡ first_of (value_at same k ps) (first_value_at same k given)
+at_key same e k [] ps = first_of_none (value_at same k ps)
+at_key same e k (qs ∷ given) ps =
+    at_key same e k given (with_missing same ps qs)
+    ∙ (ap (λ o. first_of o (first_value_at same k given))
+    (at_joined same k ps (missing same ps qs) ∙ at_missing same e k ps qs)
+    ∙ first_of_first (value_at same k ps) (value_at same k qs) (first_value_at same k given))
 
 -- ---- no key twice
 not_true : (b : Bool) → (b ≡ true → ⊥) → b ≡ false
@@ -184,26 +183,72 @@ not_some : (o : Option DocNode) → is_some o ≡ false → o ≡ None
 not_some (Some v) h = absurd cc
 not_some None h = refl
 
--- a last pair whose key is not there stands once
-pub once_last : (same : Sameness) → IsEquivalence same → (l w : DocNode) (ps : DocPairs) → stand_once same ps
-    → value_at same l ps ≡ None → stand_once same (joined ps (pair l w no_pairs))
-once_last same e l w no_pairs once none = (refl, tt)
-once_last same e l w (pair k v ps) once none =
-    let apart = none_of_if (same l k) v (value_at same l ps) none in (
-      at_joined same k ps (pair l w no_pairs)
-          ∙ (ap (λ o. first_of o (if same k l then Some w else None)) once.0
-          ∙ none_if (same k l) w None (not_true (same k l) (λ kl. false_true (same l k) apart.0 (e.back k l kl))) refl),
-      once_last same e l w ps once.1 apart.1,
+-- no key of the second pairs is among the first
+abbrev AreApart : Sameness → DocPairs → DocPairs → Type 0
+AreApart same ps no_pairs = Unit {0}
+AreApart same ps (pair k v qs) = (value_at same k ps ≡ None) × AreApart same ps qs
+
+missing_apart_if : (b : Bool) (same : Sameness) (k v : DocNode) (ps qs : DocPairs) → is_some (value_at same k ps) ≡ b
+    → AreApart same ps qs → AreApart same ps (if b then qs else pair k v qs)
+missing_apart_if true same k v ps qs is rest = rest
+missing_apart_if false same k v ps qs is rest = (not_some (value_at same k ps) is, rest)
+
+missing_apart : (same : Sameness) (ps qs : DocPairs) → AreApart same ps (missing same ps qs)
+missing_apart same ps no_pairs = tt
+missing_apart same ps (pair k v qs) =
+    missing_apart_if (is_some (value_at same k ps)) same k v ps (missing same ps qs) refl (missing_apart same ps qs)
+
+-- the key of a pair is not among those that are apart, and the others are apart from the rest
+apart_of : (same : Sameness) → IsEquivalence same → (k v : DocNode) (ps qs : DocPairs) → AreApart same (pair k v ps) qs
+    → (value_at same k qs ≡ None) × AreApart same ps qs
+apart_of same e k v ps no_pairs apart = (refl, tt)
+apart_of same e k v ps (pair l w qs) apart =
+    let here = none_of_if (same l k) v (value_at same l ps) apart.0 in
+    let rest = apart_of same e k v ps qs apart.1 in (
+      none_if (same k l) w (value_at same k qs)
+          (not_true (same k l) (λ kl. false_true (same l k) here.0 (e.back k l kl))) rest.0,
+      (here.1, rest.1),
     )
 
-once_new : (same : Sameness) → IsEquivalence same → (l w : DocNode) (ps : DocPairs) (b : Bool)
-    → is_some (value_at same l ps) ≡ b → stand_once same ps
-    → stand_once same (if b then ps else joined ps (pair l w no_pairs))
-once_new same e l w ps true is once = once
-once_new same e l w ps false is once = once_last same e l w ps once (not_some (value_at same l ps) is)
+once_joined : (same : Sameness) → IsEquivalence same → (ps qs : DocPairs) → stand_once same ps → stand_once same qs
+    → AreApart same ps qs → stand_once same (joined ps qs)
+once_joined same e no_pairs qs once more apart = more
+once_joined same e (pair k v ps) qs once more apart =
+    let found = apart_of same e k v ps qs apart in (
+      at_joined same k ps qs ∙ (ap (λ o. first_of o (value_at same k qs)) once.0 ∙ found.0),
+      once_joined same e ps qs once.1 more found.1,
+    )
 
-pub once : (same : Sameness) → IsEquivalence same → (qs ps : DocPairs) → stand_once same ps
-    → stand_once same (with_missing same ps qs)
-once same e no_pairs ps h = h
-once same e (pair l w qs) ps h =
-    once same e qs (with_new same ps l w) (once_new same e l w ps (is_some (value_at same l ps)) refl h)
+none_missing_if : (b c : Bool) (w : DocNode) (same : Sameness) (k l : DocNode) (m q : DocPairs) → same k l ≡ c
+    → (value_at same k q ≡ None → value_at same k m ≡ None) → (if c then Some w else value_at same k q) ≡ None
+    → value_at same k (if b then m else pair l w m) ≡ None
+none_missing_if b true w same k l m q is rest none = absurd cc
+none_missing_if true false w same k l m q is rest none = rest none
+none_missing_if false false w same k l m q is rest none =
+    ap (λ b. if b then Some w else value_at same k m) is ∙ rest none
+
+-- a key that is not there is not among what is missing
+none_missing : (same : Sameness) (k : DocNode) (ps qs : DocPairs) → value_at same k qs ≡ None
+    → value_at same k (missing same ps qs) ≡ None
+none_missing same k ps no_pairs none = refl
+none_missing same k ps (pair l w qs) none =
+    none_missing_if (is_some (value_at same l ps)) (same k l) w same k l (missing same ps qs) qs refl
+    (none_missing same k ps qs) none
+
+once_missing_if : (b : Bool) (same : Sameness) (k v : DocNode) (m : DocPairs) → value_at same k m ≡ None
+    → stand_once same m → stand_once same (if b then m else pair k v m)
+once_missing_if true same k v m none once = once
+once_missing_if false same k v m none once = (none, once)
+
+once_missing : (same : Sameness) (ps qs : DocPairs) → stand_once same qs → stand_once same (missing same ps qs)
+once_missing same ps no_pairs once = tt
+once_missing same ps (pair k v qs) once =
+    once_missing_if (is_some (value_at same k ps)) same k v (missing same ps qs)
+    (none_missing same k ps qs once.0) (once_missing same ps qs once.1)
+
+pub once : (same : Sameness) → IsEquivalence same → (given : List DocPairs) (ps : DocPairs) → stand_once same ps
+    → each_stand_once same given → stand_once same (with_each same ps given)
+once same e [] ps h all = h
+once same e (qs ∷ given) ps h all =
+    once same e given (with_missing same ps qs)
+    (once_joined same e ps (missing same ps qs) h (once_missing same ps qs all.0) (missing_apart same ps qs)) all.1

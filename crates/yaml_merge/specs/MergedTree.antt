@@ -1,5 +1,6 @@
--- What a tree is once its merge keys are applied, where no alias stands in it.
+-- What a tree is once its merge keys are applied, where no alias stands in it, and no merge key within a key.
 use Rattle.std.specs.Prelude.{◌≡◌, Bool, true, false, ◌||◌, if◌then◌else◌, Option, Some, None, is_some}
+use Rattle.std.specs.Prelude.{List, [], ◌∷◌, ◌++◌}
 use Rattle.yaml_base.specs.DocTree.{DocNode, list, mapping, DocNodes, no_nodes, node, DocPairs, no_pairs, pair}
 use Rattle.yaml_base.specs.DocTree.{first_event}
 use Rattle.yaml_merge.specs.MergeKeys.{is_merge_word}
@@ -22,40 +23,47 @@ abbrev pub value_at : Sameness → (key : DocNode) → DocPairs → Option DocNo
 value_at same k no_pairs = None
 value_at same k (pair l w ps) = if same k l then Some w else value_at same k ps
 
--- the pairs with one more, unless its key is there
-abbrev pub with_new : Sameness → DocPairs → (key value : DocNode) → DocPairs
-with_new same ps k v = if is_some (value_at same k ps) then ps else joined ps (pair k v no_pairs)
+-- the pairs whose keys are not there, among these
+abbrev pub missing : Sameness → (there : DocPairs) → DocPairs → DocPairs
+missing same there no_pairs = no_pairs
+missing same there (pair k v ps) =
+    if is_some (value_at same k there) then missing same there ps else pair k v (missing same there ps)
 
--- the pairs with those of others whose keys are not there, one by one
+-- the pairs, and behind them those of another mapping whose keys are not there
 abbrev pub with_missing : Sameness → DocPairs → DocPairs → DocPairs
-with_missing same ps no_pairs = ps
-with_missing same ps (pair k v qs) = with_missing same (with_new same ps k v) qs
+with_missing same ps qs = joined ps (missing same ps qs)
 
--- the pairs of each mapping of a list
-abbrev pub pairs_of_each : DocNodes → DocPairs
-pairs_of_each no_nodes = no_pairs
-pairs_of_each (node (mapping tag ps) nodes) = joined ps (pairs_of_each nodes)
-pairs_of_each (node n nodes) = pairs_of_each nodes
+-- the pairs, with those of one mapping after the other
+abbrev pub with_each : Sameness → DocPairs → List DocPairs → DocPairs
+with_each same ps [] = ps
+with_each same ps (qs ∷ given) = with_each same (with_missing same ps qs) given
 
--- the pairs that what stands at a merge key gives
-abbrev pub pairs_from : DocNode → DocPairs
-pairs_from (mapping tag ps) = ps
-pairs_from (list tag nodes) = pairs_of_each nodes
-pairs_from n = no_pairs
+-- the pairs of each mapping of a list, in order
+abbrev pub mappings_of : DocNodes → List DocPairs
+mappings_of no_nodes = []
+mappings_of (node (mapping tag ps) nodes) = ps ∷ mappings_of nodes
+mappings_of (node n nodes) = mappings_of nodes
+
+-- the pairs of the mapping, or of each mapping of the list, that stands at a merge key
+abbrev pub mappings_at : DocNode → List DocPairs
+mappings_at (mapping tag ps) = ps ∷ []
+mappings_at (list tag nodes) = mappings_of nodes
+mappings_at n = []
 
 -- the pairs at no merge key
 abbrev pub own_pairs : DocPairs → DocPairs
 own_pairs no_pairs = no_pairs
 own_pairs (pair k v ps) = if is_merge_key k then own_pairs ps else pair k v (own_pairs ps)
 
--- the pairs that its merge keys give
-abbrev pub given_pairs : DocPairs → DocPairs
-given_pairs no_pairs = no_pairs
-given_pairs (pair k v ps) = if is_merge_key k then joined (pairs_from v) (given_pairs ps) else given_pairs ps
+-- the pairs of the mappings that merge keys give, mapping by mapping
+abbrev pub given_mappings : DocPairs → List DocPairs
+given_mappings no_pairs = []
+given_mappings (pair k v ps) = if is_merge_key k then mappings_at v ++ given_mappings ps else given_mappings ps
 
--- a mapping's pairs once its own merge keys are applied, where those within it are
+-- A mapping's pairs once its own merge keys are applied, where those within it are: its own, and behind them, mapping
+-- after mapping, those whose keys are not there yet.
 abbrev pub applied : Sameness → DocPairs → DocPairs
-applied same ps = with_missing same (own_pairs ps) (given_pairs ps)
+applied same ps = with_each same (own_pairs ps) (given_mappings ps)
 
 abbrev mutual
   -- the tree once each merge key is applied, those within a mapping before its own
@@ -97,7 +105,17 @@ abbrev pub first_of : Option DocNode → Option DocNode → Option DocNode
 first_of (Some v) w = Some v
 first_of None w = w
 
+-- the value in the first mapping that has the key
+abbrev pub first_value_at : Sameness → (key : DocNode) → List DocPairs → Option DocNode
+first_value_at same k [] = None
+first_value_at same k (ps ∷ given) = first_of (value_at same k ps) (first_value_at same k given)
+
 -- no pair of the list has the key of one before it
 abbrev pub stand_once : Sameness → DocPairs → Type 0
 stand_once same no_pairs = Unit {0}
 stand_once same (pair k v ps) = (value_at same k ps ≡ None) × stand_once same ps
+
+-- so it is in each of these mappings
+abbrev pub each_stand_once : Sameness → List DocPairs → Type 0
+each_stand_once same [] = Unit {0}
+each_stand_once same (ps ∷ given) = stand_once same ps × each_stand_once same given

@@ -10,12 +10,13 @@ use Rattle.yaml_merge.specs.declared.merge.Merge.{Merge}
 use Rattle.yaml_merge.specs.declared.merge.Merge.TheVariants.{Keep, Apply, Refuse}
 
 -- The document stays where merge keys are kept. Where they are refused it has none, and stays. Where they are applied
--- it stays if it has none, and another one is cut off as this one is.
+-- it stays if it has none; another one is cut off as this one is, and has none.
 abbrev pub IsTreated : Merge → (document treated : PlainDocument) → Type 0
 IsTreated Keep document treated = treated ≡ document
 IsTreated Refuse document treated = (treated ≡ document) × (first_merge_key document.events ≡ None)
 IsTreated Apply document treated =
     (first_merge_key document.events ≡ None → treated ≡ document) × (treated.ending ≡ document.ending)
+    × (first_merge_key treated.events ≡ None)
 
 -- merge keys are refused, and this is the mark of one; no path is told
 abbrev pub refusal : Position → Cause

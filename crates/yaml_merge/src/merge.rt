@@ -85,12 +85,12 @@ fn merge_all<'de>(alloc: Global, document: &Document<'de>) -> Result<Document<'d
     written(alloc, nodes, &plan)
 }
 
-// The document with its merge keys applied, if it has any.
+// The document with its merge keys applied, if it has any. None is left, for which it is gone over once more.
 fn apply<'de>(alloc: Global, document: Document<'de>) -> Result<Document<'de>>
     ensures { IfOk result (IsTreated Apply document.entry) }
 {
     match first_place(alloc, &document)? {
-        Some(_) => merge_all(alloc, &document),
+        Some(_) => refuse(alloc, merge_all(alloc, &document)?),
         None => Ok(document),
     }
 }
