@@ -12,7 +12,7 @@ fn text(rt: &(impl Abort + AllocGlobal), text: &str) -> Value {
 }
 
 fn sequence(rt: &(impl Abort + AllocGlobal), one: Value, two: Value) -> Value {
-    Value::Sequence(vec![in rt.alloc(); one, two].expect(rt, "memory"))
+    Value::from(vec![in rt.alloc(); one, two].expect(rt, "memory"))
 }
 
 fn pair(rt: &(impl Abort + AllocGlobal), mapping: &mut Mapping, key: Value, value: Value) {

@@ -1,8 +1,8 @@
 -- Values that are changed under a tag.
-use Rattle.std.proofs.Common.{◌≡◌, ◌<◌, ◌∙◌, ℕ, suc, List, IfOk, OnErr, Option, Result, Ok, Err, ap, subst, sym}
+use Rattle.std.proofs.Common.{◌≡◌, ◌∙◌, ℕ, suc, List, IfOk, OnErr, Option, Result, Ok, Err, ap, subst, sym}
 use Rattle.yaml_value.specs.Change.{Inserts, Removes}
-use Rattle.yaml_value.specs.Find.{HasFewPairs, IsPut, IsTakenOut, few, get, pairs_in, value_at}
-use Rattle.yaml_value.specs.PlainValue.{PlainPairs, PlainValue, mapping, pair_count, tagged, text}
+use Rattle.yaml_value.specs.Find.{IsPut, IsTakenOut, get, value_at}
+use Rattle.yaml_value.specs.PlainValue.{PlainPairs, PlainValue, mapping, tagged, text}
 
 -- what is put under a tag is so with it
 pub inserts_under : {X E : Type 0} (r : Result X E) (k part : PlainValue) (see : X → Option PlainValue)
@@ -25,10 +25,9 @@ removes_under k answer old new t v w is put h = subst (λ o. Removes k o new ans
 
 -- and answered so
 pub answers_under : (key : List ℕ) (answer : Option PlainValue) (old : PlainValue) (t : List ℕ) (v : PlainValue)
-    → old ≡ tagged t v → (HasFewPairs (pairs_in v) → answer ≡ get key v) → HasFewPairs (pairs_in old)
-    → answer ≡ get key old
+    → old ≡ tagged t v → answer ≡ get key v → answer ≡ get key old
 answers_under key answer old t v is h =
-    subst (λ o. HasFewPairs (pairs_in o) → answer ≡ get key o) (sym is) h
+    h ∙ ap (get key) (sym is)
 
 -- how many tags are around a value
 abbrev pub tags : PlainValue → ℕ
@@ -53,6 +52,6 @@ pub removes_in : (k : PlainValue) (answer : Option PlainValue) (old new : PlainV
 removes_in k answer old new ps qs is put h = subst (λ o. Removes k o new answer) (sym is) (qs, h, put)
 
 pub answers_in : (key : List ℕ) (answer : Option PlainValue) (old : PlainValue) (ps : PlainPairs) → old ≡ mapping ps
-    → (pair_count ps < few → answer ≡ value_at (text key) ps) → HasFewPairs (pairs_in old) → answer ≡ get key old
+    → answer ≡ value_at (text key) ps → answer ≡ get key old
 answers_in key answer old ps is h =
-    subst (λ o. HasFewPairs (pairs_in o) → answer ≡ get key o) (sym is) h
+    h ∙ ap (get key) (sym is)

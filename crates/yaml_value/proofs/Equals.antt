@@ -1,16 +1,18 @@
 -- What decides equality, place by place.
-use Rattle.std.specs.Prelude.{◌≡◌, ℕ, zero, suc, ◌+◌, ◌<◌, Bool, true, false, ◌&&◌, ◌||◌, ◌==◌, if◌then◌else◌}
+use Rattle.std.specs.Prelude.{◌≡◌, ℕ, zero, suc, ◌+◌, ◌<◌, Bool, true, false, not, ◌&&◌, ◌||◌, ◌==◌, if◌then◌else◌}
 use Rattle.std.specs.Prelude.{List, [], ◌∷◌, length, Option, Some, None, option_map, refl}
-use Rattle.std.proofs.Common.{ap, arith, sym, ◌∙◌, subst, get_or, drop}
+use Rattle.std.proofs.Common.{ap, arith, sym, ◌∙◌, get_or, drop, true≢false}
 use Rattle.std.proofs.lemmas.Bool.Decides.{nat_tests}
 use Rattle.std.proofs.lemmas.List.{drop_more}
+use Rattle.yaml_tree.specs.TakeOut.{and_left, and_right}
+use Rattle.yaml_value.specs.Distinct.{has_key, is_distinct, keys_distinct}
 use Rattle.yaml_value.specs.Find.{is_key_at, place_where}
-use Rattle.yaml_value.specs.PlainEqual.{entry_eq, has_all_pairs, has_pair, items_eq, pairs_eq, plain_eq}
-use Rattle.yaml_value.specs.PlainValue.{PlainValue, PlainPairs, pair_count}
-use Rattle.yaml_value.specs.Small.{AreItemsSmall, ArePairsSmall, IsSmall}
+use Rattle.yaml_value.specs.PlainEqual.{entry_eq, has_all_pairs, has_pair, items_eq, pairs_eq, plain_eq, value_where}
+use Rattle.yaml_value.specs.PlainValue.{PlainValue, PlainPairs, no_pairs, pair, pair_count}
 use Rattle.yaml_value.specs.View.{entry_pairs, plain, plain_entry, plain_items}
 use Rattle.yaml_value.specs.declared.mapping.Entry.{Entry}
 use Rattle.yaml_value.specs.declared.value.Value.{Value}
+use Rattle.yaml_value.proofs.Equivalence.{IsSymmetric, not_true, or_left, or_right, plain_eq-symm, plain_eq-trans}
 use Rattle.yaml_value.proofs.Views.{pair_count-entries}
 
 and_right_false : (a b : Bool) → b ≡ false → (a && b) ≡ false
@@ -39,12 +41,6 @@ items_eq-step xs ys i x y b lx ly ix iy e =
     ∙ ((λ j. plain_eq (plain (sym ix j)) (plain (sym iy j))
     && items_eq (plain_items (drop (i + 1) xs)) (plain_items (drop (i + 1) ys)))
     ∙ ap (λ t. t && items_eq (plain_items (drop (i + 1) xs)) (plain_items (drop (i + 1) ys))) e)
-
-pub small_item-at : (ys : List Value) (i : ℕ) (y : Value) → AreItemsSmall (plain_items ys) → i < length ys
-    → y ≡ get_or ys i y → IsSmall (plain y)
-small_item-at [] i y small lt is = absurd (omega (arith, lt))
-small_item-at (x ∷ ys) zero y small lt is = subst (λ v. IsSmall (plain v)) (sym is) small.0
-small_item-at (x ∷ ys) (suc i) y small lt is = small_item-at ys i y small.1 (omega (arith, lt)) is
 
 -- ---- lists of entries
 pub pairs_eq-lengths : (xs ys : List Entry) → (length xs ≡ length ys → ⊥)
@@ -86,13 +82,6 @@ has_pair-at p (e ∷ es) zero d lt is same =
 has_pair-at p (e ∷ es) (suc i) d lt is same =
     or_true (entry_eq p (plain_entry e)) _ (has_pair-at p es i d (omega (arith, lt)) is same)
 
-pub small_pair-at : (es : List Entry) (i : ℕ) (d : Entry) → ArePairsSmall (entry_pairs es) → i < length es
-    → d ≡ get_or es i d → IsSmall (plain_entry d).0 × IsSmall (plain_entry d).1
-small_pair-at [] i d small lt is = absurd (omega (arith, lt))
-small_pair-at (e ∷ es) zero d small lt is =
-    subst (λ x. IsSmall (plain_entry x).0 × IsSmall (plain_entry x).1) (sym is) small.0
-small_pair-at (e ∷ es) (suc i) d small lt is = small_pair-at es i d small.1 (omega (arith, lt)) is
-
 -- ---- a key in its place
 pub is_key_at-entry : (k : PlainValue) (es : List Entry) (i : ℕ) (d : Entry) → i < length es → d ≡ get_or es i d
     → is_key_at k i (entry_pairs es) ≡ plain_eq k (plain_entry d).0
@@ -118,3 +107,40 @@ place_where-step i passes es d b lt is e =
         ≡ (if t then Some i else option_map (λ n. i + 1 + n) o)
     by true o = ap Some (omega arith)
     by false o = moved i o
+
+-- ---- what the key is found by says whether the pair is there
+-- a value is equal to what was found
+abbrev pub is_value_equal : PlainValue → Option PlainValue → Bool
+is_value_equal v None = false
+is_value_equal v (Some w) = plain_eq v w
+
+pair-value_by : (b : Bool) (k v l w : PlainValue) (ps : PlainPairs) → plain_eq k l ≡ b → has_key l ps ≡ false
+    → IsSymmetric k → has_pair (k, v) ps ≡ is_value_equal v (value_where (plain_eq k) ps)
+    → ((b && plain_eq v w) || has_pair (k, v) ps) ≡ is_value_equal v (if b then Some w else value_where (plain_eq k) ps)
+pair-value_by true k v l w ps is none s ih =
+    no_more (plain_eq v w) (has_pair (k, v) ps) (nowhere k v l ps (s l is) none)
+  where
+    no_more : (a b : Bool) → b ≡ false → (a || b) ≡ a
+    no_more true b e = refl
+    no_more false b e = e
+
+    absent : (b c : Bool) (l k m : PlainValue) → plain_eq l k ≡ true → plain_eq l m ≡ false → plain_eq k m ≡ b
+        → (b && c) ≡ false
+    absent true c l k m e n is = absurd (true≢false (sym (plain_eq-trans l k m e is) ∙ n))
+    absent false c l k m e n is = refl
+
+    nowhere : (k v l : PlainValue) (ps : PlainPairs) → plain_eq l k ≡ true → has_key l ps ≡ false
+        → has_pair (k, v) ps ≡ false
+    nowhere k v l no_pairs e n = refl
+    nowhere k v l (pair m u ps) e n =
+        λ j. absent (plain_eq k m) (plain_eq v u) l k m e (or_left (plain_eq l m) (has_key l ps) n) refl j
+        || nowhere k v l ps e (or_right (plain_eq l m) (has_key l ps) n) j
+pair-value_by false k v l w ps is none s ih = ih
+
+-- where keys are distinct, a pair is there if its value is equal to the value at its key
+pub has_pair-value : (k v : PlainValue) (ps : PlainPairs) → is_distinct k ≡ true → keys_distinct ps ≡ true
+    → has_pair (k, v) ps ≡ is_value_equal v (value_where (plain_eq k) ps)
+has_pair-value k v no_pairs s d = refl
+has_pair-value k v (pair l w ps) s d =
+    pair-value_by (plain_eq k l) k v l w ps refl (not_true (has_key l ps) (and_left _ _ d))
+    (λ m e. plain_eq-symm k m s e) (has_pair-value k v ps s (and_right (not (has_key l ps)) _ d))

@@ -1,23 +1,26 @@
--- What the index of entries says: where a simple key can be, and what stays when entries change.
+-- What the index of entries says: where a key can be, and what stays when entries change.
 use Rattle.std.specs.Prelude.{◌≡◌, ℕ, zero, suc, ◌+◌, ◌-◌, ◌<◌, ◌≤◌, ◌==◌, ◌%◌, ◌++◌, ◌∷◌, [], List, length, refl}
-use Rattle.std.specs.Prelude.{Bool, true, false, Option, Some, None, option_map, if◌then◌else◌, ◌⊎◌}
+use Rattle.std.specs.Prelude.{Bool, true, false, ◌&&◌, ◌||◌, not, Option, Some, None, option_map, if◌then◌else◌, ◌⊎◌}
 use Rattle.std.proofs.Common.{ap, arith, sym, ◌∙◌, get_or, set, subst, true≢false, inl, inr, eq-or-lt_of_le}
-use Rattle.std.proofs.lemmas.Bool.{cases_lt}
+use Rattle.std.proofs.lemmas.Bool.{and_from, cases_lt}
 use Rattle.std.proofs.lemmas.Bool.Decides.{Decides-eqb}
-use Rattle.std.proofs.lemmas.List.{get_or-set_same, get_or-set_other, length-append, length-map, map_push}
+use Rattle.std.proofs.Math.Seq.{map-set_same}
+use Rattle.std.proofs.lemmas.List.{get_or-set_same, get_or-set_other, length-append, length-map, length-set, map_push}
+use Rattle.yaml_tree.specs.TakeOut.{and_left, and_right}
 use Rattle.yaml_tree.specs.Index.{AreChains, chain_at, chain_count, last_before}
 use Rattle.yaml_tree.proofs.Chains.{IsLeft, left-last, last_before-le, gap-last, chain-left, chains-next, chains-more}
+use Rattle.yaml_value.specs.Distinct.{has_key, keys_distinct, is_distinct, are_pairs_distinct}
 use Rattle.yaml_value.specs.Find.{is_key_at, place_where, with_value, without_place}
 use Rattle.yaml_value.specs.Hash.{hash_of}
-use Rattle.yaml_value.specs.Index.{lasts_of, earliers_of, key_hashes, IsChained, IsIndexedTo, IsIndexed, chain_end}
-use Rattle.yaml_value.specs.Index.{IsSimple, IsNoneAgain, AreApart}
+use Rattle.yaml_value.specs.Index.{lasts_of, earliers_of, key_hashes, IsChained, IsIndexedTo, IsIndexed, IsSound}
+use Rattle.yaml_value.specs.Index.{chain_end}
 use Rattle.yaml_value.specs.PlainEqual.{plain_eq}
 use Rattle.yaml_value.specs.PlainValue.{PlainValue, PlainPairs, no_pairs, pair, pair_count, with_last}
 use Rattle.yaml_value.specs.View.{entry_pairs, plain_entry}
 use Rattle.yaml_value.specs.declared.mapping.Entry.{Entry}
-use Rattle.yaml_value.specs.declared.value.Value.TheViews.{out-Entry}
-use Rattle.yaml_value.proofs.Hashes.{simple_is, simple_same}
-use Rattle.yaml_value.proofs.Views.{entry_pairs-push, pair_count-entries}
+use Rattle.yaml_value.proofs.EqualHashes.{same_hash}
+use Rattle.yaml_value.proofs.Equivalence.{not_true, or_left, or_right, plain_eq-symm, plain_eq-trans}
+use Rattle.yaml_value.proofs.Views.{entry_pairs-push, entry_pairs-put, pair_count-entries}
 
 -- ---- the hashes of keys
 pub hash-at : (es : List Entry) (i : ℕ) (d : Entry) → i < length es → d ≡ get_or es i d
@@ -26,10 +29,14 @@ hash-at [] i d lt is = absurd (omega (arith, lt))
 hash-at (e ∷ es) zero d lt is = ap (λ x. hash_of (plain_entry x).0) (sym is)
 hash-at (e ∷ es) (suc i) d lt is = hash-at es i d (omega (arith, lt)) is
 
-hash-key : (k : PlainValue) (ps : PlainPairs) (j : ℕ) → IsSimple k → is_key_at k j ps ≡ true
+-- in no mapping of a value a key stands twice
+abbrev pub IsDistinct : PlainValue → Type 0
+IsDistinct k = is_distinct k ≡ true
+
+hash-key : (k : PlainValue) (ps : PlainPairs) (j : ℕ) → IsDistinct k → is_key_at k j ps ≡ true
     → get_or (key_hashes ps) j 0 ≡ hash_of k
 hash-key k no_pairs j s e = absurd (true≢false (sym e))
-hash-key k (pair l w ps) zero s e = ap hash_of (sym (simple_is k l s e))
+hash-key k (pair l w ps) zero s e = sym (same_hash k l s e)
 hash-key k (pair l w ps) (suc j) s e = hash-key k ps j s e
 
 count-hashes : (ps : PlainPairs) → length (key_hashes ps) ≡ pair_count ps
@@ -59,7 +66,7 @@ key_beyond k no_pairs j le = refl
 key_beyond k (pair l w ps) zero le = absurd (omega (arith, le))
 key_beyond k (pair l w ps) (suc j) le = key_beyond k ps j (omega (arith, le))
 
-other_by : (b : Bool) (size : ℕ) (k : PlainValue) (ps : PlainPairs) (j : ℕ) → is_key_at k j ps ≡ b → IsSimple k
+other_by : (b : Bool) (size : ℕ) (k : PlainValue) (ps : PlainPairs) (j : ℕ) → is_key_at k j ps ≡ b → IsDistinct k
     → (key_chain size ps j == hash_of k % size) ≡ false → b ≡ false
 other_by true size k ps j is s n =
     absurd (true≢false (sym ((Decides-eqb (key_chain size ps j) (hash_of k % size)).1
@@ -67,7 +74,7 @@ other_by true size k ps j is s n =
 other_by false size k ps j is s n = refl
 
 -- a key isn't in a chain that isn't its own
-other_chain : (size : ℕ) (k : PlainValue) (ps : PlainPairs) (j : ℕ) → IsSimple k
+other_chain : (size : ℕ) (k : PlainValue) (ps : PlainPairs) (j : ℕ) → IsDistinct k
     → (key_chain size ps j == hash_of k % size) ≡ false → is_key_at k j ps ≡ false
 other_chain size k ps j s n = other_by (is_key_at k j ps) size k ps j refl s n
 
@@ -76,14 +83,14 @@ abbrev pub IsSought : ℕ → PlainValue → PlainPairs → ℕ → Type 0
 IsSought size k ps left =
     IsLeft (key_chain size ps) (hash_of k % size) left × (left ≤ pair_count ps) × IsAbsentFrom k ps left
 
-behind_by : (size : ℕ) (k : PlainValue) (ps : PlainPairs) (from n j : ℕ) → IsSimple k → from ≤ j → (j < n) ⊎ (n ≤ j)
+behind_by : (size : ℕ) (k : PlainValue) (ps : PlainPairs) (from n j : ℕ) → IsDistinct k → from ≤ j → (j < n) ⊎ (n ≤ j)
     → ((i : ℕ) → from ≤ i → i < n → (key_chain size ps i == hash_of k % size) ≡ false) → IsAbsentFrom k ps n
     → is_key_at k j ps ≡ false
 behind_by size k ps from n j s le (inl lt) gap absent = other_chain size k ps j s (gap j le lt)
 behind_by size k ps from n j s le (inr beyond) gap absent = absent j beyond
 
 -- so it is with the whole chain
-pub sought-end : (k : PlainValue) (es : List Entry) → IsSimple k
+pub sought-end : (k : PlainValue) (es : List Entry) → IsDistinct k
     → IsSought (chain_count (length es)) k (entry_pairs es) (chain_end (hash_of k) es)
 sought-end k es s =
     let size = chain_count (length es) in
@@ -109,7 +116,7 @@ here_or_behind k ps i j (inl is) here behind = ap (λ n. is_key_at k n ps) (sym 
 here_or_behind k ps i j (inr less) here behind = behind j (omega (arith, less))
 
 -- where the last place of what is left has another key, the place before it in its chain is where to go on
-pub sought-next : (size left : ℕ) (k : PlainValue) (es : List Entry) → IsSimple k → 0 < left → left ≤ length es
+pub sought-next : (size left : ℕ) (k : PlainValue) (es : List Entry) → IsDistinct k → 0 < left → left ≤ length es
     → IsChained size (length es) es → is_key_at k (left - 1) (entry_pairs es) ≡ false
     → IsSought size k (entry_pairs es) left
     → IsSought size k (entry_pairs es) (get_or (earliers_of es) (left - 1) 0)
@@ -148,51 +155,63 @@ place-absent k (pair l w ps) absent =
     none_by (plain_eq k l) (place_where (plain_eq k) ps) (absent 0 (omega arith))
     (place-absent k ps (λ j le. absent (suc j) (omega arith)))
 
--- ---- simple keys are apart
-not_again : (k : PlainValue) (ps : PlainPairs) (i : ℕ) → IsSimple k → IsNoneAgain k ps → is_key_at k i ps ≡ true → ⊥
-not_again k no_pairs i s none e = true≢false (sym e)
-not_again k (pair l w ps) zero s none e =
-    let is : k ≡ l = simple_is k l s e in
-    true≢false (sym (ap (λ x. plain_eq x k) (sym is) ∙ simple_same k s) ∙ none.0 (subst IsSimple is s))
-not_again k (pair l w ps) (suc i) s none e = not_again k ps i s none.1 e
+-- ---- keys are distinct
+-- a key that is equal to one that stands in a place stands in a pair
+has_key_there : (l k : PlainValue) (ps : PlainPairs) (i : ℕ) → plain_eq l k ≡ true → is_key_at k i ps ≡ true
+    → has_key l ps ≡ true
+has_key_there l k no_pairs i e at = absurd (true≢false (sym at))
+has_key_there l k (pair m u ps) zero e at = ap (λ b. b || has_key l ps) (plain_eq-trans l k m e at)
+has_key_there l k (pair m u ps) (suc i) e at = or_true (plain_eq l m) (has_key l ps) (has_key_there l k ps i e at)
+  where
+    or_true : (a b : Bool) → b ≡ true → (a || b) ≡ true
+    or_true true b h = refl
+    or_true false b h = h
 
-found_by : (b : Bool) (k l w : PlainValue) (ps : PlainPairs) (i : ℕ) → plain_eq k l ≡ b → IsSimple k → IsNoneAgain l ps
-    → is_key_at k i ps ≡ true → place_where (plain_eq k) ps ≡ Some i
+found_by : (b : Bool) (k l w : PlainValue) (ps : PlainPairs) (i : ℕ) → plain_eq k l ≡ b → IsDistinct k
+    → has_key l ps ≡ false → is_key_at k i ps ≡ true → place_where (plain_eq k) ps ≡ Some i
     → (if b then Some 0 else option_map suc (place_where (plain_eq k) ps)) ≡ Some (suc i)
-found_by true k l w ps i is s none e there =
-    absurd (not_again k ps i s (subst (λ x. IsNoneAgain x ps) (sym (simple_is k l s is)) none) e)
-found_by false k l w ps i is s none e there = ap (option_map suc) there
+found_by true k l w ps i is s none e at =
+    absurd (true≢false (sym (has_key_there l k ps i (plain_eq-symm k l s is) e) ∙ none))
+found_by false k l w ps i is s none e at = ap (option_map suc) at
 
--- where simple keys are apart, one that stands in a place stands in none before
-pub place-found : (k : PlainValue) (ps : PlainPairs) (i : ℕ) → IsSimple k → AreApart ps → is_key_at k i ps ≡ true
-    → place_where (plain_eq k) ps ≡ Some i
-place-found k no_pairs i s apart e = absurd (true≢false (sym e))
-place-found k (pair l w ps) zero s apart e =
+-- where keys are distinct, one that stands in a place stands in none before
+pub place-found : (k : PlainValue) (ps : PlainPairs) (i : ℕ) → IsDistinct k → keys_distinct ps ≡ true
+    → is_key_at k i ps ≡ true → place_where (plain_eq k) ps ≡ Some i
+place-found k no_pairs i s d e = absurd (true≢false (sym e))
+place-found k (pair l w ps) zero s d e =
     ap (λ b. if b then Some 0 else option_map suc (place_where (plain_eq k) ps)) e
-place-found k (pair l w ps) (suc i) s apart e =
-    found_by (plain_eq k l) k l w ps i refl s apart.0 e (place-found k ps i s apart.1 e)
+place-found k (pair l w ps) (suc i) s d e =
+    found_by (plain_eq k l) k l w ps i refl s (not_true (has_key l ps) (and_left _ _ d)) e
+    (place-found k ps i s (and_right (not (has_key l ps)) _ d) e)
 
 -- ---- pairs that change
-none-with_value : (k v : PlainValue) (i : ℕ) (ps : PlainPairs) → IsNoneAgain k ps → IsNoneAgain k (with_value i v ps)
-none-with_value k v i no_pairs none = tt
-none-with_value k v zero (pair l w ps) none = none
-none-with_value k v (suc i) (pair l w ps) none = (none.0, none-with_value k v i ps none.1)
+has_key-with_value : (k v : PlainValue) (i : ℕ) (ps : PlainPairs) → has_key k (with_value i v ps) ≡ has_key k ps
+has_key-with_value k v i no_pairs = refl
+has_key-with_value k v zero (pair l w ps) = refl
+has_key-with_value k v (suc i) (pair l w ps) = ap (λ b. plain_eq k l || b) (has_key-with_value k v i ps)
 
-pub apart-with_value : (v : PlainValue) (i : ℕ) (ps : PlainPairs) → AreApart ps → AreApart (with_value i v ps)
-apart-with_value v i no_pairs apart = tt
-apart-with_value v zero (pair l w ps) apart = apart
-apart-with_value v (suc i) (pair l w ps) apart = (none-with_value l v i ps apart.0, apart-with_value v i ps apart.1)
+pub distinct-with_value : (v : PlainValue) (i : ℕ) (ps : PlainPairs)
+    → keys_distinct (with_value i v ps) ≡ keys_distinct ps
+distinct-with_value v i no_pairs = refl
+distinct-with_value v zero (pair l w ps) = refl
+distinct-with_value v (suc i) (pair l w ps) =
+    λ j. not (has_key-with_value l v i ps j) && distinct-with_value v i ps j
 
-none-without_place : (k : PlainValue) (i : ℕ) (ps : PlainPairs) → IsNoneAgain k ps → IsNoneAgain k (without_place i ps)
-none-without_place k i no_pairs none = tt
-none-without_place k zero (pair l w ps) none = none.1
-none-without_place k (suc i) (pair l w ps) none = (none.0, none-without_place k i ps none.1)
+none-without_place : (k : PlainValue) (i : ℕ) (ps : PlainPairs) → has_key k ps ≡ false
+    → has_key k (without_place i ps) ≡ false
+none-without_place k i no_pairs n = refl
+none-without_place k zero (pair l w ps) n = or_right (plain_eq k l) (has_key k ps) n
+none-without_place k (suc i) (pair l w ps) n =
+    (λ j. or_left (plain_eq k l) (has_key k ps) n j
+    || none-without_place k i ps (or_right (plain_eq k l) (has_key k ps) n) j)
 
-pub apart-without_place : (i : ℕ) (ps : PlainPairs) → AreApart ps → AreApart (without_place i ps)
-apart-without_place i no_pairs apart = tt
-apart-without_place zero (pair l w ps) apart = apart.1
-apart-without_place (suc i) (pair l w ps) apart =
-    (none-without_place l i ps apart.0, apart-without_place i ps apart.1)
+pub distinct-without_place : (i : ℕ) (ps : PlainPairs) → keys_distinct ps ≡ true
+    → keys_distinct (without_place i ps) ≡ true
+distinct-without_place i no_pairs d = refl
+distinct-without_place zero (pair l w ps) d = and_right (not (has_key l ps)) _ d
+distinct-without_place (suc i) (pair l w ps) d =
+    and_from _ _ (ap not (none-without_place l i ps (not_true (has_key l ps) (and_left _ _ d))))
+    (distinct-without_place i ps (and_right (not (has_key l ps)) _ d))
 
 first_other : (b : Bool) (o : Option ℕ) → (if b then Some 0 else option_map suc o) ≡ None → b ≡ false
 first_other true o e = absurd (cc)
@@ -203,19 +222,28 @@ others_none true o e = absurd (cc)
 others_none false None e = refl
 others_none false (Some i) e = absurd (cc)
 
-none-with_last : (l k v : PlainValue) (ps : PlainPairs) → IsNoneAgain l ps → (IsSimple k → plain_eq k l ≡ false)
-    → IsNoneAgain l (with_last ps k v)
-none-with_last l k v no_pairs none other = (other, tt)
-none-with_last l k v (pair m w ps) none other = (none.0, none-with_last l k v ps none.1 other)
+none-with_last : (l k v : PlainValue) (ps : PlainPairs) → has_key l ps ≡ false → plain_eq l k ≡ false
+    → has_key l (with_last ps k v) ≡ false
+none-with_last l k v no_pairs n other = ap (λ b. b || false) other
+none-with_last l k v (pair m w ps) n other =
+    (λ j. or_left (plain_eq l m) (has_key l ps) n j
+    || none-with_last l k v ps (or_right (plain_eq l m) (has_key l ps) n) other j)
 
--- with one more pair at the end, whose key is not there where it is simple
-pub apart-with_last : (k v : PlainValue) (ps : PlainPairs) → AreApart ps
-    → (IsSimple k → place_where (plain_eq k) ps ≡ None) → AreApart (with_last ps k v)
-apart-with_last k v no_pairs apart new = (tt, tt)
-apart-with_last k v (pair l w ps) apart new = (
-  none-with_last l k v ps apart.0 (λ s. first_other (plain_eq k l) (place_where (plain_eq k) ps) (new s)),
-  apart-with_last k v ps apart.1 (λ s. others_none (plain_eq k l) (place_where (plain_eq k) ps) (new s)),
-)
+turned : (b : Bool) (k l : PlainValue) → IsDistinct l → plain_eq k l ≡ false → plain_eq l k ≡ b → b ≡ false
+turned true k l s n is = absurd (true≢false (sym (plain_eq-symm l k s is) ∙ n))
+turned false k l s n is = refl
+
+-- with one more pair at the end, whose key is not there
+pub distinct-with_last : (k v : PlainValue) (ps : PlainPairs) → keys_distinct ps ≡ true → are_pairs_distinct ps ≡ true
+    → place_where (plain_eq k) ps ≡ None → keys_distinct (with_last ps k v) ≡ true
+distinct-with_last k v no_pairs d h new = refl
+distinct-with_last k v (pair l w ps) d h new =
+    let differs = first_other (plain_eq k l) (place_where (plain_eq k) ps) new in
+    let other : plain_eq l k ≡ false = turned (plain_eq l k) k l (and_left _ _ h) differs refl in
+    and_from _ _ (ap not (none-with_last l k v ps (not_true (has_key l ps) (and_left _ _ d)) other))
+    (distinct-with_last k v ps (and_right (not (has_key l ps)) _ d)
+    (and_right (is_distinct w) _ (and_right (is_distinct l) _ h))
+    (others_none (plain_eq k l) (place_where (plain_eq k) ps) new))
 
 -- ---- entries that change
 -- the next entry behind its chain's last one
@@ -227,8 +255,8 @@ chained-next size h c e i es new some le lt hash chain last pairs lasts earliers
     let hashes = key_hashes (entry_pairs es) in
     let at : chain_at size hashes i ≡ c = sym (chain ∙ ap (λ x. x % size) hash) in
     let next = chains-next size i (lasts_of es) (earliers_of es) hashes some
-    (omega (arith, le, length-map es (λ x. (out-Entry x).last)))
-    (omega (arith, lt, length-map es (λ x. (out-Entry x).earlier))) before in
+    (omega (arith, le, length-map es (λ x. x.last)))
+    (omega (arith, lt, length-map es (λ x. x.earlier))) before in
     let lasts_are : set (lasts_of es) (chain_at size hashes i) (i + 1) ≡ lasts_of new =
     ap (λ n. set (lasts_of es) n (i + 1)) at ∙ sym lasts in
     let earliers_are : set (earliers_of es) i (get_or (lasts_of es) (chain_at size hashes i) 0) ≡ earliers_of new =
@@ -252,7 +280,7 @@ pub emptied : (n : ℕ) (es new : List Entry) → n < length es → lasts_of new
     → AreEmpty n (lasts_of es) → AreEmpty (n + 1) (lasts_of new)
 emptied n es new lt is before =
     subst (AreEmpty (n + 1)) (sym is) (λ c less.
-    empty_at n c (lasts_of es) (omega (arith, lt, length-map es (λ x. (out-Entry x).last)))
+    empty_at n c (lasts_of es) (omega (arith, lt, length-map es (λ x. x.last)))
     (eq-or-lt_of_le {n = c} {m = n} (omega (arith, less))) before)
 
 -- with one more entry at the end, the others are in their chains as before
@@ -265,16 +293,16 @@ indexed-more n es e is indexed some =
     let more : key_hashes (entry_pairs (es ++ e ∷ [])) ≡ hashes ++ hash_of (plain_entry e).0 ∷ [] =
     ap key_hashes (entry_pairs-push es e) ∙ hashes-more (entry_pairs es) (plain_entry e).0 (plain_entry e).1 in
     let count : length hashes ≡ n = count-hashes (entry_pairs es) ∙ (pair_count-entries es ∙ is) in
-    let all = chains-more size n (out-Entry e).last (out-Entry e).earlier (hash_of (plain_entry e).0)
+    let all = chains-more size n e.last e.earlier (hash_of (plain_entry e).0)
     (lasts_of es) (earliers_of es) hashes chained.0
-    (length-map es (λ x. (out-Entry x).last) ∙ is) (length-map es (λ x. (out-Entry x).earlier) ∙ is) count
+    (length-map es (λ x. x.last) ∙ is) (length-map es (λ x. x.earlier) ∙ is) count
     chained.1 in (
       chained.0,
       subst (λ hs. AreChains size n (lasts_of (es ++ e ∷ [])) (earliers_of (es ++ e ∷ [])) hs) (sym more)
           (subst (λ xs. AreChains size n (lasts_of (es ++ e ∷ [])) xs (hashes ++ hash_of (plain_entry e).0 ∷ []))
-          (sym (map_push (λ x. (out-Entry x).earlier) es e))
-          (subst (λ xs. AreChains size n xs (earliers_of es ++ (out-Entry e).earlier ∷ [])
-          (hashes ++ hash_of (plain_entry e).0 ∷ [])) (sym (map_push (λ x. (out-Entry x).last) es e)) all)),
+          (sym (map_push (λ x. x.earlier) es e))
+          (subst (λ xs. AreChains size n xs (earliers_of es ++ e.earlier ∷ [])
+          (hashes ++ hash_of (plain_entry e).0 ∷ [])) (sym (map_push (λ x. x.last) es e)) all)),
     )
 
 -- so it is with entries that have one more, however they were made
@@ -303,4 +331,33 @@ indexed-alike es fs same indexed some =
           (key_hashes (entry_pairs es))) same.1
           (subst (λ m. AreChains (chain_count m) m (lasts_of es) (earliers_of es) (key_hashes (entry_pairs es))) n
           before.1))),
+    )
+
+-- the same pairs, and the same that is kept for the index
+abbrev pub SameEntries : List Entry → List Entry → Type 0
+SameEntries es fs =
+    (entry_pairs es ≡ entry_pairs fs) × (lasts_of es ≡ lasts_of fs) × (earliers_of es ≡ earliers_of fs)
+
+-- such entries are sound where the others are
+pub sound-copies : (es fs : List Entry) → SameEntries fs es → IsSound es → IsSound fs
+sound-copies es fs same sound =
+    let len = sym (length-map es (λ e. e.last)) ∙ (ap length (sym same.1) ∙ length-map fs (λ e. e.last)) in (
+      indexed-alike es fs (len, sym same.1, sym same.2, ap key_hashes (sym same.0)) sound.0,
+      ap keys_distinct same.0 ∙ sound.1,
+    )
+
+-- entries are sound with another value in one of them
+pub sound-put : (es : List Entry) (i : ℕ) (e d : Entry) → d ≡ get_or es i d → (plain_entry e).0 ≡ (plain_entry d).0
+    → e.last ≡ d.last → e.earlier ≡ d.earlier → IsSound es → IsSound (set es i e)
+sound-put es i e d is key last earlier sound =
+    let same : plain_entry e ≡ ((plain_entry (get_or es i d)).0, (plain_entry e).1) =
+    λ j. ((key ∙ ap (λ x. (plain_entry x).0) is) j, (plain_entry e).1) in
+    let put = entry_pairs-put es i e d (plain_entry e).1 same in (
+      indexed-alike es (set es i e) (
+        sym (length-set es i e),
+        sym (map-set_same (λ x. x.last) es i e d (last ∙ ap (λ x. x.last) is)),
+        sym (map-set_same (λ x. x.earlier) es i e d (earlier ∙ ap (λ x. x.earlier) is)),
+        sym (ap key_hashes put ∙ hashes-with_value i (plain_entry e).1 (entry_pairs es)),
+      ) sound.0,
+      ap keys_distinct put ∙ (distinct-with_value (plain_entry e).1 i (entry_pairs es) ∙ sound.1),
     )

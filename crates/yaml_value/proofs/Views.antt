@@ -5,11 +5,14 @@ use Rattle.std.specs.Prelude.{List, [], ◌∷◌, ◌++◌, length, set, Option
 use Rattle.std.specs.Prelude.{option_map, option_and_then}
 use Rattle.std.proofs.Common.{ap, arith, sym, ◌∙◌, get_or, take}
 use Rattle.std.proofs.lemmas.List.{take_more}
-use Rattle.yaml_value.specs.Find.{is_key_at, item_in_place, IsTakenOut, IsValueAt, with_value}
+use Rattle.yaml_value.specs.Find.{item_in_place, IsPut, IsTakenOut, IsValueAt, with_pair, with_value}
 use Rattle.yaml_value.specs.Find.{place_where, value_in_place, without_found, without_key, without_place}
 use Rattle.yaml_value.specs.PlainEqual.{plain_eq, value_where}
 use Rattle.yaml_value.specs.PlainValue.{PlainValue, item, PlainPairs, no_pairs, pair, pair_count}
 use Rattle.yaml_value.specs.PlainValue.{with_item, with_last}
+use Rattle.yaml_value.specs.Distinct.{DistinctItems, DistinctPairs, distinct_pairs, keys_distinct}
+use Rattle.yaml_value.specs.Distinct.{plain_pairs, plain_pairs-distinct_pairs, plain_sequence}
+use Rattle.yaml_value.specs.View.{are_distinct-plain_items, are_pairs_distinct-entry_pairs}
 use Rattle.yaml_value.specs.View.{entry_pairs, plain, plain_entry, plain_items}
 use Rattle.yaml_value.specs.declared.mapping.Entry.{Entry}
 use Rattle.yaml_value.specs.declared.value.Value.{Value}
@@ -33,16 +36,6 @@ pub entry_pairs-push : (es : List Entry) (e : Entry)
     → entry_pairs (es ++ e ∷ []) ≡ with_last (entry_pairs es) (plain_entry e).0 (plain_entry e).1
 entry_pairs-push [] e = refl
 entry_pairs-push (x ∷ es) e = ap (pair (plain_entry x).0 (plain_entry x).1) (entry_pairs-push es e)
-
--- copies of the first entries, with a copy of the next one
-pub pairs-more : (copies es : List Entry) (i : ℕ) (v w : Entry) → entry_pairs copies ≡ entry_pairs (take i es)
-    → i < length es → w ≡ get_or es i w → plain_entry v ≡ plain_entry w
-    → entry_pairs (copies ++ v ∷ []) ≡ entry_pairs (take (i + 1) es)
-pairs-more copies es i v w e lt is f =
-    entry_pairs-push copies v
-    ∙ ((λ j. with_last (e j) (f j).0 (f j).1)
-    ∙ (sym (entry_pairs-push (take i es) w)
-    ∙ ap entry_pairs (ap (λ x. take i es ++ x ∷ []) is ∙ sym (take_more es i w lt))))
 
 -- ---- counts and places
 pub item_in_place-at : (vs : List Value) (i : ℕ) (v : Value) → i < length vs → v ≡ get_or vs i v
@@ -87,26 +80,72 @@ value_where-place passes no_pairs = refl
 value_where-place passes (pair k v ps) =
     found_by (passes k) passes k v ps (place_where passes ps) (value_where-place passes ps)
 
--- ---- what is told of the pair in a place that has a key
-pub told : {V : Type 0} (k : PlainValue) (ps : PlainPairs) (place : Option ℕ) (see : V → PlainValue) (r : Option V)
-    → IfSome place (λ i. is_key_at k i ps ≡ true)
-    → option_map see r ≡ option_and_then (λ i. value_in_place i ps) place → IfSome r (λ v. IsValueAt k ps (see v))
-told k ps place see None found e = tt
-told k ps None see (Some v) found e = absurd (cc)
-told k ps (Some i) see (Some v) found e = (i, (found, sym e))
+-- ---- what is told of the pair that has a key
+told_by : (b : Bool) (k l w v : PlainValue) (ps : PlainPairs) → plain_eq k l ≡ b
+    → (if b then Some w else value_where (plain_eq k) ps) ≡ Some v
+    → (value_where (plain_eq k) ps ≡ Some v → IsValueAt k ps v) → IsValueAt k (pair l w ps) v
+told_by true k l w v ps is e rest = (0, (is, e))
+told_by false k l w v ps is e rest = let r = rest e in (suc r.0, r.1)
 
-not_beyond : (k : PlainValue) (i : ℕ) (ps : PlainPairs) → is_key_at k i ps ≡ true → None ≡ value_in_place i ps → ⊥
-not_beyond k i no_pairs h e = absurd (cc)
-not_beyond k zero (pair l w ps) h e = absurd (cc)
-not_beyond k (suc i) (pair l w ps) h e = not_beyond k i ps h e
+told_at : (k v : PlainValue) (ps : PlainPairs) → value_where (plain_eq k) ps ≡ Some v → IsValueAt k ps v
+told_at k v no_pairs e = absurd (cc)
+told_at k v (pair l w ps) e = told_by (plain_eq k l) k l w v ps refl e (told_at k v ps)
 
-pub taken_out : (k : PlainValue) (ps new : PlainPairs) (place : Option ℕ) (o : Option PlainValue)
-    → IfSome place (λ i. is_key_at k i ps ≡ true) → new ≡ without_found place ps
-    → o ≡ option_and_then (λ i. value_in_place i ps) place → IsTakenOut k ps new o
-taken_out k ps new None None found after e = after
-taken_out k ps new None (Some v) found after e = absurd (cc)
-taken_out k ps new (Some i) None found after e = absurd (not_beyond k i ps found e)
-taken_out k ps new (Some i) (Some v) found after e = (i, (found, sym e), after)
+-- what is found at a key is the value of a pair with it
+pub told : {V : Type 0} (k : PlainValue) (ps : PlainPairs) (see : V → PlainValue) (r : Option V)
+    → option_map see r ≡ value_where (plain_eq k) ps → IfSome r (λ v. IsValueAt k ps (see v))
+told k ps see None e = tt
+told k ps see (Some v) e = told_at k (see v) ps (sym e)
+
+taken_by : (b : Bool) (k l w : PlainValue) (ps : PlainPairs) (o : Option PlainValue) → plain_eq k l ≡ b
+    → o ≡ (if b then Some w else value_where (plain_eq k) ps)
+    → ((u : Option PlainValue) → u ≡ value_where (plain_eq k) ps → IsTakenOut k ps (without_key k ps) u)
+    → IsTakenOut k (pair l w ps) (if b then ps else pair l w (without_key k ps)) o
+taken_by true k l w ps None is e rest = absurd (cc)
+taken_by true k l w ps (Some v) is e rest = (0, (is, sym e), refl)
+taken_by false k l w ps None is e rest = ap (pair l w) (rest None e)
+taken_by false k l w ps (Some v) is e rest = let r = rest (Some v) e in (suc r.0, r.1, ap (pair l w) r.2)
+
+-- what is taken out at a key was the value of a pair with it
+pub taken_out : (k : PlainValue) (ps : PlainPairs) (o : Option PlainValue) → o ≡ value_where (plain_eq k) ps
+    → IsTakenOut k ps (without_key k ps) o
+taken_out k no_pairs None e = refl
+taken_out k no_pairs (Some v) e = absurd (cc)
+taken_out k (pair l w ps) o e = taken_by (plain_eq k l) k l w ps o refl e (λ u f. taken_out k ps u f)
+
+is_put_by : (b : Bool) (k v l w : PlainValue) (ps : PlainPairs) (o : Option PlainValue) → plain_eq k l ≡ b
+    → o ≡ (if b then Some w else value_where (plain_eq k) ps)
+    → ((u : Option PlainValue) → u ≡ value_where (plain_eq k) ps → IsPut k v ps (with_pair k v ps) u)
+    → IsPut k v (pair l w ps) (if b then pair l v ps else pair l w (with_pair k v ps)) o
+is_put_by true k v l w ps None is e rest = absurd (cc)
+is_put_by true k v l w ps (Some u) is e rest = (0, (is, sym e), refl)
+is_put_by false k v l w ps None is e rest = ap (pair l w) (rest None e)
+is_put_by false k v l w ps (Some u) is e rest = let r = rest (Some u) e in (suc r.0, r.1, ap (pair l w) r.2)
+
+-- what is put at a key is the value of a pair with it, or of a new one
+pub is_put : (k v : PlainValue) (ps : PlainPairs) (o : Option PlainValue) → o ≡ value_where (plain_eq k) ps
+    → IsPut k v ps (with_pair k v ps) o
+is_put k v no_pairs None e = refl
+is_put k v no_pairs (Some u) e = absurd (cc)
+is_put k v (pair l w ps) o e = is_put_by (plain_eq k l) k v l w ps o refl e (λ u f. is_put k v ps u f)
+
+-- the pairs with a value at a key, by the place of the key
+abbrev pub with_found : Option ℕ → (key value : PlainValue) → PlainPairs → PlainPairs
+with_found None k v ps = with_last ps k v
+with_found (Some i) k v ps = with_value i v ps
+
+put_by : (b : Bool) (k v l w : PlainValue) (ps : PlainPairs) (o : Option ℕ) → with_found o k v ps ≡ with_pair k v ps
+    → with_found (if b then Some 0 else option_map suc o) k v (pair l w ps)
+    ≡ (if b then pair l v ps else pair l w (with_pair k v ps))
+put_by true k v l w ps o e = refl
+put_by false k v l w ps None e = ap (pair l w) e
+put_by false k v l w ps (Some i) e = ap (pair l w) e
+
+pub with_pair-place : (k v : PlainValue) (ps : PlainPairs)
+    → with_found (place_where (plain_eq k) ps) k v ps ≡ with_pair k v ps
+with_pair-place k v no_pairs = refl
+with_pair-place k v (pair l w ps) =
+    put_by (plain_eq k l) k v l w ps (place_where (plain_eq k) ps) (with_pair-place k v ps)
 
 -- ---- an entry that is changed
 pub entry_pairs-set : (es : List Entry) (i : ℕ) (e d : Entry) → plain_entry e ≡ plain_entry (get_or es i d)
@@ -123,11 +162,6 @@ entry_pairs-put [] i e d v same = refl
 entry_pairs-put (x ∷ es) zero e d v same = λ j. pair (same j).0 (same j).1 (entry_pairs es)
 entry_pairs-put (x ∷ es) (suc i) e d v same =
     ap (pair (plain_entry x).0 (plain_entry x).1) (entry_pairs-put es i e d v same)
-
-pub key_within : (k : PlainValue) (es : List Entry) (i : ℕ) → is_key_at k i (entry_pairs es) ≡ true → i < length es
-key_within k [] i h = absurd (cc)
-key_within k (e ∷ es) zero h = omega arith
-key_within k (e ∷ es) (suc i) h = let lt : i < length es = key_within k es i h in omega (arith, lt)
 
 -- ---- an entry that is taken out
 pub entry_pairs-remove : (es : List Entry) (i : ℕ) → entry_pairs (remove es i) ≡ without_place i (entry_pairs es)
@@ -156,3 +190,32 @@ pub without_key-place : (k : PlainValue) (ps : PlainPairs)
 without_key-place k no_pairs = refl
 without_key-place k (pair l w ps) =
     gone_by (plain_eq k l) k l w ps (place_where (plain_eq k) ps) (without_key-place k ps)
+
+-- ---- what is seen of sequences and mappings
+pub items_of-view : (vs : List Value) (s : DistinctItems) → (plain_items vs, are_distinct-plain_items vs) ≡ s
+    → plain_items vs ≡ plain_sequence s
+items_of-view vs s e = ap plain_sequence e
+
+-- the entries of a mapping are the pairs that it is seen as
+pub pairs_of-view : (es : List Entry) (m : DistinctPairs)
+    → distinct_pairs (entry_pairs es) (are_pairs_distinct-entry_pairs es) ≡ m
+    → keys_distinct (entry_pairs es) ≡ true → entry_pairs es ≡ plain_pairs m
+pairs_of-view es m e d =
+    sym (plain_pairs-distinct_pairs (entry_pairs es) (are_pairs_distinct-entry_pairs es) d) ∙ ap plain_pairs e
+
+-- a mapping made of entries with distinct keys has their pairs
+pub view-entries : (es : List Entry) → keys_distinct (entry_pairs es) ≡ true
+    → plain_pairs (distinct_pairs (entry_pairs es) (are_pairs_distinct-entry_pairs es)) ≡ entry_pairs es
+view-entries es d = plain_pairs-distinct_pairs (entry_pairs es) (are_pairs_distinct-entry_pairs es) d
+
+nowhere_by : (b : Bool) (w : PlainValue) (o : Option PlainValue) (p : Option ℕ) → (if b then Some w else o) ≡ None
+    → (o ≡ None → p ≡ None) → (if b then Some 0 else option_map suc p) ≡ None
+nowhere_by true w o p e h = absurd (cc)
+nowhere_by false w o p e h = ap (option_map suc) (h e)
+
+-- where there is no value at a key, the key has no place
+pub nowhere : (k : PlainValue) (ps : PlainPairs) → value_where (plain_eq k) ps ≡ None
+    → place_where (plain_eq k) ps ≡ None
+nowhere k no_pairs e = refl
+nowhere k (pair l w ps) e =
+    nowhere_by (plain_eq k l) w (value_where (plain_eq k) ps) (place_where (plain_eq k) ps) e (nowhere k ps)

@@ -1,7 +1,7 @@
 -- What putting a value into a value and taking one out leaves.
-use Rattle.std.specs.Prelude.{◌≡◌, ℕ, List, Option, Some, None}
+use Rattle.std.specs.Prelude.{◌≡◌, Option, Some, None}
 use Rattle.yaml_value.specs.Find.{IsPut, IsTakenOut}
-use Rattle.yaml_value.specs.PlainValue.{PlainValue, null, text, mapping, tagged, PlainPairs, no_pairs, pair}
+use Rattle.yaml_value.specs.PlainValue.{PlainValue, null, mapping, tagged, PlainPairs, no_pairs, pair}
 
 -- A value is put at a key of the mapping that a value is, under the same tags; what is null becomes a mapping of it, and
 -- what is neither stays, and gives it back.

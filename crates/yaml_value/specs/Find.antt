@@ -1,8 +1,8 @@
 -- What is found in a plain value: at a key, or under tags.
 use Rattle.std.specs.Prelude.{◌≡◌, ℕ, suc, zero, pos, Bool, true, false, if◌then◌else◌}
-use Rattle.std.specs.Prelude.{◌<◌, List, Option, Some, None, option_and_then, option_map, IfSome}
+use Rattle.std.specs.Prelude.{List, Option, Some, None, option_and_then, option_map}
 use Rattle.yaml_value.specs.PlainValue.{PlainValue, integer, text, sequence, mapping, tagged}
-use Rattle.yaml_value.specs.PlainValue.{PlainItems, no_items, item, PlainPairs, no_pairs, pair, pair_count, with_last}
+use Rattle.yaml_value.specs.PlainValue.{PlainItems, no_items, item, PlainPairs, no_pairs, pair, with_last}
 use Rattle.yaml_value.specs.PlainEqual.{plain_eq, value_where}
 
 -- the value under all its tags
@@ -109,6 +109,7 @@ abbrev pub IsPut : (key value : PlainValue) → (old new : PlainPairs) → (answ
 IsPut k v old new None = new ≡ with_last old k v
 IsPut k v old new (Some w) = (place : ℕ) × HasPairIn place k old w × (new ≡ with_value place v old)
 
--- where there are pairs, they are few
-abbrev pub HasFewPairs : Option PlainPairs → Type 0
-HasFewPairs pairs = IfSome pairs (λ ps. pair_count ps < few)
+-- the pairs with this value at this key: in the place of the first equal key, which stays, or else last
+abbrev pub with_pair : (key value : PlainValue) → PlainPairs → PlainPairs
+with_pair k v no_pairs = pair k v no_pairs
+with_pair k v (pair l w ps) = if plain_eq k l then pair l v ps else pair l w (with_pair k v ps)

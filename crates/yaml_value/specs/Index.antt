@@ -1,21 +1,19 @@
 -- The index of a mapping: chains of entries whose keys' hashes leave one remainder, kept in the entries themselves.
-use Rattle.std.specs.Prelude.{◌≡◌, ℕ, ◌<◌, ◌≤◌, ◌%◌, false, List, [], ◌∷◌, length, map}
+use Rattle.std.specs.Prelude.{◌≡◌, ℕ, ◌<◌, ◌≤◌, ◌%◌, true, List, [], ◌∷◌, length, map}
 use Rattle.yaml_tree.specs.Index.{AreChains, chain_at, chain_count, last_before}
+use Rattle.yaml_value.specs.Distinct.{keys_distinct}
 use Rattle.yaml_value.specs.Hash.{hash_of}
-use Rattle.yaml_value.specs.PlainEqual.{plain_eq}
-use Rattle.yaml_value.specs.PlainValue.{PlainValue, null, boolean, integer, text, PlainPairs, no_pairs, pair}
+use Rattle.yaml_value.specs.PlainValue.{PlainPairs, no_pairs, pair}
 use Rattle.yaml_value.specs.View.{entry_pairs}
 use Rattle.yaml_value.specs.declared.mapping.Entry.{Entry}
-use Rattle.yaml_value.specs.declared.mapping.Mapping.{Mapping}
-use Rattle.yaml_value.specs.declared.value.Value.TheViews.{out-Entry, out-Mapping}
 
 -- the first numbers that entries keep for the chains
 abbrev pub lasts_of : List Entry → List ℕ
-lasts_of es = map (λ e. (out-Entry e).last) es
+lasts_of es = map (λ e. e.last) es
 
 -- the second ones
 abbrev pub earliers_of : List Entry → List ℕ
-earliers_of es = map (λ e. (out-Entry e).earlier) es
+earliers_of es = map (λ e. e.earlier) es
 
 -- the hashes of the keys
 abbrev pub key_hashes : PlainPairs → List ℕ
@@ -41,28 +39,6 @@ chain_end hash es =
     let size = chain_count (length es) in
     last_before (chain_at size (key_hashes (entry_pairs es))) (length es) (hash % size)
 
--- it is null, a truth value, an integer or a text
-abbrev pub IsSimple : PlainValue → Type 0
-IsSimple null = Unit {0}
-IsSimple (boolean b) = Unit {0}
-IsSimple (integer z) = Unit {0}
-IsSimple (text s) = Unit {0}
-IsSimple _ = ⊥
-
--- none of these keys is simple and equal to this
-abbrev pub IsNoneAgain : PlainValue → PlainPairs → Type 0
-IsNoneAgain k no_pairs = Unit {0}
-IsNoneAgain k (pair l w ps) = (IsSimple l → plain_eq l k ≡ false) × IsNoneAgain k ps
-
--- no key that is simple is equal to one before it
-abbrev pub AreApart : PlainPairs → Type 0
-AreApart no_pairs = Unit {0}
-AreApart (pair k v ps) = IsNoneAgain k ps × AreApart ps
-
--- the entries are in their chains, and no key that is simple is equal to one before it
+-- the entries are in their chains, and no two keys are equal
 abbrev pub IsSound : List Entry → Type 0
-IsSound es = IsIndexed es × AreApart (entry_pairs es)
-
--- so are those of a mapping
-abbrev pub IsSoundMapping : Mapping → Type 0
-IsSoundMapping m = IsSound (out-Mapping m).entries.items
+IsSound es = IsIndexed es × (keys_distinct (entry_pairs es) ≡ true)

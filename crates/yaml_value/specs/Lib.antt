@@ -1,5 +1,9 @@
 -- What contracts of this crate cite.
 pub mod Change
+pub mod Code
+pub mod Distinct
+pub mod Entries
+pub mod Falls
 pub mod Find
 pub mod Forms
 pub mod Hash
@@ -10,7 +14,7 @@ pub mod Numbers
 pub mod Path
 pub mod PlainEqual
 pub mod PlainValue
-pub mod Small
+pub mod Sizes
 pub mod TagMark
 pub mod TagText
 pub mod View

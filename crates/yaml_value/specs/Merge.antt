@@ -7,7 +7,6 @@ use Rattle.yaml_base.specs.declared.error.Cause.TheVariants as cause
 use Rattle.yaml_value.specs.Find.{item_in_place, value_at, value_in_place, with_value, without_key}
 use Rattle.yaml_value.specs.PlainValue.{PlainValue, text, sequence, mapping, tagged}
 use Rattle.yaml_value.specs.PlainValue.{PlainItems, no_items, item, PlainPairs, no_pairs, pair, with_last}
-use Rattle.yaml_value.specs.Small.{IsSmall}
 
 -- what is left, and the fault
 abbrev pub Left : Type 0 → Type 0
@@ -96,13 +95,13 @@ with_item_at (suc place) v (item u vs) = item u (with_item_at place v vs)
 abbrev pub LeavesPair : ℕ → (PlainValue → Left PlainValue) → Result (Unit {0}) Cause → (old new : PlainPairs) → Type 0
 LeavesPair place f result old new =
     (v w : PlainValue) × (value_in_place place old ≡ Some v) × (new ≡ with_value place w old)
-    × (IsSmall v → IsSmall (f v).0 → Leaves result w (f v))
+    × Leaves result w (f v)
 
 -- the same at the item in a place
 abbrev pub LeavesItem : ℕ → (PlainValue → Left PlainValue) → Result (Unit {0}) Cause → (old new : PlainItems) → Type 0
 LeavesItem place f result old new =
     (v w : PlainValue) × (item_in_place place old ≡ Some v) × (new ≡ with_item_at place w old)
-    × (IsSmall v → IsSmall (f v).0 → Leaves result w (f v))
+    × Leaves result w (f v)
 
 -- so many values one within the other are gone into
 abbrev pub merge_nestings : ℕ

@@ -1,16 +1,16 @@
 -- The plain value that a `Value` stands for.
-use Rattle.std.specs.Prelude.{ℕ, List, [], ◌∷◌, map, pos, string_bytes}
+use Rattle.std.specs.Prelude.{◌≡◌, ◌&&◌, ℕ, List, [], ◌∷◌, pos, string_bytes, true, refl}
+pub use Rattle.yaml_value.specs.Distinct.{plain_sequence, plain_pairs, plain_tagged}
+use Rattle.yaml_value.specs.Distinct.{is_distinct, are_distinct, are_pairs_distinct}
 use Rattle.yaml_value.specs.PlainValue.{PlainValue, null, boolean, integer, float, text, sequence, mapping, tagged}
 use Rattle.yaml_value.specs.PlainValue.{PlainItems, no_items, item, PlainPairs, no_pairs, pair}
 use Rattle.yaml_value.specs.declared.number.Form.{Form}
 use Rattle.yaml_value.specs.declared.number.Form.TheVariants as form
 use Rattle.yaml_value.specs.declared.number.Number.{Number}
 use Rattle.yaml_value.specs.declared.tag.Tag.{Tag}
-use Rattle.yaml_value.specs.declared.mapping.Entry.{Entry, fold-Entry}
-use Rattle.yaml_value.specs.declared.mapping.Mapping.{Mapping, fold-Mapping}
-use Rattle.yaml_value.specs.declared.value.TaggedValue.{TaggedValue, fold-TaggedValue}
-use Rattle.yaml_value.specs.declared.value.Value.{Value, fold-Value}
-use Rattle.yaml_value.specs.declared.value.Value.TheOpen.{Value-F, Entry-F, Mapping-F, TaggedValue-F}
+use Rattle.yaml_value.specs.declared.mapping.Entry.{Entry}
+use Rattle.yaml_value.specs.declared.value.Value.{Value}
+use Rattle.yaml_value.specs.declared.value.Value.TheVariants as V
 
 -- the plain value of a number
 abbrev pub plain_form : Form → PlainValue
@@ -25,61 +25,53 @@ plain_number number = plain_form number.form
 abbrev pub tag_text : Tag → List ℕ
 tag_text tag = string_bytes tag.text
 
--- a list of plain values as the items of one
-abbrev pub items_of : List PlainValue → PlainItems
-items_of [] = no_items
-items_of (v ∷ vs) = item v (items_of vs)
-
--- a list of keys with values as the pairs of one
-abbrev pub pairs_of : List (PlainValue × PlainValue) → PlainPairs
-pairs_of [] = no_pairs
-pairs_of (p ∷ ps) = pair p.0 p.1 (pairs_of ps)
-
--- what a value, an entry, a mapping and a tagged value are seen as, one level of each, with its parts seen already
-abbrev pub value_level : Value-F PlainValue (PlainValue × PlainValue) PlainPairs (List ℕ × PlainValue) → PlainValue
-value_level Value-F.Null = null
-value_level (Value-F.Bool b) = boolean b
-value_level (Value-F.Number n) = plain_number n
-value_level (Value-F.String s) = text (string_bytes s)
-value_level (Value-F.Sequence v) = sequence (items_of v.items)
-value_level (Value-F.Mapping ps) = mapping ps
-value_level (Value-F.Tagged t) = tagged t.value.0 t.value.1
-
-abbrev pub entry_level : Entry-F PlainValue (PlainValue × PlainValue) PlainPairs (List ℕ × PlainValue)
-    → PlainValue × PlainValue
-entry_level e = (e.key, e.value)
-
-abbrev pub mapping_level : Mapping-F PlainValue (PlainValue × PlainValue) PlainPairs (List ℕ × PlainValue) → PlainPairs
-mapping_level m = pairs_of m.entries.items
-
-abbrev pub tagged_level : TaggedValue-F PlainValue (PlainValue × PlainValue) PlainPairs (List ℕ × PlainValue)
-    → List ℕ × PlainValue
-tagged_level t = (tag_text t.tag, t.value)
-
 -- the plain value of a value
 abbrev pub plain : Value → PlainValue
-plain = fold-Value PlainValue (PlainValue × PlainValue) PlainPairs (List ℕ × PlainValue)
-    value_level entry_level mapping_level tagged_level
-
--- a key with its value, each as a plain value
-abbrev pub plain_entry : Entry → PlainValue × PlainValue
-plain_entry = fold-Entry PlainValue (PlainValue × PlainValue) PlainPairs (List ℕ × PlainValue)
-    value_level entry_level mapping_level tagged_level
-
--- the plain pairs of a mapping
-abbrev pub plain_pairs : Mapping → PlainPairs
-plain_pairs = fold-Mapping PlainValue (PlainValue × PlainValue) PlainPairs (List ℕ × PlainValue)
-    value_level entry_level mapping_level tagged_level
-
--- the text of a tag with the plain value under it
-abbrev pub plain_tagged : TaggedValue → List ℕ × PlainValue
-plain_tagged = fold-TaggedValue PlainValue (PlainValue × PlainValue) PlainPairs (List ℕ × PlainValue)
-    value_level entry_level mapping_level tagged_level
+plain V.Null = null
+plain (V.Bool b) = boolean b
+plain (V.Number n) = plain_number n
+plain (V.String s) = text (string_bytes s)
+plain (V.Sequence s) = sequence (plain_sequence s)
+plain (V.Mapping m) = mapping (plain_pairs m)
+plain (V.Tagged t) = tagged (plain_tagged t.value).0 (plain_tagged t.value).1
 
 -- the plain items of a list of values
 abbrev pub plain_items : List Value → PlainItems
-plain_items vs = items_of (map plain vs)
+plain_items [] = no_items
+plain_items (v ∷ vs) = item (plain v) (plain_items vs)
+
+-- a key with its value, each as a plain value
+abbrev pub plain_entry : Entry → PlainValue × PlainValue
+plain_entry e = (plain e.key, plain e.value)
 
 -- the plain pairs of a list of entries
 abbrev pub entry_pairs : List Entry → PlainPairs
-entry_pairs es = pairs_of (map plain_entry es)
+entry_pairs [] = no_pairs
+entry_pairs (e ∷ es) = pair (plain e.key) (plain e.value) (entry_pairs es)
+
+-- of a number no mapping is a part
+is_distinct-form : (f : Form) → is_distinct (plain_form f) ≡ true
+is_distinct-form (form.Unsigned n) = refl
+is_distinct-form (form.Negative z) = refl
+is_distinct-form (form.Float x) = refl
+
+-- in no mapping of a value a key stands twice
+pub is_distinct-plain : (v : Value) → is_distinct (plain v) ≡ true
+is_distinct-plain V.Null = refl
+is_distinct-plain (V.Bool b) = refl
+is_distinct-plain (V.Number n) = is_distinct-form n.form
+is_distinct-plain (V.String s) = refl
+is_distinct-plain (V.Sequence s) = s.1
+is_distinct-plain (V.Mapping m) = m.1
+is_distinct-plain (V.Tagged t) = t.value.1.1
+
+-- so it is of each value of a list
+pub are_distinct-plain_items : (vs : List Value) → are_distinct (plain_items vs) ≡ true
+are_distinct-plain_items [] = refl
+are_distinct-plain_items (v ∷ vs) = λ i. is_distinct-plain v i && are_distinct-plain_items vs i
+
+-- and of each key and value of entries
+pub are_pairs_distinct-entry_pairs : (es : List Entry) → are_pairs_distinct (entry_pairs es) ≡ true
+are_pairs_distinct-entry_pairs [] = refl
+are_pairs_distinct-entry_pairs (e ∷ es) =
+    λ i. is_distinct-plain e.key i && (is_distinct-plain e.value i && are_pairs_distinct-entry_pairs es i)

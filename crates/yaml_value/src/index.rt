@@ -10,7 +10,6 @@ ghost use Rattle.yaml_value.specs.Find.{few};
 ghost use Rattle.yaml_value.specs.Index.{IsChained, IsIndexed, IsIndexedTo, chain_end, earliers_of};
 ghost use Rattle.yaml_value.specs.Index.{key_hashes, lasts_of};
 ghost use Rattle.yaml_value.specs.View.{entry_pairs, plain_entry};
-ghost use Rattle.yaml_value.specs.declared.value.Value.TheViews.{out-Entry};
 
 use crate::mapping::Entry;
 use crate::value::hash::hash_value;
@@ -158,8 +157,8 @@ fn hash_in(entries: &Vec<Entry>, place: usize) -> u64
 // Keeps in an entry where the last one of a chain is.
 fn keep_last(entry: &mut Entry, last: usize)
     ensures pair { plain_entry entry.new ≡ plain_entry entry.old }
-    ensures last { (out-Entry entry.new).last ≡ last }
-    ensures earlier { (out-Entry entry.new).earlier ≡ (out-Entry entry.old).earlier }
+    ensures last { entry.new.last ≡ last }
+    ensures earlier { entry.new.earlier ≡ entry.old.earlier }
 {
     entry.last = last;
 }
@@ -167,8 +166,8 @@ fn keep_last(entry: &mut Entry, last: usize)
 // Keeps in an entry where the one before it is.
 fn keep_earlier(entry: &mut Entry, earlier: usize)
     ensures pair { plain_entry entry.new ≡ plain_entry entry.old }
-    ensures last { (out-Entry entry.new).last ≡ (out-Entry entry.old).last }
-    ensures earlier { (out-Entry entry.new).earlier ≡ earlier }
+    ensures last { entry.new.last ≡ entry.old.last }
+    ensures earlier { entry.new.earlier ≡ earlier }
 {
     entry.earlier = earlier;
 }

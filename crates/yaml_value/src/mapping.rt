@@ -1,24 +1,25 @@
 //! Mappings of values to values.
 
-ghost use Rattle.std.specs.Prelude.{◌≡◌, ◌==◌, ◌<◌, ◌++◌, ◌∷◌, [], None, Some, is_some, length};
+ghost use Rattle.std.specs.Borrow.{Lends, sem};
+ghost use Rattle.std.specs.Prelude.{◌≡◌, ◌<◌, ◌++◌, ◌∷◌, [], None, Some, length};
 ghost use Rattle.std.specs.Prelude.{option_and_then, option_map};
-ghost use Rattle.std.specs.Prelude.{pos, true, IfOk, IfSome, OnErr, OnOk, slice_index_or};
+ghost use Rattle.std.specs.Prelude.{IfOk, IfSome, OnErr, OnOk, slice_index_or};
 ghost use Rattle.std.specs.List.{remove};
-ghost use Rattle.std.specs.Slice.Iter.{iter_rest};
-ghost use Rattle.yaml_value.specs.Find.{few, is_key_at, place_where, value_at, value_in_place};
-ghost use Rattle.yaml_value.specs.Find.{IsPut, IsTakenOut, IsValueAt, with_value};
-ghost use Rattle.yaml_value.specs.Find.{without_found, without_key, without_place};
-ghost use Rattle.yaml_value.specs.Index.{IsSimple, IsSound, IsSoundMapping};
+ghost use Rattle.yaml_value.specs.Entries.{with_value_in};
+ghost use Rattle.yaml_value.specs.Find.{place_where, value_at, value_in_place};
+ghost use Rattle.yaml_value.specs.Find.{with_pair, with_value, without_found, without_key, without_place};
+ghost use Rattle.yaml_value.specs.Index.{IsSound};
 ghost use Rattle.yaml_value.specs.PlainEqual.{plain_eq};
-ghost use Rattle.yaml_value.specs.PlainValue.{integer, no_pairs, pair_count, text, with_last};
-ghost use Rattle.yaml_value.specs.Small.{IsSmallMapping};
-ghost use Rattle.yaml_value.specs.View.{entry_pairs, plain, plain_entry, plain_pairs};
-ghost use Rattle.yaml_value.specs.declared.value.Value.TheViews.{out-Entry};
+ghost use Rattle.yaml_value.specs.PlainValue.{pair_count, text, with_last};
+ghost use Rattle.yaml_value.specs.View.{entry_pairs, plain, plain_entry};
+ghost use Rattle.yaml_value.specs.contracts.mapping.Entry.{the_row};
+ghost use Rattle.yaml_value.specs.contracts.value.Value.{the_row as value_row};
 
 use crate::index::{index_all, index_last};
 use crate::value::Value;
 use crate::value::equal::{place_of, place_of_text};
 use std::alloc::{AllocError, Global};
+use std::marker::Model;
 use std::{mem, slice, vec};
 
 /// One pair of a mapping.
@@ -63,6 +64,35 @@ pub struct Mapping {
     pub(crate) entries: Vec<Entry>,
 }
 
+impl Model for Mapping {
+    ghost use Rattle.yaml_value.specs.Distinct.{DistinctPairs, distinct_pairs, distinct_pairs_code};
+    ghost use Rattle.yaml_value.specs.Distinct.{plain_pairs, plain_pairs-distinct_pairs};
+    ghost use Rattle.yaml_value.specs.Sizes.{pairs_size};
+
+    ghost Value = { DistinctPairs };
+
+    ghost coded = { distinct_pairs_code };
+
+    ghost use Rattle.yaml_value.specs.Index.{IsSound};
+    ghost use Rattle.yaml_value.specs.View.{entry_pairs, are_pairs_distinct-entry_pairs};
+
+    ghost view = { λ m.
+        let es = m.entries.items in
+        distinct_pairs (entry_pairs es) (are_pairs_distinct-entry_pairs es) };
+
+    ghost invariant = { λ m. IsSound m.entries.items };
+
+    ghost size = { λ m. pairs_size (plain_pairs m) };
+
+    ghost use Rattle.std.proofs.Common.{arith};
+    ghost use Rattle.yaml_value.specs.Falls.{most-Entry_le};
+
+    ghost size_decreases = { λ m h.
+        let es = m.entries.items in
+        rw (plain_pairs-distinct_pairs (entry_pairs es) (are_pairs_distinct-entry_pairs es) h.1)
+        (omega (arith, most-Entry_le es)) };
+}
+
 fn discard(_value: Value) {}
 
 // How many entries there are.
@@ -92,24 +122,16 @@ fn value_in(entries: &[Entry], place: Option<usize>) -> Option<&Value>
 
 // The value at the key that is this text.
 fn value_of_text<'e>(entries: &'e [Entry], key: &str) -> Option<&'e Value>
-    ensures found { let pairs = entry_pairs entries.now in
-        IfSome result (λ value. IsValueAt (text key.now) pairs (plain value.now)) }
-    ensures few { pair_count (entry_pairs entries.now) < few → option_map (λ value. plain value.now) result
-        ≡ value_at (text key.now) (entry_pairs entries.now) }
-    ensures sound { IsSound entries.now → option_map (λ value. plain value.now) result
-        ≡ value_at (text key.now) (entry_pairs entries.now) }
+    requires { IsSound entries.now }
+    ensures { option_map (λ value. plain value.now) result ≡ value_at (text key.now) (entry_pairs entries.now) }
 {
     value_in(entries, place_of_text(key, entries))
 }
 
 // The value at a key of any kind.
 fn value_of_key<'e>(entries: &'e [Entry], key: &Value) -> Option<&'e Value>
-    ensures found { let pairs = entry_pairs entries.now in
-        IfSome result (λ value. IsValueAt (plain key.now) pairs (plain value.now)) }
-    ensures small { IsSmallMapping (entry_pairs entries.now) → option_map (λ value. plain value.now) result
-        ≡ value_at (plain key.now) (entry_pairs entries.now) }
-    ensures sound { IsSound entries.now → IsSimple (plain key.now) → option_map (λ value. plain value.now) result
-        ≡ value_at (plain key.now) (entry_pairs entries.now) }
+    requires { IsSound entries.now }
+    ensures { option_map (λ value. plain value.now) result ≡ value_at (plain key.now) (entry_pairs entries.now) }
 {
     value_in(entries, place_of(key, entries))
 }
@@ -166,67 +188,51 @@ fn value_taken(entry: Option<Entry>) -> Option<Value>
 
 // The place of the key that is this text.
 fn place_in(entries: &Vec<Entry>, key: &str) -> Option<usize>
-    ensures found { IfSome result (λ i. is_key_at (text key.now) i (entry_pairs entries.now.items) ≡ true) }
-    ensures few { pair_count (entry_pairs entries.now.items) < few
-        → result ≡ place_where (plain_eq (text key.now)) (entry_pairs entries.now.items) }
-    ensures sound { IsSound entries.now.items
-        → result ≡ place_where (plain_eq (text key.now)) (entry_pairs entries.now.items) }
+    requires { IsSound entries.now.items }
+    ensures place { result ≡ place_where (plain_eq (text key.now)) (entry_pairs entries.now.items) }
+    ensures within { IfSome result (λ i. i < length entries.now.items) }
 {
     place_of_text(key, entries.as_slice())
 }
 
+// The place of a key.
+fn place_among(entries: &Vec<Entry>, key: &Value) -> Option<usize>
+    requires { IsSound entries.now.items }
+    ensures place { result ≡ place_where (plain_eq (plain key.now)) (entry_pairs entries.now.items) }
+    ensures within { IfSome result (λ i. i < length entries.now.items) }
+{
+    place_of(key, entries.as_slice())
+}
+
 // The value of an entry, to be changed.
 fn lend_value(entry: &mut Entry) -> &mut Value
-    ensures { plain result.now ≡ (plain_entry entry.old).1 }
+    ensures* writes_back { sem 𝓛 (Lends the_row value_row entry.entry result (with_value_in entry.old)) }
+    ensures value { plain result.now ≡ (plain_entry entry.old).1 }
 {
     &mut entry.value
 }
 
-// The same of the entry in a place.
-fn lend_in(entries: &mut Vec<Entry>, place: Option<usize>) -> Option<&mut Value>
-    ensures { option_map (λ value. plain value.now) result
-        ≡ option_and_then (λ i. value_in_place i (entry_pairs entries.old.items)) place }
-{
-    match place {
-        Some(i) => {
-            if i < entries.len() {
-                Some(lend_value(&mut entries[i]))
-            } else {
-                None
-            }
-        }
-        None => None,
-    }
-}
-
-// The value at the key that is this text, to be changed.
-fn lend_at_text<'e>(entries: &'e mut Vec<Entry>, key: &str) -> Option<&'e mut Value>
-    ensures found { let pairs = entry_pairs entries.old.items in
-        IfSome result (λ value. IsValueAt (text key.now) pairs (plain value.now)) }
-    ensures few { let pairs = entry_pairs entries.old.items in
-        pair_count pairs < few → option_map (λ value. plain value.now) result ≡ value_at (text key.now) pairs }
-    ensures sound { let pairs = entry_pairs entries.old.items in
-        IsSound entries.old.items → option_map (λ value. plain value.now) result ≡ value_at (text key.now) pairs }
-{
-    let place = place_in(entries, key);
-    lend_in(entries, place)
-}
-
 // Takes the entry out whose key is this text, and answers its value.
 fn remove_text(entries: &mut Vec<Entry>, key: &str) -> Option<Value>
-    ensures taken { let old = entry_pairs entries.old.items in
-        IsTakenOut (text key.now) old (entry_pairs entries.new.items) (option_map plain result) }
+    requires { IsSound entries.old.items }
     ensures after { let old = entry_pairs entries.old.items in
-        pair_count old < few → entry_pairs entries.new.items ≡ without_key (text key.now) old }
-    ensures answer { let old = entry_pairs entries.old.items in
-        pair_count old < few → option_map plain result ≡ value_at (text key.now) old }
-    ensures sound_after { let old = entry_pairs entries.old.items in
-        IsSound entries.old.items → entry_pairs entries.new.items ≡ without_key (text key.now) old }
-    ensures sound_answer { let old = entry_pairs entries.old.items in
-        IsSound entries.old.items → option_map plain result ≡ value_at (text key.now) old }
-    ensures sound { IsSound entries.old.items → IsSound entries.new.items }
+        entry_pairs entries.new.items ≡ without_key (text key.now) old }
+    ensures answer { option_map plain result ≡ value_at (text key.now) (entry_pairs entries.old.items) }
+    ensures sound { IsSound entries.new.items }
 {
     let place = place_in(entries, key);
+    value_taken(taken_from(entries, place))
+}
+
+// The same of a key of any kind.
+fn remove_key(entries: &mut Vec<Entry>, key: &Value) -> Option<Value>
+    requires { IsSound entries.old.items }
+    ensures after { let old = entry_pairs entries.old.items in
+        entry_pairs entries.new.items ≡ without_key (plain key.now) old }
+    ensures answer { option_map plain result ≡ value_at (plain key.now) (entry_pairs entries.old.items) }
+    ensures sound { IsSound entries.new.items }
+{
+    let place = place_among(entries, key);
     value_taken(taken_from(entries, place))
 }
 
@@ -260,7 +266,7 @@ fn add(entries: &mut Vec<Entry>, key: Value, value: Value) -> Result<(), AllocEr
         OnOk result (entry_pairs entries.new.items ≡ with_last old (plain key) (plain value)) }
     ensures err { OnErr result (entry_pairs entries.new.items ≡ entry_pairs entries.old.items) }
     ensures sound { let old = entry_pairs entries.old.items in IsSound entries.old.items
-        → (IsSimple (plain key) → place_where (plain_eq (plain key)) old ≡ None) → IsSound entries.new.items }
+        → place_where (plain_eq (plain key)) old ≡ None → IsSound entries.new.items }
 {
     push_entry(entries, new_entry(key, value))?;
     index_last(entries);
@@ -271,8 +277,8 @@ fn add(entries: &mut Vec<Entry>, key: Value, value: Value) -> Result<(), AllocEr
 fn put_value(entry: &mut Entry, value: Value) -> Value
     ensures after { plain_entry entry.new ≡ ((plain_entry entry.old).0, plain value) }
     ensures answer { plain result ≡ (plain_entry entry.old).1 }
-    ensures last { (out-Entry entry.new).last ≡ (out-Entry entry.old).last }
-    ensures earlier { (out-Entry entry.new).earlier ≡ (out-Entry entry.old).earlier }
+    ensures last { entry.new.last ≡ entry.old.last }
+    ensures earlier { entry.new.earlier ≡ entry.old.earlier }
 {
     mem::replace(&mut entry.value, value)
 }
@@ -287,35 +293,19 @@ fn put_in(entries: &mut Vec<Entry>, i: usize, value: Value) -> Value
     put_value(&mut entries[i], value)
 }
 
-// The place of a key.
-fn place_among(entries: &Vec<Entry>, key: &Value) -> Option<usize>
-    ensures found { IfSome result (λ i. is_key_at (plain key.now) i (entry_pairs entries.now.items) ≡ true) }
-    ensures sound { IsSound entries.now.items → IsSimple (plain key.now)
-        → result ≡ place_where (plain_eq (plain key.now)) (entry_pairs entries.now.items) }
-{
-    place_of(key, entries.as_slice())
-}
-
-// Takes the entry out that has this key, and answers its value.
-fn remove_key(entries: &mut Vec<Entry>, key: &Value) -> Option<Value>
-    ensures taken { let old = entry_pairs entries.old.items in
-        IsTakenOut (plain key.now) old (entry_pairs entries.new.items) (option_map plain result) }
-    ensures sound { IsSound entries.old.items → IsSound entries.new.items }
-{
-    let place = place_among(entries, key);
-    value_taken(taken_from(entries, place))
-}
-
 // Puts a value at a key, and answers the one that was there.
 fn insert_pair(
     entries: &mut Vec<Entry>,
     key: Value,
     value: Value,
 ) -> Result<Option<Value>, AllocError>
-    ensures put { IfOk result (λ told. IsPut (plain key) (plain value) (entry_pairs entries.old.items)
-        (entry_pairs entries.new.items) (option_map plain told)) }
+    requires { IsSound entries.old.items }
+    ensures ok { let old = entry_pairs entries.old.items in
+        OnOk result (entry_pairs entries.new.items ≡ with_pair (plain key) (plain value) old) }
+    ensures told { let old = entry_pairs entries.old.items in
+        IfOk result (λ told. option_map plain told ≡ value_at (plain key) old) }
     ensures err { OnErr result (entry_pairs entries.new.items ≡ entry_pairs entries.old.items) }
-    ensures sound { IsSound entries.old.items → IsSound entries.new.items }
+    ensures sound { IsSound entries.new.items }
 {
     match place_among(entries, &key) {
         Some(place) => {
@@ -330,10 +320,18 @@ fn insert_pair(
 }
 
 impl Mapping {
+    ghost use Rattle.std.specs.Prelude.{◌≡◌, ◌==◌, ◌<◌, None, Some, is_some, option_map};
+    ghost use Rattle.std.specs.Prelude.{IfOk, IfSome, OnErr, OnOk, pos};
+    ghost use Rattle.std.specs.Slice.Iter.{iter_rest};
+    ghost use Rattle.yaml_value.specs.Find.{IsPut, IsTakenOut, IsValueAt};
+    ghost use Rattle.yaml_value.specs.Find.{place_where, value_at, value_in_place, with_pair, without_key};
+    ghost use Rattle.yaml_value.specs.PlainEqual.{plain_eq};
+    ghost use Rattle.yaml_value.specs.PlainValue.{integer, no_pairs, pair_count, text, with_last};
+    ghost use Rattle.yaml_value.specs.View.{entry_pairs, plain, plain_pairs};
+
     /// The empty mapping. It takes no memory until a pair goes in.
     pub fn new(alloc: Global) -> Mapping
-        ensures pairs { plain_pairs result ≡ no_pairs }
-        ensures sound { IsSoundMapping result }
+        ensures { plain_pairs result ≡ no_pairs }
     {
         Mapping {
             entries: Vec::new(alloc),
@@ -358,9 +356,7 @@ impl Mapping {
     pub fn get(&self, key: &str) -> Option<&Value>
         ensures found { let pairs = plain_pairs self.now in
             IfSome result (λ value. IsValueAt (text key.now) pairs (plain value.now)) }
-        ensures few { pair_count (plain_pairs self.now) < few → option_map (λ value. plain value.now) result
-            ≡ value_at (text key.now) (plain_pairs self.now) }
-        ensures sound { IsSoundMapping self.now → option_map (λ value. plain value.now) result
+        ensures value { option_map (λ value. plain value.now) result
             ≡ value_at (text key.now) (plain_pairs self.now) }
     {
         value_of_text(self.entries.as_slice(), key)
@@ -370,17 +366,15 @@ impl Mapping {
     pub fn get_at(&self, key: &Value) -> Option<&Value>
         ensures found { let pairs = plain_pairs self.now in
             IfSome result (λ value. IsValueAt (plain key.now) pairs (plain value.now)) }
-        ensures small { IsSmallMapping (plain_pairs self.now) → option_map (λ value. plain value.now) result
+        ensures value { option_map (λ value. plain value.now) result
             ≡ value_at (plain key.now) (plain_pairs self.now) }
-        ensures sound { IsSoundMapping self.now → IsSimple (plain key.now)
-            → option_map (λ value. plain value.now) result ≡ value_at (plain key.now) (plain_pairs self.now) }
     {
         value_of_key(self.entries.as_slice(), key)
     }
 
     /// The value at the key that is this number.
     pub(crate) fn at_number(&self, number: usize) -> Option<&Value>
-        ensures { IsSmallMapping (plain_pairs self.now) → option_map (λ value. plain value.now) result
+        ensures { option_map (λ value. plain value.now) result
             ≡ value_at (integer (pos number)) (plain_pairs self.now) }
     {
         let key = Value::from(number);
@@ -391,24 +385,45 @@ impl Mapping {
 
     /// Whether there is a pair with this key.
     pub fn contains_key(&self, key: &str) -> bool
-        ensures few { pair_count (plain_pairs self.now) < few
-            → result ≡ is_some (value_at (text key.now) (plain_pairs self.now)) }
-        ensures sound { IsSoundMapping self.now
-            → result ≡ is_some (value_at (text key.now) (plain_pairs self.now)) }
+        ensures { result ≡ is_some (value_at (text key.now) (plain_pairs self.now)) }
     {
         self.get(key).is_some()
+    }
+
+    // Whether there is a pair with a key of any kind.
+    pub(crate) fn has(&self, key: &Value) -> bool
+        ensures { result ≡ is_some (value_at (plain key.now) (plain_pairs self.now)) }
+    {
+        self.get_at(key).is_some()
+    }
+
+    // The value of the pair in a place, to be changed.
+    fn value_mut(&mut self, place: usize) -> &mut Value
+        requires { place < pair_count (plain_pairs self.old) }
+        ensures { value_in_place place (plain_pairs self.old) ≡ Some (plain result.now) }
+    {
+        lend_value(&mut self.entries[place])
     }
 
     /// The value at the key that is this text, to be changed.
     pub fn get_mut(&mut self, key: &str) -> Option<&mut Value>
         ensures found { let pairs = plain_pairs self.old in
             IfSome result (λ value. IsValueAt (text key.now) pairs (plain value.now)) }
-        ensures few { pair_count (plain_pairs self.old) < few → option_map (λ value. plain value.now) result
-            ≡ value_at (text key.now) (plain_pairs self.old) }
-        ensures sound { IsSoundMapping self.old → option_map (λ value. plain value.now) result
+        ensures value { option_map (λ value. plain value.now) result
             ≡ value_at (text key.now) (plain_pairs self.old) }
     {
-        lend_at_text(&mut self.entries, key)
+        match self.place_of(key) {
+            Some(place) => Some(self.value_mut(place)),
+            None => None,
+        }
+    }
+
+    // The place of the key that is this text.
+    fn place_of(&self, key: &str) -> Option<usize>
+        ensures place { result ≡ place_where (plain_eq (text key.now)) (plain_pairs self.now) }
+        ensures within { IfSome result (λ i. i < pair_count (plain_pairs self.now)) }
+    {
+        place_in(&self.entries, key)
     }
 
     /// Puts a value at a key, and answers the one that was there. A new key goes last, and a key that is there keeps
@@ -416,14 +431,18 @@ impl Mapping {
     pub fn insert(&mut self, key: Value, value: Value) -> Result<Option<Value>, AllocError>
         ensures put { IfOk result (λ told. IsPut (plain key) (plain value) (plain_pairs self.old)
             (plain_pairs self.new) (option_map plain told)) }
+        ensures ok { let old = plain_pairs self.old in
+            OnOk result (plain_pairs self.new ≡ with_pair (plain key) (plain value) old) }
+        ensures told { let old = plain_pairs self.old in
+            IfOk result (λ told. option_map plain told ≡ value_at (plain key) old) }
         ensures err { OnErr result (plain_pairs self.new ≡ plain_pairs self.old) }
-        ensures sound { IsSoundMapping self.old → IsSoundMapping self.new }
     {
         insert_pair(&mut self.entries, key, value)
     }
 
     // Adds a pair whose key is not there yet.
     pub(crate) fn append(&mut self, key: Value, value: Value) -> Result<(), AllocError>
+        requires { value_at (plain key) (plain_pairs self.old) ≡ None }
         ensures ok { let old = plain_pairs self.old in
             OnOk result (plain_pairs self.new ≡ with_last old (plain key) (plain value)) }
         ensures err { OnErr result (plain_pairs self.new ≡ plain_pairs self.old) }
@@ -435,15 +454,8 @@ impl Mapping {
     pub fn remove(&mut self, key: &str) -> Option<Value>
         ensures taken { let old = plain_pairs self.old in
             IsTakenOut (text key.now) old (plain_pairs self.new) (option_map plain result) }
-        ensures after { let old = plain_pairs self.old in
-            pair_count old < few → plain_pairs self.new ≡ without_key (text key.now) old }
-        ensures answer { let old = plain_pairs self.old in
-            pair_count old < few → option_map plain result ≡ value_at (text key.now) old }
-        ensures sound_after { let old = plain_pairs self.old in
-            IsSoundMapping self.old → plain_pairs self.new ≡ without_key (text key.now) old }
-        ensures sound_answer { let old = plain_pairs self.old in
-            IsSoundMapping self.old → option_map plain result ≡ value_at (text key.now) old }
-        ensures sound { IsSoundMapping self.old → IsSoundMapping self.new }
+        ensures after { let old = plain_pairs self.old in plain_pairs self.new ≡ without_key (text key.now) old }
+        ensures answer { option_map plain result ≡ value_at (text key.now) (plain_pairs self.old) }
     {
         remove_text(&mut self.entries, key)
     }
@@ -452,7 +464,8 @@ impl Mapping {
     pub fn remove_at(&mut self, key: &Value) -> Option<Value>
         ensures taken { let old = plain_pairs self.old in
             IsTakenOut (plain key.now) old (plain_pairs self.new) (option_map plain result) }
-        ensures sound { IsSoundMapping self.old → IsSoundMapping self.new }
+        ensures after { let old = plain_pairs self.old in plain_pairs self.new ≡ without_key (plain key.now) old }
+        ensures answer { option_map plain result ≡ value_at (plain key.now) (plain_pairs self.old) }
     {
         remove_key(&mut self.entries, key)
     }

@@ -4,6 +4,7 @@ mod shared;
 
 use crate::mapping::Mapping;
 use crate::number::Number;
+use crate::sequence::Sequence;
 use crate::tag::Tag;
 use crate::value::Value;
 use serde::{Deserialize, DeserializeOwned, Deserializer, Format, Kind, Name};
@@ -170,7 +171,7 @@ fn fetch<F: Format>(
         return Err(from.custom("recursion limit exceeded"));
     };
     match from.peek()? {
-        Kind::Seq => Ok(Value::Sequence(fetch_items(alloc, from, left)?)),
+        Kind::Seq => Ok(Value::Sequence(fetch_sequence(alloc, from, left)?)),
         Kind::Map => {
             let mapping = fetch_entries(alloc, from, Members::all(), left)?;
             Ok(Value::Mapping(mapping))
@@ -181,11 +182,11 @@ fn fetch<F: Format>(
 }
 
 #[cycle(fetch)]
-fn fetch_items<F: Format>(
+fn fetch_sequence<F: Format>(
     alloc: Global,
     from: &mut Deserializer<'_, '_, F>,
     nestings: usize,
-) -> Result<Vec<Value>, F::Error> {
+) -> Result<Sequence, F::Error> {
     from.begin_seq()?;
     let mut items = Vec::new(alloc);
     for _ in 0..u64::MAX {
@@ -197,7 +198,7 @@ fn fetch_items<F: Format>(
             return Err(from.no_memory());
         }
     }
-    Ok(items)
+    Ok(Sequence { items })
 }
 
 // The members of a map, but those that others use up.

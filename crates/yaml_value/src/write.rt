@@ -3,6 +3,7 @@
 use crate::mapping::{Entry, Mapping};
 use crate::number::{Form, Number};
 use crate::rest::Shared;
+use crate::sequence::Sequence;
 use crate::value::{TaggedValue, Value};
 use serde::{Case, Described, Serialize, Serializer};
 
@@ -65,7 +66,7 @@ fn send<S: Serializer>(value: &Value, out: &mut S) -> Result<(), S::Error> {
         Value::Bool(truth) => out.bool(*truth),
         Value::Number(number) => number.serialize(out),
         Value::String(text) => out.str(text.as_str()),
-        Value::Sequence(items) => send_items(items, out),
+        Value::Sequence(sequence) => send_sequence(sequence, out),
         Value::Mapping(mapping) => send_mapping(mapping, out),
         Value::Tagged(tagged) => send_tagged(tagged, out),
     }
@@ -80,9 +81,9 @@ fn send_tagged<S: Serializer>(tagged: &TaggedValue, out: &mut S) -> Result<(), S
 }
 
 #[cycle(send)]
-fn send_items<S: Serializer>(items: &Vec<Value>, out: &mut S) -> Result<(), S::Error> {
-    out.begin_seq(Some(items.len()))?;
-    for item in items {
+fn send_sequence<S: Serializer>(sequence: &Sequence, out: &mut S) -> Result<(), S::Error> {
+    out.begin_seq(Some(sequence.items.len()))?;
+    for item in &sequence.items {
         send(item, out)?;
     }
     out.end_seq()

@@ -2,7 +2,7 @@
 
 ghost use Rattle.std.specs.Prelude.{◌≡◌, IfOk, IfSome, IsSomeAnd, OnErr, option_and_then, option_map};
 ghost use Rattle.yaml_value.specs.Change.{Inserts, Removes};
-ghost use Rattle.yaml_value.specs.Find.{HasFewPairs, IsValueAt, get, item_in_place, items_in, pairs_in};
+ghost use Rattle.yaml_value.specs.Find.{IsValueAt, get, item_in_place, items_in, pairs_in};
 ghost use Rattle.yaml_value.specs.PlainValue.{null, tagged, text as plain_text};
 ghost use Rattle.yaml_value.specs.View.{plain, plain_items, plain_pairs, plain_tagged, tag_text};
 
@@ -68,8 +68,7 @@ fn put_under(
 #[cycle(remove)]
 fn remove_at(value: &mut Value, key: &str) -> Option<Value>
     ensures taken { Removes (plain_text key.now) (plain value.old) (plain value.new) (option_map plain result) }
-    ensures few { HasFewPairs (pairs_in (plain value.old)) → option_map plain result
-        ≡ get key.now (plain value.old) }
+    ensures answer { option_map plain result ≡ get key.now (plain value.old) }
 {
     match value.take() {
         Value::Mapping(mut mapping) => {
@@ -95,8 +94,7 @@ fn remove_under(tagged: &mut TaggedValue, key: &str) -> Option<Value>
     ensures tag { (plain_tagged tagged.new).0 ≡ (plain_tagged tagged.old).0 }
     ensures taken { Removes (plain_text key.now) (plain_tagged tagged.old).1 (plain_tagged tagged.new).1
         (option_map plain result) }
-    ensures few { HasFewPairs (pairs_in (plain_tagged tagged.old).1) → option_map plain result
-        ≡ get key.now (plain_tagged tagged.old).1 }
+    ensures answer { option_map plain result ≡ get key.now (plain_tagged tagged.old).1 }
 {
     remove_at(&mut tagged.value, key)
 }
@@ -121,7 +119,7 @@ impl Value {
         ensures value { option_map (λ items. plain_items items.now.items) result ≡ items_in (plain self.old) }
     {
         match self {
-            Value::Sequence(items) => Some(items),
+            Value::Sequence(sequence) => Some(&mut sequence.items),
             Value::Tagged(tagged) => tagged.value.as_sequence_mut(),
             _ => None,
         }
@@ -142,8 +140,7 @@ impl Value {
     pub fn get_mut(&mut self, key: &str) -> Option<&mut Value>
         ensures found { IfSome result (λ value. IsSomeAnd (pairs_in (plain self.old))
             (λ pairs. IsValueAt (plain_text key.now) pairs (plain value.now))) }
-        ensures few { HasFewPairs (pairs_in (plain self.old)) → option_map (λ value. plain value.now) result
-            ≡ get key.now (plain self.old) }
+        ensures value { option_map (λ value. plain value.now) result ≡ get key.now (plain self.old) }
     {
         self.as_mapping_mut()?.get_mut(key)
     }
@@ -180,8 +177,7 @@ impl Value {
     /// Takes the value at a key that is a text out of the mapping that it is. The others stay in their order.
     pub fn remove(&mut self, key: &str) -> Option<Value>
         ensures taken { Removes (plain_text key.now) (plain self.old) (plain self.new) (option_map plain result) }
-        ensures few { HasFewPairs (pairs_in (plain self.old)) → option_map plain result
-            ≡ get key.now (plain self.old) }
+        ensures answer { option_map plain result ≡ get key.now (plain self.old) }
     {
         remove_at(self, key)
     }

@@ -1,9 +1,11 @@
 //! Copies of values.
 
 ghost use Rattle.std.specs.Prelude.{◌≡◌, IfOk};
-ghost use Rattle.yaml_value.specs.View.{plain, plain_entry, plain_items, plain_pairs, plain_tagged};
+ghost use Rattle.yaml_value.specs.View.{plain, plain_pairs, plain_sequence, plain_tagged};
+ghost use Rattle.yaml_value.specs.Entries.{SameEntry};
 
 use crate::mapping::{Entry, Mapping};
+use crate::sequence::Sequence;
 use crate::value::{TaggedValue, Value};
 use std::alloc::{AllocError, Global};
 
@@ -34,7 +36,7 @@ fn copy_value(alloc: Global, value: &Value) -> Result<Value, AllocError>
         Value::Bool(truth) => Ok(Value::Bool(*truth)),
         Value::Number(number) => Ok(Value::Number(*number)),
         Value::String(text) => Ok(Value::String(text.clone()?)),
-        Value::Sequence(items) => Ok(Value::Sequence(copy_items(alloc, items)?)),
+        Value::Sequence(sequence) => Ok(Value::Sequence(copy_sequence(alloc, sequence)?)),
         Value::Mapping(mapping) => Ok(Value::Mapping(copy_mapping(alloc, mapping)?)),
         Value::Tagged(tagged) => {
             let copied = copy_tagged(alloc, tagged)?;
@@ -53,14 +55,14 @@ fn copy_tagged(alloc: Global, tagged: &TaggedValue) -> Result<TaggedValue, Alloc
 }
 
 #[cycle(copy)]
-fn copy_items(alloc: Global, items: &Vec<Value>) -> Result<Vec<Value>, AllocError>
-    ensures { IfOk result (λ copied. plain_items copied.items ≡ plain_items items.now.items) }
+fn copy_sequence(alloc: Global, sequence: &Sequence) -> Result<Sequence, AllocError>
+    ensures { IfOk result (λ copied. plain_sequence copied ≡ plain_sequence sequence.now) }
 {
-    let mut copies = Vec::with_capacity(alloc, items.len())?;
-    for item in items {
-        copies.push(copy_value(alloc, item)?)?;
+    let mut items = Vec::with_capacity(alloc, sequence.items.len())?;
+    for item in &sequence.items {
+        items.push(copy_value(alloc, item)?)?;
     }
-    Ok(copies)
+    Ok(Sequence { items })
 }
 
 #[cycle(copy)]
@@ -69,14 +71,15 @@ fn copy_mapping(alloc: Global, mapping: &Mapping) -> Result<Mapping, AllocError>
 {
     let mut entries = Vec::with_capacity(alloc, mapping.entries.len())?;
     for entry in &mapping.entries {
-        entries.push(copy_entry(alloc, entry)?)?;
+        let copied = copy_entry(alloc, entry)?;
+        entries.push(copied)?;
     }
     Ok(Mapping { entries })
 }
 
 #[cycle(copy)]
 fn copy_entry(alloc: Global, entry: &Entry) -> Result<Entry, AllocError>
-    ensures { IfOk result (λ copied. plain_entry copied ≡ plain_entry entry.now) }
+    ensures { IfOk result (λ copied. SameEntry copied entry.now) }
 {
     let key = copy_value(alloc, &entry.key)?;
     let value = copy_value(alloc, &entry.value)?;

@@ -1,18 +1,18 @@
 //! Equality of values.
 
-ghost use Rattle.std.specs.Prelude.{◌≡◌, ◌<◌, true, length, IfSome};
+ghost use Rattle.std.specs.Prelude.{◌≡◌, ◌<◌, length, IfSome};
 ghost use Rattle.yaml_tree.specs.Index.{chain_count};
-ghost use Rattle.yaml_value.specs.Find.{few, is_key_at, place_where};
+ghost use Rattle.yaml_value.specs.Find.{place_where};
 ghost use Rattle.yaml_value.specs.Hash.{hash_of, text_hash};
-ghost use Rattle.yaml_value.specs.Index.{IsSimple, IsSound, chain_end};
+ghost use Rattle.yaml_value.specs.Index.{IsSound, chain_end};
 ghost use Rattle.yaml_value.specs.PlainEqual.{entry_eq, has_all_pairs, has_pair, items_eq, pairs_eq};
 ghost use Rattle.yaml_value.specs.PlainEqual.{plain_eq, tagged_eq};
-ghost use Rattle.yaml_value.specs.PlainValue.{pair_count, text as plain_text};
-ghost use Rattle.yaml_value.specs.Small.{AreItemsSmall, ArePairsSmall, IsSmall, IsSmallMapping};
-ghost use Rattle.yaml_value.specs.View.{entry_pairs, plain, plain_entry, plain_items, plain_pairs, plain_tagged};
+ghost use Rattle.yaml_value.specs.PlainValue.{text as plain_text};
+ghost use Rattle.yaml_value.specs.View.{entry_pairs, plain, plain_entry, plain_pairs, plain_sequence, plain_tagged};
 
 use crate::index::{chain_count, earlier_at, first_of};
 use crate::mapping::{Entry, Mapping, count};
+use crate::sequence::Sequence;
 use crate::value::hash::{hash_text, hash_value};
 use crate::value::{TaggedValue, Value};
 
@@ -20,8 +20,7 @@ impl Value {
     /// Whether both are the same value: mappings in whatever order their pairs stand, tags by their names, integers by
     /// value, and a float that is no number as itself. An integer is no float.
     pub fn equals(&self, other: &Value) -> bool
-        ensures equal { result ≡ true → plain_eq (plain self.now) (plain other.now) ≡ true }
-        ensures small { IsSmall (plain other.now) → result ≡ plain_eq (plain self.now) (plain other.now) }
+        ensures { result ≡ plain_eq (plain self.now) (plain other.now) }
     {
         same_value(self, other)
     }
@@ -30,9 +29,7 @@ impl Value {
 impl Mapping {
     /// Whether both have the same pairs, in whatever order.
     pub fn equals(&self, other: &Mapping) -> bool
-        ensures equal { result ≡ true → pairs_eq (plain_pairs self.now) (plain_pairs other.now) ≡ true }
-        ensures small { IsSmallMapping (plain_pairs other.now)
-            → result ≡ pairs_eq (plain_pairs self.now) (plain_pairs other.now) }
+        ensures { result ≡ pairs_eq (plain_pairs self.now) (plain_pairs other.now) }
     {
         same_pairs(self, other)
     }
@@ -40,9 +37,7 @@ impl Mapping {
 
 #[cycle(same)]
 fn same_value(a: &Value, b: &Value) -> bool
-    ensures equal { result ≡ true → plain_eq (plain a.now) (plain b.now) ≡ true }
-    ensures small { IsSmall (plain b.now) → result ≡ plain_eq (plain a.now) (plain b.now) }
-    ensures simple { IsSimple (plain a.now) → result ≡ plain_eq (plain a.now) (plain b.now) }
+    ensures { result ≡ plain_eq (plain a.now) (plain b.now) }
 {
     match (a, b) {
         (Value::Null, Value::Null) => true,
@@ -58,21 +53,17 @@ fn same_value(a: &Value, b: &Value) -> bool
 
 #[cycle(same)]
 fn same_tagged(a: &TaggedValue, b: &TaggedValue) -> bool
-    ensures equal { result ≡ true → tagged_eq (plain_tagged a.now) (plain_tagged b.now) ≡ true }
-    ensures small { IsSmall (plain_tagged b.now).1
-        → result ≡ tagged_eq (plain_tagged a.now) (plain_tagged b.now) }
+    ensures { result ≡ tagged_eq (plain_tagged a.now) (plain_tagged b.now) }
 {
     a.tag.equals(&b.tag) && same_value(&a.value, &b.value)
 }
 
 #[cycle(same)]
-fn same_items(a: &Vec<Value>, b: &Vec<Value>) -> bool
-    ensures equal { result ≡ true → items_eq (plain_items a.now.items) (plain_items b.now.items) ≡ true }
-    ensures small { AreItemsSmall (plain_items b.now.items)
-        → result ≡ items_eq (plain_items a.now.items) (plain_items b.now.items) }
+fn same_items(a: &Sequence, b: &Sequence) -> bool
+    ensures { result ≡ items_eq (plain_sequence a.now) (plain_sequence b.now) }
 {
-    let left = a.as_slice();
-    let right = b.as_slice();
+    let left = a.items.as_slice();
+    let right = b.items.as_slice();
     if left.len() != right.len() {
         return false;
     }
@@ -86,9 +77,7 @@ fn same_items(a: &Vec<Value>, b: &Vec<Value>) -> bool
 
 #[cycle(same)]
 fn same_pairs(a: &Mapping, b: &Mapping) -> bool
-    ensures equal { result ≡ true → pairs_eq (plain_pairs a.now) (plain_pairs b.now) ≡ true }
-    ensures small { IsSmallMapping (plain_pairs b.now)
-        → result ≡ pairs_eq (plain_pairs a.now) (plain_pairs b.now) }
+    ensures { result ≡ pairs_eq (plain_pairs a.now) (plain_pairs b.now) }
 {
     let wanted = a.entries.as_slice();
     let entries = b.entries.as_slice();
@@ -101,9 +90,8 @@ fn same_pairs(a: &Mapping, b: &Mapping) -> bool
 // Whether each of these entries is among the others.
 #[cycle(same)]
 fn has_all_entries(wanted: &[Entry], entries: &[Entry]) -> bool
-    ensures equal { result ≡ true → has_all_pairs (entry_pairs wanted.now) (entry_pairs entries.now) ≡ true }
-    ensures small { IsSmallMapping (entry_pairs entries.now)
-        → result ≡ has_all_pairs (entry_pairs wanted.now) (entry_pairs entries.now) }
+    requires { IsSound entries.now }
+    ensures { result ≡ has_all_pairs (entry_pairs wanted.now) (entry_pairs entries.now) }
 {
     for i in 0..wanted.len() {
         if !is_among(&wanted[i], entries) {
@@ -116,11 +104,11 @@ fn has_all_entries(wanted: &[Entry], entries: &[Entry]) -> bool
 // Whether an entry is among these, whose keys are distinct.
 #[cycle(same)]
 fn is_among(wanted: &Entry, entries: &[Entry]) -> bool
-    ensures equal { result ≡ true → has_pair (plain_entry wanted.now) (entry_pairs entries.now) ≡ true }
-    ensures small { IsSmallMapping (entry_pairs entries.now)
-        → result ≡ has_pair (plain_entry wanted.now) (entry_pairs entries.now) }
+    requires { IsSound entries.now }
+    ensures { result ≡ has_pair (plain_entry wanted.now) (entry_pairs entries.now) }
 {
-    if chain_count(count(entries)) == 0 {
+    let chains = chain_count(count(entries));
+    if chains == 0 {
         is_among_few(wanted, entries)
     } else {
         is_among_many(wanted, entries)
@@ -130,9 +118,7 @@ fn is_among(wanted: &Entry, entries: &[Entry]) -> bool
 // The same, one by one.
 #[cycle(same)]
 fn is_among_few(wanted: &Entry, entries: &[Entry]) -> bool
-    ensures equal { result ≡ true → has_pair (plain_entry wanted.now) (entry_pairs entries.now) ≡ true }
-    ensures small { ArePairsSmall (entry_pairs entries.now)
-        → result ≡ has_pair (plain_entry wanted.now) (entry_pairs entries.now) }
+    ensures { result ≡ has_pair (plain_entry wanted.now) (entry_pairs entries.now) }
 {
     for i in 0..entries.len() {
         if same_entry(wanted, &entries[i]) {
@@ -144,9 +130,7 @@ fn is_among_few(wanted: &Entry, entries: &[Entry]) -> bool
 
 #[cycle(same)]
 fn same_entry(a: &Entry, b: &Entry) -> bool
-    ensures equal { result ≡ true → entry_eq (plain_entry a.now) (plain_entry b.now) ≡ true }
-    ensures small { IsSmall (plain_entry b.now).0 → IsSmall (plain_entry b.now).1
-        → result ≡ entry_eq (plain_entry a.now) (plain_entry b.now) }
+    ensures { result ≡ entry_eq (plain_entry a.now) (plain_entry b.now) }
 {
     same_value(&a.key, &b.key) && same_value(&a.value, &b.value)
 }
@@ -154,26 +138,23 @@ fn same_entry(a: &Entry, b: &Entry) -> bool
 // The same, by the index.
 #[cycle(same)]
 fn is_among_many(wanted: &Entry, entries: &[Entry]) -> bool
-    ensures { result ≡ true → has_pair (plain_entry wanted.now) (entry_pairs entries.now) ≡ true }
+    requires sound { IsSound entries.now }
+    requires some { 0 < chain_count (length entries.now) }
+    ensures { result ≡ has_pair (plain_entry wanted.now) (entry_pairs entries.now) }
 {
-    match place_in_chain(
-        &wanted.key,
-        entries,
-        first_of(hash_value(&wanted.key), entries),
-    ) {
-        Some(place) if place < entries.len() => same_value(&wanted.value, &entries[place].value),
-        _ => false,
+    let first = first_of(hash_value(&wanted.key), entries);
+    match place_in_chain(&wanted.key, entries, first) {
+        Some(place) => same_value(&wanted.value, &entries[place].value),
+        None => false,
     }
 }
 
 /// The place of a key among entries with distinct keys: among few it is looked for one by one, among many in its chain
 /// alone.
 pub(crate) fn place_of(key: &Value, entries: &[Entry]) -> Option<usize>
-    ensures found { IfSome result (λ i. is_key_at (plain key.now) i (entry_pairs entries.now) ≡ true) }
-    ensures small { IsSmallMapping (entry_pairs entries.now)
-        → result ≡ place_where (plain_eq (plain key.now)) (entry_pairs entries.now) }
-    ensures sound { IsSound entries.now → IsSimple (plain key.now)
-        → result ≡ place_where (plain_eq (plain key.now)) (entry_pairs entries.now) }
+    requires { IsSound entries.now }
+    ensures place { result ≡ place_where (plain_eq (plain key.now)) (entry_pairs entries.now) }
+    ensures within { IfSome result (λ i. i < length entries.now) }
 {
     let chains = chain_count(count(entries));
     if chains == 0 {
@@ -183,11 +164,8 @@ pub(crate) fn place_of(key: &Value, entries: &[Entry]) -> Option<usize>
 }
 
 fn place_in_order(key: &Value, entries: &[Entry]) -> Option<usize>
-    ensures found { IfSome result (λ i. is_key_at (plain key.now) i (entry_pairs entries.now) ≡ true) }
-    ensures small { ArePairsSmall (entry_pairs entries.now)
-        → result ≡ place_where (plain_eq (plain key.now)) (entry_pairs entries.now) }
-    ensures simple { IsSimple (plain key.now)
-        → result ≡ place_where (plain_eq (plain key.now)) (entry_pairs entries.now) }
+    ensures within { IfSome result (λ i. i < length entries.now) }
+    ensures place { result ≡ place_where (plain_eq (plain key.now)) (entry_pairs entries.now) }
 {
     for i in 0..entries.len() {
         if same_value(key, &entries[i].key) {
@@ -200,10 +178,11 @@ fn place_in_order(key: &Value, entries: &[Entry]) -> Option<usize>
 // The same by the index: only the chain of the key is gone along, from its last entry to its first.
 #[cycle(same)]
 fn place_in_chain(key: &Value, entries: &[Entry], first: usize) -> Option<usize>
-    ensures found { IfSome result (λ i. is_key_at (plain key.now) i (entry_pairs entries.now) ≡ true) }
-    ensures first { IsSimple (plain key.now) → IsSound entries.now → 0 < chain_count (length entries.now)
-        → first ≡ chain_end (hash_of (plain key.now)) entries.now
-        → result ≡ place_where (plain_eq (plain key.now)) (entry_pairs entries.now) }
+    requires sound { IsSound entries.now }
+    requires some { 0 < chain_count (length entries.now) }
+    requires first { first ≡ chain_end (hash_of (plain key.now)) entries.now }
+    ensures within { IfSome result (λ i. i < length entries.now) }
+    ensures place { result ≡ place_where (plain_eq (plain key.now)) (entry_pairs entries.now) }
 {
     let mut left = first;
     for turn in 0..entries.len() {
@@ -241,11 +220,9 @@ fn has_text(entry: &Entry, text: &str) -> bool
 
 /// The place of the key of a text among entries with distinct keys. No key is made of the text.
 pub(crate) fn place_of_text(text: &str, entries: &[Entry]) -> Option<usize>
-    ensures found { IfSome result (λ i. is_key_at (plain_text text.now) i (entry_pairs entries.now) ≡ true) }
-    ensures few { pair_count (entry_pairs entries.now) < few
-        → result ≡ place_where (plain_eq (plain_text text.now)) (entry_pairs entries.now) }
-    ensures sound { IsSound entries.now
-        → result ≡ place_where (plain_eq (plain_text text.now)) (entry_pairs entries.now) }
+    requires { IsSound entries.now }
+    ensures place { result ≡ place_where (plain_eq (plain_text text.now)) (entry_pairs entries.now) }
+    ensures within { IfSome result (λ i. i < length entries.now) }
 {
     let chains = chain_count(count(entries));
     if chains == 0 {
@@ -255,8 +232,8 @@ pub(crate) fn place_of_text(text: &str, entries: &[Entry]) -> Option<usize>
 }
 
 fn text_in_order(text: &str, entries: &[Entry]) -> Option<usize>
-    ensures found { IfSome result (λ i. is_key_at (plain_text text.now) i (entry_pairs entries.now) ≡ true) }
-    ensures first { result ≡ place_where (plain_eq (plain_text text.now)) (entry_pairs entries.now) }
+    ensures within { IfSome result (λ i. i < length entries.now) }
+    ensures place { result ≡ place_where (plain_eq (plain_text text.now)) (entry_pairs entries.now) }
 {
     for i in 0..entries.len() {
         if has_text(&entries[i], text) {
@@ -268,10 +245,11 @@ fn text_in_order(text: &str, entries: &[Entry]) -> Option<usize>
 
 // The same by the index: only the chain of the text is gone along, from its last entry to its first.
 fn text_in_chain(text: &str, entries: &[Entry], first: usize) -> Option<usize>
-    ensures found { IfSome result (λ i. is_key_at (plain_text text.now) i (entry_pairs entries.now) ≡ true) }
-    ensures first { IsSound entries.now → 0 < chain_count (length entries.now)
-        → first ≡ chain_end (text_hash text.now) entries.now
-        → result ≡ place_where (plain_eq (plain_text text.now)) (entry_pairs entries.now) }
+    requires sound { IsSound entries.now }
+    requires some { 0 < chain_count (length entries.now) }
+    requires first { first ≡ chain_end (text_hash text.now) entries.now }
+    ensures within { IfSome result (λ i. i < length entries.now) }
+    ensures place { result ≡ place_where (plain_eq (plain_text text.now)) (entry_pairs entries.now) }
 {
     let mut left = first;
     for turn in 0..entries.len() {

@@ -2,6 +2,7 @@
 
 use crate::mapping::Mapping;
 use crate::number::Number;
+use crate::sequence::Sequence;
 use crate::value::Value;
 
 impl From<()> for Value {
@@ -59,7 +60,19 @@ impl From<Vec<Value>> for Value {
     ghost from_gives = { λ items value. plain value ≡ sequence (plain_items items.items) };
 
     fn from(items: Vec<Value>) -> Value {
-        Value::Sequence(items)
+        Value::Sequence(Sequence::from(items))
+    }
+}
+
+impl From<Sequence> for Value {
+    ghost use Rattle.std.specs.Prelude.{◌≡◌};
+    ghost use Rattle.yaml_value.specs.PlainValue.{sequence};
+    ghost use Rattle.yaml_value.specs.View.{plain, plain_sequence};
+
+    ghost from_gives = { λ items value. plain value ≡ sequence (plain_sequence items) };
+
+    fn from(sequence: Sequence) -> Value {
+        Value::Sequence(sequence)
     }
 }
 

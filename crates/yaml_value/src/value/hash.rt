@@ -2,10 +2,11 @@
 
 ghost use Rattle.std.specs.Prelude.{◌≡◌, ◌+◌, ◌%◌, ◌^◌};
 ghost use Rattle.yaml_value.specs.Hash.{hash_of, pair_hash, tagged_hash, text_hash};
-ghost use Rattle.yaml_value.specs.PlainValue.{mapping as plain_mapping, sequence};
-ghost use Rattle.yaml_value.specs.View.{plain, plain_entry, plain_items, plain_pairs, plain_tagged};
+ghost use Rattle.yaml_value.specs.PlainValue.{mapping as plain_mapping, sequence as sequence_of};
+ghost use Rattle.yaml_value.specs.View.{plain, plain_entry, plain_pairs, plain_sequence, plain_tagged};
 
 use crate::mapping::{Entry, Mapping};
+use crate::sequence::Sequence;
 use crate::value::{TaggedValue, Value};
 use std::hash::{FoldHasher, Hasher};
 
@@ -20,7 +21,7 @@ pub(crate) fn hash_value(key: &Value) -> u64
         Value::Bool(true) => 2,
         Value::Number(number) => number.hash(),
         Value::String(text) => hash_text(text.as_str()),
-        Value::Sequence(items) => hash_items(items),
+        Value::Sequence(sequence) => hash_items(sequence),
         Value::Mapping(mapping) => hash_mapping(mapping),
         Value::Tagged(tagged) => hash_tagged(tagged),
     }
@@ -38,11 +39,11 @@ fn hash_tagged(tagged: &TaggedValue) -> u64
 }
 
 #[cycle(hash)]
-fn hash_items(items: &Vec<Value>) -> u64
-    ensures { result ≡ hash_of (sequence (plain_items items.now.items)) }
+fn hash_items(sequence: &Sequence) -> u64
+    ensures { result ≡ hash_of (sequence_of (plain_sequence sequence.now)) }
 {
     let mut hasher = FoldHasher::default();
-    for item in items {
+    for item in &sequence.items {
         let hash = hash_value(item);
         hasher.write_u64(hash);
     }

@@ -2,7 +2,6 @@
 
 ghost use Rattle.std.specs.Prelude.{◌≡◌, option_map};
 ghost use Rattle.yaml_value.specs.Path.{Leads, LeadsAlong, LeadsTo, LeadsToPlace, parts_of};
-ghost use Rattle.yaml_value.specs.Small.{IsSmall};
 ghost use Rattle.yaml_value.specs.TagText.{behind_byte};
 ghost use Rattle.yaml_value.specs.View.{plain};
 
@@ -17,8 +16,7 @@ fn behind_slash(path: &str) -> Option<&str>
 
 // To the element in the place, or the value at the key, that this number is.
 fn in_place<'v>(from: &'v Value, part: &str) -> Option<&'v Value>
-    ensures { IsSmall (plain from.now)
-        → LeadsToPlace part.now (plain from.now) (option_map (λ value. plain value.now) result) }
+    ensures { LeadsToPlace part.now (plain from.now) (option_map (λ value. plain value.now) result) }
 {
     match part.parse::<usize>() {
         Ok(place) => from.at(place),
@@ -28,8 +26,7 @@ fn in_place<'v>(from: &'v Value, part: &str) -> Option<&'v Value>
 
 // A step of a path: to the value at this key, or to the element in this place.
 fn step<'v>(from: &'v Value, part: &str) -> Option<&'v Value>
-    ensures { IsSmall (plain from.now)
-        → Leads part.now (plain from.now) (option_map (λ value. plain value.now) result) }
+    ensures { Leads part.now (plain from.now) (option_map (λ value. plain value.now) result) }
 {
     match from.get(part) {
         Some(value) => Some(value),
@@ -39,8 +36,7 @@ fn step<'v>(from: &'v Value, part: &str) -> Option<&'v Value>
 
 // The steps of a path, each within what the one before leads to.
 fn along<'v>(from: &'v Value, path: &str) -> Option<&'v Value>
-    ensures { IsSmall (plain from.now)
-        → LeadsAlong (parts_of path.now) (plain from.now) (option_map (λ value. plain value.now) result) }
+    ensures { LeadsAlong (parts_of path.now) (plain from.now) (option_map (λ value. plain value.now) result) }
 {
     match path.split_once('/') {
         Some((part, behind)) => along(step(from, part)?, behind),
@@ -54,8 +50,7 @@ impl Value {
     /// A `/` in front is passed over, and the empty path leads to the value itself. A key with a `/` in it is reached
     /// by `get` alone. Tags on the way are looked through. Takes no memory.
     pub fn pointer(&self, path: &str) -> Option<&Value>
-        ensures { IsSmall (plain self.now)
-            → LeadsTo path.now (plain self.now) (option_map (λ value. plain value.now) result) }
+        ensures { LeadsTo path.now (plain self.now) (option_map (λ value. plain value.now) result) }
     {
         let path = behind_slash(path).unwrap_or(path);
         if path.is_empty() {

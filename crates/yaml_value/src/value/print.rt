@@ -1,6 +1,7 @@
 //! The texts of values: YAML in one line, in flow form.
 
 use crate::mapping::{Entry, Mapping};
+use crate::sequence::Sequence;
 use crate::value::{TaggedValue, Value};
 use std::fmt;
 use std::fmt::Write;
@@ -73,7 +74,7 @@ fn write_value<W: fmt::Write>(value: &Value, f: &mut fmt::Formatter<W>) -> fmt::
         Value::Bool(false) => f.write_str("false"),
         Value::Number(number) => write!(f, "{number}"),
         Value::String(text) => write_text(text.as_str(), f),
-        Value::Sequence(items) => write_items(items, f),
+        Value::Sequence(sequence) => write_sequence(sequence, f),
         Value::Mapping(mapping) => write_pairs(mapping, f),
         Value::Tagged(tagged) => write_tagged(tagged, f),
     }
@@ -87,10 +88,10 @@ fn write_tagged<W: fmt::Write>(tagged: &TaggedValue, f: &mut fmt::Formatter<W>) 
 }
 
 #[cycle(print)]
-fn write_items<W: fmt::Write>(items: &Vec<Value>, f: &mut fmt::Formatter<W>) -> fmt::Result {
+fn write_sequence<W: fmt::Write>(sequence: &Sequence, f: &mut fmt::Formatter<W>) -> fmt::Result {
     f.write_str("[")?;
     let mut is_first = true;
-    for item in items {
+    for item in &sequence.items {
         f.write_str(if is_first { "" } else { ", " })?;
         is_first = false;
         write_value(item, f)?;

@@ -4,7 +4,6 @@ use Rattle.std.proofs.Math.Seq.{map-set_same}
 use Rattle.std.proofs.lemmas.List.{length-set, map-set}
 use Rattle.yaml_value.specs.Index.{lasts_of}
 use Rattle.yaml_value.specs.View.{plain_entry}
-use Rattle.yaml_value.specs.declared.value.Value.TheViews.{out-Entry}
 use Rattle.yaml_value.proofs.Views.{entry_pairs-set}
 use Rattle.yaml_value.proofs.index.set_last.Goals as goal
 
@@ -15,13 +14,13 @@ returns-clause-pairs c =
 
 pub returns-clause-lasts : goal.returns-clause-lasts
 returns-clause-lasts c =
-    map-set (λ e. (out-Entry e).last) c.args.entries.now.items c.args.i c.keep_last.new.entry
+    map-set (λ e. e.last) c.args.entries.now.items c.args.i c.keep_last.new.entry
     ∙ ap (set (lasts_of c.args.entries.now.items) c.args.i) c.keep_last.ensures.last
 
 pub returns-clause-earliers : goal.returns-clause-earliers
 returns-clause-earliers c =
-    map-set_same (λ e. (out-Entry e).earlier) c.args.entries.now.items c.args.i c.keep_last.new.entry c.index_mut.result.now
-    (c.keep_last.ensures.earlier ∙ ap (λ e. (out-Entry e).earlier) c.index_mut.ensures.value)
+    map-set_same (λ e. e.earlier) c.args.entries.now.items c.args.i c.keep_last.new.entry c.index_mut.result.now
+    (c.keep_last.ensures.earlier ∙ ap (λ e. e.earlier) c.index_mut.ensures.value)
 
 pub returns-clause-len : goal.returns-clause-len
 returns-clause-len c = length-set c.args.entries.now.items c.args.i c.keep_last.new.entry

@@ -1,9 +1,10 @@
 -- The index changes no pair, and has all of them.
 use Rattle.std.proofs.Common.{◌≡◌, ap, subst, sym, ◌∙◌}
-use Rattle.yaml_value.specs.Index.{AreApart, IsSound}
+use Rattle.yaml_value.specs.Distinct.{keys_distinct}
+use Rattle.yaml_value.specs.Index.{IsSound}
 use Rattle.yaml_value.specs.PlainValue.{with_last}
-use Rattle.yaml_value.specs.View.{entry_pairs, plain}
-use Rattle.yaml_value.proofs.Indexed.{apart-with_last, indexed-pushed}
+use Rattle.yaml_value.specs.View.{are_pairs_distinct-entry_pairs, entry_pairs, plain}
+use Rattle.yaml_value.proofs.Indexed.{distinct-with_last, indexed-pushed}
 use Rattle.yaml_value.proofs.mapping.add.Goals as goal
 
 added : (c : goal.After-index_last)
@@ -18,13 +19,15 @@ pub returns-clause-ok : goal.returns-clause-ok
 returns-clause-ok c = added c
 
 pub returns-clause-sound : goal.returns-clause-sound
-returns-clause-sound c = λ sound new. (
-  c.index_last.ensures.indexed (λ n len.
-      indexed-pushed n c.args.entries.now.items c.push_entry.new.entries.items c.new_entry.result
-      c.in_ok-push_entry.ensures.last sound.0 len),
-  subst AreApart (sym (added c))
-      (apart-with_last (plain c.args.key) (plain c.args.value) (entry_pairs c.args.entries.now.items) sound.1 new),
-)
+returns-clause-sound c = λ sound new.
+    let es = c.args.entries.now.items in (
+      c.index_last.ensures.indexed (λ n len.
+          indexed-pushed n es c.push_entry.new.entries.items c.new_entry.result
+          c.in_ok-push_entry.ensures.last sound.0 len),
+      ap keys_distinct (added c)
+          ∙ distinct-with_last (plain c.args.key) (plain c.args.value) (entry_pairs es) sound.1
+          (are_pairs_distinct-entry_pairs es) new,
+    )
 
 pub returns-in_err-push_entry-clause-sound : goal.returns-in_err-push_entry-clause-sound
 returns-in_err-push_entry-clause-sound c = λ sound new. subst IsSound (sym c.in_err-push_entry.ensures.same) sound

@@ -1,8 +1,8 @@
 -- The others are the pairs without the one in the place.
-use Rattle.std.proofs.Common.{ap, subst, sym, ◌∙◌}
-use Rattle.yaml_value.specs.Index.{AreApart}
+use Rattle.std.proofs.Common.{ap, ◌∙◌}
+use Rattle.yaml_value.specs.Distinct.{keys_distinct}
 use Rattle.yaml_value.specs.View.{entry_pairs}
-use Rattle.yaml_value.proofs.Indexed.{apart-without_place}
+use Rattle.yaml_value.proofs.Indexed.{distinct-without_place}
 use Rattle.yaml_value.proofs.Views.{entry_pairs-remove, value_in_place-at}
 use Rattle.yaml_value.proofs.mapping.take_out.Goals as goal
 
@@ -20,5 +20,5 @@ returns-clause-sound c = λ sound.
     let after = c.index_all.ensures.pairs
     ∙ (ap entry_pairs c.removed-entry.ensures.items ∙ entry_pairs-remove c.args.entries.now.items c.args.i) in (
       c.index_all.ensures.indexed,
-      subst AreApart (sym after) (apart-without_place c.args.i (entry_pairs c.args.entries.now.items) sound.1),
+      ap keys_distinct after ∙ distinct-without_place c.args.i (entry_pairs c.args.entries.now.items) sound.1,
     )

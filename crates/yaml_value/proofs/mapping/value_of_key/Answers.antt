@@ -4,24 +4,12 @@ use Rattle.std.specs.Prelude.{option_and_then}
 use Rattle.yaml_value.specs.Find.{value_in_place}
 use Rattle.yaml_value.specs.PlainEqual.{plain_eq}
 use Rattle.yaml_value.specs.View.{entry_pairs, plain}
-use Rattle.yaml_value.proofs.Views.{told, value_where-place}
+use Rattle.yaml_value.proofs.Views.{value_where-place}
 use Rattle.yaml_value.proofs.mapping.value_of_key.Goals as goal
 
-pub returns-clause-found : goal.returns-clause-found
-returns-clause-found c =
-    told (plain c.args.key.now) (entry_pairs c.args.entries.now) c.place_of.result (λ value. plain value.now)
-    c.value_in.result c.place_of.ensures.found c.value_in.ensures
-
-pub returns-clause-small : goal.returns-clause-small
-returns-clause-small c = λ small.
+pub returns : goal.returns
+returns c =
     let ps = entry_pairs c.args.entries.now in
     c.value_in.ensures
-    ∙ (ap (option_and_then (λ i. value_in_place i ps)) (c.place_of.ensures.small small)
-    ∙ value_where-place (plain_eq (plain c.args.key.now)) ps)
-
-pub returns-clause-sound : goal.returns-clause-sound
-returns-clause-sound c = λ sound simple.
-    let ps = entry_pairs c.args.entries.now in
-    c.value_in.ensures
-    ∙ (ap (option_and_then (λ i. value_in_place i ps)) (c.place_of.ensures.sound sound simple)
+    ∙ (ap (option_and_then (λ i. value_in_place i ps)) c.place_of.ensures.place
     ∙ value_where-place (plain_eq (plain c.args.key.now)) ps)

@@ -11,8 +11,8 @@ decreases-fetch_entries g l = 3 * l.nestings + 2
 abbrev pub decreases-fetch_entry : goal.decreases-fetch_entry
 decreases-fetch_entry g l = 3 * l.nestings + 1
 
-abbrev pub decreases-fetch_items : goal.decreases-fetch_items
-decreases-fetch_items g l = 3 * l.nestings + 1
+abbrev pub decreases-fetch_sequence : goal.decreases-fetch_sequence
+decreases-fetch_sequence g l = 3 * l.nestings + 1
 
 abbrev pub decreases-fetch_tagged : goal.decreases-fetch_tagged
 decreases-fetch_tagged g l = 3 * l.nestings + 1

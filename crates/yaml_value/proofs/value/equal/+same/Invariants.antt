@@ -1,10 +1,7 @@
 -- What is left to compare gives the answer.
-use Rattle.std.proofs.Common.{◌≡◌, ◌+◌, ◌<◌, ◌≤◌, drop, length}
+use Rattle.std.proofs.Common.{◌≡◌, ◌+◌, ◌≤◌, drop, length}
 use Rattle.yaml_tree.specs.Index.{chain_count}
-use Rattle.yaml_value.specs.Hash.{hash_of}
-use Rattle.yaml_value.specs.Index.{IsSimple, IsSound, chain_end}
 use Rattle.yaml_value.specs.PlainEqual.{has_all_pairs, has_pair, items_eq}
-use Rattle.yaml_value.specs.Small.{ArePairsSmall}
 use Rattle.yaml_value.specs.View.{entry_pairs, plain, plain_entry, plain_items}
 use Rattle.yaml_value.proofs.Indexed.{IsSought}
 use Rattle.yaml_value.proofs.value.equal.+same.Given as goal
@@ -21,14 +18,11 @@ invariant-has_all_entries-loop-i l =
 
 abbrev pub invariant-is_among_few-loop-i : goal.invariant-is_among_few-loop-i
 invariant-is_among_few-loop-i l =
-    ArePairsSmall (entry_pairs l.entries)
-    → has_pair (plain_entry l.wanted) (entry_pairs l.entries)
+    has_pair (plain_entry l.wanted) (entry_pairs l.entries)
     ≡ has_pair (plain_entry l.wanted) (entry_pairs (drop l.i l.entries))
 
 -- the key is in what is left of its chain, or nowhere, and what is left gets shorter
 abbrev pub invariant-place_in_chain-loop-turn : goal.invariant-place_in_chain-loop-turn
 invariant-place_in_chain-loop-turn l =
-    IsSimple (plain l.key) → IsSound l.entries → 0 < chain_count (length l.entries)
-    → l.first ≡ chain_end (hash_of (plain l.key)) l.entries
-    → IsSought (chain_count (length l.entries)) (plain l.key) (entry_pairs l.entries) l.left
+    IsSought (chain_count (length l.entries)) (plain l.key) (entry_pairs l.entries) l.left
     × (l.left + l.turn ≤ length l.entries)

@@ -4,11 +4,14 @@ use Rattle.yaml_tree.specs.Index.{chain_count}
 use Rattle.yaml_value.specs.Index.{chain_end}
 use Rattle.yaml_value.proofs.value.equal.place_of_text.Goals as goal
 
-pub returns-clause-sound : goal.returns-clause-sound
-returns-clause-sound c = λ sound.
+pub text_in_chain-requires : goal.text_in_chain-requires
+text_in_chain-requires c =
     let es = c.args.entries.now in
     let some : 0 < chain_count (length es) =
     subst (λ n. 0 < n) (c.chain_count-chains.ensures.value ∙ ap chain_count c.count.ensures.len)
     (omega (arith, c.if-chains-eq0.false)) in
-    c.text_in_chain.ensures.first sound some
-    (c.first_of.ensures some sound.0 ∙ ap (λ h. chain_end h es) c.hash_text.ensures)
+    record {
+      sound = c.requires;
+      some = some;
+      first = c.first_of.ensures some c.requires.0 ∙ ap (λ h. chain_end h es) c.hash_text.ensures;
+    }

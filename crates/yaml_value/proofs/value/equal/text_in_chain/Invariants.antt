@@ -1,8 +1,6 @@
 -- The key is in what is left of its chain, or nowhere. What is left gets shorter.
-use Rattle.std.proofs.Common.{◌≡◌, ◌+◌, ◌<◌, ◌≤◌, length}
+use Rattle.std.proofs.Common.{◌+◌, ◌≤◌, length}
 use Rattle.yaml_tree.specs.Index.{chain_count}
-use Rattle.yaml_value.specs.Hash.{text_hash}
-use Rattle.yaml_value.specs.Index.{IsSound, chain_end}
 use Rattle.yaml_value.specs.PlainValue.{text}
 use Rattle.yaml_value.specs.View.{entry_pairs}
 use Rattle.yaml_value.proofs.Indexed.{IsSought}
@@ -10,6 +8,5 @@ use Rattle.yaml_value.proofs.value.equal.text_in_chain.Given as goal
 
 abbrev pub invariant-loop-turn : goal.invariant-loop-turn
 invariant-loop-turn l =
-    IsSound l.entries → 0 < chain_count (length l.entries) → l.first ≡ chain_end (text_hash l.text) l.entries
-    → IsSought (chain_count (length l.entries)) (text l.text) (entry_pairs l.entries) l.left
+    IsSought (chain_count (length l.entries)) (text l.text) (entry_pairs l.entries) l.left
     × (l.left + l.turn ≤ length l.entries)

@@ -1,4 +1,4 @@
--- Each turn writes or adds one more.
+-- Each turn writes or adds one more. What is gone over are the values and pairs that are seen.
 use Rattle.std.proofs.Common.{◌∙◌}
 use Rattle.std.specs.Hash.FoldHasher.{write}
 use Rattle.yaml_value.proofs.Hashes.{sum-step, writes-step}

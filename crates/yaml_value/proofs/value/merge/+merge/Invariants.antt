@@ -1,7 +1,7 @@
 -- What is left of all is what is left from a place on. What is merged within a value is so within one nesting less.
 use Rattle.std.proofs.Common.{◌≡◌, ◌+◌, ◌*◌, length}
+use Rattle.yaml_value.specs.Index.{IsSound}
 use Rattle.yaml_value.specs.Merge.{each_item, each_value, merged}
-use Rattle.yaml_value.specs.Small.{AreItemsSmall, ArePairsSmall}
 use Rattle.yaml_value.specs.View.{entry_pairs, plain_items}
 use Rattle.yaml_value.proofs.Merges.{items_from, values_from}
 use Rattle.yaml_value.proofs.value.merge.+merge.Given as goal
@@ -10,18 +10,16 @@ abbrev pub invariant-merge_items-loop-i : goal.invariant-merge_items-loop-i
 invariant-merge_items-loop-i l =
     let old = plain_items l.initial.items.items in
     let now = plain_items l.items.items in
-    let all = each_item (merged l.nestings) old in
     (length l.items.items ≡ l.count)
-    × (AreItemsSmall old → AreItemsSmall all.0 → (all ≡ items_from l.i (merged l.nestings) now) × AreItemsSmall now)
+    × (each_item (merged l.nestings) old ≡ items_from l.i (merged l.nestings) now)
 
 abbrev pub invariant-merge_entries-loop-i : goal.invariant-merge_entries-loop-i
 invariant-merge_entries-loop-i l =
     let old = entry_pairs l.initial.entries.items in
     let now = entry_pairs l.entries.items in
-    let all = each_value (merged l.nestings) old in
     (length l.entries.items ≡ l.count)
-    × (ArePairsSmall old → ArePairsSmall all.0
-    → (all ≡ values_from l.i (merged l.nestings) now) × ArePairsSmall now)
+    × (each_value (merged l.nestings) old ≡ values_from l.i (merged l.nestings) now)
+    × (IsSound l.initial.entries.items → IsSound l.entries.items)
 
 abbrev pub decreases-merge_value : goal.decreases-merge_value
 decreases-merge_value l = 8 * l.nestings
@@ -31,6 +29,9 @@ decreases-merge_item l = 8 * l.nestings + 1
 
 abbrev pub decreases-merge_items : goal.decreases-merge_items
 decreases-merge_items l = 8 * l.nestings + 2
+
+abbrev pub decreases-merge_sequence : goal.decreases-merge_sequence
+decreases-merge_sequence l = 8 * l.nestings + 3
 
 abbrev pub decreases-merge_entry : goal.decreases-merge_entry
 decreases-merge_entry l = 8 * l.nestings + 1

@@ -1,33 +1,27 @@
 -- What is added first, and what is left to add.
-use Rattle.std.proofs.Common.{◌≡◌, ap, false, rules, subst, Some, ◌∙◌}
+use Rattle.std.proofs.Common.{◌≡◌, ap, false, rules, Some, ◌∙◌}
 use Rattle.yaml_base.specs.Answer.{is_memory}
-use Rattle.yaml_value.specs.Merge.{then_left, with_element, with_elements}
-use Rattle.yaml_value.specs.Small.{IsSmallMapping}
-use Rattle.yaml_value.specs.View.{plain, plain_items, plain_pairs}
-use Rattle.yaml_value.proofs.Merges.{small_before_elements, small_before_then}
+use Rattle.yaml_value.specs.Merge.{then_left, with_elements}
+use Rattle.yaml_value.specs.View.{plain_items, plain_pairs}
 use Rattle.yaml_value.proofs.value.merge.add_elements.Goals as goal
 
 pub loop-element-preserved : goal.loop-element-preserved
-loop-element-preserved c = λ s.
+loop-element-preserved c =
     let now = plain_pairs c.loop-element.mapping in
     let rest = plain_items c.next.new.self.rest.items in
-    let so_far = c.loop-element.invariant s
-    ∙ ap (λ vs. with_elements now (plain_items vs)) c.in-Some.ensures.steps.0 in
-    let small = small_before_then (with_element now (plain c.in-Some.element)) (λ qs. with_elements qs rest)
-    (small_before_elements rest) (subst (λ left. IsSmallMapping left.0) so_far s) in
-    so_far ∙ ap (λ left. then_left left (λ qs. with_elements qs rest)) (c.in_ok-add_element.ensures small)
+    c.loop-element.invariant
+    ∙ (ap (λ vs. with_elements now (plain_items vs)) c.in-Some.ensures.steps.0
+    ∙ ap (λ left. then_left left (λ qs. with_elements qs rest)) c.in_ok-add_element.ensures)
 
 pub returns-in_err-add_element : goal.returns-in_err-add_element
-returns-in_err-add_element c = λ s.
+returns-in_err-add_element c =
     let now = plain_pairs c.loop-element.mapping in
     let rest = plain_items c.next.new.self.rest.items in
-    let so_far = c.loop-element.invariant s
-    ∙ ap (λ vs. with_elements now (plain_items vs)) c.in-Some.ensures.steps.0 in
-    let small = small_before_then (with_element now (plain c.in-Some.element)) (λ qs. with_elements qs rest)
-    (small_before_elements rest) (subst (λ left. IsSmallMapping left.0) so_far s) in
     let fault = c.in_err-add_element.field-0.0 in
-    let told : is_memory fault ≡ false → with_elements (plain_pairs c.args.mapping.now) (plain_items c.args.elements.items)
+    let told : is_memory fault ≡ false → with_elements (plain_pairs c.args.mapping.now) (plain_items
+    c.args.elements.items)
     ≡ (plain_pairs c.add_element.new.mapping, Some fault) = λ e.
-    so_far
-    ∙ ap (λ left. then_left left (λ qs. with_elements qs rest)) (c.in_err-add_element.ensures small e) in
+    c.loop-element.invariant
+    ∙ (ap (λ vs. with_elements now (plain_items vs)) c.in-Some.ensures.steps.0
+    ∙ ap (λ left. then_left left (λ qs. with_elements qs rest)) (c.in_err-add_element.ensures e)) in
     search (rules, told)
