@@ -7,6 +7,8 @@ mod behind;
 #[cfg(test)]
 mod by_type;
 #[cfg(test)]
+mod events;
+#[cfg(test)]
 mod faults;
 #[cfg(test)]
 mod integers;

@@ -1,12 +1,15 @@
-//! Values that are written as events, rendered in quotes, and read again; and a text that a writer gets.
+//! Values that are written as events, rendered in quotes, and read again; a text that a writer gets; and a text of
+//! several documents.
 
 use serde_yaml::{
-    Cause, Event, Limits, Mark, from_events, from_events_limited, to_events, to_writer,
+    Cause, Event, Limits, Mark, documents_to_string, from_events, from_events_limited, to_events,
+    to_writer,
 };
 use std::collections::BTreeMap;
 use std::process::Abort;
 use uses::Backup;
 use yaml_round::again::comes_back;
+use yaml_round::in_turn::reads_back;
 use yaml_round::renderer::{Quoted, Renderer};
 
 // What a parser may say of some optionals that were written.
@@ -81,4 +84,44 @@ fn a_writer_gets_the_text(rt: HostRuntime) {
     let mut out = Vec::new(rt.alloc());
     to_writer(rt.alloc(), &mut out, &ports).expect(&rt, "a text");
     assert_eq!(rt; out.as_slice(), b"other: null\nport: 8080\n".as_slice());
+}
+
+// Mappings, the text of a document for each, and whether they read back: from the empty text one document is read.
+const DOCUMENTS: &[(&[&[(&str, i64)]], &str, bool)] = &[
+    (&[], "", false),
+    (&[&[("a", 1)]], "a: 1\n", true),
+    (
+        &[&[("k", 107)], &[("J", 74), ("k", 107)]],
+        "k: 107\n---\nJ: 74\nk: 107\n",
+        true,
+    ),
+    (&[&[], &[("a", 1)], &[]], "{}\n---\na: 1\n--- {}\n", true),
+];
+
+// Mappings of these entries.
+fn mappings(
+    rt: &(impl Abort + AllocGlobal),
+    rows: &[&[(&str, i64)]],
+) -> Vec<BTreeMap<String, i64>> {
+    let mut all = Vec::new(rt.alloc());
+    for row in rows {
+        let mut mapping = BTreeMap::new(rt.alloc());
+        for (name, value) in *row {
+            put(rt, &mut mapping, name, *value);
+        }
+        let pushed: Result<_, _> = all.push(mapping);
+        pushed.expect(rt, "memory");
+    }
+    all
+}
+
+#[test]
+fn documents_are_written_in_a_row_and_read_in_turn(rt: HostRuntime) {
+    for (rows, wanted, returns) in DOCUMENTS {
+        let values = mappings(&rt, rows);
+        let text = documents_to_string(rt.alloc(), values.as_slice()).expect(&rt, "a text");
+        assert_eq!(rt; text.as_str(), *wanted);
+        let back = reads_back(rt.alloc(), values.as_slice(), wanted, Limits::DEFAULT);
+        assert!(rt; back.expect(&rt, "memory") == *returns, "{wanted}");
+    }
 }

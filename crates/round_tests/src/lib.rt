@@ -10,4 +10,6 @@ mod kept;
 #[cfg(test)]
 mod laws;
 #[cfg(test)]
+mod printed;
+#[cfg(test)]
 mod refused;

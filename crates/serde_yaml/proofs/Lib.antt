@@ -10,3 +10,4 @@ pub mod TextFaults
 pub mod ReaderTexts
 pub mod TextLaws
 pub mod TypedLaws
+pub mod WrittenDocuments

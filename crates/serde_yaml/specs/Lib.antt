@@ -12,3 +12,4 @@ pub mod TextReads
 pub mod TypedHeadline
 pub mod TypedReads
 pub mod TypedWrites
+pub mod WrittenDocuments

@@ -2,6 +2,7 @@
 #![tactic(auto)]
 
 mod de;
+mod documents;
 mod input;
 pub mod laws;
 pub mod mapping;
@@ -14,6 +15,7 @@ mod unambiguous;
 pub mod value;
 
 pub use de::{Deserializer, data_from_events, from_events, from_events_limited};
+pub use documents::documents_to_string;
 pub use input::from_reader;
 pub use merging::{
     data_from_slice_merging, data_from_slice_merging_limited, from_reader_merging,

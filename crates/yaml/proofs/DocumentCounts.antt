@@ -67,7 +67,7 @@ all-begun (root ∷ roots) =
     )
 
 -- a stream of documents
-stream-begun : (roots : List EmitNode)
+pub stream-begun : (roots : List EmitNode)
     → documents_begun (emit_stream_start ∷ (emit_documents_events roots ++ emit_stream_end ∷ [])) ≡ length roots
 stream-begun roots =
     omega (arith, begun-append (emit_documents_events roots) (emit_stream_end ∷ []), all-begun roots)

@@ -220,6 +220,15 @@ impl<'a, 'de> Reader<'a, 'de> {
         Self::made(self.try_length())
     }
 
+    // Whether a fault of the document cuts off the collection that begins in a place.
+    fn is_cut_off(&self, start: usize) -> bool {
+        match self.document.ends().get(start) {
+            Some(end) => self.event(*end).is_none(),
+            None => false,
+        }
+    }
+
+    // The fault of a length. How long a sequence is that is cut off nobody knows: there it is the fault that does so.
     fn try_length(&self) -> Result<Error> {
         match (self.last.deed, self.open_frame()) {
             (
@@ -233,6 +242,9 @@ impl<'a, 'de> Reader<'a, 'de> {
                     },
                 ),
             ) => {
+                if self.is_cut_off(start) {
+                    return Ok(self.ended());
+                }
                 let read = self.part_of(start, self.spot.place).count;
                 let length = self.parts_in(start);
                 let expected = Words::new(sequence_of(self.alloc, read)?);

@@ -4,8 +4,10 @@ pub mod ByPlace
 pub mod Contents
 pub mod DataFound
 pub mod DataReturn
+pub mod DocumentsReturn
 pub mod Decimals
 pub mod FieldsInOrder
+pub mod InTurnLaws
 pub mod LeafPresence
 pub mod LeavesReturn
 pub mod ListsReturn

@@ -46,7 +46,7 @@ in_a_row e =
     (append_assoc (emit_node_events e) (emit_document_end ∷ []) (emit_stream_end ∷ []))
 
 -- nothing comes back of nothing
-nothing_left : (events : List PlainEvent) → Renders [] events → events ≡ []
+pub nothing_left : (events : List PlainEvent) → Renders [] events → events ≡ []
 nothing_left [] h = refl
 nothing_left (e ∷ events) h = absurd h
 

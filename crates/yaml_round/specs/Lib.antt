@@ -1,6 +1,7 @@
 -- What contracts of this crate cite.
 pub mod Fits
 pub mod InTexts
+pub mod InTurn
 pub mod ReadsBack
 pub mod Rendered
 pub mod SameOrder

@@ -1,11 +1,13 @@
 //! Whether data reads back where it is written.
 
-ghost use Rattle.std.specs.Prelude.{◌≡◌, ◌↔◌, false, IfOk, IsTrue, slice_get};
+ghost use Rattle.std.specs.Prelude.{◌≡◌, ◌<◌, ◌↔◌, ℕ, false, IfOk, IsTrue, slice_get};
 ghost use Rattle.std.specs.Option.{option_map};
 ghost use Rattle.yaml_tree.specs.Tree.{mapping, sequence};
 ghost use Rattle.yaml_tree.specs.Valid.{pairs_of, tree_of_tagged, values_of};
 ghost use Rattle.yaml_tree.specs.View.{tree_of};
+ghost use Rattle.yaml_base.specs.Answer.{is_memory};
 ghost use Rattle.yaml_shape.specs.DataView.{data_of, entries_view, items_view};
+ghost use Rattle.yaml_shape.specs.Join.{IsTooLarge};
 ghost use Rattle.yaml_shape.specs.ShapeView.{content_of, fields_of, ids_of, variant_of, variants_of};
 ghost use Rattle.yaml_shape.specs.TypedView.{content_in, id_in, schema_in};
 ghost use Rattle.yaml_shape.specs.Validity.{numbers_of};
@@ -35,7 +37,9 @@ pub fn fits(typed: &Typed<'_, '_>, limits: Limits) -> bool
 }
 
 // Why a type has no schema, as a fault.
-fn refusal(alloc: Global, fault: SchemaFault) -> Error {
+pub(crate) fn refusal(alloc: Global, fault: SchemaFault) -> Error
+    ensures { (size : ℕ) → IsTooLarge size fault → is_memory result ≡ false → 4096 < size }
+{
     match fault {
         SchemaFault::Memory => Error::new(Cause::Memory),
         fault => match fault.to_string(alloc) {

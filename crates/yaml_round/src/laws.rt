@@ -1,7 +1,8 @@
 //! Laws of writing and reading together, each the contract of a function that does nothing.
 
 ghost use Rattle.std.specs.Prelude.{◌≡◌, ◌≢◌, ◌<◌, ◌≤◌, ◌^◌, ℕ, suc, length, List, Option, None, Some, Ok, Result, true, false, IsTrue};
-ghost use Rattle.std.specs.Prelude.{slice_get};
+ghost use Rattle.std.specs.Prelude.{[], slice_get};
+ghost use Rattle.std.specs.List.{All};
 ghost use Rattle.std.specs.Option.{is_some};
 ghost use Rattle.std.specs.Str.{is_utf8};
 ghost use Rattle.yaml_base.specs.AskedStyles.{asked_style};
@@ -43,12 +44,14 @@ ghost use Rattle.yaml_printed.specs.WrittenRoots.{FitsText};
 ghost use Rattle.yaml_shape.specs.Held.{IsHeld, is_table};
 ghost use Rattle.yaml_round.specs.InTexts.{AreEventsOf, FitsTextWithin, GivesEqual, GivesSameData, IsReadAsEqual};
 ghost use Rattle.yaml_round.specs.InTexts.{IsTextOf, StandsAsWritten, TakesWhatStands};
+ghost use Rattle.yaml_round.specs.InTurn.{GivesEqualInTurn, IsTextOfAll};
 ghost use Rattle.yaml_round.specs.ReadsBack.{ComesBack, ReadsBack};
 ghost use Rattle.yaml_round.specs.Rendered.{rendered};
 ghost use Rattle.yaml_round.specs.SameOrder.{same_data};
 ghost use Rattle.yaml_round.specs.SimpleData.{is_simple};
 
 use serde_yaml::laws::reading_gives_the_meaning;
+use yaml_read::stream_law::a_stream_is_cut_into_its_documents;
 use yaml_types::RoundTrip;
 
 /// A string as it is written, under a tag that is taken or under none, and rendered in any permitted style, means that
@@ -148,6 +151,21 @@ pub fn a_written_text_of_data_reads_back()
         → GivesSameData limits table s d text }
 {
     written_data_reads_back();
+}
+
+/// **What was written of several values is what is read, document by document.** The text of values that fit it, as
+/// `documents_to_string` promises it, has a document for each, whichever call hands them out: `load`, a
+/// `DocumentReader`, or a `Deserializer` that is gone through. And what a type makes of what is read of a document is
+/// equal to the value. Nothing is assumed of an emitter or a parser. The text has fewer than 2^32 bytes, and there is a
+/// value: the empty text is read as one document that stands for nothing.
+pub fn a_text_of_documents_reads_back<'de, T: RoundTrip<'de>>()
+    ensures { (limits : PlainLimits) (xs : List T) (text : List ℕ)
+        → IsTextOfAll T.Serialize.start T.written T.kept T.unwritten xs text → length text < 2 ^ 32 → xs ≢ []
+        → All (λ x. FitsTextWithin limits T.Serialize.start.0 T.Serialize.start.1 (T.written x)) xs
+        → GivesEqualInTurn limits T.Deserialize.start T.built T.refused T.eq xs text }
+{
+    a_stream_is_cut_into_its_documents();
+    equal_in_one_order_is_equal();
 }
 
 /// What stands of the text of data under its schema, as `data_to_string` promises it: it stands, and whatever documents stand in

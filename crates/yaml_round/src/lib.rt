@@ -4,6 +4,7 @@
 pub mod again;
 mod fit;
 pub mod held;
+pub mod in_turn;
 pub mod laws;
 pub mod renderer;
 
