@@ -37,8 +37,8 @@ pub fn answer_of_events<T: DeserializeOwned + Serialize + Drop>(
     emit(alloc, written.as_slice())
 }
 
-// A document's text, or its fault, as a text.
-fn told<T: Serialize + Drop>(alloc: Global, read: Result<T, Error>) -> Result<String, Error> {
+/// A document's text, or its fault, as a text.
+pub fn told<T: Serialize + Drop>(alloc: Global, read: Result<T, Error>) -> Result<String, Error> {
     match read {
         Ok(value) => to_string(alloc, &value),
         Err(fault) => Ok(format!(in alloc; "! {fault}\n")?),

@@ -1,9 +1,13 @@
 //! Texts that are read with a choice of what is done with merge keys.
 
+use crate::answer::told;
 use serde::{Deserialize, Serialize};
 use std::alloc::Global;
 use std::collections::BTreeMap;
-use yaml::{Error, Merge, Value, from_slice_merging, from_str, from_str_merging, to_string};
+use yaml::{
+    DocumentStream, Documents, Error, Merge, Value, from_slice_merging, from_str, from_str_merging,
+    to_string,
+};
 
 /// How something is tried again.
 #[derive(Drop, Serialize, Deserialize)]
@@ -43,6 +47,38 @@ fn answer<'a, T: Deserialize<'a> + Serialize>(
     to_string(alloc, &value)
 }
 
+// What is read of a text's documents in turn, each behind `--- `.
+fn in_turn<'a, T: Deserialize<'a> + Serialize>(
+    alloc: Global,
+    text: &'a str,
+    merge: Merge,
+) -> Result<String, Error> {
+    let mut documents = Documents::from_str(alloc, text)?;
+    let mut answer = String::new(alloc);
+    for _ in 0..u64::MAX {
+        let Some(read) = documents.read_next_merging::<T>(merge) else {
+            break;
+        };
+        answer.push_str("--- ")?;
+        answer.push_str(told(alloc, read)?.as_str())?;
+    }
+    Ok(answer)
+}
+
+// The same by `DocumentStream`.
+fn in_stream(alloc: Global, text: &str, merge: Merge) -> Result<String, Error> {
+    let mut documents = DocumentStream::from_slice(alloc, text.as_bytes())?;
+    let mut answer = String::new(alloc);
+    for _ in 0..u64::MAX {
+        let Some(read) = documents.read_next_merging::<Value>(merge) else {
+            break;
+        };
+        answer.push_str("--- ")?;
+        answer.push_str(told(alloc, read)?.as_str())?;
+    }
+    Ok(answer)
+}
+
 /// What a text is answered that is read as the type of this name.
 pub fn answer_of_merging(
     alloc: Global,
@@ -52,6 +88,9 @@ pub fn answer_of_merging(
 ) -> Result<String, Error> {
     match name {
         "Value" => answer::<Value>(alloc, text, merge),
+        "Value/documents" => in_turn::<Value>(alloc, text, merge),
+        "Value/stream" => in_stream(alloc, text, merge),
+        "Vec<Retry>/documents" => in_turn::<Vec<Retry>>(alloc, text, merge),
         "Retry" => answer::<Retry>(alloc, text, merge),
         "Vec<Retry>" => answer::<Vec<Retry>>(alloc, text, merge),
         "Plan" => to_string(alloc, &read_jobs(alloc, text)?),

@@ -19,9 +19,11 @@ use derived_types::holders::{Backoff, Chain, Timeout};
 use derived_types::limits::{Nest, Passed};
 use derived_types::plain::{Ends, Metres, Nothing, Pair, Percent};
 use derived_types::structs::{Mark, Note, Setting, Window};
+use derived_types::variants::{Deed, Drawing};
 use std::alloc::Global;
 use std::borrow::CowStr;
 use std::collections::{BTreeMap, BTreeSet, HashMap, HashSet, VecDeque};
+use yaml::with::Singletons;
 use yaml::{Error, Mapping, Merge, Number, Value, to_string};
 
 // What a text is answered that is read with places.
@@ -105,6 +107,21 @@ fn answer_as_any(alloc: Global, name: &str, text: &str) -> Result<String, Error>
         "Either" => answer::<Either>(alloc, text),
         "Choice" => answer::<Choice>(alloc, text),
         "BTreeMap<String,Value>" => answer::<BTreeMap<String, Value>>(alloc, text),
+        _ => answer_as_singletons(alloc, name, text),
+    }
+}
+
+// What a text is answered that is read as a type whose variants are mappings.
+fn answer_as_singletons(alloc: Global, name: &str, text: &str) -> Result<String, Error> {
+    match name {
+        "Drawing" => answer::<Drawing>(alloc, text),
+        "Drawing/events" => answer_of_events::<Drawing>(alloc, text),
+        "Singletons<Deed>" => answer::<Singletons<Deed>>(alloc, text),
+        "Singletons<Deed>/documents" => answer_of_documents::<Singletons<Deed>>(alloc, text),
+        "Singletons<Vec<Figure>>" => answer::<Singletons<Vec<Figure>>>(alloc, text),
+        "Singletons<BTreeMap<String,Option<Deed>>>" => {
+            answer::<Singletons<BTreeMap<String, Option<Deed>>>>(alloc, text)
+        }
         _ => answer_as_standard(alloc, name, text),
     }
 }

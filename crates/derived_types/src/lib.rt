@@ -8,3 +8,4 @@ pub mod holders;
 pub mod limits;
 pub mod plain;
 pub mod structs;
+pub mod variants;
