@@ -1,5 +1,6 @@
 -- What contracts of this crate cite.
 pub mod FaultTexts
+pub mod Links
 pub mod Numbers
 pub mod RowDocuments
 pub mod RowEvents

@@ -9,13 +9,22 @@ use Rattle.yaml_base.specs.declared.event.ScalarStyle.TheVariants as style
 use Rattle.yaml_c.specs.Numbers.{ScalarNumbers, row_numbers}
 use Rattle.yaml_c.specs.declared.rows.YamlRow.{YamlRow}
 
--- an event, and what it is if it is a scalar
-abbrev pub ShownEvent : Type 0
-ShownEvent = PlainDocEvent × Option ScalarNumbers
+-- an event, what it is if it is a scalar, and the number of the row that it links to, or 0
+pub record ShownEvent : Type 0 where
+  pub event : PlainDocEvent
+  pub numbers : Option ScalarNumbers
+  pub link : ℕ
+
+-- of a document: how many nestings a reading may go into, how many aliases it may follow, and the number of the row in
+-- which the document ends or is cut off
+pub record Reach : Type 0 where
+  pub nestings : ℕ
+  pub follows : ℕ
+  pub last : ℕ
 
 -- a document begins; an event of it at a place; it ends; or it is cut off, by a fault with this text and this place
 pub data Shown : Type 0 where
-  begins : Shown
+  begins : Reach → Shown
   holds : ShownEvent → Position → Shown
   ends : Shown
   is_cut : (text : List ℕ) → Position → Shown
@@ -84,8 +93,20 @@ row_event source texts row = if nat_lt row.kind 8 then a_scalar (row_scalar sour
     else (if row.kind == 11 then sequence_ends
     else (if row.kind == 12 then mapping_begins (row_tag texts row) else mapping_ends)))))
 
+-- an event, what it is if it is a scalar, and its link
+abbrev pub row_shown : (source texts : List ℕ) → YamlRow → ShownEvent
+row_shown source texts row = record {
+  event = row_event source texts row;
+  numbers = row_numbers row;
+  link = row.link;
+}
+
+-- how far readings go of the document that begins in a row, and where it ends
+abbrev pub row_reach : YamlRow → Reach
+row_reach row = record { nestings = row.low; follows = row.high; last = row.link }
+
 -- what a row shows: rows of kinds below 14 are events
 abbrev pub shown_by : (source texts : List ℕ) → YamlRow → Shown
-shown_by source texts row = if nat_lt row.kind 14 then holds (row_event source texts row, row_numbers row) (row_place row)
-    else (if row.kind == 14 then begins
+shown_by source texts row = if nat_lt row.kind 14 then holds (row_shown source texts row) (row_place row)
+    else (if row.kind == 14 then begins (row_reach row)
     else (if row.kind == 15 then ends else is_cut (row_text source texts row) (row_place row)))

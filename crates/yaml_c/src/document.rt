@@ -1,33 +1,29 @@
 //! The rows of a document.
 
-ghost use Rattle.std.specs.Prelude.{◌≡◌, ◌++◌, ◌∷◌, ℕ, List, [], IfOk};
+ghost use Rattle.std.specs.Prelude.{◌≡◌, ◌∷◌, ℕ, List, [], IfOk, length, map};
 ghost use Rattle.std.specs.Option.{option_copied};
 ghost use Rattle.yaml_base.specs.DocEventView.{doc_event_of, marked_events_of};
 ghost use Rattle.yaml_base.specs.ErrorText.{error_text};
+ghost use Rattle.yaml_c.specs.Links.{document_reach};
 ghost use Rattle.yaml_c.specs.RowDocuments.{fault_place, shown_event};
-ghost use Rattle.yaml_c.specs.Rows.{begins, holds, is_cut};
+ghost use Rattle.yaml_c.specs.Rows.{begins, holds, is_cut, row_reach};
 ghost use Rattle.yaml_c.specs.inner.Room.{Grows};
-ghost use Rattle.yaml_c.specs.inner.Showing.{Adds, IsRowOf, shown_ending, shown_events};
+ghost use Rattle.yaml_c.specs.inner.Showing.{Adds, IsRowOf, parts_shown, shown_ending, shown_events};
+ghost use Rattle.yaml_load.specs.Ends.{ends_of};
 
-use crate::event::event_row;
+use crate::event::{event_row, row_of_event};
 use crate::room::{Tally, put_row, put_text};
 use crate::rows::{YamlRow, kind};
 use std::alloc::Global;
 use yaml_base::{DocEvent, Error, Mark, Result};
+use yaml_read::Limits;
 
-/// What a document holds.
+/// What a document holds: its events, for each of them where the collection ends that begins there, and its fault.
 #[derive(Clone, Copy)]
 pub(crate) struct Parts<'a, 'de> {
     pub(crate) events: &'a [(DocEvent<'de>, Mark)],
     pub(crate) ends: &'a [usize],
     pub(crate) error: Option<&'a Error>,
-}
-
-/// How far readings of a document go.
-#[derive(Clone, Copy)]
-pub(crate) struct Bounds {
-    pub(crate) nesting: u8,
-    pub(crate) follows: u16,
 }
 
 // The row of the fault that cuts a document off.
@@ -68,29 +64,31 @@ fn last_row(
     }
 }
 
-// The row in which a document of so many events begins, whose first event is in the row `base`.
-fn document_row(base: usize, events: usize, bounds: Bounds) -> YamlRow
-    ensures { result.kind ≡ 14 }
+// The row `at`, in which a document of so many events begins.
+fn document_row(at: usize, events: usize) -> YamlRow
+    ensures kind { result.kind ≡ 14 }
+    ensures reach { row_reach result ≡ document_reach at events }
 {
+    let limits = Limits::DEFAULT;
     let mut row = YamlRow::of_kind(kind::DOCUMENT);
-    row.low = bounds.nesting as u64;
-    row.high = (bounds.follows as u64).saturating_mul(events as u64);
-    row.link = base.saturating_add(events) as u64;
+    row.low = limits.nesting() as u64;
+    row.high = (limits.follows() as u64).saturating_mul(events as u64);
+    row.link = row_of_event(at, events) as u64;
     row
 }
 
 // The begin of a document of so many events more.
-fn put_begin(rows: &mut [YamlRow], tally: &mut Tally, events: usize, bounds: Bounds)
+fn put_begin(rows: &mut [YamlRow], tally: &mut Tally, events: usize)
     ensures { (source texts : List ℕ) → Adds source
         (record { rows = rows.old; bytes = texts; used = tally.old.rows; taken = tally.old.bytes })
         (record { rows = rows.new; bytes = texts; used = tally.new.rows; taken = tally.new.bytes })
-        (begins ∷ []) }
+        (begins (document_reach tally.old.rows events) ∷ []) }
 {
-    let base = tally.rows.saturating_add(1);
-    put_row(rows, tally, document_row(base, events, bounds));
+    let row = document_row(tally.rows, events);
+    put_row(rows, tally, row);
 }
 
-// One event more, whose collection ends at the event `end`.
+// One event more, whose collection ends at the event `end`, of a document that begins in the row `at`.
 fn put_event(
     source: &[u8],
     rows: &mut [YamlRow],
@@ -98,19 +96,19 @@ fn put_event(
     tally: &mut Tally,
     event: &(DocEvent<'_>, Mark),
     end: usize,
-    base: usize,
+    at: usize,
 )
     ensures { Adds source.now
         (record { rows = rows.old; bytes = texts.old; used = tally.old.rows; taken = tally.old.bytes })
         (record { rows = rows.new; bytes = texts.new; used = tally.new.rows; taken = tally.new.bytes })
-        (holds (shown_event (doc_event_of event.now.0)) event.now.1 ∷ []) }
+        (holds (shown_event at end (doc_event_of event.now.0)) event.now.1 ∷ []) }
 {
     let (event, mark) = event;
-    let row = event_row(source, texts, tally, event, *mark, end, base);
+    let row = event_row(source, texts, tally, event, *mark, end, at);
     put_row(rows, tally, row);
 }
 
-// The events of a document more, of which the first is in the row `base`.
+// The events more of a document that begins in the row `at`.
 fn put_events(
     source: &[u8],
     rows: &mut [YamlRow],
@@ -118,19 +116,16 @@ fn put_events(
     tally: &mut Tally,
     events: &[(DocEvent<'_>, Mark)],
     ends: &[usize],
-    base: usize,
+    at: usize,
 )
+    requires { length ends.now ≡ length events.now }
     ensures { Adds source.now
         (record { rows = rows.old; bytes = texts.old; used = tally.old.rows; taken = tally.old.bytes })
         (record { rows = rows.new; bytes = texts.new; used = tally.new.rows; taken = tally.new.bytes })
-        (shown_events (marked_events_of events.now)) }
+        (shown_events at (marked_events_of events.now) ends.now) }
 {
     for place in 0..events.len() {
-        let end = match ends.get(place) {
-            Some(end) => *end,
-            None => place,
-        };
-        put_event(source, rows, texts, tally, &events[place], end, base);
+        put_event(source, rows, texts, tally, &events[place], ends[place], at);
     }
 }
 
@@ -160,17 +155,17 @@ pub(crate) fn put_document(
     texts: &mut [u8],
     tally: &mut Tally,
     parts: Parts<'_, '_>,
-    bounds: Bounds,
 ) -> Result<()>
+    requires { parts.ends.now ≡ ends_of (map (λ e. e.0) (marked_events_of parts.events.now)) }
     ensures { IfOk result (λ _. Adds source.now
         (record { rows = rows.old; bytes = texts.old; used = tally.old.rows; taken = tally.old.bytes })
         (record { rows = rows.new; bytes = texts.new; used = tally.new.rows; taken = tally.new.bytes })
-        (begins ∷ (shown_events (marked_events_of parts.entry.events.now)
-        ++ shown_ending (option_copied parts.entry.error) ∷ []))) }
+        (parts_shown tally.old.rows (marked_events_of parts.entry.events.now) parts.entry.ends.now
+        (option_copied parts.entry.error))) }
 {
-    put_begin(rows, tally, parts.events.len(), bounds);
-    let base = tally.rows;
-    put_events(source, rows, texts, tally, parts.events, parts.ends, base);
+    let at = tally.rows;
+    put_begin(rows, tally, parts.events.len());
+    put_events(source, rows, texts, tally, parts.events, parts.ends, at);
     put_last(alloc, rows, texts, tally, parts.error)?;
     Ok(())
 }

@@ -1,7 +1,8 @@
 //! The row of an event.
 
-ghost use Rattle.std.specs.Prelude.{◌≡◌, ◌<◌, IfSome, length};
+ghost use Rattle.std.specs.Prelude.{◌≡◌, ◌+◌, ◌<◌, IfSome, length};
 ghost use Rattle.yaml_base.specs.DocEventView.{doc_event_of, doc_scalar_of};
+ghost use Rattle.yaml_c.specs.Links.{in_field};
 ghost use Rattle.yaml_c.specs.Numbers.{numbers_in, scalar_numbers, tag_number};
 ghost use Rattle.yaml_c.specs.RowDocuments.{shown_event};
 ghost use Rattle.yaml_c.specs.Rows.{holds, part, row_place, style_of};
@@ -51,6 +52,7 @@ fn place_in_source(source: &[u8], mark: Mark, scalar: &DocScalar<'_>) -> Option<
 fn row_at(kind: u8, mark: Mark) -> YamlRow
     ensures kind { result.kind ≡ kind }
     ensures place { row_place result ≡ mark }
+    ensures link { result.link ≡ 0 }
 {
     let mut row = YamlRow::of_kind(kind);
     row.line = mark.line();
@@ -119,6 +121,7 @@ fn scalar_row(
     ensures numbers { numbers_in result ≡ scalar_numbers (doc_scalar_of scalar.now) }
     ensures style { style_of result.style ≡ scalar.now.style }
     ensures place { row_place result ≡ mark }
+    ensures link { result.link ≡ 0 }
     ensures tag { HasTag texts.new tally.new.bytes result.tag_kind result.tag_at result.tag_len scalar.now.tag }
     ensures text { HasTextIn source.now texts.new tally.new.bytes
         result.text_in_source result.text_at result.text_len scalar.now.value.items }
@@ -150,19 +153,20 @@ fn scalar_row(
     }
 }
 
-// The row of a collection that begins, which ends in the row `end`.
+// The row of a collection that begins, which ends in the row `last`.
 fn start_row(
     texts: &mut [u8],
     tally: &mut Tally,
     kind: u8,
     tag: &Option<Tag>,
     mark: Mark,
-    end: usize,
+    last: usize,
 ) -> YamlRow
     ensures grows { Grows texts.old tally.old.bytes texts.new tally.new.bytes }
     ensures kind { result.kind ≡ kind }
     ensures place { row_place result ≡ mark }
     ensures tag { HasTag texts.new tally.new.bytes result.tag_kind result.tag_at result.tag_len tag.now }
+    ensures link { result.link ≡ last }
     ensures rows { tally.new.rows ≡ tally.old.rows }
 {
     let tag = put_tag(texts, tally, tag);
@@ -170,23 +174,31 @@ fn start_row(
     row.tag_kind = tag.kind;
     row.tag_at = tag.part.at;
     row.tag_len = tag.part.len;
-    row.link = end as u64;
+    row.link = last as u64;
     row
 }
 
-// The row of an alias to the event at a place, of a document whose first event is in the row `base`.
-fn alias_row(mark: Mark, target: usize, base: usize) -> YamlRow
+/// The row of the event at a place, of a document that begins in the row `at`: the greatest number, if it is past that.
+pub(crate) fn row_of_event(at: usize, place: usize) -> usize
+    ensures { result ≡ in_field (at + 1 + place) }
+{
+    at.saturating_add(1).saturating_add(place)
+}
+
+// The row of an alias to the event at a place, of a document that begins in the row `at`.
+fn alias_row(mark: Mark, target: usize, at: usize) -> YamlRow
     ensures kind { result.kind ≡ 9 }
     ensures place { row_place result ≡ mark }
     ensures target { result.low ≡ target }
+    ensures link { result.link ≡ in_field (at + 1 + target) }
 {
     let mut row = row_at(kind::ALIAS, mark);
     row.low = target as u64;
-    row.link = base.saturating_add(target) as u64;
+    row.link = row_of_event(at, target) as u64;
     row
 }
 
-/// The row of an event, whose collection ends at the event `end`, of a document whose first event is in the row `base`.
+/// The row of an event, whose collection ends at the event `end`, of a document that begins in the row `at`.
 pub(crate) fn event_row(
     source: &[u8],
     texts: &mut [u8],
@@ -194,23 +206,23 @@ pub(crate) fn event_row(
     event: &DocEvent<'_>,
     mark: Mark,
     end: usize,
-    base: usize,
+    at: usize,
 ) -> YamlRow
     ensures grows { Grows texts.old tally.old.bytes texts.new tally.new.bytes }
     ensures row { IsRowOf source.now texts.new tally.new.bytes result
-        (holds (shown_event (doc_event_of event.now)) mark) }
+        (holds (shown_event at end (doc_event_of event.now)) mark) }
     ensures rows { tally.new.rows ≡ tally.old.rows }
 {
-    let end = base.saturating_add(end);
+    let last = row_of_event(at, end);
     match event {
-        DocEvent::Alias(target) => alias_row(mark, *target, base),
+        DocEvent::Alias(target) => alias_row(mark, *target, at),
         DocEvent::Scalar(scalar) => scalar_row(source, texts, tally, scalar, mark),
         DocEvent::SequenceStart(start) => {
-            start_row(texts, tally, kind::SEQUENCE, &start.tag, mark, end)
+            start_row(texts, tally, kind::SEQUENCE, &start.tag, mark, last)
         }
         DocEvent::SequenceEnd => row_at(kind::SEQUENCE_END, mark),
         DocEvent::MappingStart(start) => {
-            start_row(texts, tally, kind::MAPPING, &start.tag, mark, end)
+            start_row(texts, tally, kind::MAPPING, &start.tag, mark, last)
         }
         DocEvent::MappingEnd => row_at(kind::MAPPING_END, mark),
         DocEvent::Void => row_at(kind::VOID, mark),

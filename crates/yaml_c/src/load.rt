@@ -4,21 +4,12 @@ ghost use Rattle.std.specs.Prelude.{◌≡◌, ◌⊎◌, ◌<◌, ◌≤◌, If
 ghost use Rattle.yaml_c.specs.TextRows.{ShowDocumentsOf};
 ghost use Rattle.yaml_c.specs.inner.Showing.{Adds, ShowsAll, shown_of};
 
-use crate::document::{Bounds, Parts, put_document};
+use crate::document::{Parts, put_document};
 use crate::room::Tally;
 use crate::rows::{YamlRow, YamlSizes};
 use std::alloc::Global;
 use yaml_base::Result;
-use yaml_read::{Document, Limits, Loader};
-
-// How far readings go.
-fn bounds() -> Bounds {
-    let limits = Limits::DEFAULT;
-    Bounds {
-        nesting: limits.nesting(),
-        follows: limits.follows(),
-    }
-}
+use yaml_read::{Document, Loader};
 
 // One document more.
 fn put_one(
@@ -32,14 +23,14 @@ fn put_one(
     ensures { IfOk result (λ _. Adds source.now
         (record { rows = rows.old; bytes = texts.old; used = tally.old.rows; taken = tally.old.bytes })
         (record { rows = rows.new; bytes = texts.new; used = tally.new.rows; taken = tally.new.bytes })
-        (shown_of document.now)) }
+        (shown_of tally.old.rows document.now)) }
 {
     let parts = Parts {
         events: document.events(),
         ends: document.ends(),
         error: document.error(),
     };
-    put_document(alloc, source, rows, texts, tally, parts, bounds())?;
+    put_document(alloc, source, rows, texts, tally, parts)?;
     Ok(())
 }
 
