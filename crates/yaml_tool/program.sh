@@ -362,6 +362,134 @@ run "an empty folder" 0 "" "" check "$work/folder/empty"
 run "files and standard input" 0 "@@ $work/folder/b.yaml$lf{\"a\": 1}$lf@@ -$lf{\"b\": 2}$lf" "" \
     show "$work/folder/b.yaml" -
 
+# Parts, and JSON.
+cat > "$work/in" << 'END'
+name: "web"
+ports: [80, 0x1F]
+"a.b": {1: one, true: [x], ~: 2.50}
+load: -0.0
+big: 340282366920938463463374607431768211455
+base: &base {x: !t 1}
+<<: *base
+text: "two\nlines \e[1m"
+none:
+END
+json='{"name":"web","ports":[80,31],"a.b":{"1":"one","true":["x"],"null":2.5},"load":-0.0,'
+json=$json'"big":340282366920938463463374607431768211455,"base":{"x":1},"<<":{"x":1},'
+json=$json'"text":"two\nlines \u001b[1m","none":null}'
+run "JSON" 0 "$json$lf" "" json
+run "JSON of files" 1 '{"a":1}'"$lf$json$lf" "$work/second:2:1: did not find expected node content" \
+    json "$work/first" "$work/second" "$work/in"
+run "the whole" 0 "$json$lf" "" get --json .
+run "a text by itself" 0 "web$lf" "" get name
+run "a number by itself" 0 "31$lf" "" get 'ports[1]'
+run "a float by itself" 0 "-0.0$lf" "" get .load
+run "a large number by itself" 0 "340282366920938463463374607431768211455$lf" "" get big
+run "nothing by itself" 0 "null$lf" "" get none
+run "a scalar under a tag" 0 "1$lf" "" get base.x
+run "a text of lines" 0 "two${lf}lines \\u{1b}[1m$lf" "" get text
+run "the same as JSON" 0 '"two\nlines \u001b[1m"'"$lf" "" get --json text
+run "a part as YAML" 0 "- 80$lf- 31$lf" "" get ports
+run "a part as JSON" 0 "[80,31]$lf" "" get --json ports
+run "a key in quotes, and one that is a number" 0 "one$lf" "" get '"a.b"[1]'
+run "a key in other quotes" 0 "1: one${lf}true:$lf- x${lf}null: 2.5$lf" "" get "'a.b'"
+run "parts of files" 1 "@@ $work/first$lf@@ $work/in$lf""web$lf" "$work/first: name: there is no such key" \
+    get name "$work/first" "$work/in"
+told "no such key" 1 "standard input: base.y: there is no such key$lf" get base.y.z
+run "a key that is no text" 1 "" 'standard input: "a.b".true: there is no such key' get '"a.b".true'
+run "a key below a text" 1 "" "standard input: name.x: there is no such key: a text has none" get name.x
+run "a key below a sequence" 1 "" "standard input: ports.x: there is no such key: a sequence has none" get ports.x
+run "no such number" 1 "" "standard input: base[0]: there is no such key" get 'base[0]'
+run "a place past the end" 1 "" "standard input: ports[2]: there is no such place: the sequence has 2, counted from 0" \
+    get 'ports[2].x'
+run "a place below null" 1 "" "standard input: none[0]: there is no such place: null has none" get 'none[0]'
+told "no path" 2 "yaml: the call: \`a..b\` is no path: it goes wrong at character 3$lf" get a..b
+run "a path that ends too soon" 2 "" "is no path: it goes wrong at character 3" get 'a['
+run "a path with a control character" 2 "" "yaml: the call: \`[\\u{1b}\` is no path" get "$(printf '[\033')"
+run "a place of 65 bits" 2 "" "is no path: it goes wrong at character 21" get '[18446744073709551616]'
+run "no path at all" 2 "" "required arguments were not provided" get
+printf '"\\x7f": "\\x85\\e\\"\\n"\n' > "$work/in"
+run "control characters in JSON" 0 '{"\u007f":"\u0085\u001b\"\n"}'"$lf" "" json
+run "control characters by themselves" 0 '\u{85}\u{1b}"'"$lf$lf" "" get "$(printf '\177')"
+printf 'a: [b\n' > "$work/in"
+for words in json "json --documents" "get a" "get --json --documents a"; do
+    # shellcheck disable=SC2086
+    run "no YAML, $words" 1 "" "standard input:2:1: did not find expected ',' or ']', while parsing a flow sequence at \
+line 1 column 4" $words
+done
+printf 'a: 1\nb: 2\na: 3\n' > "$work/in"
+run "a key that stands twice, as JSON" 1 "" 'standard input:3:1: duplicate entry with key "a"' json
+printf 'a: 1\n---\nb: 1.5\n' > "$work/in"
+run "two documents as JSON" 1 "" "standard input:2:1: deserializing from YAML containing more than one document" json
+run "two documents, a part" 1 "" "standard input:2:1: deserializing from YAML containing more than one document" get a
+run "each document as JSON" 0 '{"a":1}'"$lf"'{"b":1.5}'"$lf" "" json --documents
+run "a part of each document" 1 "1.5$lf" "standard input: b: there is no such key" get --documents b
+printf 'a: 1\n---\n[.inf]\n---\n2\n---\n[c\n' > "$work/in"
+run "each document as JSON, with faults" 1 '{"a":1}'"$lf""2$lf" "standard input: .[0]: JSON has no infinite floats" \
+    json --documents
+run "the last of the faults" 1 '{"a":1}'"$lf""2$lf" "standard input:8:1: did not find expected ',' or ']'" \
+    json --documents
+printf '' > "$work/in"
+run "no document as JSON" 0 "null$lf" "" json --documents
+printf 'a: {b: [0, -.inf, .NaN]}\n? {c: 1}\n: 2\n' > "$work/in"
+run "an infinite float by itself" 0 "-.inf$lf" "" get 'a.b[1]'
+told "an infinite float as JSON" 1 "standard input: a.b[1]: JSON has no infinite floats, and none that are no number
+" get --json a
+run "the same of a part" 1 "" "standard input: a.b[2]: JSON has no infinite floats" get --json 'a.b[2]'
+printf '? {c: 1}\n: 2\n' > "$work/in"
+run "a key that is a mapping" 1 "" "standard input: .: JSON has no keys that are sequences or mappings" json
+awk 'BEGIN { for (i = 0; i < 129; i++) printf "["; for (i = 0; i < 129; i++) printf "]" }' > "$work/in"
+run "too deep for JSON" 1 "" "standard input:1:129: recursion limit exceeded" json
+"$program" json < / > "$work/out" 2> "$work/err"
+compare "a folder as JSON" $? 2 "" "yaml: standard input: it can't be read: Is a directory (os error 21)"
+"$program" get a < / > "$work/out" 2> "$work/err"
+compare "a part of a folder" $? 2 "" "yaml: standard input: it can't be read: Is a directory (os error 21)"
+
+# JSON as YAML.
+printf '{"a": [1, -2, 1.50, 1e3, null, true, "yes", "", "a: b"], "b": {}, "c": []}' > "$work/in"
+cat > "$work/converted" << 'END'
+a:
+- 1
+- -2
+- 1.5
+- 1000.0
+- null
+- true
+- 'yes'
+- ''
+- 'a: b'
+b: {}
+c: []
+END
+run "JSON as YAML" 0 "$(cat "$work/converted")$lf" "" from-json
+run "JSON of a file" 0 "$(cat "$work/converted")$lf" "" from-json "$work/in"
+"$program" json < "$work/converted" > "$work/out" 2> "$work/err"
+compare "what came of JSON, as JSON" $? 0 '{"a":[1,-2,1.5,1000.0,null,true,"yes","","a: b"],"b":{},"c":[]}'"$lf" ""
+printf '[340282366920938463463374607431768211455, -170141183460469231731687303715884105728]' > "$work/in"
+run "large numbers of JSON" 0 "- 340282366920938463463374607431768211455
+- -170141183460469231731687303715884105728
+" "" from-json
+printf '"\\ud83d\\ude00\\u001b"' > "$work/in"
+run "escapes of JSON" 0 "\"😀\\e\"$lf" "" from-json
+printf '{"a": "\\ud800"}' > "$work/in"
+told "a lone surrogate" 1 'standard input:1:7: this is no JSON
+  1 | {"a": "\ud800"}
+    |       ^
+' from-json
+printf '{"a":\n  [1' > "$work/in"
+run "JSON that ends too soon" 1 "" "standard input:2:4: this JSON ends too soon" from-json
+printf '{"\303\251": 1,\n "\303\251": 2}' > "$work/in"
+run "a key of JSON that stands twice" 1 "" "this JSON stands twice" from-json
+printf 'a: 1\n' > "$work/in"
+run "YAML that is no JSON" 1 "" "standard input:1:1: this is no JSON" from-json
+printf '1 2' > "$work/in"
+run "JSON with more behind it" 1 "" "standard input:1:3: this is no JSON" from-json
+printf '"caf\351"' > "$work/in"
+run "JSON that is not UTF-8" 1 "" "standard input:1:5: this is no JSON" from-json
+printf '' > "$work/in"
+run "no JSON" 1 "" "standard input:1:1: this JSON ends too soon" from-json
+run "two files of JSON" 2 "" "unexpected argument '$work/in' found" from-json "$work/in" "$work/in"
+
 # Each command of the page, in a folder with its files, as it stands there.
 page=$root/../../docs/COMMANDS.md
 mkdir "$work/page" "$work/bin"

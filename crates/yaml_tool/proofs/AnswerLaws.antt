@@ -39,6 +39,9 @@ asked-read : (t : Task) (bytes : List ℕ) (ended : Status) (text : List ℕ) (f
 asked-read (task.Show limits) bytes ended text faults h = faults-read faults ended h.0
 asked-read (task.ShowEach limits) bytes ended text faults h = faults-read faults ended h.0
 asked-read (task.Convert limits) bytes ended text faults h = faults-read faults ended h
+asked-read (task.Ask question) bytes ended text faults h = faults-read faults ended h.0
+asked-read (task.AskEach question) bytes ended text faults h = faults-read faults ended h.0
+asked-read task.FromJson bytes ended text faults h = faults-read faults ended h.0
 asked-read task.Events bytes ended text faults h = events-read h.0.fault ended h.0.ends
 asked-read task.FullEvents bytes ended text faults h = either-read ended h.0
 asked-read task.Check bytes ended text faults h = faults-read faults ended h

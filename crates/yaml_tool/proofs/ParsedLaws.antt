@@ -40,7 +40,3 @@ shown-parsed bytes limits table named s stream text faults same p shown =
     (λ events fault. AreShown limits named s (documents_of events fault) text faults)
     (λ events fault is. subst (λ x. AreShown limits named s x.documents text faults) is
     (subst (λ t. AreShown limits t s stream.documents text faults) same shown)) p
-
--- two parts, put behind nothing
-pub two_parts : (a b c one two : List ℕ) → a ≡ [] → b ≡ a ++ one → c ≡ b ++ two → c ≡ one ++ two
-two_parts a b c one two none x y = y ∙ ap (λ t. t ++ two) (x ∙ ap (λ t. t ++ one) none)

@@ -6,7 +6,7 @@ use Rattle.yaml_base.specs.PlainFault.{PlainFault}
 use Rattle.yaml_base.specs.Position.{Position}
 use Rattle.yaml_base.specs.declared.event.Event.{Event}
 use Rattle.yaml_lines.specs.WrittenLines.{event_line, fault_line}
-use Rattle.yaml_documents.specs.TextEvents.{AreRead}
+use Rattle.yaml_documents.specs.TextEvents.{AreParsed}
 use Rattle.yaml_run.specs.declared.status.Status.{Status}
 use Rattle.yaml_run.specs.declared.status.Status.TheVariants as status
 
@@ -28,6 +28,6 @@ ended_by (Some fault) = status.Fault
 pub record AreEventsTold (text : List ℕ) (ended : Status) (lines : List ℕ) : Type 0 where
   pub events : List (Event × Position)
   pub fault : Option PlainFault
-  pub parsed : AreRead text events fault
+  pub parsed : AreParsed text events fault
   pub ends : ended ≡ ended_by fault
   pub told : lines ≡ event_lines events ++ fault_lines fault

@@ -5,11 +5,15 @@ ghost use Rattle.yaml_read.specs.Documents.{documents_of};
 ghost use Rattle.serde_yaml.specs.TextReads.{IsParsed};
 ghost use Rattle.yaml_run.specs.Shown.{AreShown, ended_by, IsShown};
 ghost use Rattle.yaml_tool.specs.Answers.{any_first, any_table, IsAnswer, IsAsked};
-ghost use Rattle.yaml_tool.specs.declared.task.Task.TheVariants.{Show, ShowEach, Events, FullEvents};
+ghost use Rattle.yaml_tool.specs.declared.task.Task.TheVariants.{Ask, AskEach, Events, FromJson, FullEvents};
+ghost use Rattle.yaml_tool.specs.declared.task.Task.TheVariants.{Show, ShowEach};
 
-use crate::answered::{Answered, of_parts, of_text};
+use crate::answered::{Answered, of_parts, of_shown, of_text};
+use crate::asked::{asked, asked_in_turn};
 use crate::convert::converted;
 use crate::events::{told_events, told_full_events};
+use crate::from_json::from_json;
+use crate::question::Question;
 use crate::task::Task;
 use serde_yaml::{Deserializer, Limits};
 use std::alloc::{AllocError, Global};
@@ -103,15 +107,43 @@ fn checked(alloc: Global, text: &[u8]) -> Result<Answered, AllocError>
     Ok(of_parts(String::new(alloc), faults_of(alloc, text)?))
 }
 
-// What is asked of a text.
-fn answered(alloc: Global, task: Task, text: &[u8]) -> Result<Answered, AllocError>
+// The answer to `Task::Ask`.
+fn ask(alloc: Global, question: &Question, text: &[u8]) -> Result<Answered, AllocError>
     ensures { IfOk result (λ answer.
-        IsAsked task text.now answer.ended (string_bytes answer.text) answer.faults.items) }
+        IsAsked (Ask question.now) text.now answer.ended (string_bytes answer.text) answer.faults.items) }
+{
+    of_text(alloc, asked(alloc, question, text))
+}
+
+// The answer to `Task::AskEach`.
+fn ask_each(alloc: Global, question: &Question, text: &[u8]) -> Result<Answered, AllocError>
+    ensures { IfOk result (λ answer.
+        IsAsked (AskEach question.now) text.now answer.ended (string_bytes answer.text) answer.faults.items) }
+{
+    let shown = asked_in_turn(alloc, question, text)?;
+    Ok(of_shown(shown))
+}
+
+// The answer to `Task::FromJson`.
+fn read_json(alloc: Global, text: &[u8]) -> Result<Answered, AllocError>
+    ensures { IfOk result (λ answer.
+        IsAsked FromJson text.now answer.ended (string_bytes answer.text) answer.faults.items) }
+{
+    of_text(alloc, from_json(alloc, text))
+}
+
+// What is asked of a text.
+fn answered(alloc: Global, task: &Task, text: &[u8]) -> Result<Answered, AllocError>
+    ensures { IfOk result (λ answer.
+        IsAsked task.now text.now answer.ended (string_bytes answer.text) answer.faults.items) }
 {
     match task {
-        Task::Show(limits) => show(alloc, limits, text),
-        Task::ShowEach(limits) => show_each(alloc, limits, text),
-        Task::Convert(limits) => of_text(alloc, converted(alloc, limits, text)),
+        Task::Show(limits) => show(alloc, *limits, text),
+        Task::ShowEach(limits) => show_each(alloc, *limits, text),
+        Task::Convert(limits) => of_text(alloc, converted(alloc, *limits, text)),
+        Task::Ask(question) => ask(alloc, question, text),
+        Task::AskEach(question) => ask_each(alloc, question, text),
+        Task::FromJson => read_json(alloc, text),
         Task::Events => events(alloc, text),
         Task::FullEvents => full_events(alloc, text),
         Task::Check => checked(alloc, text),
@@ -132,8 +164,8 @@ pub fn no_answer(alloc: Global) -> Answered
 }
 
 /// What a text is answered. Where memory runs out, nothing is printed and no fault is told.
-pub fn answer_to(alloc: Global, task: Task, text: &[u8]) -> Answered
-    ensures { IsAnswer task text.now result.ended (string_bytes result.text) result.faults.items }
+pub fn answer_to(alloc: Global, task: &Task, text: &[u8]) -> Answered
+    ensures { IsAnswer task.now text.now result.ended (string_bytes result.text) result.faults.items }
 {
     match answered(alloc, task, text) {
         Ok(answer) => answer,

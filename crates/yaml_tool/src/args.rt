@@ -1,10 +1,12 @@
 //! The words of the call.
 
+use crate::question::{Form, Question};
 use crate::task::Task;
 use clap::builder::ValueParser;
 use clap::{Arg, ArgAction, ArgMatches, Command, Error};
 use serde_yaml::Limits;
 use std::alloc::{AllocError, Global};
+use yaml_query::{Path, PathFault, parse_path};
 
 /// When faults have colors.
 #[derive(Clone, Copy)]
@@ -37,12 +39,40 @@ pub struct Request<'a> {
     pub files: Vec<&'a str>,
 }
 
+/// Why the words of a call ask for nothing.
+#[derive(Drop)]
+pub enum Refusal<'a> {
+    /// They ask for help or for the version, or one of them is wrong.
+    Words(Error),
+    /// This one is no path.
+    Path(&'a str, PathFault),
+}
+
+impl From<Error> for Refusal<'_> {
+    fn from(error: Error) -> Self {
+        Refusal::Words(error)
+    }
+}
+
+impl From<AllocError> for Refusal<'_> {
+    fn from(refused: AllocError) -> Self {
+        Refusal::Words(refused.into())
+    }
+}
+
 const ABOUT: &str = "Reads YAML, tells what is wrong with it, and prints what is in it";
+
+const PATHS: &str = "Paths:
+  servers[1].port        the port of the second server: keys, and places counted from 0
+  labels.\"app.name\"      a key with a dot, a bracket or a quote in it stands in quotes
+  .                      the whole";
 
 const EXAMPLES: &str = "Examples:
   yaml check .                    each fault of the YAML files here and below
-  yaml show config.yaml           the data of a file, in a line
-  yaml convert config.yaml        the same data as YAML
+  yaml get 'servers[0].port' config.yaml
+                                  a part of a file
+  yaml json config.yaml           the data of a file, as JSON
+  yaml from-json data.json        JSON as YAML
 
 Without a FILE, or for -, standard input is read. What is asked is printed on standard
 output, and faults on standard error. The status is 0, or 1 where a text has a fault, or 2
@@ -139,6 +169,50 @@ fn show<'a>(alloc: Global) -> Result<Command<'a>, AllocError> {
     with_telling(alloc, command)?.arg(files(alloc))
 }
 
+// The command that prints JSON.
+fn json<'a>(alloc: Global) -> Result<Command<'a>, AllocError> {
+    let command = Command::new(alloc, "json")
+        .about("Prints the one document of each file as JSON, in a line")
+        .arg(flag(alloc, "pretty", "Prints a line for each item and member"))?
+        .arg(flag(
+            alloc,
+            "documents",
+            "Prints each document of a file, one below the other",
+        ))?;
+    with_telling(alloc, command)?.arg(files(alloc))
+}
+
+// The command that prints a part of a document.
+fn get<'a>(alloc: Global) -> Result<Command<'a>, AllocError> {
+    let command = Command::new(alloc, "get")
+        .about("Prints a part of the one document: a scalar by its text, anything else as YAML")
+        .after_help(PATHS)
+        .arg(
+            Arg::new(alloc, "path")
+                .value_name("PATH")
+                .required(true)
+                .help("The path to the part, as servers[1].port"),
+        )?
+        .arg(flag(alloc, "json", "Prints the part as JSON, in a line"))?
+        .arg(flag(
+            alloc,
+            "documents",
+            "Prints the part of each document, one below the other",
+        ))?;
+    with_telling(alloc, command)?.arg(files(alloc))
+}
+
+// The command that prints the YAML of JSON.
+fn from_json<'a>(alloc: Global) -> Result<Command<'a>, AllocError> {
+    let command = Command::new(alloc, "from-json").about(
+        "Prints JSON as YAML, with quotes where other readers of YAML need them",
+    );
+    with_telling(alloc, command)?.arg(one_file(
+        alloc,
+        "The file with JSON to read; standard input where none is named",
+    ))
+}
+
 // The command that prints documents as YAML text. It is also called by the name that a command which keeps comments is
 // to have.
 fn convert<'a>(alloc: Global) -> Result<Command<'a>, AllocError> {
@@ -176,6 +250,9 @@ fn program<'a>(alloc: Global) -> Result<Command<'a>, AllocError> {
         .after_help(EXAMPLES)
         .subcommand_required(true)
         .subcommand(check(alloc)?)?
+        .subcommand(get(alloc)?)?
+        .subcommand(json(alloc)?)?
+        .subcommand(from_json(alloc)?)?
         .subcommand(convert(alloc)?)?
         .subcommand(show(alloc)?)?
         .subcommand(events(alloc)?)
@@ -211,8 +288,55 @@ fn telling_of(matches: &ArgMatches<'_>) -> Telling {
     }
 }
 
+// A question about the one document, or about each.
+fn asking(matches: &ArgMatches<'_>, question: Question) -> Task {
+    if matches.get_flag("documents") {
+        Task::AskEach(question)
+    } else {
+        Task::Ask(question)
+    }
+}
+
+// What `json` asks.
+fn json_task(alloc: Global, matches: &ArgMatches<'_>) -> Task {
+    let path = Path {
+        steps: Vec::new(alloc),
+    };
+    let form = if matches.get_flag("pretty") {
+        Form::PrettyJson
+    } else {
+        Form::Json
+    };
+    asking(matches, Question { path, form })
+}
+
+// What `get` asks.
+fn get_task<'a>(alloc: Global, matches: &ArgMatches<'a>) -> Result<Task, Refusal<'a>> {
+    let word = matches.get_str("path").unwrap_or(".");
+    let path = match parse_path(alloc, word) {
+        Ok(path) => path,
+        Err(why) => return Err(Refusal::Path(word, why)),
+    };
+    let form = if matches.get_flag("json") {
+        Form::Json
+    } else {
+        Form::Plain
+    };
+    Ok(asking(matches, Question { path, form }))
+}
+
 // What is asked by the command with this name.
-fn task_of(name: &str, matches: &ArgMatches<'_>) -> Task {
+fn task_of<'a>(alloc: Global, name: &str, matches: &ArgMatches<'a>) -> Result<Task, Refusal<'a>> {
+    match name {
+        "get" => get_task(alloc, matches),
+        "json" => Ok(json_task(alloc, matches)),
+        "from-json" => Ok(Task::FromJson),
+        _ => Ok(older_task_of(name, matches)),
+    }
+}
+
+// The same of the commands that need no memory to ask.
+fn older_task_of(name: &str, matches: &ArgMatches<'_>) -> Task {
     match name {
         "show" if matches.get_flag("documents") => Task::ShowEach(limits_of(matches)),
         "show" => Task::Show(limits_of(matches)),
@@ -225,7 +349,7 @@ fn task_of(name: &str, matches: &ArgMatches<'_>) -> Task {
 
 /// What the words of a call ask for, of which the first is the program's name. An error is help, the version, or what
 /// is wrong with a word.
-pub fn requested<'a>(alloc: Global, words: &'a [String]) -> Result<Request<'a>, Error> {
+pub fn requested<'a>(alloc: Global, words: &'a [String]) -> Result<Request<'a>, Refusal<'a>> {
     let matches = program(alloc)?.try_get_matches_from(words)?;
     let Some((name, matches)) = matches.subcommand() else {
         return Ok(Request {
@@ -235,7 +359,7 @@ pub fn requested<'a>(alloc: Global, words: &'a [String]) -> Result<Request<'a>, 
         });
     };
     Ok(Request {
-        task: task_of(name, matches),
+        task: task_of(alloc, name, matches)?,
         telling: telling_of(matches),
         files: files_of(alloc, matches)?,
     })

@@ -5,6 +5,7 @@ ghost use Rattle.yaml_tool.specs.ToldEvents.{AreEventsTold, ended_by, event_line
 
 use std::alloc::{AllocError, Global};
 use yaml_base::{Event, Mark, ParserFault};
+use yaml_documents::events_of_text;
 use yaml_lines::{write_event, write_fault};
 use yaml_parse::parse;
 use yaml_run::{Status, Told};
@@ -39,17 +40,19 @@ fn push_events(out: &mut String, events: &[(Event<'_>, Mark)]) -> Result<(), All
     Ok(())
 }
 
-/// The events of a text, a line each, and a line for the parser's fault, if there is one. The only error is that memory
-/// runs out.
+/// The events of a text, a line each, and a line for the parser's fault, if there is one: where documents stand in the
+/// text by the grammar, exactly their events. The only error is that memory runs out.
 pub fn told_events(alloc: Global, text: &[u8]) -> Result<Told, AllocError>
     ensures { IfOk result (λ told. AreEventsTold text.now told.ended (string_bytes told.text)) }
 {
-    let parsed = parse(alloc, text)?;
+    let Ok((events, fault)) = events_of_text(alloc, text) else {
+        return Err(AllocError);
+    };
     let mut out = String::new(alloc);
-    push_events(&mut out, parsed.events.as_slice())?;
-    push_fault(&mut out, &parsed.fault)?;
+    push_events(&mut out, events.as_slice())?;
+    push_fault(&mut out, &fault)?;
     Ok(Told {
-        ended: ending_of(&parsed.fault),
+        ended: ending_of(&fault),
         text: out,
     })
 }
@@ -79,7 +82,7 @@ fn push_context(out: &mut String, fault: &ParserFault) -> Result<(), AllocError>
     writeln!(out, "{index}:{line}:{column} !CONTEXT {context}")
 }
 
-/// The same lines, in which a scalar's has the two ends of its slice of the text, with `..` between, in place of its
+/// The same lines, of the events that the parser makes of the text by its tokens, in which a scalar's has the two ends of its slice of the text, with `..` between, in place of its
 /// index, and behind the fault a line for its context, if it has one.
 pub fn told_full_events(alloc: Global, text: &[u8]) -> Result<Told, AllocError>
     ensures { IfOk result (λ told. (told.ended ≡ Status.Read) ⊎ (told.ended ≡ Status.Fault)) }

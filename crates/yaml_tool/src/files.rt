@@ -22,7 +22,7 @@ const INPUT_WORD: &str = "-";
 const INPUT_NAME: &str = "standard input";
 
 /// What is asked of inputs, and how faults are told.
-#[derive(Clone, Copy)]
+#[derive(Drop)]
 pub struct Order {
     /// What is asked.
     pub task: Task,
@@ -97,7 +97,7 @@ fn run_input<I: Read + Drop, W: Write, E: Write>(
     errors: &mut E,
 ) {
     let mut reader = Watched::new(input);
-    let ran = run(alloc, order.task, &mut reader, writer);
+    let ran = run(alloc, &order.task, &mut reader, writer);
     let why = cause_of(ran.ended, &reader, writer);
     let _told = complain(alloc, errors, name, ran.ended, &why);
     tell_faults(alloc, order, name, &ran, errors);

@@ -4,25 +4,32 @@
 mod answer;
 mod answered;
 mod args;
+mod asked;
+mod bare;
+mod characters;
 mod complaint;
 mod convert;
 mod events;
 mod files;
 mod folder;
+mod from_json;
+mod json_text;
+mod part;
+mod question;
 mod reply;
 mod run;
 mod task;
 mod tell;
 mod usage;
 
-use args::{Color, Request, Telling, requested};
+use args::{Color, Refusal, Request, Telling, requested};
 use complaint::complain_of_words;
 use files::{Order, run_all};
 use std::env::{self, Env};
 use std::io::{self, IsTerminal};
 use std::process::ExitCode;
 use tell::Manner;
-use usage::show_usage;
+use usage::{complain_of_path, show_usage};
 use yaml_report::Look;
 use yaml_run::{Status, Watched};
 
@@ -58,27 +65,36 @@ fn manner_of(rt: &HostRuntime, telling: Telling) -> Manner {
 }
 
 // Does what is asked.
-fn perform(rt: &HostRuntime, request: &Request<'_>) -> Status {
+fn perform(rt: &HostRuntime, request: Request<'_>) -> Status {
+    let Request {
+        task,
+        telling,
+        files,
+    } = request;
     let mut writer = Watched::new(rt.stdout());
     let mut errors = rt.stderr();
     let order = Order {
-        task: request.task,
-        manner: manner_of(rt, request.telling),
+        task,
+        manner: manner_of(rt, telling),
     };
-    run_all(
-        rt,
-        &order,
-        request.files.as_slice(),
-        &mut writer,
-        &mut errors,
-    )
+    run_all(rt, &order, files.as_slice(), &mut writer, &mut errors)
+}
+
+// Tells why the words of the call ask for nothing, or prints what they ask for of themselves.
+fn tell_refusal(rt: &HostRuntime, refusal: &Refusal<'_>) -> Status {
+    match refusal {
+        Refusal::Words(error) => {
+            show_usage(rt.alloc(), error, &mut rt.stdout(), &mut rt.stderr())
+        }
+        Refusal::Path(path, why) => complain_of_path(&mut rt.stderr(), path, *why),
+    }
 }
 
 fn main(rt: HostRuntime) -> ExitCode {
     let status = match words(&rt) {
         Ok(words) => match requested(rt.alloc(), words.as_slice()) {
-            Ok(request) => perform(&rt, &request),
-            Err(error) => show_usage(rt.alloc(), &error, &mut rt.stdout(), &mut rt.stderr()),
+            Ok(request) => perform(&rt, request),
+            Err(refusal) => tell_refusal(&rt, &refusal),
         },
         Err(why) => {
             let _told = complain_of_words(&mut rt.stderr(), &why);

@@ -20,11 +20,11 @@ pub struct Replied {
 }
 
 /// Reads all of the input, and answers what is asked of it.
-pub fn reply<R: Read>(alloc: Global, task: Task, reader: &mut R) -> Result<Replied, Unread>
+pub fn reply<R: Read>(alloc: Global, task: &Task, reader: &mut R) -> Result<Replied, Unread>
     ensures answers { IfOk result (λ reply. (input : List ℕ)
         × IfSome (R.remaining reader.old) (λ bytes. input ≡ bytes)
         × IfSome reply.input (λ given. given.items ≡ input)
-        × IsAnswer task input reply.answer.ended (string_bytes reply.answer.text) reply.answer.faults.items) }
+        × IsAnswer task.now input reply.answer.ended (string_bytes reply.answer.text) reply.answer.faults.items) }
 {
     match read_input(alloc, reader) {
         Ok(input) => Ok(Replied {

@@ -42,13 +42,13 @@ fn printed<W: Write>(writer: &mut W, reply: Replied) -> Ran
 ///
 /// All of the input is read before any of it is looked at. Nothing is written where it can't be read, or where memory
 /// runs out.
-pub fn run<R: Read, W: Write>(alloc: Global, task: Task, reader: &mut R, writer: &mut W) -> Ran
+pub fn run<R: Read, W: Write>(alloc: Global, task: &Task, reader: &mut R, writer: &mut W) -> Ran
     // Unless the reader failed, the answer to the input is printed, and its faults are given back.
     ensures prints { result.ended ≢ Status.ReadFailed
         → (text : List ℕ) × (input : List ℕ) × (ended : PlainStatus)
         × IfSome (R.remaining reader.old) (λ bytes. input ≡ bytes)
         × IfSome result.input (λ given. given.items ≡ input)
-        × IsAnswer task input ended text result.faults.items
+        × IsAnswer task.now input ended text result.faults.items
         × Prints (W.contents writer.old) (W.contents writer.new) text ended result.ended }
 
     // Where the reader failed, nothing is written.

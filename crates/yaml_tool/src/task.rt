@@ -1,9 +1,10 @@
 //! What may be asked of a text.
 
+use crate::question::Question;
 use serde_yaml::Limits;
 
 /// What is asked of a text.
-#[derive(Clone, Copy)]
+#[derive(Drop)]
 pub enum Task {
     /// The data of its one document, as a value of any kind within limits: a line.
     Show(Limits),
@@ -11,6 +12,12 @@ pub enum Task {
     ShowEach(Limits),
     /// Its documents printed as YAML text, each read as a value of any kind within limits.
     Convert(Limits),
+    /// A part of its one document.
+    Ask(Question),
+    /// That part of each of its documents.
+    AskEach(Question),
+    /// The YAML of the JSON that it is.
+    FromJson,
     /// Its events, a line each, and the parser's fault.
     Events,
     /// The same, with the slice of each scalar and the context of the fault.
@@ -22,9 +29,10 @@ pub enum Task {
 impl Task {
     /// Whether what is printed of each of several files stands behind a line with its name.
     pub fn is_titled(&self) -> bool {
-        matches!(
-            self,
-            Task::Show(_) | Task::ShowEach(_) | Task::Events | Task::FullEvents
-        )
+        match self {
+            Task::Show(_) | Task::ShowEach(_) | Task::Events | Task::FullEvents => true,
+            Task::Ask(question) | Task::AskEach(question) => !question.is_whole(),
+            Task::Convert(_) | Task::FromJson | Task::Check => false,
+        }
     }
 }

@@ -11,7 +11,7 @@ returns-in-Ok g c = record {
     c.in-Ok.input.items,
     c.in-Ok.ensures,
     refl,
-    subst (λ i. IsAnswer c.args.task i c.answer_to.result.ended (string_bytes c.answer_to.result.text)
+    subst (λ i. IsAnswer c.args.task.now i c.answer_to.result.ended (string_bytes c.answer_to.result.text)
         c.answer_to.result.faults.items) c.as_slice.ensures.value c.answer_to.ensures,
   );
 }

@@ -15,7 +15,7 @@ returns-in-Ok-clause-prints g c = λ read.
       answer.ended,
       h.1,
       subst (λ i. IfSome i (λ given. given.items ≡ h.0)) (sym c.printed.ensures.input) h.2,
-      subst (λ f. IsAnswer c.args.task h.0 answer.ended (string_bytes answer.text) f.items)
+      subst (λ f. IsAnswer c.args.task.now h.0 answer.ended (string_bytes answer.text) f.items)
           (sym c.printed.ensures.faults) h.3,
       c.printed.ensures.prints,
     )
@@ -23,4 +23,4 @@ returns-in-Ok-clause-prints g c = λ read.
 pub returns-in-Ok-clause-unwritten : goal.returns-in-Ok-clause-unwritten
 returns-in-Ok-clause-unwritten g c = λ failed.
     let h = c.in-Ok.ensures.answers in
-    absurd (printed-read _ _ _ _ _ c.printed.ensures.prints (answer-read c.args.task _ _ _ _ h.3) failed)
+    absurd (printed-read _ _ _ _ _ c.printed.ensures.prints (answer-read c.args.task.now _ _ _ _ h.3) failed)
