@@ -1,10 +1,12 @@
 #!/bin/sh
-# All that is tried of the crate: its tests, and the comparison with serde_yaml 0.9.34. No part of the gate.
+# All that is tried of the crate: its tests, its examples beside serde_yaml 0.9.34, and the comparison with that. No part
+# of the gate.
 # usage: sh rust/test.sh [SEED [TEXTS]]
 # YAML_C_DIR: the folder of libyaml_c.a and liblibc_c.a, if not crates/yaml_c/out.
 # REGISTRY: a folder of crates to take in place of crates.io, as /usr/share/cargo/registry of Debian's packages
 #   librust-serde-dev, librust-serde-derive-dev, librust-indexmap-dev; with it cargo asks no network.
-# ORIGINAL: a folder with the crate serde_yaml 0.9.34, in place of the one of crates.io.
+# ORIGINAL: a folder with the crate serde_yaml 0.9.34, in place of the one of crates.io. Its `Value` need not have what
+#   the example `manifest` asks of it, which is then run by this crate alone.
 # WORK: where to build; else a temporary folder.
 set -e
 here=$(cd "$(dirname "$0")" && pwd)
@@ -13,7 +15,7 @@ export YAML_C_DIR
 work=${WORK:-$(mktemp -d)}
 [ "$WORK" ] || trap 'rm -rf "$work"' EXIT
 mkdir -p "$work/.cargo"
-for name in Cargo.toml README.md build.rs src tests compare; do
+for name in Cargo.toml README.md build.rs src tests examples compare; do
   rm -rf "${work:?}/$name"
   cp -R "$here/$name" "$work/$name"
 done
@@ -36,5 +38,19 @@ cargo test
 if cargo clippy --version > /dev/null 2>&1; then
   cargo clippy --all-targets -- -D warnings
 fi
+
+# the examples print the same where nothing but their first import is changed
+mkdir -p compare/examples
+cp examples/*.yaml compare/examples
+for name in config manifest stream; do
+  cargo run -q --example $name > "$name.ours"
+  if [ -z "$ORIGINAL" ] || [ $name != manifest ]; then
+    sed '/^use panelhemp_yaml as serde_yaml;$/d' "examples/$name.rs" > "compare/examples/$name.rs"
+    (cd compare && cargo run -q --example $name) > "$name.theirs"
+    diff "$name.ours" "$name.theirs"
+    echo "example $name: as the original"
+  fi
+done
+
 cd compare
 cargo run --release --bin compare -- "${1:-1}" "${2:-2000}"

@@ -83,7 +83,10 @@ impl<'r> Text<'_, 'r> {
 
 // How many rows a text will mostly take, by the characters that part its nodes.
 fn likely_rows(text: &[u8]) -> usize {
-    let parting = text.iter().filter(|byte| matches!(byte, b'\n' | b',' | b':' | b'[' | b'{')).count();
+    let is_parting = |byte: u8| (byte == b'\n') | (byte == b',') | (byte == b':') | (byte == b'[') | (byte == b'{');
+    // sums that fit a byte, so that many bytes are looked at in one step
+    let sum_of = |part: &[u8]| part.iter().map(|byte| u8::from(is_parting(*byte))).sum::<u8>();
+    let parting: usize = text.chunks(255).map(|part| usize::from(sum_of(part))).sum();
     parting + parting / 2 + 16
 }
 

@@ -77,6 +77,7 @@ pub struct Renamed {
     #[serde(skip_serializing_if = "Option::is_none")]
     label: Option<char>,
     #[serde(skip)]
+    #[allow(dead_code)]
     hidden: u8,
     inner: Option<Inner>,
 }

@@ -1,26 +1,11 @@
 //! Times of reading and writing by both crates in one process: the least of some runs, sides by turns.
 //! `speed [RUNS [SIZE]]`: on a machine that others use, take a small SIZE, as 2, and many runs.
 
-use panelhemp_yaml_compare::random::Random;
+use panelhemp_yaml_compare::loads::{integers, jobs, words};
 use serde::de::{DeserializeOwned, IgnoredAny};
-use serde::{Deserialize, Serialize};
-use std::collections::BTreeMap;
+use serde::Serialize;
 use std::hint::black_box;
 use std::time::Instant;
-
-#[derive(Serialize, Deserialize)]
-struct Job {
-    name: String,
-    host: String,
-    port: u16,
-    is_on: bool,
-    ratio: f64,
-    tags: Vec<String>,
-    limits: BTreeMap<String, u64>,
-    owner: Option<String>,
-    offset: i64,
-    about: String,
-}
 
 fn time(runs: usize, mut ours: impl FnMut(), mut theirs: impl FnMut()) -> (f64, f64) {
     let mut least = (f64::MAX, f64::MAX);
@@ -67,30 +52,19 @@ fn main() {
     let number =
         |n: usize, default: usize| std::env::args().nth(n).map_or(default, |word| word.parse().expect("a number"));
     let (runs, size) = (number(1, 15), number(2, 100));
-    let mut random = Random::of(7);
-    both("Vec<i64>", runs, &(0..1000 * size).map(|_| (random.bits() >> random.below(63)) as i64).collect::<Vec<_>>());
-    let word = |random: &mut Random| format!("word {} of some", random.below(1_000_000));
-    both("Vec<String>", runs, &(0..500 * size).map(|_| word(&mut random)).collect::<Vec<_>>());
-    let jobs: Vec<Job> = (0..40 * size)
-        .map(|n| Job {
-            name: format!("server number {n}"),
-            host: format!("10.0.{}.{}", n % 200, n % 7),
-            port: (n % 60_000) as u16,
-            is_on: n % 2 == 0,
-            ratio: n as f64 / 7.0,
-            tags: vec!["web".to_owned(), format!("zone-{}", n % 9), "it's".to_owned()],
-            limits: [("cpu".to_owned(), n as u64), ("memory".to_owned(), n as u64 * 1000)].into(),
-            owner: (n % 3 == 0).then(|| "someone".to_owned()),
-            offset: -(n as i64),
-            about: "a longer text: with some words in it, and a colon".to_owned(),
-        })
-        .collect();
+    both("Vec<i64>", runs, &integers(1000 * size));
+    both("Vec<String>", runs, &words(500 * size));
+    let jobs = jobs(40 * size);
     both("Vec<struct of ten fields>", runs, &jobs);
     let text = serde_yaml::to_string(&jobs).unwrap();
     let skipped = time(
         runs,
-        || drop(black_box(panelhemp_yaml::from_str::<IgnoredAny>(&text).unwrap())),
-        || drop(black_box(serde_yaml::from_str::<IgnoredAny>(&text).unwrap())),
+        || {
+            let _ = black_box(panelhemp_yaml::from_str::<IgnoredAny>(&text).unwrap());
+        },
+        || {
+            let _ = black_box(serde_yaml::from_str::<IgnoredAny>(&text).unwrap());
+        },
     );
     told("read IgnoredAny of it", text.len(), skipped);
     let values = time(
@@ -111,8 +85,16 @@ fn main() {
     let count = 100 * size;
     let small_times = time(
         runs,
-        || (0..count).for_each(|_| drop(black_box(panelhemp_yaml::from_str::<IgnoredAny>(small).unwrap()))),
-        || (0..count).for_each(|_| drop(black_box(serde_yaml::from_str::<IgnoredAny>(small).unwrap()))),
+        || {
+            (0..count).for_each(|_| {
+                let _ = black_box(panelhemp_yaml::from_str::<IgnoredAny>(small).unwrap());
+            })
+        },
+        || {
+            (0..count).for_each(|_| {
+                let _ = black_box(serde_yaml::from_str::<IgnoredAny>(small).unwrap());
+            })
+        },
     );
     told("read small texts", small.len() * count, small_times);
 }
