@@ -24,6 +24,7 @@ yaml_shape/Walks yaml_tree/Code yaml_tree/Entries yaml_tree/EntryText yaml_tree/
 yaml_tree/Hash yaml_tree/Index yaml_tree/Lookup yaml_tree/TakeOut yaml_types/ArrayLaws yaml_types/ChoiceLaws
 yaml_types/ChoiceReturns yaml_types/MapLaws yaml_types/PlainLaws yaml_types/ReturnLaws yaml_types/RowReturns
 yaml_types/SetLaws yaml_types/ShapeLaws yaml_types/StartLaws yaml_types/StructLaws yaml_types/WrittenLaws
+yaml_value/Code yaml_value/Entries yaml_value/Falls yaml_value/Hash yaml_value/Index yaml_value/Sizes
 yaml_write/Content yaml_write/PartsOf yaml_write/WrittenEvents yaml_write/WrittenParts'
 # The one of inner/ that a promise cites: the fault of a document that was cut off.
 stated='yaml_read/inner/Reader'
