@@ -2,15 +2,16 @@
 use Rattle.std.proofs.Common.{◌≡◌, ◌≤◌, ℕ, Bool, true, false, List, [], ◌∷◌, ◌++◌, append_assoc, length}
 use Rattle.std.proofs.Common.{Option, Some, None, refl, sym, ap, ◌∙◌, subst, Result, Ok, Err, arith}
 use Rattle.std.proofs.lemmas.List.{append-nil, length-append}
-use Rattle.std.specs.Prelude.{IsErrAnd, ◌+◌, suc}
+use Rattle.std.specs.Prelude.{IsErrAnd, OnOk, ◌+◌, suc}
 use Rattle.yaml_base.specs.EmitEvents.{PlainEmit, emit_stream_start, emit_stream_end, emit_document_start}
 use Rattle.yaml_base.specs.EmitEvents.{emit_document_end, emit_scalar, emit_sequence_start, emit_sequence_end}
 use Rattle.yaml_base.specs.EmitEvents.{emit_mapping_start, emit_mapping_end, emit_of}
 use Rattle.yaml_base.specs.EmitTree.{EmitNode, IsEmitStream}
 use Rattle.yaml_base.specs.declared.emitter.EmitEvent.{EmitEvent}
-use Rattle.yaml_emit.specs.Emitting.{Continues, Ends, StandsFor, is_start}
+use Rattle.yaml_emit.specs.Emitting.{Continues, Ends, HasTaken, StandsFor, held_events, is_start}
 use Rattle.yaml_emit.specs.LayoutMachine.{Laid, Steps, hollow, hollow_at, is_mapping_end, is_sequence_end, printed_from}
-use Rattle.yaml_emit.specs.LayoutMachine.{step, unbegun, with_node_text}
+use Rattle.yaml_emit.specs.LayoutMachine.{laid, step, unbegun, with_node_text}
+use Rattle.yaml_emit.specs.declared.emitter.Printing.{Printing}
 use Rattle.yaml_emit.specs.declared.emitter.Progress.{Progress}
 use Rattle.yaml_emit.specs.declared.emitter.Progress.TheVariants.{Going, Wrong, Short}
 use Rattle.yaml_emit.specs.declared.stop.Stop.{Stop}
@@ -113,6 +114,23 @@ goes_wrong taken count place s held e whatever new left small h is =
       omega (arith, long, before, small),
       λ rest. ap (printed_from (Some unbegun)) (append_assoc taken (e ∷ []) rest) ∙ (h.1 (e ∷ rest) ∙ is rest),
     )
+
+-- an event behind one that is held back and may not stand there
+pub wrong_behind : {E : Type 0} (result : Result (Unit {0}) E) (stop : Stop) (p after : Printing) (place : ℕ)
+    (e : PlainEmit) (new : Laid)
+    → p.progress ≡ Going → place ≤ p.count
+    → Continues {A = Unit {0}} (λ rest. printed_from (Some (laid p.layout)) (held_events p.held ++ (e ∷ rest)))
+    (λ _. e ∷ []) new (Err stop)
+    → OnOk result ((stop ≡ OutOfPlace) × (after.progress ≡ Wrong place))
+    → OnOk result ((taken : List PlainEmit) → HasTaken p taken → HasTaken after (taken ++ e ∷ []))
+wrong_behind (Ok _) OutOfPlace p after place e new going small run stopped = λ taken h.
+    subst (λ q. StandsFor q (taken ++ e ∷ []) after.count (laid after.layout) (held_events after.held)) (sym stopped.1)
+    (goes_wrong taken p.count place (laid p.layout) (held_events p.held) e after.count (laid after.layout)
+    (held_events after.held) small
+    (subst (λ q. StandsFor q taken p.count (laid p.layout) (held_events p.held)) going h) run)
+wrong_behind (Ok _) Memory p after place e new going small run stopped =
+    let other : Memory ≡ OutOfPlace = stopped.0 in absurd (cc)
+wrong_behind (Err _) stop p after place e new going small run stopped = tt
 
 -- behind an event that may not stand where it does, all may come
 pub stays_wrong : (taken : List PlainEmit) (place count : ℕ) (s : Laid) (held : List PlainEmit) (e : PlainEmit)

@@ -5,6 +5,7 @@ pub mod EmitterLaws
 pub mod EscapeLaws
 pub mod Letters
 pub mod LeafLaws
+pub mod MildLaws
 pub mod RunLaws
 pub mod SaidLaws
 pub mod StreamLaws

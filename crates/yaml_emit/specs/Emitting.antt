@@ -54,6 +54,12 @@ StandsFor (Wrong place) taken count s held = (place ≤ length taken)
     × ((rest : List PlainEmit) → printed_from (Some unbegun) (taken ++ rest) ≡ None)
 StandsFor Short taken count s held = Unit {0}
 
+-- memory ran out
+abbrev pub is_short : Progress → Bool
+is_short Going = false
+is_short (Wrong place) = false
+is_short Short = true
+
 -- the same of all that an emitter holds
 abbrev pub HasTaken : Printing → List PlainEmit → Type 0
 HasTaken p taken = StandsFor p.progress taken p.count (laid p.layout) (held_events p.held)

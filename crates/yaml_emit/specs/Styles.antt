@@ -5,7 +5,7 @@ use Rattle.std.specs.List.{list_all, list_any, starts_with}
 use Rattle.std.specs.Str.{chars}
 use Rattle.yaml_base.specs.declared.emitter.AskedStyle.{AskedStyle}
 use Rattle.yaml_base.specs.declared.emitter.AskedStyle.TheVariants as asked
-use Rattle.yaml_emit.specs.Characters.{is_break, is_printable, is_line_text}
+use Rattle.yaml_emit.specs.Characters.{is_break, is_from, is_printable, is_line_text}
 use Rattle.yaml_emit.specs.declared.style.Style.{Style}
 use Rattle.yaml_emit.specs.declared.style.Style.TheVariants as style
 
@@ -47,6 +47,16 @@ begins_otherwise [] = false
 begins_otherwise (c ∷ cs) =
     is_indicator c || starts_with nat_eq (c ∷ cs) (codes "---") || starts_with nat_eq (c ∷ cs) (codes "...")
     || (is_dash c && (length cs == 0 || is_first 32 cs))
+
+-- the byte is a printable one of ASCII, and neither `:` nor `#`
+abbrev pub is_mild : ℕ → Bool
+is_mild c = is_from 32 126 c && (not (c == 58) && not (c == 35))
+
+-- no `:` stands before a blank or the end, no `#` behind a blank, and only printable characters
+abbrev pub goes_on_plain : List ℕ → Bool
+goes_on_plain text =
+    not (ends_with_byte 58 text) && not (stand_side_by_side 58 32 text) && not (stand_side_by_side 32 35 text)
+    && list_all is_printable (chars text)
 
 -- The text may stand without quotes, though as a key only where it is not empty: it begins as one does, has no blank at
 -- its ends, no `:` before a blank or the end, no `#` behind a blank, and only printable characters.

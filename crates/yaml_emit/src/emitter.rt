@@ -1,24 +1,27 @@
 //! An emitter that takes events one by one.
 
-ghost use Rattle.std.specs.Prelude.{◌≡◌, ◌∷◌, ◌++◌, ◌≤◌, ℕ, List, [], Some, None, false, IfErr, IfOk, OnErr};
+ghost use Rattle.std.specs.Prelude.{◌≡◌, ◌∷◌, ◌++◌, ◌≤◌, ℕ, List, [], Some, None, true, false, IfErr, IfOk, OnErr};
 ghost use Rattle.std.specs.Prelude.{OnOk, length, string_bytes};
+ghost use Rattle.std.specs.Option.{option_map};
 ghost use Rattle.yaml_base.specs.Answer.{is_memory};
-ghost use Rattle.yaml_base.specs.EmitEvents.{PlainEmit, emit_of};
+ghost use Rattle.yaml_base.specs.EmitEvents.{PlainEmit, emit_of, emit_scalar};
 ghost use Rattle.yaml_base.specs.EmitTree.{IsEmitStream};
 ghost use Rattle.yaml_base.specs.declared.error.Cause.TheVariants.{NotAStream};
-ghost use Rattle.yaml_emit.specs.Emitting.{Continues, Ends, HasTaken, IsCopiedStart, held_events, left_unless};
-ghost use Rattle.yaml_emit.specs.LayoutMachine.{laid, printed_from};
+ghost use Rattle.yaml_emit.specs.Emitted.{Emitted};
+ghost use Rattle.yaml_emit.specs.Emitting.{Continues, Ends, HasTaken, IsCopiedStart, held_events, is_short, left_unless};
+ghost use Rattle.yaml_emit.specs.LayoutMachine.{is_mapping_end, is_sequence_end, laid, printed_from};
 ghost use Rattle.yaml_emit.specs.StreamTexts.{IsStreamText};
 ghost use Rattle.yaml_emit.specs.declared.emitter.Progress.TheVariants.{Short, Wrong};
 ghost use Rattle.yaml_emit.specs.declared.stop.Stop.TheVariants.{OutOfPlace};
 
 use crate::layout::Layout;
-use crate::leaf::copied_tag;
+use crate::leaf::{Content, Leaf, copied_tag};
+use crate::noted::{Noted, note, note_scalar};
 use crate::stop::Stop;
 use crate::stream::{hollow_at, is_mapping_end, is_sequence_end, take_one};
 use std::alloc::{AllocError, Global};
 use std::marker::Model;
-use yaml_base::emitter::{EmitEvent, Mapping, Sequence};
+use yaml_base::emitter::{AskedStyle, EmitEvent, Mapping, Sequence};
 use yaml_base::{Cause, Error, History, Result};
 
 // How far an emitter has come.
@@ -101,6 +104,19 @@ fn take_behind(
     }
 }
 
+// Adds what the event that is held back is printed as, if there is one, where no end follows. None is held back any more.
+fn take_begun(layout: &mut Layout, held: &mut Option<EmitEvent>) -> std::result::Result<(), Stop>
+    ensures run { (e : PlainEmit) → is_sequence_end e ≡ false → is_mapping_end e ≡ false → Continues
+        (λ rest. printed_from (Some (laid layout.old)) (held_events held.old ++ (e ∷ rest))) (λ _. e ∷ [])
+        (laid layout.new) result }
+    ensures none { held.new ≡ None }
+{
+    match held.take() {
+        Some(start) => take_one(layout, &start),
+        None => Ok(()),
+    }
+}
+
 // Adds what the event that is held back is printed as, if there is one, where no other follows.
 fn take_last(layout: &mut Layout, held: &Option<EmitEvent>) -> std::result::Result<(), Stop>
     ensures { Ends (printed_from (Some (laid layout.old)) (held_events held.now)) (laid layout.new) result }
@@ -145,7 +161,8 @@ fn fault(stop: Stop, place: usize) -> Error
 impl Printing {
     // Nothing was taken. Takes no memory.
     fn new(alloc: Global) -> Printing
-        ensures { HasTaken result [] }
+        ensures taken { HasTaken result [] }
+        ensures going { is_short result.progress ≡ false }
     {
         Printing {
             alloc,
@@ -177,6 +194,8 @@ impl Printing {
     fn take(&mut self, event: &EmitEvent) -> std::result::Result<(), AllocError>
         ensures taken { OnOk result ((taken : List PlainEmit) → HasTaken self.old taken
             → HasTaken self.new (taken ++ emit_of event.now ∷ [])) }
+        ensures going { OnOk result (is_short self.old.progress ≡ false) }
+        ensures still { OnOk result (is_short self.new.progress ≡ false) }
         ensures short { OnErr result (self.new.progress ≡ Short) }
     {
         match self.progress {
@@ -201,8 +220,39 @@ impl Printing {
         }
     }
 
+    // Takes a scalar behind the others.
+    fn take_scalar(
+        &mut self,
+        tag: Option<&str>,
+        text: &str,
+        style: AskedStyle,
+    ) -> std::result::Result<(), AllocError>
+        ensures taken { OnOk result ((taken : List PlainEmit) → HasTaken self.old taken → HasTaken self.new
+            (taken ++ emit_scalar (option_map (λ t. t.now) tag.entry) text.now style ∷ [])) }
+        ensures going { OnOk result (is_short self.old.progress ≡ false) }
+        ensures still { OnOk result (is_short self.new.progress ≡ false) }
+        ensures short { OnErr result (self.new.progress ≡ Short) }
+    {
+        match self.progress {
+            Progress::Going => {}
+            Progress::Wrong(_) => return Ok(()),
+            Progress::Short => return Err(AllocError),
+        }
+        if let Err(stop) = take_begun(&mut self.layout, &mut self.held) {
+            return self.stopped(stop, self.count.saturating_sub(1));
+        }
+        let content = Content::Scalar(text, style);
+        if let Err(stop) = self.layout.push_leaf(Leaf { tag, content }) {
+            return self.stopped(stop, self.count);
+        }
+        self.count = self.count.saturating_add(1);
+        Ok(())
+    }
+
     // The text, if what was taken is a stream.
     fn into_text(self) -> Result<String>
+        ensures going { IfOk result (λ _. is_short self.progress ≡ false) }
+        ensures known { IfErr result (λ cause. is_memory cause ≡ false → is_short self.progress ≡ false) }
         ensures printed { IfOk result (λ text. (taken : List PlainEmit) → HasTaken self taken
             → IsStreamText taken (string_bytes text)) }
         ensures refused { IfErr result (λ cause. is_memory cause ≡ false → (taken : List PlainEmit)
@@ -230,33 +280,33 @@ impl Printing {
 /// Takes the events of a stream one by one, and gives its text at the end: documents with `---` between them,
 /// collections as blocks, two blanks a level, sequences in mappings at the level of the mapping, empty ones as `[]` and
 /// `{}`, and scalars and tags as `push_scalar` and `push_tag` add them. Contracts see it as the list of the plain events
-/// that it has taken. It keeps their text, and the start of one collection at most.
+/// that it has taken, and whether memory ran out. It keeps their text, and the start of one collection at most.
 ///
 /// An event that may not stand where it does is taken as any other, and `finish` tells of it. Where memory runs out, the
 /// event is not taken, and from then on each call answers want of memory.
 #[derive(Drop)]
 pub struct Emitter {
     printing: Printing,
-    taken: History<EmitEvent>,
+    taken: History<Noted>,
 }
 
 impl Model for Emitter {
-    ghost use Rattle.std.specs.Prelude.{List, map};
-    ghost use Rattle.yaml_base.specs.EmitEvents.{PlainEmit, emit_of};
+    ghost use Rattle.std.specs.Prelude.{map};
+    ghost use Rattle.yaml_emit.specs.Emitted.{Emitted};
+    ghost use Rattle.yaml_emit.specs.Emitting.{HasTaken, is_short};
+    ghost use Rattle.yaml_emit.specs.Noted.{noted_of};
 
-    ghost Value = { List PlainEmit };
+    ghost Value = { Emitted };
 
-    ghost view = { λ e. map emit_of e.taken.items };
+    ghost view = { λ e. record { taken = map noted_of e.taken.items; failed = is_short e.printing.progress } };
 
-    ghost use Rattle.yaml_emit.specs.Emitting.{HasTaken};
-
-    ghost invariant = { λ e. HasTaken e.printing (map emit_of e.taken.items) };
+    ghost invariant = { λ e. HasTaken e.printing (map noted_of e.taken.items) };
 }
 
 impl Emitter {
     /// No event was taken. Takes no memory.
     pub fn new(alloc: Global) -> Emitter
-        ensures { result ≡ [] }
+        ensures { result ≡ (record { taken = []; failed = false }) }
     {
         Emitter {
             printing: Printing::new(alloc),
@@ -264,23 +314,51 @@ impl Emitter {
         }
     }
 
-    /// Takes an event behind the others. The only error is want of memory.
+    /// The allocator.
+    pub fn alloc(&self) -> Global {
+        self.printing.alloc
+    }
+
+    /// Takes an event behind the others. The only error is want of memory, which then is the answer of each further call.
     pub fn push(&mut self, event: &EmitEvent) -> std::result::Result<(), AllocError>
-        ensures taken { OnOk result (self.new ≡ self.old ++ emit_of event.now ∷ []) }
-        ensures err { OnErr result (self.new ≡ self.old) }
+        ensures going { OnOk result (self.old.failed ≡ false) }
+        ensures taken { OnOk result
+            (self.new ≡ (record { taken = self.old.taken ++ emit_of event.now ∷ []; failed = false })) }
+        ensures err { OnErr result (self.new ≡ (record { taken = self.old.taken; failed = true })) }
     {
         self.printing.take(event)?;
-        self.taken = History::with(&self.taken, event);
+        self.taken = History::with(&self.taken, &note(event));
+        Ok(())
+    }
+
+    /// The same of a scalar, which is lent.
+    pub fn push_scalar(
+        &mut self,
+        tag: Option<&str>,
+        text: &str,
+        style: AskedStyle,
+    ) -> std::result::Result<(), AllocError>
+        ensures going { OnOk result (self.old.failed ≡ false) }
+        ensures taken { OnOk result (self.new ≡ (record {
+          taken = self.old.taken ++ emit_scalar (option_map (λ t. t.now) tag.entry) text.now style ∷ [];
+          failed = false;
+        })) }
+        ensures err { OnErr result (self.new ≡ (record { taken = self.old.taken; failed = true })) }
+    {
+        self.printing.take_scalar(tag, text, style)?;
+        self.taken = History::with(&self.taken, &note_scalar(tag, text, style));
         Ok(())
     }
 
     /// The text of the stream. Events that are no whole stream are refused, with the place of the first that is wrong.
     /// Where memory ran out, there is no text.
     pub fn finish(self) -> Result<String>
-        ensures printed { IfOk result (λ text. IsStreamText self (string_bytes text)) }
+        ensures going { IfOk result (λ _. self.failed ≡ false) }
+        ensures printed { IfOk result (λ text. IsStreamText self.taken (string_bytes text)) }
+        ensures known { IfErr result (λ cause. is_memory cause ≡ false → self.failed ≡ false) }
         ensures refused { IfErr result (λ cause. is_memory cause ≡ false
-            → (place : ℕ) × (cause ≡ NotAStream place) × (place ≤ length self)) }
-        ensures no_stream { IfErr result (λ cause. is_memory cause ≡ false → IsEmitStream self → ⊥) }
+            → (place : ℕ) × (cause ≡ NotAStream place) × (place ≤ length self.taken)) }
+        ensures no_stream { IfErr result (λ cause. is_memory cause ≡ false → IsEmitStream self.taken → ⊥) }
     {
         self.printing.into_text()
     }

@@ -5,7 +5,8 @@ ghost use Rattle.std.specs.List.{list_all, list_any};
 ghost use Rattle.std.specs.Str.{chars};
 ghost use Rattle.yaml_emit.specs.Characters.{is_break, is_line_text, is_printable};
 ghost use Rattle.yaml_emit.specs.Styles.{begins_otherwise, fits_block, fits_plain, fits_single_quotes};
-ghost use Rattle.yaml_emit.specs.Styles.{ends_with_byte, has_break, is_dash, is_first, is_indicator};
+ghost use Rattle.yaml_emit.specs.Styles.{ends_with_byte, goes_on_plain, has_break, is_dash, is_first, is_indicator};
+ghost use Rattle.yaml_emit.specs.Styles.{is_mild};
 ghost use Rattle.yaml_emit.specs.Styles.{stand_side_by_side};
 
 use crate::character::{is_break, is_line_text, is_printable};
@@ -103,7 +104,34 @@ fn is_text_of_lines(text: &str) -> bool
     text.chars().all(|letter| is_line_text(letter))
 }
 
+// Whether each byte of the text is a printable one of ASCII, and neither `:` nor `#`, as in most texts.
+fn is_mild(text: &[u8]) -> bool
+    ensures { result ≡ list_all is_mild text.now }
+{
+    text.iter().all(|byte| is_mild_byte(*byte))
+}
+
+// The same of a byte.
+#[inline(always)]
+fn is_mild_byte(byte: u8) -> bool
+    ensures { result ≡ is_mild byte }
+{
+    matches!(byte, b' '..=b'"' | b'$'..=b'9' | b';'..=b'~')
+}
+
+// Whether a text that begins and ends as a plain one, but for a `:` at its end, may stand without quotes.
+fn goes_on_plain(text: &str) -> bool
+    ensures { result ≡ goes_on_plain text.now }
+{
+    let bytes = text.as_bytes();
+    !ends_with(bytes, b':')
+        && !has_pair(bytes, b':', b' ')
+        && !has_pair(bytes, b' ', b'#')
+        && is_printable_text(text)
+}
+
 // Whether the text may stand without quotes, though as a key only where it is not empty.
+#[tactic(auto, using(crate::proofs::MildLaws::mild_goes_on))]
 pub(crate) fn fits_plain(text: &str) -> bool
     ensures { result ≡ fits_plain text.now }
 {
@@ -111,10 +139,7 @@ pub(crate) fn fits_plain(text: &str) -> bool
     !begins_otherwise(bytes)
         && !begins_with(bytes, b' ')
         && !ends_with(bytes, b' ')
-        && !ends_with(bytes, b':')
-        && !has_pair(bytes, b':', b' ')
-        && !has_pair(bytes, b' ', b'#')
-        && is_printable_text(text)
+        && (is_mild(bytes) || goes_on_plain(text))
 }
 
 // Whether the text may stand between single quotes.
@@ -137,8 +162,9 @@ pub(crate) fn fits_block(text: &str) -> bool
 }
 
 // Whether the text has a break, and so can't be a key in one line.
+#[tactic(auto, using(crate::proofs::MildLaws::mild_is_one_line))]
 pub(crate) fn has_break(text: &str) -> bool
     ensures { result ≡ has_break text.now }
 {
-    text.chars().any(|letter| is_break(letter))
+    !is_mild(text.as_bytes()) && text.chars().any(|letter| is_break(letter))
 }

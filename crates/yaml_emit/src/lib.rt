@@ -7,8 +7,10 @@ mod fit;
 pub mod laws;
 mod layout;
 mod leaf;
+mod noted;
 mod open;
 mod quoted;
+mod sink;
 mod stop;
 mod stream;
 mod style;
@@ -17,6 +19,7 @@ mod write_fault;
 
 pub use emitter::Emitter;
 pub use leaf::push_scalar;
+pub use sink::EventSink;
 pub use stream::emit;
 pub use tag::push_tag;
 pub use write_fault::WriteFault;
