@@ -11,8 +11,9 @@ ghost use Rattle.yaml_types.specs.Start.{IsLeaf, leaf_start, IsStart};
 
 use std::alloc::Global;
 use yaml_base::Error;
+use yaml_emit::EventSink;
 use yaml_shape::{Schema, SchemaFault, Shape, ShapeId};
-use yaml_write::EventBuffer;
+use yaml_write::NodeWriter;
 
 /// The schema of this shape alone, which names no other and has no name.
 pub(crate) fn leaf_schema(alloc: Global, shape: Shape) -> Result<(Schema, ShapeId), SchemaFault>
@@ -27,7 +28,7 @@ pub(crate) fn leaf_schema(alloc: Global, shape: Shape) -> Result<(Schema, ShapeI
 }
 
 // A text as a node behind the events that are there.
-pub(crate) fn put_text(out: &mut EventBuffer, text: &str) -> Result<(), Error>
+pub(crate) fn put_text<W: EventSink>(out: &mut NodeWriter<W>, text: &str) -> Result<(), Error>
     ensures put { OnOk result (IsPut emit_node_events (Ok (string_node None text.now)) out.old out.new) }
     ensures held { IsTrue (is_utf8 text.now) }
     ensures refused { IfErr result (IsFaultOf (Ok (string_node None text.now)) (λ _. ⊥)) }

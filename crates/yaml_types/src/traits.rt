@@ -18,9 +18,10 @@ ghost use Rattle.yaml_types.specs.WriteRefusal.{IsWriteRefusal};
 use crate::fault::BuildFault;
 use std::alloc::Global;
 use yaml_base::Error;
+use yaml_emit::EventSink;
 use yaml_shape::{Data, Schema, SchemaFault, ShapeId, data_is_held};
 use yaml_tape::Tape;
-use yaml_write::EventBuffer;
+use yaml_write::NodeWriter;
 
 /// A type whose values are built of data of one shape. `'de` is how long a value may keep borrowed texts.
 pub trait Deserialize<'de>: Sized {
@@ -86,7 +87,12 @@ pub trait Serialize {
     /// Writes the value as a node behind the events that are there, as its data is written by the shape with this
     /// number. Where nothing else is said, the data is made first. Refused where memory runs out, by a message, or for
     /// bytes or a tag upon a tag in the data; then part of the node may be there.
-    fn write_node(&self, out: &mut EventBuffer, schema: &Schema, id: ShapeId) -> Result<(), Error>
+    fn write_node<W: EventSink>(
+        &self,
+        out: &mut NodeWriter<W>,
+        schema: &Schema,
+        id: ShapeId,
+    ) -> Result<(), Error>
         ensures put { OnOk result
             (IsPut emit_node_events (written_node schema.now id.0 (written self.now)) out.old out.new) }
         ensures kept { OnOk result (kept self.now) }

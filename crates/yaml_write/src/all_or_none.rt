@@ -1,6 +1,6 @@
 //! Events that are added together: all events of a call, or none.
 
-ghost use Rattle.std.specs.Prelude.{◌≡◌, ◌∷◌, ◌++◌, [], Ok};
+ghost use Rattle.std.specs.Prelude.{◌≡◌, ◌∷◌, ◌++◌, [], Ok, OnErr, OnOk, length, take};
 ghost use Rattle.yaml_base.specs.EmitEvents.{tag_bytes};
 ghost use Rattle.yaml_base.specs.EmitTree.{emit_node_events};
 ghost use Rattle.yaml_write.specs.Adds.{Adds, AddsOrStays};
@@ -15,10 +15,33 @@ use crate::buffer::EventBuffer;
 use crate::node_content::{Content, write_both, write_content};
 use crate::open::{Open, OpenKind, is_mapping};
 use crate::write_refusal::Result;
+use crate::writer::NodeWriter;
 use yaml_base::emitter::EmitEvent;
 
+// What a serializer writes into.
+pub(crate) type EventList = NodeWriter<EventBuffer>;
+
+// How many events there are.
+fn count(out: &EventList) -> usize
+    ensures { result ≡ length out.now }
+{
+    out.sink.len()
+}
+
+// Ends a writing that began behind so many events: where it is refused, those that it left go.
+fn settle(out: &mut EventList, held: usize, written: Result<()>) -> Result<()>
+    ensures same { result ≡ written }
+    ensures ok { OnOk written (out.new ≡ out.old) }
+    ensures err { OnErr written (out.new ≡ take held out.old) }
+{
+    if written.is_err() {
+        out.sink.truncate(held);
+    }
+    written
+}
+
 // A node, as a document of its own where nothing is open.
-fn write_part(out: &mut EventBuffer, opened: &[Open], content: Content<'_, '_>) -> Result<()>
+fn write_part(out: &mut EventList, opened: &[Open], content: Content<'_, '_>) -> Result<()>
     ensures { Adds (part_events (open_collections opened.now))
         (content_written content.entry) out.old out.new result }
 {
@@ -31,22 +54,18 @@ fn write_part(out: &mut EventBuffer, opened: &[Open], content: Content<'_, '_>) 
 }
 
 /// Adds a node, as a document of its own where nothing is open.
-pub(crate) fn add_part(
-    out: &mut EventBuffer,
-    opened: &[Open],
-    content: Content<'_, '_>,
-) -> Result<()>
+pub(crate) fn add_part(out: &mut EventList, opened: &[Open], content: Content<'_, '_>) -> Result<()>
     ensures { AddsOrStays (part_events (open_collections opened.now))
         (content_written content.entry) out.old out.new result }
 {
-    let held = out.len();
+    let held = count(out);
     let written = write_part(out, opened, content);
-    out.settle(held, written)
+    settle(out, held, written)
 }
 
 /// Adds two nodes.
 pub(crate) fn add_both(
-    out: &mut EventBuffer,
+    out: &mut EventList,
     first: Content<'_, '_>,
     second: Content<'_, '_>,
 ) -> Result<()>
@@ -54,14 +73,14 @@ pub(crate) fn add_both(
         (joined pair_node (content_written first.entry) (content_written second.entry))
         out.old out.new result }
 {
-    let held = out.len();
+    let held = count(out);
     let written = write_both(out, first, second);
-    out.settle(held, written)
+    settle(out, held, written)
 }
 
 // The start of a collection, and of its document where nothing is open.
 fn write_start(
-    out: &mut EventBuffer,
+    out: &mut EventList,
     opened: &[Open],
     kind: OpenKind,
     tag: Option<String>,
@@ -77,7 +96,7 @@ fn write_start(
 
 /// Adds the start of a collection, and of its document where nothing is open.
 pub(crate) fn add_start(
-    out: &mut EventBuffer,
+    out: &mut EventList,
     opened: &[Open],
     kind: OpenKind,
     tag: Option<String>,
@@ -85,13 +104,13 @@ pub(crate) fn add_start(
     ensures { AddsOrStays (λ event. document_start_in (open_collections opened.now) ++ event ∷ [])
         (Ok (start_of (collection_kind kind) (tag_bytes tag))) out.old out.new result }
 {
-    let held = out.len();
+    let held = count(out);
     let written = write_start(out, opened, kind, tag);
-    out.settle(held, written)
+    settle(out, held, written)
 }
 
 // The end of the innermost collection, if there is one, and of the document where no other is open.
-fn write_end(out: &mut EventBuffer, opened: &[Open]) -> Result<()>
+fn write_end(out: &mut EventList, opened: &[Open]) -> Result<()>
     ensures { Adds (λ events. events) (Ok (closing_events (open_collections opened.now)))
         out.old out.new result }
 {
@@ -106,11 +125,11 @@ fn write_end(out: &mut EventBuffer, opened: &[Open]) -> Result<()>
 }
 
 /// Adds the end of the innermost collection, if there is one, and of the document where no other is open.
-pub(crate) fn add_end(out: &mut EventBuffer, opened: &[Open]) -> Result<()>
+pub(crate) fn add_end(out: &mut EventList, opened: &[Open]) -> Result<()>
     ensures { AddsOrStays (λ events. events) (Ok (closing_events (open_collections opened.now)))
         out.old out.new result }
 {
-    let held = out.len();
+    let held = count(out);
     let written = write_end(out, opened);
-    out.settle(held, written)
+    settle(out, held, written)
 }

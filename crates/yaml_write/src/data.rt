@@ -17,7 +17,6 @@ ghost use Rattle.yaml_write.specs.WrittenValue.{pair_node};
 
 mod variant;
 
-use crate::buffer::EventBuffer;
 use crate::part_shapes::{PartShapes, are_named};
 use crate::shape_lookup::{
     element_shape, id_at, inner_shape, item_shapes, key_shape, named_fields, value_shape,
@@ -25,13 +24,15 @@ use crate::shape_lookup::{
 };
 use crate::value::{write_bool, write_value};
 use crate::write_refusal::{Refusal, Result};
+use crate::writer::NodeWriter;
 use variant::write_variant;
+use yaml_emit::EventSink;
 use yaml_shape::{Data, Entry, Schema, ShapeId};
 
 /// Writes data of the shape with this number under a tag from above, if there is one.
 #[cycle(write_data)]
-pub(crate) fn write_data(
-    out: &mut EventBuffer,
+pub(crate) fn write_data<S: EventSink>(
+    out: &mut NodeWriter<S>,
     schema: &Schema,
     id: ShapeId,
     tag: Option<String>,
@@ -78,8 +79,8 @@ pub(crate) fn write_data(
 // The same with no tag from above, by the shortest way for what lists hold most of.
 #[cycle(write_data)]
 #[inline(always)]
-fn write_untagged(
-    out: &mut EventBuffer,
+fn write_untagged<S: EventSink>(
+    out: &mut NodeWriter<S>,
     schema: &Schema,
     id: ShapeId,
     content: &Data<'_>,
@@ -97,8 +98,8 @@ fn write_untagged(
 
 // Writes a sequence, a tuple or a struct: its start, its parts and its end.
 #[cycle(write_data)]
-fn write_collection(
-    out: &mut EventBuffer,
+fn write_collection<S: EventSink>(
+    out: &mut NodeWriter<S>,
     schema: &Schema,
     shapes: PartShapes<'_>,
     tag: Option<String>,
@@ -115,8 +116,8 @@ fn write_collection(
 }
 
 #[cycle(write_data)]
-fn write_parts(
-    out: &mut EventBuffer,
+fn write_parts<S: EventSink>(
+    out: &mut NodeWriter<S>,
     schema: &Schema,
     shapes: PartShapes<'_>,
     items: &[Data<'_>],
@@ -132,8 +133,8 @@ fn write_parts(
 }
 
 #[cycle(write_data)]
-fn write_elements(
-    out: &mut EventBuffer,
+fn write_elements<S: EventSink>(
+    out: &mut NodeWriter<S>,
     schema: &Schema,
     id: ShapeId,
     items: &[Data<'_>],
@@ -148,8 +149,8 @@ fn write_elements(
 }
 
 #[cycle(write_data)]
-fn write_items(
-    out: &mut EventBuffer,
+fn write_items<S: EventSink>(
+    out: &mut NodeWriter<S>,
     schema: &Schema,
     ids: &[ShapeId],
     items: &[Data<'_>],
@@ -165,8 +166,8 @@ fn write_items(
 }
 
 #[cycle(write_data)]
-fn write_map(
-    out: &mut EventBuffer,
+fn write_map<S: EventSink>(
+    out: &mut NodeWriter<S>,
     schema: &Schema,
     key: ShapeId,
     value: ShapeId,
@@ -183,8 +184,8 @@ fn write_map(
 }
 
 #[cycle(write_data)]
-fn write_entries(
-    out: &mut EventBuffer,
+fn write_entries<S: EventSink>(
+    out: &mut NodeWriter<S>,
     schema: &Schema,
     key: ShapeId,
     value: ShapeId,
@@ -201,8 +202,8 @@ fn write_entries(
 }
 
 #[cycle(write_data)]
-fn write_entry(
-    out: &mut EventBuffer,
+fn write_entry<S: EventSink>(
+    out: &mut NodeWriter<S>,
     schema: &Schema,
     key: ShapeId,
     value: ShapeId,
@@ -216,8 +217,8 @@ fn write_entry(
 }
 
 #[cycle(write_data)]
-fn write_fields(
-    out: &mut EventBuffer,
+fn write_fields<S: EventSink>(
+    out: &mut NodeWriter<S>,
     schema: &Schema,
     fields: &[(String, ShapeId)],
     items: &[Data<'_>],
@@ -233,8 +234,8 @@ fn write_fields(
 }
 
 #[cycle(write_data)]
-fn write_field(
-    out: &mut EventBuffer,
+fn write_field<S: EventSink>(
+    out: &mut NodeWriter<S>,
     schema: &Schema,
     field: &(String, ShapeId),
     item: &Data<'_>,

@@ -8,10 +8,11 @@ ghost use Rattle.yaml_write.specs.Outcomes.{joined};
 ghost use Rattle.yaml_write.specs.WrittenEvents.{pair_events};
 ghost use Rattle.yaml_write.specs.WrittenValue.{pair_node};
 
-use crate::buffer::EventBuffer;
 use crate::data::write_data;
 use crate::value::{write_bool, write_value};
 use crate::write_refusal::Result;
+use crate::writer::NodeWriter;
+use yaml_emit::EventSink;
 use yaml_shape::{Data, Schema, ShapeId};
 use yaml_tree::Value;
 
@@ -39,7 +40,10 @@ pub(crate) enum Content<'a, 'de> {
 }
 
 // Writes the content as one node.
-pub(crate) fn write_content(out: &mut EventBuffer, content: Content<'_, '_>) -> Result<()>
+pub(crate) fn write_content<S: EventSink>(
+    out: &mut NodeWriter<S>,
+    content: Content<'_, '_>,
+) -> Result<()>
     ensures { Adds emit_node_events (content_written content.entry) out.old out.new result }
 {
     match content {
@@ -56,8 +60,8 @@ pub(crate) fn write_content(out: &mut EventBuffer, content: Content<'_, '_>) -> 
 }
 
 // Writes both, one after the other.
-pub(crate) fn write_both(
-    out: &mut EventBuffer,
+pub(crate) fn write_both<S: EventSink>(
+    out: &mut NodeWriter<S>,
     first: Content<'_, '_>,
     second: Content<'_, '_>,
 ) -> Result<()>

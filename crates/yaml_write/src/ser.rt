@@ -13,8 +13,10 @@ mod collection;
 mod part;
 mod value;
 
+use crate::all_or_none::EventList;
 use crate::buffer::EventBuffer;
 use crate::open::{Open, OpenKind};
+use crate::writer::NodeWriter;
 use std::alloc::Global;
 use std::marker::Model;
 use yaml_base::emitter::EmitEvent;
@@ -27,7 +29,7 @@ use yaml_base::{Error, Result};
 /// own; else it is the next part of the collection that was opened last.
 #[derive(Drop)]
 pub struct Serializer {
-    written: EventBuffer,
+    written: EventList,
     opened: Vec<Open>,
     alloc: Global,
 }
@@ -53,7 +55,7 @@ impl Serializer {
             ≡ (record { events = emit_stream_start ∷ []; opened = [] })) }
         ensures err { IfErr result (λ cause. cause ≡ Memory) }
     {
-        let mut written = EventBuffer::new(alloc);
+        let mut written = NodeWriter::new(EventBuffer::new(alloc));
         written.push(EmitEvent::StreamStart)?;
         Ok(Serializer {
             written,
@@ -69,7 +71,7 @@ impl Serializer {
         ensures begun { IsBegun self.now }
         ensures whole { self.now.opened ≡ [] → AreDocuments self.now.events }
     {
-        self.written.as_slice()
+        self.written.sink.as_slice()
     }
 
     /// The kind of the innermost open collection, and whether it awaits the value of a key. It is the test of what
@@ -102,7 +104,7 @@ impl Serializer {
     {
         let mut serializer = self;
         match serializer.written.push(EmitEvent::StreamEnd) {
-            Ok(()) => Ok(serializer.written.into_events()),
+            Ok(()) => Ok(serializer.written.into_sink().into_events()),
             Err(refusal) => Err((refusal.into_error(), serializer)),
         }
     }

@@ -1,6 +1,6 @@
 //! The events of a value.
 
-ghost use Rattle.std.specs.Prelude.{◌≡◌, None, Ok};
+ghost use Rattle.std.specs.Prelude.{◌≡◌, None, Ok, OnErr};
 ghost use Rattle.std.specs.Fmt.{signed_decimal};
 ghost use Rattle.yaml_base.specs.EmitEvents.{tag_bytes};
 ghost use Rattle.yaml_base.specs.EmitTree.{emit_node_events, emit_nodes_events, emit_pairs_events};
@@ -14,21 +14,31 @@ ghost use Rattle.yaml_write.specs.WrittenEvents.{pair_events};
 ghost use Rattle.yaml_write.specs.WrittenValue.{written_value, written_values, written_pairs};
 ghost use Rattle.yaml_write.specs.WrittenValue.{pair_node, truth_text};
 
-use crate::buffer::EventBuffer;
-use crate::local_tag::value_tag;
+use crate::tags::value_tag;
 use crate::write_refusal::{Refusal, Result};
+use crate::writer::NodeWriter;
+use yaml_emit::EventSink;
 use yaml_tree::{Mapping, Number, Sequence, TaggedValue, Value};
 
 // A boolean.
-pub(crate) fn write_bool(out: &mut EventBuffer, tag: Option<String>, truth: bool) -> Result<()>
-    ensures { Adds emit_node_events (Ok (plain_node (tag_bytes tag) (truth_text truth)))
+pub(crate) fn write_bool<S: EventSink>(
+    out: &mut NodeWriter<S>,
+    tag: Option<String>,
+    truth: bool,
+) -> Result<()>
+    ensures added { Adds emit_node_events (Ok (plain_node (tag_bytes tag) (truth_text truth)))
         out.old out.new result }
+    ensures err { OnErr result (out.new ≡ out.old) }
 {
     out.plain(tag, if truth { "true" } else { "false" })
 }
 
 // The number of a value.
-fn write_number(out: &mut EventBuffer, tag: Option<String>, number: Number) -> Result<()>
+fn write_number<S: EventSink>(
+    out: &mut NodeWriter<S>,
+    tag: Option<String>,
+    number: Number,
+) -> Result<()>
     ensures { Adds emit_node_events
         (Ok (plain_node (tag_bytes tag) (signed_decimal (number_of number)))) out.old out.new result }
 {
@@ -43,7 +53,11 @@ fn write_number(out: &mut EventBuffer, tag: Option<String>, number: Number) -> R
 
 /// Writes a value under a tag from above, if there is one.
 #[cycle(write_value)]
-pub(crate) fn write_value(out: &mut EventBuffer, tag: Option<String>, value: &Value) -> Result<()>
+pub(crate) fn write_value<S: EventSink>(
+    out: &mut NodeWriter<S>,
+    tag: Option<String>,
+    value: &Value,
+) -> Result<()>
     ensures { Adds emit_node_events (written_value (tag_bytes tag) (tree_of value.now))
         out.old out.new result }
 {
@@ -59,7 +73,11 @@ pub(crate) fn write_value(out: &mut EventBuffer, tag: Option<String>, value: &Va
 }
 
 #[cycle(write_value)]
-fn write_sequence(out: &mut EventBuffer, tag: Option<String>, values: &Sequence) -> Result<()>
+fn write_sequence<S: EventSink>(
+    out: &mut NodeWriter<S>,
+    tag: Option<String>,
+    values: &Sequence,
+) -> Result<()>
     ensures { Adds emit_node_events
         (written_value (tag_bytes tag) (sequence (values_of values.now))) out.old out.new result }
 {
@@ -69,7 +87,7 @@ fn write_sequence(out: &mut EventBuffer, tag: Option<String>, values: &Sequence)
 }
 
 #[cycle(write_value)]
-fn write_values(out: &mut EventBuffer, values: &Sequence) -> Result<()>
+fn write_values<S: EventSink>(out: &mut NodeWriter<S>, values: &Sequence) -> Result<()>
     ensures { Adds emit_nodes_events (written_values (values_of values.now))
         out.old out.new result }
 {
@@ -80,7 +98,11 @@ fn write_values(out: &mut EventBuffer, values: &Sequence) -> Result<()>
 }
 
 #[cycle(write_value)]
-fn write_mapping(out: &mut EventBuffer, tag: Option<String>, pairs: &Mapping) -> Result<()>
+fn write_mapping<S: EventSink>(
+    out: &mut NodeWriter<S>,
+    tag: Option<String>,
+    pairs: &Mapping,
+) -> Result<()>
     ensures { Adds emit_node_events
         (written_value (tag_bytes tag) (mapping (pairs_of pairs.now))) out.old out.new result }
 {
@@ -90,7 +112,7 @@ fn write_mapping(out: &mut EventBuffer, tag: Option<String>, pairs: &Mapping) ->
 }
 
 #[cycle(write_value)]
-fn write_pairs(out: &mut EventBuffer, pairs: &Mapping) -> Result<()>
+fn write_pairs<S: EventSink>(out: &mut NodeWriter<S>, pairs: &Mapping) -> Result<()>
     ensures { Adds emit_pairs_events (written_pairs (pairs_of pairs.now)) out.old out.new result }
 {
     for (key, value) in pairs.iter() {
@@ -100,7 +122,7 @@ fn write_pairs(out: &mut EventBuffer, pairs: &Mapping) -> Result<()>
 }
 
 #[cycle(write_value)]
-fn write_pair(out: &mut EventBuffer, key: &Value, value: &Value) -> Result<()>
+fn write_pair<S: EventSink>(out: &mut NodeWriter<S>, key: &Value, value: &Value) -> Result<()>
     ensures { Adds pair_events
         (joined pair_node (written_value None (tree_of key.now))
         (written_value None (tree_of value.now))) out.old out.new result }
@@ -110,7 +132,11 @@ fn write_pair(out: &mut EventBuffer, key: &Value, value: &Value) -> Result<()>
 }
 
 #[cycle(write_value)]
-fn write_tagged(out: &mut EventBuffer, tag: Option<String>, tagged: &TaggedValue) -> Result<()>
+fn write_tagged<S: EventSink>(
+    out: &mut NodeWriter<S>,
+    tag: Option<String>,
+    tagged: &TaggedValue,
+) -> Result<()>
     ensures { Adds emit_node_events
         (written_value (tag_bytes tag) (tree_of_tagged tagged.now)) out.old out.new result }
 {

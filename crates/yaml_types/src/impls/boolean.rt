@@ -6,9 +6,10 @@ use crate::tape_leaf::boolean_at;
 use crate::traits::{Deserialize, RoundTrip, Serialize};
 use std::alloc::Global;
 use yaml_base::Error;
+use yaml_emit::EventSink;
 use yaml_shape::{Data, Schema, SchemaFault, Shape, ShapeId};
 use yaml_tape::Tape;
-use yaml_write::EventBuffer;
+use yaml_write::NodeWriter;
 
 impl<'de> Deserialize<'de> for bool {
     ghost use Rattle.yaml_shape.specs.PlainShape.{bool_shape};
@@ -72,9 +73,9 @@ impl Serialize for bool {
         Ok(Data::Bool(*self))
     }
 
-    fn write_node(
+    fn write_node<W: EventSink>(
         &self,
-        out: &mut EventBuffer,
+        out: &mut NodeWriter<W>,
         _schema: &Schema,
         _id: ShapeId,
     ) -> Result<(), Error> {

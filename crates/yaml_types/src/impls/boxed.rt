@@ -4,9 +4,10 @@ use crate::fault::BuildFault;
 use crate::traits::{Deserialize, RoundTrip, Serialize};
 use std::alloc::Global;
 use yaml_base::Error;
+use yaml_emit::EventSink;
 use yaml_shape::{Data, Schema, SchemaFault, ShapeId};
 use yaml_tape::Tape;
-use yaml_write::EventBuffer;
+use yaml_write::NodeWriter;
 
 impl<'de, T: Deserialize<'de> + Drop> Deserialize<'de> for Box<T> {
     ghost start = { T.start };
@@ -58,7 +59,12 @@ impl<T: Serialize> Serialize for Box<T> {
         (**self).to_data(alloc)
     }
 
-    fn write_node(&self, out: &mut EventBuffer, schema: &Schema, id: ShapeId) -> Result<(), Error> {
+    fn write_node<W: EventSink>(
+        &self,
+        out: &mut NodeWriter<W>,
+        schema: &Schema,
+        id: ShapeId,
+    ) -> Result<(), Error> {
         (**self).write_node(out, schema, id)
     }
 }

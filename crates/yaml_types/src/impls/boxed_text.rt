@@ -15,9 +15,10 @@ use crate::traits::{Deserialize, RoundTrip, Serialize};
 use std::alloc::Global;
 use std::boxed::BoxedStr;
 use yaml_base::Error;
+use yaml_emit::EventSink;
 use yaml_shape::{Data, Schema, SchemaFault, Shape, ShapeId, Text};
 use yaml_tape::Tape;
-use yaml_write::EventBuffer;
+use yaml_write::NodeWriter;
 
 impl<'de> Deserialize<'de> for BoxedStr {
     ghost start = { leaf_start str_shape };
@@ -67,9 +68,9 @@ impl Serialize for BoxedStr {
         Ok(Data::Str(Text::Borrowed(self.as_str())))
     }
 
-    fn write_node(
+    fn write_node<W: EventSink>(
         &self,
-        out: &mut EventBuffer,
+        out: &mut NodeWriter<W>,
         _schema: &Schema,
         _id: ShapeId,
     ) -> Result<(), Error> {

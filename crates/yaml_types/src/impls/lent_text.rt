@@ -22,9 +22,10 @@ use crate::traits::{Deserialize, RoundTrip, Serialize};
 use std::alloc::Global;
 use std::borrow::CowStr;
 use yaml_base::Error;
+use yaml_emit::EventSink;
 use yaml_shape::{Data, Schema, SchemaFault, Shape, ShapeId, Text};
 use yaml_tape::Tape;
-use yaml_write::EventBuffer;
+use yaml_write::NodeWriter;
 
 /// A text that is borrowed where the data borrows it, and owned where it does not.
 impl<'de> Deserialize<'de> for CowStr<'de> {
@@ -89,7 +90,12 @@ impl<'b> Serialize for CowStr<'b> {
         Ok(Data::Str(Text::Borrowed(self.as_str())))
     }
 
-    fn write_node(&self, out: &mut EventBuffer, schema: &Schema, id: ShapeId) -> Result<(), Error>
+    fn write_node<W: EventSink>(
+        &self,
+        out: &mut NodeWriter<W>,
+        schema: &Schema,
+        id: ShapeId,
+    ) -> Result<(), Error>
         ensures put { OnOk result (IsPut emit_node_events
             (written_node schema.now id.0 (text_data true (cow_str_bytes self.now))) out.old out.new) }
         ensures kept { OnOk result (Unit {0}) }

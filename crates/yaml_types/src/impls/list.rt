@@ -21,9 +21,10 @@ use crate::tape::{begins_sequence, ends_sequence};
 use crate::traits::{Deserialize, RoundTrip, Serialize};
 use std::alloc::Global;
 use yaml_base::Error;
+use yaml_emit::EventSink;
 use yaml_shape::{Data, Schema, SchemaFault, ShapeId, seq_of};
 use yaml_tape::Tape;
-use yaml_write::{EventBuffer, element_shape};
+use yaml_write::{NodeWriter, element_shape};
 
 // The values of the items, in order.
 pub(super) fn build_items<'de, T: Deserialize<'de> + Drop>(
@@ -84,9 +85,9 @@ pub(super) fn write_items<'a, T: Serialize>(
 }
 
 // The values as nodes behind the events that are there, in order, each by the shape with this number.
-fn put_elements<T: Serialize>(
+fn put_elements<T: Serialize, W: EventSink>(
     values: &[T],
-    out: &mut EventBuffer,
+    out: &mut NodeWriter<W>,
     schema: &Schema,
     id: ShapeId,
 ) -> Result<(), Error>
@@ -178,7 +179,12 @@ impl<T: Serialize> Serialize for Vec<T> {
         }
     }
 
-    fn write_node(&self, out: &mut EventBuffer, schema: &Schema, id: ShapeId) -> Result<(), Error> {
+    fn write_node<W: EventSink>(
+        &self,
+        out: &mut NodeWriter<W>,
+        schema: &Schema,
+        id: ShapeId,
+    ) -> Result<(), Error> {
         let element = element_shape(schema.shape(id));
         out.start_sequence(None, self.len())?;
         put_elements(self, out, schema, element)?;

@@ -30,9 +30,10 @@ use std::alloc::{AllocError, Global};
 use std::cmp::Ordering;
 use std::collections::BTreeMap;
 use yaml_base::Error;
+use yaml_emit::EventSink;
 use yaml_shape::{Data, Entry, Schema, SchemaFault, ShapeId, map_of};
 use yaml_tape::Tape;
-use yaml_write::{EventBuffer, key_shape, value_shape};
+use yaml_write::{NodeWriter, key_shape, value_shape};
 
 // The key and the value of an entry.
 fn build_both<'de, K: Deserialize<'de> + Drop, V: Deserialize<'de>>(
@@ -197,8 +198,8 @@ fn map_of_pairs<K: Ord + Drop, V: Drop>(
 }
 
 // A key and its value as nodes behind the events that are there, each by the shape with its number.
-fn put_pair<K: Serialize, V: Serialize>(
-    out: &mut EventBuffer,
+fn put_pair<K: Serialize, V: Serialize, W: EventSink>(
+    out: &mut NodeWriter<W>,
     schema: &Schema,
     ids: (ShapeId, ShapeId),
     key: &K,
@@ -217,9 +218,9 @@ fn put_pair<K: Serialize, V: Serialize>(
 }
 
 // The entries as pairs of nodes behind the events that are there, in the order of their keys.
-fn put_entries<K: Serialize + Ord, V: Serialize>(
+fn put_entries<K: Serialize + Ord, V: Serialize, W: EventSink>(
     entries: &BTreeMap<K, V>,
-    out: &mut EventBuffer,
+    out: &mut NodeWriter<W>,
     schema: &Schema,
     ids: (ShapeId, ShapeId),
 ) -> Result<(), Error>
@@ -327,7 +328,12 @@ impl<K: Serialize + Ord, V: Serialize> Serialize for BTreeMap<K, V> {
         Ok(Data::Map(entries))
     }
 
-    fn write_node(&self, out: &mut EventBuffer, schema: &Schema, id: ShapeId) -> Result<(), Error> {
+    fn write_node<W: EventSink>(
+        &self,
+        out: &mut NodeWriter<W>,
+        schema: &Schema,
+        id: ShapeId,
+    ) -> Result<(), Error> {
         let shape = schema.shape(id);
         out.start_mapping(None, self.len())?;
         put_entries(self, out, schema, (key_shape(shape), value_shape(shape)))?;

@@ -5,9 +5,10 @@ use crate::tape_leaf::{begins_collection, is_nothing};
 use crate::traits::{Deserialize, RoundTrip, Serialize};
 use std::alloc::Global;
 use yaml_base::Error;
+use yaml_emit::EventSink;
 use yaml_shape::{Data, Schema, SchemaFault, ShapeId, option_of};
 use yaml_tape::Tape;
-use yaml_write::{EventBuffer, inner_shape};
+use yaml_write::{NodeWriter, inner_shape};
 
 impl<'de, T: Deserialize<'de>> Deserialize<'de> for Option<T> {
     ghost use Rattle.yaml_types.specs.Start.{option_start};
@@ -88,7 +89,12 @@ impl<T: Serialize> Serialize for Option<T> {
         }
     }
 
-    fn write_node(&self, out: &mut EventBuffer, schema: &Schema, id: ShapeId) -> Result<(), Error> {
+    fn write_node<W: EventSink>(
+        &self,
+        out: &mut NodeWriter<W>,
+        schema: &Schema,
+        id: ShapeId,
+    ) -> Result<(), Error> {
         match self {
             None => {
                 out.null(None)?;

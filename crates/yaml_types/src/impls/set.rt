@@ -21,9 +21,10 @@ use std::alloc::{AllocError, Global};
 use std::cmp::Ordering;
 use std::collections::BTreeSet;
 use yaml_base::Error;
+use yaml_emit::EventSink;
 use yaml_shape::{Data, Schema, SchemaFault, ShapeId, seq_of};
 use yaml_tape::Tape;
-use yaml_write::{EventBuffer, element_shape};
+use yaml_write::{NodeWriter, element_shape};
 
 // The set of the items, put in one after another.
 fn build_in_turn<'de, T: Deserialize<'de> + Ord + Drop>(
@@ -97,9 +98,9 @@ fn build_members<'de, T: Deserialize<'de> + Ord + Drop>(
 }
 
 // The members as nodes behind the events that are there, in order, each by the shape with this number.
-fn put_members<T: Serialize + Ord>(
+fn put_members<T: Serialize + Ord, W: EventSink>(
     members: &BTreeSet<T>,
-    out: &mut EventBuffer,
+    out: &mut NodeWriter<W>,
     schema: &Schema,
     id: ShapeId,
 ) -> Result<(), Error>
@@ -180,7 +181,12 @@ impl<T: Serialize + Ord> Serialize for BTreeSet<T> {
         Ok(Data::Seq(items))
     }
 
-    fn write_node(&self, out: &mut EventBuffer, schema: &Schema, id: ShapeId) -> Result<(), Error> {
+    fn write_node<W: EventSink>(
+        &self,
+        out: &mut NodeWriter<W>,
+        schema: &Schema,
+        id: ShapeId,
+    ) -> Result<(), Error> {
         let element = element_shape(schema.shape(id));
         out.start_sequence(None, self.len())?;
         put_members(self, out, schema, element)?;

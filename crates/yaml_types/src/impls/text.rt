@@ -15,9 +15,10 @@ use crate::tape_leaf::{lent_at, text_at};
 use crate::traits::{Deserialize, RoundTrip, Serialize};
 use std::alloc::Global;
 use yaml_base::Error;
+use yaml_emit::EventSink;
 use yaml_shape::{Data, Schema, SchemaFault, Shape, ShapeId, Text};
 use yaml_tape::Tape;
-use yaml_write::EventBuffer;
+use yaml_write::NodeWriter;
 
 impl<'de> Deserialize<'de> for String {
     ghost use Rattle.yaml_shape.specs.PlainShape.{str_shape};
@@ -84,9 +85,9 @@ impl Serialize for String {
         Ok(Data::Str(Text::Borrowed(self.as_str())))
     }
 
-    fn write_node(
+    fn write_node<W: EventSink>(
         &self,
-        out: &mut EventBuffer,
+        out: &mut NodeWriter<W>,
         _schema: &Schema,
         _id: ShapeId,
     ) -> Result<(), Error> {

@@ -5,9 +5,10 @@ use crate::leaf::leaf_schema;
 use crate::traits::{Deserialize, RoundTrip, Serialize};
 use std::alloc::Global;
 use yaml_base::Error;
+use yaml_emit::EventSink;
 use yaml_shape::{Data, Schema, SchemaFault, Shape, ShapeId};
 use yaml_tape::Tape;
-use yaml_write::EventBuffer;
+use yaml_write::NodeWriter;
 
 impl<'de> Deserialize<'de> for () {
     ghost use Rattle.yaml_shape.specs.PlainShape.{unit_shape};
@@ -68,9 +69,9 @@ impl Serialize for () {
         Ok(Data::Unit)
     }
 
-    fn write_node(
+    fn write_node<W: EventSink>(
         &self,
-        out: &mut EventBuffer,
+        out: &mut NodeWriter<W>,
         _schema: &Schema,
         _id: ShapeId,
     ) -> Result<(), Error> {

@@ -5,10 +5,11 @@ use crate::leaf::leaf_schema;
 use crate::traits::{Deserialize, RoundTrip, Serialize};
 use std::alloc::Global;
 use yaml_base::{Cause, Error};
+use yaml_emit::EventSink;
 use yaml_shape::{Data, Schema, SchemaFault, Shape, ShapeId};
 use yaml_tape::Tape;
 use yaml_tree::Value;
-use yaml_write::EventBuffer;
+use yaml_write::NodeWriter;
 
 impl<'de> Deserialize<'de> for Value {
     ghost use Rattle.yaml_shape.specs.PlainShape.{any_shape};
@@ -73,9 +74,9 @@ impl Serialize for Value {
         }
     }
 
-    fn write_node(
+    fn write_node<W: EventSink>(
         &self,
-        out: &mut EventBuffer,
+        out: &mut NodeWriter<W>,
         _schema: &Schema,
         _id: ShapeId,
     ) -> Result<(), Error> {

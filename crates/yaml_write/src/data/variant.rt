@@ -11,10 +11,11 @@ ghost use Rattle.yaml_write.specs.Written.{holds_content, written_tuple, written
 ghost use Rattle.yaml_write.specs.WrittenParts.{written_content, written_variant};
 
 use super::{write_collection, write_data};
-use crate::buffer::EventBuffer;
-use crate::local_tag::local_tag;
 use crate::part_shapes::PartShapes;
+use crate::tags::local_tag;
 use crate::write_refusal::{Refusal, Result};
+use crate::writer::NodeWriter;
+use yaml_emit::EventSink;
 use yaml_shape::{Data, Schema, ShapeId, VariantShape};
 
 // Whether the variant has content.
@@ -26,8 +27,8 @@ fn has_content(variant: &VariantShape) -> bool
 
 /// Writes a variant, if the enum has it, under a tag from above, if there is one.
 #[cycle(write_data)]
-pub(super) fn write_variant(
-    out: &mut EventBuffer,
+pub(super) fn write_variant<S: EventSink>(
+    out: &mut NodeWriter<S>,
     schema: &Schema,
     variant: Option<&(String, VariantShape)>,
     tag: Option<String>,
@@ -52,8 +53,8 @@ pub(super) fn write_variant(
 
 // Writes the content of a variant under the variant's tag.
 #[cycle(write_data)]
-fn write_content(
-    out: &mut EventBuffer,
+fn write_content<S: EventSink>(
+    out: &mut NodeWriter<S>,
     schema: &Schema,
     variant: &VariantShape,
     own: Option<String>,
@@ -74,8 +75,8 @@ fn write_content(
 }
 
 #[cycle(write_data)]
-fn write_tuple_content(
-    out: &mut EventBuffer,
+fn write_tuple_content<S: EventSink>(
+    out: &mut NodeWriter<S>,
     schema: &Schema,
     ids: &[ShapeId],
     own: Option<String>,
@@ -92,8 +93,8 @@ fn write_tuple_content(
 }
 
 #[cycle(write_data)]
-fn write_struct_content(
-    out: &mut EventBuffer,
+fn write_struct_content<S: EventSink>(
+    out: &mut NodeWriter<S>,
     schema: &Schema,
     fields: &[(String, ShapeId)],
     own: Option<String>,

@@ -15,9 +15,9 @@ ghost use Rattle.yaml_write.specs.WrittenValue.{pair_node};
 
 use super::Serializer;
 use crate::all_or_none::{add_both, add_end, add_part, add_start};
-use crate::local_tag::local_tag;
 use crate::node_content::Content;
 use crate::open::{Open, OpenKind, is_mapping};
+use crate::tags::local_tag;
 
 // The collection once a node in it has begun.
 fn turned(collection: Open) -> Open

@@ -17,8 +17,8 @@ ghost use Rattle.yaml_write.specs.WrittenTyped.{typed_written};
 ghost use Rattle.yaml_write.specs.WrittenValue.{truth_text, written_value};
 
 use super::Serializer;
-use crate::local_tag::{local_tag, value_tag};
 use crate::node_content::Content;
+use crate::tags::{local_tag, value_tag};
 use yaml_base::{Cause, Error, Result};
 use yaml_shape::Typed;
 use yaml_tree::{Tag, Value};

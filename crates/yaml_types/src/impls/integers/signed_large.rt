@@ -14,9 +14,10 @@ use crate::tape_leaf::signed_at;
 use crate::traits::{Deserialize, RoundTrip, Serialize};
 use std::alloc::Global;
 use yaml_base::Error;
+use yaml_emit::EventSink;
 use yaml_shape::{Data, IntegerType, Schema, SchemaFault, Shape, ShapeId};
 use yaml_tape::Tape;
-use yaml_write::EventBuffer;
+use yaml_write::NodeWriter;
 
 impl<'de> Deserialize<'de> for i64 {
     ghost start = { integer_start i64 };
@@ -70,9 +71,9 @@ impl Serialize for i64 {
         Ok(Data::Signed(*self as i128))
     }
 
-    fn write_node(
+    fn write_node<W: EventSink>(
         &self,
-        out: &mut EventBuffer,
+        out: &mut NodeWriter<W>,
         _schema: &Schema,
         _id: ShapeId,
     ) -> Result<(), Error> {
@@ -138,9 +139,9 @@ impl Serialize for i128 {
         Ok(Data::Signed(*self))
     }
 
-    fn write_node(
+    fn write_node<W: EventSink>(
         &self,
-        out: &mut EventBuffer,
+        out: &mut NodeWriter<W>,
         _schema: &Schema,
         _id: ShapeId,
     ) -> Result<(), Error> {
@@ -209,9 +210,9 @@ impl Serialize for isize {
         Ok(Data::Signed(*self as i128))
     }
 
-    fn write_node(
+    fn write_node<W: EventSink>(
         &self,
-        out: &mut EventBuffer,
+        out: &mut NodeWriter<W>,
         _schema: &Schema,
         _id: ShapeId,
     ) -> Result<(), Error> {

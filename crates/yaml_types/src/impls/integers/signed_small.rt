@@ -14,9 +14,10 @@ use crate::tape_leaf::signed_at;
 use crate::traits::{Deserialize, RoundTrip, Serialize};
 use std::alloc::Global;
 use yaml_base::Error;
+use yaml_emit::EventSink;
 use yaml_shape::{Data, IntegerType, Schema, SchemaFault, Shape, ShapeId};
 use yaml_tape::Tape;
-use yaml_write::EventBuffer;
+use yaml_write::NodeWriter;
 
 impl<'de> Deserialize<'de> for i8 {
     ghost start = { integer_start i8 };
@@ -65,9 +66,9 @@ impl Serialize for i8 {
         Ok(Data::Signed(*self as i128))
     }
 
-    fn write_node(
+    fn write_node<W: EventSink>(
         &self,
-        out: &mut EventBuffer,
+        out: &mut NodeWriter<W>,
         _schema: &Schema,
         _id: ShapeId,
     ) -> Result<(), Error> {
@@ -136,9 +137,9 @@ impl Serialize for i16 {
         Ok(Data::Signed(*self as i128))
     }
 
-    fn write_node(
+    fn write_node<W: EventSink>(
         &self,
-        out: &mut EventBuffer,
+        out: &mut NodeWriter<W>,
         _schema: &Schema,
         _id: ShapeId,
     ) -> Result<(), Error> {
@@ -207,9 +208,9 @@ impl Serialize for i32 {
         Ok(Data::Signed(*self as i128))
     }
 
-    fn write_node(
+    fn write_node<W: EventSink>(
         &self,
-        out: &mut EventBuffer,
+        out: &mut NodeWriter<W>,
         _schema: &Schema,
         _id: ShapeId,
     ) -> Result<(), Error> {

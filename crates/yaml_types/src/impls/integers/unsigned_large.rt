@@ -14,9 +14,10 @@ use crate::tape_leaf::unsigned_at;
 use crate::traits::{Deserialize, RoundTrip, Serialize};
 use std::alloc::Global;
 use yaml_base::Error;
+use yaml_emit::EventSink;
 use yaml_shape::{Data, IntegerType, Schema, SchemaFault, Shape, ShapeId};
 use yaml_tape::Tape;
-use yaml_write::EventBuffer;
+use yaml_write::NodeWriter;
 
 impl<'de> Deserialize<'de> for u64 {
     ghost start = { integer_start u64 };
@@ -70,9 +71,9 @@ impl Serialize for u64 {
         Ok(Data::Unsigned(*self as u128))
     }
 
-    fn write_node(
+    fn write_node<W: EventSink>(
         &self,
-        out: &mut EventBuffer,
+        out: &mut NodeWriter<W>,
         _schema: &Schema,
         _id: ShapeId,
     ) -> Result<(), Error> {
@@ -141,9 +142,9 @@ impl Serialize for u128 {
         Ok(Data::Unsigned(*self))
     }
 
-    fn write_node(
+    fn write_node<W: EventSink>(
         &self,
-        out: &mut EventBuffer,
+        out: &mut NodeWriter<W>,
         _schema: &Schema,
         _id: ShapeId,
     ) -> Result<(), Error> {
@@ -212,9 +213,9 @@ impl Serialize for usize {
         Ok(Data::Unsigned(*self as u128))
     }
 
-    fn write_node(
+    fn write_node<W: EventSink>(
         &self,
-        out: &mut EventBuffer,
+        out: &mut NodeWriter<W>,
         _schema: &Schema,
         _id: ShapeId,
     ) -> Result<(), Error> {

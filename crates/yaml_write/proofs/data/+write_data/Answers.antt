@@ -26,26 +26,26 @@ use Rattle.yaml_write.proofs.ValueLaws.{pair-row, pairs-row, node-row, none-left
 use Rattle.yaml_write.proofs.data.+write_data.Goals as goal
 
 pub write_data-returns-in-Str : goal.write_data-returns-in-Str
-write_data-returns-in-Str t c =
+write_data-returns-in-Str g t c =
     rw (
       c.in-Str.is,
       data_of-Str c.in-Str.text,
       written-text c.args.schema.now c.args.id.0
           (tag_bytes c.args.tag) c.in-Str.text,
       ← c.as_str.ensures,
-    ) c.string.ensures
+    ) c.string.ensures.added
 
 pub write_untagged-returns-in-Str : goal.write_untagged-returns-in-Str
-write_untagged-returns-in-Str t c =
+write_untagged-returns-in-Str g t c =
     rw (
       c.in-Str.is,
       data_of-Str c.in-Str.text,
       written-text c.args.schema.now c.args.id.0 None c.in-Str.text,
       ← c.as_str.ensures,
-    ) c.string.ensures
+    ) c.string.ensures.added
 
 pub write_collection-returns : goal.write_collection-returns
-write_collection-returns t c =
+write_collection-returns g t c =
     let named : c.are_named-named.result ≡ are_named c.args.shapes = c.are_named-named.ensures in
     adds-collection c.args.schema.now c.args.shapes (tag_bytes c.args.tag)
     (items_view c.args.items.now) c.args.out.now c.start.new.self c.write_parts.new.out c.end.new.self c.end.result
@@ -55,7 +55,7 @@ write_collection-returns t c =
     c.end.ensures)
 
 pub write_collection-returns-in_err-write_parts : goal.write_collection-returns-in_err-write_parts
-write_collection-returns-in_err-write_parts t c =
+write_collection-returns-in_err-write_parts g t c =
     let refused : Fails c.in_err-write_parts.field-0.0
     (collection_written c.args.schema.now c.args.shapes (tag_bytes c.args.tag) (items_view c.args.items.now)) =
     fails-collection c.args.schema.now c.args.shapes (tag_bytes c.args.tag)
@@ -66,7 +66,7 @@ write_collection-returns-in_err-write_parts t c =
     search rules
 
 pub write_elements-loop-item-preserved : goal.write_elements-loop-item-preserved
-write_elements-loop-item-preserved t c = (
+write_elements-loop-item-preserved g t c = (
   c.loop-item.invariant.0
       ∙ (ap (made (λ part. c.loop-item.out ++ emit_nodes_events part))
       (elements-left c.args.schema.now c.args.id.0 c.args.items.now c.loop-item.item-index c.item-item.result
@@ -80,7 +80,7 @@ write_elements-loop-item-preserved t c = (
 )
 
 pub write_elements-returns-in_err-write_untagged : goal.write_elements-returns-in_err-write_untagged
-write_elements-returns-in_err-write_untagged t c =
+write_elements-returns-in_err-write_untagged g t c =
     let refused : Fails c.in_err-write_untagged.field-0.0
     (written_elements c.args.schema.now c.args.id.0 (items_view c.args.items.now)) =
     fails-left emit_node (λ part. c.args.out.now ++ emit_nodes_events part)
@@ -98,7 +98,7 @@ write_elements-returns-in_err-write_untagged t c =
     search rules
 
 pub write_entries-loop-entry-preserved : goal.write_entries-loop-entry-preserved
-write_entries-loop-entry-preserved t c = (
+write_entries-loop-entry-preserved g t c = (
   c.loop-entry.invariant.0
       ∙ (ap (made (λ part. c.loop-entry.out ++ emit_pairs_events part))
       (entries-left c.args.schema.now c.args.key.0 c.args.value.0 c.args.entries.now c.loop-entry.entry-index
@@ -113,7 +113,7 @@ write_entries-loop-entry-preserved t c = (
 )
 
 pub write_entries-returns-in_err-write_entry : goal.write_entries-returns-in_err-write_entry
-write_entries-returns-in_err-write_entry t c =
+write_entries-returns-in_err-write_entry g t c =
     let refused : Fails c.in_err-write_entry.field-0.0
     (written_entries c.args.schema.now c.args.key.0 c.args.value.0 (entries_view c.args.entries.now)) =
     fails-left pair_before (λ part. c.args.out.now ++ emit_pairs_events part)
@@ -132,32 +132,32 @@ write_entries-returns-in_err-write_entry t c =
     search rules
 
 pub write_map-returns : goal.write_map-returns
-write_map-returns t c =
+write_map-returns g t c =
     adds-between (emit_mapping_node (tag_bytes c.args.tag)) emit_pairs_events emit_node_events
     (emit_mapping_start (tag_bytes c.args.tag)) emit_mapping_end (λ ps. refl)
     (written_entries c.args.schema.now c.args.key.0 c.args.value.0 (entries_view c.args.entries.now)) c.args.out.now
     c.start_mapping.new.self c.write_entries.new.out c.end_mapping.new.self c.end_mapping.result
-    c.in_ok-start_mapping.ensures c.in_ok-write_entries.ensures c.end_mapping.ensures
+    c.in_ok-start_mapping.ensures.added c.in_ok-write_entries.ensures c.end_mapping.ensures.added
 
 pub write_map-returns-in_err-write_entries : goal.write_map-returns-in_err-write_entries
-write_map-returns-in_err-write_entries t c =
+write_map-returns-in_err-write_entries g t c =
     let kept : KeepsEvents c.args.out.now c.write_entries.new.out =
     kept-more (λ (e : PlainEmit). e ∷ []) (Ok (emit_mapping_start (tag_bytes c.args.tag))) c.args.out.now
-    c.start_mapping.new.self c.write_entries.new.out c.in_ok-start_mapping.ensures c.in_err-write_entries.ensures.1
+    c.start_mapping.new.self c.write_entries.new.out c.in_ok-start_mapping.ensures.added c.in_err-write_entries.ensures.1
     in
     search rules
 
 pub write_field-returns : goal.write_field-returns
-write_field-returns t c =
+write_field-returns g t c =
     adds-joined pair_node emit_node_events emit_node_events pair_events pair-row
     (Ok (string_node None (string_bytes c.args.field.now.0)))
     (written c.args.schema.now c.args.field.now.1.0 None (data_of c.args.item.now))
     c.args.out.now c.string.new.self c.write_untagged.new.out c.write_untagged.result
     (ap (λ s. made (λ part. c.args.out.now ++ emit_node_events part) (Ok (string_node None s)))
-    (sym c.as_str.ensures.value) ∙ c.in_ok-string.ensures) c.write_untagged.ensures
+    (sym c.as_str.ensures.value) ∙ c.in_ok-string.ensures.added) c.write_untagged.ensures
 
 pub write_items-loop-i-preserved : goal.write_items-loop-i-preserved
-write_items-loop-i-preserved t c = (
+write_items-loop-i-preserved g t c = (
   c.loop-i.invariant.0
       ∙ (ap (made (λ part. c.loop-i.out ++ emit_nodes_events part))
       (items-left c.args.schema.now c.args.ids.now c.args.items.now c.loop-i.i c.id_at.result c.index-items-i.result
@@ -172,7 +172,7 @@ write_items-loop-i-preserved t c = (
 )
 
 pub write_items-returns-in_err-write_untagged : goal.write_items-returns-in_err-write_untagged
-write_items-returns-in_err-write_untagged t c =
+write_items-returns-in_err-write_untagged g t c =
     let refused : Fails c.in_err-write_untagged.field-0.0
     (written_items c.args.schema.now (ids_of c.args.ids.now) (items_view c.args.items.now)) =
     fails-left emit_node (λ part. c.args.out.now ++ emit_nodes_events part)
@@ -191,13 +191,13 @@ write_items-returns-in_err-write_untagged t c =
     search rules
 
 pub write_items-returns : goal.write_items-returns
-write_items-returns t c =
+write_items-returns g t c =
     c.loop-i.invariant.0 ∙ (ap (made (λ part. c.loop-i.out ++ emit_nodes_events part))
     (items-done c.args.schema.now c.args.ids.now c.args.items.now c.loop-i.i (omega (arith, c.min-i-end.ensures)))
     ∙ none-left emit_nodes_events no_emit_nodes c.loop-i.out refl)
 
 pub write_fields-loop-i-preserved : goal.write_fields-loop-i-preserved
-write_fields-loop-i-preserved t c = (
+write_fields-loop-i-preserved g t c = (
   c.loop-i.invariant.0
       ∙ (ap (made (λ part. c.loop-i.out ++ emit_pairs_events part))
       (fields-left c.args.schema.now c.args.fields.now c.args.items.now c.loop-i.i c.index-fields-i.result
@@ -214,7 +214,7 @@ write_fields-loop-i-preserved t c = (
 )
 
 pub write_fields-returns-in_err-write_field : goal.write_fields-returns-in_err-write_field
-write_fields-returns-in_err-write_field t c =
+write_fields-returns-in_err-write_field g t c =
     let refused : Fails c.in_err-write_field.field-0.0
     (written_fields c.args.schema.now (fields_of c.args.fields.now) (items_view c.args.items.now)) =
     fails-left pair_before (λ part. c.args.out.now ++ emit_pairs_events part)
@@ -235,14 +235,14 @@ write_fields-returns-in_err-write_field t c =
     search rules
 
 pub write_fields-returns : goal.write_fields-returns
-write_fields-returns t c =
+write_fields-returns g t c =
     c.loop-i.invariant.0 ∙ (ap (made (λ part. c.loop-i.out ++ emit_pairs_events part))
     (fields-done c.args.schema.now c.args.fields.now c.args.items.now c.loop-i.i
     (omega (arith, c.min-i-end.ensures)))
     ∙ none-left emit_pairs_events no_emit_pairs c.loop-i.out refl)
 
 pub write_data-returns-in-Variant : goal.write_data-returns-in-Variant
-write_data-returns-in-Variant t c =
+write_data-returns-in-Variant g t c =
     let found = c.variant_at.ensures ∙ ap (λ shape. slice_get (named_variants shape) c.in-Variant.place)
     c.shape-shape.ensures.found in
     rw (c.in-Variant.is, data_of-Variant c.in-Variant.place c.in-Variant.inner, ← found, ← c.deref-in-Variant.ensures)

@@ -8,7 +8,7 @@ use Rattle.yaml_write.proofs.ValueLaws.{pair-row}
 use Rattle.yaml_write.proofs.node_content.write_both.Goals as goal
 
 pub returns : goal.returns
-returns c =
+returns g c =
     adds-joined pair_node emit_node_events emit_node_events pair_events pair-row (content_written c.args.first)
     (content_written c.args.second)
     c.args.out.now c.write_content.new.out c.write_content-2.new.out c.write_content-2.result

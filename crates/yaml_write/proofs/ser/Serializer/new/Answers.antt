@@ -10,5 +10,5 @@ use Rattle.yaml_write.proofs.ser.Serializer.new.Goals as goal
 pub invariant_of-result : goal.invariant_of-result
 invariant_of-result c =
     let start : Writing = record { events = emit_stream_start ∷ []; opened = [] } in
-    let is : start ≡ record { events = c.push.new.self; opened = open_collections c.new.result.items } = search rules in
+    let is : start ≡ record { events = c.push.new.self; opened = open_collections c.new-2.result.items } = search rules in
     subst IsBegun is at_first

@@ -16,4 +16,4 @@ returns-clause-put g c =
     mapping_put c.args.schema.now c.key_shape.result.0 (key_shape shape) c.value_shape.result.0 (value_shape shape)
     (pairs_written g.K.Serialize.written g.V.Serialize.written c.args.self.now.entries)
     c.args.out.now c.start_mapping.new.self c.put_entries.new.out c.end_mapping.new.self keys values
-    c.in_ok-start_mapping.ensures c.in_ok-put_entries.ensures.put c.in_ok-end_mapping.ensures
+    c.in_ok-start_mapping.ensures.added c.in_ok-put_entries.ensures.put c.in_ok-end_mapping.ensures.added

@@ -14,4 +14,4 @@ returns-clause-put g c =
     sequence_put c.args.schema.now c.element_shape-element.result.0 (element_shape shape)
     (items_of (map g.T.Serialize.written c.args.self.now.keys))
     c.args.out.now c.start_sequence.new.self c.put_members.new.out c.end_sequence.new.self elements
-    c.in_ok-start_sequence.ensures c.in_ok-put_members.ensures.put c.in_ok-end_sequence.ensures
+    c.in_ok-start_sequence.ensures.added c.in_ok-put_members.ensures.put c.in_ok-end_sequence.ensures.added

@@ -8,8 +8,8 @@ ghost use Rattle.yaml_write.specs.LocalTags.{local_tag, value_tag};
 use std::alloc::{AllocError, Global};
 use yaml_tree::Tag;
 
-/// A name as a local tag: with `!` in front, unless it begins with one.
-pub(crate) fn local_tag(alloc: Global, name: &str) -> Result<String, AllocError>
+/// A name as a local tag: with `!` in front, unless it begins with one. The only error is want of memory.
+pub fn local_tag(alloc: Global, name: &str) -> Result<String, AllocError>
     ensures { IfOk result (λ text. string_bytes text ≡ local_tag name.now) }
 {
     if name.as_bytes().first() == Some(&b'!') {
