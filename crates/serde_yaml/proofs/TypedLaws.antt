@@ -189,7 +189,7 @@ module _ {T : Type 0} (limits : PlainLimits) (start : Start) (built : PlainData 
       }
 
 -- a stream that was begun, a node, and its end
-stream_put : (given : Result EmitNode Cause) (begun mid new : List PlainEmit)
+pub stream_put : (given : Result EmitNode Cause) (begun mid new : List PlainEmit)
     → IsPut (λ es. es) (Ok (emit_stream_start ∷ emit_document_start ∷ [])) [] begun
     → IsPut emit_node_events given begun mid
     → IsPut (λ es. es) (Ok (emit_document_end ∷ emit_stream_end ∷ [])) mid new

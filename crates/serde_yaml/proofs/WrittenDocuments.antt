@@ -27,18 +27,20 @@ use Rattle.serde_yaml.specs.WrittenDocuments.{AreWrittenAs, IsFirstRefusal, Type
 use Rattle.serde_yaml.proofs.TypedLaws.{IsNoSchema, node_refused}
 
 -- a node between the start and the end of a document
-pub document_put : (given : Result EmitNode Cause) (old begun held new node : List PlainEmit)
-    → IsPut emit_node_events given [] node → begun ≡ old ++ emit_document_start ∷ [] → held ≡ begun ++ node
-    → new ≡ held ++ emit_document_end ∷ [] → IsPut emit_document_events given old new
-document_put (Err cause) old begun held new node p b h n = absurd (cc)
-document_put (Ok root) old begun held new node p b h n =
-    let is : emit_node_events root ≡ node = cc in
-    let ends : List PlainEmit = emit_document_end ∷ [] in
+pub document_put : (given : Result EmitNode Cause) (old begun held new : List PlainEmit)
+    → IsPut (λ (e : PlainEmit). e ∷ []) (Ok emit_document_start) old begun → IsPut emit_node_events given begun held
+    → IsPut (λ (e : PlainEmit). e ∷ []) (Ok emit_document_end) held new → IsPut emit_document_events given old new
+document_put (Err cause) old begun held new b p n = absurd (cc)
+document_put (Ok root) old begun held new b p n =
     let starts : List PlainEmit = emit_document_start ∷ [] in
-    let all : new ≡ ((old ++ starts) ++ emit_node_events root) ++ ends =
-    n ∙ ap (λ es. es ++ ends) (h ∙ (ap (λ es. es ++ node) b ∙ ap (λ es. (old ++ starts) ++ es) (sym is))) in
-    ap Ok (sym (all ∙ (append_assoc (old ++ starts) (emit_node_events root) ends
-    ∙ append_assoc old starts (emit_node_events root ++ ends))))
+    let node : List PlainEmit = emit_node_events root in
+    let ends : List PlainEmit = emit_document_end ∷ [] in
+    let first : old ++ starts ≡ begun = cc in
+    let second : begun ++ node ≡ held = cc in
+    let last : held ++ ends ≡ new = cc in
+    let all : ((old ++ starts) ++ node) ++ ends ≡ new =
+    ap (λ es. (es ++ node) ++ ends) first ∙ (ap (λ es. es ++ ends) second ∙ last) in
+    ap Ok (sym (append_assoc (old ++ starts) node ends ∙ append_assoc old starts (node ++ ends)) ∙ all)
 
 -- one document more behind documents
 more_events : (roots : List EmitNode) (root : EmitNode)

@@ -12,51 +12,37 @@ ghost use Rattle.serde_yaml.specs.Printed.{HasText};
 ghost use Rattle.serde_yaml.specs.WrittenDocuments.{AreWrittenAs, IsFirstRefusal, TypeWritesAll};
 
 use crate::type_faults::schema_refusal;
-use std::alloc::{AllocError, Global};
+use std::alloc::Global;
 use yaml_base::Result;
 use yaml_base::emitter::EmitEvent;
-use yaml_emit::Emitter;
+use yaml_emit::{Emitter, EventSink};
 use yaml_shape::{Schema, ShapeId};
 use yaml_types::Serialize;
-use yaml_write::EventBuffer;
+use yaml_write::NodeWriter;
 
-// Takes events behind the others.
-fn push_events(emitter: &mut Emitter, events: &[EmitEvent]) -> std::result::Result<(), AllocError>
-    ensures { OnOk result (emitter.new ≡ emitter.old ++ map emit_of events.now) }
-{
-    for event in events {
-        emitter.push(event)?;
-    }
-    Ok(())
-}
-
-// Takes the events of a document, whose node is what the value is written as by the shape with this number.
-fn push_document<T: Serialize>(
-    alloc: Global,
-    emitter: &mut Emitter,
+// Writes a document, whose node is what the value is written as by the shape with this number.
+fn write_document<T: Serialize, S: EventSink>(
+    out: &mut NodeWriter<S>,
     schema: &Schema,
     id: ShapeId,
     value: &T,
 ) -> Result<()>
     ensures taken { OnOk result (IsPut emit_document_events
-        (written_node schema.now id.0 (T.written value.now)) emitter.old emitter.new) }
+        (written_node schema.now id.0 (T.written value.now)) out.old out.new) }
     ensures kept { OnOk result (T.kept value.now) }
     ensures held { OnOk result (IsHeld (T.written value.now)) }
     ensures refused { IfErr result
         (IsFaultOf (written_node schema.now id.0 (T.written value.now)) (T.unwritten value.now)) }
 {
-    let mut node = EventBuffer::new(alloc);
-    value.write_node(&mut node, schema, id)?;
-    emitter.push(&EmitEvent::DocumentStart)?;
-    push_events(emitter, &node.into_events())?;
-    emitter.push(&EmitEvent::DocumentEnd)?;
+    out.start_document()?;
+    value.write_node(out, schema, id)?;
+    out.end_document()?;
     Ok(())
 }
 
-// Takes the events of a document for each value.
-fn push_documents<T: Serialize>(
-    alloc: Global,
-    emitter: &mut Emitter,
+// Writes a document for each value.
+fn write_documents<T: Serialize, S: EventSink>(
+    out: &mut NodeWriter<S>,
     schema: &Schema,
     id: ShapeId,
     values: &[T],
@@ -65,21 +51,21 @@ fn push_documents<T: Serialize>(
     requires number { id.0 ≡ T.start.1 }
     requires valid { IsValidSchema schema.now }
     ensures taken { OnOk result ((roots : List EmitNode) × AreWrittenAs T.start T.written values.now roots
-        × (emitter.new ≡ emitter.old ++ emit_documents_events roots)) }
+        × (out.new ≡ out.old ++ emit_documents_events roots)) }
     ensures kept { OnOk result (All T.kept values.now) }
     ensures held { OnOk result (All (λ x. IsHeld (T.written x)) values.now) }
     ensures refused { IfErr result (λ cause. is_memory cause ≡ false
         → IsFirstRefusal T.start T.written T.unwritten values.now cause) }
 {
     for value in values {
-        push_document(alloc, emitter, schema, id, value)?;
+        write_document(out, schema, id, value)?;
     }
     Ok(())
 }
 
 /// The values as YAML text, a document for each, with `---` between: what `emit` prints for a stream of the documents
 /// that `to_string` writes of each alone. Without values it is the empty text. The first value that `to_string` refuses
-/// is refused so. No more events are held than one document has.
+/// is refused so. No events are held, but the text of those before.
 pub fn documents_to_string<T: Serialize>(alloc: Global, values: &[T]) -> Result<String>
     ensures text { IfOk result (λ text.
         HasText (TypeWritesAll T.start T.written T.unwritten values.now) (string_bytes text)) }
@@ -99,7 +85,9 @@ pub fn documents_to_string<T: Serialize>(alloc: Global, values: &[T]) -> Result<
     schema.is_table();
     let mut emitter = Emitter::new(alloc);
     emitter.push(&EmitEvent::StreamStart)?;
-    push_documents(alloc, &mut emitter, &schema, id, values)?;
+    let mut out = NodeWriter::new(emitter);
+    write_documents(&mut out, &schema, id, values)?;
+    let mut emitter = out.into_sink();
     emitter.push(&EmitEvent::StreamEnd)?;
     emitter.finish()
 }

@@ -13,14 +13,26 @@ ghost use Rattle.serde_yaml.specs.Printed.{AddsText, HasEvents, HasText, IsDataW
 ghost use Rattle.serde_yaml.specs.Printed.{IsTextRefused};
 ghost use Rattle.serde_yaml.specs.TypedWrites.{TypeWrites};
 
-use crate::ser::{to_events, write_stream};
+use crate::ser::{write_stream, write_value};
 use std::alloc::Global;
 use std::io::Write;
 use yaml_base::Result;
 use yaml_base::emitter::EmitEvent;
-use yaml_emit::{WriteFault, emit};
+use yaml_emit::{Emitter, WriteFault, emit};
 use yaml_shape::Typed;
 use yaml_types::Serialize;
+
+// The text of what an emitter has taken.
+fn finished(emitter: Emitter) -> Result<String>
+    ensures text { IfOk result (λ text. IsStreamText emitter.taken (string_bytes text)) }
+    ensures refused { IfErr result (λ cause. is_memory cause ≡ false → IsOutOfPlace cause) }
+    ensures no_stream { IfErr result (λ cause. is_memory cause ≡ false → IsEmitStream emitter.taken → ⊥) }
+{
+    match emitter.finish() {
+        Ok(text) => Ok(text),
+        Err(fault) => Err(fault),
+    }
+}
 
 // The text of events.
 pub(crate) fn printed(alloc: Global, events: &[EmitEvent]) -> Result<String>
@@ -51,11 +63,11 @@ pub fn to_string<T: Serialize>(alloc: Global, value: &T) -> Result<String>
     ensures unwritten { IfErr result (λ cause. is_memory cause ≡ false
         → TypeWrites T.start (T.written value.now) (T.unwritten value.now) (Err cause)) }
 {
-    let events = match to_events(alloc, value) {
-        Ok(events) => events,
+    let emitter = match write_value(alloc, Emitter::new(alloc), value) {
+        Ok(emitter) => emitter,
         Err(refused) => return Err(refused),
     };
-    match printed(alloc, events.as_slice()) {
+    match finished(emitter) {
         Ok(text) => Ok(text),
         Err(fault) => Err(fault),
     }
@@ -103,11 +115,12 @@ pub fn data_to_string(alloc: Global, value: &Typed<'_, '_>) -> Result<String>
         → IsDataWritten (schema_in value.now) (id_in value.now).0 (data_of (content_in value.now))
         (Err cause)) }
 {
-    let events = match write_stream(alloc, value.schema(), value.id(), value.content()) {
-        Ok(events) => events,
+    let sink = Emitter::new(alloc);
+    let emitter = match write_stream(sink, value.schema(), value.id(), value.content()) {
+        Ok(emitter) => emitter,
         Err(refused) => return Err(refused),
     };
-    match printed(alloc, events.as_slice()) {
+    match finished(emitter) {
         Ok(text) => Ok(text),
         Err(fault) => Err(fault),
     }

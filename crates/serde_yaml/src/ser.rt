@@ -1,6 +1,6 @@
 //! Writing a value of a type as a stream.
 
-ghost use Rattle.std.specs.Prelude.{map, None, OnOk, IsTrue};
+ghost use Rattle.std.specs.Prelude.{◌≡◌, [], map, None, OnOk, IsTrue};
 ghost use Rattle.yaml_base.specs.Answer.{Answers, Gives};
 ghost use Rattle.yaml_base.specs.EmitEvents.{emit_of};
 ghost use Rattle.yaml_shape.specs.DataView.{data_of};
@@ -15,35 +15,58 @@ use crate::type_faults::schema_refusal;
 use std::alloc::Global;
 use yaml_base::Result;
 use yaml_base::emitter::EmitEvent;
-use yaml_shape::{Data, Schema, ShapeId, Typed};
+use yaml_emit::EventSink;
+use yaml_shape::{Data, Schema, ShapeId, data_is_held};
 use yaml_types::Serialize;
-use yaml_write::{EventBuffer, Serializer};
+use yaml_write::{EventBuffer, NodeWriter};
 
-// The events of a whole stream whose one document is the data, by its shape.
-pub(crate) fn write_stream(
-    alloc: Global,
+// A whole stream whose one document is the data, by its shape, into a sink that has taken nothing.
+pub(crate) fn write_stream<S: EventSink>(
+    sink: S,
     schema: &Schema,
     id: ShapeId,
     content: &Data<'_>,
-) -> Result<Vec<EmitEvent>>
-    requires { HasShape schema.now id.0 (data_of content.now) }
+) -> Result<S>
+    requires fresh { S.events sink ≡ [] }
+    requires of_shape { HasShape schema.now id.0 (data_of content.now) }
     ensures valid { IsValidSchema schema.now }
     ensures table { OnOk result (IsTrue (is_table schema.now)) }
     ensures held { OnOk result (IsHeld (data_of content.now)) }
-    ensures written { Gives (λ events. map emit_of events.items) result
-        (made written_stream (written schema.now id.0 None (data_of content.now))) }
+    ensures written { Gives S.events result (made written_stream (written schema.now id.0 None (data_of content.now))) }
 {
     schema.is_valid();
     schema.is_table();
-    let mut serializer = Serializer::new(alloc)?;
-    match Typed::new(schema, id, content) {
-        Some(value) => serializer.serialize_typed(&value)?,
-        None => unreachable!(),
-    }
-    match serializer.into_inner() {
-        Ok(events) => Ok(events),
-        Err((fault, _)) => Err(fault),
-    }
+    data_is_held(content);
+    let mut out = NodeWriter::new(sink);
+    out.start_stream()?;
+    out.typed(None, schema, id, content)?;
+    out.end_stream()?;
+    Ok(out.into_sink())
+}
+
+// A whole stream whose one document is the value, into a sink that has taken nothing.
+pub(crate) fn write_value<T: Serialize, S: EventSink>(
+    alloc: Global,
+    sink: S,
+    value: &T,
+) -> Result<S>
+    requires fresh { S.events sink ≡ [] }
+    ensures written { Answers S.events result (TypeWrites T.start (T.written value.now) (T.unwritten value.now)) }
+    ensures kept { OnOk result (T.kept value.now) }
+    ensures table { OnOk result (IsTrue (is_table T.start.0)) }
+    ensures held { OnOk result (IsHeld (T.written value.now)) }
+{
+    let (schema, id) = match T::schema(alloc) {
+        Ok(start) => start,
+        Err(refused) => return Err(schema_refusal(alloc, refused)),
+    };
+    schema.is_valid();
+    schema.is_table();
+    let mut out = NodeWriter::new(sink);
+    out.start_stream()?;
+    value.write_node(&mut out, &schema, id)?;
+    out.end_stream()?;
+    Ok(out.into_sink())
 }
 
 /// The events of a whole stream whose one document is the value, as the type's own `to_data` gives it. A value whose
@@ -59,15 +82,8 @@ pub fn to_events<T: Serialize>(alloc: Global, value: &T) -> Result<Vec<EmitEvent
     ensures table { OnOk result (IsTrue (is_table T.start.0)) }
     ensures held { OnOk result (IsHeld (T.written value.now)) }
 {
-    let (schema, id) = match T::schema(alloc) {
-        Ok(start) => start,
-        Err(refused) => return Err(schema_refusal(alloc, refused)),
-    };
-    schema.is_valid();
-    schema.is_table();
-    let mut events = EventBuffer::new(alloc);
-    events.start_stream()?;
-    value.write_node(&mut events, &schema, id)?;
-    events.end_stream()?;
-    Ok(events.into_events())
+    match write_value(alloc, EventBuffer::new(alloc), value) {
+        Ok(events) => Ok(events.into_events()),
+        Err(refused) => Err(refused),
+    }
 }

@@ -1,13 +1,13 @@
 -- A value is written as the only document of a stream, as its data is written under the type's shape.
 use Rattle.std.specs.Prelude.{IsTrue}
-use Rattle.std.proofs.Common.{◌≡◌, ◌∷◌, [], Err, Ok, false, rules, subst}
+use Rattle.std.proofs.Common.{◌≡◌, ◌∷◌, ◌∙◌, [], Err, Ok, false, rules, subst}
 use Rattle.yaml_base.specs.EmitEvents.{emit_stream_start, emit_document_start}
 use Rattle.yaml_shape.specs.Held.{is_table}
 use Rattle.yaml_base.specs.Answer.{is_memory}
 use Rattle.yaml_types.specs.NodeWrites.{IsPut}
 use Rattle.serde_yaml.specs.TypedWrites.{TypeWrites}
 use Rattle.serde_yaml.proofs.TypedLaws.{no_type_written, node_refused, node_written}
-use Rattle.serde_yaml.proofs.ser.to_events.Goals as goal
+use Rattle.serde_yaml.proofs.ser.write_value.Goals as goal
 
 pub returns-in-Err-clause-written : goal.returns-in-Err-clause-written
 returns-in-Err-clause-written g c =
@@ -26,13 +26,13 @@ returns-in_err-write_node-clause-written g c =
 
 pub returns-clause-written : goal.returns-clause-written
 returns-clause-written g c =
-    rw c.into_events.ensures
+    rw c.into_sink.ensures
     (node_written g.T.Serialize.start (g.T.Serialize.written c.args.value.now)
     (g.T.Serialize.unwritten c.args.value.now) c.in-Ok.start.0 c.in-Ok.start.1.0 c.start_stream.new.self
     c.write_node.new.out c.end_stream.new.self
     c.in-Ok.ensures.ok.table c.in-Ok.ensures.ok.number c.is_valid.ensures
     (subst (λ old. IsPut (λ es. es) (Ok (emit_stream_start ∷ emit_document_start ∷ [])) old c.start_stream.new.self)
-    c.new-events.ensures c.in_ok-start_stream.ensures)
+    (c.new-out.ensures ∙ c.requires.fresh) c.in_ok-start_stream.ensures)
     c.in_ok-write_node.ensures.put c.in_ok-end_stream.ensures)
 
 pub returns-clause-table : goal.returns-clause-table
