@@ -12,13 +12,13 @@ use Rattle.yaml_grammar.specs.Documents.{Stands}
 use Rattle.yaml_grammar.specs.Nodes.{Document, Marked, documents_events, end_mark, events_of, mark, node_events}
 use Rattle.yaml_reading.proofs.DocumentLaws.{one_text}
 use Rattle.yaml_reading.specs.Refused.{NothingStands}
-use Rattle.yaml_tape.specs.OnTape.{marked_by}
+use Rattle.yaml_tape.specs.OnTape.{anchor_in, marked_by, names_at, tag_in}
 use Rattle.yaml_tape.specs.Pushes.{marked_on}
 use Rattle.yaml_tape.specs.declared.entry.Entry.{Entry}
 use Rattle.yaml_tape.specs.declared.tape.Tape.{Tape}
 use Rattle.yaml_checked.specs.OfText.{AreAhead, AreReadOf, begun_of}
 use Rattle.yaml_checked.specs.declared.rest.Rest.{Rest}
-use Rattle.yaml_checked.specs.inner.OnWay.{IsFilled, IsOnWay, marked_at, marked_from}
+use Rattle.yaml_checked.specs.inner.OnWay.{IsFilled, IsOnWay, marked_at, marked_from, scalar_by, scalar_on}
 
 -- the events of documents behind others
 more_events : (ds es : List Document) → documents_events (ds ++ es) ≡ documents_events ds ++ documents_events es
@@ -214,3 +214,8 @@ begun_way {r} ds d n stand h stays of_text taken none on first then =
       ahead = subst (AreAhead r.tape.text.now ds (marked_from r.tape r.next)) (sym then)
           (subst (λ i. AreReadOf r.tape.text.now (marked_from r.tape i) n) (sym first) read);
     }
+
+-- the scalar of an entry without names
+pub without_names : (t : Tape) (e : Entry) → e.names ≡ 0 → scalar_on t e ≡ scalar_by t None None e
+without_names t e none =
+    ap (λ n. scalar_by t (anchor_in (names_at t.names.items n)) (tag_in (names_at t.names.items n)) e) none

@@ -1,7 +1,7 @@
 //! Which part of a stream comes next.
 
 ghost use Rattle.std.specs.Prelude.{◌≡◌, ◌≢◌, ◌↔◌, IfErr, IfOk, None, Some, false, true};
-ghost use Rattle.yaml_base.specs.PlainEvent.{event_of};
+ghost use Rattle.yaml_base.specs.PlainEvent.{PlainScalar, event_of, scalar};
 ghost use Rattle.yaml_base.specs.StreamMachine.{after_stream, before_stream, between_documents, next_state};
 ghost use Rattle.yaml_checked.specs.inner.Parts.{IsBetweenLike};
 ghost use Rattle.yaml_load.specs.StreamPhases.{IsClean, Moves};
@@ -78,6 +78,22 @@ impl Part {
         }
     }
 
+    // Goes over a scalar, which most events are, and tells whether one may stand there. No list is moved for it.
+    #[inline(always)]
+    fn go_over_leaf(&mut self) -> bool
+        ensures on { (s : PlainScalar) → result ≡ true → next_state self.old (scalar s) ≡ Some self.new }
+        ensures off { (s : PlainScalar) → result ≡ false → next_state self.old (scalar s) ≡ None }
+        ensures stays { result ≡ false → IsBetweenLike self.old self.new }
+    {
+        match after_leaf(self.phase) {
+            Some(phase) => {
+                self.phase = phase;
+                true
+            }
+            None => false,
+        }
+    }
+
     // Goes over an event, and tells whether it may stand there.
     #[inline(always)]
     pub(crate) fn go(&mut self, alloc: Global, event: &Event<'_>) -> Result<bool, AllocError>
@@ -86,6 +102,9 @@ impl Part {
         ensures stays { IfOk result (λ on. on ≡ false → IsBetweenLike self.old self.new) }
         ensures kept { IfErr result (λ _. IsBetweenLike self.old self.new) }
     {
+        if let Event::Scalar(_) = event {
+            return Ok(self.go_over_leaf());
+        }
         let mut outer = mem::replace(&mut self.outer, Vec::new(alloc));
         match after(self.phase, &mut outer, event)? {
             Some(phase) => {

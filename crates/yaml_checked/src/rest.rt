@@ -191,6 +191,12 @@ impl<'a> Rest<'a> {
             ≡ sequence_start (anchor_in (names_at self.now.tape.names.items entry.names))
             (tag_in (names_at self.now.tape.names.items entry.names))) }
     {
+        if entry.names == 0 {
+            return Ok(Event::SequenceStart(SequenceStart {
+                anchor: None,
+                tag: None,
+            }));
+        }
         let Names { anchor, tag } = self.names(alloc, entry.names)?;
         Ok(Event::SequenceStart(SequenceStart { anchor, tag }))
     }
@@ -202,12 +208,19 @@ impl<'a> Rest<'a> {
             ≡ mapping_start (anchor_in (names_at self.now.tape.names.items entry.names))
             (tag_in (names_at self.now.tape.names.items entry.names))) }
     {
+        if entry.names == 0 {
+            return Ok(Event::MappingStart(MappingStart {
+                anchor: None,
+                tag: None,
+            }));
+        }
         let Names { anchor, tag } = self.names(alloc, entry.names)?;
         Ok(Event::MappingStart(MappingStart { anchor, tag }))
     }
 
-    // The scalar of an entry.
-    fn scalar(&self, alloc: Global, entry: Entry) -> Result<Event<'a>, Refusal>
+    // The scalar of an entry with its names.
+    #[inline(never)]
+    fn named_scalar(&self, alloc: Global, entry: Entry) -> Result<Event<'a>, Refusal>
         requires inside { IsInside self.now.tape.text.now self.now.tape.arena.items self.now.tape.names.items entry }
         ensures event { IfOk result (λ event. event_of event ≡ scalar (scalar_on self.now.tape entry)) }
         ensures shown { IfOk result (λ event. IfSome (scalar_in (event_of event)) (λ s.
@@ -219,6 +232,31 @@ impl<'a> Rest<'a> {
         let names = self.names(alloc, entry.names)?;
         let found = scalar(alloc, &self.tape, entry, names)?;
         Ok(Event::Scalar(found))
+    }
+
+    // The scalar of an entry.
+    #[inline(always)]
+    #[tactic(auto, using(crate::proofs::WayLaws::without_names))]
+    fn scalar(&self, alloc: Global, entry: Entry) -> Result<Event<'a>, Refusal>
+        requires inside { IsInside self.now.tape.text.now self.now.tape.arena.items self.now.tape.names.items entry }
+        ensures event { IfOk result (λ event. event_of event ≡ scalar (scalar_on self.now.tape entry)) }
+        ensures shown { IfOk result (λ event. IfSome (scalar_in (event_of event)) (λ s.
+            IsSomeAnd s.source (StandsAt self.now.tape.text.now entry.index))) }
+        ensures plain { IfOk result (λ event. SaysSource (event_of event)) }
+        ensures untrue { IfErr result (λ r. r ≢ refusal.OutOfMemory → is_text self.now.tape.text.now ≡ true
+            → SaysItsSource (scalar_on self.now.tape entry) → ⊥) }
+    {
+        if entry.names == 0 {
+            let names = Names {
+                anchor: None,
+                tag: None,
+            };
+            let found = scalar(alloc, &self.tape, entry, names)?;
+            return Ok(Event::Scalar(found));
+        }
+        // A copy goes to the call, and its event is looked into: else both would take places in memory without names.
+        let event = self.named_scalar(alloc, Entry { ..entry })?;
+        Ok(event)
     }
 
     // The event of an entry of the tape.

@@ -98,6 +98,7 @@ fn has_names(names: &Names) -> bool
 }
 
 // The scalar of an entry, with its names.
+#[inline(always)]
 pub(crate) fn scalar<'a>(
     alloc: Global,
     tape: &Tape<'a>,
