@@ -58,6 +58,33 @@ value_of_one (Ok value) (Err cause) text documents left d parsed first none is_r
     let bad = is_read in absurd cc
 value_of_one (Err cause) read text documents left d parsed first none is_read whole = tt
 
+-- a text of one whole document is never one that is not allowed
+pub is_allowed : {X : Type 0} (result : Result X Cause) (text : List ℕ) → OnOk result (IsParsed text IsOneDocument)
+    → OnOk result ((IsAllowed text → ⊥) → ⊥)
+is_allowed (Ok value) text one = λ against.
+    let refused = one.parsed.refused against in
+    cut_off one.fault one.holds.document
+    (is_there (λ (f : PlainFault). IsOfReader text f.kind f.offset) one.fault refused.1)
+    (ap (λ es. documents_of (plain_marked es) one.fault) (sym refused.0) ∙ one.holds.alone) one.holds.whole
+is_allowed (Err cause) text one = tt
+
+-- a value that is read of the first of some documents, with none behind it, is one of each text of which they are all
+pub only_one : {X : Type 0} (result read : Result X Cause) (documents left : List PlainDocument) (d : PlainDocument)
+    → documents ≡ d ∷ left → OnOk result (OnOk read (left ≡ [])) → OnOk result (IsOk read)
+    → OnOk read (d.ending ≡ None)
+    → OnOk result ((text : List ℕ) → AreDocumentsOf text documents → IsParsed text IsOneDocument)
+only_one (Ok value) read documents left d first none is_read whole =
+    λ text parsed. value_of_one (Ok value) read text documents left d parsed first none is_read whole
+only_one (Err cause) read documents left d first none is_read whole = tt
+
+-- so of the text whose documents they are
+pub of_all : {X : Type 0} (result : Result X Cause) (text : List ℕ) (documents : List PlainDocument)
+    → AreDocumentsOf text documents
+    → OnOk result ((all : List ℕ) → AreDocumentsOf all documents → IsParsed all IsOneDocument)
+    → OnOk result (IsParsed text IsOneDocument)
+of_all (Ok value) text documents these given = given text these
+of_all (Err cause) text documents these given = tt
+
 -- so such a text is allowed
 pub allowed_of_one : {X : Type 0} (result read : Result X Cause) (text : List ℕ) (documents left : List PlainDocument)
     (d : PlainDocument) → AreDocumentsOf text documents → documents ≡ d ∷ left → OnOk result (OnOk read (left ≡ []))

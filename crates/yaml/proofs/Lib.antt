@@ -1,9 +1,10 @@
 -- Lemmas of this crate.
 pub mod BehindLaws
 pub mod CutOff
+pub mod DocumentCounts
 pub mod FloatLaws
-pub mod ManyDocuments
 pub mod NameLaws
+pub mod OneNode
 pub mod ReaderTexts
 pub mod StepLaws
-pub mod DocumentCounts
+pub mod TapeLaws

@@ -6,6 +6,7 @@ pub mod Leaves
 pub mod NextDocument
 pub mod NodeSteps
 pub mod OneDocument
+pub mod OneNode
 pub mod Picks
 pub mod PlaceSteps
 pub mod Printed

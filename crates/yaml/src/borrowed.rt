@@ -6,8 +6,8 @@ use crate::reader::Reader;
 use yaml_base::{Cause, Error, Found, Result};
 use yaml_read::DocEvent;
 
-// The range of the text in the input, if it ends there.
-fn range_to(input: &[u8], to: usize, text: &str) -> Option<(usize, usize)>
+/// The range of the text in the input, if it ends there.
+pub(crate) fn range_to(input: &[u8], to: usize, text: &str) -> Option<(usize, usize)>
     ensures { IfSome result (λ r. slice_range input.now r.0 r.1 ≡ text.now) }
 {
     let from = to.checked_sub(text.len())?;

@@ -1,11 +1,14 @@
-//! The serializer of events as one of the crate `serde`.
+//! What a value of a type with derives is written to.
 
-ghost use Rattle.std.specs.Prelude.{map, IfOk};
+ghost use Rattle.std.specs.Prelude.{◌≡◌, ◌+◌, map, IfOk};
 ghost use Rattle.yaml.specs.WrittenDocument.{IsWrittenDocument};
 ghost use Rattle.yaml_base.specs.EmitEvents.{emit_of};
 ghost use Rattle.yaml_base.specs.EmitTree.{IsEmitStream};
 
-use crate::written::of_one_document;
+use crate::event_list::EventList;
+use crate::printer::Printer;
+use crate::target::{Scalar, Target};
+use crate::told::{NOT_ONE, UNENDED, told};
 use ryu::Buffer;
 use serde::{Case, NameKind};
 use std::alloc::Global;
@@ -13,19 +16,6 @@ use std::fmt::Display;
 use yaml_base::emitter::EmitEvent;
 use yaml_base::{Cause, Error, Result};
 use yaml_float::{print_f32, print_f64};
-use yaml_shape::{Data, Schema, Shape, ShapeId, Text, Typed};
-use yaml_write::Serializer;
-
-// A value without parts.
-#[derive(Clone, Copy)]
-enum Scalar<'a> {
-    Null,
-    Bool(bool),
-    Signed(i128),
-    Unsigned(u128),
-    Char(char),
-    Str(&'a str),
-}
 
 // What is open, as the type that is written sees it.
 #[derive(Clone, Copy, PartialEq, Eq)]
@@ -38,11 +28,10 @@ enum Level {
     Shared,
 }
 
-/// Takes what a value sends, and makes events of it.
+/// Takes what a value sends, and hands nodes on to a target.
 #[derive(Drop)]
-pub(crate) struct Sink {
-    alloc: Global,
-    events: Serializer,
+pub(crate) struct Sink<T: Target> {
+    target: T,
     levels: Vec<Level>,
     // Whether a map of one pair was begun, of which it is not known whether it is a variant.
     is_held: bool,
@@ -50,18 +39,6 @@ pub(crate) struct Sink {
     tag: Option<String>,
     // Whether the next map's members go into the mapping that is open.
     is_shared: bool,
-}
-
-// The shape of a scalar, and its data.
-fn typed_parts(scalar: Scalar<'_>) -> (Shape, Data<'_>) {
-    match scalar {
-        Scalar::Null => (Shape::Unit, Data::Unit),
-        Scalar::Bool(v) => (Shape::Bool, Data::Bool(v)),
-        Scalar::Signed(v) => (Shape::I128, Data::Signed(v)),
-        Scalar::Unsigned(v) => (Shape::U128, Data::Unsigned(v)),
-        Scalar::Char(v) => (Shape::Char, Data::Char(v)),
-        Scalar::Str(v) => (Shape::Str, Data::Str(Text::Borrowed(v))),
-    }
 }
 
 // The name without one leading `!` that has something behind it.
@@ -72,51 +49,56 @@ fn unbanged(name: &str) -> &str {
     }
 }
 
-// A schema of one shape.
-fn schema_of(alloc: Global, shape: Shape) -> Result<Schema> {
-    match Schema::new(alloc, vec![in alloc; shape]?) {
-        Ok(schema) => Ok(schema),
-        Err(_) => Err(Error::new(Cause::Memory)),
-    }
-}
-
-impl Sink {
-    pub(crate) fn new(alloc: Global) -> Result<Sink> {
-        Ok(Sink {
-            alloc,
-            events: Serializer::new(alloc)?,
-            levels: Vec::new(alloc),
-            is_held: false,
-            tag: None,
-            is_shared: false,
-        })
-    }
-
+impl Sink<EventList> {
     /// All events, with the end of the stream behind them, where they are one document.
     pub(crate) fn into_events(self) -> Result<Vec<EmitEvent>>
         ensures stream { IfOk result (λ events. IsEmitStream (map emit_of events.items)) }
         ensures one { IfOk result (λ events. IsWrittenDocument (map emit_of events.items)) }
     {
-        if self.events.open_kind().is_some() || self.is_held || self.tag.is_some() {
-            return Err(self.told("a value began something and did not end it"));
+        let list = self.target;
+        if self.is_held || self.tag.is_some() {
+            return Err(told(list.alloc(), UNENDED));
         }
-        let alloc = self.alloc;
-        match self.events.into_inner() {
-            Ok(events) => of_one_document(alloc, events),
-            Err((fault, _)) => Err(fault),
+        list.into_events()
+    }
+}
+
+impl Sink<Printer> {
+    /// The printer, where it has printed one document behind so many.
+    pub(crate) fn into_printer(self, before: usize) -> Result<Printer>
+        ensures { IfOk result (λ printer. printer.begun ≡ before + 1) }
+    {
+        let printer = self.target;
+        if printer.is_open() || self.is_held || self.tag.is_some() {
+            return Err(told(printer.alloc(), UNENDED));
+        }
+        if printer.begun <= before || printer.begun - before > 1 {
+            return Err(told(printer.alloc(), NOT_ONE));
+        }
+        Ok(printer)
+    }
+}
+
+impl<T: Target> Sink<T> {
+    /// One that has sent the target nothing. Takes no memory.
+    pub(crate) fn new(target: T) -> Sink<T> {
+        let levels = Vec::new(target.alloc());
+        Sink {
+            target,
+            levels,
+            is_held: false,
+            tag: None,
+            is_shared: false,
         }
     }
 
     fn told(&self, message: &str) -> Error {
-        match String::from_str(self.alloc, message) {
-            Ok(text) => Error::custom(text),
-            Err(_) => Error::new(Cause::Memory),
-        }
+        told(self.target.alloc(), message)
     }
 
     // The name in its case.
     fn spelled(&self, kind: NameKind, name: &str, case: Case) -> Result<String> {
-        let mut text = String::new(self.alloc);
+        let mut text = String::new(self.target.alloc());
         case.append(kind, name, &mut text)?;
         Ok(text)
     }
@@ -141,28 +123,26 @@ impl Sink {
 
     fn open_map(&mut self) -> Result<()> {
         self.levels.push(Level::Collection)?;
-        match self.tag.take() {
-            Some(tag) => self.events.serialize_struct_variant("", 0, tag.as_str(), 0),
-            None => self.events.serialize_map(None),
-        }
+        self.target.open_mapping(self.tag.take())
     }
 
     fn open_seq(&mut self) -> Result<()> {
         self.levels.push(Level::Collection)?;
-        match self.tag.take() {
-            Some(tag) => self.events.serialize_tuple_variant("", 0, tag.as_str(), 0),
-            None => self.events.serialize_seq(None),
-        }
+        self.target.open_sequence(self.tag.take())
     }
 
     // Ends the innermost collection.
     fn close(&mut self) -> Result<()> {
-        match (self.levels.pop(), self.events.open_kind()) {
-            (Some(Level::Collection), Some((_, false))) => self.events.end(),
-            (Some(Level::Variant), _) if self.tag.is_none() => Ok(()),
-            (Some(Level::Shared), _) => Ok(()),
-            _ => Err(self.told("a value ended something too soon")),
+        let ended = match self.levels.pop() {
+            Some(Level::Collection) => self.target.close()?,
+            Some(Level::Variant) => self.tag.is_none(),
+            Some(Level::Shared) => true,
+            None => false,
+        };
+        if ended {
+            return Ok(());
         }
+        Err(self.told("a value ended something too soon"))
     }
 
     // A scalar, under a tag if one is held back.
@@ -172,45 +152,13 @@ impl Sink {
             return Err(self.told("only structs and maps can be flattened"));
         }
         match self.tag.take() {
-            Some(tag) => self.tagged(tag.as_str(), scalar),
-            None => self.untagged(scalar),
+            Some(tag) => self.target.variant_scalar(tag.as_str(), scalar),
+            None => self.target.scalar(scalar),
         }
-    }
-
-    // The text of a number, under a tag if one is held back.
-    fn number(&mut self, text: &str) -> Result<()> {
-        self.settle()?;
-        if self.is_shared {
-            return Err(self.told("only structs and maps can be flattened"));
-        }
-        match self.tag.take() {
-            Some(tag) => self.events.serialize_number(Some(tag.as_str()), text),
-            None => self.events.serialize_number(None, text),
-        }
-    }
-
-    fn untagged(&mut self, scalar: Scalar<'_>) -> Result<()> {
-        match scalar {
-            Scalar::Null => self.events.serialize_unit(),
-            Scalar::Bool(v) => self.events.serialize_bool(v),
-            Scalar::Signed(v) => self.events.serialize_i128(v),
-            Scalar::Unsigned(v) => self.events.serialize_u128(v),
-            Scalar::Char(v) => self.events.serialize_char(v),
-            Scalar::Str(v) => self.events.serialize_str(v),
-        }
-    }
-
-    fn tagged(&mut self, tag: &str, scalar: Scalar<'_>) -> Result<()> {
-        let (shape, content) = typed_parts(scalar);
-        let schema = schema_of(self.alloc, shape)?;
-        let Some(typed) = Typed::new(&schema, ShapeId(0), &content) else {
-            return Err(self.told("no scalar"));
-        };
-        self.events.serialize_newtype_variant("", 0, tag, &typed)
     }
 }
 
-impl serde::Serializer for Sink {
+impl<T: Target> serde::Serializer for Sink<T> {
     type Error = Error;
 
     fn bool(&mut self, v: bool) -> Result<()> {
@@ -218,27 +166,27 @@ impl serde::Serializer for Sink {
     }
 
     fn i64(&mut self, v: i64) -> Result<()> {
-        self.scalar(Scalar::Signed(v as i128))
-    }
-
-    fn u64(&mut self, v: u64) -> Result<()> {
-        self.scalar(Scalar::Unsigned(v as u128))
-    }
-
-    fn i128(&mut self, v: i128) -> Result<()> {
         self.scalar(Scalar::Signed(v))
     }
 
-    fn u128(&mut self, v: u128) -> Result<()> {
+    fn u64(&mut self, v: u64) -> Result<()> {
         self.scalar(Scalar::Unsigned(v))
     }
 
+    fn i128(&mut self, v: i128) -> Result<()> {
+        self.scalar(Scalar::LongSigned(v))
+    }
+
+    fn u128(&mut self, v: u128) -> Result<()> {
+        self.scalar(Scalar::LongUnsigned(v))
+    }
+
     fn f32(&mut self, v: f32) -> Result<()> {
-        self.number(print_f32(&mut Buffer::new(), v))
+        self.scalar(Scalar::Number(print_f32(&mut Buffer::new(), v)))
     }
 
     fn f64(&mut self, v: f64) -> Result<()> {
-        self.number(print_f64(&mut Buffer::new(), v))
+        self.scalar(Scalar::Number(print_f64(&mut Buffer::new(), v)))
     }
 
     fn char(&mut self, v: char) -> Result<()> {
@@ -332,8 +280,8 @@ impl serde::Serializer for Sink {
         self.told(message)
     }
 
-    fn collect_str<T: Display>(&mut self, value: &T) -> Result<()> {
-        let text = value.to_string(self.alloc)?;
+    fn collect_str<V: Display>(&mut self, value: &V) -> Result<()> {
+        let text = value.to_string(self.target.alloc())?;
         self.scalar(Scalar::Str(text.as_str()))
     }
 }

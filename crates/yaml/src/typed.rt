@@ -1,19 +1,23 @@
 //! Reading a value of any type that `serde` reads.
 
-ghost use Rattle.std.specs.Prelude.{◌≡◌, [], None, IsOk, OnOk, is_some};
+ghost use Rattle.std.specs.Prelude.{◌≡◌, [], ℕ, List, None, IsOk, OnOk, is_some};
 ghost use Rattle.yaml.specs.OneDocument.{IsOneDocument};
 ghost use Rattle.yaml_base.specs.MarkedEvents.{plain_events, plain_marked};
 ghost use Rattle.yaml_base.specs.Stream.{IsWellFormed};
-ghost use Rattle.yaml_documents.specs.TextDocuments.{IsParsed};
+ghost use Rattle.yaml_checked.specs.OfText.{SaysText};
+ghost use Rattle.yaml_documents.specs.TextDocuments.{AreDocumentsOf, IsParsed};
 ghost use Rattle.yaml_scan.specs.AllowedText.{IsAllowed};
 
 use crate::leaf::Leaves;
 use crate::reader::Reader;
+use crate::taped::read_tape;
 use serde::{Deserialize, DeserializeOwned, Deserializer};
 use std::alloc::Global;
 use yaml_base::{Cause, Error, Event, Mark, ParserFault, Result};
-use yaml_documents::load;
+use yaml_checked::parse_allowed;
+use yaml_documents::{load_by_tokens, load_tape};
 use yaml_read::{Document, Loader};
+use yaml_tape::Tape;
 
 // The value, unless the document was cut off.
 fn whole<T: Drop>(alloc: Global, read: Result<T>, document: &Document<'_>) -> Result<T>
@@ -88,16 +92,47 @@ pub fn from_str<'de, T: Deserialize<'de>>(alloc: Global, text: &'de str) -> Resu
 }
 
 /// The same of bytes, which are refused with the place of the first one that UTF-8 or YAML does not allow.
-#[tactic(auto, using(crate::proofs::CutOff::never_cut_off))]
+#[tactic(auto, using(crate::proofs::CutOff::is_allowed))]
 pub fn from_slice<'de, T: Deserialize<'de>>(alloc: Global, text: &'de [u8]) -> Result<T>
     ensures allowed { OnOk result ((IsAllowed text.now → ⊥) → ⊥) }
     ensures one { OnOk result (IsParsed text.now IsOneDocument) }
 {
-    let mut documents = load(alloc, text)?;
+    match parse_allowed(alloc, text)? {
+        Some(tape) => from_tape(alloc, tape),
+        None => {
+            let mut documents = load_by_tokens(alloc, text)?;
+            from_documents(alloc, text, &mut documents)
+        }
+    }
+}
+
+// The value of the text of a tape: as it is read from the tape, or else of the text's documents.
+fn from_tape<'de, T: Deserialize<'de>>(alloc: Global, tape: Tape<'de>) -> Result<T>
+    requires allowed { IsAllowed tape.text.now }
+    requires says { SaysText tape }
+    ensures { OnOk result (IsParsed tape.entry.text.now IsOneDocument) }
+{
+    if let Some(value) = read_tape(alloc, &tape) {
+        return Ok(value);
+    }
+    let text = tape.text;
+    let mut documents = load_tape(alloc, tape)?;
+    from_documents(alloc, text, &mut documents)
+}
+
+// The value of the one document of a text, of which these are all.
+#[tactic(auto, using(crate::proofs::CutOff::only_one))]
+fn from_documents<'de, T: Deserialize<'de>>(
+    alloc: Global,
+    text: &'de [u8],
+    documents: &mut Loader<'de>,
+) -> Result<T>
+    ensures { OnOk result ((all : List ℕ) → AreDocumentsOf all documents.old → IsParsed all IsOneDocument) }
+{
     let Some(document) = documents.next_document() else {
         return Err(Error::new(Cause::EndOfStream));
     };
-    alone(read_alone(alloc, text, &document), &mut documents)
+    alone(read_alone(alloc, text, &document), documents)
 }
 
 /// The one document of these events, each with its mark, and of the parser's fault, if it had one, as a value of the

@@ -1,6 +1,6 @@
 //! Writing a value of any type that `serde` writes.
 
-ghost use Rattle.std.specs.Prelude.{◌≡◌, List, map, string_bytes, IfErr, IfOk, OnOk};
+ghost use Rattle.std.specs.Prelude.{◌≡◌, ◌+◌, List, map, string_bytes, IfErr, IfOk, OnOk};
 ghost use Rattle.yaml.specs.Printed.{AddsText};
 ghost use Rattle.yaml.specs.WrittenDocument.{IsWrittenDocument};
 ghost use Rattle.yaml_ambiguous.specs.Quoting.{unambiguous};
@@ -9,6 +9,8 @@ ghost use Rattle.yaml_base.specs.EmitTree.{IsEmitStream};
 ghost use Rattle.yaml_emit.specs.StreamTexts.{IsStreamText};
 ghost use Rattle.yaml_emit.specs.WriteFaults.{IfOfValue};
 
+use crate::event_list::EventList;
+use crate::printer::Printer;
 use crate::sink::Sink;
 use serde::Serialize;
 use std::alloc::Global;
@@ -24,9 +26,19 @@ pub fn to_events<T: Serialize>(alloc: Global, value: &T) -> Result<Vec<EmitEvent
     ensures stream { IfOk result (λ events. IsEmitStream (map emit_of events.items)) }
     ensures one { IfOk result (λ events. IsWrittenDocument (map emit_of events.items)) }
 {
-    let mut sink = Sink::new(alloc)?;
+    let mut sink = Sink::new(EventList::new(alloc)?);
     value.serialize(&mut sink)?;
     sink.into_events()
+}
+
+/// Prints the value as a document behind the others. A value that writes nothing, or more than one value, is refused.
+pub(crate) fn print_document<T: Serialize>(printer: Printer, value: &T) -> Result<Printer>
+    ensures { IfOk result (λ printed. printed.begun ≡ printer.begun + 1) }
+{
+    let before = printer.begun;
+    let mut sink = Sink::new(printer);
+    value.serialize(&mut sink)?;
+    sink.into_printer(before)
 }
 
 /// The value as YAML text, a document that ends with a line feed: what `emit` prints for the events of `to_events`.
@@ -36,8 +48,7 @@ pub fn to_string<T: Serialize>(alloc: Global, value: &T) -> Result<String>
     ensures one { IfOk result (λ text. (events : List PlainEmit) × IsWrittenDocument events
         × IsStreamText events (string_bytes text)) }
 {
-    let events = to_events(alloc, value)?;
-    emit(alloc, events.as_slice())
+    print_document(Printer::new(alloc)?, value)?.finish()
 }
 
 /// The value as YAML text, a document that ends with a line feed, which other readers of YAML take as it is meant: as

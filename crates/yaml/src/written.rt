@@ -5,9 +5,10 @@ ghost use Rattle.yaml.specs.WrittenDocument.{IsWrittenDocument, documents_begun}
 ghost use Rattle.yaml_base.specs.EmitEvents.{emit_of};
 ghost use Rattle.yaml_base.specs.EmitTree.{IsEmitStream};
 
+use crate::told::{NOT_ONE, told};
 use std::alloc::Global;
+use yaml_base::Result;
 use yaml_base::emitter::EmitEvent;
-use yaml_base::{Error, Result};
 
 // How many documents begin in the events.
 fn documents_begun(events: &[EmitEvent]) -> usize
@@ -39,8 +40,5 @@ pub(crate) fn of_one_document(alloc: Global, events: Vec<EmitEvent>) -> Result<V
     if is_one_document(&events) {
         return Ok(events);
     }
-    match String::from_str(alloc, "a value wrote no document, or more than one") {
-        Ok(text) => Err(Error::custom(text)),
-        Err(refused) => Err(refused.into()),
-    }
+    Err(told(alloc, NOT_ONE))
 }

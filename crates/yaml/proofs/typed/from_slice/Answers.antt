@@ -1,9 +1,16 @@
--- A value is given of a text that was parsed to one whole document.
-use Rattle.yaml.proofs.CutOff.{value_of_one}
+-- A text that is left is read by its tokens.
+use Rattle.std.proofs.Common.{subst}
+use Rattle.std.specs.Prelude.{IfNone}
+use Rattle.yaml.proofs.CutOff.{is_allowed, of_all}
+use Rattle.yaml_checked.specs.OfText.{MayBeLeft}
 use Rattle.yaml.proofs.typed.from_slice.Goals as goal
 
-pub returns-clause-one : goal.returns-clause-one
-returns-clause-one g c =
-    value_of_one c.alone.result c.read_alone.result c.args.text.now c.in_ok-documents.documents
-    c.next_document.new.self c.in-Some.document c.in_ok-documents.ensures.documents c.in-Some.ensures.items
-    c.alone.ensures.same c.alone.ensures.read c.read_alone.ensures
+pub returns-in_ok-documents-in-None-clause-one : goal.returns-in_ok-documents-in-None-clause-one
+returns-in_ok-documents-in-None-clause-one g c =
+    of_all c.from_documents.result c.args.text.now c.in_ok-documents-in-None.documents
+    (c.in_ok-documents-in-None.ensures.left
+    (subst (λ o. IfNone o (MayBeLeft c.args.text.now)) c.in-None.is c.in_ok-tape.ensures.left)) c.from_documents.ensures
+
+pub returns-in_ok-documents-in-None-clause-allowed : goal.returns-in_ok-documents-in-None-clause-allowed
+returns-in_ok-documents-in-None-clause-allowed g c =
+    is_allowed c.from_documents.result c.args.text.now (returns-in_ok-documents-in-None-clause-one g c)

@@ -1,0 +1,18 @@
+-- What begins a mapping stands before what is missing in it.
+use Rattle.std.proofs.Common.{None, refl}
+use Rattle.yaml_base.specs.PlainEvent.{mapping_start}
+use Rattle.yaml_load.specs.StreamPhases.{phase_state}
+use Rattle.yaml_tape.specs.declared.entry.EntryKind.TheVariants as kind
+use Rattle.yaml.proofs.OneNode.{goes_on, mapping_is_step, stays_clean}
+use Rattle.yaml.proofs.tape_document.after_mapping_start.Goals as goal
+
+pub returns-in-Ok-clause-clean : goal.returns-in-Ok-clause-clean
+returns-in-Ok-clause-clean c =
+    stays_clean c.args.phase c.args.outer.now.items _ (mapping_start None None) c.in-Ok.found
+    (c.in-Ok.ensures.mapping refl None None)
+
+pub returns-in-Ok-clause-step : goal.returns-in-Ok-clause-step
+returns-in-Ok-clause-step c =
+    goes_on c.args.phase c.args.outer.now.items _ kind.MappingStart (mapping_start None None) c.in-Ok.found
+    (λ new h. mapping_is_step (phase_state c.args.phase c.args.outer.now.items) new None None h)
+    (c.in-Ok.ensures.mapping refl None None)
