@@ -1,6 +1,7 @@
 pub mod Decimals
 pub mod JsonLaws
 pub mod Pairs
+pub mod PathLaws
 pub mod Rests
 pub mod Sizes
 pub mod StepLaws

@@ -11,3 +11,4 @@ pub mod PathFaults
 pub mod PathText
 pub mod Reading
 pub mod Steps
+pub mod StepsText

@@ -1,5 +1,5 @@
 -- The steps of a path.
-use Rattle.std.specs.Prelude.{ℕ, List, [], ◌∷◌, string_bytes}
+use Rattle.std.specs.Prelude.{ℕ, ◌<◌, ◌^◌, IsUtf8, List, [], ◌∷◌, string_bytes}
 use Rattle.yaml_query.specs.declared.step.Step.{Step}
 use Rattle.yaml_query.specs.declared.step.Step.TheVariants as step
 
@@ -15,3 +15,8 @@ plain_step (step.Index place) = index place
 abbrev pub plain_steps : List Step → List PlainStep
 plain_steps [] = []
 plain_steps (s ∷ ss) = plain_step s ∷ plain_steps ss
+
+-- a step to a key that is a text, or to a place that has 64 bits: each `Step` is one
+abbrev pub IsStep : PlainStep → Type 0
+IsStep (key name) = IsUtf8 name
+IsStep (index place) = place < 2 ^ 64

@@ -1,6 +1,7 @@
 //! The line of a text around a place.
 
-ghost use Rattle.std.specs.Prelude.{◌≤◌, length};
+ghost use Rattle.std.specs.Prelude.{◌≡◌, ◌⊎◌, ◌-◌, ◌<◌, ◌≤◌, ℕ, length, slice_index};
+ghost use Rattle.yaml_report.specs.Line.{EndsLine};
 
 use memchr::{memchr2, memrchr2};
 
@@ -10,6 +11,11 @@ pub fn line_around(text: &[u8], index: usize) -> (usize, usize)
     ensures begins { result.0 ≤ index }
     ensures ends { index ≤ result.1 }
     ensures within { result.1 ≤ length text.now }
+
+    // No byte of it ends a line, and on each side of it stands one that does, or nothing.
+    ensures whole { (k : ℕ) → result.0 ≤ k → k < result.1 → ¬ EndsLine (slice_index text.now k) }
+    ensures opened { (result.0 ≡ 0) ⊎ EndsLine (slice_index text.now (result.0 - 1)) }
+    ensures closed { (result.1 ≡ length text.now) ⊎ EndsLine (slice_index text.now result.1) }
 {
     let start = match memrchr2(b'\n', b'\r', &text[..index]) {
         Some(last) => last + 1,

@@ -1,6 +1,6 @@
 //! Readers and writers that remember why they failed.
 
-ghost use Rattle.std.specs.Prelude.{◌≡◌, Some, None, IfErr};
+ghost use Rattle.std.specs.Prelude.{◌≡◌, Some, None, IfErr, OnOk};
 ghost use Rattle.std.specs.Io.{ReadsAtMost, WritesAtMost};
 ghost use Rattle.std.specs.Io.KnownBytes.{Keeps, ReadConsumes, WriteAppends};
 
@@ -35,7 +35,8 @@ impl<T> Watched<T> {
 
 // Why a call failed, if it did.
 fn failure_of<X>(outcome: &io::Result<X>) -> Option<io::Error>
-    ensures { IfErr outcome.now (λ why. result ≡ Some why) }
+    ensures failed { IfErr outcome.now (λ why. result ≡ Some why) }
+    ensures forgotten { OnOk outcome.now (result ≡ None) }
 {
     match outcome {
         Ok(_) => None,
@@ -50,6 +51,7 @@ impl<T: Read> Read for Watched<T> {
         ensures bound { ReadsAtMost result buffer.new }
         ensures bytes { ReadConsumes (T.remaining self.old.inner) (T.remaining self.new.inner) result buffer.new }
         ensures failure { IfErr result (λ why. self.new.failure ≡ Some why) }
+        ensures forgotten { OnOk result (self.new.failure ≡ None) }
     {
         let outcome = self.inner.read(buffer);
         self.failure = failure_of(&outcome);
@@ -64,6 +66,7 @@ impl<T: Write> Write for Watched<T> {
         ensures bound { WritesAtMost result buffer.now }
         ensures bytes { WriteAppends (T.contents self.old.inner) (T.contents self.new.inner) result buffer.now }
         ensures failure { IfErr result (λ why. self.new.failure ≡ Some why) }
+        ensures forgotten { OnOk result (self.new.failure ≡ None) }
     {
         let outcome = self.inner.write(buffer);
         self.failure = failure_of(&outcome);
@@ -73,6 +76,7 @@ impl<T: Write> Write for Watched<T> {
     fn flush(&mut self) -> io::Result<()>
         ensures bytes { Keeps (T.contents self.old.inner) (T.contents self.new.inner) }
         ensures failure { IfErr result (λ why. self.new.failure ≡ Some why) }
+        ensures forgotten { OnOk result (self.new.failure ≡ None) }
     {
         let outcome = self.inner.flush();
         self.failure = failure_of(&outcome);
