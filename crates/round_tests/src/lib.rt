@@ -10,6 +10,8 @@ mod kept;
 #[cfg(test)]
 mod laws;
 #[cfg(test)]
+mod ports;
+#[cfg(test)]
 mod printed;
 #[cfg(test)]
 mod refused;

@@ -68,8 +68,12 @@ GivesEqual limits start {T} built refused eq x text =
     (given : Result T Cause) → IsParsed text (λ events fault. TypeGives limits start built refused events fault given)
     → (y : T) × (given ≡ Ok y) × (eq x y ≡ true)
 
--- Whatever a call answers that reads the text as data of a shape is equal data, with its pairs in the same order.
+-- it is data that is equal to this, with its pairs in the same order
+abbrev pub IsSameData : PlainData → Result PlainData Cause → Type 0
+IsSameData d given = (found : PlainData) × (given ≡ Ok found) × IsTrue (same_data d found)
+
+-- whatever a call answers that reads the text as data of a shape is data that is equal to this, with its pairs in order
 abbrev pub GivesSameData : PlainLimits → List PlainShape → PlainShape → PlainData → (text : List ℕ) → Type 0
 GivesSameData limits table s d text =
     (given : Result PlainData Cause) → IsParsed text (λ events fault. InputGives limits table s events fault given)
-    → (found : PlainData) × (given ≡ Ok found) × IsTrue (same_data d found)
+    → IsSameData d given

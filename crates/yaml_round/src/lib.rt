@@ -2,6 +2,7 @@
 #![tactic(auto)]
 
 pub mod again;
+pub mod data_again;
 mod fit;
 pub mod held;
 pub mod in_turn;
