@@ -4,7 +4,10 @@ use crate::callers::Service;
 use serde::Deserialize;
 use serde_json::{Error as JsonError, to_string as to_json, to_string_pretty};
 use std::alloc::Global;
-use yaml::{Error, Tag, Value, from_str, from_value, to_string, to_string_unambiguous, to_value};
+use yaml::{
+    Documents, Error, Tag, Value, documents_to_string, from_str, from_value, to_string,
+    to_string_unambiguous, to_value,
+};
 
 // The fault of JSON, by its text.
 fn told_of_json<T: Drop>(alloc: Global, answer: Result<T, JsonError>) -> Result<T, Error> {
@@ -116,6 +119,19 @@ fn unambiguous(alloc: Global, text: &str) -> Result<String, Error> {
     to_string_unambiguous(alloc, &value)
 }
 
+// The documents of the text as one text again.
+fn rewritten(alloc: Global, text: &str) -> Result<String, Error> {
+    let mut documents = Documents::from_str(alloc, text)?;
+    let mut values = Vec::new(alloc);
+    for _ in 0..u64::MAX {
+        let Some(read) = documents.read_next::<Value>() else {
+            break;
+        };
+        values.push(read?)?;
+    }
+    documents_to_string(alloc, values.as_slice())
+}
+
 /// What is done with the value of this text, by a name.
 pub fn answer_of_value(alloc: Global, name: &str, text: &str) -> Result<String, Error> {
     match name {
@@ -130,6 +146,7 @@ pub fn answer_of_value(alloc: Global, name: &str, text: &str) -> Result<String, 
         "moved" => moved(alloc, text),
         "converted" => converted(alloc, text),
         "unambiguous" => unambiguous(alloc, text),
+        "rewritten" => rewritten(alloc, text),
         _ => Err(Error::custom(String::from_str(alloc, "no such deed")?)),
     }
 }
