@@ -1,14 +1,17 @@
 -- A text that begins as nothing but a string does is one.
 use mathlib.Core.Bool.{true≢false}
-use Rattle.std.specs.Prelude.{if◌then◌else◌, Option, None, Some, Bool, true, false, not, ◌==◌, ◌&&◌, ◌||◌, nat_lt, nat_eq, position, codes}
+use Rattle.std.specs.Prelude.{if◌then◌else◌, Option, None, Some, Bool, true, false, not, ◌==◌, ◌&&◌, ◌||◌}
+use Rattle.std.specs.Prelude.{nat_lt, nat_eq, position, codes}
 use Rattle.std.specs.Char.{is_ascii_digit, digit_value}
 use Rattle.std.specs.List.{list_any}
 use Rattle.std.specs.Option.{option_map, option_map_or}
-use Rattle.std.proofs.Common.{◌≡◌, ℕ, zero, suc, ◌<◌, ◌≤◌, List, [], ◌∷◌, length, take, drop, refl, sym, ap, ◌∙◌, arith, ◌+◌}
+use Rattle.std.proofs.Common.{◌≡◌, ℕ, zero, suc, ◌<◌, ◌≤◌, List, [], ◌∷◌, length, take, drop, refl, sym, ap, ◌∙◌}
+use Rattle.std.proofs.Common.{arith, ◌+◌}
 use Rattle.std.proofs.lemmas.Bool.Decides.{Decides-eqb, Decides-ltb, nat_tests}
 use Rattle.yaml_base.proofs.MantissaLaws.{digit-Decides}
 use Rattle.yaml_base.proofs.SignLaws.{unproved}
-use Rattle.yaml_base.specs.Floats.{is_decimal_float, is_exponent_mark, is_float, is_infinity_word, is_nan_word, is_mantissa, is_numeral}
+use Rattle.yaml_base.specs.Floats.{is_decimal_float, is_exponent_mark, is_float, is_infinity_word}
+use Rattle.yaml_base.specs.Floats.{is_mantissa, is_nan_word, is_numeral}
 use Rattle.yaml_base.specs.Integers.{integer_of, number_in_any_base, unsigned_of}
 use Rattle.yaml_base.specs.Kinds.{kind_of, begins_as_string, is_null_text}
 use Rattle.yaml_base.specs.PlainWords.{boolean_of}
