@@ -1,6 +1,7 @@
 -- Lemmas of this crate.
 pub mod BorrowableLaws
 pub mod DigitLaws
+pub mod FirstLookLaws
 pub mod FloatLaws
 pub mod IntegerLaws
 pub mod KindLaws

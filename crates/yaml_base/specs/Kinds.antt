@@ -1,6 +1,8 @@
 -- What a plain text is: null, a boolean, an integer, a float or a string.
-use Rattle.std.specs.Prelude.{◌≡◌, ◌≢◌, ℕ, ◌-◌, ◌^◌, ◌<◌, Bool, IsTrue, not, ◌==◌, ◌&&◌, ◌||◌}
-use Rattle.std.specs.Prelude.{if◌then◌else◌, List, length, Some, ℤ, pos, neg_ℤ, ◌≤ℤ◌}
+use Rattle.std.specs.Prelude.{◌≡◌, ◌≢◌, ℕ, ◌-◌, ◌^◌, ◌<◌, Bool, false, IsTrue, not, ◌==◌, ◌&&◌, ◌||◌, codes, nat_eq}
+use Rattle.std.specs.Prelude.{if◌then◌else◌, List, [], ◌∷◌, length, Some, ℤ, pos, neg_ℤ, ◌≤ℤ◌}
+use Rattle.std.specs.Char.{is_ascii_digit}
+use Rattle.std.specs.List.{list_any}
 use Rattle.std.specs.Option.{option_map_or}
 use Rattle.yaml_base.specs.Floats.{IsFloatText, HasLeadingZero, is_float, has_leading_zero}
 use Rattle.yaml_base.specs.Integers.{Base, IsInteger, IsIntegerText, IsUnsignedText, integer_of, unsigned_of, in_range}
@@ -37,3 +39,8 @@ kind_of text =
     (option_map_or (λ n. Unsigned n) (up_to (2 ^ 128 - 1) (unsigned_of text))
     (option_map_or (λ z. Signed z) (in_range (neg_ℤ (pos (2 ^ 127))) (pos (2 ^ 127 - 1)) (integer_of text))
     (if is_float text && not (has_leading_zero text) then Float else Str)))
+
+-- the text begins with no digit, no sign, no point and no first letter of a word: it is a string
+abbrev pub begins_as_string : List ℕ → Bool
+begins_as_string [] = false
+begins_as_string (c ∷ cs) = not (is_ascii_digit c || list_any (nat_eq c) (codes "+-.~nNtTfF"))

@@ -1,7 +1,7 @@
 //! The kind of a plain text.
 
 ghost use Rattle.std.specs.Prelude.{◌≡◌, ℕ, List};
-ghost use Rattle.yaml_base.specs.Kinds.{kind_of, HasKind};
+ghost use Rattle.yaml_base.specs.Kinds.{kind_of, begins_as_string, HasKind};
 ghost use Rattle.yaml_base.specs.declared.resolver.kind.Kind.{Kind as PlainKind};
 
 use super::float::{digits_but_not_number, is_float_text};
@@ -25,12 +25,28 @@ pub enum Kind {
     Str,
 }
 
+// Whether the text begins as nothing but a string does: with no digit, no sign, no point and no first letter of a word.
+fn begins_as_string(text: &[u8]) -> bool
+    ensures { result ≡ begins_as_string text.now }
+{
+    match text.first() {
+        Some(first) => !matches!(
+            first,
+            b'0'..=b'9' | b'+' | b'-' | b'.' | b'~' | b'n' | b'N' | b't' | b'T' | b'f' | b'F'
+        ),
+        None => false,
+    }
+}
+
 /// What the text is where it stands plain: each text has one kind.
 pub fn resolve(scalar: &str) -> Kind
     ensures value { result ≡ kind_of scalar.now }
     ensures kind { HasKind scalar.now result }
     ensures only { (kind : PlainKind) → HasKind scalar.now kind → kind ≡ result }
 {
+    if begins_as_string(scalar.as_bytes()) {
+        return Kind::Str;
+    }
     if scalar.is_empty() || parse_null(scalar.as_bytes()).is_some() {
         return Kind::Null;
     }

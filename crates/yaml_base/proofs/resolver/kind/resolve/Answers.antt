@@ -1,10 +1,16 @@
 use Rattle.std.proofs.Common.{◌≡◌, to_z, of_z, rules, arith}
 use Rattle.std.proofs.lemmas.Grind.{common_steps}
 use Rattle.std.specs.Int.{w128}
+use Rattle.yaml_base.proofs.FirstLookLaws.{begins-string}
 use Rattle.yaml_base.proofs.KindLaws.{has-at, only-at}
 use Rattle.yaml_base.specs.Kinds.{kind_of}
 use Rattle.yaml_base.specs.declared.resolver.kind.Kind.TheVariants.{Unsigned, Signed, Float, Str}
 use Rattle.yaml_base.proofs.resolver.kind.resolve.Goals as goal
+
+pub returns-then-begins_as_string : goal.returns-then-begins_as_string
+returns-then-begins_as_string c =
+    let e : Str ≡ kind_of c.args.scalar.now = begins-string c.args.scalar.now (search rules) in
+    record { value = e; kind = has-at c.args.scalar.now _ e; only = only-at c.args.scalar.now _ e }
 
 pub returns-in-Some-unsigned : goal.returns-in-Some-unsigned
 returns-in-Some-unsigned c =
