@@ -16,8 +16,7 @@ use Rattle.yaml_shape.specs.PlainData.{PlainData, bool_data, text_data, signed_d
 use Rattle.yaml_shape.specs.PlainShape.{PlainShape, IntegerType, bool_shape, str_shape, integer_shape}
 use Rattle.yaml_meaning.specs.Handing.{early, handed, as_is}
 use Rattle.yaml_meaning.specs.Meaning.{Means, means_node, means_scalar}
-use Rattle.yaml_meaning.specs.Presence.{is_absent}
-use Rattle.yaml_meaning.specs.ScalarShapes.{scalar_answer, lent_text}
+use Rattle.yaml_meaning.specs.ScalarShapes.{scalar_answer}
 use Rattle.yaml_meaning.specs.ScalarSorts.{is_plain}
 use Rattle.yaml_scalar.proofs.TextLaws.{bytes-there}
 use Rattle.yaml_tape.specs.OnDocs.{bare, docs_from}
