@@ -96,7 +96,7 @@ impl<'a> Rest<'a> {
     }
 
     // The scalar of an entry with a copy of its names.
-    #[inline(never)]
+    #[inline(always)]
     fn copied_scalar(&self, alloc: Global, entry: Entry) -> Result<Event<'a>, Refusal>
         requires some { 1 ≤ entry.names }
         requires inside { IsInside self.now.tape.text.now self.now.tape.arena.items self.now.tape.names.items entry }
@@ -157,9 +157,7 @@ impl<'a> Rest<'a> {
         if self.lets_go {
             return self.named_scalar(alloc, entry);
         }
-        // A copy goes to the call, and its event is looked into: else both would take places in memory without names.
-        let event = self.copied_scalar(alloc, Entry { ..entry })?;
-        Ok(event)
+        self.copied_scalar(alloc, entry)
     }
 
     // The event of an entry of the tape.
