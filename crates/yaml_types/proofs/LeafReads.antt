@@ -2,7 +2,7 @@
 use Rattle.std.proofs.Common.{ℕ, suc, ◌+◌, ◌≡◌, ◌≤◌, [], ◌∷◌, refl, sym, ◌∙◌, ap, subst, arith, Bool, true, false, List}
 use Rattle.std.specs.Prelude.{Option, None, Some, IfSome, Ok, ℤ, ◌≤ℤ◌, int_le, not, ◌&&◌, ◌||◌}
 use Rattle.std.specs.declared.cmp.Ordering.{Ordering}
-use Rattle.std.specs.Str.{IsUtf8}
+use Rattle.std.specs.Str.{IsUtf8, chars}
 use Rattle.yaml_base.specs.Borrowable.{is_borrowable}
 use Rattle.yaml_base.specs.DocTree.{word}
 use Rattle.yaml_base.specs.Kinds.{is_null_text}
@@ -12,11 +12,14 @@ use Rattle.yaml_base.specs.PlainWords.{boolean_of}
 use Rattle.yaml_base.specs.declared.event.ScalarStyle.TheVariants as style
 use Rattle.yaml_base.proofs.RangeLaws.{int_le-Decides}
 use Rattle.yaml_shape.specs.IntegerTypes.{is_of_type, least, greatest}
-use Rattle.yaml_shape.specs.PlainData.{PlainData, bool_data, text_data, signed_data, unsigned_data, none_data}
-use Rattle.yaml_shape.specs.PlainShape.{PlainShape, IntegerType, bool_shape, str_shape, integer_shape}
+use Rattle.yaml_shape.specs.PlainData.{PlainData, bool_data, char_data, text_data, signed_data, unsigned_data}
+use Rattle.yaml_shape.specs.PlainData.{none_data, unit_data}
+use Rattle.yaml_shape.specs.PlainShape.{PlainShape, IntegerType, bool_shape, char_shape, str_shape, integer_shape}
+use Rattle.yaml_shape.specs.PlainShape.{unit_shape}
 use Rattle.yaml_meaning.specs.Handing.{early, handed, as_is}
 use Rattle.yaml_meaning.specs.Meaning.{Means, means_node, means_scalar}
-use Rattle.yaml_meaning.specs.ScalarShapes.{scalar_answer}
+use Rattle.yaml_meaning.specs.Presence.{is_absent}
+use Rattle.yaml_meaning.specs.ScalarShapes.{scalar_answer, lent_text, only_one}
 use Rattle.yaml_meaning.specs.ScalarSorts.{is_plain}
 use Rattle.yaml_scalar.proofs.TextLaws.{bytes-there}
 use Rattle.yaml_tape.specs.OnDocs.{bare, docs_from}
@@ -67,6 +70,20 @@ pub lent_gives : (t : Tape) (place : ℕ) (e : Entry) (text : List ℕ) → Stan
     → ScalarGives t place str_shape (text_data true text)
 lent_gives t place e text there utf8 lent same =
     (bare t e, there, rw (sym same) (rw (sym (bytes-there text utf8)) (rw same (rw lent refl))))
+
+pub owned_gives : (t : Tape) (place : ℕ) (e : Entry) (text : List ℕ) → Stands t place e → IsUtf8 (bare t e).text
+    → is_borrowable (bare t e).text (bare t e).source e.style ≡ false → text ≡ (bare t e).text
+    → ScalarGives t place str_shape (text_data false text)
+owned_gives t place e text there utf8 owned same =
+    (bare t e, there, rw (sym (bytes-there (bare t e).text utf8)) (rw same (rw owned refl)))
+
+pub char_gives : (t : Tape) (place : ℕ) (e : Entry) (c : ℕ) → Stands t place e → IsUtf8 (bare t e).text
+    → Some c ≡ only_one (chars (bare t e).text) → ScalarGives t place char_shape (char_data c)
+char_gives t place e c there utf8 one =
+    (bare t e, there, rw (sym (bytes-there (bare t e).text utf8)) (rw (sym one) refl))
+
+pub unit_gives : (t : Tape) (place : ℕ) → IsNothing t place → ScalarGives t place unit_shape unit_data
+unit_gives t place g = let (w, there, absent) = g in (w, there, rw absent refl)
 
 -- a scalar without a tag that does not stand for nothing stands for an optional's content
 nothing_or : (p b : Bool) → not ((p && b || p && false) || p && false) ≡ not (p && b)

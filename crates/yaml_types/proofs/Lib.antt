@@ -1,12 +1,14 @@
 -- Lemmas of this crate.
 pub mod AnyReads
 pub mod ArrayFound
+pub mod BehindLaws
 pub mod BuildLaws
 pub mod EnumFound
 pub mod FoundLaws
 pub mod GatherLaws
 pub mod ItemsThen
 pub mod MapFilling
+pub mod MemberFilling
 pub mod PairFilling
 pub mod SetFilling
 pub mod SortedLaws
@@ -14,6 +16,8 @@ pub mod LeafLaws
 pub mod NodeLaws
 pub mod NodeReads
 pub mod LeafReads
+pub mod RowReads
+pub mod RowTables
 pub mod TableLaws
 pub mod StructFound
 pub mod WriteLaws

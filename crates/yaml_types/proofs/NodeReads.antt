@@ -41,7 +41,7 @@ next_doc t p q e h k =
     subst (λ z. docs_from t p ≡ doc e ∷ docs_from t z) next (ap (map doc) (drop_get t.entries.items p e h))
 
 -- events of one part and those of another, and what is left
-two : (a b : List PlainDocEvent) (d : List (Option PlainDocEvent))
+pub two : (a b : List PlainDocEvent) (d : List (Option PlainDocEvent))
     → map Some a ++ (map Some b ++ d) ≡ map Some (a ++ b) ++ d
 two a b d = sym (append_assoc (map Some a) (map Some b) d) ∙ ap (λ z. z ++ d) (sym (map-append Some a b))
 

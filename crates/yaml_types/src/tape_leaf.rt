@@ -3,13 +3,17 @@
 ghost use Rattle.std.specs.Prelude.{◌≡◌, ◌<◌, Bool, IfSome, length, pos, true, false};
 ghost use Rattle.yaml_shape.specs.IntegerTypes.{has_sign, is_of_type};
 ghost use Rattle.yaml_shape.specs.IntegerView.{integer_type_of};
-ghost use Rattle.yaml_shape.specs.PlainData.{bool_data, signed_data, text_data, unsigned_data};
-ghost use Rattle.yaml_shape.specs.PlainShape.{bool_shape, integer_shape, str_shape};
+ghost use Rattle.yaml_shape.specs.PlainData.{PlainData, bool_data, char_data, signed_data, text_data, unit_data};
+ghost use Rattle.yaml_shape.specs.PlainData.{unsigned_data};
+ghost use Rattle.yaml_shape.specs.PlainShape.{bool_shape, char_shape, integer_shape, str_shape, unit_shape};
 ghost use Rattle.yaml_base.specs.Kinds.{is_null_text};
 ghost use Rattle.yaml_types.specs.NodeMeans.{BeginsContent, IsNothing, ScalarGives};
+ghost use Rattle.yaml_types.specs.Texts.{BuiltCow};
 
 use crate::tape::{begins_mapping, begins_sequence, scalar_at, text_of};
 use simdutf8::basic::from_utf8;
+use std::alloc::Global;
+use std::borrow::CowStr;
 use yaml_base::{ScalarStyle, borrowed_bytes, parse_bool, parse_null};
 use yaml_scalar::{small_signed_of, small_unsigned_of};
 use yaml_shape::IntegerType;
@@ -69,6 +73,44 @@ pub(crate) fn unsigned_at(integer: IntegerType, tape: &Tape<'_>, place: usize) -
     }
     let found = small_unsigned_of(integer, text_of(tape, entry))?;
     Some(found)
+}
+
+// The text of a scalar in a place, borrowed where the source shows it, and else owned.
+pub(crate) fn shown_at<'de>(alloc: Global, tape: &Tape<'de>, place: usize) -> Option<CowStr<'de>>
+    ensures gives { IfSome result (λ text.
+        (d : PlainData) × ScalarGives tape.now place str_shape d × BuiltCow d text) }
+    ensures there { IfSome result (λ _. place < length tape.now.entries.items) }
+{
+    let entry = scalar_at(tape, place)?;
+    let source = tape.text.get(entry.index as usize..entry.end as usize)?;
+    let bytes = text_of(tape, entry);
+    match borrowed_bytes(bytes, Some(source), entry.style) {
+        Some(part) => {
+            let shown = from_utf8(part).ok()?;
+            Some(CowStr::Borrowed(shown))
+        }
+        None => {
+            let text = from_utf8(bytes).ok()?;
+            let owned = String::from_str(alloc, text).ok()?;
+            Some(CowStr::Owned(owned))
+        }
+    }
+}
+
+// The character that is the text of a scalar in a place.
+#[inline(always)]
+pub(crate) fn character_at(tape: &Tape<'_>, place: usize) -> Option<char>
+    ensures gives { IfSome result (λ c. ScalarGives tape.now place char_shape (char_data c)) }
+    ensures there { IfSome result (λ _. place < length tape.now.entries.items) }
+{
+    let entry = scalar_at(tape, place)?;
+    let text = from_utf8(text_of(tape, entry)).ok()?;
+    let mut characters = text.chars();
+    let found = characters.next()?;
+    match characters.next() {
+        None => Some(found),
+        Some(_) => None,
+    }
 }
 
 // Whether a collection without a tag begins in a place.

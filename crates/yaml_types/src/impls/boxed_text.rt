@@ -11,6 +11,7 @@ ghost use Rattle.yaml_types.specs.Texts.{BuiltText, bytes_returned};
 
 use crate::fault::BuildFault;
 use crate::leaf::{leaf_schema, put_text};
+use crate::tape_leaf::text_at;
 use crate::traits::{Deserialize, RoundTrip, Serialize};
 use std::alloc::Global;
 use std::boxed::BoxedStr;
@@ -41,13 +42,17 @@ impl<'de> Deserialize<'de> for BoxedStr {
         }
     }
 
+    #[tactic(auto, using(crate::proofs::LeafReads::leaf_means))]
     fn read_node(
-        _alloc: Global,
-        _tape: &Tape<'de>,
-        _place: &mut usize,
+        alloc: Global,
+        tape: &Tape<'de>,
+        place: &mut usize,
         _depth: usize,
     ) -> Option<BoxedStr> {
-        None
+        let text = text_at(tape, *place)?;
+        let found = BoxedStr::from_str(alloc, text).ok()?;
+        *place += 1;
+        Some(found)
     }
 }
 

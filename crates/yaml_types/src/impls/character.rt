@@ -2,6 +2,7 @@
 
 use crate::fault::BuildFault;
 use crate::leaf::leaf_schema;
+use crate::tape_leaf::character_at;
 use crate::traits::{Deserialize, RoundTrip, Serialize};
 use std::alloc::Global;
 use yaml_base::Error;
@@ -36,13 +37,16 @@ impl<'de> Deserialize<'de> for char {
         }
     }
 
+    #[tactic(auto, using(crate::proofs::LeafReads::leaf_means))]
     fn read_node(
         _alloc: Global,
-        _tape: &Tape<'de>,
-        _place: &mut usize,
+        tape: &Tape<'de>,
+        place: &mut usize,
         _depth: usize,
     ) -> Option<char> {
-        None
+        let found = character_at(tape, *place)?;
+        *place += 1;
+        Some(found)
     }
 }
 

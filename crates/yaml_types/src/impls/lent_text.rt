@@ -18,6 +18,7 @@ ghost use Rattle.yaml_types.specs.WriteRefusal.{IsWriteRefusal};
 
 use crate::fault::BuildFault;
 use crate::leaf::{leaf_schema, put_text};
+use crate::tape_leaf::shown_at;
 use crate::traits::{Deserialize, RoundTrip, Serialize};
 use std::alloc::Global;
 use std::borrow::CowStr;
@@ -56,13 +57,16 @@ impl<'de> Deserialize<'de> for CowStr<'de> {
         }
     }
 
+    #[tactic(auto, using(crate::proofs::LeafReads::leaf_means))]
     fn read_node(
-        _alloc: Global,
-        _tape: &Tape<'de>,
-        _place: &mut usize,
+        alloc: Global,
+        tape: &Tape<'de>,
+        place: &mut usize,
         _depth: usize,
     ) -> Option<CowStr<'de>> {
-        None
+        let found = shown_at(alloc, tape, *place)?;
+        *place += 1;
+        Some(found)
     }
 }
 

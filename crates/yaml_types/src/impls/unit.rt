@@ -2,6 +2,7 @@
 
 use crate::fault::BuildFault;
 use crate::leaf::leaf_schema;
+use crate::tape_leaf::is_nothing;
 use crate::traits::{Deserialize, RoundTrip, Serialize};
 use std::alloc::Global;
 use yaml_base::Error;
@@ -36,13 +37,13 @@ impl<'de> Deserialize<'de> for () {
         }
     }
 
-    fn read_node(
-        _alloc: Global,
-        _tape: &Tape<'de>,
-        _place: &mut usize,
-        _depth: usize,
-    ) -> Option<()> {
-        None
+    #[tactic(auto, using(crate::proofs::LeafReads::leaf_means))]
+    fn read_node(_alloc: Global, tape: &Tape<'de>, place: &mut usize, _depth: usize) -> Option<()> {
+        if !is_nothing(tape, *place)? {
+            return None;
+        }
+        *place += 1;
+        Some(())
     }
 }
 

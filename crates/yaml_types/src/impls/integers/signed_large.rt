@@ -110,13 +110,16 @@ impl<'de> Deserialize<'de> for i128 {
         }
     }
 
+    #[tactic(auto, using(crate::proofs::LeafReads::leaf_means))]
     fn read_node(
         _alloc: Global,
-        _tape: &Tape<'de>,
-        _place: &mut usize,
+        tape: &Tape<'de>,
+        place: &mut usize,
         _depth: usize,
     ) -> Option<i128> {
-        None
+        let found = signed_at(IntegerType::I128, tape, *place)?;
+        *place += 1;
+        Some(found as i128)
     }
 }
 
