@@ -6,6 +6,7 @@ pub mod FoundLaws
 pub mod GatherLaws
 pub mod ItemsThen
 pub mod MapFilling
+pub mod MemberFilling
 pub mod PairFilling
 pub mod SetFilling
 pub mod SortedLaws

@@ -17,6 +17,7 @@ use Rattle.yaml_types.specs.Sets.{BuiltMembers, inserted_all}
 use Rattle.yaml_types.specs.BuildRefusal.{IsBuildRefusal}
 use Rattle.yaml_types.specs.declared.fault.BuildFault.{BuildFault}
 use Rattle.yaml_types.proofs.BuildLaws.{told_by}
+use Rattle.yaml_types.proofs.MemberFilling.{inserted_last}
 use Rattle.yaml_types.proofs.SortedLaws.{set_of_sorted}
 
 module _ {T : Type 0} (s : Start) (cmp : T → T → Ordering) (built : PlainData → T → Type 0)
@@ -49,17 +50,12 @@ module _ {T : Type 0} (s : Start) (cmp : T → T → Ordering) (built : PlainDat
   last_item (c ∷ front) d x [] b h = absurd h
   last_item (c ∷ front) d x (y ∷ xs) b h = (h.0, last_item front d x xs b h.1)
 
-  put_last : (xs before : List T) (x : T)
-      → inserted_all cmp before (xs ++ x ∷ []) ≡ insert_key cmp (inserted_all cmp before xs) x
-  put_last [] before x = refl
-  put_last (y ∷ xs) before x = put_last xs (insert_key cmp before y) x
-
   last_built : (front : List Data) (d : Data) (x : T) (after : List T) → built (data_of d) x → AreBuilt front after
       → AreBuilt (front ++ d ∷ []) (insert_key cmp after x)
   last_built front d x after b h = (
     h.0 ++ x ∷ [],
     last_item front d x h.0 b h.1,
-    ap (λ l. insert_key cmp l x) h.2 ∙ sym (put_last h.0 [] x),
+    ap (λ l. insert_key cmp l x) h.2 ∙ sym (inserted_last cmp [] h.0 x),
   )
 
   -- where those in front are built, its refusal is that of all

@@ -1,6 +1,6 @@
 //! Sets in the order of their elements.
 
-ghost use Rattle.std.specs.Prelude.{◌≡◌, ◌∷◌, map, All, IsTrue, IfOk, IfErr, OnOk};
+ghost use Rattle.std.specs.Prelude.{◌≡◌, [], ◌∷◌, map, All, IsTrue, IfOk, IfErr, OnOk};
 ghost use Rattle.std.specs.BTreeSet.{insert_key};
 ghost use Rattle.yaml_base.specs.EmitTree.{emit_nodes_events};
 ghost use Rattle.yaml_shape.specs.DataView.{items_of, items_view};
@@ -16,6 +16,8 @@ ghost use Rattle.yaml_types.specs.BuildRefusal.{IsBuildRefusal};
 ghost use Rattle.yaml_types.specs.RefusalParts.{RefusedItems, RefusedSeq};
 
 use crate::fault::BuildFault;
+use crate::impls::list::read_items;
+use crate::tape::begins_sequence;
 use crate::traits::{Deserialize, RoundTrip, Serialize};
 use std::alloc::{AllocError, Global};
 use std::cmp::Ordering;
@@ -97,6 +99,35 @@ fn build_members<'de, T: Deserialize<'de> + Ord + Drop>(
     Ok(behind)
 }
 
+// The set of the members, put in one after another.
+fn set_in_turn<T: Ord + Drop>(alloc: Global, members: Vec<T>) -> Result<BTreeSet<T>, AllocError>
+    ensures { IfOk result (λ set. set.keys ≡ inserted_all T.cmp [] members.items) }
+{
+    let mut set = BTreeSet::new(alloc);
+    for member in members {
+        let _ = set.insert(member)?;
+    }
+    Ok(set)
+}
+
+// The set of the members, as if they were put in one after another: from the last on, as long as they fall.
+fn set_of_members<T: Ord + Drop>(alloc: Global, members: Vec<T>) -> Result<BTreeSet<T>, AllocError>
+    ensures { IfOk result (λ set. set.keys ≡ inserted_all T.cmp [] members.items) }
+{
+    let mut front = members;
+    let mut later = BTreeSet::new(alloc);
+    while let Some(member) = front.pop() {
+        if !comes_first(&member, &later) {
+            let mut set = set_in_turn(alloc, front)?;
+            let _ = set.insert(member)?;
+            insert_all(&mut set, later)?;
+            return Ok(set);
+        }
+        let _ = later.insert(member)?;
+    }
+    Ok(later)
+}
+
 // The members as nodes behind the events that are there, in order, each by the shape with this number.
 fn put_members<T: Serialize + Ord, W: EventSink>(
     members: &BTreeSet<T>,
@@ -141,12 +172,21 @@ impl<'de, T: Deserialize<'de> + Ord + Drop> Deserialize<'de> for BTreeSet<T> {
     }
 
     fn read_node(
-        _alloc: Global,
-        _tape: &Tape<'de>,
-        _place: &mut usize,
-        _depth: usize,
+        alloc: Global,
+        tape: &Tape<'de>,
+        place: &mut usize,
+        depth: usize,
     ) -> Option<BTreeSet<T>> {
-        None
+        if depth == 0 || !begins_sequence(tape, *place) {
+            return None;
+        }
+        *place += 1;
+        let members = read_items(alloc, tape, place, depth - 1)?;
+        *place += 1;
+        match set_of_members(alloc, members) {
+            Ok(set) => Some(set),
+            Err(_) => None,
+        }
     }
 }
 
