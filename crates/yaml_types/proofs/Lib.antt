@@ -1,5 +1,6 @@
 -- Lemmas of this crate.
 pub mod ArrayFound
+pub mod BehindLaws
 pub mod BuildLaws
 pub mod EnumFound
 pub mod FoundLaws
@@ -14,6 +15,8 @@ pub mod LeafLaws
 pub mod NodeLaws
 pub mod NodeReads
 pub mod LeafReads
+pub mod RowReads
+pub mod RowTables
 pub mod TableLaws
 pub mod StructFound
 pub mod WriteLaws

@@ -41,12 +41,12 @@ next_doc t p q e h k =
     subst (λ z. docs_from t p ≡ doc e ∷ docs_from t z) next (ap (map doc) (drop_get t.entries.items p e h))
 
 -- events of one part and those of another, and what is left
-two : (a b : List PlainDocEvent) (d : List (Option PlainDocEvent))
+pub two : (a b : List PlainDocEvent) (d : List (Option PlainDocEvent))
     → map Some a ++ (map Some b ++ d) ≡ map Some (a ++ b) ++ d
 two a b d = sym (append_assoc (map Some a) (map Some b) d) ∙ ap (λ z. z ++ d) (sym (map-append Some a b))
 
 -- events of a collection, of which its begin was read
-closed : (a : List PlainDocEvent) (e : PlainDocEvent) (d : List (Option PlainDocEvent))
+pub closed : (a : List PlainDocEvent) (e : PlainDocEvent) (d : List (Option PlainDocEvent))
     → map Some a ++ (Some e ∷ d) ≡ map Some (a ++ e ∷ []) ++ d
 closed a e d = two a (e ∷ []) d
 

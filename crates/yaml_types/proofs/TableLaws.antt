@@ -119,7 +119,7 @@ own_shape start s at =
     record { by = 0; shapes = own_shapes start.0; at = ap (shape_at start.0) (none_more start.1) ∙ at }
 
 -- those in front of others
-front_shapes : (table a b : List PlainShape) (by : ℕ) → HasShapes table by (a ++ b) → HasShapes table by a
+pub front_shapes : (table a b : List PlainShape) (by : ℕ) → HasShapes table by (a ++ b) → HasShapes table by a
 front_shapes table a b by h = record {
   before = h.before;
   after = map (raised by) b ++ h.after;
@@ -129,7 +129,7 @@ front_shapes table a b by h = record {
 }
 
 -- and those behind them
-behind_shapes : (table a b : List PlainShape) (by : ℕ) → HasShapes table by (joined_tables a b)
+pub behind_shapes : (table a b : List PlainShape) (by : ℕ) → HasShapes table by (joined_tables a b)
     → HasShapes table (by + length a) b
 behind_shapes table a b by h = record {
   before = h.before ++ map (raised by) a;
@@ -155,7 +155,7 @@ shape_there table shapes by id s h at within =
     ∙ (at_right h.before (map (raised by) shapes ++ h.after) id ∙ here))
 
 -- the shape of a type whose shapes are there
-part_shape : (start : Start) (table : List PlainShape) (by : ℕ) → IsClosed start → HasShapes table by start.0
+pub part_shape : (start : Start) (table : List PlainShape) (by : ℕ) → IsClosed start → HasShapes table by start.0
     → (r : PlainShape) × (shape_at table (by + start.1) ≡ Some r) × IsShapeIn start table r
 part_shape start table by closed h =
     let s : PlainShape = get_or start.0 start.1 any_shape in
@@ -165,13 +165,13 @@ part_shape start table by closed h =
     (raised by s, there, record { by = by; shapes = h; at = there })
 
 -- the last shape, and the others
-record IsLast (shapes : List PlainShape) (shape : PlainShape) (table : List PlainShape) (s : PlainShape)
+pub record IsLast (shapes : List PlainShape) (shape : PlainShape) (table : List PlainShape) (s : PlainShape)
     : Type 0 where
   pub by : ℕ
   pub others : HasShapes table by shapes
   pub is : s ≡ raised by shape
 
-last_shape : (shapes : List PlainShape) (shape : PlainShape) (table : List PlainShape) (s : PlainShape)
+pub last_shape : (shapes : List PlainShape) (shape : PlainShape) (table : List PlainShape) (s : PlainShape)
     → IsShapeIn (with_last_shape shapes shape) table s → IsLast shapes shape table s
 last_shape shapes shape table s h =
     let here : slice_get (shapes ++ shape ∷ []) (length shapes) ≡ Some shape =

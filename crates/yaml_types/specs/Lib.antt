@@ -13,9 +13,11 @@ pub mod NodeWrites
 pub mod PartShapes
 pub mod PlainLaws
 pub mod BuildRefusal
+pub mod Behind
 pub mod BuildFaultText
 pub mod RefusalParts
 pub mod ReturnLaws
+pub mod RowMeans
 pub mod RowReturns
 pub mod Rows
 pub mod SetLaws

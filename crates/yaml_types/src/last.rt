@@ -3,11 +3,13 @@
 use crate::fault::BuildFault;
 use crate::items::with_data;
 use crate::row::{ReadRow, RoundTripRow, Row, WriteRow};
+use crate::tape::{ends_sequence, place_behind};
 use crate::traits::{Deserialize, RoundTrip, Serialize};
 use std::alloc::Global;
 use std::vec::IntoIter;
 use yaml_base::Error;
 use yaml_shape::{Data, Schema, SchemaFault, ShapeId};
+use yaml_tape::Tape;
 
 impl<A> Row for (A,) {
     ghost width = { 1 };
@@ -49,6 +51,15 @@ impl<'de, A: Deserialize<'de>> ReadRow<'de> for (A,) {
             Ok(last) => Ok((last,)),
             Err(fault) => Err(fault),
         }
+    }
+
+    // The end is looked at first, since a value that is not `Drop` can't be let go.
+    fn read_row(alloc: Global, tape: &Tape<'de>, place: &mut usize, depth: usize) -> Option<(A,)> {
+        if !ends_sequence(tape, place_behind(tape, *place)?) {
+            return None;
+        }
+        let last = A::read_node(alloc, tape, place, depth)?;
+        Some((last,))
     }
 }
 

@@ -1,6 +1,7 @@
 //! Rows of types: `()`, or a type with the rest of the row, as `(String, (u16, (Option<bool>, ())))`.
 
-ghost use Rattle.std.specs.Prelude.{◌≡◌, ◌++◌, ℕ, List, true, length, IsTrue, All, IfOk, IfErr, OnOk};
+ghost use Rattle.std.specs.Prelude.{◌≡◌, ◌<◌, ◌+◌, ◌∷◌, ◌++◌, ℕ, List, true, length, IsTrue, All, IfOk, IfErr, IfSome};
+ghost use Rattle.std.specs.Prelude.{OnOk, Some};
 ghost use Rattle.yaml_shape.specs.EqualData.{items_eq};
 ghost use Rattle.std.specs.Vec.Iter.{into_iter_items};
 ghost use Rattle.yaml_shape.specs.PlainData.{PlainItems};
@@ -11,13 +12,18 @@ ghost use Rattle.yaml_types.specs.PartShapes.{items_match};
 ghost use Rattle.yaml_types.specs.BuildRefusal.{IsBuildRefusal};
 ghost use Rattle.yaml_types.specs.WriteRefusal.{IsWriteRefusal};
 ghost use Rattle.yaml_types.specs.Rows.{total, items_then};
+ghost use Rattle.yaml_types.specs.RowMeans.{RowMeans};
+ghost use Rattle.yaml_base.specs.PlainDocEvent.{sequence_ends};
+ghost use Rattle.yaml_tape.specs.OnDocs.{docs_from};
 
 use crate::fault::BuildFault;
+use crate::tape::ends_sequence;
 use crate::traits::{Deserialize, RoundTrip, Serialize};
 use std::alloc::Global;
 use std::vec::IntoIter;
 use yaml_base::Error;
 use yaml_shape::{Data, Schema, SchemaFault, ShapeId};
+use yaml_tape::Tape;
 
 /// How many types are in a row.
 pub trait Row {
@@ -61,6 +67,14 @@ pub trait ReadRow<'de>: Row + Sized {
         ensures ok { IfOk result (built (items_view (into_iter_items items.entry))) }
         ensures refused { IfErr result (IsBuildRefusal (refused (items_view (into_iter_items items.entry)))) };
 
+    /// The values of as many nodes from a place of a tape on, behind which their sequence ends in what then is the
+    /// place; or nothing, which says nothing of the nodes.
+    fn read_row(alloc: Global, tape: &Tape<'de>, place: &mut usize, depth: usize) -> Option<Self>
+        ensures row { IfSome result (RowMeans starts built tape.now place.old place.new depth) }
+        ensures ended { IfSome result (λ _.
+            docs_from tape.now place.new ≡ Some sequence_ends ∷ docs_from tape.now (place.new + 1)) }
+        ensures there { IfSome result (λ _. place.new < length tape.now.entries.items) };
+
     // Each shape is in its table, which names no shape outside.
     ghost closed: { All IsClosed starts };
 
@@ -92,6 +106,14 @@ impl<'de> ReadRow<'de> for () {
 
     fn build(_alloc: Global, _items: IntoIter<Data<'de>>) -> Result<(), BuildFault> {
         Ok(())
+    }
+
+    #[tactic(auto, using(crate::proofs::RowReads::row_none))]
+    fn read_row(_alloc: Global, tape: &Tape<'de>, place: &mut usize, _depth: usize) -> Option<()> {
+        if !ends_sequence(tape, *place) {
+            return None;
+        }
+        Some(())
     }
 }
 
@@ -139,6 +161,17 @@ impl<'de, A: Deserialize<'de> + Drop, R: ReadRow<'de>> ReadRow<'de> for (A, R) {
             Ok(rest) => Ok((first, rest)),
             Err(fault) => Err(fault),
         }
+    }
+
+    fn read_row(
+        alloc: Global,
+        tape: &Tape<'de>,
+        place: &mut usize,
+        depth: usize,
+    ) -> Option<(A, R)> {
+        let first = A::read_node(alloc, tape, place, depth)?;
+        let rest = R::read_row(alloc, tape, place, depth)?;
+        Some((first, rest))
     }
 }
 

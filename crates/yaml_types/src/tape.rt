@@ -2,8 +2,9 @@
 
 ghost use Rattle.std.specs.Prelude.{◌≡◌, ◌<◌, ◌+◌, ◌∷◌, IfSome, None, Some, length, slice_range, true};
 ghost use Rattle.yaml_base.specs.PlainDocEvent.{a_scalar, mapping_begins, mapping_ends, sequence_begins, sequence_ends};
-ghost use Rattle.yaml_tape.specs.OnDocs.{bare, docs_from};
+ghost use Rattle.yaml_tape.specs.OnDocs.{bare, doc_by, docs_from};
 ghost use Rattle.yaml_tape.specs.OnTape.{IsInside, names_at, tag_in, text_on};
+ghost use Rattle.yaml_types.specs.Behind.{behind, opened};
 
 use yaml_tape::{Entry, EntryKind, Tape};
 
@@ -85,6 +86,45 @@ pub(crate) fn ends_mapping(tape: &Tape<'_>, place: usize) -> bool
         Some(entry) => entry.kind == EntryKind::MappingEnd,
         None => false,
     }
+}
+
+// How many collections are open behind an entry, where so many are in front of it.
+#[inline(always)]
+fn opened(tape: &Tape<'_>, entry: Entry, depth: usize) -> Option<usize>
+    ensures { IfSome result (λ n. n ≡ opened depth
+        (doc_by tape.now.text.now tape.now.arena.items tape.now.names.items entry)) }
+{
+    match entry.kind {
+        EntryKind::SequenceStart | EntryKind::MappingStart => depth.checked_add(1),
+        EntryKind::SequenceEnd | EntryKind::MappingEnd => Some(depth.saturating_sub(1)),
+        _ => Some(depth),
+    }
+}
+
+// What stands in a place.
+#[inline(always)]
+#[tactic(auto, using(crate::proofs::NodeReads::next_doc))]
+fn entry_at(tape: &Tape<'_>, place: usize) -> Option<Entry>
+    ensures { IfSome result (λ e. docs_from tape.now place
+        ≡ doc_by tape.now.text.now tape.now.arena.items tape.now.names.items e ∷ docs_from tape.now (place + 1)) }
+{
+    Some(*tape.entries.get(place)?)
+}
+
+// The place behind the node in a place.
+pub(crate) fn place_behind(tape: &Tape<'_>, place: usize) -> Option<usize>
+    ensures { IfSome result (λ end. docs_from tape.now end ≡ behind 0 (docs_from tape.now place)) }
+{
+    let mut depth = 0;
+    for at in place..tape.entries.len() {
+        let entry = entry_at(tape, at)?;
+        let inner = opened(tape, entry, depth)?;
+        if inner == 0 {
+            return Some(at + 1);
+        }
+        depth = inner;
+    }
+    None
 }
 
 // The text of a scalar.

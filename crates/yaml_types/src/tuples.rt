@@ -6,6 +6,7 @@ ghost use Rattle.yaml_types.specs.Start.{IsStart, tuple_start};
 
 use crate::fault::BuildFault;
 use crate::row::{ReadRow, RoundTripRow, WriteRow};
+use crate::tape::begins_sequence;
 use crate::traits::{Deserialize, RoundTrip, Serialize};
 use std::alloc::Global;
 use yaml_base::Error;
@@ -62,12 +63,18 @@ impl<'de, R: ReadRow<'de>> Deserialize<'de> for Tuple<R> {
     }
 
     fn read_node(
-        _alloc: Global,
-        _tape: &Tape<'de>,
-        _place: &mut usize,
-        _depth: usize,
+        alloc: Global,
+        tape: &Tape<'de>,
+        place: &mut usize,
+        depth: usize,
     ) -> Option<Tuple<R>> {
-        None
+        if depth == 0 || !begins_sequence(tape, *place) {
+            return None;
+        }
+        *place += 1;
+        let elements = R::read_row(alloc, tape, place, depth - 1)?;
+        *place += 1;
+        Some(Tuple { elements })
     }
 }
 

@@ -1,7 +1,12 @@
 //! Arrays of a type: tuples of as many elements.
 
+ghost use Rattle.std.specs.Prelude.{IfSome, replicate};
+ghost use Rattle.yaml_types.specs.BuiltParts.{BuiltItems};
+ghost use Rattle.yaml_types.specs.RowMeans.{RowMeans};
+
 use crate::fault::BuildFault;
 use crate::impls::list::{build_items, write_items};
+use crate::tape::{begins_sequence, ends_sequence};
 use crate::traits::{Deserialize, RoundTrip, Serialize};
 use crate::tuples::tuple_schema;
 use std::alloc::Global;
@@ -9,9 +14,28 @@ use yaml_base::Error;
 use yaml_shape::{Data, Schema, SchemaFault, ShapeId};
 use yaml_tape::Tape;
 
+// So many values from a place of a tape on.
+#[tactic(auto, using(crate::proofs::RowReads::elements_start))]
+fn read_elements<'de, T: Deserialize<'de> + Drop>(
+    alloc: Global,
+    tape: &Tape<'de>,
+    place: &mut usize,
+    depth: usize,
+    count: usize,
+) -> Option<Vec<T>>
+    ensures { IfSome result (λ xs. RowMeans (replicate count T.start) (BuiltItems T.built) tape.now place.old place.new
+        depth xs.items) }
+{
+    let mut items = Vec::new(alloc);
+    for _ in 0..count {
+        let item = T::read_node(alloc, tape, place, depth)?;
+        items.push(item).ok()?;
+    }
+    Some(items)
+}
+
 impl<'de, T: Deserialize<'de> + Drop, const N: usize> Deserialize<'de> for [T; N] {
     ghost use Rattle.yaml_types.specs.Start.{array_start};
-    ghost use Rattle.yaml_types.specs.BuiltParts.{BuiltItems};
     ghost use Rattle.yaml_types.specs.RefusalParts.{RefusedItems};
     ghost use Rattle.yaml_types.specs.Rows.{BuiltElements, RefusedElements};
     ghost use Rattle.yaml_types.specs.ArrayLaws.{closed_array};
@@ -50,12 +74,24 @@ impl<'de, T: Deserialize<'de> + Drop, const N: usize> Deserialize<'de> for [T; N
     }
 
     fn read_node(
-        _alloc: Global,
-        _tape: &Tape<'de>,
-        _place: &mut usize,
-        _depth: usize,
+        alloc: Global,
+        tape: &Tape<'de>,
+        place: &mut usize,
+        depth: usize,
     ) -> Option<[T; N]> {
-        None
+        if depth == 0 || !begins_sequence(tape, *place) {
+            return None;
+        }
+        *place += 1;
+        let values = read_elements(alloc, tape, place, depth - 1, N)?;
+        if !ends_sequence(tape, *place) {
+            return None;
+        }
+        *place += 1;
+        match <[T; N]>::try_from(values) {
+            Ok(array) => Some(array),
+            Err(_) => None,
+        }
     }
 }
 
