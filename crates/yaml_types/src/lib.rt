@@ -16,6 +16,7 @@ mod strict_variant;
 mod structs;
 mod tape;
 mod tape_leaf;
+mod tape_names;
 mod tape_value;
 mod traits;
 mod tuples;
