@@ -1,10 +1,11 @@
 //! What is done with merge keys.
 
-ghost use Rattle.std.specs.Prelude.{◌≡◌, IfErr, IfOk, Ok, Some, false, true};
+ghost use Rattle.std.specs.Prelude.{◌≡◌, IfErr, IfOk, None, Ok, OnOk, Some, false, true};
 ghost use Rattle.yaml_base.specs.Answer.{is_memory};
 ghost use Rattle.yaml_base.specs.DocEventView.{marked_events_of};
+ghost use Rattle.yaml_base.specs.declared.error.Cause.{Cause};
 ghost use Rattle.yaml_merge.specs.MergeKeys.{first_merge_key};
-ghost use Rattle.yaml_merge.specs.Treated.{IsTreated, RefusesFirst};
+ghost use Rattle.yaml_merge.specs.Treated.{IsTreated, IsUntreated, RefusesFirst};
 ghost use Rattle.yaml_merge.specs.declared.merge.Merge.TheVariants.{Apply, Keep, Refuse};
 
 use crate::fault::refused;
@@ -75,7 +76,10 @@ fn refuse<'de>(alloc: Global, document: Document<'de>) -> Result<Document<'de>>
 
 // The document with its merge keys applied, unless it was cut off.
 fn merge_all<'de>(alloc: Global, document: &Document<'de>) -> Result<Document<'de>>
-    ensures { IfOk result (λ all. all.ending ≡ document.now.ending) }
+    ensures ending { IfOk result (λ all. all.ending ≡ document.now.ending) }
+    ensures whole { OnOk result (document.now.ending ≡ None) }
+    ensures cut { IfErr result (λ cause. is_memory cause ≡ false
+        → (cut : Cause) → document.now.ending ≡ Some cut → cause ≡ cut) }
 {
     if let Some(fault) = document.error() {
         return Err(fault.copy(alloc)?);
@@ -87,7 +91,8 @@ fn merge_all<'de>(alloc: Global, document: &Document<'de>) -> Result<Document<'d
 
 // The document with its merge keys applied, if it has any. None is left, for which it is gone over once more.
 fn apply<'de>(alloc: Global, document: Document<'de>) -> Result<Document<'de>>
-    ensures { IfOk result (IsTreated Apply document.entry) }
+    ensures treated { IfOk result (IsTreated Apply document.entry) }
+    ensures untreated { IfErr result (λ cause. is_memory cause ≡ false → IsUntreated Apply document.entry cause) }
 {
     match first_place(alloc, &document)? {
         Some(_) => refuse(alloc, merge_all(alloc, &document)?),
@@ -110,8 +115,8 @@ pub fn merged<'de>(alloc: Global, document: Document<'de>, merge: Merge) -> Resu
     ensures treated { IfOk result (IsTreated merge document.entry) }
     ensures ending { IfOk result (λ treated. treated.ending ≡ document.entry.ending) }
     ensures keep { merge ≡ Keep → result ≡ Ok document.entry }
-    ensures refused { merge ≡ Refuse → IfErr result (λ cause. is_memory cause ≡ false
-        → RefusesFirst document.entry.events cause) }
+    ensures untreated { IfErr result (λ cause. is_memory cause ≡ false
+        → IsUntreated merge document.entry cause) }
 {
     match merge {
         Merge::Keep => Ok(document),
