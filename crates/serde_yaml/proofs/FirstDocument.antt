@@ -38,7 +38,7 @@ first_alone is fresh documents = (
 )
 
 -- others follow where a second document is there
-follows_second : (second : Option PlainDocument) (left rest : List PlainDocument) → rest ≡ option_to_list second ++ left
+pub follows_second : (second : Option PlainDocument) (left rest : List PlainDocument) → rest ≡ option_to_list second ++ left
     → IfNone second (rest ≡ [])
     → is_some second ≡ some_follow rest
 follows_second None left rest items none = sym (ap some_follow none)

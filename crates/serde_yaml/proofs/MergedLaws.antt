@@ -1,82 +1,64 @@
 -- What is read once merge keys are treated.
 use Rattle.std.specs.Prelude.{IfOk}
-use Rattle.std.proofs.Common.{◌≡◌, ◌<◌, ℕ, List, [], ◌∷◌, length, Result, Some, Ok, Err, false}
-use Rattle.std.proofs.Common.{get_or, sym, ap, ◌∙◌, refl}
+use Rattle.std.proofs.Common.{◌≡◌, ◌<◌, ℕ, List, [], ◌∷◌, ◌++◌, length, Result, Ok, Err, Bool, true, false}
+use Rattle.std.proofs.Common.{Option, None, Some, IfNone, is_some, option_to_list, get_or, sym, ap, subst, ◌∙◌, refl}
 use Rattle.std.proofs.lemmas.Option.{slice_get-get_or}
+use Rattle.yaml_base.specs.Answer.{Answers, is_memory}
 use Rattle.yaml_base.specs.PlainDocument.{PlainDocument}
+use Rattle.yaml_base.specs.PlainFault.{PlainFault}
 use Rattle.yaml_base.specs.declared.error.Cause.{Cause}
-use Rattle.yaml_documents.specs.TextDocuments.{AreDocumentsOf}
+use Rattle.yaml_base.specs.declared.error.Cause.TheVariants.{EndOfStream}
 use Rattle.yaml_load.specs.StreamLaw.{HasTree}
+use Rattle.yaml_merge.specs.Treated.{IsTreated, IsUntreated}
 use Rattle.yaml_merge.specs.declared.merge.Merge.{Merge}
-use Rattle.yaml_read.specs.Documents.{documents_of}
+use Rattle.yaml_read.specs.Documents.{Input}
 use Rattle.yaml_read.specs.Reads.{DocumentGives}
 use Rattle.yaml_read.specs.TreeReader.{PlainLimits}
+use Rattle.yaml_shape.specs.DataView.{data_of}
 use Rattle.yaml_shape.specs.HasShape.{HasShape}
+use Rattle.yaml_shape.specs.Join.{IsTooLarge}
 use Rattle.yaml_shape.specs.PlainData.{PlainData}
 use Rattle.yaml_shape.specs.PlainShape.{PlainShape, any_shape, shape_at}
-use Rattle.yaml_types.specs.Start.{Start}
-use Rattle.serde_yaml.specs.MergedReads.{GivesTreated, GivesTreatedValue, HasDocument, HasOwnDocument}
-use Rattle.serde_yaml.specs.OwnEvents.{events_alone}
+use Rattle.yaml_shape.specs.Validity.{IsValidSchema}
+use Rattle.yaml_shape.specs.declared.data.Data.{Data}
+use Rattle.yaml_shape.specs.declared.fault.SchemaFault.{SchemaFault}
+use Rattle.yaml_types.specs.Start.{Start, IsClosed}
+use Rattle.serde_yaml.specs.MergedReads as merged
+use Rattle.serde_yaml.specs.MergedReads.{TreatedGives, TreatedMakes, no_document, untreated, treated}
+use Rattle.serde_yaml.specs.StreamReads.{some_follow, unless_more}
 use Rattle.serde_yaml.specs.TextReads.{IsParsed}
-use Rattle.serde_yaml.proofs.TypedLaws.{MeaningsHaveShapes}
+use Rattle.serde_yaml.specs.TypedReads.{Makes}
+use Rattle.serde_yaml.proofs.FirstDocument.{follows_second}
+use Rattle.serde_yaml.proofs.TextLaws.{parsed_as}
+use Rattle.serde_yaml.proofs.TypedLaws.{IsNoSchema, MeaningsHaveShapes}
 
--- a list whose first document is followed by none has that one
-pub alone : (documents rest : List PlainDocument) (d : PlainDocument) → documents ≡ d ∷ rest → rest ≡ []
-    → documents ≡ d ∷ []
-alone documents rest d first none = first ∙ ap (λ ds. d ∷ ds) none
+module _ (limits : PlainLimits) (table : List PlainShape) (s : PlainShape) (merge : Merge) where
+  -- without documents the stream is at its end
+  pub none_there : {documents : List PlainDocument} → documents ≡ []
+      → TreatedGives limits table s merge documents (Err EndOfStream)
+  none_there none = subst (λ ds. TreatedGives limits table s merge ds (Err EndOfStream)) (sym none) no_document
 
--- the one document of those of a text is the text's
-pub of_text : (text : List ℕ) (documents : List PlainDocument) → AreDocumentsOf text documents → (d : PlainDocument)
-    → documents ≡ d ∷ [] → HasDocument text d
-of_text text documents parsed d one = record {
-  events = parsed.events;
-  fault = parsed.fault;
-  parsed = parsed.parsed;
-  holds = sym parsed.holds ∙ one;
-}
+  -- a first document that is refused
+  pub first_refused : {documents rest : List PlainDocument} (document : PlainDocument) {cause : Cause}
+      → documents ≡ document ∷ rest → IsUntreated merge document cause
+      → TreatedGives limits table s merge documents (Err cause)
+  first_refused {documents} {rest} document {cause} items refused =
+      subst (λ ds. TreatedGives limits table s merge ds (Err cause)) (sym items)
+      (untreated {document = document} {others = rest} refused)
 
--- the one document of a text's own events is the text's
-pub of_own : (text : List ℕ) (documents : List PlainDocument)
-    → IsParsed text (λ events fault. documents ≡ documents_of (events_alone events) fault) → (d : PlainDocument)
-    → documents ≡ d ∷ [] → HasOwnDocument text d
-of_own text documents parsed d one = record {
-  events = parsed.events;
-  fault = parsed.fault;
-  parsed = parsed.parsed;
-  holds = sym parsed.holds ∙ one;
-}
-
--- data of a document that is there in one way is data of one that is there in another
-pub data_of : {X : Type 0} (result : Result X Cause) (view : X → PlainData) (limits : PlainLimits)
-    (table : List PlainShape) (number : ℕ) (merge : Merge) (A B : PlainDocument → Type 0)
-    → ((d : PlainDocument) → A d → B d) → IfOk result (λ found. GivesTreated limits table number merge A (view found))
-    → IfOk result (λ found. GivesTreated limits table number merge B (view found))
-data_of (Ok found) view limits table number merge A B there given = record {
-  document = given.document;
-  alone = there given.document given.alone;
-  treated = given.treated;
-  treats = given.treats;
-  gives = given.gives;
-}
-data_of (Err cause) view limits table number merge A B there given = tt
-
--- so is a value
-pub value_of : {T : Type 0} (result : Result T Cause) (limits : PlainLimits) (start : Start)
-    (built : PlainData → T → Type 0) (merge : Merge) (A B : PlainDocument → Type 0) → ((d : PlainDocument) → A d → B d)
-    → IfOk result (GivesTreatedValue limits start built merge A)
-    → IfOk result (GivesTreatedValue limits start built merge B)
-value_of (Ok value) limits start built merge A B there given = record {
-  found = given.found;
-  gives = record {
-    document = given.gives.document;
-    alone = there given.gives.document given.gives.alone;
-    treated = given.gives.treated;
-    treats = given.gives.treats;
-    gives = given.gives.gives;
-  };
-  builds = given.builds;
-}
-value_of (Err cause) limits start built merge A B there given = tt
+  -- a first document that is treated and read, where it is known whether a second one is there
+  pub first_read : {documents rest : List PlainDocument} {others : Bool} (document kept : PlainDocument)
+      (second : Option PlainDocument) (left : List PlainDocument) → documents ≡ document ∷ rest → others ≡ is_some second
+      → rest ≡ option_to_list second ++ left → IfNone second (rest ≡ []) → IsTreated merge document kept
+      → kept.ending ≡ document.ending → (given : Result PlainData Cause)
+      → (found : Result PlainData Cause) × DocumentGives limits table s kept found × (given ≡ unless_more others found)
+      → TreatedGives limits table s merge documents given
+  first_read {documents} {rest} document kept second left items told behind none treats ends given h =
+      let more = told ∙ follows_second second left rest behind none in
+      let is : given ≡ unless_more (some_follow rest) h.0 = h.2 ∙ ap (λ b. unless_more b h.0) more in
+      subst (λ ds. TreatedGives limits table s merge ds given) (sym items)
+      (subst (TreatedGives limits table s merge (document ∷ rest)) (sym is)
+      (treated {document = document} {kept = kept} {others = rest} treats ends h.1))
 
 -- what a document gives has the shape
 pub given_shape : MeaningsHaveShapes → (limits : PlainLimits) (table : List PlainShape) (id : ℕ)
@@ -90,3 +72,66 @@ given_shape law limits table id document v tree within gives =
     let root = tree (found.whole v refl) in
     let reads = found.found root.0 v root.1 refl in
     law table root.0 root.0 id s false v reads.nestings reads.followed at reads.means
+
+-- where data is given, it is that of the first document
+found_first : (more : Bool) (found : Result PlainData Cause) (v : PlainData) → Ok v ≡ unless_more more found
+    → found ≡ Ok v
+found_first true (Ok w) v h = absurd cc
+found_first false (Ok w) v h = sym h
+found_first true (Err cause) v h = absurd cc
+found_first false (Err cause) v h = absurd cc
+
+-- and has the shape
+pub first_shape : MeaningsHaveShapes → (limits : PlainLimits) (table : List PlainShape) (id : ℕ)
+    (document : PlainDocument) (others : Bool) → HasTree document → id < length table → (result : Result Data Cause)
+    → ((s : PlainShape) → shape_at table id ≡ Some s → Answers data_of result (λ given.
+    (found : Result PlainData Cause) × DocumentGives limits table s document found
+    × (given ≡ unless_more others found)))
+    → IfOk result (λ found. HasShape table id (data_of found))
+first_shape law limits table id document others tree within (Ok x) gives =
+    given_shape law limits table id document (data_of x) tree within
+    (λ s at. let h = gives s at in
+    subst (DocumentGives limits table s document) (found_first others h.0 (data_of x) h.2) h.1)
+first_shape law limits table id document others tree within (Err cause) gives = tt
+
+-- what is answered of the documents of a text's events is answered of the text
+pub of_parsed : {X Y : Type 0} (view : X → Y) (result : Result X Cause)
+    (allowed : List PlainDocument → Result Y Cause → Type 0)
+    (documents_in : Input → Option PlainFault → List PlainDocument) {text : List ℕ} {documents : List PlainDocument}
+    → IsParsed text (λ events fault. documents ≡ documents_in events fault)
+    → Answers view result (allowed documents)
+    → Answers view result (λ given. IsParsed text (λ events fault. allowed (documents_in events fault) given))
+of_parsed view (Ok x) allowed documents_in p holds =
+    parsed_as (λ es f. allowed (documents_in es f) (Ok (view x))) p
+    (subst (λ ds. allowed ds (Ok (view x))) p.holds holds)
+of_parsed view (Err cause) allowed documents_in p holds = λ m.
+    parsed_as (λ es f. allowed (documents_in es f) (Err cause)) p
+    (subst (λ ds. allowed ds (Err cause)) p.holds (holds m))
+
+-- where a value is answered, it is allowed
+pub given_ok : {X : Type 0} (result : Result X Cause) (allowed : Result X Cause → Type 0)
+    → Answers (λ value. value) result allowed → IfOk result (λ value. allowed (Ok value))
+given_ok (Ok x) allowed h = h
+given_ok (Err cause) allowed h = tt
+
+module _ {T : Type 0} (limits : PlainLimits) (start : Start) (built : PlainData → T → Type 0)
+    (refused : PlainData → List ℕ → Type 0) (merge : Merge) (documents : List PlainDocument) where
+  -- a type without a schema makes nothing
+  pub no_type_made : (refusal : SchemaFault) (cause : Cause) → IsTooLarge (length start.0) refusal
+      → IsNoSchema refusal cause → is_memory cause ≡ false
+      → TreatedMakes limits start built refused merge documents (Err cause)
+  no_type_made refusal cause large is m =
+      let no = is (length start.0) large m in
+      subst (λ e. TreatedMakes limits start built refused merge documents (Err e)) (sym no.1) (merged.no_shape no.0)
+
+  -- what a type makes of what is read under its shape
+  pub type_makes : (table : List PlainShape) (id : ℕ) (read : Result PlainData Cause) (given : Result T Cause)
+      → table ≡ start.0 → id ≡ start.1 → IsClosed start → IsValidSchema table
+      → ((s : PlainShape) → shape_at table id ≡ Some s → TreatedGives limits table s merge documents read)
+      → Makes built refused read given → TreatedMakes limits start built refused merge documents given
+  type_makes table id read given p q closed valid gives makes =
+      let s : PlainShape = get_or start.0 start.1 any_shape in
+      let at : shape_at start.0 start.1 ≡ Some s = slice_get-get_or start.0 start.1 any_shape closed.within in
+      merged.of_shape (subst IsValidSchema p valid) at
+      (subst (λ t. shape_at t start.1 ≡ Some s → TreatedGives limits t s merge documents read) p
+      (subst (λ i. shape_at table i ≡ Some s → TreatedGives limits table s merge documents read) q (gives s)) at) makes

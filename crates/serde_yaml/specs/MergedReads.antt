@@ -1,55 +1,58 @@
 -- What a text gives once its merge keys are treated.
-use Rattle.std.specs.Prelude.{◌≡◌, ◌∷◌, [], ℕ, List, Option, Some, Ok}
+use Rattle.std.specs.Prelude.{◌≡◌, ◌<◌, ℕ, List, [], ◌∷◌, length, Some, Result, Ok, Err}
 use Rattle.yaml_base.specs.PlainDocument.{PlainDocument}
+use Rattle.yaml_base.specs.declared.error.Cause.{Cause}
+use Rattle.yaml_base.specs.declared.error.Cause.TheVariants.{EndOfStream}
 use Rattle.yaml_documents.specs.TextDocuments.{IsParsed}
-use Rattle.yaml_merge.specs.Treated.{IsTreated}
+use Rattle.yaml_merge.specs.Treated.{IsTreated, IsUntreated}
 use Rattle.yaml_merge.specs.declared.merge.Merge.{Merge}
 use Rattle.yaml_read.specs.Documents.{documents_of}
 use Rattle.yaml_read.specs.Reads.{DocumentGives}
 use Rattle.yaml_read.specs.TreeReader.{PlainLimits}
 use Rattle.yaml_shape.specs.PlainData.{PlainData}
 use Rattle.yaml_shape.specs.PlainShape.{PlainShape, shape_at}
+use Rattle.yaml_shape.specs.Validity.{IsValidSchema}
 use Rattle.yaml_types.specs.Start.{Start}
 use Rattle.serde_yaml.specs.OwnEvents.{events_alone}
+use Rattle.serde_yaml.specs.StreamReads.{some_follow, unless_more}
+use Rattle.serde_yaml.specs.TypedReads.{Makes, no_schema}
 
--- The text has this document, and no other.
-abbrev pub HasDocument : List ℕ → PlainDocument → Type 0
-HasDocument text document = IsParsed text (λ events fault. documents_of events fault ≡ document ∷ [])
+-- What documents give, read under a shape of the table within limits, once the merge keys of the first are treated: the
+-- fault for which it is refused then, or what it gives, unless others follow. Without documents the stream is at its end.
+pub data TreatedGives (limits : PlainLimits) (table : List PlainShape) (s : PlainShape) (merge : Merge)
+    : List PlainDocument → Result PlainData Cause → Type 0 where
+  no_document : TreatedGives limits table s merge [] (Err EndOfStream)
+  untreated : {document : PlainDocument} {others : List PlainDocument} {cause : Cause}
+      → IsUntreated merge document cause → TreatedGives limits table s merge (document ∷ others) (Err cause)
+  treated : {document kept : PlainDocument} {others : List PlainDocument} {found : Result PlainData Cause}
+      → IsTreated merge document kept → kept.ending ≡ document.ending → DocumentGives limits table s kept found
+      → TreatedGives limits table s merge (document ∷ others) (unless_more (some_follow others) found)
 
--- The same of the text's events without what they show of it.
-abbrev pub HasOwnDocument : List ℕ → PlainDocument → Type 0
-HasOwnDocument text document =
-    IsParsed text (λ events fault. documents_of (events_alone events) fault ≡ document ∷ [])
+-- What documents give as a value of a type within limits, once the merge keys of the first are treated: what the type
+-- makes of the data, or of the fault, that they give under the type's shape. A type that has no schema gives nothing.
+pub data TreatedMakes (limits : PlainLimits) (start : Start) {T : Type 0} (built : PlainData → T → Type 0)
+    (refused : PlainData → List ℕ → Type 0) (merge : Merge) (documents : List PlainDocument)
+    : Result T Cause → Type 0 where
+  no_shape : 4096 < length start.0 → TreatedMakes limits start built refused merge documents (Err no_schema)
+  of_shape : {s : PlainShape} {read : Result PlainData Cause} {given : Result T Cause}
+      → IsValidSchema start.0 → shape_at start.0 start.1 ≡ Some s
+      → TreatedGives limits start.0 s merge documents read → Makes built refused read given
+      → TreatedMakes limits start built refused merge documents given
 
--- A document is there, and the data is what that gives, once its merge keys are treated, under the shape with a number
--- of the table.
-pub record GivesTreated (limits : PlainLimits) (table : List PlainShape) (number : ℕ) (merge : Merge)
-    (IsThere : PlainDocument → Type 0) (found : PlainData) : Type 0 where
-  pub document : PlainDocument
-  pub alone : IsThere document
-  pub treated : PlainDocument
-  pub treats : IsTreated merge document treated
-  pub gives : (s : PlainShape) → shape_at table number ≡ Some s → DocumentGives limits table s treated (Ok found)
-
--- the value is built of such data
-pub record GivesTreatedValue (limits : PlainLimits) (start : Start) {T : Type 0} (built : PlainData → T → Type 0)
-    (merge : Merge) (IsThere : PlainDocument → Type 0) (value : T) : Type 0 where
-  pub found : PlainData
-  pub gives : GivesTreated limits start.0 start.1 merge IsThere found
-  pub builds : built found value
-
--- the data of the text's one document
-abbrev pub GivesMerged : PlainLimits → List PlainShape → ℕ → Merge → List ℕ → PlainData → Type 0
-GivesMerged limits table number merge text found = GivesTreated limits table number merge (HasDocument text) found
-
--- the value of the text's one document
-abbrev pub GivesMergedValue : PlainLimits → Start → {T : Type 0} → (PlainData → T → Type 0) → Merge → List ℕ → T
+-- the data of the text's one document, or its fault
+abbrev pub GivesMerged : PlainLimits → List PlainShape → PlainShape → Merge → (text : List ℕ) → Result PlainData Cause
     → Type 0
-GivesMergedValue limits start built merge text value =
-    GivesTreatedValue limits start built merge (HasDocument text) value
+GivesMerged limits table s merge text given =
+    IsParsed text (λ events fault. TreatedGives limits table s merge (documents_of events fault) given)
 
--- the value of the text's one document, which borrows nothing
-abbrev pub GivesMergedOwn : PlainLimits → Start → {T : Type 0} → (PlainData → T → Type 0) → Merge → List ℕ → T
-    → Type 0
-GivesMergedOwn limits start built merge text value =
-    GivesTreatedValue limits start built merge (HasOwnDocument text) value
+-- the value of the text's one document, or its fault
+abbrev pub GivesMergedValue : PlainLimits → Start → {T : Type 0} → (built : PlainData → T → Type 0)
+    → (refused : PlainData → List ℕ → Type 0) → Merge → (text : List ℕ) → Result T Cause → Type 0
+GivesMergedValue limits start built refused merge text given = IsParsed text (λ events fault.
+    TreatedMakes limits start built refused merge (documents_of events fault) given)
+
+-- the same of the text's events without what they show of it
+abbrev pub GivesMergedOwn : PlainLimits → Start → {T : Type 0} → (built : PlainData → T → Type 0)
+    → (refused : PlainData → List ℕ → Type 0) → Merge → (text : List ℕ) → Result T Cause → Type 0
+GivesMergedOwn limits start built refused merge text given = IsParsed text (λ events fault.
+    TreatedMakes limits start built refused merge (documents_of (events_alone events) fault) given)

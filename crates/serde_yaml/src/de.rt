@@ -68,7 +68,7 @@ impl<'de> Model for Deserializer<'de> {
 }
 
 // Reads one document, behind which others may follow.
-fn read_first<'de>(
+pub(crate) fn read_first<'de>(
     alloc: Global,
     document: &Document<'de>,
     schema: &Schema,
@@ -93,7 +93,7 @@ fn read_first<'de>(
 }
 
 // Whether a document is there.
-fn is_there(document: Option<Document<'_>>) -> bool
+pub(crate) fn is_there(document: Option<Document<'_>>) -> bool
     ensures { result ≡ is_some document.entry }
 {
     document.is_some()

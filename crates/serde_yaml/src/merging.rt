@@ -1,14 +1,17 @@
 //! Reading YAML text with a choice of what is done with merge keys.
 
-ghost use Rattle.std.specs.Prelude.{◌≡◌, ◌∷◌, ◌<◌, [], IfErr, IfOk, IfSome, OnOk, length};
+ghost use Rattle.std.specs.Prelude.{◌≡◌, ◌<◌, IfErr, IfOk, IfSome, Ok, OnOk, Some, length};
 ghost use Rattle.std.specs.Io.KnownBytes.{IsAtEnd};
+ghost use Rattle.yaml_base.specs.Answer.{Answers};
 ghost use Rattle.yaml_documents.specs.ReaderFaults.{IfOfText};
 ghost use Rattle.yaml_shape.specs.DataView.{data_of};
 ghost use Rattle.yaml_shape.specs.HasShape.{HasShape};
+ghost use Rattle.yaml_shape.specs.PlainShape.{PlainShape, shape_at};
 ghost use Rattle.yaml_read.specs.TreeReader.{default_limits};
-ghost use Rattle.serde_yaml.specs.MergedReads.{GivesMerged, GivesMergedOwn, GivesMergedValue, GivesTreated};
-ghost use Rattle.serde_yaml.specs.MergedReads.{GivesTreatedValue};
+ghost use Rattle.serde_yaml.specs.MergedReads.{GivesMerged, GivesMergedOwn, GivesMergedValue, TreatedGives};
+ghost use Rattle.serde_yaml.specs.MergedReads.{TreatedMakes};
 
+use crate::de::{is_there, read_first};
 use crate::input::events_alone;
 use crate::type_faults::{build_refusal, schema_refusal};
 use std::alloc::Global;
@@ -31,8 +34,8 @@ fn data_of_alone<'de>(
     limits: Limits,
 ) -> Result<Data<'de>>
     requires { id.0 < length schema.now }
-    ensures given { IfOk result (λ found. GivesTreated limits schema.now id.0 merge
-        (λ document. documents.entry ≡ document ∷ []) (data_of found)) }
+    ensures given { (s : PlainShape) → shape_at schema.now id.0 ≡ Some s
+        → Answers data_of result (TreatedGives limits schema.now s merge documents.entry) }
     ensures typed { IfOk result (λ found. HasShape schema.now id.0 (data_of found)) }
 {
     a_meaning_has_its_shape();
@@ -40,12 +43,13 @@ fn data_of_alone<'de>(
     let Some(document) = left.next_document() else {
         return Err(Error::new(Cause::EndOfStream));
     };
-    let treated = merged(alloc, document, merge)?;
-    treated.has_tree();
-    let found = treated.deserialize_limited(alloc, schema, id, limits)?;
-    match left.next_document() {
-        Some(_) => Err(Error::new(Cause::MoreThanOneDocument)),
-        None => Ok(found),
+    let others = is_there(left.next_document());
+    match merged(alloc, document, merge) {
+        Ok(treated) => {
+            treated.has_tree();
+            read_first(alloc, &treated, schema, id, limits, others)
+        }
+        Err(refused) => Err(refused),
     }
 }
 
@@ -56,8 +60,8 @@ fn value_of_alone<'de, T: Deserialize<'de>>(
     merge: Merge,
     limits: Limits,
 ) -> Result<T>
-    ensures { IfOk result (GivesTreatedValue limits T.start T.built merge
-        (λ document. documents.entry ≡ document ∷ [])) }
+    ensures { Answers (λ value. value) result
+        (TreatedMakes limits T.start T.built T.refused merge documents.entry) }
 {
     let (table, id) = match T::schema(alloc) {
         Ok(start) => start,
@@ -69,7 +73,7 @@ fn value_of_alone<'de, T: Deserialize<'de>>(
             Ok(value) => Ok(value),
             Err(reason) => Err(build_refusal(reason)),
         },
-        Err(refused) => Err(refused),
+        Err(fault) => Err(fault),
     }
 }
 
@@ -83,7 +87,8 @@ pub fn data_from_slice_merging<'de>(
     merge: Merge,
 ) -> Result<Data<'de>>
     requires { id.0 < length schema.now }
-    ensures given { IfOk result (λ found. GivesMerged default_limits schema.now id.0 merge text.now (data_of found)) }
+    ensures given { (s : PlainShape) → shape_at schema.now id.0 ≡ Some s
+        → Answers data_of result (GivesMerged default_limits schema.now s merge text.now) }
     ensures typed { IfOk result (λ found. HasShape schema.now id.0 (data_of found)) }
 {
     data_from_slice_merging_limited(alloc, text, schema, id, merge, Limits::DEFAULT)
@@ -99,7 +104,8 @@ pub fn data_from_slice_merging_limited<'de>(
     limits: Limits,
 ) -> Result<Data<'de>>
     requires { id.0 < length schema.now }
-    ensures given { IfOk result (λ found. GivesMerged limits schema.now id.0 merge text.now (data_of found)) }
+    ensures given { (s : PlainShape) → shape_at schema.now id.0 ≡ Some s
+        → Answers data_of result (GivesMerged limits schema.now s merge text.now) }
     ensures typed { IfOk result (λ found. HasShape schema.now id.0 (data_of found)) }
 {
     let documents = load(alloc, text)?;
@@ -112,7 +118,8 @@ pub fn from_str_merging<'de, T: Deserialize<'de>>(
     text: &'de str,
     merge: Merge,
 ) -> Result<T>
-    ensures { IfOk result (GivesMergedValue default_limits T.start T.built merge text.now) }
+    ensures { Answers (λ value. value) result
+        (GivesMergedValue default_limits T.start T.built T.refused merge text.now) }
 {
     from_slice_merging(alloc, text.as_bytes(), merge)
 }
@@ -123,7 +130,8 @@ pub fn from_slice_merging<'de, T: Deserialize<'de>>(
     text: &'de [u8],
     merge: Merge,
 ) -> Result<T>
-    ensures { IfOk result (GivesMergedValue default_limits T.start T.built merge text.now) }
+    ensures { Answers (λ value. value) result
+        (GivesMergedValue default_limits T.start T.built T.refused merge text.now) }
 {
     from_slice_merging_limited(alloc, text, merge, Limits::DEFAULT)
 }
@@ -135,7 +143,8 @@ pub fn from_slice_merging_limited<'de, T: Deserialize<'de>>(
     merge: Merge,
     limits: Limits,
 ) -> Result<T>
-    ensures { IfOk result (GivesMergedValue limits T.start T.built merge text.now) }
+    ensures { Answers (λ value. value) result
+        (GivesMergedValue limits T.start T.built T.refused merge text.now) }
 {
     let documents = load(alloc, text)?;
     value_of_alone(alloc, documents, merge, limits)
@@ -147,7 +156,8 @@ fn from_slice_owned_merging<'de, T: Deserialize<'de>>(
     text: &[u8],
     merge: Merge,
 ) -> Result<T>
-    ensures { IfOk result (GivesMergedOwn default_limits T.start T.built merge text.now) }
+    ensures { IfOk result (λ value.
+        GivesMergedOwn default_limits T.start T.built T.refused merge text.now (Ok value)) }
 {
     let (shown, fault) = events_of_text(alloc, text)?;
     let events = events_alone(alloc, shown)?;
@@ -164,7 +174,7 @@ pub fn from_reader_merging<'de, R: Read, T: Deserialize<'de>>(
     merge: Merge,
 ) -> std::result::Result<T, ReaderFault>
     ensures found { IfOk result (λ value. IfSome (R.remaining reader.old) (λ text.
-        GivesMergedOwn default_limits T.start T.built merge text value)) }
+        GivesMergedOwn default_limits T.start T.built T.refused merge text (Ok value))) }
     ensures end { OnOk result (IsAtEnd (R.remaining reader.new)) }
     ensures read { IfErr result (IfOfText (λ _. IsAtEnd (R.remaining reader.new))) }
 {

@@ -1,5 +1,5 @@
 -- What becomes of a document by what is done with merge keys.
-use Rattle.std.specs.Prelude.{◌≡◌, ℕ, None, Some, codes, slice_get}
+use Rattle.std.specs.Prelude.{◌≡◌, ℕ, None, Some, codes, is_some, slice_get, true}
 use Rattle.yaml_base.specs.PlainDocEvent.{PlainDocEvent}
 use Rattle.yaml_base.specs.PlainDocument.{PlainDocument}
 use Rattle.yaml_base.specs.Position.{Position}
@@ -30,3 +30,11 @@ pub record RefusesFirst (events : Events) (fault : Cause) : Type 0 where
   pub first : first_merge_key events ≡ Some place
   pub at : slice_get events place ≡ Some (event, mark)
   pub tells : fault ≡ refusal mark
+
+-- The document is refused for this reason, by what is done with merge keys: none where they are kept; where they are
+-- refused, for the first; where they are applied, only if it has one, and if it was cut off, by the fault that did.
+abbrev pub IsUntreated : Merge → PlainDocument → (fault : Cause) → Type 0
+IsUntreated Keep document fault = ⊥
+IsUntreated Refuse document fault = RefusesFirst document.events fault
+IsUntreated Apply document fault = (is_some (first_merge_key document.events) ≡ true)
+    × ((cut : Cause) → document.ending ≡ Some cut → fault ≡ cut)

@@ -1,13 +1,14 @@
 //! What is done with merge keys.
 
-ghost use Rattle.std.specs.Prelude.{◌≡◌, ℕ, IfErr, IfOk, Ok, Some, false, map, true};
+ghost use Rattle.std.specs.Prelude.{◌≡◌, ℕ, IfErr, IfOk, None, Ok, OnOk, Some, false, map, true};
 ghost use Rattle.yaml_base.specs.Answer.{is_memory};
 ghost use Rattle.yaml_base.specs.DocEventView.{marked_events_of};
 ghost use Rattle.yaml_base.specs.DocTree.{DocNode, IsTreeOf};
+ghost use Rattle.yaml_base.specs.declared.error.Cause.{Cause};
 ghost use Rattle.yaml_load.specs.Ends.{ends_of};
 ghost use Rattle.yaml_merge.specs.MergeKeys.{first_merge_key};
 ghost use Rattle.yaml_merge.specs.Remade.{IsRemade};
-ghost use Rattle.yaml_merge.specs.Treated.{IsTreated, RefusesFirst};
+ghost use Rattle.yaml_merge.specs.Treated.{IsTreated, IsUntreated, RefusesFirst};
 ghost use Rattle.yaml_merge.specs.declared.merge.Merge.TheVariants.{Apply, Keep, Refuse};
 
 use crate::fault::refused;
@@ -81,6 +82,9 @@ fn refuse<'de>(alloc: Global, document: Document<'de>) -> Result<Document<'de>>
 fn merge_all<'de>(alloc: Global, document: &Document<'de>) -> Result<Document<'de>>
     ensures ending { IfOk result (λ all. all.ending ≡ document.now.ending) }
     ensures made { IfOk result (λ all. (root : DocNode) → IsTreeOf document.now root → IsRemade root all) }
+    ensures whole { OnOk result (document.now.ending ≡ None) }
+    ensures cut { IfErr result (λ cause. is_memory cause ≡ false
+        → (cut : Cause) → document.now.ending ≡ Some cut → cause ≡ cut) }
 {
     if let Some(fault) = document.error() {
         return Err(fault.copy(alloc)?);
@@ -95,6 +99,7 @@ fn apply<'de>(alloc: Global, document: Document<'de>) -> Result<Document<'de>>
     ensures treated { IfOk result (IsTreated Apply document.entry) }
     ensures made { IfOk result (λ treated. (place : ℕ) → first_merge_key document.entry.events ≡ Some place
         → (root : DocNode) → IsTreeOf document.entry root → IsRemade root treated) }
+    ensures untreated { IfErr result (λ cause. is_memory cause ≡ false → IsUntreated Apply document.entry cause) }
 {
     match first_place(alloc, &document)? {
         Some(_) => refuse(alloc, merge_all(alloc, &document)?),
@@ -120,8 +125,8 @@ pub fn merged<'de>(alloc: Global, document: Document<'de>, merge: Merge) -> Resu
         → first_merge_key document.entry.events ≡ Some place
         → (root : DocNode) → IsTreeOf document.entry root → IsRemade root treated) }
     ensures keep { merge ≡ Keep → result ≡ Ok document.entry }
-    ensures refused { merge ≡ Refuse → IfErr result (λ cause. is_memory cause ≡ false
-        → RefusesFirst document.entry.events cause) }
+    ensures untreated { IfErr result (λ cause. is_memory cause ≡ false
+        → IsUntreated merge document.entry cause) }
 {
     match merge {
         Merge::Keep => Ok(document),

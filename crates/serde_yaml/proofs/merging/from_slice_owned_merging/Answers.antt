@@ -1,12 +1,12 @@
--- The document is that of the text's events without what they show of it.
-use Rattle.std.proofs.Common.{◌≡◌, ◌∷◌, []}
+-- The documents are those of the text's events without what they show of it.
+use Rattle.std.proofs.Common.{◌≡◌}
 use Rattle.yaml_base.specs.MarkedEvents.{plain_marked}
 use Rattle.yaml_read.specs.Documents.{documents_of}
 use Rattle.yaml_read.specs.TreeReader.{default_limits}
-use Rattle.serde_yaml.specs.MergedReads.{HasOwnDocument}
+use Rattle.serde_yaml.specs.MergedReads.{TreatedMakes}
 use Rattle.serde_yaml.specs.OwnEvents.{events_alone}
 use Rattle.serde_yaml.specs.TextReads.{IsParsed}
-use Rattle.serde_yaml.proofs.MergedLaws.{of_own, value_of}
+use Rattle.serde_yaml.proofs.MergedLaws.{given_ok, of_parsed}
 use Rattle.serde_yaml.proofs.merging.from_slice_owned_merging.Goals as goal
 
 pub returns : goal.returns
@@ -22,6 +22,10 @@ returns g c =
       parsed = c.in_ok-shown.ensures.parsed;
       holds = own;
     } in
-    value_of c.value_of_alone.result default_limits g.T.Deserialize.start g.T.Deserialize.built c.args.merge
-    (λ d. documents ≡ d ∷ []) (HasOwnDocument c.args.text.now) (of_own c.args.text.now documents parsed)
-    c.value_of_alone.ensures
+    let makes =
+    TreatedMakes default_limits g.T.Deserialize.start g.T.Deserialize.built g.T.Deserialize.refused c.args.merge in
+    given_ok c.value_of_alone.result
+    (λ given. IsParsed c.args.text.now
+    (λ events fault. makes (documents_of (events_alone events) fault) given))
+    (of_parsed (λ value. value) c.value_of_alone.result makes
+    (λ events fault. documents_of (events_alone events) fault) parsed c.value_of_alone.ensures)
