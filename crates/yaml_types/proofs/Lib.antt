@@ -12,6 +12,7 @@ pub mod PairFilling
 pub mod SetFilling
 pub mod SortedLaws
 pub mod LeafLaws
+pub mod NameReads
 pub mod NodeLaws
 pub mod NodeReads
 pub mod LeafReads

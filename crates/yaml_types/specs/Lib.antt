@@ -27,6 +27,7 @@ pub mod Start
 pub mod StartLaws
 pub mod StructLaws
 pub mod Tables
+pub mod TapeNames
 pub mod Texts
 pub mod WriteRefusal
 pub mod WrittenLaws

@@ -1,7 +1,7 @@
 //! Choices of variants: `Last` of one, or `OneOf` one and the rest of the choice, as
 //! `OneOf<UnitVariant, Last<NewtypeVariant<u16>>>`.
 
-ghost use Rattle.std.specs.Prelude.{◌≡◌, ◌≤◌, ◌+◌, ℕ, List, true, map, length, IsTrue, All, IfOk, IfErr, OnOk};
+ghost use Rattle.std.specs.Prelude.{◌≡◌, ◌≤◌, ◌+◌, ℕ, List, true, map, length, IsTrue, All, IfOk, IfErr, IfSome, OnOk};
 ghost use Rattle.std.specs.Vec.Iter.{into_iter_items};
 ghost use Rattle.yaml_shape.specs.PlainData.{PlainData, variant_data};
 ghost use Rattle.yaml_shape.specs.DataView.{data_of};
@@ -11,6 +11,7 @@ ghost use Rattle.yaml_types.specs.Start.{IsClosed};
 ghost use Rattle.yaml_types.specs.BuildRefusal.{IsBuildRefusal};
 ghost use Rattle.yaml_types.specs.WriteRefusal.{IsWriteRefusal};
 ghost use Rattle.yaml_types.specs.Rows.{total};
+ghost use Rattle.yaml_types.specs.TapeNames.{IsBareValue};
 ghost use Rattle.yaml_types.specs.Choices.{Content, all_types, width_of, variant_names, AreVariants, choice_matches};
 
 use crate::fault::BuildFault;
@@ -86,6 +87,10 @@ pub trait ReadChoice<'de>: Choice + Sized {
         ensures ok { IfOk result (built place (data_of found.entry)) }
         ensures refused { IfErr result (IsBuildRefusal (refused place (data_of found.entry))) };
 
+    /// The value of the variant with this number, if it is one that holds nothing.
+    fn read_bare(place: usize) -> Option<Self>
+        ensures { IfSome result (IsBareValue contents built place) };
+
     // Each shape is in its table, which names no shape outside.
     ghost closed: { All IsClosed (all_types contents) };
 
@@ -134,6 +139,14 @@ impl<'de, V: ReadVariant<'de>> ReadChoice<'de> for Last<V> {
             Ok(variant) => Ok(Last { variant }),
             Err(fault) => Err(fault),
         }
+    }
+
+    fn read_bare(place: usize) -> Option<Last<V>> {
+        if place != 0 {
+            return None;
+        }
+        let variant = V::read_bare()?;
+        Some(Last { variant })
     }
 }
 
@@ -187,6 +200,15 @@ impl<'de, V: ReadVariant<'de>, C: ReadChoice<'de>> ReadChoice<'de> for OneOf<V, 
             Ok(other) => Ok(OneOf::Other(other)),
             Err(fault) => Err(fault),
         }
+    }
+
+    fn read_bare(place: usize) -> Option<OneOf<V, C>> {
+        if place == 0 {
+            let first = V::read_bare()?;
+            return Some(OneOf::First(first));
+        }
+        let other = C::read_bare(place - 1)?;
+        Some(OneOf::Other(other))
     }
 }
 

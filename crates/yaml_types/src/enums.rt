@@ -10,6 +10,7 @@ ghost use Rattle.yaml_types.specs.Choices.{enum_start, NamesFit};
 use crate::choice::{Choice, ReadChoice, RoundTripChoice, WriteChoice};
 use crate::fault::BuildFault;
 use crate::structs::struct_names;
+use crate::tape_names::{variant_place, word_at};
 use crate::traits::{Deserialize, RoundTrip, Serialize};
 use std::alloc::{AllocError, Global};
 use yaml_base::Error;
@@ -125,12 +126,17 @@ where
     }
 
     fn read_node(
-        _alloc: Global,
-        _tape: &Tape<'de>,
-        _place: &mut usize,
+        alloc: Global,
+        tape: &Tape<'de>,
+        place: &mut usize,
         _depth: usize,
     ) -> Option<Enum<F>> {
-        None
+        let text = word_at(tape, *place)?;
+        let (_, names) = F::names(alloc).ok()?;
+        let number = variant_place(&names, text)?;
+        let choice = F::Choice::read_bare(number)?;
+        *place += 1;
+        Some(Enum { choice })
     }
 }
 

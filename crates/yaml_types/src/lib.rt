@@ -16,6 +16,7 @@ mod strict_variant;
 mod structs;
 mod tape;
 mod tape_leaf;
+mod tape_names;
 mod traits;
 mod tuples;
 mod variant;

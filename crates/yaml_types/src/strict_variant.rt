@@ -58,6 +58,10 @@ impl<'de, R: ReadRow<'de>> ReadVariant<'de> for StrictStructVariant<R> {
             _ => unreachable!(),
         }
     }
+
+    fn read_bare() -> Option<StrictStructVariant<R>> {
+        None
+    }
 }
 
 impl<R: WriteRow> WriteVariant for StrictStructVariant<R> {

@@ -1,7 +1,8 @@
 //! Variants of enums, by what they hold.
 
-ghost use Rattle.std.specs.Prelude.{◌≡◌, ◌+◌, ℕ, List, true, map, length, string_bytes, IsTrue, All, IfOk, IfErr, OnOk};
-ghost use Rattle.yaml_shape.specs.PlainData.{PlainData};
+ghost use Rattle.std.specs.Prelude.{◌≡◌, ◌+◌, ℕ, List, true, map, length, string_bytes, IsTrue, All, IfOk, IfErr};
+ghost use Rattle.std.specs.Prelude.{IfSome, OnOk};
+ghost use Rattle.yaml_shape.specs.PlainData.{PlainData, unit_data};
 ghost use Rattle.yaml_shape.specs.DataView.{data_of};
 ghost use Rattle.yaml_shape.specs.EqualData.{EqualData};
 ghost use Rattle.yaml_shape.specs.Join.{IsTooLarge};
@@ -9,7 +10,7 @@ ghost use Rattle.yaml_types.specs.Start.{IsClosed};
 ghost use Rattle.yaml_types.specs.BuildRefusal.{IsBuildRefusal};
 ghost use Rattle.yaml_types.specs.WriteRefusal.{IsWriteRefusal};
 ghost use Rattle.yaml_types.specs.Rows.{total};
-ghost use Rattle.yaml_types.specs.Choices.{Content, types_in, width_of, IsContent, content_matches};
+ghost use Rattle.yaml_types.specs.Choices.{Content, no_content, types_in, width_of, IsContent, content_matches};
 
 use crate::fault::BuildFault;
 use std::alloc::Global;
@@ -49,6 +50,11 @@ pub trait ReadVariant<'de>: Variant + Sized {
         requires { IsTrue (content_matches content (data_of found)) }
         ensures ok { IfOk result (built (data_of found.entry)) }
         ensures refused { IfErr result (IsBuildRefusal (refused (data_of found.entry))) };
+
+    /// The value of a variant that holds nothing; nothing where it holds something.
+    fn read_bare() -> Option<Self>
+        ensures bare { IfSome result (λ _. content ≡ no_content) }
+        ensures value { IfSome result (built unit_data) };
 
     // Each shape is in its table, which names no shape outside.
     ghost closed: { All IsClosed (types_in content) };

@@ -45,6 +45,10 @@ impl<'de> ReadVariant<'de> for UnitVariant {
     fn build(_alloc: Global, _found: Data<'de>) -> Result<UnitVariant, BuildFault> {
         Ok(UnitVariant)
     }
+
+    fn read_bare() -> Option<UnitVariant> {
+        Some(UnitVariant)
+    }
 }
 
 impl WriteVariant for UnitVariant {
@@ -124,6 +128,10 @@ impl<'de, T: Deserialize<'de>> ReadVariant<'de> for NewtypeVariant<T> {
             Ok(content) => Ok(NewtypeVariant { content }),
             Err(fault) => Err(fault),
         }
+    }
+
+    fn read_bare() -> Option<NewtypeVariant<T>> {
+        None
     }
 }
 
@@ -208,6 +216,10 @@ impl<'de, R: ReadRow<'de>> ReadVariant<'de> for StructVariant<R> {
             },
             _ => unreachable!(),
         }
+    }
+
+    fn read_bare() -> Option<StructVariant<R>> {
+        None
     }
 }
 
@@ -295,6 +307,10 @@ impl<'de, R: ReadRow<'de>> ReadVariant<'de> for TupleVariant<R> {
             },
             _ => unreachable!(),
         }
+    }
+
+    fn read_bare() -> Option<TupleVariant<R>> {
+        None
     }
 }
 
