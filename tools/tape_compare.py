@@ -1,5 +1,5 @@
 #!/usr/bin/env python3
-"""Reads random texts as values of thirty types twice, by `from_str`, whose values read themselves from a tape where they
+"""Reads random texts as values of thirty-three types twice, by `from_str`, whose values read themselves from a tape where they
 can, and by `from_events` of the parser's events, which never does, and tells those of which the two answer otherwise.
 
 usage: tape_compare.py SEED COUNT

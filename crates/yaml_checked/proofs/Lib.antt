@@ -7,6 +7,7 @@ pub mod LineFeeds
 pub mod PlainSources
 pub mod AllowedLaws
 pub mod GivenLaws
+pub mod NameLaws
 pub mod RangeLaws
 pub mod StandingDocuments
 pub mod StandingEvents

@@ -11,6 +11,8 @@ mod bookmark;
 mod events;
 mod given;
 mod laws;
+mod names;
+mod nodes;
 mod part;
 mod place;
 mod rest;

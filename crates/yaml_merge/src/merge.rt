@@ -1,9 +1,12 @@
 //! What is done with merge keys.
 
-ghost use Rattle.std.specs.Prelude.{◌≡◌, IfErr, IfOk, Ok, Some, false, true};
+ghost use Rattle.std.specs.Prelude.{◌≡◌, ℕ, IfErr, IfOk, Ok, Some, false, map, true};
 ghost use Rattle.yaml_base.specs.Answer.{is_memory};
 ghost use Rattle.yaml_base.specs.DocEventView.{marked_events_of};
+ghost use Rattle.yaml_base.specs.DocTree.{DocNode, IsTreeOf};
+ghost use Rattle.yaml_load.specs.Ends.{ends_of};
 ghost use Rattle.yaml_merge.specs.MergeKeys.{first_merge_key};
+ghost use Rattle.yaml_merge.specs.Remade.{IsRemade};
 ghost use Rattle.yaml_merge.specs.Treated.{IsTreated, RefusesFirst};
 ghost use Rattle.yaml_merge.specs.declared.merge.Merge.TheVariants.{Apply, Keep, Refuse};
 
@@ -29,7 +32,8 @@ pub enum Merge {
 
 // The nodes of a document.
 fn nodes_of<'a, 'de>(document: &'a Document<'de>) -> Nodes<'a, 'de>
-    ensures { marked_events_of result.events.now ≡ document.now.events }
+    ensures events { marked_events_of result.events.now ≡ document.now.events }
+    ensures ends { result.ends.now ≡ ends_of (map (λ e. e.0) document.now.events) }
 {
     Nodes {
         events: document.events(),
@@ -75,7 +79,8 @@ fn refuse<'de>(alloc: Global, document: Document<'de>) -> Result<Document<'de>>
 
 // The document with its merge keys applied, unless it was cut off.
 fn merge_all<'de>(alloc: Global, document: &Document<'de>) -> Result<Document<'de>>
-    ensures { IfOk result (λ all. all.ending ≡ document.now.ending) }
+    ensures ending { IfOk result (λ all. all.ending ≡ document.now.ending) }
+    ensures made { IfOk result (λ all. (root : DocNode) → IsTreeOf document.now root → IsRemade root all) }
 {
     if let Some(fault) = document.error() {
         return Err(fault.copy(alloc)?);
@@ -87,7 +92,9 @@ fn merge_all<'de>(alloc: Global, document: &Document<'de>) -> Result<Document<'d
 
 // The document with its merge keys applied, if it has any. None is left, for which it is gone over once more.
 fn apply<'de>(alloc: Global, document: Document<'de>) -> Result<Document<'de>>
-    ensures { IfOk result (IsTreated Apply document.entry) }
+    ensures treated { IfOk result (IsTreated Apply document.entry) }
+    ensures made { IfOk result (λ treated. (place : ℕ) → first_merge_key document.entry.events ≡ Some place
+        → (root : DocNode) → IsTreeOf document.entry root → IsRemade root treated) }
 {
     match first_place(alloc, &document)? {
         Some(_) => refuse(alloc, merge_all(alloc, &document)?),
@@ -109,6 +116,9 @@ fn apply<'de>(alloc: Global, document: Document<'de>) -> Result<Document<'de>>
 pub fn merged<'de>(alloc: Global, document: Document<'de>, merge: Merge) -> Result<Document<'de>>
     ensures treated { IfOk result (IsTreated merge document.entry) }
     ensures ending { IfOk result (λ treated. treated.ending ≡ document.entry.ending) }
+    ensures made { merge ≡ Apply → IfOk result (λ treated. (place : ℕ)
+        → first_merge_key document.entry.events ≡ Some place
+        → (root : DocNode) → IsTreeOf document.entry root → IsRemade root treated) }
     ensures keep { merge ≡ Keep → result ≡ Ok document.entry }
     ensures refused { merge ≡ Refuse → IfErr result (λ cause. is_memory cause ≡ false
         → RefusesFirst document.entry.events cause) }

@@ -1,10 +1,11 @@
 //! The nodes of a document by the places of their first events.
 
-ghost use Rattle.std.specs.Prelude.{◌≡◌, slice_get};
-ghost use Rattle.std.specs.Option.{option_map, option_map_or};
+ghost use Rattle.std.specs.Prelude.{◌≡◌, length, slice_get};
+ghost use Rattle.std.specs.Option.{option_map};
 ghost use Rattle.yaml_base.specs.DocEventView.{doc_event_of, doc_scalar_of, marked_events_of};
 ghost use Rattle.yaml_base.specs.PlainDocEvent.{a_scalar};
 ghost use Rattle.yaml_merge.specs.MergeKeys.{is_merge_node, is_merge_tag, is_merge_word, is_merge_word_at, is_plain};
+ghost use Rattle.yaml_merge.specs.Writing.{behind_at, end_at, event_at, is_merge_key_at, target_at};
 
 use yaml_base::{DocEvent, DocScalar, Mark, ScalarStyle, Tag};
 
@@ -57,14 +58,16 @@ pub(crate) fn is_merge_word(event: &DocEvent<'_>) -> bool
 
 impl<'a, 'de> Nodes<'a, 'de> {
     // How many events there are.
-    pub(crate) fn len(&self) -> usize {
+    pub(crate) fn len(&self) -> usize
+        ensures { result ≡ length self.now.events.now }
+    {
         self.events.len()
     }
 
     // The event in a place.
     pub(crate) fn event(&self, place: usize) -> Option<&'a DocEvent<'de>>
         ensures { option_map (λ e. doc_event_of e.now) result
-            ≡ option_map (λ e. e.0) (slice_get (marked_events_of self.now.events.now) place) }
+            ≡ event_at (marked_events_of self.now.events.now) place }
     {
         match self.events.get(place) {
             Some((event, _)) => Some(event),
@@ -83,7 +86,9 @@ impl<'a, 'de> Nodes<'a, 'de> {
     }
 
     // The place of the node that the one in a place is, or that it stands for as an alias.
-    pub(crate) fn target(&self, place: usize) -> usize {
+    pub(crate) fn target(&self, place: usize) -> usize
+        ensures { result ≡ target_at (marked_events_of self.now.events.now) place }
+    {
         match self.event(place) {
             Some(DocEvent::Alias(target)) => *target,
             _ => place,
@@ -91,7 +96,9 @@ impl<'a, 'de> Nodes<'a, 'de> {
     }
 
     // Where the collection ends that begins in a place; for any other event its place.
-    pub(crate) fn end(&self, place: usize) -> usize {
+    pub(crate) fn end(&self, place: usize) -> usize
+        ensures { result ≡ end_at self.now.ends.now place }
+    {
         match self.ends.get(place) {
             Some(end) => *end,
             None => place,
@@ -99,7 +106,9 @@ impl<'a, 'de> Nodes<'a, 'de> {
     }
 
     // The place behind the node that begins in a place, without following an alias.
-    pub(crate) fn behind(&self, place: usize) -> usize {
+    pub(crate) fn behind(&self, place: usize) -> usize
+        ensures { result ≡ behind_at self.now.ends.now place }
+    {
         self.end(place).saturating_add(1)
     }
 
@@ -124,7 +133,9 @@ impl<'a, 'de> Nodes<'a, 'de> {
     }
 
     // Whether the node in a place is one.
-    pub(crate) fn is_merge_key(&self, place: usize) -> bool {
+    pub(crate) fn is_merge_key(&self, place: usize) -> bool
+        ensures { result ≡ is_merge_key_at (marked_events_of self.now.events.now) place }
+    {
         match self.event(place) {
             Some(event) => self.is_merge_node(event),
             None => false,

@@ -19,14 +19,14 @@ pub(crate) struct Entry {
     pub(crate) by: Option<usize>,
 }
 
-// The entries of the mappings that have merge keys.
+// The entries that mappings with merge keys are given, behind their own.
 #[derive(Drop)]
 pub(crate) struct Plan {
     // For each event whether another node stands for it.
     named: Vec<bool>,
     // For each event how many mappings with merge keys ended before the one that begins there; for others the greatest.
     numbers: Vec<usize>,
-    entries: Vec<Vec<Entry>>,
+    given: Vec<Vec<Entry>>,
 }
 
 impl Plan {
@@ -35,17 +35,17 @@ impl Plan {
         matches!(self.named.get(place), Some(true))
     }
 
-    // The entries of the mapping that begins in a place, if it has a merge key.
-    pub(crate) fn entries(&self, place: usize) -> Option<&[Entry]> {
+    // The entries that the mapping which begins in a place is given, if it has a merge key.
+    fn given(&self, place: usize) -> Option<&[Entry]> {
         let number = *self.numbers.get(place)?;
-        let entries = self.entries.get(number)?;
-        Some(entries.as_slice())
+        let given = self.given.get(number)?;
+        Some(given.as_slice())
     }
 
-    // The entry with this number, counted from 0, of the mapping that begins in a place, if it has a merge key.
+    // The entry with this number, counted from 0, of those that the mapping which begins in a place is given.
     pub(crate) fn entry(&self, place: usize, number: usize) -> Option<Entry> {
-        match self.entries(place) {
-            Some(entries) => match entries.get(number) {
+        match self.given(place) {
+            Some(given) => match given.get(number) {
                 Some(entry) => Some(*entry),
                 None => None,
             },
@@ -60,10 +60,10 @@ impl Plan {
         }
     }
 
-    // Gives the mapping that begins in a place its entries.
-    fn add(&mut self, place: usize, entries: Vec<Entry>) -> Result<()> {
-        let number = self.entries.len();
-        self.entries.push(entries)?;
+    // Gives the mapping that begins in a place these entries.
+    fn add(&mut self, place: usize, given: Vec<Entry>) -> Result<()> {
+        let number = self.given.len();
+        self.given.push(given)?;
         if place < self.numbers.len() {
             self.numbers[place] = number;
         }
@@ -171,8 +171,8 @@ impl<'a, 'de> Planner<'a, 'de> {
         }
     }
 
-    // Adds an entry of a mapping that is merged, unless its key is there.
-    fn add_entry(&mut self, entry: Entry, source: Source, entries: &mut Vec<Entry>) -> Result<()> {
+    // Adds an entry of a mapping that is merged to those that are given, unless its key is there.
+    fn add_entry(&mut self, entry: Entry, source: Source, given: &mut Vec<Entry>) -> Result<()> {
         self.count()?;
         if self.has(self.keys.value(entry.key)) || self.has(self.keys.text(entry.key)) {
             return Ok(());
@@ -181,7 +181,7 @@ impl<'a, 'de> Planner<'a, 'de> {
         let value = self.nodes.target(entry.value);
         self.plan.name(key);
         self.plan.name(value);
-        entries.push(Entry {
+        given.push(Entry {
             key,
             value,
             by: Some(source.by),
@@ -190,22 +190,23 @@ impl<'a, 'de> Planner<'a, 'de> {
     }
 
     // Adds the entries of a mapping whose keys are not there.
-    fn add_source(&mut self, source: Source, entries: &mut Vec<Entry>) -> Result<()> {
-        let from = entries.len();
-        let own = self.source_entries(source.mapping)?;
-        for entry in &own {
-            self.add_entry(*entry, source, entries)?;
+    fn add_source(&mut self, source: Source, given: &mut Vec<Entry>) -> Result<()> {
+        let from = given.len();
+        let merged = self.source_entries(source.mapping)?;
+        for entry in &merged {
+            self.add_entry(*entry, source, given)?;
         }
-        self.note_keys(entries.as_slice(), from);
+        self.note_keys(given.as_slice(), from);
         Ok(())
     }
 
-    // The entries of a mapping that is merged.
+    // The entries of a mapping that is merged: its own, and behind them those that it is given.
     fn source_entries(&self, start: usize) -> Result<Vec<Entry>> {
-        match self.plan.entries(start) {
-            Some(entries) => Ok(Vec::from_slice(self.alloc, entries)?),
-            None => own_entries(self.alloc, self.nodes, start),
+        let mut entries = own_entries(self.alloc, self.nodes, start)?;
+        if let Some(given) = self.plan.given(start) {
+            entries.extend_from_slice(given)?;
         }
+        Ok(entries)
     }
 
     // Merges the mapping that begins in a place, if it has a merge key.
@@ -214,14 +215,15 @@ impl<'a, 'de> Planner<'a, 'de> {
             return Ok(());
         };
         self.turn = self.turn.saturating_add(1);
-        let mut entries = own_entries(self.alloc, self.nodes, start)?;
-        self.note_keys(entries.as_slice(), 0);
+        let own = own_entries(self.alloc, self.nodes, start)?;
+        self.note_keys(own.as_slice(), 0);
         let value = self.nodes.behind(key);
         let merged = sources(self.alloc, self.nodes, value, self.nodes.end(start))?;
+        let mut given = Vec::new(self.alloc);
         for source in &merged {
-            self.add_source(*source, &mut entries)?;
+            self.add_source(*source, &mut given)?;
         }
-        self.plan.add(start, entries)
+        self.plan.add(start, given)
     }
 
     // Merges each mapping of the document at its end, so that those within it and those before it are merged.
@@ -244,7 +246,7 @@ impl<'a, 'de> Planner<'a, 'de> {
     }
 }
 
-// The entries of the mappings of a document that have merge keys.
+// The entries that the mappings of a document are given by their merge keys.
 pub(crate) fn plan_of(alloc: Global, nodes: Nodes<'_, '_>) -> Result<Plan> {
     let keys = keys_of(alloc, nodes)?;
     let seen = Vec::from_elem(alloc, 0usize, keys.count)?;
@@ -255,7 +257,7 @@ pub(crate) fn plan_of(alloc: Global, nodes: Nodes<'_, '_>) -> Result<Plan> {
         plan: Plan {
             named: Vec::from_elem(alloc, false, nodes.len())?,
             numbers: Vec::from_elem(alloc, usize::MAX, nodes.len())?,
-            entries: Vec::new(alloc),
+            given: Vec::new(alloc),
         },
         seen,
         turn: 0,

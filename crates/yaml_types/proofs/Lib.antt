@@ -1,4 +1,5 @@
 -- Lemmas of this crate.
+pub mod AnyReads
 pub mod ArrayFound
 pub mod BehindLaws
 pub mod BuildLaws

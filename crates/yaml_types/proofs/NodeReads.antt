@@ -7,7 +7,7 @@ use Rattle.std.proofs.lemmas.List.{map-append, append-nil}
 use Rattle.std.specs.declared.cmp.Ordering.{Ordering}
 use Rattle.std.specs.BTreeMap.{insert_entry}
 use Rattle.yaml_base.specs.PlainEvent.{PlainScalar}
-use Rattle.yaml_base.specs.DocTree.{DocNode, DocNodes, DocPairs, word, list, mapping, no_nodes, node, no_pairs, pair}
+use Rattle.yaml_base.specs.DocTree.{DocNode, word, list, mapping, no_nodes, node, no_pairs, pair}
 use Rattle.yaml_base.specs.DocTree.{events_of, events_of_nodes, events_of_pairs, first_event, nothing, reference}
 use Rattle.yaml_base.specs.PlainDocEvent.{PlainDocEvent, a_scalar, sequence_begins, sequence_ends, mapping_begins}
 use Rattle.yaml_base.specs.PlainDocEvent.{mapping_ends}

@@ -10,7 +10,7 @@ use Rattle.yaml_shape.specs.PlainShape.{PlainShape, any_shape, shape_at, PlainVa
 use Rattle.yaml_shape.specs.PlainShape.{tuple_variant, struct_variant, row_shape, fields_shape, enum_shape}
 use Rattle.yaml_shape.specs.PlainShape.{option_shape, newtype_shape, seq_shape, map_shape}
 use Rattle.yaml_shape.proofs.JoinLaws.{at_left, at_right}
-use Rattle.yaml_types.specs.NodeMeans.{Shaped, SeqShaped, MapShaped, OptionShaped}
+use Rattle.yaml_types.specs.NodeMeans.{SeqShaped, MapShaped, OptionShaped}
 use Rattle.yaml_types.specs.Start.{Start, IsClosed, IsLeaf, leaf_start, with_last_shape, option_start, seq_start}
 use Rattle.yaml_types.specs.Start.{map_start}
 use Rattle.yaml_types.specs.Tables.{HasShapes, IsShapeIn}

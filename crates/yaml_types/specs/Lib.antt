@@ -1,4 +1,5 @@
 -- What contracts of this crate cite, and the laws of the types.
+pub mod AnyNodes
 pub mod ArrayLaws
 pub mod Built
 pub mod BuiltParts

@@ -17,6 +17,7 @@ mod structs;
 mod tape;
 mod tape_leaf;
 mod tape_names;
+mod tape_value;
 mod traits;
 mod tuples;
 mod variant;

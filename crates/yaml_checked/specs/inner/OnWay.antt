@@ -51,6 +51,12 @@ pub record IsFilled (documents : List Document) (before : List Marked) (r : Rest
   pub way : IsOnWay documents before r
   pub none : length r.tape.entries.items ≤ r.next → before ≡ events_of r.tape.text.now documents
 
+-- the same of the tape and of the documents was not read yet
+pub record IsAsFar (old new : Rest) : Type 0 where
+  pub text : new.tape.text.now ≡ old.tape.text.now
+  pub ahead : marked_from new.tape new.next ≡ marked_from old.tape old.next
+  pub documents : new.documents ≡ old.documents
+
 -- the next entry was read, or there is none
 abbrev pub Comes : List Document → List Marked → Rest → Option Entry → Type 0
 Comes documents before r None = IsOnWay documents before r × (before ≡ events_of r.tape.text.now documents)

@@ -2,6 +2,7 @@
 
 use crate::fault::BuildFault;
 use crate::leaf::leaf_schema;
+use crate::tape_value::value_at;
 use crate::traits::{Deserialize, RoundTrip, Serialize};
 use std::alloc::Global;
 use yaml_base::{Cause, Error};
@@ -37,13 +38,14 @@ impl<'de> Deserialize<'de> for Value {
         }
     }
 
+    #[tactic(auto, using(crate::proofs::AnyReads::value_means))]
     fn read_node(
-        _alloc: Global,
-        _tape: &Tape<'de>,
-        _place: &mut usize,
-        _depth: usize,
+        alloc: Global,
+        tape: &Tape<'de>,
+        place: &mut usize,
+        depth: usize,
     ) -> Option<Value> {
-        None
+        value_at(alloc, tape, place, depth)
     }
 }
 

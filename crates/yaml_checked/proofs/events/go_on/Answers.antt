@@ -7,6 +7,7 @@ use Rattle.yaml_base.specs.StreamMachine.{before_stream, run}
 use Rattle.yaml_parse.specs.Places.{IsInPlace}
 use Rattle.yaml_tape.specs.OnTape.{position_at}
 use Rattle.yaml_checked.proofs.GivenLaws.{entry_may_come, handed_out, whole_stream}
+use Rattle.yaml_checked.proofs.NameLaws.{on_as_far}
 use Rattle.yaml_checked.proofs.events.go_on.Goals as goal
 use Rattle.yaml_checked.specs.inner.OnWay.{Comes}
 
@@ -64,7 +65,8 @@ returns-clause-way c = λ ds way.
     let comes = subst (Comes ds (plain_marked given) r) c.in-Some.is
     (c.in_ok-entry.ensures.way ds (plain_marked given) way) in
     let text : c.args.given.now.text.now ≡ r.tape.text.now = sym (c.next.ensures.text ∙ c.requires.same) in
-    handed_out ds given c.hand_out.new.self.events.items r e c.in_ok-hand_out.field-0 comes
+    on_as_far c.in_ok-event.ensures.stays
+    (handed_out ds given c.hand_out.new.self.events.items r e c.in_ok-hand_out.field-0 comes
     c.in_ok-hand_out.ensures.events (ap event_of c.in_ok-hand_out.ensures.event ∙ c.in_ok-event.ensures.event)
     (subst (λ t. IsInPlace t (position_at t e.index e.late)
-    → c.in_ok-hand_out.field-0.1 ≡ position_at t e.index e.late) text c.in_ok-hand_out.ensures.mark)
+    → c.in_ok-hand_out.field-0.1 ≡ position_at t e.index e.late) text c.in_ok-hand_out.ensures.mark))
