@@ -21,7 +21,8 @@ yaml_documents/OnlyDocument yaml_emit/LayoutMachine yaml_emit/Leaves yaml_lines/
 yaml_load/StreamPhases yaml_parse/Frames yaml_parse/Kept yaml_parse/Sources yaml_query/FaultSteps yaml_query/Out
 yaml_query/PairFaults yaml_query/Reading yaml_read/QuickReads yaml_round/Survives yaml_scan/Surrogates
 yaml_shape/Walks yaml_tree/Code yaml_tree/Entries yaml_tree/EntryText yaml_tree/EqualLaws yaml_tree/Falls
-yaml_tree/Hash yaml_tree/Index yaml_tree/Lookup yaml_tree/TakeOut yaml_types/ArrayLaws yaml_types/ChoiceLaws
+yaml_tree/Hash yaml_tree/Index yaml_tree/Lookup yaml_tree/TakeOut yaml_merge/Writing yaml_types/AnyNodes
+yaml_types/ArrayLaws yaml_types/Behind yaml_types/ChoiceLaws
 yaml_types/ChoiceReturns yaml_types/MapLaws yaml_types/PlainLaws yaml_types/ReturnLaws yaml_types/RowReturns
 yaml_types/SetLaws yaml_types/ShapeLaws yaml_types/StartLaws yaml_types/StructLaws yaml_types/WrittenLaws
 yaml_value/Code yaml_value/Entries yaml_value/Falls yaml_value/Hash yaml_value/Index yaml_value/Sizes
