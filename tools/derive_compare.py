@@ -11,7 +11,8 @@ usage: derive_compare.py THEIRS rows FILE            the rows of a file, as crat
 THEIRS is the program of tools/derived, built by `cargo build --release` there. Both programs read rows and print each
 with its answer. Answers that differ as docs/DIFFERENCES.md says count as listed. Prints the first other ones, then how
 many are listed of each kind, and in the last line how many were the same, listed, left out, and how many differ. Status
-0 only if none differs. Left out are rows at which the other program panics.
+0 only if none differs. Left out are rows at which the other program panics, and those of types that ours does not have,
+as `Singletons<Choice>` and `Singletons<Weather>`, which a copy of `answer_as_singletons` in derived_case can be given.
 """
 
 import math
@@ -416,8 +417,8 @@ def kind(name, text, ours, theirs):
     if name in VALUES and (found := kind_of_value(name, text, ours, theirs)):
         return found
     if name.startswith("apply:"):
-        return kind_of_merge(ours, theirs)
-    if name in SINGLETONS and (found := kind_of_singleton(theirs)):
+        return kind_of_merge(text, ours, theirs)
+    if name in SINGLETONS and (found := kind_of_singleton(ours, theirs)):
         return found
     if ours.startswith("! ") and theirs.startswith("! ") and (MISFIT.search(ours + theirs) or "!!float '" in text):
         return "core tags that their texts do not fit"
@@ -487,6 +488,7 @@ QUOTED_FLOAT = re.compile(r"'([-+]?[\d.]+[eE][-+]?\d+)'")
 QUOTED_KEY = re.compile(r"'([-+.\w~]*)':")
 MISFIT = re.compile(r'invalid value: string "[^"]*", expected (null|a boolean|an integer|a float)')
 TAGGED_NUMBER = re.compile(r"! (size: )?invalid type: (enum|Option)\b.*, expected f64")
+QUOTED_NUMBER = re.compile(r'! (?:\S+: )?invalid type: string "(-?\d+)", expected i64')
 LABEL = re.compile(r"label: .*?\\n")
 
 
@@ -496,8 +498,10 @@ def kind_of_float(ours):
     return "floats beyond the range" if found and is_beyond(*found.groups()) else None
 
 
-def kind_of_singleton(theirs):
+def kind_of_singleton(ours, theirs):
     """The same for types with variants that are mappings of one entry."""
+    if "expected map with a single key" in ours and "expected map containing 1 entry" in theirs:
+        return "an entry too many behind a variant of several parts"
     if "invalid type: enum, expected enum" in theirs:
         return "variants by tags where they are mappings"
     if "invalid type: map, expected unit variant" in theirs:
@@ -507,10 +511,14 @@ def kind_of_singleton(theirs):
     return None
 
 
-def kind_of_merge(ours, theirs):
+def kind_of_merge(text, ours, theirs):
     """The same for what is read once merge keys are applied, of a value there."""
     if ours.startswith("! ") and theirs.startswith("! "):
         return "faults once merge keys are applied"
+    quoted_key = QUOTED_NUMBER.match(theirs)
+    if quoted_key and re.search(r"[{ ]%s:" % quoted_key.group(1), text) and "'%s':" % quoted_key.group(1) in text:
+        # ours does not merge a key that stands there without quotes
+        return "keys that are the same by their texts"
     if MISFIT.search(theirs) or "duplicate entry" in theirs or LABEL.sub("", ours) == LABEL.sub("", theirs):
         return "what is a value first"
     return None
@@ -558,7 +566,7 @@ def main():
         name, text = row.split(" ", 1)
         if our == their:
             counts["same"] += 1
-        elif their == "panic":
+        elif their == "panic" or our == "! no such type":
             counts["left out"] += 1
         elif found := kind(name, unquoted(text), our, their):
             counts["listed"] += 1
