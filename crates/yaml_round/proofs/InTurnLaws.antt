@@ -16,7 +16,7 @@ use Rattle.yaml_round.specs.InTurn.{MakeEqual, MakesEqual}
 use Rattle.yaml_round.proofs.DocumentsReturn.{wrote_all}
 
 -- the value at a place, before those behind it
-from_place : {T : Type 0} (xs : List T) (i : ℕ) (x : T) → i < length xs → x ≡ get_or xs i x
+pub from_place : {T : Type 0} (xs : List T) (i : ℕ) (x : T) → i < length xs → x ≡ get_or xs i x
     → drop i xs ≡ x ∷ drop (i + 1) xs
 from_place xs i x within is =
     let next : suc i ≡ i + 1 = omega arith in

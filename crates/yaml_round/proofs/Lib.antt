@@ -1,6 +1,7 @@
 -- Lemmas of this crate.
 pub mod AnyStyle
 pub mod ByPlace
+pub mod ComparedLaws
 pub mod Contents
 pub mod DataFound
 pub mod DataReturn

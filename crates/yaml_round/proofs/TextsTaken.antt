@@ -35,11 +35,19 @@ pub in_text : {B : Input → Option PlainFault → Type 0} {a b : List ℕ} → 
 in_text {B} same p = subst (λ t. IsParsed t B) same p
 
 -- what a call reads of a text under a shape of a table is read of the same text under the same shape
+pub text_under : {limits : PlainLimits} {table schema : List PlainShape} {id number : ShapeId} {text bytes : List ℕ}
+    {s : PlainShape} {given : Result PlainData Cause} → schema ≡ table → number ≡ id → bytes ≡ text
+    → shape_at table id.0 ≡ Some s
+    → ((s : PlainShape) → shape_at schema number.0 ≡ Some s → TextGives limits schema s bytes given)
+    → TextGives limits table s text given
+text_under {limits} {table} {schema} {id} {number} {text} {bytes} {s} {given} tables numbers texts is reads =
+    in_text texts (subst (λ t. TextGives limits t s bytes given) tables
+    (reads s (ap (λ t. shape_at t number.0) tables ∙ (ap (λ i. shape_at table i.0) numbers ∙ is))))
+
+-- and so the events give it
 pub read_under : {limits : PlainLimits} {table schema : List PlainShape} {id number : ShapeId} {text bytes : List ℕ}
     {s : PlainShape} {given : Result PlainData Cause} → schema ≡ table → number ≡ id → bytes ≡ text
     → shape_at table id.0 ≡ Some s
     → ((s : PlainShape) → shape_at schema number.0 ≡ Some s → TextGives limits schema s bytes given)
     → IsParsed text (λ events fault. InputGives limits table s events fault given)
-read_under {limits} {table} {schema} {id} {number} {text} {bytes} {s} {given} tables numbers texts is reads =
-    gives_of (in_text texts (subst (λ t. TextGives limits t s bytes given) tables
-    (reads s (ap (λ t. shape_at t number.0) tables ∙ (ap (λ i. shape_at table i.0) numbers ∙ is)))))
+read_under tables numbers texts is reads = gives_of (text_under tables numbers texts is reads)

@@ -1,4 +1,5 @@
 -- What contracts of this crate cite.
+pub mod Compared
 pub mod Fits
 pub mod InTexts
 pub mod InTurn

@@ -1,10 +1,13 @@
 //! A value that is written, comes back from a parser, and is read.
 
-ghost use Rattle.std.specs.Prelude.{◌≡◌, ◌<◌, ◌≤◌, ◌^◌, ◌↔◌, length, string_bytes, true, IfOk, IsTrue, Ok};
-ghost use Rattle.yaml_base.specs.Answer.{Answers};
+ghost use Rattle.std.specs.Prelude.{◌≡◌, ◌<◌, ◌≤◌, ◌^◌, ◌↔◌, false, length, string_bytes, true, Err, IfErr, IfOk};
+ghost use Rattle.std.specs.Prelude.{IsTrue, Ok};
+ghost use Rattle.yaml_base.specs.Answer.{Answers, is_memory};
 ghost use Rattle.yaml_printed.specs.WrittenRoots.{FitsText};
 ghost use Rattle.yaml_read.specs.TreeReader.{PlainLimits};
+ghost use Rattle.serde_yaml.specs.TextReads.{IsParsed};
 ghost use Rattle.serde_yaml.specs.TypedWrites.{TypeWrites};
+ghost use Rattle.yaml_round.specs.Compared.{Compares, ComparesInput, HasNoData};
 ghost use Rattle.yaml_round.specs.Fits.{Fits};
 ghost use Rattle.yaml_round.specs.InTexts.{FitsTextWithin, GivesEqual, IsReadAsEqual, IsTextOf, StandsAsWritten};
 ghost use Rattle.yaml_round.specs.ReadsBack.{IsSameUnless};
@@ -23,16 +26,19 @@ use yaml_types::RoundTrip;
 
 /// Whether what is read within the limits is equal to the value that was written. Memory aside it is, for each value
 /// that fits, of a type whose table has at most 4,096 shapes, whatever stands between; unless `to_data` refuses the
-/// value by a message.
+/// value by a message. Of any value it is what a reading answers of what was written, or the fault (`compared`).
 pub fn comes_back<'de, T: RoundTrip<'de> + Drop, R: Renderer<'de>>(
     alloc: Global,
     value: &T,
     renderer: &mut R,
     limits: Limits,
 ) -> Result<bool>
-    ensures { length T.Serialize.start.0 ≤ 4096
+    ensures equal { length T.Serialize.start.0 ≤ 4096
         → Fits limits.nesting T.Serialize.start.0 T.Serialize.start.1 (T.written value.now)
         → Answers (λ same. same) result (IsSameUnless (T.unwritten value.now)) }
+    ensures compared { Answers (λ same. same) result
+        (Compares limits (TypeWrites T.Serialize.start (T.written value.now) (T.unwritten value.now))
+        T.Deserialize.start T.built T.refused T.eq value.now) }
 {
     a_written_value_reads_back::<T>();
     let written = match to_events(alloc, value) {
@@ -58,8 +64,10 @@ pub fn fits_and_comes_back<'de, T: RoundTrip<'de> + Drop, R: Renderer<'de>>(
     renderer: &mut R,
     limits: Limits,
 ) -> Result<bool>
-    ensures { length T.Serialize.start.0 ≤ 4096 → IfOk result (λ does. IsTrue does
+    ensures fits { length T.Serialize.start.0 ≤ 4096 → IfOk result (λ does. IsTrue does
         ↔ Fits limits.nesting T.Serialize.start.0 T.Serialize.start.1 (T.written value.now)) }
+    ensures refused { length T.Serialize.start.0 ≤ 4096 → IfErr result (λ cause. is_memory cause ≡ false
+        → HasNoData T.Serialize.start (T.unwritten value.now) cause) }
 {
     if !value_fits(alloc, value, limits)? {
         return Ok(false);
@@ -83,31 +91,36 @@ pub fn text_of<'de, T: RoundTrip<'de>>(alloc: Global, value: &T) -> Result<Strin
         → GivesEqual limits T.Deserialize.start T.built T.refused T.eq value.now (string_bytes text)) }
     ensures own { IfOk result (λ text. IsTextOf T.Serialize.start (T.written value.now) (T.kept value.now)
         (T.unwritten value.now) (string_bytes text)) }
+    ensures refused { IfErr result (λ cause. is_memory cause ≡ false
+        → TypeWrites T.Serialize.start (T.written value.now) (T.unwritten value.now) (Err cause)) }
 {
     a_printed_value_reads_back::<T>();
     a_written_text_reads_back::<T>();
     match to_string(alloc, value) {
         Ok(text) => Ok(text),
-        Err(fault) => Err(fault),
+        Err(unwritten) => Err(unwritten),
     }
 }
 
 /// Whether what is read of a value's own text within limits is equal to the value. Memory aside it is, for each value that
-/// fits, and a text of fewer than 2^32 bytes: what was written is what is read, from text to text.
+/// fits, and a text of fewer than 2^32 bytes: what was written is what is read, from text to text. Of any value and
+/// text it is what `from_slice_limited` answers of the text, compared with the value, or the fault (`compared`).
 pub fn reads_back<'de, T: RoundTrip<'de> + Drop>(
     alloc: Global,
     value: &T,
     text: &'de str,
     limits: Limits,
 ) -> Result<bool>
-    ensures { IsTextOf T.Serialize.start (T.written value.now) (T.kept value.now) (T.unwritten value.now) text.now
-        → length text.now < 2 ^ 32
+    ensures equal { IsTextOf T.Serialize.start (T.written value.now) (T.kept value.now) (T.unwritten value.now)
+        text.now → length text.now < 2 ^ 32
         → FitsTextWithin limits T.Serialize.start.0 T.Serialize.start.1 (T.written value.now)
         → Answers (λ same. same) result (λ given. given ≡ Ok true) }
+    ensures compared { Answers (λ same. same) result (λ given. IsParsed text.now (λ events fault.
+        ComparesInput limits T.Deserialize.start T.built T.refused T.eq value.now events fault given)) }
 {
     a_written_text_reads_back::<T>();
     match from_slice_limited::<T>(alloc, text.as_bytes(), limits) {
         Ok(again) => Ok(*value == again),
-        Err(fault) => Err(fault),
+        Err(unread) => Err(unread),
     }
 }

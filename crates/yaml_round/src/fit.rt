@@ -1,6 +1,6 @@
 //! Whether data reads back where it is written.
 
-ghost use Rattle.std.specs.Prelude.{◌≡◌, ◌<◌, ◌↔◌, ℕ, false, IfOk, IsTrue, slice_get};
+ghost use Rattle.std.specs.Prelude.{◌≡◌, ◌<◌, ◌↔◌, ℕ, false, IfErr, IfOk, IsTrue, slice_get};
 ghost use Rattle.std.specs.Option.{option_map};
 ghost use Rattle.yaml_tree.specs.Tree.{mapping, sequence};
 ghost use Rattle.yaml_tree.specs.Valid.{pairs_of, tree_of_tagged, values_of};
@@ -11,6 +11,8 @@ ghost use Rattle.yaml_shape.specs.Join.{IsTooLarge};
 ghost use Rattle.yaml_shape.specs.ShapeView.{content_of, fields_of, ids_of, variant_of, variants_of};
 ghost use Rattle.yaml_shape.specs.TypedView.{content_in, id_in, schema_in};
 ghost use Rattle.yaml_shape.specs.Validity.{numbers_of};
+ghost use Rattle.serde_yaml.specs.TypedReads.{no_schema};
+ghost use Rattle.yaml_round.specs.Compared.{HasNoData};
 ghost use Rattle.yaml_round.specs.Fits.{Fits, begins_with_two, is_variant_name};
 ghost use Rattle.yaml_round.specs.Survives.{all_survive, content_survives, each_survives, entries_survive, is_null};
 ghost use Rattle.yaml_round.specs.Survives.{survives, value_survives, variant_survives};
@@ -38,7 +40,7 @@ pub fn fits(typed: &Typed<'_, '_>, limits: Limits) -> bool
 
 // Why a type has no schema, as a fault.
 pub(crate) fn refusal(alloc: Global, fault: SchemaFault) -> Error
-    ensures { (size : ℕ) → IsTooLarge size fault → is_memory result ≡ false → 4096 < size }
+    ensures { (size : ℕ) → IsTooLarge size fault → is_memory result ≡ false → (4096 < size) × (result ≡ no_schema) }
 {
     match fault {
         SchemaFault::Memory => Error::new(Cause::Memory),
@@ -52,7 +54,10 @@ pub(crate) fn refusal(alloc: Global, fault: SchemaFault) -> Error
 /// The same of a value: whether its data fits. Refused as `to_events` refuses it: where memory runs out, where the type
 /// has no schema, or by a message of `to_data`.
 pub fn value_fits<T: Serialize>(alloc: Global, value: &T, limits: Limits) -> Result<bool>
-    ensures { IfOk result (λ does. IsTrue does ↔ Fits limits.nesting T.start.0 T.start.1 (T.written value.now)) }
+    ensures fits { IfOk result (λ does. IsTrue does
+        ↔ Fits limits.nesting T.start.0 T.start.1 (T.written value.now)) }
+    ensures refused { IfErr result (λ cause. is_memory cause ≡ false
+        → HasNoData T.start (T.unwritten value.now) cause) }
 {
     let (schema, id) = match T::schema(alloc) {
         Ok(start) => start,

@@ -1,9 +1,11 @@
 //! Several values that are written as one text, a document each, and read in turn.
 
-ghost use Rattle.std.specs.Prelude.{◌≡◌, ◌≢◌, ◌<◌, ◌^◌, [], length, string_bytes, true, IfOk, Ok};
+ghost use Rattle.std.specs.Prelude.{◌≡◌, ◌≢◌, ◌<◌, ◌^◌, [], false, length, string_bytes, true, Err, IfErr, IfOk, Ok};
 ghost use Rattle.std.specs.List.{All};
-ghost use Rattle.yaml_base.specs.Answer.{Answers};
+ghost use Rattle.yaml_base.specs.Answer.{Answers, is_memory};
 ghost use Rattle.yaml_read.specs.TreeReader.{PlainLimits};
+ghost use Rattle.serde_yaml.specs.WrittenDocuments.{TypeWritesAll};
+ghost use Rattle.yaml_round.specs.Compared.{ComparesDocument, ComparesEach, ComparesText};
 ghost use Rattle.yaml_round.specs.InTexts.{FitsTextWithin};
 ghost use Rattle.yaml_round.specs.InTurn.{GivesEqualInTurn, IsTextOfAll, MakeEqual, MakesEqual};
 
@@ -27,11 +29,13 @@ pub fn text_of<'de, T: RoundTrip<'de>>(alloc: Global, values: &[T]) -> Result<St
         → GivesEqualInTurn limits T.Deserialize.start T.built T.refused T.eq values.now (string_bytes text)) }
     ensures own { IfOk result (λ text.
         IsTextOfAll T.Serialize.start T.written T.kept T.unwritten values.now (string_bytes text)) }
+    ensures refused { IfErr result (λ cause. is_memory cause ≡ false
+        → TypeWritesAll T.Serialize.start T.written T.unwritten values.now (Err cause)) }
 {
     a_text_of_documents_reads_back::<T>();
     match documents_to_string(alloc, values) {
         Ok(text) => Ok(text),
-        Err(fault) => Err(fault),
+        Err(unwritten) => Err(unwritten),
     }
 }
 
@@ -46,8 +50,10 @@ fn makes_equal<'de, T: RoundTrip<'de> + Drop>(
 ) -> Result<bool>
     requires table { schema.now ≡ T.Deserialize.start.0 }
     requires number { id.0 ≡ T.Deserialize.start.1 }
-    ensures { MakesEqual limits T.Deserialize.start T.built T.refused T.eq value.now document.now
+    ensures equal { MakesEqual limits T.Deserialize.start T.built T.refused T.eq value.now document.now
         → Answers (λ same. same) result (λ given. given ≡ Ok true) }
+    ensures compared { Answers (λ same. same) result
+        (ComparesDocument limits T.Deserialize.start T.built T.refused T.eq value.now document.now) }
 {
     a_meaning_has_its_shape();
     document.has_tree();
@@ -71,8 +77,10 @@ fn make_equal<'de, T: RoundTrip<'de> + Drop>(
 ) -> Result<bool>
     requires table { schema.now ≡ T.Deserialize.start.0 }
     requires number { id.0 ≡ T.Deserialize.start.1 }
-    ensures { MakeEqual limits T.Deserialize.start T.built T.refused T.eq values.now documents.entry
+    ensures equal { MakeEqual limits T.Deserialize.start T.built T.refused T.eq values.now documents.entry
         → Answers (λ same. same) result (λ given. given ≡ Ok true) }
+    ensures compared { Answers (λ same. same) result
+        (ComparesEach limits T.Deserialize.start T.built T.refused T.eq values.now documents.entry) }
 {
     let mut left = documents;
     for value in values {
@@ -88,17 +96,20 @@ fn make_equal<'de, T: RoundTrip<'de> + Drop>(
 
 /// Whether the documents of the values' own text are as many as the values, and what is read of each within limits is
 /// equal to its value. Memory aside it is so, if there is a value, for values that fit, and a text of fewer than 2^32
-/// bytes: what was written of several values is what is read, document by document.
+/// bytes: what was written of several values is what is read, document by document. Of any values and text it is
+/// whether the text's documents make equal values, as many, or the first fault (`compared`).
 pub fn reads_back<'de, T: RoundTrip<'de> + Drop>(
     alloc: Global,
     values: &[T],
     text: &'de str,
     limits: Limits,
 ) -> Result<bool>
-    ensures { IsTextOfAll T.Serialize.start T.written T.kept T.unwritten values.now text.now
+    ensures equal { IsTextOfAll T.Serialize.start T.written T.kept T.unwritten values.now text.now
         → length text.now < 2 ^ 32 → values.now ≢ []
         → All (λ x. FitsTextWithin limits T.Serialize.start.0 T.Serialize.start.1 (T.written x)) values.now
         → Answers (λ same. same) result (λ given. given ≡ Ok true) }
+    ensures compared { Answers (λ same. same) result
+        (ComparesText limits T.Deserialize.start T.built T.refused T.eq values.now text.now) }
 {
     a_text_of_documents_reads_back::<T>();
     let (schema, id) = match <T as Deserialize<'de>>::schema(alloc) {
