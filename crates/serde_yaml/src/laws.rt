@@ -33,7 +33,7 @@ pub fn reading_gives_the_meaning()
 }
 
 /// A reading of a document of n events by a fresh cursor, within F follows for each, goes over at most 2n(Fn + 1)
-/// events, answered or refused; by the usual limits, over at most 20,020 where there are 10.
+/// events, answered or refused. By the usual limits these are at most 20,020 where there are 10.
 pub fn a_reading_goes_over_so_many_events()
     ensures most { (limits : PlainLimits) (document : PlainDocument) (new : PlainCursor) (answered : Bool)
         → LeavesCursor limits document fresh_cursor new answered

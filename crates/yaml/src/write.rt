@@ -51,8 +51,8 @@ pub fn to_string<T: Serialize>(alloc: Global, value: &T) -> Result<String>
     print_document(Printer::new(alloc)?, value)?.finish()
 }
 
-/// The value as YAML text, a document that ends with a line feed, which other readers of YAML take as it is meant: as
-/// `to_string` prints it, but with quotes around each text that some of them takes for something else where it stands
+/// The value as YAML text, a document that ends with a line feed, which other readers of YAML take as it is meant. It is
+/// as `to_string` prints it, but with quotes around each text that some of them takes for something else where it stands
 /// plain, such as `yes`, `12:30` and `2024-01-31`.
 pub fn to_string_unambiguous<T: Serialize>(alloc: Global, value: &T) -> Result<String>
     ensures one { IfOk result (λ text. (events : List PlainEmit) × IsWrittenDocument events

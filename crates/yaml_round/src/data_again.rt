@@ -19,9 +19,10 @@ use yaml_base::Result;
 use yaml_read::Limits;
 use yaml_shape::{Data, Typed};
 
-/// Data of a shape as YAML text, as `data_to_string` prints it. Of data that fits its text, and the limits of a reading,
-/// each call that reads the text under the same shape reads equal data, with the pairs of its mappings in the same order,
-/// if the text has fewer than 2^32 bytes (`returns`). Of data that fits, only want of memory is an error (`memory`).
+/// Data of a shape as YAML text, as `data_to_string` prints it. Let the data fit its text, and the limits of a reading,
+/// and the text have fewer than 2^32 bytes. Then each call that reads the text under the same shape reads equal data,
+/// with the pairs of its mappings in the same order (`returns`). Of data that fits, only want of memory is an error
+/// (`memory`).
 pub fn data_text_of(alloc: Global, value: &Typed<'_, '_>) -> Result<String>
     ensures own { IfOk result (λ text. HasText (IsDataWritten (schema_in value.now) (id_in value.now).0
         (data_of (content_in value.now))) (string_bytes text)) }

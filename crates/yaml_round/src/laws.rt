@@ -168,8 +168,8 @@ pub fn a_text_of_documents_reads_back<'de, T: RoundTrip<'de>>()
     equal_in_one_order_is_equal();
 }
 
-/// What stands of the text of data under its schema, as `data_to_string` promises it: it stands, and whatever documents stand in
-/// it read back as equal data, with the pairs of mappings in the same order.
+/// What stands of the text of data under its schema, as `data_to_string` promises it. It stands, and whatever documents
+/// stand in it read back as equal data, with the pairs of mappings in the same order.
 pub fn printed_data_reads_back()
     ensures stands { (table : List PlainShape) (id : ℕ) (d : PlainData) (text : List ℕ) → IsTrue (is_table table)
         → IsHeld d → FitsText table id d → HasText (IsDataWritten table id d) text

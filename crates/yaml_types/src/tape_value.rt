@@ -84,8 +84,9 @@ fn scalar_value(alloc: Global, tape: &Tape<'_>, place: usize) -> Option<Value>
     }
 }
 
-/// The value of the node in a place of a tape, which then is the place behind the node; or nothing: of a node with a
-/// tag, an alias, a float or an integer beyond 64 bits in it, with equal keys, or with more nestings than there are.
+/// The value of the node in a place of a tape, which then is the place behind the node; or nothing. Nothing is answered
+/// of a node with a tag, an alias, a float or an integer beyond 64 bits in it, with equal keys, or with more nestings
+/// than there are.
 #[cycle(values)]
 pub(crate) fn value_at(
     alloc: Global,

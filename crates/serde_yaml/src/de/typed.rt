@@ -26,8 +26,8 @@ use yaml_types::Deserialize;
 /// `build` refuses is refused by its message, and a type without a schema by the schema's fault, as faults without a
 /// place.
 ///
-/// Memory aside, a value is given only where the parser had no fault and the events read as data of which it is built;
-/// and where they read as data, such a value is given, or a message by which the type refuses that data.
+/// Memory aside, a value is given only where the parser had no fault and the events read as data of which it is built.
+/// Where they read as data, such a value is given, or a message by which the type refuses that data.
 pub fn from_events<'de, T: Deserialize<'de>>(
     alloc: Global,
     events: Vec<(Event<'de>, Mark)>,

@@ -102,7 +102,7 @@ fn insert_all<K: Ord + Drop, V: Drop>(
     Ok(())
 }
 
-// The map of the entries, as if they were put in one after another. The last is put in first as long as keys fall so: a
+// The map of the entries, as if they were put in one after another. The last is put in first as long as keys fall so. A
 // key below all others is compared with one key of each node on its way down, and a key above all others with each.
 fn build_entries<'de, K: Deserialize<'de> + Ord + Drop, V: Deserialize<'de> + Drop>(
     alloc: Global,
