@@ -1,17 +1,20 @@
 -- The events of rows, one more.
-use Rattle.std.proofs.Common.{◌≡◌, ℕ, ◌∙◌, ap, refl, subst, sym, List, [], ◌∷◌, ◌++◌, map, Option}
-use Rattle.std.proofs.lemmas.List.{append-nil, append_assoc, map-append}
-use Rattle.yaml_base.specs.EmitEvents.{PlainEmit, emit_mapping_start, emit_of, emit_scalar, emit_sequence_start}
+use Rattle.std.proofs.Common.{◌≡◌, ◌≤◌, ◌+◌, ◌-◌, ℕ, ◌∙◌, ap, arith, refl, subst, sym, List, [], ◌∷◌, ◌++◌, length, Option}
+use Rattle.std.proofs.lemmas.List.{append-nil, append_assoc, length-append}
+use Rattle.yaml_base.specs.EmitEvents.{PlainEmit, emit_mapping_start, emit_scalar, emit_sequence_start}
 use Rattle.yaml_base.specs.EmitEvents.{emit_stream_end, emit_stream_start}
 use Rattle.yaml_base.specs.declared.emitter.AskedStyle.{AskedStyle}
 use Rattle.yaml_base.specs.declared.emitter.AskedStyle.TheVariants as asked
-use Rattle.yaml_base.specs.declared.emitter.EmitEvent.{EmitEvent}
-use Rattle.yaml_base.specs.declared.emitter.EmitEvent.TheVariants as event
+use Rattle.yaml_c.specs.Refused.{IsRefusedAt, IsWritten, no_stream, not_written}
 use Rattle.yaml_c.specs.RowEvents.{AreEach, AreEventsOf, IsEventOf, IsNumberText, a_mapping, a_number, a_sequence}
 use Rattle.yaml_c.specs.RowEvents.{a_string, none_left, one_more, string_style}
 use Rattle.yaml_c.specs.Rows.{row_tag, row_text}
+use Rattle.yaml_c.specs.declared.print.Outcome.{Outcome}
+use Rattle.yaml_c.specs.declared.print.Outcome.TheVariants.{Text, Refused, Memory}
+use Rattle.yaml_c.specs.declared.print.Refusal.{Refusal}
+use Rattle.yaml_c.specs.declared.print.Refusal.TheVariants as refusal
 use Rattle.yaml_c.specs.declared.rows.YamlRow.{YamlRow}
-use Rattle.yaml_c.specs.inner.Printing.{AddsEach, AddsFirst}
+use Rattle.yaml_c.specs.inner.Printing.{AddsEach, AddsFirst, AddsRow, IfRow, IsPrinted, IsTextOf, outcome_of}
 
 -- one more event of one more row
 each_more : (source texts : List ℕ) (row : YamlRow) (event : PlainEmit) {rows : List YamlRow} {events : List PlainEmit}
@@ -22,37 +25,35 @@ each_more source texts row event (one_more first rest) is =
     one_more first (each_more source texts row event rest is)
 
 -- no row yet
-pub adds_no_row : (source texts : List ℕ) (rows : List YamlRow) (old : List EmitEvent)
+pub adds_no_row : (source texts : List ℕ) (rows : List YamlRow) (old : List PlainEmit)
     → AddsFirst rows rows source texts old old
 adds_no_row source texts rows old = record {
   handed = [];
   rest = refl;
-  adds = record { more = []; of_rows = none_left; added = sym (append-nil (map emit_of old)) };
+  adds = record { more = []; of_rows = none_left; added = sym (append-nil old) };
 }
 
 -- one row more
-pub adds_one_row : (source texts : List ℕ) (rows left left' : List YamlRow) (old new new' : List EmitEvent)
-    (row : YamlRow) (event : EmitEvent)
+pub adds_one_row : (source texts : List ℕ) (rows left left' : List YamlRow) (old new new' : List PlainEmit)
+    (row : YamlRow)
     → AddsFirst rows left source texts old new
     → left ≡ row ∷ left'
-    → IsEventOf source texts row (emit_of event)
-    → new' ≡ new ++ event ∷ []
+    → AddsRow source texts row new new'
     → AddsFirst rows left' source texts old new'
-adds_one_row source texts rows left left' old new new' row event first split is pushed = record {
+adds_one_row source texts rows left left' old new new' row first split adds = record {
   handed = first.handed ++ row ∷ [];
   rest = append_assoc first.handed (row ∷ []) left'
       ∙ (ap (λ (xs : List YamlRow). first.handed ++ xs) (sym split) ∙ first.rest);
   adds = record {
-    more = first.adds.more ++ emit_of event ∷ [];
-    of_rows = each_more source texts row (emit_of event) first.adds.of_rows is;
-    added = ap (map emit_of) pushed ∙ (map-append emit_of new (event ∷ [])
-        ∙ (ap (λ (xs : List PlainEmit). xs ++ (emit_of event ∷ [])) first.adds.added
-        ∙ append_assoc (map emit_of old) first.adds.more (emit_of event ∷ [])));
+    more = first.adds.more ++ adds.event ∷ [];
+    of_rows = each_more source texts row adds.event first.adds.of_rows adds.of_row;
+    added = adds.added ∙ (ap (λ (xs : List PlainEmit). xs ++ adds.event ∷ []) first.adds.added
+        ∙ append_assoc old first.adds.more (adds.event ∷ []));
   };
 }
 
 -- all rows
-pub adds_all_rows : (source texts : List ℕ) (rows left : List YamlRow) (old new : List EmitEvent)
+pub adds_all_rows : (source texts : List ℕ) (rows left : List YamlRow) (old new : List PlainEmit)
     → AddsFirst rows left source texts old new
     → left ≡ []
     → AddsEach rows source texts old new
@@ -61,19 +62,55 @@ adds_all_rows source texts rows left old new first none =
     (sym (append-nil first.handed) ∙ (ap (λ (xs : List YamlRow). first.handed ++ xs) (sym none) ∙ first.rest))
     first.adds
 
+-- the first row that may not be written
+pub stops_there : (source texts : List ℕ) (rows left left' : List YamlRow) (old new : List PlainEmit) (row : YamlRow)
+    (place : ℕ)
+    → AddsFirst rows left source texts old new
+    → left ≡ row ∷ left'
+    → place ≡ length rows - length left
+    → (IsWritten source texts row → ⊥)
+    → IsRefusedAt rows source texts place
+stops_there source texts rows left left' old new row place first split counted refused =
+    let long : length rows ≡ length first.handed + length left =
+    ap length (sym first.rest) ∙ length-append first.handed left in
+    not_written first.handed row left' first.adds.more
+    (sym first.rest ∙ ap (λ (xs : List YamlRow). first.handed ++ xs) split) (omega (arith, long, counted))
+    first.adds.of_rows refused
+
+-- rows that are not written
+pub refused_rows : (source texts : List ℕ) (rows : List YamlRow) (refusal : Refusal) (outcome : Outcome)
+    → outcome ≡ outcome_of refusal
+    → IfRow (IsRefusedAt rows source texts) refusal
+    → IsPrinted outcome rows source texts
+refused_rows source texts rows (refusal.Row place) outcome is refused =
+    subst (λ o. IsPrinted o rows source texts) (sym is) refused
+refused_rows source texts rows refusal.Memory outcome is refused =
+    subst (λ o. IsPrinted o rows source texts) (sym is) tt
+
 -- the stream of the rows
-pub stream_of_rows : (source texts : List ℕ) (rows : List YamlRow) (start all ended : List EmitEvent)
-    → start ≡ event.StreamStart ∷ []
+pub stream_of_rows : (source texts : List ℕ) (rows : List YamlRow) (start all ended : List PlainEmit)
+    → start ≡ emit_stream_start ∷ []
     → AddsEach rows source texts start all
-    → ended ≡ all ++ event.StreamEnd ∷ []
-    → AreEventsOf rows source texts (map emit_of ended)
+    → ended ≡ all ++ emit_stream_end ∷ []
+    → AreEventsOf rows source texts ended
 stream_of_rows source texts rows start all ended begun adds pushed = record {
   each = adds.more;
   of_rows = adds.of_rows;
-  stream = ap (map emit_of) pushed ∙ (map-append emit_of all (event.StreamEnd ∷ [])
-      ∙ ap (λ (xs : List PlainEmit). xs ++ (emit_stream_end ∷ []))
-      (adds.added ∙ ap (λ (xs : List EmitEvent). map emit_of xs ++ adds.more) begun));
+  stream = pushed ∙ ap (λ (xs : List PlainEmit). xs ++ (emit_stream_end ∷ []))
+      (adds.added ∙ ap (λ (es : List PlainEmit). es ++ adds.more) begun);
 }
+
+-- what came of printing the events of the rows came of printing the rows
+pub printed_rows : (source texts : List ℕ) (rows : List YamlRow) (events : List PlainEmit) (count : ℕ)
+    (outcome : Outcome)
+    → count ≡ length rows
+    → AreEventsOf rows source texts events
+    → IsTextOf outcome events count
+    → IsPrinted outcome rows source texts
+printed_rows source texts rows events count (Text text) is of_rows printed = (events, of_rows, printed)
+printed_rows source texts rows events count (Refused place) is of_rows printed =
+    no_stream events of_rows printed.1 (subst (λ n. place ≤ n) is printed.0)
+printed_rows source texts rows events count Memory is of_rows printed = tt
 
 -- a sequence begins, with the row's tag
 pub sequence_begins_row : (source texts : List ℕ) (row : YamlRow) (tag : Option (List ℕ)) → row.kind ≡ 10

@@ -2,6 +2,7 @@
 pub mod FaultTexts
 pub mod Links
 pub mod Numbers
+pub mod Refused
 pub mod RowDocuments
 pub mod RowEvents
 pub mod Rows

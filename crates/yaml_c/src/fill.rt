@@ -6,6 +6,7 @@ use crate::rows::YamlSizes;
 
 /// Copies a text to the front of the room, if there is room for it, and tells its size.
 pub(crate) fn fill(text: &String, out: &mut [u8], sizes: &mut YamlSizes) -> bool
+    ensures size { sizes.new.texts ≡ length (string_bytes text.now) }
     ensures filled { result ≡ true → take sizes.new.texts out.new ≡ string_bytes text.now }
     ensures lacks { result ≡ false → length out.new < sizes.new.texts }
 {

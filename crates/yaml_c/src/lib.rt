@@ -1,10 +1,11 @@
 //! YAML for programs in C and Rust: a text as rows, and rows as a text. Nothing is kept between calls.
 #![tactic(auto)]
 
-ghost use Rattle.std.specs.Prelude.{◌≡◌, ◌⊎◌, ◌<◌, List, length, take};
+ghost use Rattle.std.specs.Prelude.{◌≡◌, ◌⊎◌, ◌<◌, ℕ, List, length, take};
 ghost use Rattle.yaml_base.specs.EmitEvents.{PlainEmit};
 ghost use Rattle.yaml_base.specs.ErrorText.{error_text};
 ghost use Rattle.yaml_c.specs.FaultTexts.{asked_cause};
+ghost use Rattle.yaml_c.specs.Refused.{HasFault, IsRefusedAt};
 ghost use Rattle.yaml_c.specs.RowEvents.{AreEventsOf};
 ghost use Rattle.yaml_c.specs.TextRows.{ShowDocumentsOf};
 ghost use Rattle.yaml_emit.specs.StreamTexts.{IsStreamText};
@@ -67,6 +68,9 @@ pub extern "C" fn yaml_c_print(
     ensures printed { result ≡ 0 → (events : List PlainEmit) × AreEventsOf rows.now source.now texts.now events
         × IsStreamText events (take sizes.new.texts out.new) }
     ensures lacks { result ≡ 2 → length out.new < sizes.new.texts }
+    ensures suffices { result ≡ 2 → (events : List PlainEmit) × AreEventsOf rows.now source.now texts.now events
+        × ((text : List ℕ) × IsStreamText events text × (sizes.new.texts ≡ length text)) }
+    ensures refused { result ≡ 3 → IsRefusedAt rows.now source.now texts.now sizes.new.rows }
 {
     match print::print(alloc, rows, Texts { source, texts }) {
         Outcome::Text(text) => { if fill(&text, out, sizes) { 0 } else { 2 } }
@@ -94,6 +98,9 @@ pub extern "C" fn yaml_c_fault_text(
     ensures told { result ≡ 0
         → take sizes.new.texts out.new ≡ error_text (asked_cause cause place.now words.now path.now) }
     ensures lacks { result ≡ 2 → length out.new < sizes.new.texts }
+    ensures suffices { result ≡ 2
+        → sizes.new.texts ≡ length (error_text (asked_cause cause place.now words.now path.now)) }
+    ensures none { result ≡ 3 → HasFault cause place.now words.now path.now → ⊥ }
 {
     match fault::fault_text(alloc, cause, place, words, path) {
         Ok(Some(text)) => { if fill(&text, out, sizes) { 0 } else { 2 } }

@@ -1,10 +1,9 @@
 //! The texts of numbers.
 
-ghost use Rattle.std.specs.Prelude.{◌≡◌, IfOk, IfSome, string_bytes};
-ghost use Rattle.yaml_c.specs.RowEvents.{IsNumberText, boolean_word, whole};
+ghost use Rattle.std.specs.Prelude.{◌≡◌, IfNone, IfSome, false};
+ghost use Rattle.yaml_c.specs.RowEvents.{IsNumberText, boolean_word, is_number, whole};
 
 use crate::rows::{YamlRow, kind};
-use std::alloc::{AllocError, Global};
 use std::num::{f32_from_bits_with_nan, f64_from_bits_with_nan};
 
 /// Room for the digits of a number.
@@ -38,9 +37,10 @@ fn boolean_text(row: &YamlRow) -> &'static str
     if row.low == 0 { "false" } else { "true" }
 }
 
-// The text of a row that is null, a boolean, an integer or a float, if it is one of these.
-fn text_in<'a>(row: &YamlRow, digits: &'a mut Digits) -> Option<&'a str>
-    ensures { IfSome result (λ text. IsNumberText row.now text.now) }
+/// The text of a row that is null, a boolean, an integer or a float, if it is one of these.
+pub(crate) fn text_in<'a>(row: &YamlRow, digits: &'a mut Digits) -> Option<&'a str>
+    ensures text { IfSome result (λ text. IsNumberText row.now text.now) }
+    ensures none { IfNone result (is_number row.now.kind ≡ false) }
 {
     match row.kind {
         kind::NULL | kind::VOID => Some("null"),
@@ -56,16 +56,5 @@ fn text_in<'a>(row: &YamlRow, digits: &'a mut Digits) -> Option<&'a str>
             Some(yaml_float::print_f32(&mut digits.float, number))
         }
         _ => None,
-    }
-}
-
-/// The same as a text of its own.
-pub(crate) fn number_text(alloc: Global, row: &YamlRow) -> Result<Option<String>, AllocError>
-    ensures { IfOk result (λ found. IfSome found (λ text. IsNumberText row.now (string_bytes text))) }
-{
-    let mut digits = Digits::new();
-    match text_in(row, &mut digits) {
-        Some(text) => Ok(Some(String::from_str(alloc, text)?)),
-        None => Ok(None),
     }
 }

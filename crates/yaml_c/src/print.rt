@@ -1,17 +1,18 @@
 //! Rows as a text.
 
-ghost use Rattle.std.specs.Prelude.{◌≡◌, ◌++◌, ◌∷◌, [], IfOk, IfSome, map, string_bytes};
-ghost use Rattle.yaml_base.specs.EmitEvents.{emit_of, tag_bytes};
-ghost use Rattle.yaml_c.specs.RowEvents.{AreEventsOf, IsEventOf, string_style};
+ghost use Rattle.std.specs.Prelude.{◌≡◌, ◌∷◌, ◌++◌, [], IfErr, IfNone, IfOk, IfSome, OnOk, option_map, true};
+ghost use Rattle.yaml_c.specs.Refused.{HasTag, HasText, IsRefusedAt, IsTextThere, IsWritten, is_written_scalar};
+ghost use Rattle.yaml_c.specs.RowEvents.{AreEventsOf, string_style};
 ghost use Rattle.yaml_c.specs.Rows.{part, row_tag, row_text};
-ghost use Rattle.yaml_c.specs.inner.Printing.{AddsEach, IsPrinted, IsTextOf};
+ghost use Rattle.yaml_c.specs.inner.Printing.{AddsEach, AddsRow, IfRow, IfWrong, IsPrinted, IsTextOf, outcome_of};
+ghost use Rattle.yaml_base.specs.EmitEvents.{emit_mapping_start, emit_sequence_start, tag_bytes};
 
-use crate::number::number_text;
+use crate::number::{Digits, text_in};
 use crate::rows::{YamlRow, kind, tag};
-use std::alloc::Global;
-use yaml_base::emitter::{AskedStyle, EmitEvent, EmitScalar, Mapping, Sequence};
+use std::alloc::{AllocError, Global};
+use yaml_base::emitter::{AskedStyle, EmitEvent, Mapping, Sequence};
 use yaml_base::{Cause, infer_style};
-use yaml_emit::emit;
+use yaml_emit::Emitter;
 
 /// Texts that rows speak of: a source, and other texts.
 #[derive(Clone, Copy)]
@@ -31,64 +32,77 @@ pub(crate) enum Outcome {
     Memory,
 }
 
-/// Why rows have no events.
+/// Why rows are not written.
 #[derive(Clone, Copy)]
 enum Refusal {
-    /// The row at this place has none.
+    /// The row at this place may not be.
     Row(usize),
     /// Memory ran out.
     Memory,
 }
 
-/// Why a row has no event.
+impl From<AllocError> for Refusal {
+    ghost use Rattle.std.specs.Prelude.{◌≡◌};
+    ghost use Rattle.yaml_c.specs.declared.print.Refusal.TheVariants.{Memory};
+
+    ghost from_gives = { λ _ refusal. refusal ≡ Memory };
+
+    fn from(_: AllocError) -> Refusal {
+        Refusal::Memory
+    }
+}
+
+/// Why a row is not written.
 #[derive(Clone, Copy)]
 enum Stop {
-    /// It is none that is written, or its texts stand nowhere.
+    /// It may not be: by its kind, or since its tag or its text stands nowhere.
     Wrong,
     /// Memory ran out.
     Memory,
 }
 
+impl From<AllocError> for Stop {
+    ghost use Rattle.std.specs.Prelude.{◌≡◌};
+    ghost use Rattle.yaml_c.specs.declared.print.Stop.TheVariants.{Memory};
+
+    ghost from_gives = { λ _ stop. stop ≡ Memory };
+
+    fn from(_: AllocError) -> Stop {
+        Stop::Memory
+    }
+}
+
 // The text of so many bytes at a place, if it is one.
 fn text_at(texts: &[u8], at: u64, len: u64) -> Option<&str>
-    ensures { IfSome result (λ text. text.now ≡ part texts.now at len) }
+    ensures text { IfSome result (λ text. text.now ≡ part texts.now at len) }
+    ensures none { IfNone result (IsTextThere texts.now at len → ⊥) }
 {
     let from = usize::try_from(at).ok()?;
     let to = from.checked_add(usize::try_from(len).ok()?)?;
     std::str::from_utf8(texts.get(from..to)?).ok()
 }
 
-// The same as a text of its own.
-fn copied_at(alloc: Global, texts: &[u8], at: u64, len: u64) -> Result<String, Stop>
-    ensures { IfOk result (λ text. string_bytes text ≡ part texts.now at len) }
-{
-    let Some(text) = text_at(texts, at, len) else {
-        return Err(Stop::Wrong);
-    };
-    match String::from_str(alloc, text) {
-        Ok(text) => Ok(text),
-        Err(_) => Err(Stop::Memory),
-    }
-}
-
-// The tag of a row, if it has one.
-fn tag_of(alloc: Global, texts: &[u8], row: &YamlRow) -> Result<Option<String>, Stop>
-    ensures { IfOk result (λ tag. tag_bytes tag ≡ row_tag texts.now row.now) }
+// The tag of a row, if it has one; nothing, if it stands nowhere.
+fn tag_of<'a>(texts: &'a [u8], row: &YamlRow) -> Option<Option<&'a str>>
+    ensures tag { IfSome result (λ tag. option_map (λ t. t.now) tag ≡ row_tag texts.now row.now) }
+    ensures none { IfNone result (HasTag texts.now row.now → ⊥) }
 {
     if row.tag_kind == tag::NONE {
-        return Ok(None);
+        return Some(None);
     }
-    Ok(Some(copied_at(alloc, texts, row.tag_at, row.tag_len)?))
+    Some(Some(text_at(texts, row.tag_at, row.tag_len)?))
 }
 
-// The text of a row.
-fn text_of(alloc: Global, source: &[u8], texts: &[u8], row: &YamlRow) -> Result<String, Stop>
-    ensures { IfOk result (λ text. string_bytes text ≡ row_text source.now texts.now row.now) }
+// The text of a row, if it stands somewhere.
+fn text_of<'a>(texts: Texts<'a>, row: &YamlRow) -> Option<&'a str>
+    ensures text { IfSome result (λ text.
+        text.now ≡ row_text texts.entry.source.now texts.entry.texts.now row.now) }
+    ensures none { IfNone result (HasText texts.entry.source.now texts.entry.texts.now row.now → ⊥) }
 {
     if row.text_in_source == 1 {
-        return copied_at(alloc, source, row.text_at, row.text_len);
+        return text_at(texts.source, row.text_at, row.text_len);
     }
-    copied_at(alloc, texts, row.text_at, row.text_len)
+    text_at(texts.texts, row.text_at, row.text_len)
 }
 
 // The style that is asked for a string.
@@ -102,118 +116,121 @@ fn asked_style(row: &YamlRow, text: &str) -> AskedStyle
     }
 }
 
-// The event of a string with this tag.
-fn string_event(
-    alloc: Global,
+// Adds a string with this tag.
+fn push_string(
+    emitter: &mut Emitter,
     texts: Texts<'_>,
     row: &YamlRow,
-    tag: Option<String>,
-) -> Result<EmitEvent, Stop>
-    ensures { row.now.kind ≡ 5 → tag_bytes tag ≡ row_tag texts.entry.texts.now row.now
-        → IfOk result (λ event. IsEventOf texts.entry.source.now texts.entry.texts.now row.now (emit_of event)) }
+    tag: Option<&str>,
+) -> Result<(), Stop>
+    ensures added { row.now.kind ≡ 5 → option_map (λ t. t.now) tag.entry ≡ row_tag texts.entry.texts.now row.now
+        → OnOk result (AddsRow texts.entry.source.now texts.entry.texts.now row.now emitter.old.taken emitter.new.taken) }
+    ensures wrong { IfErr result (IfWrong (HasText texts.entry.source.now texts.entry.texts.now row.now → ⊥)) }
 {
-    match text_of(alloc, texts.source, texts.texts, row) {
-        Ok(value) => {
-            let style = asked_style(row, &value);
-            Ok(EmitEvent::Scalar(EmitScalar { tag, value, style }))
-        }
-        Err(stop) => Err(stop),
-    }
+    let Some(text) = text_of(texts, row) else {
+        return Err(Stop::Wrong);
+    };
+    emitter.push_scalar(tag, text, asked_style(row, text))?;
+    Ok(())
 }
 
-// The event of a scalar with this tag, if the row is one.
-fn scalar_event(
-    alloc: Global,
+// Adds a scalar with this tag, if the row is one.
+fn push_scalar(
+    emitter: &mut Emitter,
     texts: Texts<'_>,
     row: &YamlRow,
-    tag: Option<String>,
-) -> Result<EmitEvent, Stop>
-    ensures { tag_bytes tag ≡ row_tag texts.entry.texts.now row.now
-        → IfOk result (λ event. IsEventOf texts.entry.source.now texts.entry.texts.now row.now (emit_of event)) }
+    tag: Option<&str>,
+) -> Result<(), Stop>
+    ensures added { option_map (λ t. t.now) tag.entry ≡ row_tag texts.entry.texts.now row.now
+        → OnOk result (AddsRow texts.entry.source.now texts.entry.texts.now row.now emitter.old.taken emitter.new.taken) }
+    ensures wrong { IfErr result (IfWrong (is_written_scalar row.now.kind ≡ true
+        → (row.now.kind ≡ 5 → HasText texts.entry.source.now texts.entry.texts.now row.now) → ⊥)) }
 {
     if row.kind == kind::STRING {
-        return string_event(alloc, texts, row, tag);
+        return push_string(emitter, texts, row, tag);
     }
-    match number_text(alloc, row) {
-        Ok(Some(value)) => {
-            let style = AskedStyle::Plain;
-            Ok(EmitEvent::Scalar(EmitScalar { tag, value, style }))
+    let mut digits = Digits::new();
+    match text_in(row, &mut digits) {
+        Some(text) => {
+            emitter.push_scalar(tag, text, AskedStyle::Plain)?;
+            Ok(())
         }
-        Ok(None) => Err(Stop::Wrong),
-        Err(_) => Err(Stop::Memory),
+        None => Err(Stop::Wrong),
     }
 }
 
-// The event of a row, if it is to be written.
-fn event_of(alloc: Global, texts: Texts<'_>, row: &YamlRow) -> Result<EmitEvent, Stop>
-    ensures { IfOk result (λ event. IsEventOf texts.entry.source.now texts.entry.texts.now row.now (emit_of event)) }
+// A tag of its own, if there is one.
+fn own_tag(alloc: Global, tag: Option<&str>) -> Result<Option<String>, AllocError>
+    ensures { IfOk result (λ own. tag_bytes own ≡ option_map (λ t. t.now) tag.entry) }
 {
-    let tag = tag_of(alloc, texts.texts, row)?;
+    match tag {
+        Some(tag) => Ok(Some(String::from_str(alloc, tag)?)),
+        None => Ok(None),
+    }
+}
+
+// Begins a sequence with this tag.
+fn begin_sequence(emitter: &mut Emitter, tag: Option<&str>) -> Result<(), AllocError>
+    ensures { OnOk result (emitter.new.taken
+        ≡ emitter.old.taken ++ emit_sequence_start (option_map (λ t. t.now) tag.entry) ∷ []) }
+{
+    let tag = own_tag(emitter.alloc(), tag)?;
+    emitter.push(&EmitEvent::SequenceStart(Sequence { tag }))
+}
+
+// Begins a mapping with this tag.
+fn begin_mapping(emitter: &mut Emitter, tag: Option<&str>) -> Result<(), AllocError>
+    ensures { OnOk result (emitter.new.taken
+        ≡ emitter.old.taken ++ emit_mapping_start (option_map (λ t. t.now) tag.entry) ∷ []) }
+{
+    let tag = own_tag(emitter.alloc(), tag)?;
+    emitter.push(&EmitEvent::MappingStart(Mapping { tag }))
+}
+
+// Adds the event of a row.
+fn push_row(emitter: &mut Emitter, texts: Texts<'_>, row: &YamlRow) -> Result<(), Stop>
+    ensures added { OnOk result
+        (AddsRow texts.entry.source.now texts.entry.texts.now row.now emitter.old.taken emitter.new.taken) }
+    ensures wrong { IfErr result (IfWrong (IsWritten texts.entry.source.now texts.entry.texts.now row.now → ⊥)) }
+{
+    let Some(tag) = tag_of(texts.texts, row) else {
+        return Err(Stop::Wrong);
+    };
     match row.kind {
-        kind::SEQUENCE => Ok(EmitEvent::SequenceStart(Sequence { tag })),
-        kind::SEQUENCE_END => Ok(EmitEvent::SequenceEnd),
-        kind::MAPPING => Ok(EmitEvent::MappingStart(Mapping { tag })),
-        kind::MAPPING_END => Ok(EmitEvent::MappingEnd),
-        kind::DOCUMENT => Ok(EmitEvent::DocumentStart),
-        kind::DOCUMENT_END => Ok(EmitEvent::DocumentEnd),
-        _ => scalar_event(alloc, texts, row, tag),
+        kind::SEQUENCE => begin_sequence(emitter, tag)?,
+        kind::SEQUENCE_END => emitter.push(&EmitEvent::SequenceEnd)?,
+        kind::MAPPING => begin_mapping(emitter, tag)?,
+        kind::MAPPING_END => emitter.push(&EmitEvent::MappingEnd)?,
+        kind::DOCUMENT => emitter.push(&EmitEvent::DocumentStart)?,
+        kind::DOCUMENT_END => emitter.push(&EmitEvent::DocumentEnd)?,
+        _ => push_scalar(emitter, texts, row, tag)?,
     }
+    Ok(())
 }
 
-// Adds an event.
-fn push_event(events: &mut Vec<EmitEvent>, event: EmitEvent) -> Result<(), Stop>
-    ensures { IfOk result (λ _. events.new.items ≡ events.old.items ++ event ∷ []) }
-{
-    match events.push(event) {
-        Ok(()) => Ok(()),
-        Err(_) => Err(Stop::Memory),
-    }
-}
-
-// Adds the events of rows, or tells why one has none. That one is the first behind those that were added.
-fn push_events(
-    alloc: Global,
-    rows: &[YamlRow],
-    texts: Texts<'_>,
-    events: &mut Vec<EmitEvent>,
-) -> Result<(), Stop>
-    ensures { IfOk result (λ _. AddsEach rows.now texts.entry.source.now texts.entry.texts.now events.old.items events.new.items) }
+// Adds the events of rows, or tells the first row that may not be written.
+fn push_rows(emitter: &mut Emitter, rows: &[YamlRow], texts: Texts<'_>) -> Result<(), Refusal>
+    ensures added { OnOk result
+        (AddsEach rows.now texts.entry.source.now texts.entry.texts.now emitter.old.taken emitter.new.taken) }
+    ensures wrong { IfErr result (IfRow (IsRefusedAt rows.now texts.entry.source.now texts.entry.texts.now)) }
 {
     let mut left = rows;
     while let Some((row, rest)) = left.split_first() {
-        let event = event_of(alloc, texts, row)?;
-        push_event(events, event)?;
+        match push_row(emitter, texts, row) {
+            Ok(()) => {}
+            Err(Stop::Wrong) => return Err(Refusal::Row(rows.len().saturating_sub(left.len()))),
+            Err(Stop::Memory) => return Err(Refusal::Memory),
+        }
         left = rest;
     }
     Ok(())
 }
 
-// The events of the stream that rows are.
-fn events_of(alloc: Global, rows: &[YamlRow], texts: Texts<'_>) -> Result<Vec<EmitEvent>, Refusal>
-    ensures { IfOk result (λ events. AreEventsOf rows.now texts.entry.source.now texts.entry.texts.now (map emit_of events.items)) }
+// The text of the events that were taken, of which that at a place is of the row before.
+fn printed(emitter: Emitter, rows: usize) -> Outcome
+    ensures { IsTextOf result emitter.taken rows }
 {
-    let Ok(mut events) = Vec::with_capacity(alloc, rows.len().saturating_add(2)) else {
-        return Err(Refusal::Memory);
-    };
-    if events.push(EmitEvent::StreamStart).is_err() {
-        return Err(Refusal::Memory);
-    }
-    match push_events(alloc, rows, texts, &mut events) {
-        Ok(()) => {}
-        Err(Stop::Wrong) => return Err(Refusal::Row(events.len().saturating_sub(1))),
-        Err(Stop::Memory) => return Err(Refusal::Memory),
-    }
-    if events.push(EmitEvent::StreamEnd).is_err() {
-        return Err(Refusal::Memory);
-    }
-    Ok(events)
-}
-
-// The text of events, of which that at a place is of the row before.
-fn printed(alloc: Global, events: &[EmitEvent], rows: usize) -> Outcome
-    ensures { IsTextOf result (map emit_of events.now) }
-{
-    match emit(alloc, events) {
+    match emitter.finish() {
         Ok(text) => Outcome::Text(text),
         Err(fault) => match fault.cause() {
             Cause::NotAStream(place) => Outcome::Refused(place.saturating_sub(1).min(rows)),
@@ -222,13 +239,35 @@ fn printed(alloc: Global, events: &[EmitEvent], rows: usize) -> Outcome
     }
 }
 
+// Adds the events of the stream that rows are.
+fn push_stream(emitter: &mut Emitter, rows: &[YamlRow], texts: Texts<'_>) -> Result<(), Refusal>
+    ensures added { OnOk result (emitter.old.taken ≡ []
+        → AreEventsOf rows.now texts.entry.source.now texts.entry.texts.now emitter.new.taken) }
+    ensures wrong { IfErr result (IfRow (IsRefusedAt rows.now texts.entry.source.now texts.entry.texts.now)) }
+{
+    emitter.push(&EmitEvent::StreamStart)?;
+    push_rows(emitter, rows, texts)?;
+    emitter.push(&EmitEvent::StreamEnd)?;
+    Ok(())
+}
+
+// What comes of rows that are not written.
+fn refused(refusal: Refusal) -> Outcome
+    ensures { result ≡ outcome_of refusal }
+{
+    match refusal {
+        Refusal::Row(place) => Outcome::Refused(place),
+        Refusal::Memory => Outcome::Memory,
+    }
+}
+
 /// The text of the stream that rows are.
 pub(crate) fn print(alloc: Global, rows: &[YamlRow], texts: Texts<'_>) -> Outcome
     ensures { IsPrinted result rows.now texts.entry.source.now texts.entry.texts.now }
 {
-    match events_of(alloc, rows, texts) {
-        Ok(events) => printed(alloc, events.as_slice(), rows.len()),
-        Err(Refusal::Row(place)) => Outcome::Refused(place),
-        Err(Refusal::Memory) => Outcome::Memory,
+    let mut emitter = Emitter::new(alloc);
+    match push_stream(&mut emitter, rows, texts) {
+        Ok(()) => printed(emitter, rows.len()),
+        Err(refusal) => refused(refusal),
     }
 }
