@@ -1,5 +1,5 @@
-//! The program. It reads rows, each the name of a type and a YAML text, and prints each row with its answer: what is read
-//! of the text as that type, as it is written, or the fault.
+//! The program. It reads rows, each the name of a type and a YAML text, and prints each row with its answer: what is
+//! read of the text as that type, as it is written, or the fault.
 #![tactic(auto)]
 
 mod answer;

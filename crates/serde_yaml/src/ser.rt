@@ -70,8 +70,8 @@ pub(crate) fn write_value<T: Serialize, S: EventSink>(
 }
 
 /// The events of a whole stream whose one document is the value, as the type's own `to_data` gives it. A value whose
-/// data has bytes, or a tag upon a tag, is refused, and so is a type without a schema. A value that `to_data` refuses by
-/// a message is refused by that text.
+/// data has bytes, or a tag upon a tag, is refused, and so is a type without a schema. A value that `to_data` refuses
+/// by a message is refused by that text.
 pub fn to_events<T: Serialize>(alloc: Global, value: &T) -> Result<Vec<EmitEvent>>
     ensures written { Answers (λ events. map emit_of events.items) result
         (TypeWrites T.start (T.written value.now) (T.unwritten value.now)) }

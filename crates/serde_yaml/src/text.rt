@@ -28,8 +28,8 @@ use yaml_types::Deserialize;
 ///
 /// It is the text's events, as libyaml's parser makes them, and then `from_events`, but that no list of them is made.
 /// Where the type's values read themselves from a tape of the text, and the text has no fault, no more than the tape is
-/// made; else the documents are. A text that can't be parsed is refused by the parser's fault, unless what stands before
-/// it is refused earlier.
+/// made; else the documents are. A text that can't be parsed is refused by the parser's fault, unless what stands
+/// before it is refused earlier.
 pub fn from_str<'de, T: Deserialize<'de>>(alloc: Global, text: &'de str) -> Result<T>
     ensures given { Answers (λ value. value) result (λ given. IsParsed text.now (λ events fault.
         GivesValue default_limits T.start T.built T.refused events fault given

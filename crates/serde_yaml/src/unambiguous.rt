@@ -30,9 +30,9 @@ fn quoted(alloc: Global, events: Vec<EmitEvent>) -> Result<String>
     printed(alloc, events.as_slice())
 }
 
-/// The value as YAML text, a document that ends with a line feed, which other readers of YAML take as it is meant. It is
-/// as `to_string` prints it, but with quotes around each text that some of them takes for something else where it stands
-/// plain, such as `yes`, `12:30` and `2024-01-31`. What `to_events` refuses is refused so.
+/// The value as YAML text, a document that ends with a line feed, which other readers of YAML take as it is meant. It
+/// is as `to_string` prints it, but with quotes around each text that some of them takes for something else where it
+/// stands plain, such as `yes`, `12:30` and `2024-01-31`. What `to_events` refuses is refused so.
 pub fn to_string_unambiguous<T: Serialize>(alloc: Global, value: &T) -> Result<String>
     ensures text { IfOk result (λ text. HasText
         (Quotes (TypeWrites T.start (T.written value.now) (T.unwritten value.now))) (string_bytes text)) }

@@ -27,8 +27,8 @@ impl<'a, 'de> Reader<'a, 'de> {
         }
     }
 
-    /// Where the text that the last step read stands in the input, if it stands there as it reads. That is at the end of
-    /// the node's source, behind a tag or an anchor, or before the quote there.
+    /// Where the text that the last step read stands in the input, if it stands there as it reads. That is at the end
+    /// of the node's source, behind a tag or an anchor, or before the quote there.
     pub(crate) fn range_in(&self, input: &[u8], text: &str) -> Option<(usize, usize)>
         ensures { IfSome result (λ r. slice_range input.now r.0 r.1 ≡ text.now) }
     {

@@ -51,9 +51,9 @@ pub fn to_string<T: Serialize>(alloc: Global, value: &T) -> Result<String>
     print_document(Printer::new(alloc)?, value)?.finish()
 }
 
-/// The value as YAML text, a document that ends with a line feed, which other readers of YAML take as it is meant. It is
-/// as `to_string` prints it, but with quotes around each text that some of them takes for something else where it stands
-/// plain, such as `yes`, `12:30` and `2024-01-31`.
+/// The value as YAML text, a document that ends with a line feed, which other readers of YAML take as it is meant. It
+/// is as `to_string` prints it, but with quotes around each text that some of them takes for something else where it
+/// stands plain, such as `yes`, `12:30` and `2024-01-31`.
 pub fn to_string_unambiguous<T: Serialize>(alloc: Global, value: &T) -> Result<String>
     ensures one { IfOk result (λ text. (events : List PlainEmit) × IsWrittenDocument events
         × IsStreamText (map unambiguous events) (string_bytes text)) }
@@ -63,7 +63,8 @@ pub fn to_string_unambiguous<T: Serialize>(alloc: Global, value: &T) -> Result<S
     emit(alloc, events.as_slice())
 }
 
-/// The text of `to_string` to a writer, whole and at once, which is then flushed. What has no text leaves the writer as it was.
+/// The text of `to_string` to a writer, whole and at once, which is then flushed. What has no text leaves the writer as
+/// it was.
 pub fn to_writer<W: Write, T: Serialize>(
     alloc: Global,
     writer: &mut W,

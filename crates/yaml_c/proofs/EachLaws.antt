@@ -1,5 +1,6 @@
 -- The events of rows, one more.
-use Rattle.std.proofs.Common.{◌≡◌, ◌≤◌, ◌+◌, ◌-◌, ℕ, ◌∙◌, ap, arith, refl, subst, sym, List, [], ◌∷◌, ◌++◌, length, Option}
+use Rattle.std.proofs.Common.{◌≡◌, ◌≤◌, ◌+◌, ◌-◌, ℕ, ◌∙◌, ap, arith, refl, subst, sym, List, [], ◌∷◌, ◌++◌}
+use Rattle.std.proofs.Common.{length, Option}
 use Rattle.std.proofs.lemmas.List.{append-nil, append_assoc, length-append}
 use Rattle.yaml_base.specs.EmitEvents.{PlainEmit, emit_mapping_start, emit_scalar, emit_sequence_start}
 use Rattle.yaml_base.specs.EmitEvents.{emit_stream_end, emit_stream_start}
@@ -129,7 +130,8 @@ pub number_row : (source texts : List ℕ) (row : YamlRow) (tag : Option (List �
     → IsNumberText row text
     → tag ≡ row_tag texts row → IsEventOf source texts row (emit_scalar tag text asked.Plain)
 number_row source texts row tag text is same =
-    subst (λ (t : Option (List ℕ)). IsEventOf source texts row (emit_scalar t text asked.Plain)) (sym same) (a_number is)
+    subst (λ (t : Option (List ℕ)). IsEventOf source texts row (emit_scalar t text asked.Plain)) (sym same)
+    (a_number is)
 
 -- a string, with the row's tag
 pub string_row : (source texts : List ℕ) (row : YamlRow) (tag : Option (List ℕ)) (text : List ℕ) (style : AskedStyle)

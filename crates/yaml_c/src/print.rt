@@ -124,7 +124,8 @@ fn push_string(
     tag: Option<&str>,
 ) -> Result<(), Stop>
     ensures added { row.now.kind ≡ 5 → option_map (λ t. t.now) tag.entry ≡ row_tag texts.entry.texts.now row.now
-        → OnOk result (AddsRow texts.entry.source.now texts.entry.texts.now row.now emitter.old.taken emitter.new.taken) }
+        → OnOk result
+        (AddsRow texts.entry.source.now texts.entry.texts.now row.now emitter.old.taken emitter.new.taken) }
     ensures wrong { IfErr result (IfWrong (HasText texts.entry.source.now texts.entry.texts.now row.now → ⊥)) }
 {
     let Some(text) = text_of(texts, row) else {
@@ -142,7 +143,8 @@ fn push_scalar(
     tag: Option<&str>,
 ) -> Result<(), Stop>
     ensures added { option_map (λ t. t.now) tag.entry ≡ row_tag texts.entry.texts.now row.now
-        → OnOk result (AddsRow texts.entry.source.now texts.entry.texts.now row.now emitter.old.taken emitter.new.taken) }
+        → OnOk result
+        (AddsRow texts.entry.source.now texts.entry.texts.now row.now emitter.old.taken emitter.new.taken) }
     ensures wrong { IfErr result (IfWrong (is_written_scalar row.now.kind ≡ true
         → (row.now.kind ≡ 5 → HasText texts.entry.source.now texts.entry.texts.now row.now) → ⊥)) }
 {

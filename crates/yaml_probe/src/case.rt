@@ -126,8 +126,8 @@ fn add(word: &str, limits: &mut Limits, cut: &mut bool, room: &mut Room) -> bool
 }
 
 impl<'a> Case<'a> {
-    /// The case that a line begins: `@@`, the case's name, what is asked, and words in any order. They are `nolf`, if the
-    /// last line feed is to be left out, `limits:` with nestings and follows, if they are not the default ones, and
+    /// The case that a line begins: `@@`, the case's name, what is asked, and words in any order. They are `nolf`, if
+    /// the last line feed is to be left out, `limits:` with nestings and follows, if they are not the default ones, and
     /// `budget`, if there is to be little memory, or `free`, if there is to be none.
     pub fn parse(line: &'a [u8]) -> Option<Case<'a>> {
         let Ok(line) = str::from_utf8(line) else {

@@ -27,8 +27,8 @@ use yaml_types::Serialize;
 
 /// Whether the data, written as a document of its own and rendered in any permitted styles, reads back equal within the
 /// limits. It does not where it nests deeper, where it holds bytes or a tag directly under a tag, and where a present
-/// optional holds what is written as null. Nor does it where a variant has no name or one that begins with `!`, or where
-/// a tag of a value begins with two. Takes no memory.
+/// optional holds what is written as null. Nor does it where a variant has no name or one that begins with `!`, or
+/// where a tag of a value begins with two. Takes no memory.
 pub fn fits(typed: &Typed<'_, '_>, limits: Limits) -> bool
     ensures { IsTrue result
         ↔ Fits limits.nesting (schema_in typed.now) (id_in typed.now).0 (data_of (content_in typed.now)) }

@@ -101,9 +101,9 @@ pub fn a_written_value_reads_back<'de, T: RoundTrip<'de>>()
 
 /// The text of a value that is written, as `to_string` promises it, stands in the grammar: it has documents, and their
 /// events are what those that were written may come back as. And whatever documents stand in it, as whatever reader of
-/// the grammar finds them, their events are read as an equal value. So nothing is assumed of an emitter, and of a parser
-/// that it takes what stands as it stands. The value fits a text: it has at most 128 nestings, and is written with no
-/// tag that has a character 0.
+/// the grammar finds them, their events are read as an equal value. So nothing is assumed of an emitter, and of a
+/// parser that it takes what stands as it stands. The value fits a text: it has at most 128 nestings, and is written
+/// with no tag that has a character 0.
 pub fn a_printed_value_reads_back<'de, T: RoundTrip<'de>>()
     ensures stands { (x : T) (text : List ℕ) → IsTrue (is_table T.Serialize.start.0) → IsHeld (T.written x)
         → FitsText T.Serialize.start.0 T.Serialize.start.1 (T.written x)
@@ -130,9 +130,9 @@ pub fn a_printed_value_reads_back<'de, T: RoundTrip<'de>>()
 }
 
 /// **What was written is what is read, from text to text.** The text of a value that fits it, as `to_string` promises
-/// it, is read by `from_str` and the other calls that read texts as an equal value. Nothing is assumed of an emitter or a
-/// parser: the text stands in the grammar, and what stands there is what these calls read. The text has fewer than 2^32
-/// bytes.
+/// it, is read by `from_str` and the other calls that read texts as an equal value. Nothing is assumed of an emitter or
+/// a parser: the text stands in the grammar, and what stands there is what these calls read. The text has fewer than
+/// 2^32 bytes.
 pub fn a_written_text_reads_back<'de, T: RoundTrip<'de>>()
     ensures { (limits : PlainLimits) (x : T) (text : List ℕ)
         → IsTextOf T.Serialize.start (T.written x) (T.kept x) (T.unwritten x) text → length text < 2 ^ 32

@@ -82,8 +82,9 @@ fn push_context(out: &mut String, fault: &ParserFault) -> Result<(), AllocError>
     writeln!(out, "{index}:{line}:{column} !CONTEXT {context}")
 }
 
-/// The same lines, of the events that the parser makes of the text by its tokens. A scalar's has the two ends of its slice
-/// of the text, with `..` between, in place of its index. Behind the fault stands a line for its context, if it has one.
+/// The same lines, of the events that the parser makes of the text by its tokens. A scalar's has the two ends of its
+/// slice of the text, with `..` between, in place of its index. Behind the fault stands a line for its context, if it
+/// has one.
 pub fn told_full_events(alloc: Global, text: &[u8]) -> Result<Told, AllocError>
     ensures { IfOk result (λ told. (told.ended ≡ Status.Read) ⊎ (told.ended ≡ Status.Fault)) }
 {

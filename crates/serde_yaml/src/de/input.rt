@@ -25,8 +25,8 @@ use yaml_shape::{Data, Schema, ShapeId};
 /// `Schema::has` is the test of what is asked.
 ///
 /// It is `Deserializer::from_events` and then `deserialize_limited`, with the faults of both. Memory aside, data is
-/// given exactly where three things hold: the parser had no fault, the events are a stream of one document, and its tree
-/// means that data within the limits. A stream without documents is read as one that stands for nothing.
+/// given exactly where three things hold: the parser had no fault, the events are a stream of one document, and its
+/// tree means that data within the limits. A stream without documents is read as one that stands for nothing.
 pub fn data_from_events<'de>(
     alloc: Global,
     events: Vec<(Event<'de>, Mark)>,
