@@ -1,6 +1,6 @@
 -- The same steps, where the frames stand as the code has them: the innermost last.
 use Rattle.std.proofs.Common.{◌≡◌, ◌∷◌, ◌++◌, ◌<◌, ◌≤◌, ℕ, List, [], Option, Some, refl, sym, ap, ◌∙◌, subst}
-use Rattle.std.proofs.Common.{true, false, reverse, length, arith}
+use Rattle.std.proofs.Common.{Bool, true, false, reverse, length, arith}
 use Rattle.std.proofs.lemmas.List.{reverse-append}
 use Rattle.yaml_base.specs.PlainDocEvent.{mapping_begins, sequence_begins}
 use Rattle.yaml_base.specs.PlainEvent.{PlainEvent, alias, sequence_end}
@@ -16,7 +16,7 @@ use Rattle.yaml_merge.specs.declared.writer.Frame.{Frame}
 use Rattle.yaml_merge.specs.declared.writer.Frame.TheVariants as frame
 use Rattle.yaml_merge.proofs.WritingLaws.{alias_begins, element_goes, elements_end, given_end, given_goes}
 use Rattle.yaml_merge.proofs.WritingLaws.{given_value_goes, key_goes, key_passes, mapping_begins_there}
-use Rattle.yaml_merge.proofs.WritingLaws.{sequence_begins_there, value_goes}
+use Rattle.yaml_merge.proofs.WritingLaws.{mapping_ends_there, sequence_begins_there, value_goes}
 
 abbrev Marked : Type 0
 Marked = List (PlainEvent × Position)
@@ -48,11 +48,11 @@ sequence_goes events ends old new event place tag at is pushed =
 
 pub mapping_goes : (events : Events) (ends : List ℕ) (old new : List Frame) (event : PlainEvent) (place : ℕ)
     (tag : Option (List ℕ)) → event_at events place ≡ Some (mapping_begins tag) → IsMappingOf tag place event
-    → new ≡ old ++ frame.Keys place (next_to place) ∷ []
+    → new ≡ old ++ frame.Keys place (next_to place) false ∷ []
     → Begins events ends (reverse old) (reverse new) event place
 mapping_goes events ends old new event place tag at is pushed =
     subst (λ f. Begins events ends (reverse old) f event place)
-    (sym (pushed_frame old new (frame.Keys place (next_to place)) pushed))
+    (sym (pushed_frame old new (frame.Keys place (next_to place) false) pushed))
     (mapping_begins_there events ends (reverse old) event place tag at is)
 
 -- an event is written with which a node begins, made of the one in a place
@@ -88,31 +88,40 @@ module _ (events : Events) (ends : List ℕ) (old mid new : List Frame) (before 
       (is ∙ ap (λ p. old ++ frame.Elements p end ∷ []) there) begun in
       element_goes events ends (reverse old) (reverse new) before after b.0 b.1 at end lt b.2 b.3
 
-  pub key_passes_at : (start key next : ℕ) → key < end_at ends start → is_merge_key_at events key ≡ true
-      → next ≡ behind_at ends (behind_at ends key) → new ≡ old ++ frame.Keys start next ∷ [] → after ≡ before
-      → GoesOn events ends (frame.Keys start key ∷ reverse old) (reverse new) before after
-  key_passes_at start key next lt merges there is same =
-      subst (λ f. GoesOn events ends (frame.Keys start key ∷ reverse old) f before after)
-      (sym (pushed_frame old new (frame.Keys start (behind_at ends (behind_at ends key)))
-      (is ∙ ap (λ p. old ++ frame.Keys start p ∷ []) there)))
-      (key_passes events ends (reverse old) before after start key lt merges same)
+  pub key_passes_at : (start key next : ℕ) (merges : Bool) → key < end_at ends start
+      → is_merge_key_at events key ≡ true → next ≡ behind_at ends (behind_at ends key)
+      → new ≡ old ++ frame.Keys start next true ∷ [] → after ≡ before
+      → GoesOn events ends (frame.Keys start key merges ∷ reverse old) (reverse new) before after
+  key_passes_at start key next merges lt here there is same =
+      subst (λ f. GoesOn events ends (frame.Keys start key merges ∷ reverse old) f before after)
+      (sym (pushed_frame old new (frame.Keys start (behind_at ends (behind_at ends key)) true)
+      (is ∙ ap (λ p. old ++ frame.Keys start p true ∷ []) there)))
+      (key_passes events ends (reverse old) before after start key merges lt here same)
 
-  pub key_goes_at : (start key value : ℕ) → key < end_at ends start → is_merge_key_at events key ≡ false
-      → value ≡ behind_at ends key → mid ≡ old ++ frame.Values start value ∷ []
+  pub key_goes_at : (start key value : ℕ) (merges : Bool) → key < end_at ends start
+      → is_merge_key_at events key ≡ false → value ≡ behind_at ends key
+      → mid ≡ old ++ frame.Values start value merges ∷ []
       → Begun events ends mid new (target_at events key) before after
-      → GoesOn events ends (frame.Keys start key ∷ reverse old) (reverse new) before after
-  key_goes_at start key value lt own there is begun =
-      let b = begun_behind (frame.Values start (behind_at ends key)) (target_at events key)
-      (is ∙ ap (λ p. old ++ frame.Values start p ∷ []) there) begun in
-      key_goes events ends (reverse old) (reverse new) before after b.0 b.1 start key lt own b.2 b.3
+      → GoesOn events ends (frame.Keys start key merges ∷ reverse old) (reverse new) before after
+  key_goes_at start key value merges lt own there is begun =
+      let b = begun_behind (frame.Values start (behind_at ends key) merges) (target_at events key)
+      (is ∙ ap (λ p. old ++ frame.Values start p merges ∷ []) there) begun in
+      key_goes events ends (reverse old) (reverse new) before after b.0 b.1 start key merges lt own b.2 b.3
 
-  pub value_goes_at : (start value key : ℕ) → key ≡ behind_at ends value → mid ≡ old ++ frame.Keys start key ∷ []
-      → Begun events ends mid new (target_at events value) before after
-      → GoesOn events ends (frame.Values start value ∷ reverse old) (reverse new) before after
-  value_goes_at start value key there is begun =
-      let b = begun_behind (frame.Keys start (behind_at ends value)) (target_at events value)
-      (is ∙ ap (λ p. old ++ frame.Keys start p ∷ []) there) begun in
-      value_goes events ends (reverse old) (reverse new) before after b.0 b.1 start value b.2 b.3
+  pub value_goes_at : (start value key : ℕ) (merges : Bool) → key ≡ behind_at ends value
+      → mid ≡ old ++ frame.Keys start key merges ∷ [] → Begun events ends mid new (target_at events value) before after
+      → GoesOn events ends (frame.Values start value merges ∷ reverse old) (reverse new) before after
+  value_goes_at start value key merges there is begun =
+      let b = begun_behind (frame.Keys start (behind_at ends value) merges) (target_at events value)
+      (is ∙ ap (λ p. old ++ frame.Keys start p merges ∷ []) there) begun in
+      value_goes events ends (reverse old) (reverse new) before after b.0 b.1 start value merges b.2 b.3
+
+  pub mapping_end_at : (mark : Position) (start key : ℕ) (merges : Bool) → new ≡ old → end_at ends start ≤ key
+      → after ≡ before ++ (mapping_end, mark) ∷ []
+      → GoesOn events ends (frame.Keys start key merges ∷ reverse old) (reverse new) before after
+  mapping_end_at mark start key merges same le is =
+      subst (λ f. GoesOn events ends (frame.Keys start key merges ∷ reverse old) (reverse f) before after) (sym same)
+      (mapping_ends_there events ends (reverse old) before after mark start key merges le is)
 
   pub given_end_at : (mark : Position) (start number : ℕ) → new ≡ old → after ≡ before ++ (mapping_end, mark) ∷ []
       → GoesOn events ends (frame.Given start number ∷ reverse old) (reverse new) before after

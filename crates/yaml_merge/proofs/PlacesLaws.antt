@@ -1,6 +1,6 @@
 -- What is made of places of a document is made of the nodes of its tree.
 use Rattle.std.proofs.Common.{◌≡◌, ◌∷◌, ◌++◌, ◌+◌, ◌-◌, ◌^◌, ◌<◌, ◌≤◌, ℕ, suc, List, [], Option, Some, refl, sym, ap}
-use Rattle.std.proofs.Common.{◌∙◌, subst, length, arith, Bool, true, false, length-append}
+use Rattle.std.proofs.Common.{◌∙◌, subst, length, arith, Bool, true, false, ◌||◌, ap₂, length-append}
 use Rattle.std.proofs.lemmas.Option.{slice_get-map}
 use Rattle.std.specs.Prelude.{map, slice_get, if◌then◌else◌}
 use Rattle.std.specs.Option.{option_map, option_map_or}
@@ -19,9 +19,10 @@ use Rattle.yaml_read.proofs.reading.EndLaws.{node_ends}
 use Rattle.yaml_read.proofs.reading.Shown.{Shows, begins, node_within, shows_both, target_shown, wide}
 use Rattle.yaml_merge.specs.MergeKeys.{Events, is_merge_node, is_merge_word}
 use Rattle.yaml_merge.specs.MergedTree.{is_merge_key}
-use Rattle.yaml_merge.specs.Remade.{HasElements, HasEntries, IsMadeOf, Numbered, Stands, is_merging, meant}
+use Rattle.yaml_merge.specs.Remade.{HasElements, HasEntries, IsMadeOf, Numbered, Stands, are_merging, is_merging, meant}
 use Rattle.yaml_merge.specs.Remade.{meant_number, own_entries}
-use Rattle.yaml_merge.specs.Writing.{AreKeys, Made, MadeElements, MadePairs, behind_at, end_at, event_at}
+use Rattle.yaml_merge.specs.Writing.{AreKeys, Made, MadeElements, MadePairs, are_merging_at, behind_at, end_at}
+use Rattle.yaml_merge.specs.Writing.{event_at}
 use Rattle.yaml_merge.proofs.NumberLaws.{node_at}
 use Rattle.yaml_merge.specs.Writing.{is_merge_key_at, next_to, own_keys, target_at, target_of}
 
@@ -125,8 +126,8 @@ module _ (events : Events) (root : DocNode) (shown : Shows (slice_get events) 0 
 
   tied : (ps : DocPairs) (keys : List ℕ) (at end : ℕ) → Shows (slice_get events) at (events_of_pairs ps)
       → end ≡ at + length (events_of_pairs ps) → AreKeys ends at end keys
-      → Tied (own_keys events keys) (own_entries root at ps)
-  tied tree.no_pairs [] at end s e are = tt
+      → Tied (own_keys events keys) (own_entries root at ps) × (are_merging_at events keys ≡ are_merging root ps)
+  tied tree.no_pairs [] at end s e are = (tt, refl)
   tied tree.no_pairs (key ∷ keys) at end s e are = let lt = are.0 in absurd (omega (arith, lt, e))
   tied (tree.pair k v ps) [] at end s e are =
       absurd (omega (arith, e, are, wide k, length-append (events_of k) (events_of v ++ events_of_pairs ps)))
@@ -147,9 +148,13 @@ module _ (events : Events) (root : DocNode) (shown : Shows (slice_get events) 0 
         length-append (events_of v) (events_of_pairs ps),
       ) in
       let later = tied ps keys last end second.1 ended rest in
-      tied_if (is_merge_key_at events key) (is_merging root k) key (own_keys events keys) ((at, k), (mid, v))
-      (own_entries root last ps) (ap (is_merge_key_at events) are.1 ∙ merging_at at k first.0) later
-      (are.1, first.0, ap (behind_at ends) are.1 ∙ to_mid, second.0, later)
+      let here : is_merge_key_at events key ≡ is_merging root k =
+      ap (is_merge_key_at events) are.1 ∙ merging_at at k first.0 in (
+        tied_if (is_merge_key_at events key) (is_merging root k) key (own_keys events keys) ((at, k), (mid, v))
+            (own_entries root last ps) here later.0
+            (are.1, first.0, ap (behind_at ends) are.1 ∙ to_mid, second.0, later.0),
+        ap₂ (λ (b c : Bool). b || c) here later.1,
+      )
 
   inner : (p : ℕ) (e f : PlainDocEvent) (ts : List PlainDocEvent) → Shows (slice_get events) p (e ∷ (ts ++ f ∷ []))
       → Shows (slice_get events) (p + 1) ts
@@ -215,14 +220,15 @@ module _ (events : Events) (root : DocNode) (shown : Shows (slice_get events) 0 
         let room = node_room p (mapping tag l.0) s' in
         let long = length-append (events_of_pairs l.0) (mapping_ends ∷ []) in
         let start : next_to p ≡ p + 1 = omega (arith, room.0, room.1, long) in
-        let ended : end_at ends p ≡ p + 1 + length (events_of_pairs l.0) = omega (arith, room.0, long) in (
+        let ended : end_at ends p ≡ p + 1 + length (events_of_pairs l.0) = omega (arith, room.0, long) in
+        let t = tied l.0 keys (p + 1) (end_at ends p)
+        (inner p (mapping_begins tag) mapping_ends (events_of_pairs l.0) s') ended
+        (subst (λ q. AreKeys ends q (end_at ends p) keys) start are) in (
           l.0,
           l.1,
           named,
-          of_pairs made (own_keys events keys) (own_entries root (p + 1) l.0)
-              (tied l.0 keys (p + 1) (end_at ends p)
-              (inner p (mapping_begins tag) mapping_ends (events_of_pairs l.0) s') ended
-              (subst (λ q. AreKeys ends q (end_at ends p) keys) start are)) pairs,
+          of_pairs made (are_merging root l.0) (own_keys events keys) (own_entries root (p + 1) l.0) t.0
+              (subst (λ b. MadePairs events ends made b (own_keys events keys)) t.1 pairs),
         )
 
     of_elements : (made : Nodes) (at end : ℕ) (nodes : DocNodes)
@@ -247,15 +253,15 @@ module _ (events : Events) (root : DocNode) (shown : Shows (slice_get events) 0 
               (subst (λ q. MadeElements events ends made q end) (behind_node at n parts.0) h.2),
         )
 
-    of_pairs : (made : NodePairs) (keys : List ℕ) (entries : List (Numbered × Numbered)) → Tied keys entries
-        → MadePairs events ends made keys → HasEntries root made entries
-    of_pairs no_pairs [] [] t h = tt
-    of_pairs no_pairs (key ∷ keys) [] t h = absurd h
-    of_pairs no_pairs [] (e ∷ entries) t h = absurd t
-    of_pairs no_pairs (key ∷ keys) (e ∷ entries) t h = absurd h
-    of_pairs (pair k v made) (key ∷ keys) [] t h = absurd t
-    of_pairs (pair k v made) [] (e ∷ entries) t h = absurd t
-    of_pairs (pair k v made) (key ∷ keys) (e ∷ entries) t h =
+    of_pairs : (made : NodePairs) (merges : Bool) (keys : List ℕ) (entries : List (Numbered × Numbered))
+        → Tied keys entries → MadePairs events ends made merges keys → HasEntries root made merges entries
+    of_pairs no_pairs merges [] [] t h = tt
+    of_pairs no_pairs merges (key ∷ keys) [] t h = absurd h
+    of_pairs no_pairs merges [] (e ∷ entries) t h = absurd t
+    of_pairs no_pairs merges (key ∷ keys) (e ∷ entries) t h = absurd h
+    of_pairs (pair k v made) merges (key ∷ keys) [] t h = absurd t
+    of_pairs (pair k v made) merges [] (e ∷ entries) t h = absurd t
+    of_pairs (pair k v made) merges (key ∷ keys) (e ∷ entries) t h =
         let ck = child_shown e.0.0 e.0.1 t.1 in
         let cv = child_shown e.1.0 e.1.1 t.3 in (
           (
@@ -270,12 +276,13 @@ module _ (events : Events) (root : DocNode) (shown : Shows (slice_get events) 0 
             of_place v (meant_number e.1.1 e.1.0) cv.0 (shown_for v (meant_number e.1.1 e.1.0) cv.0 cv.2)
                 (subst (λ q. Made events ends v q) (ap (target_at events) t.2 ∙ cv.3) h.1),
           ),
-          of_pairs made keys entries t.4 h.2,
+          of_pairs made merges keys entries t.4 h.2,
         )
-    of_pairs (pair k v made) [] [] t h =
-        let nk = node_made k h.0.0 h.0.1 in
-        let nv = node_made v h.1.0 h.1.1 in (
-          (h.0.0, nk.0, nk.1, of_place k h.0.0 nk.0 nk.2 h.0.1),
-          (h.1.0, nv.0, nv.1, of_place v h.1.0 nv.0 nv.2 h.1.1),
-          of_pairs made [] [] tt h.2,
+    of_pairs (pair k v made) merges [] [] t h =
+        let nk = node_made k h.1.0 h.1.1 in
+        let nv = node_made v h.2.0 h.2.1 in (
+          h.0,
+          (h.1.0, nk.0, nk.1, of_place k h.1.0 nk.0 nk.2 h.1.1),
+          (h.2.0, nv.0, nv.1, of_place v h.2.0 nv.0 nv.2 h.2.1),
+          of_pairs made merges [] [] tt h.3,
         )

@@ -1,6 +1,6 @@
 -- What is written, step by step.
 use Rattle.std.proofs.Common.{◌≡◌, ◌∷◌, ◌++◌, ◌<◌, ◌≤◌, ℕ, List, [], Option, Some, refl, sym, ap, ◌∙◌, subst}
-use Rattle.std.proofs.Common.{append_assoc, append-nil, true, false}
+use Rattle.std.proofs.Common.{append_assoc, append-nil, Bool, true, false, ◌||◌}
 use Rattle.std.proofs.lemmas.List.{map-append}
 use Rattle.yaml_base.specs.MarkedEvents.{events_in}
 use Rattle.yaml_base.specs.PlainDocEvent.{a_scalar, mapping_begins, sequence_begins}
@@ -15,8 +15,8 @@ use Rattle.yaml_load.proofs.PlainWalks.{after_node}
 use Rattle.yaml_merge.specs.MergeKeys.{Events}
 use Rattle.yaml_merge.specs.Names.{name_of}
 use Rattle.yaml_merge.specs.Writing.{Begins, Finishes, GoesOn, IsMappingOf, IsScalarOf, IsSequenceOf, Made}
-use Rattle.yaml_merge.specs.Writing.{MadePairs, Writes, behind_at, end_at, event_at, is_merge_key_at}
-use Rattle.yaml_merge.specs.Writing.{next_to, own_keys, target_at}
+use Rattle.yaml_merge.specs.Writing.{MadePairs, Writes, are_merging_at, behind_at, end_at, event_at}
+use Rattle.yaml_merge.specs.Writing.{is_merge_key_at, next_to, own_keys, target_at}
 use Rattle.yaml_merge.specs.declared.plan.Entry.{Entry}
 use Rattle.yaml_merge.specs.declared.writer.Frame.{Frame}
 use Rattle.yaml_merge.specs.declared.writer.Frame.TheVariants as frame
@@ -52,7 +52,7 @@ sequence_begins_there events ends frames event place tag at (anchor, is, named) 
 -- a mapping begins
 pub mapping_begins_there : (events : Events) (ends : List ℕ) (frames : List Frame) (event : PlainEvent) (place : ℕ)
     (tag : Option (List ℕ)) → event_at events place ≡ Some (mapping_begins tag) → IsMappingOf tag place event
-    → Begins events ends frames (frame.Keys place (next_to place) ∷ frames) event place
+    → Begins events ends frames (frame.Keys place (next_to place) false ∷ frames) event place
 mapping_begins_there events ends frames event place tag at (anchor, is, named) rest (pairs, later, all, made, finishes) = (
   mapping_node anchor tag pairs,
   later,
@@ -84,16 +84,24 @@ pub elements_end : (events : Events) (ends : List ℕ) (frames : List Frame) (be
 elements_end events ends frames before after mark at end le is =
     ((sequence_end, mark) ∷ [], is, λ rest finishes. (no_nodes, rest, refl, le, finishes))
 
--- there is no own entry any more
+-- there is no own entry any more, and there was a merge key
 pub keys_end : (events : Events) (ends : List ℕ) (frames new : List Frame) (before after : Marked)
     (start key : ℕ) → end_at ends start ≤ key → GoesOn events ends (frame.Given start 0 ∷ frames) new before after
-    → GoesOn events ends (frame.Keys start key ∷ frames) new before after
+    → GoesOn events ends (frame.Keys start key true ∷ frames) new before after
 keys_end events ends frames new before after start key le (between, is, goes) = (
   between,
   is,
   λ rest finishes.
       let more = goes rest finishes in (more.0, more.1, more.2, ([], le, more.3), more.4),
 )
+
+-- nor was there a merge key
+pub mapping_ends_there : (events : Events) (ends : List ℕ) (frames : List Frame) (before after : Marked)
+    (mark : Position) (start key : ℕ) (merges : Bool) → end_at ends start ≤ key
+    → after ≡ before ++ (mapping_end, mark) ∷ []
+    → GoesOn events ends (frame.Keys start key merges ∷ frames) frames before after
+mapping_ends_there events ends frames before after mark start key merges le is =
+    ((mapping_end, mark) ∷ [], is, λ rest finishes. (no_pairs, rest, refl, ([], le, tt), finishes))
 
 own_skip : (events : Events) (key : ℕ) (keys : List ℕ) → is_merge_key_at events key ≡ true
     → own_keys events (key ∷ keys) ≡ own_keys events keys
@@ -103,12 +111,22 @@ own_keep : (events : Events) (key : ℕ) (keys : List ℕ) → is_merge_key_at e
     → own_keys events (key ∷ keys) ≡ key ∷ own_keys events keys
 own_keep events key keys h = rw h
 
+-- whether there is a merge key before the rest or among it
+merging_skip : (before here rest : Bool) → here ≡ true → (true || rest) ≡ (before || (here || rest))
+merging_skip true here rest h = refl
+merging_skip false true rest h = refl
+merging_skip false false rest h = absurd cc
+
+merging_keep : (before here rest : Bool) → here ≡ false → (before || rest) ≡ (before || (here || rest))
+merging_keep before false rest h = refl
+merging_keep before true rest h = absurd cc
+
 -- a merge key is passed over
 pub key_passes : (events : Events) (ends : List ℕ) (frames : List Frame) (before after : Marked)
-    (start key : ℕ) → key < end_at ends start → is_merge_key_at events key ≡ true → after ≡ before
-    → GoesOn events ends (frame.Keys start key ∷ frames)
-    (frame.Keys start (behind_at ends (behind_at ends key)) ∷ frames) before after
-key_passes events ends frames before after start key lt merges is = (
+    (start key : ℕ) (merges : Bool) → key < end_at ends start → is_merge_key_at events key ≡ true → after ≡ before
+    → GoesOn events ends (frame.Keys start key merges ∷ frames)
+    (frame.Keys start (behind_at ends (behind_at ends key)) true ∷ frames) before after
+key_passes events ends frames before after start key merges lt here is = (
   [],
   is ∙ sym (append-nil before),
   λ rest (pairs, later, all, (keys, are, made), finishes). (
@@ -118,7 +136,10 @@ key_passes events ends frames before after start key lt merges is = (
     (
       key ∷ keys,
       (lt, refl, are),
-      subst (MadePairs events ends pairs) (sym (own_skip events key keys merges)) made,
+      subst (MadePairs events ends pairs (merges || are_merging_at events (key ∷ keys)))
+          (sym (own_skip events key keys here))
+          (subst (λ b. MadePairs events ends pairs b (own_keys events keys))
+          (merging_skip merges (is_merge_key_at events key) (are_merging_at events keys) here) made),
     ),
     finishes,
   ),
@@ -126,17 +147,17 @@ key_passes events ends frames before after start key lt merges is = (
 
 -- the key of an own entry is written
 pub key_goes : (events : Events) (ends : List ℕ) (frames new : List Frame) (before after : Marked)
-    (event : PlainEvent) (mark : Position) (start key : ℕ) → key < end_at ends start
+    (event : PlainEvent) (mark : Position) (start key : ℕ) (merges : Bool) → key < end_at ends start
     → is_merge_key_at events key ≡ false → after ≡ before ++ (event, mark) ∷ []
-    → Begins events ends (frame.Values start (behind_at ends key) ∷ frames) new event (target_at events key)
-    → GoesOn events ends (frame.Keys start key ∷ frames) new before after
-key_goes events ends frames new before after event mark start key lt own is begins = (
+    → Begins events ends (frame.Values start (behind_at ends key) merges ∷ frames) new event (target_at events key)
+    → GoesOn events ends (frame.Keys start key merges ∷ frames) new before after
+key_goes events ends frames new before after event mark start key merges lt own is begins = (
   (event, mark) ∷ [],
   is,
   λ rest finishes.
       let next : (n : Node) × (later : List PlainEvent) × (event ∷ rest ≡ node_events n later)
       × Made events ends n (target_at events key)
-      × Finishes events ends (frame.Values start (behind_at ends key) ∷ frames) later = begins rest finishes in
+      × Finishes events ends (frame.Values start (behind_at ends key) merges ∷ frames) later = begins rest finishes in
       let more = next.4 in (
         pair next.0 more.0 more.1,
         more.2,
@@ -144,8 +165,13 @@ key_goes events ends frames new before after event mark start key lt own is begi
         (
           key ∷ more.5.0,
           (lt, refl, more.5.1),
-          subst (MadePairs events ends (pair next.0 more.0 more.1)) (sym (own_keep events key more.5.0 own))
-              (next.3, more.4, more.5.2),
+          subst (MadePairs events ends (pair next.0 more.0 more.1)
+              (merges || are_merging_at events (key ∷ more.5.0))) (sym (own_keep events key more.5.0 own)) (
+                next.3,
+                more.4,
+                subst (λ b. MadePairs events ends more.1 b (own_keys events more.5.0))
+                    (merging_keep merges (is_merge_key_at events key) (are_merging_at events more.5.0) own) more.5.2,
+              ),
         ),
         more.6,
       ),
@@ -153,16 +179,16 @@ key_goes events ends frames new before after event mark start key lt own is begi
 
 -- the value of an own entry is written
 pub value_goes : (events : Events) (ends : List ℕ) (frames new : List Frame) (before after : Marked)
-    (event : PlainEvent) (mark : Position) (start value : ℕ) → after ≡ before ++ (event, mark) ∷ []
-    → Begins events ends (frame.Keys start (behind_at ends value) ∷ frames) new event (target_at events value)
-    → GoesOn events ends (frame.Values start value ∷ frames) new before after
-value_goes events ends frames new before after event mark start value is begins = (
+    (event : PlainEvent) (mark : Position) (start value : ℕ) (merges : Bool) → after ≡ before ++ (event, mark) ∷ []
+    → Begins events ends (frame.Keys start (behind_at ends value) merges ∷ frames) new event (target_at events value)
+    → GoesOn events ends (frame.Values start value merges ∷ frames) new before after
+value_goes events ends frames new before after event mark start value merges is begins = (
   (event, mark) ∷ [],
   is,
   λ rest finishes.
       let next : (n : Node) × (later : List PlainEvent) × (event ∷ rest ≡ node_events n later)
       × Made events ends n (target_at events value)
-      × Finishes events ends (frame.Keys start (behind_at ends value) ∷ frames) later = begins rest finishes in
+      × Finishes events ends (frame.Keys start (behind_at ends value) merges ∷ frames) later = begins rest finishes in
       let more = next.4 in
       (next.0, more.0, more.1, next.2 ∙ ap (node_events next.0) more.2, next.3, more.3, more.4),
 )
@@ -191,7 +217,7 @@ given_goes events ends frames new before after event mark start number entry pla
         pair next.0 more.0 more.1,
         more.2,
         next.2 ∙ ap (node_events next.0) more.3,
-        ((place, next.3), more.4, more.5),
+        (refl, (place, next.3), more.4, more.5),
         more.6,
       ),
 )

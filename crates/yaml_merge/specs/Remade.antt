@@ -1,5 +1,6 @@
 -- What the tree of a document is where its merge keys are applied: how its nodes are made of those that were there.
-use Rattle.std.specs.Prelude.{◌≡◌, ℕ, ◌+◌, List, [], ◌∷◌, length, if◌then◌else◌, Bool, false, Option, Some}
+use Rattle.std.specs.Prelude.{◌≡◌, ℕ, ◌+◌, List, [], ◌∷◌, length, if◌then◌else◌, Bool, false, true, ◌||◌}
+use Rattle.std.specs.Prelude.{Option, Some}
 use Rattle.std.specs.Option.{option_map_or}
 use Rattle.yaml_base.specs.DocTree.{DocNode, reference, word, list, mapping, DocNodes, DocPairs, IsTreeOf}
 use Rattle.yaml_base.specs.DocTree.{events_of, node_of}
@@ -38,6 +39,11 @@ own_entries root number (tree.pair k v ps) =
     else ((number, k), (number + length (events_of k), v))
     ∷ own_entries root (number + length (events_of k) + length (events_of v)) ps
 
+-- the mapping of these pairs has a merge key
+abbrev pub are_merging : (root : DocNode) → DocPairs → Bool
+are_merging root tree.no_pairs = false
+are_merging root (tree.pair k v ps) = is_merging root k || are_merging root ps
+
 -- the tree has this node with the number, unless what is made is an alias
 abbrev pub Stands : (root : DocNode) → Node → (number : ℕ) → DocNode → Type 0
 Stands root (alias_node anchor) number n = Unit {0}
@@ -46,7 +52,7 @@ Stands root made number n = node_of root number ≡ Some n
 abbrev mutual
   -- The node is made of the one that has this number in the tree and stands for no other. It is an alias that names it,
   -- or the same scalar, or the list of what is made of its elements, in order, or the mapping of what is made of its own
-  -- entries, in order, and then of entries of whatever mapping.
+  -- entries, in order, and then, only if it has a merge key, of others.
   pub IsMadeOf : (root : DocNode) → (made : Node) → (number : ℕ) → DocNode → Type 0
   IsMadeOf root (alias_node anchor) number n = anchor ≡ name_of number
   IsMadeOf root (scalar_node s) number n = (n ≡ word (without_anchor s)) × IsNamed s.anchor number
@@ -54,7 +60,7 @@ abbrev mutual
       (nodes : DocNodes) × (n ≡ list tag nodes) × IsNamed anchor number × HasElements root made (number + 1) nodes
   IsMadeOf root (mapping_node anchor tag made) number n =
       (ps : DocPairs) × (n ≡ mapping tag ps) × IsNamed anchor number
-      × HasEntries root made (own_entries root (number + 1) ps)
+      × HasEntries root made (are_merging root ps) (own_entries root (number + 1) ps)
 
   -- these are made of the elements, one of each
   pub HasElements : (root : DocNode) → (made : Nodes) → (number : ℕ) → DocNodes → Type 0
@@ -64,18 +70,19 @@ abbrev mutual
       × HasElements root made (number + length (events_of n)) nodes
   HasElements root made number nodes = ⊥
 
-  -- these are made of the entries, one of each, and then of others
-  pub HasEntries : (root : DocNode) → (made : NodePairs) → List (Numbered × Numbered) → Type 0
-  HasEntries root no_pairs [] = Unit {0}
-  HasEntries root no_pairs (e ∷ entries) = ⊥
-  HasEntries root (pair k v made) (e ∷ entries) =
+  -- these are made of the entries, one of each, and then of others, if there is a merge key
+  pub HasEntries : (root : DocNode) → (made : NodePairs) → (merges : Bool) → List (Numbered × Numbered) → Type 0
+  HasEntries root no_pairs merges [] = Unit {0}
+  HasEntries root no_pairs merges (e ∷ entries) = ⊥
+  HasEntries root (pair k v made) merges (e ∷ entries) =
       ((t : DocNode) × (meant root e.0.1 ≡ Some t) × IsMadeOf root k (meant_number e.0.1 e.0.0) t)
       × ((t : DocNode) × (meant root e.1.1 ≡ Some t) × IsMadeOf root v (meant_number e.1.1 e.1.0) t)
-      × HasEntries root made entries
-  HasEntries root (pair k v made) [] =
-      ((number : ℕ) × (n : DocNode) × Stands root k number n × IsMadeOf root k number n)
+      × HasEntries root made merges entries
+  HasEntries root (pair k v made) merges [] =
+      (merges ≡ true)
+      × ((number : ℕ) × (n : DocNode) × Stands root k number n × IsMadeOf root k number n)
       × ((number : ℕ) × (n : DocNode) × Stands root v number n × IsMadeOf root v number n)
-      × HasEntries root made []
+      × HasEntries root made merges []
 
 -- the document is that of a node which is made of this tree
 pub record IsRemade (root : DocNode) (document : PlainDocument) : Type 0 where

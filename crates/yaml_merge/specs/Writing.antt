@@ -1,6 +1,6 @@
 -- How nodes that are written are made of the nodes of a document, by the places of their events.
-use Rattle.std.specs.Prelude.{◌≡◌, ℕ, ◌+◌, ◌-◌, ◌^◌, ◌<◌, ◌≤◌, min, List, [], ◌∷◌, ◌++◌, if◌then◌else◌, Bool, false}
-use Rattle.std.specs.Prelude.{Option, Some, slice_get, unwrap_or}
+use Rattle.std.specs.Prelude.{◌≡◌, ℕ, ◌+◌, ◌-◌, ◌^◌, ◌<◌, ◌≤◌, min, List, [], ◌∷◌, ◌++◌, if◌then◌else◌, Bool}
+use Rattle.std.specs.Prelude.{◌||◌, Option, Some, false, true, slice_get, unwrap_or}
 use Rattle.std.specs.Option.{option_map, option_map_or}
 use Rattle.yaml_base.specs.MarkedEvents.{events_in}
 use Rattle.yaml_base.specs.PlainDocEvent.{PlainDocEvent, alias_to, a_scalar, sequence_begins, mapping_begins}
@@ -54,10 +54,15 @@ own_keys events [] = []
 own_keys events (key ∷ keys) =
     if is_merge_key_at events key then own_keys events keys else key ∷ own_keys events keys
 
+-- one of them is a merge key
+abbrev pub are_merging_at : Events → List ℕ → Bool
+are_merging_at events [] = false
+are_merging_at events (key ∷ keys) = is_merge_key_at events key || are_merging_at events keys
+
 abbrev mutual
   -- The node is made of the one that begins in a place, which is no alias: it stands for it, or it begins as it does. A
   -- list has the elements that stand there, in order. A mapping has the own entries that stand there, in order, and then
-  -- others.
+  -- others, if it has a merge key.
   pub Made : Events → (ends : List ℕ) → Node → (place : ℕ) → Type 0
   Made events ends (alias_node anchor) place = anchor ≡ name_of place
   Made events ends (scalar_node s) place =
@@ -68,7 +73,7 @@ abbrev mutual
   Made events ends (mapping_node anchor tag pairs) place =
       (event_at events place ≡ Some (mapping_begins tag)) × IsNamed anchor place
       × (keys : List ℕ) × AreKeys ends (next_to place) (end_at ends place) keys
-      × MadePairs events ends pairs (own_keys events keys)
+      × MadePairs events ends pairs (are_merging_at events keys) (own_keys events keys)
 
   pub MadeElements : Events → (ends : List ℕ) → Nodes → (at end : ℕ) → Type 0
   MadeElements events ends no_nodes at end = end ≤ at
@@ -76,21 +81,23 @@ abbrev mutual
       (at < end) × Made events ends n (target_at events at)
       × MadeElements events ends nodes (behind_at ends at) end
 
-  pub MadePairs : Events → (ends : List ℕ) → NodePairs → (keys : List ℕ) → Type 0
-  MadePairs events ends no_pairs [] = Unit {0}
-  MadePairs events ends no_pairs (key ∷ keys) = ⊥
-  MadePairs events ends (pair k v pairs) (key ∷ keys) =
+  pub MadePairs : Events → (ends : List ℕ) → NodePairs → (merges : Bool) → (keys : List ℕ) → Type 0
+  MadePairs events ends no_pairs merges [] = Unit {0}
+  MadePairs events ends no_pairs merges (key ∷ keys) = ⊥
+  MadePairs events ends (pair k v pairs) merges (key ∷ keys) =
       Made events ends k (target_at events key)
       × Made events ends v (target_at events (behind_at ends key))
-      × MadePairs events ends pairs keys
-  MadePairs events ends (pair k v pairs) [] =
-      ((place : ℕ) × Made events ends k place) × ((place : ℕ) × Made events ends v place)
-      × MadePairs events ends pairs []
+      × MadePairs events ends pairs merges keys
+  MadePairs events ends (pair k v pairs) merges [] =
+      (merges ≡ true) × ((place : ℕ) × Made events ends k place) × ((place : ℕ) × Made events ends v place)
+      × MadePairs events ends pairs merges []
 
--- the pairs are made of the own entries of a mapping from a key on, and then of others
-abbrev pub MadeFromKey : Events → (ends : List ℕ) → NodePairs → (start key : ℕ) → Type 0
-MadeFromKey events ends pairs start key =
-    (keys : List ℕ) × AreKeys ends key (end_at ends start) keys × MadePairs events ends pairs (own_keys events keys)
+-- the pairs are made of the own entries of a mapping from a key on, and then of others, if there was a merge key before
+-- or one comes
+abbrev pub MadeFromKey : Events → (ends : List ℕ) → NodePairs → (start key : ℕ) → (merges : Bool) → Type 0
+MadeFromKey events ends pairs start key merges =
+    (keys : List ℕ) × AreKeys ends key (end_at ends start) keys
+    × MadePairs events ends pairs (merges || are_merging_at events keys) (own_keys events keys)
 
 -- the event is that of this scalar, maybe with the anchor of the node in a place
 abbrev pub IsScalarOf : PlainScalar → (place : ℕ) → PlainEvent → Type 0
@@ -112,21 +119,21 @@ Finishes events ends [] rest = rest ≡ []
 Finishes events ends (frame.Elements at end ∷ frames) rest =
     (nodes : Nodes) × (later : List PlainEvent) × (rest ≡ nodes_events nodes (sequence_end ∷ later))
     × MadeElements events ends nodes at end × Finishes events ends frames later
-Finishes events ends (frame.Keys start key ∷ frames) rest =
+Finishes events ends (frame.Keys start key merges ∷ frames) rest =
     (pairs : NodePairs) × (later : List PlainEvent) × (rest ≡ pairs_events pairs (mapping_end ∷ later))
-    × MadeFromKey events ends pairs start key × Finishes events ends frames later
-Finishes events ends (frame.Values start value ∷ frames) rest =
+    × MadeFromKey events ends pairs start key merges × Finishes events ends frames later
+Finishes events ends (frame.Values start value merges ∷ frames) rest =
     (v : Node) × (pairs : NodePairs) × (later : List PlainEvent)
     × (rest ≡ node_events v (pairs_events pairs (mapping_end ∷ later)))
-    × Made events ends v (target_at events value) × MadeFromKey events ends pairs start (behind_at ends value)
+    × Made events ends v (target_at events value) × MadeFromKey events ends pairs start (behind_at ends value) merges
     × Finishes events ends frames later
 Finishes events ends (frame.Given start number ∷ frames) rest =
     (pairs : NodePairs) × (later : List PlainEvent) × (rest ≡ pairs_events pairs (mapping_end ∷ later))
-    × MadePairs events ends pairs [] × Finishes events ends frames later
+    × MadePairs events ends pairs true [] × Finishes events ends frames later
 Finishes events ends (frame.GivenValues start number entry ∷ frames) rest =
     (v : Node) × (pairs : NodePairs) × (later : List PlainEvent)
     × (rest ≡ node_events v (pairs_events pairs (mapping_end ∷ later)))
-    × ((place : ℕ) × Made events ends v place) × MadePairs events ends pairs []
+    × ((place : ℕ) × Made events ends v place) × MadePairs events ends pairs true []
     × Finishes events ends frames later
 
 -- Behind the event what finishes the new frames is the rest of a node made of the one in a place, and what finishes the

@@ -36,11 +36,14 @@ pub(crate) enum Frame {
     Keys {
         start: usize,
         key: usize,
+        // Whether there was a merge key before.
+        merges: bool,
     },
     // The same from the value of one on.
     Values {
         start: usize,
         value: usize,
+        merges: bool,
     },
     // The same from an entry on, by its number, that the mapping is given.
     Given {

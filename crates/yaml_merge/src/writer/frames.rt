@@ -27,35 +27,48 @@ impl<'a, 'de> Writer<'a, 'de> {
         self.node(at, None)
     }
 
-    // Writes the next key of a mapping's own entries, or passes over a merge key.
-    fn key(&mut self, start: usize, key: usize) -> Result<()>
+    // Writes the next key of a mapping's own entries, or passes over a merge key. Behind them comes what the mapping is
+    // given, if it has one.
+    fn key(&mut self, start: usize, key: usize, merges: bool) -> Result<()>
         ensures goes_on { IfOk result (λ _. GoesOn (marked_events_of self.old.nodes.events.now)
-            self.old.nodes.ends.now (Frame.Keys start key ∷ reverse self.old.frames.items)
+            self.old.nodes.ends.now (Frame.Keys start key merges ∷ reverse self.old.frames.items)
             (reverse self.new.frames.items) self.old.builder self.new.builder) }
         ensures nodes { self.new.nodes ≡ self.old.nodes }
     {
-        if key >= self.nodes.end(start) {
-            return self.given(start, 0);
+        let end = self.nodes.end(start);
+        if key >= end {
+            if merges {
+                return self.given(start, 0);
+            }
+            return self.push(Event::MappingEnd, end);
         }
         let value = self.nodes.behind(key);
         if self.nodes.is_merge_key(key) {
             let key = self.nodes.behind(value);
-            self.frames.push(Frame::Keys { start, key })?;
+            self.frames.push(Frame::Keys {
+                start,
+                key,
+                merges: true,
+            })?;
             return Ok(());
         }
-        self.frames.push(Frame::Values { start, value })?;
+        self.frames.push(Frame::Values {
+            start,
+            value,
+            merges,
+        })?;
         self.node(key, None)
     }
 
     // Writes the value of an own entry of a mapping.
-    fn value(&mut self, start: usize, value: usize) -> Result<()>
+    fn value(&mut self, start: usize, value: usize, merges: bool) -> Result<()>
         ensures goes_on { IfOk result (λ _. GoesOn (marked_events_of self.old.nodes.events.now)
-            self.old.nodes.ends.now (Frame.Values start value ∷ reverse self.old.frames.items)
+            self.old.nodes.ends.now (Frame.Values start value merges ∷ reverse self.old.frames.items)
             (reverse self.new.frames.items) self.old.builder self.new.builder) }
         ensures nodes { self.new.nodes ≡ self.old.nodes }
     {
         let key = self.nodes.behind(value);
-        self.frames.push(Frame::Keys { start, key })?;
+        self.frames.push(Frame::Keys { start, key, merges })?;
         self.node(value, None)
     }
 
@@ -100,8 +113,12 @@ impl<'a, 'de> Writer<'a, 'de> {
     {
         match frame {
             Frame::Elements { at, end } => self.element(at, end),
-            Frame::Keys { start, key } => self.key(start, key),
-            Frame::Values { start, value } => self.value(start, value),
+            Frame::Keys { start, key, merges } => self.key(start, key, merges),
+            Frame::Values {
+                start,
+                value,
+                merges,
+            } => self.value(start, value, merges),
             Frame::Given { start, number } => self.given(start, number),
             Frame::GivenValues {
                 start,

@@ -1,6 +1,6 @@
 //! The events with which nodes begin anew.
 
-ghost use Rattle.std.specs.Prelude.{◌≡◌, ◌∷◌, ◌++◌, [], IfOk, reverse};
+ghost use Rattle.std.specs.Prelude.{◌≡◌, ◌∷◌, ◌++◌, [], IfOk, false, reverse};
 ghost use Rattle.yaml_base.specs.DocEventView.{doc_scalar_of, marked_events_of};
 ghost use Rattle.yaml_base.specs.PlainEvent.{event_of};
 ghost use Rattle.yaml_merge.specs.Names.{IsNamed, name_of};
@@ -77,13 +77,14 @@ impl<'a, 'de> Writer<'a, 'de> {
     // The mapping that begins in a place.
     fn mapping(&mut self, place: usize, start: &DocStart) -> Result<Event<'de>>
         ensures begun { IfOk result (λ event. IsMappingOf start.now.tag place (event_of event)
-            × (self.new.frames.items ≡ self.old.frames.items ++ Frame.Keys place (next_to place) ∷ [])) }
+            × (self.new.frames.items ≡ self.old.frames.items ++ Frame.Keys place (next_to place) false ∷ [])) }
         ensures nodes { self.new.nodes ≡ self.old.nodes }
         ensures builder { self.new.builder ≡ self.old.builder }
     {
         let frame = Frame::Keys {
             start: place,
             key: place.saturating_add(1),
+            merges: false,
         };
         self.frames.push(frame)?;
         Ok(Event::MappingStart(MappingStart {
