@@ -1,19 +1,23 @@
 -- What is read once merge keys are treated.
-use Rattle.std.specs.Prelude.{IfOk}
+use Rattle.std.specs.Prelude.{IfErr, IfOk, IsErrAnd}
 use Rattle.std.proofs.Common.{◌≡◌, ◌<◌, ℕ, List, [], ◌∷◌, ◌++◌, length, Result, Ok, Err, Bool, true, false}
-use Rattle.std.proofs.Common.{Option, None, Some, IfNone, is_some, option_to_list, get_or, sym, ap, subst, ◌∙◌, refl}
+use Rattle.std.proofs.Common.{Option, Some, IfNone, is_some, option_to_list, get_or, sym, ap, subst, ◌∙◌, refl}
 use Rattle.std.proofs.lemmas.Option.{slice_get-get_or}
 use Rattle.yaml_base.specs.Answer.{Answers, is_memory}
+use Rattle.yaml_base.specs.MarkedEvents.{events_in, plain_events, plain_marked}
 use Rattle.yaml_base.specs.PlainDocument.{PlainDocument}
 use Rattle.yaml_base.specs.PlainFault.{PlainFault}
 use Rattle.yaml_base.specs.declared.error.Cause.{Cause}
-use Rattle.yaml_base.specs.declared.error.Cause.TheVariants.{EndOfStream}
+use Rattle.yaml_base.specs.Position.{Position}
+use Rattle.yaml_base.specs.declared.error.Cause.TheVariants.{EndOfStream, NotAStream}
+use Rattle.yaml_base.specs.declared.event.Event.{Event}
 use Rattle.yaml_load.specs.StreamLaw.{HasTree}
 use Rattle.yaml_merge.specs.Treated.{IsTreated, IsUntreated}
 use Rattle.yaml_merge.specs.declared.merge.Merge.{Merge}
-use Rattle.yaml_read.specs.Documents.{Input}
+use Rattle.yaml_read.specs.Documents.{Input, documents_of}
 use Rattle.yaml_read.specs.Reads.{DocumentGives}
 use Rattle.yaml_read.specs.TreeReader.{PlainLimits}
+use Rattle.yaml_read.specs.WrongPlace.{IsWrongAt}
 use Rattle.yaml_shape.specs.DataView.{data_of}
 use Rattle.yaml_shape.specs.HasShape.{HasShape}
 use Rattle.yaml_shape.specs.Join.{IsTooLarge}
@@ -24,13 +28,15 @@ use Rattle.yaml_shape.specs.declared.data.Data.{Data}
 use Rattle.yaml_shape.specs.declared.fault.SchemaFault.{SchemaFault}
 use Rattle.yaml_types.specs.Start.{Start, IsClosed}
 use Rattle.serde_yaml.specs.MergedReads as merged
-use Rattle.serde_yaml.specs.MergedReads.{TreatedGives, TreatedMakes, no_document, untreated, treated}
+use Rattle.serde_yaml.specs.MergedReads.{GivesMergedOwn, InputMakes, RefusesMergedOwn, TreatedGives, TreatedMakes}
+use Rattle.serde_yaml.specs.MergedReads.{no_document, untreated, treated}
+use Rattle.serde_yaml.specs.OwnEvents.{events_alone}
 use Rattle.serde_yaml.specs.StreamReads.{some_follow, unless_more}
 use Rattle.serde_yaml.specs.TextReads.{IsParsed}
 use Rattle.serde_yaml.specs.TypedReads.{Makes}
-use Rattle.serde_yaml.proofs.FirstDocument.{follows_second}
+use Rattle.serde_yaml.proofs.FirstDocument.{answers_weaker, follows_second}
 use Rattle.serde_yaml.proofs.TextLaws.{parsed_as}
-use Rattle.serde_yaml.proofs.TypedLaws.{IsNoSchema, MeaningsHaveShapes}
+use Rattle.serde_yaml.proofs.TypedLaws.{IsNoSchema, MeaningsHaveShapes, same_events}
 
 module _ (limits : PlainLimits) (table : List PlainShape) (s : PlainShape) (merge : Merge) where
   -- without documents the stream is at its end
@@ -113,6 +119,66 @@ pub given_ok : {X : Type 0} (result : Result X Cause) (allowed : Result X Cause 
     → Answers (λ value. value) result allowed → IfOk result (λ value. allowed (Ok value))
 given_ok (Ok x) allowed h = h
 given_ok (Err cause) allowed h = tt
+
+-- what holds of a fault holds of it where it is passed on
+pub passed_on : {X : Type 0} (result : Result X Cause) (P : Cause → Type 0) (fault : Cause)
+    → IsErrAnd result (λ given. given ≡ fault) → P fault → IfErr result P
+passed_on (Ok x) P fault given h = tt
+passed_on (Err cause) P fault given h = subst P (sym given) h
+
+-- a fault that is answered is allowed
+pub refused_err : {X : Type 0} (result : Result X Cause) (allowed : Result X Cause → Type 0)
+    → Answers (λ value. value) result allowed → IfErr result (λ cause. is_memory cause ≡ false → allowed (Err cause))
+refused_err (Ok x) allowed h = tt
+refused_err (Err cause) allowed h = h
+
+module _ {T : Type 0} (limits : PlainLimits) (start : Start) (built : PlainData → T → Type 0)
+    (refused : PlainData → List ℕ → Type 0) (merge : Merge) where
+  -- what is made of the documents of a text's own events is made of these
+  pub own_makes : {text : List ℕ} (given : Result T Cause)
+      → IsParsed text (λ events fault.
+      TreatedMakes limits start built refused merge (documents_of (events_alone events) fault) given)
+      → IsParsed text (λ events fault. InputMakes limits start built refused merge (events_alone events) fault given)
+  own_makes given p =
+      parsed_as (λ events fault. InputMakes limits start built refused merge (events_alone events) fault given) p
+      (merged.a_stream p.holds)
+
+  -- a value that is made of them
+  pub own_given : {text : List ℕ} {documents : List PlainDocument} (result : Result T Cause)
+      → IsParsed text (λ events fault. documents ≡ documents_of (events_alone events) fault)
+      → Answers (λ value. value) result (TreatedMakes limits start built refused merge documents)
+      → IfOk result (λ value. GivesMergedOwn limits start built refused merge text (Ok value))
+  own_given {text} result p h =
+      given_ok result (GivesMergedOwn limits start built refused merge text)
+      (of_parsed (λ value. value) result (TreatedMakes limits start built refused merge)
+      (λ events fault. documents_of (events_alone events) fault) p h)
+
+  -- a fault of them
+  pub own_refused : {text : List ℕ} {documents : List PlainDocument} (result : Result T Cause)
+      → IsParsed text (λ events fault. documents ≡ documents_of (events_alone events) fault)
+      → Answers (λ value. value) result (TreatedMakes limits start built refused merge documents)
+      → IfErr result (λ cause. is_memory cause ≡ false → RefusesMergedOwn limits start built refused merge text cause)
+  own_refused {text} result p h =
+      refused_err result
+      (λ given. IsParsed text (λ events fault.
+      InputMakes limits start built refused merge (events_alone events) fault given))
+      (answers_weaker (λ value. value) _ _ own_makes result
+      (of_parsed (λ value. value) result (TreatedMakes limits start built refused merge)
+      (λ events fault. documents_of (events_alone events) fault) p h))
+
+  -- events that are no stream
+  pub own_wrong : {text : List ℕ} (p : IsParsed text (λ events fault. Unit {0})) (events : List (Event × Position))
+      (cause : Cause)
+      → plain_marked events ≡ events_alone (plain_marked p.events)
+      → (is_memory cause ≡ false → (place : ℕ) × (cause ≡ NotAStream place)
+      × IsWrongAt (is_some p.fault) (plain_events events) place)
+      → is_memory cause ≡ false → RefusesMergedOwn limits start built refused merge text cause
+  own_wrong p events cause alone wrong m =
+      let w = wrong m in
+      parsed_as (λ es f. InputMakes limits start built refused merge (events_alone es) f (Err cause)) p
+      (subst (λ e. InputMakes limits start built refused merge (events_alone (plain_marked p.events)) p.fault (Err e))
+      (sym w.1) (merged.no_stream w.0
+      (subst (λ es. IsWrongAt (is_some p.fault) es w.0) (same_events events ∙ ap events_in alone) w.2)))
 
 module _ {T : Type 0} (limits : PlainLimits) (start : Start) (built : PlainData → T → Type 0)
     (refused : PlainData → List ℕ → Type 0) (merge : Merge) (documents : List PlainDocument) where

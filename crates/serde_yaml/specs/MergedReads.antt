@@ -1,14 +1,17 @@
 -- What a text gives once its merge keys are treated.
-use Rattle.std.specs.Prelude.{◌≡◌, ◌<◌, ℕ, List, [], ◌∷◌, length, Some, Result, Ok, Err}
+use Rattle.std.specs.Prelude.{◌≡◌, ◌<◌, ℕ, List, [], ◌∷◌, length, Option, Some, is_some, Result, Err}
 use Rattle.yaml_base.specs.PlainDocument.{PlainDocument}
+use Rattle.yaml_base.specs.PlainFault.{PlainFault}
 use Rattle.yaml_base.specs.declared.error.Cause.{Cause}
-use Rattle.yaml_base.specs.declared.error.Cause.TheVariants.{EndOfStream}
+use Rattle.yaml_base.specs.declared.error.Cause.TheVariants.{EndOfStream, NotAStream}
 use Rattle.yaml_documents.specs.TextDocuments.{IsParsed}
 use Rattle.yaml_merge.specs.Treated.{IsTreated, IsUntreated}
 use Rattle.yaml_merge.specs.declared.merge.Merge.{Merge}
-use Rattle.yaml_read.specs.Documents.{documents_of}
+use Rattle.yaml_read.specs.Documents.{Input, documents_of}
+use Rattle.yaml_read.specs.MarkedEvents.{events_in}
 use Rattle.yaml_read.specs.Reads.{DocumentGives}
 use Rattle.yaml_read.specs.TreeReader.{PlainLimits}
+use Rattle.yaml_read.specs.WrongPlace.{IsWrongAt}
 use Rattle.yaml_shape.specs.PlainData.{PlainData}
 use Rattle.yaml_shape.specs.PlainShape.{PlainShape, shape_at}
 use Rattle.yaml_shape.specs.Validity.{IsValidSchema}
@@ -56,3 +59,19 @@ abbrev pub GivesMergedOwn : PlainLimits → Start → {T : Type 0} → (built : 
     → (refused : PlainData → List ℕ → Type 0) → Merge → (text : List ℕ) → Result T Cause → Type 0
 GivesMergedOwn limits start built refused merge text given = IsParsed text (λ events fault.
     TreatedMakes limits start built refused merge (documents_of (events_alone events) fault) given)
+
+-- What an input gives as a value of a type within limits, once the merge keys of its first document are treated: a list
+-- of events that is no stream is refused with the least place that is wrong; else what the type makes of its documents.
+pub data InputMakes (limits : PlainLimits) (start : Start) {T : Type 0} (built : PlainData → T → Type 0)
+    (refused : PlainData → List ℕ → Type 0) (merge : Merge) (input : Input) (fault : Option PlainFault)
+    : Result T Cause → Type 0 where
+  no_stream : (place : ℕ) → IsWrongAt (is_some fault) (events_in input) place
+      → InputMakes limits start built refused merge input fault (Err (NotAStream place))
+  a_stream : {given : Result T Cause} → TreatedMakes limits start built refused merge (documents_of input fault) given
+      → InputMakes limits start built refused merge input fault given
+
+-- the fault of the text's one document, of its events without what they show of it
+abbrev pub RefusesMergedOwn : PlainLimits → Start → {T : Type 0} → (built : PlainData → T → Type 0)
+    → (refused : PlainData → List ℕ → Type 0) → Merge → (text : List ℕ) → Cause → Type 0
+RefusesMergedOwn limits start built refused merge text cause = IsParsed text (λ events fault.
+    InputMakes limits start built refused merge (events_alone events) fault (Err cause))

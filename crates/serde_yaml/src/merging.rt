@@ -1,15 +1,15 @@
 //! Reading YAML text with a choice of what is done with merge keys.
 
-ghost use Rattle.std.specs.Prelude.{◌≡◌, ◌<◌, IfErr, IfOk, IfSome, Ok, OnOk, Some, length};
+ghost use Rattle.std.specs.Prelude.{◌≡◌, ◌<◌, IfErr, IfOk, IfSome, Ok, OnOk, Some, false, length};
 ghost use Rattle.std.specs.Io.KnownBytes.{IsAtEnd};
-ghost use Rattle.yaml_base.specs.Answer.{Answers};
+ghost use Rattle.yaml_base.specs.Answer.{Answers, is_memory};
 ghost use Rattle.yaml_documents.specs.ReaderFaults.{IfOfText};
 ghost use Rattle.yaml_shape.specs.DataView.{data_of};
 ghost use Rattle.yaml_shape.specs.HasShape.{HasShape};
 ghost use Rattle.yaml_shape.specs.PlainShape.{PlainShape, shape_at};
 ghost use Rattle.yaml_read.specs.TreeReader.{default_limits};
 ghost use Rattle.serde_yaml.specs.MergedReads.{GivesMerged, GivesMergedOwn, GivesMergedValue, TreatedGives};
-ghost use Rattle.serde_yaml.specs.MergedReads.{TreatedMakes};
+ghost use Rattle.serde_yaml.specs.MergedReads.{RefusesMergedOwn, TreatedMakes};
 
 use crate::de::{is_there, read_first};
 use crate::input::events_alone;
@@ -156,8 +156,10 @@ fn from_slice_owned_merging<'de, T: Deserialize<'de>>(
     text: &[u8],
     merge: Merge,
 ) -> Result<T>
-    ensures { IfOk result (λ value.
+    ensures given { IfOk result (λ value.
         GivesMergedOwn default_limits T.start T.built T.refused merge text.now (Ok value)) }
+    ensures refused { IfErr result (λ cause. is_memory cause ≡ false
+        → RefusesMergedOwn default_limits T.start T.built T.refused merge text.now cause) }
 {
     let (shown, fault) = events_of_text(alloc, text)?;
     let events = events_alone(alloc, shown)?;
@@ -175,6 +177,9 @@ pub fn from_reader_merging<'de, R: Read, T: Deserialize<'de>>(
 ) -> std::result::Result<T, ReaderFault>
     ensures found { IfOk result (λ value. IfSome (R.remaining reader.old) (λ text.
         GivesMergedOwn default_limits T.start T.built T.refused merge text (Ok value))) }
+    ensures refused { IfErr result (IfOfText (λ cause. is_memory cause ≡ false
+        → IfSome (R.remaining reader.old) (λ text.
+        RefusesMergedOwn default_limits T.start T.built T.refused merge text cause))) }
     ensures end { OnOk result (IsAtEnd (R.remaining reader.new)) }
     ensures read { IfErr result (IfOfText (λ _. IsAtEnd (R.remaining reader.new))) }
 {
