@@ -54,8 +54,9 @@ module _ (limits : PlainLimits) (table : List PlainShape) (s : PlainShape) (merg
 
   -- a first document that is treated and read, where it is known whether a second one is there
   pub first_read : {documents rest : List PlainDocument} {others : Bool} (document kept : PlainDocument)
-      (second : Option PlainDocument) (left : List PlainDocument) → documents ≡ document ∷ rest → others ≡ is_some second
-      → rest ≡ option_to_list second ++ left → IfNone second (rest ≡ []) → IsTreated merge document kept
+      (second : Option PlainDocument) (left : List PlainDocument) → documents ≡ document ∷ rest
+      → others ≡ is_some second → rest ≡ option_to_list second ++ left → IfNone second (rest ≡ [])
+      → IsTreated merge document kept
       → kept.ending ≡ document.ending → (given : Result PlainData Cause)
       → (found : Result PlainData Cause) × DocumentGives limits table s kept found × (given ≡ unless_more others found)
       → TreatedGives limits table s merge documents given

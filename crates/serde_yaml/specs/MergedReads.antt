@@ -21,7 +21,8 @@ use Rattle.serde_yaml.specs.StreamReads.{some_follow, unless_more}
 use Rattle.serde_yaml.specs.TypedReads.{Makes, no_schema}
 
 -- What documents give, read under a shape of the table within limits, once the merge keys of the first are treated: the
--- fault for which it is refused then, or what it gives, unless others follow. Without documents the stream is at its end.
+-- fault for which it is refused then, or what it gives, unless others follow. Without documents the stream is at its
+-- end.
 pub data TreatedGives (limits : PlainLimits) (table : List PlainShape) (s : PlainShape) (merge : Merge)
     : List PlainDocument → Result PlainData Cause → Type 0 where
   no_document : TreatedGives limits table s merge [] (Err EndOfStream)

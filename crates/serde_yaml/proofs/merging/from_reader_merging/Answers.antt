@@ -28,4 +28,5 @@ returns-clause-refused g c = λ m.
     → RefusesMergedOwn default_limits start built refused c.args.merge c.in-Ok.text.items fault =
     rw c.as_slice.ensures.value at c.in-Err-from_slice_owned_merging.ensures.refused in
     of_reader (g.R.Read.remaining c.args.reader.now) c.in-Ok.text.items
-    (λ text. RefusesMergedOwn default_limits start built refused c.args.merge text fault) c.in-Ok.ensures.bytes (given m)
+    (λ text. RefusesMergedOwn default_limits start built refused c.args.merge text fault) c.in-Ok.ensures.bytes
+    (given m)
