@@ -1,0 +1,5 @@
+-- What contracts of this crate cite.
+pub mod Comments
+pub mod LaidOut
+pub mod OwnText
+pub mod Said
