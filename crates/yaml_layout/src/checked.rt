@@ -1,8 +1,8 @@
 //! A text, laid out and read again.
 
-ghost use Rattle.std.specs.Prelude.{◌≡◌, IfErr, IfOk, None, OnOk, string_bytes};
+ghost use Rattle.std.specs.Prelude.{◌≡◌, IfErr, IfOk, IsTrue, None, OnOk, string_bytes};
 ghost use Rattle.yaml_documents.specs.TextEvents.{AreParsed};
-ghost use Rattle.yaml_layout.specs.LaidOut.{IsLaidOut, IsRefused};
+ghost use Rattle.yaml_layout.specs.LaidOut.{HasWholeLines, IsLaidOut, IsRefused};
 
 use crate::comments::comments;
 use crate::compare::difference;
@@ -39,7 +39,19 @@ fn mark_of(events: &[(Event<'_>, Mark)], at: usize) -> Option<Mark> {
     }
 }
 
-// Whether a text has the events and the comments of another.
+// Whether each line of a text ends with a line feed alone, the last one too.
+fn has_whole_lines(text: &[u8]) -> bool
+    ensures { IsTrue result → HasWholeLines text.now }
+{
+    for byte in text {
+        if *byte == b'\r' {
+            return false;
+        }
+    }
+    text.is_empty() || text[text.len() - 1] == b'\n'
+}
+
+// Whether a text has whole lines, and the events and the comments of another.
 fn check(
     alloc: Global,
     text: &[u8],
@@ -60,6 +72,9 @@ fn check(
     }
     if fault.is_some() {
         return Err(LayoutFault::NotKept(Reason::Events, mark_of(events, events.len())));
+    }
+    if !has_whole_lines(out) {
+        return Err(LayoutFault::NotKept(Reason::Layout, None));
     }
     let told = comments(alloc, text, events)?;
     let kept = comments(alloc, out, again.as_slice())?;

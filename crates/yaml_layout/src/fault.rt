@@ -10,7 +10,7 @@ pub enum Reason {
     Events,
     /// Its comments, where the place is that of the first of them.
     Comments,
-    /// The layout itself: laid out again it would be another.
+    /// The layout itself: laid out again it would be another, or lines would not end with a line feed.
     Layout,
 }
 
