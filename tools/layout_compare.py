@@ -66,26 +66,34 @@ def events(text):
     return said
 
 
+def comments_in(gap):
+    """The comments of what stands between two tokens."""
+    lines = (line.lstrip(" \t\ufeff") for line in re.split("[\r\n\x85\u2028\u2029]", gap))
+    return [line.rstrip(" \t") for line in lines if line[:1] == "#"]
+
+
 def comments(text):
     """The comments, by where libyaml's tokens stand, and the lines without their scalars."""
     found, left, at = [], [], 0
     for token in yaml.scan(text, Loader=yaml.CLoader):
         start, end = token.start_mark.index, token.end_mark.index
+        if end > start:
+            found += comments_in(text[at:start])
         if isinstance(token, yaml.ScalarToken):
             left.append(text[at:start])
             if token.style in ("|", ">"):
-                end_of_line = text.find("\n", start) + 1 or len(text)
-                left.append(text[start:end_of_line])
+                header = text[start : text.find("\n", start) + 1 or len(text)]
+                found += comments_in(header[header.find(" #") :] if " #" in header else "")
+                left.append(header)
             else:
                 left.append("x")
             at = end
+        elif end > start:
+            left.append(text[at:end])
+            at = end
+    found += comments_in(text[at:])
     left.append(text[at:])
-    rest = "".join(left)
-    for line in rest.split("\n"):
-        begun = re.search(r"(?:^|[ \t])#(.*)", line)
-        if begun:
-            found.append(begun.group(1).rstrip(" \t\r"))
-    return found, rest
+    return found, "".join(left)
 
 
 def is_tidy(text, rest):
@@ -102,7 +110,7 @@ def wrong(text, out):
     try:
         if events(text) != events(out):
             return "events"
-        (before, _), (after, rest) = comments(text.replace("\r\n", "\n")), comments(out)
+        (before, _), (after, rest) = comments(text), comments(out)
     except yaml.YAMLError as fault:
         return "PyYAML: " + str(fault)
     if before != after:
